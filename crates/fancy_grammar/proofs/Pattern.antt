@@ -7,6 +7,7 @@ pub mod Becomes
 pub mod Rules
 pub mod Letters
 pub mod Groups
+pub mod Commented
 -- ---- leaves
 pub mod Characters
 pub mod Leaves
@@ -26,7 +27,16 @@ pub mod Parted
 pub mod Rows
 pub mod Absent
 pub mod Conditionals
-pub mod GroupConditionals
+pub mod ConditionTexts
+-- ---- where texts fit
+pub mod Levels
+pub mod Suited
+pub mod Fitting
+pub mod Told
+pub mod Ahead
+pub mod Nested
+pub mod NestedGroups
+pub mod ReadFits
 -- ---- the theorem
 pub mod Marked
 pub mod Theorem

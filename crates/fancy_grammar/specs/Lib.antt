@@ -38,6 +38,7 @@ pub mod PatternSource
 pub mod PatternReference
 pub mod PatternQuantifier
 pub mod Pattern
+pub mod PatternDepth
 pub mod ReadAs
 pub mod Writable
 -- What no public contract speaks of, but private ones of the parser and the resolver do.

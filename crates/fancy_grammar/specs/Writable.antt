@@ -20,7 +20,6 @@ use Rattle.fancy_lex.specs.declared.flags.Flags.{Flags}
 use Rattle.fancy_parts.specs.Meaning.{call, means, unresolved}
 use Rattle.fancy_parts.specs.Ranks.{Opening, is_counted, only_named, named_groups, numbers}
 use Rattle.fancy_grammar.specs.Answered.{groups_referred, has_call}
-use Rattle.fancy_grammar.specs.Depth.{max_depth}
 use Rattle.fancy_grammar.specs.Join.{is_empty}
 use Rattle.fancy_grammar.specs.Label.{Leaf, empty, any, assertion, general_newline, literal, literal_bytes, delegate}
 use Rattle.fancy_grammar.specs.Label.{keep_out, continue_from_previous_match_end, verb, clear, group, look_around}
@@ -30,11 +29,13 @@ use Rattle.fancy_grammar.specs.Label.{ast_call}
 use Rattle.fancy_grammar.specs.Marks.{Marks, ascending}
 use Rattle.fancy_grammar.specs.Pattern.{group_count}
 use Rattle.fancy_grammar.specs.PatternReference.{name_of}
-use Rattle.fancy_grammar.specs.PatternNeeds.{settled}
+use Rattle.fancy_grammar.specs.PatternDepth.{Fits}
+use Rattle.fancy_grammar.specs.PatternNeeds.{settled, agreed}
 use Rattle.fancy_grammar.specs.PatternSource.{delegate_text}
 use Rattle.fancy_grammar.specs.Preorder.{preorder}
 use Rattle.fancy_grammar.specs.Quantified.{is_repeatable}
-use Rattle.fancy_grammar.specs.Tree.{Tree, leaf, over, row, Trees, no_trees, more_trees, levels}
+use Rattle.fancy_grammar.specs.Tree.{Tree, leaf, over, row, Trees, no_trees, more_trees}
+use Rattle.fancy_grammar.specs.declared.precedence.Precedence.TheVariants.{Whole}
 
 -- the flags without those that a text sets
 abbrev pub unset : Flags → Flags
@@ -126,8 +127,7 @@ IsWritableLeaf f m c _ = ⊥
 
 abbrev mutual
   -- what stands under a quantifier is repeatable, a Concat or an Alt has two parts or more, no part of a Concat, nor what
-  -- a stopper holds, is Empty, and a conditional has a look-around or a group as its condition, and a branch that is not
-  -- Empty
+  -- a stopper holds, is Empty, and a conditional has a branch that is not Empty
   pub AreNodesWritable : Flags → Marks → ℕ → Tree → Type 0
   AreNodesWritable f m c (leaf l) = IsWritableLeaf f m c l
   AreNodesWritable f m c (over (repeat lo hi greedy) t) =
@@ -140,14 +140,9 @@ abbrev mutual
   AreNodesWritable f m c (over stopper t) = AreNodesWritable f m c t × (is_empty t ≡ false)
   AreNodesWritable f m c (row expression (more_trees a (more_trees e no_trees))) =
       AreNodesWritable f m c a × AreNodesWritable f m (c + group_count a) e
-  AreNodesWritable f m c
-      (row conditional (more_trees (over (look_around l) k) (more_trees t (more_trees e no_trees)))) =
+  AreNodesWritable f m c (row conditional (more_trees k (more_trees t (more_trees e no_trees)))) =
       AreNodesWritable f m c k × AreNodesWritable f m (c + group_count k) t
       × AreNodesWritable f m (c + group_count k + group_count t) e × ((is_empty t && is_empty e) ≡ false)
-  AreNodesWritable f m c
-      (row conditional (more_trees (leaf (backref_exists n level)) (more_trees t (more_trees e no_trees)))) =
-      IsWritableLeaf f m c (backref_exists n level) × AreNodesWritable f m c t
-      × AreNodesWritable f m (c + group_count t) e × ((is_empty t && is_empty e) ≡ false)
   AreNodesWritable f m c (row concat (more_trees t (more_trees u ts))) =
       ArePieces f m c (more_trees t (more_trees u ts))
   AreNodesWritable f m c (row alt (more_trees t (more_trees u ts))) =
@@ -200,11 +195,11 @@ IsNameWritable (c ∷ w) = (is_among (code ">") (c ∷ w) && is_among (code "'")
 
 -- ---- the trees
 
--- outside Oniguruma mode, a tree of fewer than 64 levels with its marks
+-- outside Oniguruma mode, a tree whose text nests fewer than 64 groups, with its marks
 pub record IsWritable (f : Flags) (m : Marks) (t : Tree) : Type 0 where
   pub mode : f.oniguruma_mode ≡ false
   pub marks : m ≡ marks_of f (openings_told m 0 (group_count t)) t m
   pub counted : AreCounted m.numbered_groups_ignored (openings_told m 0 (group_count t))
   pub names : AllByRecursion (λ e. IsNameWritable e.0) m.named_groups
   pub nodes : AreNodesWritable f m 0 t
-  pub levels : levels t < max_depth
+  pub fits : Fits t Whole (record { flags = agreed f t; opened = 0; depth = 0 })

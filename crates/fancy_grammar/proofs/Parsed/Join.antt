@@ -8,14 +8,13 @@ use Rattle.fancy_lex.specs.declared.escape.Assertion.TheVariants.{StartLineOnigu
 use Rattle.fancy_lex.specs.declared.flags.Flags.{Flags}
 use Rattle.fancy_grammar.specs.Answer.{IsTreeOf}
 use Rattle.fancy_grammar.specs.Answered.{IsAnsweredNode}
-use Rattle.fancy_grammar.specs.Depth.{max_depth}
 use Rattle.fancy_grammar.specs.Label as label
 use Rattle.fancy_grammar.specs.Label.{Leaf}
 use Rattle.fancy_grammar.specs.Marks.{Marks}
 use Rattle.fancy_grammar.specs.Pattern.{group_count, pattern_text}
 use Rattle.fancy_grammar.specs.Preorder.{preorder, preorder_all}
 use Rattle.fancy_grammar.specs.ReadAs.{IsReadAs}
-use Rattle.fancy_grammar.specs.Tree.{Tree, leaf, over, row, Trees, no_trees, more_trees, levels, list_of}
+use Rattle.fancy_grammar.specs.Tree.{Tree, leaf, over, row, Trees, no_trees, more_trees, list_of}
 use Rattle.fancy_grammar.specs.Writable.{IsWritable, AreNodesWritable, AreAllWritable, ArePieces, IsWritableLeaf}
 use Rattle.fancy_grammar.specs.Writable.{HasSource, is_numbered, is_numbered_call_of_all}
 use Rattle.std.proofs.Common.{sym, length, ◌≤◌, ◌^◌}
@@ -38,20 +37,10 @@ use Rattle.fancy_grammar.proofs.Pattern.Source.Law.{sources_read, by_escape as e
 use Rattle.fancy_grammar.specs.Quantified.{is_repeatable}
 use Rattle.fancy_grammar.proofs.Parsed.Escapes.{is_line_of_oniguruma}
 use Rattle.fancy_grammar.proofs.Parsed.Resolved.{IsResolvedNode, nodes_told, names_writable}
+use Rattle.fancy_grammar.proofs.Pattern.ReadFits.{answered_fits}
 use Rattle.fancy_grammar.proofs.Pattern.Theorem.{reads_back}
 
 -- ---- what is open
-
--- the first tree is a look-around, or a condition on a group
-abbrev pub BeginsWithLookOrGroup : Trees → Type 0
-BeginsWithLookOrGroup (more_trees (over (label.look_around l) k) ts) = Unit {0}
-BeginsWithLookOrGroup (more_trees (leaf (label.backref_exists n level)) ts) = Unit {0}
-BeginsWithLookOrGroup _ = ⊥
-
--- of a conditional: its condition is a look-around, or one on a group
-abbrev pub IsOpenMet : Tree → Type 0
-IsOpenMet (row label.conditional ts) = BeginsWithLookOrGroup ts
-IsOpenMet _ = Unit {0}
 
 -- what stands under a quantifier is repeatable, no part of a Concat, nor what a stopper holds, is Empty, and of both
 -- branches one is not
@@ -95,9 +84,6 @@ module _ (f : Flags) (m : Marks) (mode : f.oniguruma_mode ≡ false) where
   abbrev Answered : List Tree → Type 0
   Answered = AllByRecursion IsAnsweredNode
 
-  abbrev Met : List Tree → Type 0
-  Met = AllByRecursion IsOpenMet
-
   abbrev Resolved : List Tree → Type 0
   Resolved = AllByRecursion (IsResolvedNode f false)
 
@@ -136,66 +122,55 @@ module _ (f : Flags) (m : Marks) (mode : f.oniguruma_mode ≡ false) where
   expression_writable c (more_trees a no_trees) h w = absurd h
   expression_writable c (more_trees a (more_trees e (more_trees x ts))) h w = absurd h
 
-  conditional_writable : (c : ℕ) (ts : Trees) → AreBranched ts → BeginsWithLookOrGroup ts → AreAllWritable f m c ts →
+  conditional_writable : (c : ℕ) (ts : Trees) → AreBranched ts → AreAllWritable f m c ts →
       AreNodesWritable f m c (row label.conditional ts)
-  conditional_writable c (more_trees (over (label.look_around l) k) (more_trees t (more_trees e no_trees))) h b w =
-      (w.0, w.1.0, w.1.1.0, h)
-  conditional_writable c
-      (more_trees (leaf (label.backref_exists n level)) (more_trees t (more_trees e no_trees))) h b w =
-      (w.0, without_groups c t w.1.0, subst (λ k. AreNodesWritable f m k e) (omega arith) w.1.1.0, h)
-    where
-      without_groups : (c : ℕ) (t : Tree) → AreNodesWritable f m (c + 0) t → AreNodesWritable f m c t
-      without_groups c t k = subst (λ n. AreNodesWritable f m n t) (omega arith) k
-  conditional_writable c no_trees h b w = absurd h
-  conditional_writable c (more_trees k no_trees) h b w = absurd h
-  conditional_writable c (more_trees k (more_trees t no_trees)) h b w = absurd h
-  conditional_writable c (more_trees k (more_trees t (more_trees e (more_trees x ts)))) h b w = absurd h
-  conditional_writable c (more_trees k (more_trees t (more_trees e no_trees))) h b w = absurd b
+  conditional_writable c (more_trees k (more_trees t (more_trees e no_trees))) h w = (w.0, w.1.0, w.1.1.0, h)
+  conditional_writable c no_trees h w = absurd h
+  conditional_writable c (more_trees k no_trees) h w = absurd h
+  conditional_writable c (more_trees k (more_trees t no_trees)) h w = absurd h
+  conditional_writable c (more_trees k (more_trees t (more_trees e (more_trees x ts)))) h w = absurd h
 
   mutual
-    nodes_writable : (c : ℕ) (t : Tree) → Answered (preorder t) → Resolved (preorder t) → Met (preorder t) →
+    nodes_writable : (c : ℕ) (t : Tree) → Answered (preorder t) → Resolved (preorder t) →
         AreReferencesWritable f m c t → AreNodesWritable f m c t
-    nodes_writable c (leaf l) a h o r = leaf_writable c l a.0 h.0 r
-    nodes_writable c (over (label.repeat lo hi greedy) t) a h o r =
-        (nodes_writable c t a.1 h.1 o.1 r, h.0.0 refl, h.0.1, h.0.2)
-    nodes_writable c (over label.group t) a h o r = nodes_writable (c + 1) t a.1 h.1 o.1 r
-    nodes_writable c (over (label.look_around l) t) a h o r = nodes_writable c t a.1 h.1 o.1 r
-    nodes_writable c (over label.atomic_group t) a h o r = nodes_writable c t a.1 h.1 o.1 r
-    nodes_writable c (over label.define_group t) a h o r = nodes_writable c t a.1 h.1 o.1 r
-    nodes_writable c (over label.repeater t) a h o r = nodes_writable c t a.1 h.1 o.1 r
-    nodes_writable c (over label.stopper t) a h o r = (nodes_writable c t a.1 h.1 o.1 r, h.0 refl)
-    nodes_writable c (over (label.ast_group name place) t) a h o r = absurd a.0
-    nodes_writable c (row label.concat (more_trees t (more_trees u ts))) a h o r =
-        pieces_writable c (more_trees t (more_trees u ts)) a.1 h.1 (h.0.1 refl) o.1 r
-    nodes_writable c (row label.concat no_trees) a h o r = absurd (omega (arith, h.0.0))
-    nodes_writable c (row label.concat (more_trees t no_trees)) a h o r = absurd (omega (arith, h.0.0))
-    nodes_writable c (row label.alt (more_trees t (more_trees u ts))) a h o r =
-        all_writable c (more_trees t (more_trees u ts)) a.1 h.1 o.1 r
-    nodes_writable c (row label.alt no_trees) a h o r = absurd (omega (arith, a.0))
-    nodes_writable c (row label.alt (more_trees t no_trees)) a h o r = absurd (omega (arith, a.0))
-    nodes_writable c (row label.expression ts) a h o r =
-        expression_writable c ts h.0 (all_writable c ts a.1 h.1 o.1 r)
-    nodes_writable c (row label.conditional ts) a h o r =
-        conditional_writable c ts (h.0.1 refl) o.0 (all_writable c ts a.1 h.1 o.1 r)
+    nodes_writable c (leaf l) a h r = leaf_writable c l a.0 h.0 r
+    nodes_writable c (over (label.repeat lo hi greedy) t) a h r =
+        (nodes_writable c t a.1 h.1 r, h.0.0 refl, h.0.1, h.0.2)
+    nodes_writable c (over label.group t) a h r = nodes_writable (c + 1) t a.1 h.1 r
+    nodes_writable c (over (label.look_around l) t) a h r = nodes_writable c t a.1 h.1 r
+    nodes_writable c (over label.atomic_group t) a h r = nodes_writable c t a.1 h.1 r
+    nodes_writable c (over label.define_group t) a h r = nodes_writable c t a.1 h.1 r
+    nodes_writable c (over label.repeater t) a h r = nodes_writable c t a.1 h.1 r
+    nodes_writable c (over label.stopper t) a h r = (nodes_writable c t a.1 h.1 r, h.0 refl)
+    nodes_writable c (over (label.ast_group name place) t) a h r = absurd a.0
+    nodes_writable c (row label.concat (more_trees t (more_trees u ts))) a h r =
+        pieces_writable c (more_trees t (more_trees u ts)) a.1 h.1 (h.0.1 refl) r
+    nodes_writable c (row label.concat no_trees) a h r = absurd (omega (arith, h.0.0))
+    nodes_writable c (row label.concat (more_trees t no_trees)) a h r = absurd (omega (arith, h.0.0))
+    nodes_writable c (row label.alt (more_trees t (more_trees u ts))) a h r =
+        all_writable c (more_trees t (more_trees u ts)) a.1 h.1 r
+    nodes_writable c (row label.alt no_trees) a h r = absurd (omega (arith, a.0))
+    nodes_writable c (row label.alt (more_trees t no_trees)) a h r = absurd (omega (arith, a.0))
+    nodes_writable c (row label.expression ts) a h r =
+        expression_writable c ts h.0 (all_writable c ts a.1 h.1 r)
+    nodes_writable c (row label.conditional ts) a h r =
+        conditional_writable c ts (h.0.1 refl) (all_writable c ts a.1 h.1 r)
 
-    all_writable : (c : ℕ) (ts : Trees) → Answered (preorder_all ts) → Resolved (preorder_all ts) →
-        Met (preorder_all ts) → AreAllReferencesWritable f m c ts → AreAllWritable f m c ts
-    all_writable c no_trees a h o r = tt
-    all_writable c (more_trees t ts) a h o r =
+    all_writable : (c : ℕ) (ts : Trees) → Answered (preorder_all ts) → Resolved (preorder_all ts) → AreAllReferencesWritable f m c ts → AreAllWritable f m c ts
+    all_writable c no_trees a h r = tt
+    all_writable c (more_trees t ts) a h r =
         let (x, y) = each_split IsAnsweredNode (preorder t) (preorder_all ts) a in
         let (j, k) = each_split (IsResolvedNode f false) (preorder t) (preorder_all ts) h in
-        let (v, w) = each_split IsOpenMet (preorder t) (preorder_all ts) o in
-        (nodes_writable c t x j v r.0, all_writable (c + group_count t) ts y k w r.1)
+        (nodes_writable c t x j r.0, all_writable (c + group_count t) ts y k r.1)
 
     pieces_writable : (c : ℕ) (ts : Trees) → Answered (preorder_all ts) → Resolved (preorder_all ts) →
-        AllByRecursion IsSolid (list_of ts) → Met (preorder_all ts) → AreAllReferencesWritable f m c ts →
+        AllByRecursion IsSolid (list_of ts) → AreAllReferencesWritable f m c ts →
         ArePieces f m c ts
-    pieces_writable c no_trees a h s o r = tt
-    pieces_writable c (more_trees t ts) a h s o r =
+    pieces_writable c no_trees a h s r = tt
+    pieces_writable c (more_trees t ts) a h s r =
         let (x, y) = each_split IsAnsweredNode (preorder t) (preorder_all ts) a in
         let (j, k) = each_split (IsResolvedNode f false) (preorder t) (preorder_all ts) h in
-        let (v, w) = each_split IsOpenMet (preorder t) (preorder_all ts) o in
-        (nodes_writable c t x j v r.0, s.0, pieces_writable (c + group_count t) ts y k s.1 w r.1)
+        (nodes_writable c t x j r.0, s.0, pieces_writable (c + group_count t) ts y k s.1 r.1)
 
 -- ---- parsed trees
 
@@ -261,24 +236,21 @@ module _ {f : Flags} {text : Text} {t : Tree} {m : Marks} (a : IsTreeOf f text t
       (derived_read a.1.1) marked (subst (λ x. AllByRecursion IsAnsweredNode (preorder x)) a.3 (answered_with a).nodes)
       (omega arith))
 
-  -- Outside Oniguruma mode the tree is writable, where it has fewer than 64 levels, where the condition of each
-  -- conditional is a look-around or one on a group, and where its nodes are whole if some groups have no number.
-  pub parsed_is_writable : bytes text < 2 ^ 63 → f.oniguruma_mode ≡ false → levels t < max_depth →
-      AllByRecursion IsOpenMet (preorder t) →
+  -- Outside Oniguruma mode the tree is writable, where its nodes are whole if some groups have no number.
+  pub parsed_is_writable : bytes text < 2 ^ 63 → f.oniguruma_mode ≡ false →
       (m.numbered_groups_ignored ≡ true → AllByRecursion (IsWholeNode f) (preorder t)) → IsWritable f m t
-  parsed_is_writable small mode deep o w = record {
+  parsed_is_writable small mode w = record {
     mode = mode;
     marks = marks_told a numeric_told self_told;
     counted = counted_told a;
     names = names_writable a;
     nodes = nodes_writable f m mode 0 t (answered_with a).nodes
-        (whole_or_counted f m.numbered_groups_ignored (preorder t) (nodes_told a) w) o (references_writable small);
-    levels = deep;
+        (whole_or_counted f m.numbered_groups_ignored (preorder t) (nodes_told a) w) (references_writable small);
+    fits = answered_fits f text t m mode a;
   }
 
   -- then its text reads back
-  pub parsed_reads_back : bytes text < 2 ^ 63 → f.oniguruma_mode ≡ false → levels t < max_depth →
-      AllByRecursion IsOpenMet (preorder t) →
+  pub parsed_reads_back : bytes text < 2 ^ 63 → f.oniguruma_mode ≡ false →
       (m.numbered_groups_ignored ≡ true → AllByRecursion (IsWholeNode f) (preorder t)) →
       IsReadAs f (pattern_text f t m) t m
-  parsed_reads_back small mode deep o w = reads_back f t m (parsed_is_writable small mode deep o w)
+  parsed_reads_back small mode w = reads_back f t m (parsed_is_writable small mode w)

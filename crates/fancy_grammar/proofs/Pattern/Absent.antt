@@ -15,6 +15,7 @@ use Rattle.fancy_grammar.specs.Label as label
 use Rattle.fancy_grammar.specs.Marks.{Marks}
 use Rattle.fancy_grammar.specs.Pattern.{Here, under, past_groups, deeper, group_count, in_parens, behind, written}
 use Rattle.fancy_grammar.specs.Pattern.{repeater_text, stopper_text}
+use Rattle.fancy_grammar.specs.PatternDepth.{Fits}
 use Rattle.fancy_grammar.specs.PatternNeeds.{settled}
 use Rattle.fancy_grammar.specs.State.{State, done}
 use Rattle.fancy_grammar.specs.Tree.{Tree, over, row, no_trees, more_trees, empty, clear, stopper, expression}
@@ -173,7 +174,7 @@ expression_at μ h t u v f g a e l b d = record {
 
 -- ---- the trees
 
-module _ (μ : Marks) (h : Here) (o : h.flags.oniguruma_mode ≡ false) (d : h.depth + 1 < max_depth) where
+module _ (μ : Marks) (h : Here) (o : h.flags.oniguruma_mode ≡ false) where
   begins_absent : (u : Text) → Begins h.flags.ignore_space (codes "(?~" ++ u)
   begins_absent u = begins_by h.flags.ignore_space (code "(") _ refl refl refl refl
 
@@ -186,12 +187,12 @@ module _ (μ : Marks) (h : Here) (o : h.flags.oniguruma_mode ≡ false) (d : h.d
       let text = λ (j : Here). repeater_text (written μ t Whole j) in
       let s = in_parens (codes "?~") text i in
       let same = parens_text (codes "?~") text i in
-      by_atom μ x h o d refl s _
-      (λ v. subst (Begins h.flags.ignore_space) (sym (same v)) (begins_absent _))
-      (λ v k _. subst (λ z. AtomAt μ i z v x) (sym (same v))
-      (repeater_at μ i _ _ v t d
-      (parted μ (deeper i) v _ t o w (r.whole (code ")" ∷ v) (ends_close h.flags.ignore_space v)))))
-      refl (λ e. refl)
+      by_atom μ x h o refl (Fits x Whole h) (Fits x Whole h) s _ (λ d. d.0)
+      (λ _ v. subst (Begins h.flags.ignore_space) (sym (same v)) (begins_absent _))
+      (λ d v k _. subst (λ z. AtomAt μ i z v x) (sym (same v))
+      (repeater_at μ i _ _ v t d.1.0
+      (parted μ (deeper i) v _ t o w (r.whole d.1.1 (code ")" ∷ v) (ends_close h.flags.ignore_space v)))))
+      refl (λ e. ((λ d. d), refl))
 
   pub stopper_reads : (t : Tree) → is_empty t ≡ false → ReadsTree μ t (deeper (under (settled h.flags t) h)) →
       ReadsTree μ (over label.stopper t) h
@@ -202,14 +203,14 @@ module _ (μ : Marks) (h : Here) (o : h.flags.oniguruma_mode ≡ false) (d : h.d
       let text = λ (j : Here). stopper_text (written μ t Branch j) in
       let s = in_parens (codes "?~|") text i in
       let same = parens_text (codes "?~|") text i in
-      let bare = stopper_same h.flags.ignore_space w (r.branch_begins solid []) in
-      by_atom μ x h o d refl s _
-      (λ v. subst (Begins h.flags.ignore_space) (sym (same v)) (begins_absent _))
-      (λ v k _. subst (λ z. AtomAt μ i z v x)
-      (sym (same v ∙ ap (λ z. codes "(?~|" ++ (z ++ code ")" ∷ v)) bare))
-      (stopper_at μ i (w ++ code ")" ∷ v) v _ t d solid
-      (r.branch (code ")" ∷ v) (ends_close h.flags.ignore_space v).stops)))
-      refl (λ e. refl)
+      let bare = λ (d : Fits x Whole h). stopper_same h.flags.ignore_space w (r.branch_begins d.1.1.1 solid []) in
+      by_atom μ x h o refl (Fits x Whole h) (Fits x Whole h) s _ (λ d. d.0)
+      (λ _ v. subst (Begins h.flags.ignore_space) (sym (same v)) (begins_absent _))
+      (λ d v k _. subst (λ z. AtomAt μ i z v x)
+      (sym (same v ∙ ap (λ z. codes "(?~|" ++ (z ++ code ")" ∷ v)) (bare d)))
+      (stopper_at μ i (w ++ code ")" ∷ v) v _ t d.1.0 solid
+      (r.branch d.1.1.1 (code ")" ∷ v) (ends_close h.flags.ignore_space v).stops)))
+      refl (λ e. ((λ d. d), refl))
 
   -- the second branch stands behind the first
   pub expression_reads : (a e : Tree) → let x = row label.expression (more_trees a (more_trees e no_trees)) in
@@ -225,11 +226,11 @@ module _ (μ : Marks) (h : Here) (o : h.flags.oniguruma_mode ≡ false) (d : h.d
       let same = parens_text (codes "?~|") text i in
       let first = written μ a Branch (deeper i) in
       let second = λ (v : Text). written μ e Branch (behind a Branch (deeper i)) ++ code ")" ∷ v in
-      by_atom μ x h o d refl s _
-      (λ v. subst (Begins h.flags.ignore_space) (sym (same v)) (begins_absent _))
-      (λ v k _. subst (λ z. AtomAt μ i z v x)
+      by_atom μ x h o refl (Fits x Whole h) (Fits x Whole h) s _ (λ d. d.0)
+      (λ _ v. subst (Begins h.flags.ignore_space) (sym (same v)) (begins_absent _))
+      (λ d v k _. subst (λ z. AtomAt μ i z v x)
       (sym (same v ∙ ap (λ z. codes "(?~|" ++ z) (append_assoc first _ (code ")" ∷ v))))
-      (expression_at μ i (first ++ code "|" ∷ second v) (second v) v _ _ a e d
-      (r.branch (code "|" ∷ second v) (stops_bar h.flags.ignore_space (second v)))
-      (q.branch (code ")" ∷ v) (subst (λ y. Stops y (code ")" ∷ v)) (sym space) (ends_close h.flags.ignore_space v).stops))))
-      refl (λ e. refl)
+      (expression_at μ i (first ++ code "|" ∷ second v) (second v) v _ _ a e d.1.0
+      (r.branch d.1.1.0 (code "|" ∷ second v) (stops_bar h.flags.ignore_space (second v)))
+      (q.branch d.1.1.1 (code ")" ∷ v) (subst (λ y. Stops y (code ")" ∷ v)) (sym space) (ends_close h.flags.ignore_space v).stops))))
+      refl (λ e. ((λ d. d), refl))

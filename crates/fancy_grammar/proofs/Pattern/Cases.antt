@@ -1,5 +1,5 @@
 -- Each kind of tree reads back where the trees below it do.
-use Rattle.std.proofs.Common.{◌≡◌, zero, ◌+◌, ◌<◌, Bool, false, not, ℕ}
+use Rattle.std.proofs.Common.{◌≡◌, zero, ◌+◌, Bool, false, not, ℕ}
 use Rattle.std.proofs.Common.{[], ◌∷◌, ◌++◌, codes, refl, sym, ap, ◌∙◌, subst, Option, Some, None, IfSome, option_map}
 use Rattle.std.proofs.lemmas.Bool.{cond-false, false≢true, cond_both}
 use Prim.Native.Char.{code}
@@ -8,7 +8,6 @@ use Rattle.fancy_lex.specs.declared.escape.Assertion.{Assertion}
 use Rattle.fancy_lex.specs.declared.escape.Assertion.TheVariants.{StartLineOniguruma}
 use Rattle.fancy_lex.specs.declared.flags.Flags.{Flags}
 use Rattle.fancy_grammar.specs.Ahead.{with_head, ahead}
-use Rattle.fancy_grammar.specs.Depth.{max_depth}
 use Rattle.fancy_grammar.specs.Head.{look, capture}
 use Rattle.fancy_grammar.specs.Join.{is_empty}
 use Rattle.fancy_grammar.specs.Label as label
@@ -17,14 +16,16 @@ use Rattle.fancy_grammar.specs.Marks.{Marks}
 use Rattle.fancy_grammar.specs.Pattern.{Here, under, past_groups, deeper, in_parens, after_setting, as_atom}
 use Rattle.fancy_grammar.specs.Pattern.{flags_behind, written, leaf_text}
 use Rattle.fancy_grammar.specs.Pattern.{look_head}
+use Rattle.fancy_grammar.specs.PatternDepth.{MayOpen, MayOpenIf, FitsInParens, FitsInParensIf, FitsAfterSetting}
+use Rattle.fancy_grammar.specs.PatternDepth.{FitsAsAtom, is_in_parens, Fits}
 use Rattle.fancy_grammar.specs.PatternNeeds.{settled, setting}
 use Rattle.fancy_grammar.specs.PatternReference.{Named, name_of, name_head, group_head, target_text}
-use Rattle.fancy_grammar.specs.Quantified.{is_repeatable}
 use Rattle.fancy_grammar.specs.Tree.{Tree, leaf, over}
 use Rattle.fancy_grammar.specs.Writable.{IsLike, IsWritableLeaf, IsNameWritable}
 use Rattle.fancy_grammar.specs.declared.kinds.LookAround.{LookAround}
 use Rattle.fancy_grammar.specs.declared.kinds.LookAround.TheVariants.{LookAhead, LookAheadNeg, LookBehind}
 use Rattle.fancy_grammar.specs.declared.kinds.LookAround.TheVariants.{LookBehindNeg}
+use Rattle.fancy_grammar.specs.declared.precedence.Precedence.{Precedence}
 use Rattle.fancy_grammar.specs.declared.precedence.Precedence.TheVariants.{Whole, Branch, Piece, Operand}
 use Rattle.fancy_grammar.proofs.Pattern.Groups.{parens_text, question_at, reads_look, reads_atomic}
 use Rattle.fancy_grammar.proofs.Pattern.Groups.{reads_define, reads_group, capture_at, head_read}
@@ -32,7 +33,7 @@ use Rattle.fancy_grammar.proofs.Pattern.Induction.{ReadsBy}
 use Rattle.fancy_grammar.proofs.Pattern.Induction.{by_atom, by_nothing}
 use Rattle.fancy_grammar.proofs.Pattern.Leaves.{LeafAt, literal_at, byte_at, keep_at, continue_at, newline_at, any_at}
 use Rattle.fancy_grammar.proofs.Pattern.Leaves.{assertion_at, verb_leaf_at, clear_at, source_at}
-use Rattle.fancy_grammar.proofs.Pattern.Needed.{settled_again, case_fits, any_fits, IsOutside}
+use Rattle.fancy_grammar.proofs.Pattern.Needed.{like_repeatable, settled_again, case_fits, any_fits, IsOutside}
 use Rattle.fancy_grammar.proofs.Pattern.Needed.{assertion_fits}
 use Rattle.fancy_grammar.proofs.Pattern.Rules.{Clear, Begins, begins_by, no_question, ends_close, AtomAt}
 use Rattle.fancy_grammar.proofs.ReadBack.ClearLemmas.{not_asking}
@@ -47,33 +48,36 @@ use Rattle.fancy_grammar.proofs.Pattern.Unresolved.{unresolved_at}
 module _ (μ : Marks) where
   abbrev pub ReadsTree : Tree → Here → Type 0
   ReadsTree t h =
-      ReadsBy μ t h (written μ t Whole h) (written μ t Branch h) (written μ t Piece h) (written μ t (Operand zero) h)
+      ReadsBy μ t h (Fits t Whole h) (Fits t Branch h) (Fits t Piece h) (Fits t (Operand zero) h) (written μ t Whole h)
+      (written μ t Branch h) (written μ t Piece h) (written μ t (Operand zero) h)
       (flags_behind t Whole h.flags) (flags_behind t Branch h.flags)
 
   -- ---- leaves
 
-  pub same_repeatable : (l : Leaf) (f g : Flags) → f.oniguruma_mode ≡ g.oniguruma_mode →
-      is_repeatable f (leaf l) ≡ is_repeatable g (leaf l)
-  same_repeatable (label.assertion a) f g e = ap not e
-  same_repeatable label.empty f g e = refl
-  same_repeatable label.keep_out f g e = refl
-  same_repeatable label.continue_from_previous_match_end f g e = refl
-  same_repeatable (label.verb v) f g e = refl
-  same_repeatable _ f g e = refl
+  -- where a leaf fits, alone and under a quantifier
+  abbrev FitsAlone : Leaf → Here → Type 0
+  FitsAlone l h = FitsAfterSetting (leaf l) (MayOpenIf (is_in_parens l)) h
 
-  leaf_by : (l : Leaf) (h : Here) → h.flags.oniguruma_mode ≡ false → h.depth + 1 < max_depth →
-      is_empty (leaf l) ≡ false →
-      LeafAt μ (under (settled h.flags (leaf l)) h) (leaf_text μ l (under (settled h.flags (leaf l)) h)) l →
-      ReadsBy μ (leaf l) h (after_setting (leaf l) (leaf_text μ l) h) (after_setting (leaf l) (leaf_text μ l) h)
+  abbrev FitsUnder : Leaf → Here → Type 0
+  FitsUnder l h = FitsAfterSetting (leaf l) (FitsAsAtom (leaf l) (Operand zero) (MayOpenIf (is_in_parens l))) h
+
+  leaf_by : (l : Leaf) (h : Here) → h.flags.oniguruma_mode ≡ false → is_empty (leaf l) ≡ false →
+      (MayOpenIf (is_in_parens l) h →
+      LeafAt μ (under (settled h.flags (leaf l)) h) (leaf_text μ l (under (settled h.flags (leaf l)) h)) l) →
+      ReadsBy μ (leaf l) h (FitsAlone l h) (FitsAlone l h) (FitsAlone l h) (FitsUnder l h)
+      (after_setting (leaf l) (leaf_text μ l) h) (after_setting (leaf l) (leaf_text μ l) h)
       (after_setting (leaf l) (leaf_text μ l) h)
       (after_setting (leaf l) (as_atom (leaf l) (Operand zero) (leaf_text μ l)) h) (settled h.flags (leaf l))
       (settled h.flags (leaf l))
-  leaf_by l h o d e a =
+  leaf_by l h o e a =
       let g = settled h.flags (leaf l) in
       let i = under g h in
-      by_atom μ (leaf l) h o d e (leaf_text μ l i) _ a.begins a.reads refl
-      (λ r. ap (λ w. setting h.flags g ++ w)
-      (cond-false _ _ _ (ap not (sym (same_repeatable l h.flags g refl) ∙ r))))
+      by_atom μ (leaf l) h o e (FitsAlone l h) (FitsUnder l h) (leaf_text μ l i) _ (λ x. x.0) (λ x. (a x.1).begins)
+      (λ x. (a x.1).reads) refl
+      (λ r. let not_so = ap not (sym (like_repeatable (leaf l) h.flags g refl) ∙ r) in (
+        λ x. (x.0, subst (λ b. FitsInParensIf b (λ q. MayOpenIf (is_in_parens l)) (Operand zero) i) not_so x.1),
+        ap (λ w. setting h.flags g ++ w) (cond-false _ _ _ not_so),
+      ))
 
   outside : (f : Flags) (c : ℕ) (a : Assertion) → IsWritableLeaf f μ c (label.assertion a) → IsOutside a
   outside f c (StartLineOniguruma crlf) k = k
@@ -81,67 +85,66 @@ module _ (μ : Marks) where
 
   pub leaf_reads : ((k : ℕ) → IfSome (name_of μ k) (λ e. e.1 ≡ numbers_told μ e.0)) →
       (f : Flags) (l : Leaf) (h : Here) → h.flags.oniguruma_mode ≡ false → IsLike f h.flags →
-      h.depth + 1 < max_depth → IsWritableLeaf f μ h.opened l → ReadsTree (leaf l) h
-  leaf_reads numbered f label.empty h o like d k = by_nothing μ h (codes "()") (codes "()")
-  leaf_reads numbered f (label.any a b) h o like d k =
+      IsWritableLeaf f μ h.opened l → ReadsTree (leaf l) h
+  leaf_reads numbered f label.empty h o like k = by_nothing μ h _ _ _ _ (codes "()") (codes "()")
+  leaf_reads numbered f (label.any a b) h o like k =
       let i = under (settled h.flags (leaf (label.any a b))) h in
-      leaf_by (label.any a b) h o d refl (any_at μ i a b (any_fits i.flags a b
+      leaf_by (label.any a b) h o refl (λ _. any_at μ i a b (any_fits i.flags a b
       (settled_again h.flags (leaf (label.any a b)))))
-  leaf_reads numbered f (label.assertion a) h o like d k =
+  leaf_reads numbered f (label.assertion a) h o like k =
       let i = under (settled h.flags (leaf (label.assertion a))) h in
-      leaf_by (label.assertion a) h o d refl
-      (assertion_at μ i a o (assertion_fits i.flags a (outside f h.opened a k)
+      leaf_by (label.assertion a) h o refl (λ _. assertion_at μ i a o (assertion_fits i.flags a (outside f h.opened a k)
       (settled_again h.flags (leaf (label.assertion a)))))
-  leaf_reads numbered f (label.general_newline u) h o like d k =
-      leaf_by (label.general_newline u) h o d refl (newline_at μ h u (ap (λ g. g.unicode) like ∙ k))
-  leaf_reads numbered f (label.literal [] casei) h o like d k = absurd k
-  leaf_reads numbered f (label.literal (c ∷ []) casei) h o like d k =
+  leaf_reads numbered f (label.general_newline u) h o like k =
+      leaf_by (label.general_newline u) h o refl (λ _. newline_at μ h u (ap (λ g. g.unicode) like ∙ k))
+  leaf_reads numbered f (label.literal [] casei) h o like k = absurd k
+  leaf_reads numbered f (label.literal (c ∷ []) casei) h o like k =
       let l = label.literal (c ∷ []) casei in
       let i = under (settled h.flags (leaf l)) h in
-      leaf_by l h o d refl (literal_at μ i casei c (case_fits i.flags casei c o (settled_again h.flags (leaf l))))
-  leaf_reads numbered f (label.literal (c ∷ e ∷ s) casei) h o like d k = absurd k
-  leaf_reads numbered f (label.literal_bytes []) h o like d k = absurd k
-  leaf_reads numbered f (label.literal_bytes (b ∷ [])) h o like d k =
-      leaf_by (label.literal_bytes (b ∷ [])) h o d refl (byte_at μ h b (ap (λ g. g.unicode) like ∙ k.0) k.1 k.2)
-  leaf_reads numbered f (label.literal_bytes (b ∷ e ∷ s)) h o like d k = absurd k
-  leaf_reads numbered f (label.delegate s casei) h o like d k =
+      leaf_by l h o refl (λ _. literal_at μ i casei c (case_fits i.flags casei c o (settled_again h.flags (leaf l))))
+  leaf_reads numbered f (label.literal (c ∷ e ∷ s) casei) h o like k = absurd k
+  leaf_reads numbered f (label.literal_bytes []) h o like k = absurd k
+  leaf_reads numbered f (label.literal_bytes (b ∷ [])) h o like k =
+      leaf_by (label.literal_bytes (b ∷ [])) h o refl (λ _. byte_at μ h b (ap (λ g. g.unicode) like ∙ k.0) k.1 k.2)
+  leaf_reads numbered f (label.literal_bytes (b ∷ e ∷ s)) h o like k = absurd k
+  leaf_reads numbered f (label.delegate s casei) h o like k =
       let l = label.delegate s casei in
       let i = under (settled h.flags (leaf l)) h in
-      leaf_by l h o d refl (source_at μ i s casei _ (k i.flags like (settled_again h.flags (leaf l))))
-  leaf_reads numbered f label.keep_out h o like d k = leaf_by label.keep_out h o d refl (keep_at μ h)
-  leaf_reads numbered f label.continue_from_previous_match_end h o like d k =
-      leaf_by label.continue_from_previous_match_end h o d refl (continue_at μ h)
-  leaf_reads numbered f (label.verb v) h o like d k = leaf_by (label.verb v) h o d refl (verb_leaf_at μ h v d)
-  leaf_reads numbered f label.clear h o like d k = leaf_by label.clear h o d refl (clear_at μ h d)
-  leaf_reads numbered f (label.backref n casei) h o like d k =
-      leaf_by (label.backref n casei) h o d refl
-      (backref_at μ (under (settled h.flags (leaf (label.backref n casei))) h) numbered n k)
-  leaf_reads numbered f (label.backref_at_level n level casei) h o like d k =
-      leaf_by (label.backref_at_level n level casei) h o d refl
-      (level_at μ (under (settled h.flags (leaf (label.backref_at_level n level casei))) h) numbered n level k.0 k.1)
-  leaf_reads numbered f (label.subroutine_call n) h o like d k =
-      leaf_by (label.subroutine_call n) h o d refl (call_at μ h numbered n k)
-  leaf_reads numbered f (label.backref_exists n level) h o like d k =
-      leaf_by (label.backref_exists n level) h o d refl
-      (exists_at μ h (target_text μ n level) n level (condition_at μ h n d level (numbered n) k.0 k.1))
-  leaf_reads numbered f (label.ast_node (label.ast_call t) place) h o like d k =
-      leaf_by (label.ast_node (label.ast_call t) place) h o d refl (unresolved_at μ h t place d k.0 k.1)
-  leaf_reads numbered f _ h o like d k = absurd k
+      leaf_by l h o refl (λ _. source_at μ i s casei _ (k i.flags like (settled_again h.flags (leaf l))))
+  leaf_reads numbered f label.keep_out h o like k = leaf_by label.keep_out h o refl (λ _. keep_at μ h)
+  leaf_reads numbered f label.continue_from_previous_match_end h o like k =
+      leaf_by label.continue_from_previous_match_end h o refl (λ _. continue_at μ h)
+  leaf_reads numbered f (label.verb v) h o like k = leaf_by (label.verb v) h o refl (λ d. verb_leaf_at μ h v (d refl))
+  leaf_reads numbered f label.clear h o like k = leaf_by label.clear h o refl (λ d. clear_at μ h (d refl))
+  leaf_reads numbered f (label.backref n casei) h o like k =
+      leaf_by (label.backref n casei) h o refl
+      (λ _. backref_at μ (under (settled h.flags (leaf (label.backref n casei))) h) numbered n k)
+  leaf_reads numbered f (label.backref_at_level n level casei) h o like k =
+      leaf_by (label.backref_at_level n level casei) h o refl
+      (λ _. level_at μ (under (settled h.flags (leaf (label.backref_at_level n level casei))) h) numbered n level k.0 k.1)
+  leaf_reads numbered f (label.subroutine_call n) h o like k =
+      leaf_by (label.subroutine_call n) h o refl (λ _. call_at μ h numbered n k)
+  leaf_reads numbered f (label.backref_exists n level) h o like k =
+      leaf_by (label.backref_exists n level) h o refl
+      (λ d. exists_at μ h (target_text μ n level) n level (condition_at μ h n (d refl) level (numbered n) k.0 k.1))
+  leaf_reads numbered f (label.ast_node (label.ast_call t) place) h o like k =
+      leaf_by (label.ast_node (label.ast_call t) place) h o refl (λ d. unresolved_at μ h t place d k.0 k.1)
+  leaf_reads numbered f _ h o like k = absurd k
 
   -- ---- groups
 
   begins_open : (x : Bool) (s : Text) → Clear x s → Begins x (code "(" ∷ s)
   begins_open x s c = begins_by x (code "(") s (not_asking s (no_question s c.no_mark)) refl refl refl
 
-  module _ (t : Tree) (h : Here) (o : h.flags.oniguruma_mode ≡ false) (d : h.depth + 1 < max_depth) where
+  module _ (t : Tree) (h : Here) (o : h.flags.oniguruma_mode ≡ false) where
     -- a group whose name the marks give it
-    group_head_read : (o : Option Named) → IfSome o (λ e. IsNameWritable e.0) → (f : Flags) (u : Text) →
+    group_head_read : MayOpen h → (o : Option Named) → IfSome o (λ e. IsNameWritable e.0) → (f : Flags) (u : Text) →
         Clear f.ignore_space u →
         ahead h.depth (st f (code "(" ∷ (choose o (λ e. name_head e.0) [] ++ u)))
         ≡ with_head (capture (option_map (λ e. e.0) o)) (st f u)
-    group_head_read None k f u c = capture_at h.depth f u d c
-    group_head_read (Some ([], l)) k f u c = absurd k
-    group_head_read (Some (z ∷ w, l)) k f u c = head_read h.depth f z w u d k
+    group_head_read d None k f u c = capture_at h.depth f u d c
+    group_head_read d (Some ([], l)) k f u c = absurd k
+    group_head_read d (Some (z ∷ w, l)) k f u c = head_read h.depth f z w u d k
 
     begins_head : (o : Option Named) → IfSome o (λ e. IsNameWritable e.0) → (x : Bool) (u : Text) → Clear x u →
         Begins x (code "(" ∷ (choose o (λ e. name_head e.0) [] ++ u))
@@ -160,23 +163,25 @@ module _ (μ : Marks) where
         let head = group_head μ (h.opened + 1) in
         let s = in_parens head (written μ t Whole) (past_groups 1 i) in
         let inside = λ (v : Text). written μ t Whole (deeper (past_groups 1 i)) ++ code ")" ∷ v in
-        let clear = λ (v : Text). r.whole_clear (code ")" ∷ v) (ends_close h.flags.ignore_space v).stops.clear in
+        let fits = Fits (over label.group t) Whole h in
+        let clear = λ (d : fits) (v : Text).
+        r.whole_clear d.1.1 (code ")" ∷ v) (ends_close h.flags.ignore_space v).stops.clear in
         let same = parens_text head (written μ t Whole) (past_groups 1 i) in
-        by_atom μ (over label.group t) h o d refl s _
-        (λ v. subst (Begins h.flags.ignore_space) (sym (same v))
-        (begins_head (name_of μ (h.opened + 1)) named h.flags.ignore_space (inside v) (clear v)))
-        (λ v k _. subst (λ w. AtomAt μ i w v (over label.group t)) (sym (same v))
+        by_atom μ (over label.group t) h o refl fits fits s _ (λ d. d.0)
+        (λ d v. subst (Begins h.flags.ignore_space) (sym (same v))
+        (begins_head (name_of μ (h.opened + 1)) named h.flags.ignore_space (inside v) (clear d v)))
+        (λ d v k _. subst (λ w. AtomAt μ i w v (over label.group t)) (sym (same v))
         (reads_group μ i _ _ _ (inside v) v t
-        (group_head_read (name_of μ (h.opened + 1)) named i.flags (inside v) (clear v)) refl
-        (r.whole (code ")" ∷ v) (ends_close h.flags.ignore_space v))))
-        refl (λ e. refl)
+        (group_head_read d.1.0 (name_of μ (h.opened + 1)) named i.flags (inside v) (clear d v)) refl
+        (r.whole d.1.1 (code ")" ∷ v) (ends_close h.flags.ignore_space v))))
+        refl (λ e. ((λ d. d), refl))
 
-    look_ahead_at : (f : Flags) (l : LookAround) (u : Text) →
+    look_ahead_at : MayOpen h → (f : Flags) (l : LookAround) (u : Text) →
         ahead h.depth (st f (code "(" ∷ (look_head l ++ u))) ≡ with_head (look l) (st f u)
-    look_ahead_at f LookAhead u = question_at h.depth f (code "=" ∷ u) d
-    look_ahead_at f LookAheadNeg u = question_at h.depth f (code "!" ∷ u) d
-    look_ahead_at f LookBehind u = question_at h.depth f (codes "<=" ++ u) d
-    look_ahead_at f LookBehindNeg u = question_at h.depth f (codes "<!" ++ u) d
+    look_ahead_at d f LookAhead u = question_at h.depth f (code "=" ∷ u) d
+    look_ahead_at d f LookAheadNeg u = question_at h.depth f (code "!" ∷ u) d
+    look_ahead_at d f LookBehind u = question_at h.depth f (codes "<=" ++ u) d
+    look_ahead_at d f LookBehindNeg u = question_at h.depth f (codes "<!" ++ u) d
 
     begins_look : (x : Bool) (l : LookAround) (u : Text) → Begins x (code "(" ∷ (look_head l ++ u))
     begins_look x LookAhead u = begins_by x (code "(") _ refl refl refl refl
@@ -191,11 +196,12 @@ module _ (μ : Marks) where
         let s = in_parens (look_head l) (written μ t Whole) i in
         let inside = λ (v : Text). written μ t Whole (deeper i) ++ code ")" ∷ v in
         let same = parens_text (look_head l) (written μ t Whole) i in
-        by_atom μ (over (label.look_around l) t) h o d refl s _
-        (λ v. subst (Begins h.flags.ignore_space) (sym (same v)) (begins_look h.flags.ignore_space l (inside v)))
-        (λ v k _. subst (λ w. AtomAt μ i w v (over (label.look_around l) t)) (sym (same v))
-        (reads_look μ i l _ _ (inside v) v t (look_ahead_at i.flags l (inside v))
-        (r.whole (code ")" ∷ v) (ends_close h.flags.ignore_space v))))
+        let fits = λ (p : Precedence). Fits (over (label.look_around l) t) p h in
+        by_atom μ (over (label.look_around l) t) h o refl (fits Whole) (fits (Operand zero)) s _ (λ d. d.0)
+        (λ _ v. subst (Begins h.flags.ignore_space) (sym (same v)) (begins_look h.flags.ignore_space l (inside v)))
+        (λ d v k _. subst (λ w. AtomAt μ i w v (over (label.look_around l) t)) (sym (same v))
+        (reads_look μ i l _ _ (inside v) v t (look_ahead_at d.1.0 i.flags l (inside v))
+        (r.whole d.1.1 (code ")" ∷ v) (ends_close h.flags.ignore_space v))))
         refl (λ e. absurd (false≢true e))
 
     pub define_reads : ReadsTree t (deeper (under (settled h.flags t) h)) → ReadsTree (over label.define_group t) h
@@ -204,17 +210,19 @@ module _ (μ : Marks) where
         let s = in_parens (codes "?(DEFINE)") (written μ t Whole) i in
         let inside = λ (v : Text). written μ t Whole (deeper i) ++ code ")" ∷ v in
         let same = parens_text (codes "?(DEFINE)") (written μ t Whole) i in
-        by_atom μ (over label.define_group t) h o d refl s _
-        (λ v. subst (Begins h.flags.ignore_space) (sym (same v))
+        let fits = Fits (over label.define_group t) Whole h in
+        by_atom μ (over label.define_group t) h o refl fits fits s _ (λ d. d.0)
+        (λ _ v. subst (Begins h.flags.ignore_space) (sym (same v))
         (begins_by h.flags.ignore_space (code "(") _ refl refl refl refl))
-        (λ v k _. subst (λ w. AtomAt μ i w v (over label.define_group t)) (sym (same v))
-        (reads_define μ i _ _ (inside v) v t (question_at h.depth i.flags (codes "(DEFINE)" ++ inside v) d)
-        (r.whole (code ")" ∷ v) (ends_close h.flags.ignore_space v))))
-        refl (λ e. refl)
+        (λ d v k _. subst (λ w. AtomAt μ i w v (over label.define_group t)) (sym (same v))
+        (reads_define μ i _ _ (inside v) v t (question_at h.depth i.flags (codes "(DEFINE)" ++ inside v) d.1.0)
+        (r.whole d.1.1 (code ")" ∷ v) (ends_close h.flags.ignore_space v))))
+        refl (λ e. ((λ d. d), refl))
 
     -- where it is none of a quantifier
     pub atomic_by : ReadsTree t (deeper (under (settled h.flags t) h)) →
-        ReadsBy μ (over label.atomic_group t) h
+        let fits = FitsAfterSetting t (FitsInParens (Fits t Whole)) h in
+        ReadsBy μ (over label.atomic_group t) h fits fits fits fits
         (after_setting t (in_parens (codes "?>") (written μ t Whole)) h)
         (after_setting t (in_parens (codes "?>") (written μ t Whole)) h)
         (after_setting t (in_parens (codes "?>") (written μ t Whole)) h)
@@ -224,10 +232,11 @@ module _ (μ : Marks) where
         let s = in_parens (codes "?>") (written μ t Whole) i in
         let inside = λ (v : Text). written μ t Whole (deeper i) ++ code ")" ∷ v in
         let same = parens_text (codes "?>") (written μ t Whole) i in
-        by_atom μ (over label.atomic_group t) h o d refl s _
-        (λ v. subst (Begins h.flags.ignore_space) (sym (same v))
+        let fits = FitsAfterSetting t (FitsInParens (Fits t Whole)) h in
+        by_atom μ (over label.atomic_group t) h o refl fits fits s _ (λ d. d.0)
+        (λ _ v. subst (Begins h.flags.ignore_space) (sym (same v))
         (begins_by h.flags.ignore_space (code "(") _ refl refl refl refl))
-        (λ v k _. subst (λ w. AtomAt μ i w v (over label.atomic_group t)) (sym (same v))
-        (reads_atomic μ i _ _ (inside v) v t (question_at h.depth i.flags (codes ">" ++ inside v) d)
-        (r.whole (code ")" ∷ v) (ends_close h.flags.ignore_space v))))
-        refl (λ e. refl)
+        (λ d v k _. subst (λ w. AtomAt μ i w v (over label.atomic_group t)) (sym (same v))
+        (reads_atomic μ i _ _ (inside v) v t (question_at h.depth i.flags (codes ">" ++ inside v) d.1.0)
+        (r.whole d.1.1 (code ")" ∷ v) (ends_close h.flags.ignore_space v))))
+        refl (λ e. ((λ d. d), refl))

@@ -1,35 +1,31 @@
--- Conditionals read back where the trees below them do; the condition is a look-around.
-use Rattle.std.proofs.Common.{◌≡◌, ℕ, ◌+◌, ◌<◌, Bool, true, false, not, ◌&&◌, ◌||◌, ◌==◌, List, [], ◌∷◌}
+-- Conditionals read back where their conditions and branches do.
+use Rattle.std.proofs.Common.{◌≡◌, ℕ, ◌+◌, Bool, true, false, not, ◌&&◌, ◌||◌, ◌==◌, List, [], ◌∷◌}
 use Rattle.std.proofs.Common.{◌++◌, codes, refl, sym, ap, ap₂, ◌∙◌, subst, arith, append_assoc, append-nil, ne_eqb}
 use Rattle.std.proofs.Common.{if◌then◌else◌}
 use Rattle.std.proofs.Math.Bool.{and-true, not-not}
 use Rattle.std.proofs.lemmas.Bool.{cond-false, or_parts, false≢true}
 use Rattle.std.proofs.lemmas.Str.{len_utf8_bounds}
-use Rattle.std.specs.Str.{bytes_eq}
 use Prim.Native.Char.{code}
 use Rattle.fancy_lex.specs.Text.{Text, bytes, EndsWith}
 use Rattle.fancy_lex.specs.declared.flags.Flags.{Flags}
 use Rattle.fancy_lex.proofs.TextLemmas.{bytes-append}
-use Rattle.fancy_parts.specs.HeadReference.{begins_target}
-use Rattle.fancy_grammar.specs.Depth.{max_depth}
 use Rattle.fancy_grammar.specs.Grammar.{Alternation, alternation, Branches, last, more, branch_fault, Body, the_body}
-use Rattle.fancy_grammar.specs.Grammar.{atom, a_condition, inside, is_condition, branches_of, conditional_of}
+use Rattle.fancy_grammar.specs.Grammar.{Atom, is_condition, branches_of, conditional_of}
 use Rattle.fancy_grammar.specs.Grammar.{conditional_behind, closed}
 use Rattle.fancy_grammar.specs.Items.{items}
 use Rattle.fancy_grammar.specs.Join.{is_empty, choice}
 use Rattle.fancy_grammar.specs.Label as label
 use Rattle.fancy_grammar.specs.Pattern.{Here, under, past_groups, deeper, group_count, is_alt, behind, written}
-use Rattle.fancy_grammar.specs.Pattern.{branches_text, in_parens, parenthesized, condition_text, look_head}
+use Rattle.fancy_grammar.specs.Pattern.{branches_text, in_parens, parenthesized, condition_text}
 use Rattle.fancy_grammar.specs.Pattern.{flags_behind}
-use Rattle.fancy_grammar.specs.PatternNeeds.{settled, turns_on, letters_between}
-use Rattle.fancy_grammar.specs.declared.kinds.LookAround.{LookAround}
-use Rattle.fancy_grammar.specs.Ahead.{ahead, condition}
+use Rattle.fancy_grammar.specs.PatternDepth.{MayOpen, Fits, FitsAsCondition}
+use Rattle.fancy_grammar.specs.PatternNeeds.{settled}
 use Rattle.fancy_grammar.specs.Marks.{Marks}
-use Rattle.fancy_grammar.proofs.Pattern.Groups.{parens_text, question_at}
+use Rattle.fancy_grammar.proofs.Pattern.Groups.{parens_text}
 use Rattle.fancy_grammar.proofs.Pattern.Induction.{by_atom}
 use Rattle.fancy_grammar.specs.Resolved.{resolved_in}
 use Rattle.fancy_grammar.specs.State.{State, Outcome, done, fault, seen_through}
-use Rattle.fancy_grammar.specs.Tree.{Tree, leaf, over, row, no_trees, more_trees, empty, conditional, ast_group}
+use Rattle.fancy_grammar.specs.Tree.{Tree, leaf, row, empty, conditional, ast_group}
 use Rattle.fancy_grammar.specs.Tree.{ast_node, trees_of, list_of}
 use Rattle.fancy_grammar.proofs.Pattern.Becomes.{Becomes, row_becomes, AreGroups, becomes_plain, numbers_told}
 use Rattle.fancy_grammar.proofs.Pattern.Becomes.{node_told, in_longer, meaning_told}
@@ -38,9 +34,6 @@ use Rattle.fancy_grammar.proofs.Pattern.Rules.{Begins, begins_by, AtomAt, Branch
 use Rattle.fancy_grammar.specs.declared.precedence.Precedence.TheVariants.{Whole, Branch as BranchAlone}
 use Rattle.fancy_grammar.proofs.Pattern.Cases.{ReadsTree}
 use Rattle.fancy_grammar.proofs.ReadBack.RuleLemmas.{st}
-use Rattle.fancy_grammar.proofs.ReadLaws.{alternation_read}
-use Rattle.fancy_grammar.proofs.Slices.{to_ends}
-use Rattle.fancy_lex.proofs.LeaveLaws.{ends_twice}
 
 -- ---- the branches of an alternation that was read
 
@@ -101,7 +94,7 @@ raw_empty μ s (ast_node r p) c h =
     h.0
 raw_empty μ s _ c h = refl
 
-pub same_empty : (μ : Marks) (s : Text) (c : ℕ) (r x : Tree) → Becomes μ s c r x → is_empty r ≡ is_empty x
+same_empty : (μ : Marks) (s : Text) (c : ℕ) (r x : Tree) → Becomes μ s c r x → is_empty r ≡ is_empty x
 same_empty μ s c r x b =
     let resolves = resolved_in 0 false (numbers_told μ) c r in
     sym (raw_empty μ s r c b.groups)
@@ -150,13 +143,13 @@ bar_left t u v =
     (omega (arith, bytes-append t (code "|" ∷ (u ++ v)), bytes-append u v))
 
 -- the body of a conditional with the raw condition k reads as these branches
-pub record BodyAt (μ : Marks) (d : ℕ) (k : Tree) (j : Here) (s v : Text) (t e : Tree) : Type 0 where
-  pub after : Flags
-  pub one : Tree
-  pub other : Tree
-  pub derives : Body d k (st j.flags s) (done (conditional_of k one other) (st after v))
-  pub one_becomes : Becomes μ s j.opened one t
-  pub other_becomes : Becomes μ s (j.opened + group_count t) other e
+record BodyAt (μ : Marks) (d : ℕ) (k : Tree) (j : Here) (s v : Text) (t e : Tree) : Type 0 where
+  after : Flags
+  one : Tree
+  other : Tree
+  derives : Body d k (st j.flags s) (done (conditional_of k one other) (st after v))
+  one_becomes : Becomes μ s j.opened one t
+  other_becomes : Becomes μ s (j.opened + group_count t) other e
 
 closed_body : (k r : Tree) (left : ℕ) (g : Flags) (v : Text) (a b : Tree) →
     (bytes (code ")" ∷ v) == left) ≡ false → ◌≡◌ {A = Tree × Tree} (branches_of r) (a, b) →
@@ -166,7 +159,7 @@ closed_body k r left g v a b e is =
     ∙ ap (λ (p : Tree × Tree). closed (conditional_of k p.0 p.1) (st g (code ")" ∷ v))) is
 
 -- a place so deep inside
-abbrev pub within : ℕ → Flags → ℕ → Here
+abbrev within : ℕ → Flags → ℕ → Here
 within d f n = record { flags = f; opened = n; depth = d + 1 }
 
 two_body : (μ : Marks) (d : ℕ) (k : Tree) (f : Flags) (n : ℕ) (t u v : Text) (g i : Flags) (x e : Tree) →
@@ -226,7 +219,8 @@ empty_is _ e = absurd cc
 
 module _ (μ : Marks) (d : ℕ) (k : Tree) (f : Flags) (c : ℕ) (t e : Tree) (v : Text)
     (solid : (is_empty t && is_empty e) ≡ false) (r : ReadsTree μ t (within d f c))
-    (q : ReadsTree μ e (behind t BranchAlone (within d f c))) where
+    (q : ReadsTree μ e (behind t BranchAlone (within d f c))) (first_fits : Fits t BranchAlone (within d f c))
+    (second_fits : Fits e Whole (behind t BranchAlone (within d f c))) where
   abbrev first_text : Text
   first_text = written μ t BranchAlone (within d f c)
 
@@ -243,123 +237,86 @@ module _ (μ : Marks) (d : ℕ) (k : Tree) (f : Flags) (c : ℕ) (t e : Tree) (v
       subst (λ s. BodyAt μ d k (within d f c) s v t e) (sym (append_assoc first_text (codes "|" ++ second_text)
       (code ")" ∷ v)))
       (two_body μ d k f c first_text second_text v _ _ t e
-      (r.branch (code "|" ∷ u) (stops_bar f.ignore_space u))
-      (q.whole (code ")" ∷ v) (ends_close _ v)))
+      (r.branch first_fits (code "|" ∷ u) (stops_bar f.ignore_space u))
+      (q.whole second_fits (code ")" ∷ v) (ends_close _ v)))
   body_if false h =
       let (a, b) = or_parts (not (is_empty e)) (is_alt t) h in
       let none : is_empty e ≡ true = sym (not-not (is_empty e)) ∙ ap not a in
       let some : is_empty t ≡ false = sym (and-true (is_empty t)) ∙ (ap (λ y. is_empty t && y) (sym none) ∙ solid) in
-      let (z, u, is) = begun f.ignore_space first_text (r.branch_begins some []) in
+      let (z, u, is) = begun f.ignore_space first_text (r.branch_begins first_fits some []) in
       subst (λ s. BodyAt μ d k (within d f c) (s ++ code ")" ∷ v) v t e) (sym (append-nil first_text))
       (subst (BodyAt μ d k (within d f c) (first_text ++ code ")" ∷ v) v t) (empty_is e none)
-      (one_body μ d k f c first_text v _ t z u is b (r.branch (code ")" ∷ v) (ends_close f.ignore_space v).stops)))
+      (one_body μ d k f c first_text v _ t z u is b (r.branch first_fits (code ")" ∷ v) (ends_close f.ignore_space v).stops)))
 
-  pub body_at : BodyAt μ d k (within d f c) (branches_text t e first_text second_text ++ code ")" ∷ v) v t e
+  body_at : BodyAt μ d k (within d f c) (branches_text t e first_text second_text ++ code ")" ∷ v) v t e
   body_at =
       subst (λ s. BodyAt μ d k (within d f c) (s ++ code ")" ∷ v) v t e) (sym (cond-false _ _ _ solid))
       (body_if (not (is_empty e) || is_alt t) refl)
 
--- ---- a condition that begins with a parenthesis
+-- ---- a condition before a body
 
-open_ahead : (d : ℕ) (f : Flags) (u : Text) → d + 1 < max_depth →
-    ahead d (st f (codes "(?((" ++ u)) ≡ condition (st f (code "(" ∷ u))
-unfolding begins_target
-open_ahead d f u l = question_at d f (codes "((" ++ u) l
+-- behind `(?(` the text, and a closing parenthesis, are the condition, behind which these flags hold
+pub record Before (μ : Marks) (i : Here) (s : Text) (g : Flags) (c : Tree) : Type 0 where
+  pub node : Text → Tree
+  pub becomes : (z : Text) → Becomes μ (s ++ code ")" ∷ z) i.opened (node z) c
+  pub leads : (z v : Text) (r : Tree) (f : Flags) → Body i.depth (node z) (st g z) (done r (st f v)) →
+      Atom i.depth (st i.flags (codes "(?(" ++ (s ++ code ")" ∷ z))) (done r (st i.flags v))
 
-conditional_at : (μ : Marks) (i : Here) (w z v : Text) (g : Flags) (c t e : Tree) → i.depth + 1 < max_depth →
-    (is_empty t && is_empty e) ≡ false → (b : WholeAt μ (deeper i) (code "(" ∷ w) g (code ")" ∷ z) c) →
-    BodyAt μ i.depth b.tree (within i.depth g (i.opened + group_count c)) z v t e →
-    AtomAt μ i (codes "(?((" ++ w) v (row label.conditional (more_trees c (more_trees t (more_trees e no_trees))))
-conditional_at μ i w z v g c t e l solid b y =
-    let inner_ends : EndsWith (codes "(?((" ++ w) z
-    = ends_twice (codes "(?((" ++ w) (code "(" ∷ w) z (codes "(?(", refl)
-    (ends_twice (code "(" ∷ w) (code ")" ∷ z) z (to_ends (alternation_read b.derives).span.slice) (codes ")", refl)) in
-    let neither : (is_empty y.one && is_empty y.other) ≡ false
-    = ap₂ (λ p q. p && q) (same_empty μ z _ y.one t y.one_becomes) (same_empty μ z _ y.other e y.other_becomes)
-    ∙ solid in
-    let is : conditional_of b.tree y.one y.other ≡ conditional b.tree y.one y.other = cond-false _ _ _ neither in
-    record {
-      tree = conditional_of b.tree y.one y.other;
-      derives = atom (open_ahead i.depth i.flags w l) (a_condition (inside b.derives) y.derives);
-      becomes =
-          subst (λ r. Becomes μ (codes "(?((" ++ w) i.opened r (row label.conditional
-          (more_trees c (more_trees t (more_trees e no_trees)))))
-          (sym is)
-          (row_becomes μ _ label.conditional (b.tree ∷ y.one ∷ y.other ∷ []) (c ∷ t ∷ e ∷ []) i.opened (
-            in_longer μ (code "(" ∷ w) _ (codes "(?(", refl) _ b.tree c b.becomes,
-            (
-              in_longer μ z _ inner_ends _ y.one t y.one_becomes,
-              (in_longer μ z _ inner_ends _ y.other e y.other_becomes, tt),
-            ),
-          ));
-    }
-
--- the setting before a look-around begins so too
-opens : (b : Bool) (s t : Text) →
-    (w : Text) × ((if b then codes "(?" ++ s else []) ++ code "(" ∷ t ≡ code "(" ∷ w)
-opens true s t = (code "?" ∷ (s ++ code "(" ∷ t), refl)
-opens false s t = (t, refl)
-
-plain_condition : (w : Text) → (begins_target (code "(" ∷ w) || bytes_eq (code "(" ∷ w) (codes "DEFINE")) ≡ false
-unfolding begins_target
-plain_condition w = refl
-
-pub regroup : (c b r : Text) → ((code "(" ∷ (c ++ code ")" ∷ [])) ++ b) ++ r ≡ code "(" ∷ (c ++ code ")" ∷ (b ++ r))
+regroup : (c b r : Text) → ((code "(" ∷ (c ++ code ")" ∷ [])) ++ b) ++ r ≡ code "(" ∷ (c ++ code ")" ∷ (b ++ r))
 regroup c b r =
     append_assoc (code "(" ∷ (c ++ code ")" ∷ [])) b r ∙ ap (λ z. code "(" ∷ z) (append_assoc c (code ")" ∷ []) (b ++ r))
 
-module _ (μ : Marks) (h : Here) (o : h.flags.oniguruma_mode ≡ false) (d : h.depth + 1 < max_depth) where
-  abbrev conditional_on : LookAround → Tree → Tree → Tree → Tree
-  conditional_on l a t e =
-      row label.conditional (more_trees (over (label.look_around l) a) (more_trees t (more_trees e no_trees)))
+module _ (μ : Marks) where
+  with_body : (i : Here) (s z v : Text) (g : Flags) (c t e : Tree) → (is_empty t && is_empty e) ≡ false →
+      (b : Before μ i s g c) → BodyAt μ i.depth (b.node z) (within i.depth g (i.opened + group_count c)) z v t e →
+      AtomAt μ i (codes "(?(" ++ (s ++ code ")" ∷ z)) v (conditional c t e)
+  with_body i s z v g c t e solid b y =
+      let neither : (is_empty y.one && is_empty y.other) ≡ false
+      = ap₂ (λ p q. p && q) (same_empty μ z _ y.one t y.one_becomes) (same_empty μ z _ y.other e y.other_becomes)
+      ∙ solid in
+      let is : conditional_of (b.node z) y.one y.other ≡ conditional (b.node z) y.one y.other
+      = cond-false _ _ _ neither in
+      let all = codes "(?(" ++ (s ++ code ")" ∷ z) in
+      let inner : EndsWith all z
+      = (codes "(?(" ++ (s ++ codes ")"), sym (ap (λ w. codes "(?(" ++ w) (append_assoc s (codes ")") z))) in
+      record {
+        tree = conditional_of (b.node z) y.one y.other;
+        derives = b.leads z v _ y.after y.derives;
+        becomes =
+            subst (λ r. Becomes μ all i.opened r (conditional c t e)) (sym is)
+            (row_becomes μ _ label.conditional (b.node z ∷ y.one ∷ y.other ∷ []) (c ∷ t ∷ e ∷ []) i.opened (
+              in_longer μ (s ++ code ")" ∷ z) _ (codes "(?(", refl) _ (b.node z) c (b.becomes z),
+              (
+                in_longer μ z _ inner _ y.one t y.one_becomes,
+                (in_longer μ z _ inner _ y.other e y.other_becomes, tt),
+              ),
+            ));
+      }
 
-  -- inside, and behind the condition
-  abbrev pub inside_conditional : Tree → Here
-  inside_conditional x = deeper (under (settled h.flags x) h)
-
-  pub conditional_reads : (l : LookAround) (a t e : Tree) → (is_empty t && is_empty e) ≡ false →
-      let c = over (label.look_around l) a in
-      let i = inside_conditional (conditional_on l a t e) in
-      ReadsTree μ c i → ReadsTree μ t (behind c Whole i) → ReadsTree μ e (behind t BranchAlone (behind c Whole i)) →
-      ReadsTree μ (conditional_on l a t e) h
-  conditional_reads l a t e solid r q u =
-      let c = over (label.look_around l) a in
-      let x = conditional_on l a t e in
+  pub conditional_reads : (h : Here) → h.flags.oniguruma_mode ≡ false → (c t e : Tree) →
+      (is_empty t && is_empty e) ≡ false → let j = under (settled h.flags (conditional c t e)) h in let i = deeper j in
+      (MayOpen j → FitsAsCondition c (Fits c Whole i) →
+      Before μ j (condition_text μ c (written μ c Whole i)) (flags_behind c Whole j.flags) c) →
+      ReadsTree μ t (behind c Whole i) → ReadsTree μ e (behind t BranchAlone (behind c Whole i)) →
+      ReadsTree μ (conditional c t e) h
+  conditional_reads h o c t e solid before q u =
+      let x = conditional c t e in
       let i = under (settled h.flags x) h in
       let j = behind c Whole (deeper i) in
       let text = λ (k : Here).
       parenthesized (condition_text μ c (written μ c Whole k))
       ++ branches_text t e (written μ t BranchAlone (behind c Whole k))
       (written μ e Whole (behind t BranchAlone (behind c Whole k))) in
-      let s = in_parens (codes "?") text i in
+      let s = condition_text μ c (written μ c Whole (deeper i)) in
+      let all = in_parens (codes "?") text i in
       let same = parens_text (codes "?") text i in
-      let w = written μ c Whole (deeper i) in
       let b = branches_text t e (written μ t BranchAlone j) (written μ e Whole (behind t BranchAlone j)) in
-      let (k, is) = opens
-      (turns_on i.flags (settled i.flags c) || turns_on (settled i.flags c) i.flags)
-      (letters_between i.flags (settled i.flags c) ++ codes ")")
-      (look_head l ++ (written μ a Whole (deeper (under (settled i.flags c) (deeper i))) ++ codes ")")) in
-      let bare : condition_text μ c w ≡ w
-      = cond-false _ _ _ (subst (λ z. (begins_target z || bytes_eq z (codes "DEFINE")) ≡ false) (sym is)
-      (plain_condition k)) in
-      let whole_text = λ (v : Text).
-      same v ∙ ap (λ z. codes "(?" ++ z) (regroup (condition_text μ c w) b (code ")" ∷ v)
-      ∙ ap (λ z. code "(" ∷ (z ++ code ")" ∷ (b ++ code ")" ∷ v))) (bare ∙ is)) in
-      by_atom μ x h o d refl s _
-      (λ v. subst (Begins h.flags.ignore_space) (sym (same v))
+      let whole_text = λ (v : Text). same v ∙ ap (λ z. codes "(?" ++ z) (regroup s b (code ")" ∷ v)) in
+      by_atom μ x h o refl (Fits x Whole h) (Fits x Whole h) all _ (λ d. d.0)
+      (λ _ v. subst (Begins h.flags.ignore_space) (sym (same v))
       (begins_by h.flags.ignore_space (code "(") _ refl refl refl refl))
-      (λ v y _. subst (λ z. AtomAt μ i z v x) (sym (whole_text v))
-      (at_condition i k (b ++ code ")" ∷ v) v _ c t e d solid
-      (subst (λ z. WholeAt μ (deeper i) (z ++ code ")" ∷ (b ++ code ")" ∷ v)) (flags_behind c Whole i.flags)
-      (code ")" ∷ (b ++ code ")" ∷ v)) c) is (r.whole (code ")" ∷ (b ++ code ")" ∷ v)) (ends_close _ _)))
-      (λ k. body_at μ i.depth k j.flags j.opened t e v solid q u)))
-      refl (λ e. refl)
-    where
-      at_condition : (i : Here) (w z v : Text) (g : Flags) (c t e : Tree) → i.depth + 1 < max_depth →
-          (is_empty t && is_empty e) ≡ false →
-          WholeAt μ (deeper i) (code "(" ∷ (w ++ code ")" ∷ z)) g (code ")" ∷ z) c →
-          ((k : Tree) → BodyAt μ i.depth k (within i.depth g (i.opened + group_count c)) z v t e) →
-          AtomAt μ i (codes "(?((" ++ (w ++ code ")" ∷ z)) v
-          (row label.conditional (more_trees c (more_trees t (more_trees e no_trees))))
-      at_condition i w z v g c t e l solid b y =
-          conditional_at μ i (w ++ code ")" ∷ z) z v g c t e l solid b (y b.tree)
+      (λ d v y _. let a = before d.1.0 d.1.1.0 in let z = b ++ code ")" ∷ v in
+      subst (λ z. AtomAt μ i z v x) (sym (whole_text v))
+      (with_body i s z v _ c t e solid a
+      (body_at μ i.depth (a.node z) j.flags j.opened t e v solid q u d.1.1.2 d.1.1.3)))
+      refl (λ e. ((λ d. d), refl))

@@ -17,6 +17,7 @@ use Rattle.fancy_grammar.specs.Label as label
 use Rattle.fancy_grammar.specs.Label.{Wrap}
 use Rattle.fancy_grammar.specs.Marks.{Marks}
 use Rattle.fancy_grammar.specs.Pattern.{Here, under, past_groups, deeper, in_parens}
+use Rattle.fancy_grammar.specs.PatternDepth.{MayOpenIf, MaySet}
 use Rattle.fancy_grammar.specs.PatternNeeds.{letters_between, setting, turns_on}
 use Rattle.fancy_grammar.specs.PatternReference.{name_head}
 use Rattle.fancy_grammar.specs.ReadAs.{unplaced}
@@ -296,7 +297,7 @@ module _ (μ : Marks) (h : Here) (i m s r : Bool) where
   begins_setting x t b = begins_set x (turns_on h.flags g || turns_on g h.flags) t b
 
   set_rest : (b : Bool) → turns_on h.flags g || turns_on g h.flags ≡ b → (t w : Text) (k : Flags) (ys : List Tree) →
-      h.flags.oniguruma_mode ≡ false → h.depth + 1 < max_depth → Begins h.flags.ignore_space t →
+      h.flags.oniguruma_mode ≡ false → MayOpenIf b h → Begins h.flags.ignore_space t →
       Rest μ (under g h) t k w ys →
       Rest μ h (set_if b ++ t) k w ys
   set_rest true e t w k ys o l n q =
@@ -306,12 +307,12 @@ module _ (μ : Marks) (h : Here) (i m s r : Bool) where
       (code ")") t refl)
       n.clear
       (atom
-      (question_at h.depth h.flags u l
+      (question_at h.depth h.flags u (l refl)
       ∙ setting_ahead (st h.flags (code "(" ∷ code "?" ∷ u)) i m s r t e)
       a_read) q)
   set_rest false e t w k ys o l n q = subst (λ f. Rest μ (under f h) t k w ys) (same_flags h.flags i m s r e) q
 
-  pub setting_rest : (t w : Text) (k : Flags) (ys : List Tree) → h.flags.oniguruma_mode ≡ false → h.depth + 1 < max_depth →
+  pub setting_rest : (t w : Text) (k : Flags) (ys : List Tree) → h.flags.oniguruma_mode ≡ false → MaySet g h →
       Begins h.flags.ignore_space t → Rest μ (under g h) t k w ys → Rest μ h (setting h.flags g ++ t) k w ys
   setting_rest t w k ys o l n q = set_rest (turns_on h.flags g || turns_on g h.flags) refl t w k ys o l n q
 
@@ -335,19 +336,18 @@ module _ (d : ℕ) (s u : State) (first : (q : Outcome (List Tree)) → Pieces d
     whole_behind (alternation b) = alternation (branches_behind b)
 
 module _ (μ : Marks) (h : Here) (i m s r : Bool) (t v : Text) (k : Flags) (x : Tree)
-    (o : h.flags.oniguruma_mode ≡ false)
-    (l : h.depth + 1 < max_depth) (c : Clear h.flags.ignore_space t) where
+    (o : h.flags.oniguruma_mode ≡ false) (c : Clear h.flags.ignore_space t) where
   abbrev then_flags : Flags
   then_flags = changed h.flags i m s r
 
-  set_whole : (b : Bool) → turns_on h.flags then_flags || turns_on then_flags h.flags ≡ b →
+  set_whole : (b : Bool) → turns_on h.flags then_flags || turns_on then_flags h.flags ≡ b → MayOpenIf b h →
       WholeAt μ (under then_flags h) t k v x →
       WholeAt μ h ((if b then codes "(?" ++ (letters_between h.flags then_flags ++ codes ")") else []) ++ t) k v x
-  set_whole true e w =
+  set_whole true e l w =
       let u = letters_between h.flags then_flags ++ code ")" ∷ t in
       let b = begins_letters h.flags.ignore_space h.flags i m s r (code ")") t refl in
       let a = atom
-      (question_at h.depth h.flags u l
+      (question_at h.depth h.flags u (l refl)
       ∙ setting_ahead (st h.flags (code "(" ∷ code "?" ∷ u)) i m s r t e)
       a_read in
       subst (λ z. WholeAt μ h z k v x) (sym (set_text μ h i m s r t)) (record {
@@ -365,8 +365,8 @@ module _ (μ : Marks) (h : Here) (i m s r : Bool) (t v : Text) (k : Flags) (x : 
               sym (set_text μ h i m s r t),
             ) h.opened w.tree x w.becomes;
       })
-  set_whole false e w = subst (λ f. WholeAt μ (under f h) t k v x) (same_flags h.flags i m s r e) w
+  set_whole false e l w = subst (λ f. WholeAt μ (under f h) t k v x) (same_flags h.flags i m s r e) w
 
-  pub whole_behind_setting : WholeAt μ (under then_flags h) t k v x →
+  pub whole_behind_setting : MaySet then_flags h → WholeAt μ (under then_flags h) t k v x →
       WholeAt μ h (setting h.flags then_flags ++ t) k v x
-  whole_behind_setting w = set_whole (turns_on h.flags then_flags || turns_on then_flags h.flags) refl w
+  whole_behind_setting l w = set_whole (turns_on h.flags then_flags || turns_on then_flags h.flags) refl l w

@@ -1,16 +1,16 @@
 -- The text of a writable tree reads back, wherever it stands: by induction on the tree.
-use Rattle.std.proofs.Common.{◌≡◌, ◌+◌, ◌<◌, Bool, true, false, List, [], ◌∷◌, ◌++◌}
+use Rattle.std.proofs.Common.{◌≡◌, Bool, true, false, List, [], ◌∷◌, ◌++◌}
 use Rattle.std.proofs.Common.{codes, refl, sym, ap, ◌∙◌, subst, append_assoc}
 use Rattle.std.proofs.lemmas.Bool.{false≢true}
 use Prim.Native.Char.{code}
 use Rattle.fancy_lex.specs.Text.{Text}
 use Rattle.fancy_lex.specs.declared.flags.Flags.{Flags}
-use Rattle.fancy_grammar.specs.Depth.{max_depth}
 use Rattle.fancy_grammar.specs.Join.{is_empty, one_or}
 use Rattle.fancy_grammar.specs.Label as label
 use Rattle.fancy_grammar.specs.Marks.{Marks}
 use Rattle.fancy_grammar.specs.Pattern.{Here, under, past_groups, behind, flags_behind}
 use Rattle.fancy_grammar.specs.Pattern.{group_count}
+use Rattle.fancy_grammar.specs.PatternDepth.{MayOpen, MaySet, FitsInParens}
 use Rattle.fancy_grammar.specs.PatternNeeds.{setting, settled, letters_between}
 use Rattle.fancy_grammar.specs.Quantified.{is_repeatable}
 use Rattle.fancy_grammar.specs.Tree.{Tree, leaf, concat}
@@ -23,21 +23,38 @@ use Rattle.fancy_grammar.proofs.Pattern.Rules.{Clear, Begins, Stops, Ends, no_br
 use Rattle.fancy_grammar.proofs.Pattern.Rules.{WholeAt}
 use Rattle.fancy_grammar.proofs.Pattern.Rules.{Rest, no_more, lead, reads_branch, reads_only, Follows, ends_no_digit}
 
--- What the texts of a tree read as here, whatever follows: the whole of a group, a branch, a piece, and what a quantifier
--- follows; with the flags that hold behind the first two.
-pub record ReadsBy (μ : Marks) (t : Tree) (h : Here) (k0 k1 k2 k3 : Text) (g0 g1 : Flags) : Type 0 where
-  pub whole_clear : (v : Text) → Clear h.flags.ignore_space v → Clear h.flags.ignore_space (k0 ++ v)
-  pub branch_clear : (v : Text) → Clear h.flags.ignore_space v → Clear h.flags.ignore_space (k1 ++ v)
-  pub branch_begins : is_empty t ≡ false → (v : Text) → Begins h.flags.ignore_space (k1 ++ v)
-  pub begins : is_empty t ≡ false → (v : Text) → Begins h.flags.ignore_space (k2 ++ v)
-  pub atom_begins : is_repeatable h.flags t ≡ true → (v : Text) → Begins h.flags.ignore_space (k3 ++ v)
-  pub whole : (v : Text) → Ends h.flags.ignore_space v → WholeAt μ h (k0 ++ v) g0 v t
-  pub branch : (v : Text) → Stops h.flags.ignore_space v → BranchAt μ h (k1 ++ v) g1 v t
-  pub piece : is_empty t ≡ false → (v w : Text) (g : Flags) (ys : List Tree) → Clear h.flags.ignore_space v →
+-- What the texts of a tree read as here, whatever follows: the whole of a group, a branch, a piece, and what a
+-- quantifier follows; with the flags that hold behind the first two. Each is read so where it fits.
+pub record ReadsBy (μ : Marks) (t : Tree) (h : Here) (d0 d1 d2 d3 : Type 0) (k0 k1 k2 k3 : Text) (g0 g1 : Flags) :
+    Type 0 where
+  pub whole_clear : d0 → (v : Text) → Clear h.flags.ignore_space v → Clear h.flags.ignore_space (k0 ++ v)
+  pub branch_clear : d1 → (v : Text) → Clear h.flags.ignore_space v → Clear h.flags.ignore_space (k1 ++ v)
+  pub branch_begins : d1 → is_empty t ≡ false → (v : Text) → Begins h.flags.ignore_space (k1 ++ v)
+  pub begins : d2 → is_empty t ≡ false → (v : Text) → Begins h.flags.ignore_space (k2 ++ v)
+  pub atom_begins : d3 → is_repeatable h.flags t ≡ true → (v : Text) → Begins h.flags.ignore_space (k3 ++ v)
+  pub whole : d0 → (v : Text) → Ends h.flags.ignore_space v → WholeAt μ h (k0 ++ v) g0 v t
+  pub branch : d1 → (v : Text) → Stops h.flags.ignore_space v → BranchAt μ h (k1 ++ v) g1 v t
+  pub piece : d2 → is_empty t ≡ false → (v w : Text) (g : Flags) (ys : List Tree) → Clear h.flags.ignore_space v →
       Follows μ t v →
       Rest μ (behind t Piece h) v g w ys → Rest μ h (k2 ++ v) g w (t ∷ ys)
-  pub atom : is_repeatable h.flags t ≡ true → settled h.flags t ≡ h.flags → (v : Text) →
+  pub atom : d3 → is_repeatable h.flags t ≡ true → settled h.flags t ≡ h.flags → (v : Text) →
       NoName h.flags.ignore_space v → Follows μ t v → AtomAt μ h (k3 ++ v) v t
+
+-- where it fits by one condition, it is read so by any that has that
+pub refit : {μ : Marks} {t : Tree} {h : Here} {d e0 e1 e2 d3 : Type 0} {k0 k1 k2 k3 : Text} {g0 g1 : Flags} →
+    (e0 → d) → (e1 → d) → (e2 → d) → ReadsBy μ t h d d d d3 k0 k1 k2 k3 g0 g1 →
+    ReadsBy μ t h e0 e1 e2 d3 k0 k1 k2 k3 g0 g1
+refit f0 f1 f2 r = record {
+  whole_clear = λ x. r.whole_clear (f0 x);
+  branch_clear = λ x. r.branch_clear (f1 x);
+  branch_begins = λ x. r.branch_begins (f1 x);
+  begins = λ x. r.begins (f2 x);
+  atom_begins = r.atom_begins;
+  whole = λ x. r.whole (f0 x);
+  branch = λ x. r.branch (f1 x);
+  piece = λ x. r.piece (f2 x);
+  atom = r.atom;
+}
 
 pub clear_name : (x : Bool) (v : Text) → Clear x v → NoName x v
 clear_name x v c = no_name x v c.no_layout (no_brace v c.no_mark)
@@ -70,8 +87,7 @@ module _ (μ : Marks) (t : Tree) (h : Here) (solid : is_empty t ≡ false) where
 
 -- ---- what stands behind flags that are set for it
 
-module _ (μ : Marks) (t : Tree) (h : Here) (o : h.flags.oniguruma_mode ≡ false) (d : h.depth + 1 < max_depth)
-    (solid : is_empty t ≡ false) where
+module _ (μ : Marks) (t : Tree) (h : Here) (o : h.flags.oniguruma_mode ≡ false) (solid : is_empty t ≡ false) where
   abbrev pub set_here : Flags
   set_here = settled h.flags t
 
@@ -84,33 +100,34 @@ module _ (μ : Marks) (t : Tree) (h : Here) (o : h.flags.oniguruma_mode ≡ fals
       (begins_setting μ h set_here.casei set_here.multi set_here.dotnl set_here.crlf h.flags.ignore_space (s ++ v)
       (b v))
 
-  set_leads : (s : Text) → BeginsHere (under set_here h) s → LeadsTo μ t (under set_here h) s →
+  set_leads : MaySet set_here h → (s : Text) → BeginsHere (under set_here h) s → LeadsTo μ t (under set_here h) s →
       (v w : Text) (k : Flags) (ys : List Tree) → Clear h.flags.ignore_space v → Follows μ t v →
       Rest μ (past_groups (group_count t) (under set_here h)) v k w ys → Rest μ h (behind_set s ++ v) k w (t ∷ ys)
-  set_leads s b l v w k ys c y q =
+  set_leads d s b l v w k ys c y q =
       subst (λ z. Rest μ h z k w (t ∷ ys)) (sym (append_assoc (setting h.flags set_here) s v))
       (setting_rest μ h set_here.casei set_here.multi set_here.dotnl set_here.crlf (s ++ v) w k (t ∷ ys) o d (b v)
       (l v w k ys c y q))
 
   -- a tree that is a piece wherever it stands
-  pub by_piece : (s k3 : Text) → BeginsHere (under set_here h) s → LeadsTo μ t (under set_here h) s →
-      flags_behind t Piece h.flags ≡ set_here → (is_repeatable h.flags t ≡ true → BeginsHere h k3) →
-      (is_repeatable h.flags t ≡ true → settled h.flags t ≡ h.flags → AtomHere μ t h k3) →
-      ReadsBy μ t h (behind_set s) (behind_set s) (behind_set s) k3 set_here set_here
-  by_piece s k3 b l e n a =
-      let p = set_leads s b l in
-      let q = λ (v : Text) (i : Stops h.flags.ignore_space v). one_branch μ t h solid
-      (behind_set s) set_here p v i refl in
+  pub by_piece : (d d3 : Type 0) (s k3 : Text) → (d → MaySet set_here h) → (d → BeginsHere (under set_here h) s) →
+      (d → LeadsTo μ t (under set_here h) s) →
+      flags_behind t Piece h.flags ≡ set_here → (d3 → is_repeatable h.flags t ≡ true → BeginsHere h k3) →
+      (d3 → is_repeatable h.flags t ≡ true → settled h.flags t ≡ h.flags → AtomHere μ t h k3) →
+      ReadsBy μ t h d d d d3 (behind_set s) (behind_set s) (behind_set s) k3 set_here set_here
+  by_piece d d3 s k3 m b l e n a =
+      let p = λ (x : d). set_leads (m x) s (b x) (l x) in
+      let q = λ (x : d) (v : Text) (i : Stops h.flags.ignore_space v). one_branch μ t h solid
+      (behind_set s) set_here (p x) v i refl in
       record {
-        whole_clear = λ v c. (set_begins s b v).clear;
-        branch_clear = λ v c. (set_begins s b v).clear;
-        branch_begins = λ _. set_begins s b;
-        begins = λ _. set_begins s b;
+        whole_clear = λ x v c. (set_begins s (b x) v).clear;
+        branch_clear = λ x v c. (set_begins s (b x) v).clear;
+        branch_begins = λ x _. set_begins s (b x);
+        begins = λ x _. set_begins s (b x);
         atom_begins = n;
-        whole = λ v i. reads_only μ h _ v set_here t (q v i.stops) i.no_bar;
+        whole = λ x v i. reads_only μ h _ v set_here t (q x v i.stops) i.no_bar;
         branch = q;
         piece =
-            λ _ v w k ys c y r. p v w k ys c y
+            λ x _ v w k ys c y r. p x v w k ys c y
             (subst (λ f. Rest μ (past_groups (group_count t) (under f h)) v k w ys) e r);
         atom = a;
       }
@@ -120,20 +137,20 @@ module _ (μ : Marks) (t : Tree) (h : Here) (o : h.flags.oniguruma_mode ≡ fals
       ap (λ f. (setting h.flags f ++ s) ++ v) e ∙ ap (λ w. (w ++ s) ++ v) (no_setting h.flags)
 
   -- a tree that is an atom wherever it stands
-  pub by_atom : (s k3 : Text) → BeginsHere (under set_here h) s → AtomHere μ t (under set_here h) s →
-      flags_behind t Piece h.flags ≡ set_here → (is_repeatable h.flags t ≡ true → k3 ≡ behind_set s) →
-      ReadsBy μ t h (behind_set s) (behind_set s) (behind_set s) k3 set_here set_here
-  by_atom s k3 b a e same =
-      by_piece s k3 b (atom_leads μ t (under set_here h) solid s o b a) e
-      (λ r. subst (BeginsHere h) (sym (same r)) (set_begins s b))
-      (λ r u. subst (AtomHere μ t h) (sym (same r))
+  pub by_atom : (d d3 : Type 0) (s k3 : Text) → (d → MaySet set_here h) → (d → BeginsHere (under set_here h) s) →
+      (d → AtomHere μ t (under set_here h) s) →
+      flags_behind t Piece h.flags ≡ set_here → (is_repeatable h.flags t ≡ true → (d3 → d) × (k3 ≡ behind_set s)) →
+      ReadsBy μ t h d d d d3 (behind_set s) (behind_set s) (behind_set s) k3 set_here set_here
+  by_atom d d3 s k3 m b a e same =
+      by_piece d d3 s k3 m b (λ x. atom_leads μ t (under set_here h) solid s o (b x) (a x)) e
+      (λ x r. subst (BeginsHere h) (sym (same r).1) (set_begins s (b ((same r).0 x))))
+      (λ x r u. subst (AtomHere μ t h) (sym (same r).1)
       (λ v m y. subst (λ w. AtomAt μ h w v t) (sym (set_none s v u))
-      (subst (λ f. AtomAt μ (under f h) (s ++ v) v t) u (a v m y))))
+      (subst (λ f. AtomAt μ (under f h) (s ++ v) v t) u (a ((same r).0 x) v m y))))
 
 -- ---- what stands in a group of flags where it is a piece
 
-module _ (μ : Marks) (t : Tree) (h : Here) (o : h.flags.oniguruma_mode ≡ false) (d : h.depth + 1 < max_depth)
-    (solid : is_empty t ≡ false) where
+module _ (μ : Marks) (t : Tree) (h : Here) (o : h.flags.oniguruma_mode ≡ false) (solid : is_empty t ≡ false) where
   abbrev pub set_in : Flags
   set_in = settled h.flags t
 
@@ -147,9 +164,9 @@ module _ (μ : Marks) (t : Tree) (h : Here) (o : h.flags.oniguruma_mode ≡ fals
       (begins_letters h.flags.ignore_space h.flags set_in.casei set_in.multi set_in.dotnl set_in.crlf (code ":")
       (s ++ code ")" ∷ v) refl)
 
-  scope_atom : (s : Text) (g : Flags) →
+  scope_atom : MayOpen h → (s : Text) (g : Flags) →
       ((v : Text) → Ends h.flags.ignore_space v → WholeAt μ (inner set_in h) (s ++ v) g v t) → AtomHere μ t h (scoped s)
-  scope_atom s g w v m y =
+  scope_atom d s g w v m y =
       let u = s ++ code ")" ∷ v in
       subst (λ z. AtomAt μ h z v t) (sym (scope_text h.flags set_in s v))
       (reads_scope μ h set_in g (codes "(?" ++ (letters_between h.flags set_in ++ code ":" ∷ u)) u v t
@@ -157,64 +174,70 @@ module _ (μ : Marks) (t : Tree) (h : Here) (o : h.flags.oniguruma_mode ≡ fals
       (w (code ")" ∷ v) (ends_close h.flags.ignore_space v)))
 
   -- a Concat: pieces as they are in a branch
-  pub by_branch : (k s : Text) (g f : Flags) (ys : List Tree) → one_or concat ys ≡ t →
-      BeginsHere h k → ((v : Text) → Stops h.flags.ignore_space v → Rest μ h (k ++ v) g v ys) →
-      ((v : Text) → Ends h.flags.ignore_space v → WholeAt μ (inner set_in h) (s ++ v) f v t) →
-      flags_behind t Piece h.flags ≡ h.flags → ReadsBy μ t h k k (scoped s) (scoped s) g g
-  by_branch k s g f ys is c q w e =
-      let a = scope_atom s f w in
-      let b = λ (v : Text) (i : Stops h.flags.ignore_space v).
-      subst (BranchAt μ h (k ++ v) g v) is (reads_branch μ h (k ++ v) v g ys (q v i)) in
+  pub by_branch : (d : Type 0) (inside : Here → Type 0) (k s : Text) (g f : Flags) (ys : List Tree) →
+      one_or concat ys ≡ t → (d → BeginsHere h k) → (d → (v : Text) → Stops h.flags.ignore_space v → Rest μ h (k ++ v) g v ys) →
+      (inside (inner set_in h) → (v : Text) → Ends h.flags.ignore_space v → WholeAt μ (inner set_in h) (s ++ v) f v t) →
+      flags_behind t Piece h.flags ≡ h.flags →
+      ReadsBy μ t h d d (FitsInParens inside (under set_in h)) (FitsInParens inside (under set_in h)) k k (scoped s)
+      (scoped s) g g
+  by_branch d inside k s g f ys is c q w e =
+      let a = λ (x : FitsInParens inside (under set_in h)). scope_atom x.0 s f (w x.1) in
+      let b = λ (x : d) (v : Text) (i : Stops h.flags.ignore_space v).
+      subst (BranchAt μ h (k ++ v) g v) is (reads_branch μ h (k ++ v) v g ys (q x v i)) in
       record {
-        whole_clear = λ v _. (c v).clear;
-        branch_clear = λ v _. (c v).clear;
-        branch_begins = λ _. c;
-        begins = λ _. scope_begins s;
-        atom_begins = λ _. scope_begins s;
-        whole = λ v i. reads_only μ h _ v g t (b v i.stops) i.no_bar;
+        whole_clear = λ x v _. (c x v).clear;
+        branch_clear = λ x v _. (c x v).clear;
+        branch_begins = λ x _. c x;
+        begins = λ _ _. scope_begins s;
+        atom_begins = λ _ _. scope_begins s;
+        whole = λ x v i. reads_only μ h _ v g t (b x v i.stops) i.no_bar;
         branch = b;
         piece =
-            λ _ v w k ys c y r. atom_leads μ t h solid (scoped s) o (scope_begins s) a v w k ys c y
+            λ x _ v w k ys c y r. atom_leads μ t h solid (scoped s) o (scope_begins s) (a x) v w k ys c y
             (subst (λ f. Rest μ (past_groups (group_count t) (under f h)) v k w ys) e r);
-        atom = λ _ _. a;
+        atom = λ x _ _. a x;
       }
 
   -- an Alt: branches as they are in a group
-  pub by_whole : (k s : Text) (g f : Flags) →
-      ((v : Text) → Clear h.flags.ignore_space v → Clear h.flags.ignore_space (k ++ v)) →
-      ((v : Text) → Ends h.flags.ignore_space v → WholeAt μ h (k ++ v) g v t) →
-      ((v : Text) → Ends h.flags.ignore_space v → WholeAt μ (inner set_in h) (s ++ v) f v t) →
-      flags_behind t Piece h.flags ≡ h.flags → ReadsBy μ t h k (scoped s) (scoped s) (scoped s) g h.flags
-  by_whole k s g f c q w e =
-      let a = scope_atom s f w in
-      let l = atom_leads μ t h solid (scoped s) o (scope_begins s) a in
+  pub by_whole : (d : Type 0) (inside : Here → Type 0) (k s : Text) (g f : Flags) →
+      (d → (v : Text) → Clear h.flags.ignore_space v → Clear h.flags.ignore_space (k ++ v)) →
+      (d → (v : Text) → Ends h.flags.ignore_space v → WholeAt μ h (k ++ v) g v t) →
+      (inside (inner set_in h) → (v : Text) → Ends h.flags.ignore_space v → WholeAt μ (inner set_in h) (s ++ v) f v t) →
+      flags_behind t Piece h.flags ≡ h.flags →
+      let x = FitsInParens inside (under set_in h) in
+      ReadsBy μ t h d x x x k (scoped s) (scoped s) (scoped s) g h.flags
+  by_whole d inside k s g f c q w e =
+      let a = λ (x : FitsInParens inside (under set_in h)). scope_atom x.0 s f (w x.1) in
+      let l = λ (x : FitsInParens inside (under set_in h)).
+      atom_leads μ t h solid (scoped s) o (scope_begins s) (a x) in
       record {
         whole_clear = c;
-        branch_clear = λ v c. (scope_begins s v).clear;
-        branch_begins = λ _. scope_begins s;
-        begins = λ _. scope_begins s;
-        atom_begins = λ _. scope_begins s;
+        branch_clear = λ _ v c. (scope_begins s v).clear;
+        branch_begins = λ _ _. scope_begins s;
+        begins = λ _ _. scope_begins s;
+        atom_begins = λ _ _. scope_begins s;
         whole = q;
-        branch = λ v i. one_branch μ t h solid (scoped s) h.flags l v i refl;
+        branch = λ x v i. one_branch μ t h solid (scoped s) h.flags (l x) v i refl;
         piece =
-            λ _ v w k ys c y r. l v w k ys c y (subst
+            λ x _ v w k ys c y r. l x v w k ys c y (subst
             (λ f. Rest μ (past_groups (group_count t) (under f h)) v k w ys) e r);
-        atom = λ _ _. a;
+        atom = λ x _ _. a x;
       }
 
 -- nothing, where branches or pieces may stand
-pub by_nothing : (μ : Marks) (h : Here) (k2 k3 : Text) → ReadsBy μ (leaf label.empty) h [] [] k2 k3 h.flags h.flags
-by_nothing μ h k2 k3 =
+pub by_nothing : (μ : Marks) (h : Here) (d0 d1 d2 d3 : Type 0) (k2 k3 : Text) →
+    ReadsBy μ (leaf label.empty) h d0 d1 d2 d3 [] [] k2 k3 h.flags h.flags
+by_nothing μ h d0 d1 d2 d3 k2 k3 =
     let q = λ (v : Text) (i : Stops h.flags.ignore_space v).
     reads_branch μ h v v h.flags [] (no_more μ h v i) in
     record {
-      whole_clear = λ v c. c;
-      branch_clear = λ v c. c;
-      branch_begins = λ e. absurd (false≢true (sym e));
-      begins = λ e. absurd (false≢true (sym e));
-      atom_begins = λ e. absurd (false≢true e);
-      whole = λ v i. reads_only μ h v v h.flags (leaf label.empty) (q v i.stops) i.no_bar;
-      branch = q;
-      piece = λ e. absurd (false≢true (sym e));
-      atom = λ e. absurd (false≢true e);
+      whole_clear = λ _ v c. c;
+      branch_clear = λ _ v c. c;
+      branch_begins = λ _ e. absurd (false≢true (sym e));
+      begins = λ _ e. absurd (false≢true (sym e));
+      atom_begins = λ _ e. absurd (false≢true e);
+      whole = λ _ v i. reads_only μ h v v h.flags (leaf label.empty) (q v i.stops) i.no_bar;
+      branch = λ _. q;
+      piece = λ _ e. absurd (false≢true (sym e));
+      atom = λ _ e. absurd (false≢true e);
     }

@@ -44,7 +44,7 @@ use Rattle.fancy_grammar.proofs.Pattern.Characters.{Spells, itself, by_escape, C
 use Rattle.fancy_grammar.proofs.Pattern.Characters.{reads_byte}
 use Rattle.fancy_grammar.proofs.Pattern.Rules.{Begins, begins_by, not_layout, AtomAt, Follows}
 
-abbrev some_verb : BacktrackingControlVerb → Text → Option (BacktrackingControlVerb × Text)
+abbrev pub some_verb : BacktrackingControlVerb → Text → Option (BacktrackingControlVerb × Text)
 some_verb b v = Some (b, v)
 
 -- ---- leaves and escapes
@@ -75,7 +75,7 @@ begins_escape x t = begins_by x (code "\\") t refl refl refl refl
 
 -- ---- characters
 
-abbrev marks : ℕ → Bool
+abbrev pub marks : ℕ → Bool
 marks c = c ∈ "\\.+*?()|[{^$"
 
 plain_leaf : (d : ℕ) (f : Flags) (c : ℕ) (v : Text) → marks c ≡ false →
@@ -110,7 +110,7 @@ begins_plain x c v e h =
       goes = rw (is_not (code "|") refl, is_not (code ")") refl) refl;
     }
 
-reads_spelled : (μ : Marks) (h : Here) (casei : Bool) (c : ℕ) (t v : Text) → Spells h.flags casei c t →
+pub reads_spelled : (μ : Marks) (h : Here) (casei : Bool) (c : ℕ) (t v : Text) → Spells h.flags casei c t →
     AtomAt μ h (t ++ v) v (leaf (label.literal (c ∷ []) casei))
 reads_spelled μ h casei c t v (itself e m k) =
     reads_leaf μ h (c ∷ v) v (label.literal (c ∷ []) casei) tt
@@ -119,7 +119,7 @@ reads_spelled μ h casei c t v (itself e m k) =
 reads_spelled μ h casei c t v (by_escape {t = w} e) =
     reads_escape μ h (w ++ v) v (escaped.literal c casei) (label.literal (c ∷ []) casei) tt refl (e v)
 
-begins_spelled : (f : Flags) (casei : Bool) (c : ℕ) (t v : Text) → Spells f casei c t → Begins f.ignore_space (t ++ v)
+pub begins_spelled : (f : Flags) (casei : Bool) (c : ℕ) (t v : Text) → Spells f casei c t → Begins f.ignore_space (t ++ v)
 begins_spelled f casei c t v (itself e m k) = begins_plain f.ignore_space c v m k
 begins_spelled f casei c t v (by_escape {t = w} e) = begins_escape f.ignore_space (w ++ v)
 
@@ -388,23 +388,23 @@ verb_leaf μ h t b l q = record {
   begins = λ v. begins_paren h.flags.ignore_space (code "*") (t ++ v) refl;
 }
 
-fail_read : (v : Text) → verb_at (codes "FAIL)" ++ v) ≡ some_verb Fail v
+pub fail_read : (v : Text) → verb_at (codes "FAIL)" ++ v) ≡ some_verb Fail v
 unfolding verb_at
 fail_read v = refl
 
-accept_read : (v : Text) → verb_at (codes "ACCEPT)" ++ v) ≡ some_verb Accept v
+pub accept_read : (v : Text) → verb_at (codes "ACCEPT)" ++ v) ≡ some_verb Accept v
 unfolding verb_at
 accept_read v = refl
 
-commit_read : (v : Text) → verb_at (codes "COMMIT)" ++ v) ≡ some_verb Commit v
+pub commit_read : (v : Text) → verb_at (codes "COMMIT)" ++ v) ≡ some_verb Commit v
 unfolding verb_at
 commit_read v = refl
 
-skip_read : (v : Text) → verb_at (codes "SKIP)" ++ v) ≡ some_verb Skip v
+pub skip_read : (v : Text) → verb_at (codes "SKIP)" ++ v) ≡ some_verb Skip v
 unfolding verb_at
 skip_read v = refl
 
-prune_read : (v : Text) → verb_at (codes "PRUNE)" ++ v) ≡ some_verb Prune v
+pub prune_read : (v : Text) → verb_at (codes "PRUNE)" ++ v) ≡ some_verb Prune v
 unfolding verb_at
 prune_read v = refl
 

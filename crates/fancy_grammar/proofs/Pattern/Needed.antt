@@ -7,11 +7,13 @@ use Rattle.fancy_lex.specs.declared.escape.Assertion.{Assertion}
 use Rattle.fancy_lex.specs.declared.escape.Assertion.TheVariants.{EndTextIgnoreTrailingNewlines, StartLine}
 use Rattle.fancy_lex.specs.declared.escape.Assertion.TheVariants.{StartLineOniguruma, EndLine}
 use Rattle.fancy_lex.specs.declared.flags.Flags.{Flags}
-use Rattle.fancy_grammar.specs.Label.{concat, alt, literal, any, assertion}
+use Rattle.fancy_grammar.specs.Label.{concat, alt, literal, any, assertion, empty, keep_out, verb, look_around}
+use Rattle.fancy_grammar.specs.Label.{continue_from_previous_match_end}
 use Rattle.fancy_grammar.specs.Pattern.{takes_pieces, takes_branches, flags_behind, flags_behind_all}
 use Rattle.fancy_grammar.specs.PatternNeeds.{is_kept_by_backslash, first, needs, fixed_or, with_needs, settled}
 use Rattle.fancy_grammar.specs.PatternNeeds.{turns_on}
 use Rattle.fancy_grammar.specs.PatternNeeds.{setting, letters_between}
+use Rattle.fancy_grammar.specs.Quantified.{is_repeatable}
 use Rattle.fancy_grammar.specs.Tree.{Tree, leaf, over, row, Trees, no_trees, more_trees}
 use Rattle.fancy_grammar.specs.Writable.{IsLike}
 use Rattle.fancy_grammar.specs.declared.needs.Need.{Need}
@@ -44,7 +46,7 @@ off_and_on : (b : Bool) → b && not b ≡ false
 off_and_on true = refl
 off_and_on false = refl
 
-turns_none : (f : Flags) → turns_on f f ≡ false
+pub turns_none : (f : Flags) → turns_on f f ≡ false
 turns_none f = rw (off_and_on f.casei, off_and_on f.multi, off_and_on f.dotnl, off_and_on f.crlf) refl
 
 pub no_setting : (f : Flags) → setting f f ≡ []
@@ -74,6 +76,17 @@ mutual
   pub like_behind_all : (ts : Trees) (p : Precedence) (f g : Flags) → IsLike f g → IsLike f (flags_behind_all ts p g)
   like_behind_all no_trees p f g e = e
   like_behind_all (more_trees t ts) p f g e = like_behind_all ts p f (flags_behind t p g) (like_behind t p f g e)
+
+-- the mode alone says what may be repeated
+pub like_repeatable : (t : Tree) (f g : Flags) → f.oniguruma_mode ≡ g.oniguruma_mode →
+    is_repeatable f t ≡ is_repeatable g t
+like_repeatable (leaf (assertion a)) f g e = ap not e
+like_repeatable (leaf empty) f g e = refl
+like_repeatable (leaf keep_out) f g e = refl
+like_repeatable (leaf continue_from_previous_match_end) f g e = refl
+like_repeatable (leaf (verb v)) f g e = refl
+like_repeatable (over (look_around l) t) f g e = refl
+like_repeatable _ f g e = refl
 
 -- ---- leaves whose needs hold
 

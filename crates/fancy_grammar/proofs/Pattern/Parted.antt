@@ -1,16 +1,16 @@
 -- An empty comment parts a reference in digits from a digit behind it.
-use Rattle.std.proofs.Common.{◌≡◌, ℕ, ◌+◌, ◌<◌, ◌^◌, Bool, true, false, List, ◌∷◌, ◌++◌, codes, decimal, refl, sym}
-use Rattle.std.proofs.Common.{◌∙◌, subst, append_assoc, arith}
+use Rattle.std.proofs.Common.{◌≡◌, ℕ, ◌<◌, ◌^◌, Bool, true, false, List, ◌∷◌, ◌++◌, codes, decimal, refl, sym}
+use Rattle.std.proofs.Common.{◌∙◌, subst, append_assoc}
 use Rattle.std.proofs.lemmas.Bool.{cond-true, false≢true}
 use Rattle.fancy_lex.specs.Characters.{backslash}
 use Rattle.fancy_lex.specs.Text.{Text, bytes}
 use Rattle.fancy_lex.specs.declared.flags.Flags.{Flags}
-use Rattle.fancy_grammar.specs.Depth.{max_depth}
 use Rattle.fancy_grammar.specs.Label as label
 use Rattle.fancy_grammar.specs.Marks.{Marks}
 use Rattle.fancy_grammar.specs.Pattern.{Here, under, behind, written, is_in_digits}
+use Rattle.fancy_grammar.specs.PatternDepth.{MaySet, Fits}
 use Rattle.fancy_grammar.specs.PatternNeeds.{settled, setting}
-use Rattle.fancy_grammar.specs.Tree.{Tree, leaf, levels}
+use Rattle.fancy_grammar.specs.Tree.{Tree, leaf}
 use Rattle.fancy_grammar.specs.Writable.{AreNodesWritable}
 use Rattle.fancy_grammar.specs.declared.precedence.Precedence.TheVariants.{Piece}
 use Rattle.fancy_grammar.proofs.OutcomeLemmas.{piece_as}
@@ -26,7 +26,8 @@ module _ (μ : Marks) where
       Rest μ h (written μ t Piece h ++ (codes "(?#)" ++ u)) k w (t ∷ ys)
 
   digits_lead : (h : Here) (n : ℕ) (casei : Bool) → μ.numeric_capture_group_references ≡ true → n < 2 ^ 64 →
-      h.flags.oniguruma_mode ≡ false → h.depth + 1 < max_depth → LeadsPast h (leaf (label.backref n casei))
+      h.flags.oniguruma_mode ≡ false → MaySet (settled h.flags (leaf (label.backref n casei))) h →
+      LeadsPast h (leaf (label.backref n casei))
   digits_lead h n casei e small o d u w k ys c q =
       let t = leaf (label.backref n casei) in
       let g = settled h.flags t in
@@ -44,6 +45,6 @@ module _ (μ : Marks) where
       (lead_piece μ i (s ++ v) u w k a.tree t ys b refl a.becomes piece q)))
 
   pub leads_past : (f : Flags) (c : ℕ) (t : Tree) → AreNodesWritable f μ c t → is_in_digits μ t ≡ true → (h : Here) →
-      h.flags.oniguruma_mode ≡ false → h.depth + levels t < max_depth → LeadsPast h t
-  leads_past f c (leaf (label.backref n casei)) k e h o d = digits_lead h n casei e k o (omega (arith, d))
+      h.flags.oniguruma_mode ≡ false → Fits t Piece h → LeadsPast h t
+  leads_past f c (leaf (label.backref n casei)) k e h o d = digits_lead h n casei e k o d.0
   leads_past f c _ k e h o d = absurd (false≢true e)

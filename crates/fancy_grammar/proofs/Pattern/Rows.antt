@@ -1,22 +1,22 @@
 -- A Concat, and an Alt, read back where the trees below them do.
-use Rattle.std.proofs.Common.{◌≡◌, ◌+◌, ◌<◌, Bool, false, [], ◌∷◌, ◌++◌}
-use Rattle.std.proofs.Common.{refl, sym, ap, ◌∙◌, subst, arith, append_assoc, ℕ, codes, true, ◌&&◌}
+use Rattle.std.proofs.Common.{◌≡◌, ◌+◌, Bool, false, [], ◌∷◌, ◌++◌}
+use Rattle.std.proofs.Common.{refl, sym, ap, ◌∙◌, subst, append_assoc, ℕ, codes, true, ◌&&◌}
 use Rattle.std.proofs.lemmas.Bool.{cond_both, and_parts, false≢true}
 use Prim.Native.Char.{code}
 use Rattle.fancy_lex.specs.Text.{Text}
 use Rattle.fancy_lex.specs.declared.flags.Flags.{Flags}
-use Rattle.fancy_grammar.specs.Depth.{max_depth}
 use Rattle.fancy_grammar.specs.Join.{is_empty, one_or, choice}
 use Rattle.fancy_grammar.specs.Label as label
 use Rattle.fancy_grammar.specs.Marks.{Marks}
 use Rattle.fancy_grammar.specs.Pattern.{Here, behind, flags_behind, flags_behind_all, written}
 use Rattle.fancy_grammar.specs.Pattern.{written_all, written_branches, written_barred, is_in_digits, group_count}
+use Rattle.fancy_grammar.specs.PatternDepth.{Fits, FitAll}
 use Rattle.fancy_grammar.specs.PatternNeeds.{settled}
-use Rattle.fancy_grammar.specs.Tree.{Tree, row, Trees, no_trees, more_trees, levels, levels_all, list_of}
+use Rattle.fancy_grammar.specs.Tree.{Tree, row, Trees, no_trees, more_trees, list_of}
 use Rattle.fancy_grammar.specs.Tree.{concat}
 use Rattle.fancy_grammar.specs.Tree.{trees_of}
 use Rattle.fancy_grammar.specs.Writable.{IsLike}
-use Rattle.fancy_grammar.specs.declared.precedence.Precedence.TheVariants.{Branch, Piece}
+use Rattle.fancy_grammar.specs.declared.precedence.Precedence.TheVariants.{Whole, Branch, Piece}
 use Rattle.fancy_grammar.proofs.NeedsLemmas.{listed}
 use Rattle.fancy_grammar.proofs.Pattern.Cases.{ReadsTree}
 use Rattle.fancy_grammar.proofs.Pattern.Groups.{inner}
@@ -29,15 +29,15 @@ use Rattle.fancy_grammar.proofs.Pattern.Rules.{reads_branch, reads_last, reads_m
 use Rattle.fancy_lex.specs.Number.{at_digit}
 
 module _ (μ : Marks) (f : Flags) (mode : f.oniguruma_mode ≡ false) where
-  -- behind the openings of c groups the tree reads back wherever it stands, less deep than it has levels to spare
+  -- behind the openings of c groups the tree reads back wherever it stands
   abbrev pub Everywhere : ℕ → Tree → Type 0
   Everywhere c t =
-      (h : Here) → h.opened ≡ c → IsLike f h.flags → h.depth + levels t < max_depth → ReadsTree μ t h
+      (h : Here) → h.opened ≡ c → IsLike f h.flags → ReadsTree μ t h
 
   -- a comment may stand behind it, where it is a reference in digits
   abbrev pub IsParted : Tree → Type 0
   IsParted t =
-      is_in_digits μ t ≡ true → (h : Here) → IsLike f h.flags → h.depth + levels t < max_depth → LeadsPast μ h t
+      is_in_digits μ t ≡ true → (h : Here) → IsLike f h.flags → Fits t Piece h → LeadsPast μ h t
 
   abbrev pub EachPiece : ℕ → Trees → Type 0
   EachPiece c no_trees = Unit {0}
@@ -69,14 +69,14 @@ module _ (μ : Marks) (f : Flags) (mode : f.oniguruma_mode ≡ false) where
 
   pieces_begin : (t : Tree) (ts : Trees) (h : Here) → EachPiece h.opened (more_trees t ts) →
       IsLike f h.flags →
-      h.depth + levels_all (more_trees t ts) < max_depth → (v : Text) →
+      FitAll (more_trees t ts) Piece h → (v : Text) →
       Begins h.flags.ignore_space (written_all μ false (more_trees t ts) h ++ v)
   pieces_begin t ts h k e d v =
       subst (Begins h.flags.ignore_space) (sym (pieces_text t ts h v))
-      ((k.0 h refl e (omega arith)).begins k.1 (written_all μ (is_in_digits μ t) ts (behind t Piece h) ++ v))
+      ((k.0 h refl e).begins d.0 k.1 (written_all μ (is_in_digits μ t) ts (behind t Piece h) ++ v))
 
   pieces_clear : (ts : Trees) (h : Here) → EachPiece h.opened ts → IsLike f h.flags →
-      h.depth + levels_all ts < max_depth →
+      FitAll ts Piece h →
       (v : Text) → Clear h.flags.ignore_space v → Clear h.flags.ignore_space (written_all μ false ts h ++ v)
   pieces_clear no_trees h k e d v c = c
   pieces_clear (more_trees t ts) h k e d v c = (pieces_begin t ts h k e d v).clear
@@ -88,7 +88,7 @@ module _ (μ : Marks) (f : Flags) (mode : f.oniguruma_mode ≡ false) where
 
   -- behind a reference in digits or not, the pieces stand alone, or a digit is parted from it
   next_text : (b : Bool) (ts : Trees) (h : Here) → EachPiece h.opened ts → IsLike f h.flags →
-      h.depth + levels_all ts < max_depth → (v : Text) → at_digit v ≡ false → (P : Text → Type 0) →
+      FitAll ts Piece h → (v : Text) → at_digit v ≡ false → (P : Text → Type 0) →
       ((b ≡ true → at_digit (written_all μ false ts h ++ v) ≡ false) → P (written_all μ false ts h ++ v)) →
       (b ≡ true → P (codes "(?#)" ++ (written_all μ false ts h ++ v))) → P (written_all μ b ts h ++ v)
   next_text b no_trees h k e d v none P alone parted = alone (λ _. none)
@@ -97,13 +97,13 @@ module _ (μ : Marks) (f : Flags) (mode : f.oniguruma_mode ≡ false) where
       let others = written_all μ (is_in_digits μ t) ts (behind t Piece h) in
       let first : at_digit ((s ++ others) ++ v) ≡ at_digit s
       = ap at_digit (append_assoc s others v)
-      ∙ same_digit h.flags.ignore_space s (others ++ v) ((k.0 h refl e (omega arith)).begins k.1 []) in
+      ∙ same_digit h.flags.ignore_space s (others ++ v) ((k.0 h refl e).begins d.0 k.1 []) in
       cond_both (b && at_digit s) (codes "(?#)" ++ s) s (λ z. P ((z ++ others) ++ v))
       (λ q. parted (and_parts b (at_digit s) q).0)
       (λ q. alone (λ y. first ∙ (sym (ap (λ b. b && at_digit s) y) ∙ q)))
 
   pieces_rest : (ts : Trees) (h : Here) → EachPiece h.opened ts → IsLike f h.flags →
-      h.depth + levels_all ts < max_depth →
+      FitAll ts Piece h →
       (v : Text) → Stops h.flags.ignore_space v →
       Rest μ h (written_all μ false ts h ++ v) (flags_behind_all ts Piece h.flags) v (list_of ts)
   pieces_rest no_trees h k e d v i = no_more μ h v i
@@ -113,35 +113,34 @@ module _ (μ : Marks) (f : Flags) (mode : f.oniguruma_mode ≡ false) where
       let same : h.flags.ignore_space ≡ j.flags.ignore_space = same_space h.flags j.flags e next in
       let i2 = subst (λ x. Stops x v) same i in
       let u = written_all μ false ts j ++ v in
-      let c = subst (λ x. Clear x u) (sym same) (pieces_clear ts j k.3 next (omega arith) v i2.clear) in
-      let q = pieces_rest ts j k.3 next (omega arith) v i2 in
+      let c = subst (λ x. Clear x u) (sym same) (pieces_clear ts j k.3 next d.1 v i2.clear) in
+      let q = pieces_rest ts j k.3 next d.1 v i2 in
       let g = flags_behind_all ts Piece j.flags in
       let ys = list_of ts in
       subst (λ z. Rest μ h z g v (t ∷ ys)) (sym (pieces_text t ts h v))
-      (next_text (is_in_digits μ t) ts j k.3 next (omega arith) v (ends_no_digit v i.ends)
+      (next_text (is_in_digits μ t) ts j k.3 next d.1 v (ends_no_digit v i.ends)
       (λ z. Rest μ h (written μ t Piece h ++ z) g v (t ∷ ys))
-      (λ y. (k.0 h refl e (omega arith)).piece k.1 u v g ys c y q)
-      (λ y. k.2 y h e (omega arith) u v g ys c q))
+      (λ y. (k.0 h refl e).piece d.0 k.1 u v g ys c y q)
+      (λ y. k.2 y h e d.0 u v g ys c q))
 
   two_listed : (t u : Tree) (ts : Trees) → trees_of (list_of (more_trees t (more_trees u ts))) ≡ more_trees t (more_trees u ts)
   two_listed t u ts = listed (more_trees t (more_trees u ts))
 
   pub concat_reads : (t u : Tree) (us : Trees) (h : Here) →
       EachPiece h.opened (more_trees t (more_trees u us)) →
-      IsLike f h.flags → h.depth + levels (row label.concat (more_trees t (more_trees u us))) < max_depth →
-      ReadsTree μ (row label.concat (more_trees t (more_trees u us))) h
-  concat_reads t u us h k e d =
+      IsLike f h.flags → ReadsTree μ (row label.concat (more_trees t (more_trees u us))) h
+  concat_reads t u us h k e =
       let ts = more_trees t (more_trees u us) in
       let x = row label.concat ts in
       let j = inner (settled h.flags x) h in
       let is : one_or concat (list_of ts) ≡ x = ap (row label.concat) (two_listed t u us) in
-      by_branch μ x h (same_mode h.flags e) (omega arith) refl (written_all μ false ts h) (written_all μ false ts j)
-      (flags_behind_all ts Piece h.flags) (flags_behind_all ts Piece j.flags) (list_of ts) is
-      (pieces_begin t (more_trees u us) h k e (omega arith)) (pieces_rest ts h k e (omega arith))
-      (λ v i. reads_only μ j _ v (flags_behind_all ts Piece j.flags) x
+      by_branch μ x h (same_mode h.flags e) refl (Fits x Whole h) (FitAll ts Piece) (written_all μ false ts h)
+      (written_all μ false ts j) (flags_behind_all ts Piece h.flags) (flags_behind_all ts Piece j.flags) (list_of ts) is
+      (pieces_begin t (more_trees u us) h k e) (pieces_rest ts h k e)
+      (λ d v i. reads_only μ j _ v (flags_behind_all ts Piece j.flags) x
       (subst (BranchAt μ j (written_all μ false ts j ++ v) (flags_behind_all ts Piece j.flags) v) is
       (reads_branch μ j _ v (flags_behind_all ts Piece j.flags) (list_of ts)
-      (pieces_rest ts j k e (omega arith) v i.stops))) i.no_bar)
+      (pieces_rest ts j k e d v i.stops))) i.no_bar)
       refl
 
   -- ---- branches
@@ -156,21 +155,21 @@ module _ (μ : Marks) (f : Flags) (mode : f.oniguruma_mode ≡ false) where
   barred_clear x (more_trees t ts) h v c = (stops_bar x _).clear
 
   branches_clear : (t : Tree) (ts : Trees) (h : Here) → EachBranch h.opened (more_trees t ts) → IsLike f h.flags →
-      h.depth + levels_all (more_trees t ts) < max_depth → (v : Text) → Clear h.flags.ignore_space v →
+      FitAll (more_trees t ts) Branch h → (v : Text) → Clear h.flags.ignore_space v →
       Clear h.flags.ignore_space (written_branches μ (more_trees t ts) h ++ v)
   branches_clear t ts h k e d v c =
       subst (Clear h.flags.ignore_space) (sym (branches_text t ts h v))
-      ((k.0 h refl e (omega arith)).branch_clear (written_barred μ ts (behind t Branch h) ++ v)
+      ((k.0 h refl e).branch_clear d.0 (written_barred μ ts (behind t Branch h) ++ v)
       (barred_clear h.flags.ignore_space ts (behind t Branch h) v c))
 
   branches_at : (ts : Trees) (t : Tree) (h : Here) → EachBranch h.opened (more_trees t ts) → IsLike f h.flags →
-      h.depth + levels_all (more_trees t ts) < max_depth → (v : Text) → Ends h.flags.ignore_space v →
+      FitAll (more_trees t ts) Branch h → (v : Text) → Ends h.flags.ignore_space v →
       BranchesAt μ h (written_branches μ (more_trees t ts) h ++ v) (flags_behind_all (more_trees t ts) Branch h.flags) v
       (t ∷ list_of ts)
   branches_at no_trees t h k e d v i =
       subst (λ z. BranchesAt μ h z (flags_behind t Branch h.flags) v (t ∷ [])) (sym (branches_text t no_trees h v))
       (reads_last μ h (written μ t Branch h ++ v) v (flags_behind t Branch h.flags) t
-      ((k.0 h refl e (omega arith)).branch v i.stops) i.no_bar)
+      ((k.0 h refl e).branch d.0 v i.stops) i.no_bar)
   branches_at (more_trees u us) t h k e d v i =
       let j = behind t Branch h in
       let next = like_behind t Branch f h.flags e in
@@ -179,11 +178,11 @@ module _ (μ : Marks) (f : Flags) (mode : f.oniguruma_mode ≡ false) where
       let g = flags_behind_all (more_trees u us) Branch j.flags in
       subst (λ z. BranchesAt μ h z g v (t ∷ u ∷ list_of us)) (sym (branches_text t (more_trees u us) h v))
       (reads_more μ h (written μ t Branch h ++ code "|" ∷ w) w v (flags_behind t Branch h.flags) g t (u ∷ list_of us)
-      ((k.0 h refl e (omega arith)).branch (code "|" ∷ w) (stops_bar h.flags.ignore_space w))
-      (branches_at us u j k.1 next (omega arith) v (subst (λ x. Ends x v) same i)))
+      ((k.0 h refl e).branch d.0 (code "|" ∷ w) (stops_bar h.flags.ignore_space w))
+      (branches_at us u j k.1 next d.1 v (subst (λ x. Ends x v) same i)))
 
   alt_whole : (t u : Tree) (us : Trees) (h : Here) → EachBranch h.opened (more_trees t (more_trees u us)) →
-      IsLike f h.flags → h.depth + levels_all (more_trees t (more_trees u us)) < max_depth → (v : Text) →
+      IsLike f h.flags → FitAll (more_trees t (more_trees u us)) Branch h → (v : Text) →
       Ends h.flags.ignore_space v →
       WholeAt μ h (written_branches μ (more_trees t (more_trees u us)) h ++ v)
       (flags_behind_all (more_trees t (more_trees u us)) Branch h.flags) v
@@ -196,15 +195,14 @@ module _ (μ : Marks) (f : Flags) (mode : f.oniguruma_mode ≡ false) where
       (reads_whole μ h (written_branches μ ts h ++ v) v g (list_of ts) (branches_at (more_trees u us) t h k e d v i))
 
   pub alt_reads : (t u : Tree) (us : Trees) (h : Here) → EachBranch h.opened (more_trees t (more_trees u us)) →
-      IsLike f h.flags → h.depth + levels (row label.alt (more_trees t (more_trees u us))) < max_depth →
-      ReadsTree μ (row label.alt (more_trees t (more_trees u us))) h
-  alt_reads t u us h k e d =
+      IsLike f h.flags → ReadsTree μ (row label.alt (more_trees t (more_trees u us))) h
+  alt_reads t u us h k e =
       let ts = more_trees t (more_trees u us) in
       let x = row label.alt ts in
       let j = inner (settled h.flags x) h in
-      by_whole μ x h (same_mode h.flags e) (omega arith) refl (written_branches μ ts h) (written_branches μ ts j)
-      (flags_behind_all ts Branch h.flags) (flags_behind_all ts Branch j.flags)
-      (branches_clear t (more_trees u us) h k e (omega arith))
-      (alt_whole t u us h k e (omega arith))
-      (alt_whole t u us j k e (omega arith))
+      by_whole μ x h (same_mode h.flags e) refl (Fits x Whole h) (FitAll ts Branch) (written_branches μ ts h)
+      (written_branches μ ts j) (flags_behind_all ts Branch h.flags) (flags_behind_all ts Branch j.flags)
+      (branches_clear t (more_trees u us) h k e)
+      (alt_whole t u us h k e)
+      (alt_whole t u us j k e)
       refl

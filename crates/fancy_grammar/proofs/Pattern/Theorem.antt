@@ -1,6 +1,6 @@
 -- The text of a writable tree is read as that tree, with its marks, and as nothing else.
-use Rattle.std.proofs.Common.{◌≡◌, ℕ, zero, ◌+◌, ◌<◌, Bool, true, false, ◌&&◌, List, [], ◌∷◌, ◌++◌}
-use Rattle.std.proofs.Common.{codes, length, filter_map, map, None, refl, sym, ap, ◌∙◌, subst, arith, nat_lt}
+use Rattle.std.proofs.Common.{◌≡◌, ℕ, zero, ◌+◌, Bool, true, false, ◌&&◌, List, [], ◌∷◌, ◌++◌}
+use Rattle.std.proofs.Common.{length, filter_map, map, None, refl, sym, ap, ◌∙◌, subst, arith, nat_lt}
 use Rattle.std.proofs.Common.{append-nil, ◌||◌, ◌==◌, Option, IfSome, is_some, ap₂, if◌then◌else◌, suc, filter, nat_le}
 use Rattle.std.specs.Prelude.{fold, find}
 use Rattle.std.specs.BTreeSet.{insert_key}
@@ -13,13 +13,12 @@ use Rattle.fancy_parts.specs.Ranks.{is_named, only_named, named_groups, numbers,
 use Rattle.fancy_parts.specs.Ranks.{Opening, is_name, numbers_from, names, numbered_openings}
 use Rattle.fancy_grammar.specs.Answer.{IsTreeOf}
 use Rattle.fancy_grammar.specs.Answered.{IsAnsweredWith, groups_referred, has_call}
-use Rattle.fancy_grammar.specs.Depth.{max_depth}
 use Rattle.fancy_grammar.specs.Grammar.{whole, DerivesTree}
 use Rattle.fancy_grammar.specs.Items.{Item, opening, reference, items, openings, openings_in, numbers_in}
 use Rattle.fancy_grammar.specs.Label.{AstReference}
 use Rattle.fancy_grammar.specs.Label as label
 use Rattle.fancy_grammar.specs.Marks.{Marks, marks, ascending}
-use Rattle.fancy_grammar.specs.Pattern.{Here, under, past_groups, deeper, after_setting, in_parens, group_count}
+use Rattle.fancy_grammar.specs.Pattern.{Here, under, past_groups, deeper, group_count}
 use Rattle.fancy_grammar.specs.Pattern.{written, behind}
 use Rattle.fancy_grammar.specs.Pattern.{flags_behind}
 use Rattle.fancy_grammar.specs.Pattern.{pattern_text}
@@ -28,13 +27,11 @@ use Rattle.fancy_grammar.specs.PatternReference.{Named, name_of}
 use Rattle.fancy_grammar.specs.Preorder.{preorder}
 use Rattle.fancy_grammar.specs.ReadAs.{IsReadAs, unplaced}
 use Rattle.fancy_grammar.specs.Resolved.{fault_of, resolved}
-use Rattle.fancy_grammar.specs.Tree.{Tree, leaf, over, row, Trees, no_trees, more_trees, levels}
+use Rattle.fancy_grammar.specs.Tree.{Tree, leaf, over, row, Trees, no_trees, more_trees}
 use Rattle.fancy_grammar.specs.Writable.{AreNodesWritable, AreAllWritable, ArePieces, IsWritable, openings_told}
 use Rattle.fancy_grammar.specs.Writable.{AreCounted, IsNameWritable, marks_of, IsLike, is_numbered}
 use Rattle.fancy_grammar.specs.Writable.{is_numbered_call_of_all}
-use Rattle.fancy_grammar.specs.declared.precedence.Precedence.{Precedence}
-use Rattle.fancy_grammar.specs.declared.precedence.Precedence.TheVariants.{Whole, Branch as BranchAlone, Piece}
-use Rattle.fancy_grammar.specs.declared.precedence.Precedence.TheVariants.{Operand}
+use Rattle.fancy_grammar.specs.declared.precedence.Precedence.TheVariants.{Whole, Branch as BranchAlone}
 use Rattle.fancy_grammar.proofs.AnsweredLaws.{answered_with}
 use Rattle.fancy_grammar.proofs.ReadAsLaws.{read_as}
 use Rattle.fancy_grammar.proofs.Pattern.Absent.{repeater_reads, stopper_reads, expression_reads}
@@ -42,14 +39,13 @@ use Rattle.fancy_grammar.proofs.Pattern.Becomes.{Becomes, opened, AreGroups, cou
 use Rattle.fancy_grammar.proofs.Pattern.Cases.{ReadsTree, leaf_reads, group_reads, look_reads, define_reads}
 use Rattle.fancy_grammar.proofs.Pattern.Cases.{atomic_by}
 use Rattle.fancy_grammar.proofs.Pattern.Conditionals.{conditional_reads}
-use Rattle.fancy_grammar.proofs.Pattern.GroupConditionals.{on_group_reads}
+use Rattle.fancy_grammar.proofs.Pattern.ConditionTexts.{before_of}
 use Rattle.fancy_grammar.proofs.Pattern.Groups.{whole_behind_setting}
-use Rattle.fancy_grammar.proofs.Pattern.Induction.{ReadsBy}
 use Rattle.fancy_grammar.proofs.Pattern.Marked.{none_faulty, numeric_told, of_all_told}
-use Rattle.fancy_grammar.proofs.Pattern.Needed.{like_behind}
+use Rattle.fancy_grammar.proofs.Pattern.Needed.{like_repeatable, like_behind}
 use Rattle.fancy_grammar.proofs.Pattern.Unplaced.{same_referred, same_call, same_numbered, same_of_all}
 use Rattle.fancy_grammar.proofs.Pattern.Parted.{leads_past}
-use Rattle.fancy_grammar.proofs.Pattern.Repeats.{like_repeatable, repeat_reads, possessive_reads}
+use Rattle.fancy_grammar.proofs.Pattern.Repeats.{repeat_reads, possessive_reads}
 use Rattle.fancy_grammar.proofs.Pattern.Rows.{EachPiece, EachBranch, concat_reads, alt_reads, same_mode}
 use Rattle.fancy_grammar.proofs.Pattern.Rules.{Clear, ends_nothing, WholeAt}
 use Rattle.fancy_grammar.proofs.ReadBack.RuleLemmas.{st}
@@ -62,124 +58,101 @@ is_repeat (over (label.repeat lo hi greedy) t) = true
 is_repeat _ = false
 
 module _ (μ : Marks) where
-  atomic_text : (t : Tree) → is_repeat t ≡ false → (p : Precedence) (h : Here) →
-      written μ (over label.atomic_group t) p h ≡ after_setting t (in_parens (codes "?>") (written μ t Whole)) h
-  atomic_text (over (label.repeat lo hi greedy) t) e p h = absurd cc
-  atomic_text _ e p h = refl
-
   atomic_reads : (t : Tree) → is_repeat t ≡ false → (h : Here) → h.flags.oniguruma_mode ≡ false →
-      h.depth + 1 < max_depth → ReadsTree μ t (deeper (under (settled h.flags t) h)) →
-      ReadsTree μ (over label.atomic_group t) h
-  atomic_reads t e h o d r =
-      let x = over label.atomic_group t in
-      let g = settled h.flags t in
-      let text : (λ (p : Precedence). after_setting t (in_parens (codes "?>") (written μ t Whole)) h)
-      ≡ (λ (p : Precedence). written μ x p h) = λ i p. sym (atomic_text t e p h) i in
-      subst (λ (k : Precedence → Text). ReadsBy μ x h (k Whole) (k BranchAlone) (k Piece) (k (Operand zero)) g g) text
-      (atomic_by μ t h o d r)
+      ReadsTree μ t (deeper (under (settled h.flags t) h)) → ReadsTree μ (over label.atomic_group t) h
+  atomic_reads (over (label.repeat lo hi greedy) t) e h o r = absurd cc
+  atomic_reads t e h o r = atomic_by μ t h o r
 
   module _ (f : Flags) (mode : f.oniguruma_mode ≡ false)
       (names : (k : ℕ) → IfSome (name_of μ k) (λ e. IsNameWritable e.0))
       (numbered : (k : ℕ) → IfSome (name_of μ k) (λ e. e.1 ≡ numbers_told μ e.0)) where
     mutual
-      reads : (t : Tree) (h : Here) → AreNodesWritable f μ h.opened t → IsLike f h.flags →
-          h.depth + levels t < max_depth → ReadsTree μ t h
-      reads (leaf l) h k e d = leaf_reads μ numbered f l h (same_mode μ f mode h.flags e) e d k
-      reads (over (label.repeat lo hi greedy) t) h k e d =
+      reads : (t : Tree) (h : Here) → AreNodesWritable f μ h.opened t → IsLike f h.flags → ReadsTree μ t h
+      reads (leaf l) h k e = leaf_reads μ numbered f l h (same_mode μ f mode h.flags e) e k
+      reads (over (label.repeat lo hi greedy) t) h k e =
           let i = under (settled h.flags t) h in
-          repeat_reads μ t lo hi greedy k.2 k.3 h (same_mode μ f mode h.flags e) (omega arith)
-          (like_repeatable μ t h.flags f (ap (λ j. j.oniguruma_mode) e) ∙ k.1)
-          (reads t i k.0 e (omega arith)) (reads t (deeper i) k.0 e (omega arith))
-      reads (over label.group t) h k e d =
-          group_reads μ t h (same_mode μ f mode h.flags e) (omega arith) (names (h.opened + 1))
-          (reads t (deeper (past_groups 1 (under (settled h.flags t) h))) k e (omega arith))
-      reads (over (label.look_around l) t) h k e d =
-          look_reads μ t h (same_mode μ f mode h.flags e) (omega arith) l
-          (reads t (deeper (under (settled h.flags t) h)) k e (omega arith))
-      reads (over label.define_group t) h k e d =
-          define_reads μ t h (same_mode μ f mode h.flags e) (omega arith)
-          (reads t (deeper (under (settled h.flags t) h)) k e (omega arith))
-      reads (over label.atomic_group (over (label.repeat lo hi greedy) t)) h k e d =
+          repeat_reads μ t lo hi greedy k.2 k.3 h (same_mode μ f mode h.flags e)
+          (like_repeatable t h.flags f (ap (λ j. j.oniguruma_mode) e) ∙ k.1)
+          (reads t i k.0 e) (reads t (deeper i) k.0 e)
+      reads (over label.group t) h k e =
+          group_reads μ t h (same_mode μ f mode h.flags e) (names (h.opened + 1))
+          (reads t (deeper (past_groups 1 (under (settled h.flags t) h))) k e)
+      reads (over (label.look_around l) t) h k e =
+          look_reads μ t h (same_mode μ f mode h.flags e) l
+          (reads t (deeper (under (settled h.flags t) h)) k e)
+      reads (over label.define_group t) h k e =
+          define_reads μ t h (same_mode μ f mode h.flags e)
+          (reads t (deeper (under (settled h.flags t) h)) k e)
+      reads (over label.atomic_group (over (label.repeat lo hi greedy) t)) h k e =
           let i = under (settled h.flags t) h in
-          possessive_reads μ t lo hi greedy k.2 k.3 h (same_mode μ f mode h.flags e) (omega arith)
-          (like_repeatable μ t h.flags f (ap (λ j. j.oniguruma_mode) e) ∙ k.1)
-          (reads t i k.0 e (omega arith)) (reads t (deeper i) k.0 e (omega arith))
-      reads (over label.atomic_group (leaf l)) h k e d =
-          atomic_reads (leaf l) refl h (same_mode μ f mode h.flags e) (omega arith)
-          (reads (leaf l) (deeper (under (settled h.flags (leaf l)) h)) k e (omega arith))
-      reads (over label.atomic_group (row w ts)) h k e d =
-          atomic_reads (row w ts) refl h (same_mode μ f mode h.flags e) (omega arith)
-          (reads (row w ts) (deeper (under (settled h.flags (row w ts)) h)) k e (omega arith))
-      reads (over label.atomic_group (over label.group t)) h k e d =
-          atomic_reads (over label.group t) refl h (same_mode μ f mode h.flags e) (omega arith)
-          (reads (over label.group t) (deeper (under (settled h.flags t) h)) k e (omega arith))
-      reads (over label.atomic_group (over (label.look_around l) t)) h k e d =
-          atomic_reads (over (label.look_around l) t) refl h (same_mode μ f mode h.flags e) (omega arith)
-          (reads (over (label.look_around l) t) (deeper (under (settled h.flags t) h)) k e (omega arith))
-      reads (over label.atomic_group (over label.define_group t)) h k e d =
-          atomic_reads (over label.define_group t) refl h (same_mode μ f mode h.flags e) (omega arith)
-          (reads (over label.define_group t) (deeper (under (settled h.flags t) h)) k e (omega arith))
-      reads (over label.atomic_group (over label.atomic_group t)) h k e d =
-          atomic_reads (over label.atomic_group t) refl h (same_mode μ f mode h.flags e) (omega arith)
-          (reads (over label.atomic_group t) (deeper (under (settled h.flags t) h)) k e (omega arith))
-      reads (over label.atomic_group (over label.repeater t)) h k e d =
-          atomic_reads (over label.repeater t) refl h (same_mode μ f mode h.flags e) (omega arith)
-          (reads (over label.repeater t) (deeper (under (settled h.flags t) h)) k e (omega arith))
-      reads (over label.atomic_group (over label.stopper t)) h k e d =
-          atomic_reads (over label.stopper t) refl h (same_mode μ f mode h.flags e) (omega arith)
-          (reads (over label.stopper t) (deeper (under (settled h.flags t) h)) k e (omega arith))
-      reads (over label.atomic_group (over (label.ast_group name place) t)) h k e d = absurd k
-      reads (over label.repeater t) h k e d =
-          repeater_reads μ h (same_mode μ f mode h.flags e) (omega arith) t
-          (reads t (deeper (under (settled h.flags t) h)) k e (omega arith))
-      reads (over label.stopper t) h k e d =
-          stopper_reads μ h (same_mode μ f mode h.flags e) (omega arith) t k.1
-          (reads t (deeper (under (settled h.flags t) h)) k.0 e (omega arith))
-      reads (row label.expression (more_trees a (more_trees b no_trees))) h k e d =
+          possessive_reads μ t lo hi greedy k.2 k.3 h (same_mode μ f mode h.flags e)
+          (like_repeatable t h.flags f (ap (λ j. j.oniguruma_mode) e) ∙ k.1)
+          (reads t i k.0 e) (reads t (deeper i) k.0 e)
+      reads (over label.atomic_group (leaf l)) h k e =
+          atomic_reads (leaf l) refl h (same_mode μ f mode h.flags e)
+          (reads (leaf l) (deeper (under (settled h.flags (leaf l)) h)) k e)
+      reads (over label.atomic_group (row w ts)) h k e =
+          atomic_reads (row w ts) refl h (same_mode μ f mode h.flags e)
+          (reads (row w ts) (deeper (under (settled h.flags (row w ts)) h)) k e)
+      reads (over label.atomic_group (over label.group t)) h k e =
+          atomic_reads (over label.group t) refl h (same_mode μ f mode h.flags e)
+          (reads (over label.group t) (deeper (under (settled h.flags t) h)) k e)
+      reads (over label.atomic_group (over (label.look_around l) t)) h k e =
+          atomic_reads (over (label.look_around l) t) refl h (same_mode μ f mode h.flags e)
+          (reads (over (label.look_around l) t) (deeper (under (settled h.flags t) h)) k e)
+      reads (over label.atomic_group (over label.define_group t)) h k e =
+          atomic_reads (over label.define_group t) refl h (same_mode μ f mode h.flags e)
+          (reads (over label.define_group t) (deeper (under (settled h.flags t) h)) k e)
+      reads (over label.atomic_group (over label.atomic_group t)) h k e =
+          atomic_reads (over label.atomic_group t) refl h (same_mode μ f mode h.flags e)
+          (reads (over label.atomic_group t) (deeper (under (settled h.flags t) h)) k e)
+      reads (over label.atomic_group (over label.repeater t)) h k e =
+          atomic_reads (over label.repeater t) refl h (same_mode μ f mode h.flags e)
+          (reads (over label.repeater t) (deeper (under (settled h.flags t) h)) k e)
+      reads (over label.atomic_group (over label.stopper t)) h k e =
+          atomic_reads (over label.stopper t) refl h (same_mode μ f mode h.flags e)
+          (reads (over label.stopper t) (deeper (under (settled h.flags t) h)) k e)
+      reads (over label.atomic_group (over (label.ast_group name place) t)) h k e = absurd k
+      reads (over label.repeater t) h k e =
+          repeater_reads μ h (same_mode μ f mode h.flags e) t
+          (reads t (deeper (under (settled h.flags t) h)) k e)
+      reads (over label.stopper t) h k e =
+          stopper_reads μ h (same_mode μ f mode h.flags e) t k.1
+          (reads t (deeper (under (settled h.flags t) h)) k.0 e)
+      reads (row label.expression (more_trees a (more_trees b no_trees))) h k e =
           let i = deeper (under (settled h.flags (row label.expression (more_trees a (more_trees b no_trees)))) h) in
           let next = like_behind a BranchAlone f i.flags e in
-          expression_reads μ h (same_mode μ f mode h.flags e) (omega arith) a b
-          (ap (λ j. j.ignore_space) next ∙ sym (ap (λ j. j.ignore_space) e)) (reads a i k.0 e (omega arith))
-          (reads b (behind a BranchAlone i) k.1 next (omega arith))
-      reads (row label.expression no_trees) h k e d = absurd k
-      reads (row label.expression (more_trees a no_trees)) h k e d = absurd k
-      reads (row label.expression (more_trees a (more_trees b (more_trees c ts)))) h k e d = absurd k
-      reads (over (label.ast_group name place) t) h k e d = absurd k
-      reads (row label.concat (more_trees t (more_trees u us))) h k e d =
-          concat_reads μ f mode t u us h (each_piece (more_trees t (more_trees u us)) h.opened k) e d
-      reads (row label.alt (more_trees t (more_trees u us))) h k e d =
-          alt_reads μ f mode t u us h (each_branch (more_trees t (more_trees u us)) h.opened k) e d
-      reads (row label.concat no_trees) h k e d = absurd k
-      reads (row label.concat (more_trees t no_trees)) h k e d = absurd k
-      reads (row label.alt no_trees) h k e d = absurd k
-      reads (row label.alt (more_trees t no_trees)) h k e d = absurd k
-      reads (row label.conditional (more_trees (over (label.look_around l) c) (more_trees t (more_trees b no_trees)))) h k e
-          d =
-          let x = row label.conditional
-          (more_trees (over (label.look_around l) c) (more_trees t (more_trees b no_trees))) in
-          let i = deeper (under (settled h.flags x) h) in
-          let j = behind (over (label.look_around l) c) Whole i in
-          conditional_reads μ h (same_mode μ f mode h.flags e) (omega arith) l c t b k.3
-          (reads (over (label.look_around l) c) i k.0 e (omega arith))
-          (reads t j k.1 e (omega arith))
-          (reads b (behind t BranchAlone j) k.2 (like_behind t BranchAlone f j.flags e) (omega arith))
-      reads (row label.conditional (more_trees (leaf (label.backref_exists n l)) (more_trees t (more_trees b no_trees)))) h k
-          e d =
-          let c = leaf (label.backref_exists n l) in
+          expression_reads μ h (same_mode μ f mode h.flags e) a b
+          (ap (λ j. j.ignore_space) next ∙ sym (ap (λ j. j.ignore_space) e)) (reads a i k.0 e)
+          (reads b (behind a BranchAlone i) k.1 next)
+      reads (row label.expression no_trees) h k e = absurd k
+      reads (row label.expression (more_trees a no_trees)) h k e = absurd k
+      reads (row label.expression (more_trees a (more_trees b (more_trees c ts)))) h k e = absurd k
+      reads (over (label.ast_group name place) t) h k e = absurd k
+      reads (row label.concat (more_trees t (more_trees u us))) h k e =
+          concat_reads μ f mode t u us h (each_piece (more_trees t (more_trees u us)) h.opened k) e
+      reads (row label.alt (more_trees t (more_trees u us))) h k e =
+          alt_reads μ f mode t u us h (each_branch (more_trees t (more_trees u us)) h.opened k) e
+      reads (row label.concat no_trees) h k e = absurd k
+      reads (row label.concat (more_trees t no_trees)) h k e = absurd k
+      reads (row label.alt no_trees) h k e = absurd k
+      reads (row label.alt (more_trees t no_trees)) h k e = absurd k
+      reads (row label.conditional (more_trees c (more_trees t (more_trees b no_trees)))) h k e =
           let x = row label.conditional (more_trees c (more_trees t (more_trees b no_trees))) in
-          let j = behind c Whole (deeper (under (settled h.flags x) h)) in
-          let none : h.opened ≡ j.opened = omega arith in
-          on_group_reads μ n l h (same_mode μ f mode h.flags e) (omega arith) (numbered n) k.0.0 k.0.1 t b k.3
-          (reads t j (subst (λ n. AreNodesWritable f μ n t) none k.1) e (omega arith))
-          (reads b (behind t BranchAlone j) (subst (λ n. AreNodesWritable f μ (n + group_count t) b) none k.2)
-          (like_behind t BranchAlone f j.flags e) (omega arith))
-      reads (row label.conditional ts) h k e d = absurd k
+          let i = under (settled h.flags x) h in
+          let j = behind c Whole (deeper i) in
+          let next = like_behind c Whole f i.flags e in
+          conditional_reads μ h (same_mode μ f mode h.flags e) c t b k.3
+          (before_of μ f numbered c i k.0 (same_mode μ f mode h.flags e) (reads c (deeper i) k.0 e))
+          (reads t j k.1 next)
+          (reads b (behind t BranchAlone j) k.2 (like_behind t BranchAlone f j.flags next))
+      reads (row label.conditional ts) h k e = absurd k
 
       each_piece : (ts : Trees) (c : ℕ) → ArePieces f μ c ts → EachPiece μ f mode c ts
       each_piece no_trees c k = tt
       each_piece (more_trees t ts) c k = (
-        (λ h o e d. reads t h (subst (λ n. AreNodesWritable f μ n t)
-            (sym o) k.0) e d),
+        (λ h o e. reads t h (subst (λ n. AreNodesWritable f μ n t)
+            (sym o) k.0) e),
         k.1,
         (λ y h e d. leads_past μ f c t k.0 y h (same_mode μ f mode h.flags e) d),
         each_piece ts _ k.2,
@@ -188,7 +161,7 @@ module _ (μ : Marks) where
       each_branch : (ts : Trees) (c : ℕ) → AreAllWritable f μ c ts → EachBranch μ f mode c ts
       each_branch no_trees c k = tt
       each_branch (more_trees t ts) c k =
-          ((λ h o e d. reads t h (subst (λ n. AreNodesWritable f μ n t) (sym o) k.0) e d), each_branch ts _ k.1)
+          ((λ h o e. reads t h (subst (λ n. AreNodesWritable f μ n t) (sym o) k.0) e), each_branch ts _ k.1)
 
 -- ---- the marks of a tree
 
@@ -350,11 +323,11 @@ reads_back f t μ w =
     (sym total) (all_numbers (openings_told μ 0 (group_count t)) _)) in
     let numbered = λ (k : ℕ). found (λ (e : Named). e.1 ≡ numbers_told μ e.0)
     (λ e. list_any (λ n. n == k) e.1) μ.named_groups entries in
-    let r = reads μ f w.mode names numbered t (under g h) w.nodes refl (omega (arith, w.levels)) in
+    let r = reads μ f w.mode names numbered t (under g h) w.nodes refl in
     let s = written μ t Whole (under g h) in
     let after = flags_behind t Whole g in
     let here = subst (λ u. WholeAt μ (under g h) u after [] t) (append-nil s)
-    (r.whole [] (ends_nothing f.ignore_space)) in
-    let clear = subst (Clear f.ignore_space) (append-nil s) (r.whole_clear [] (ends_nothing f.ignore_space).stops.clear) in
-    let all = whole_behind_setting μ h g.casei g.multi g.dotnl g.crlf s [] after t w.mode (omega arith) clear here in
+    (r.whole w.fits [] (ends_nothing f.ignore_space)) in
+    let clear = subst (Clear f.ignore_space) (append-nil s) (r.whole_clear w.fits [] (ends_nothing f.ignore_space).stops.clear) in
+    let all = whole_behind_setting μ h g.casei g.multi g.dotnl g.crlf s [] after t w.mode clear (λ _. omega arith) here in
     from_whole μ f after (setting f g ++ s) t w.marks w.counted all

@@ -3,6 +3,8 @@ use Rattle.std.proofs.Common.{◌≡◌, ℕ, suc, ◌+◌, ◌<◌, ◌&&◌, �
 use Rattle.std.proofs.Common.{Option, Some, None, decimal, refl, sym, ap, ◌∙◌, subst, append_assoc, arith, pos, negsuc}
 use Rattle.std.proofs.Math.Bool.{not-not}
 use Rattle.std.proofs.lemmas.Bool.{cond_both}
+use Rattle.std.specs.List.{starts_with}
+use Rattle.std.specs.Prelude.{nat_eq}
 use Prim.Native.Char.{code}
 use Rattle.fancy_lex.specs.Characters.{is_among}
 use Rattle.fancy_lex.specs.Delimited.{marked_name, name_before}
@@ -24,6 +26,7 @@ use Rattle.fancy_grammar.specs.Label as label
 use Rattle.fancy_grammar.specs.Label.{ast_call}
 use Rattle.fancy_grammar.specs.Marks.{Marks}
 use Rattle.fancy_grammar.specs.Pattern.{Here}
+use Rattle.fancy_grammar.specs.PatternDepth.{MayOpenIf}
 use Rattle.fancy_grammar.specs.PatternReference.{marked, unresolved_text}
 use Rattle.fancy_grammar.specs.ReadAs.{unplaced}
 use Rattle.fancy_grammar.specs.Resolved.{reference_node}
@@ -134,8 +137,12 @@ module _ (μ : Marks) (h : Here) (t : Target) (place : ℕ) (none : is_by_number
     begins = λ v. begins_by h.flags.ignore_space (code "(") _ refl refl refl refl;
   }
 
-pub unresolved_at : (μ : Marks) (h : Here) (t : Target) (place : ℕ) → h.depth + 1 < max_depth → IsCalledTarget t →
-    means (numbers_told μ) h.opened call t ≡ unresolved →
+-- where its text is a group, one may open
+abbrev MayOpenFor : Here → Text → Type 0
+MayOpenFor h s = MayOpenIf (starts_with nat_eq s (codes "(")) h
+
+pub unresolved_at : (μ : Marks) (h : Here) (t : Target) (place : ℕ) → MayOpenFor h (unresolved_text (ast_call t)) →
+    IsCalledTarget t → means (numbers_told μ) h.opened call t ≡ unresolved →
     LeafAt μ h (unresolved_text (ast_call t)) (label.ast_node (ast_call t) place)
 unresolved_at μ h (by_number n) place l k meant = absurd k
 unresolved_at μ h (relative (pos n)) place l k meant = absurd cc
@@ -149,16 +156,16 @@ unresolved_at μ h (relative (negsuc n)) place l k meant =
 unresolved_at μ h (by_name []) place l k meant = absurd k
 unresolved_at μ h (by_name (c ∷ u)) place l k meant =
     let w = c ∷ u in
-    let P = λ (s : Text). LeafAt μ h s (label.ast_node (ast_call (by_name w)) place) in
-    let parens = λ (e : is_called_in_parens w ≡ true).
-    in_parens μ h (by_name w) place refl meant l c u (k.1 e) (named_by w k.0) in
+    let P = λ (s : Text). MayOpenFor h s → LeafAt μ h s (label.ast_node (ast_call (by_name w)) place) in
+    let parens : is_called_in_parens w ≡ true → P (codes "(?P>" ++ (w ++ codes ")"))
+    = λ e l. in_parens μ h (by_name w) place refl meant (l refl) c u (k.1 e) (named_by w k.0) in
     cond_both (is_relative w) _ _ P (λ e. parens (ap (λ b. b || (is_among (code ">") w && is_among (code "'") w)) e))
     (λ e. cond_both (not (is_among (code ">") w)) _ _ P
-    (λ q. let no_mark : is_among (code ">") w ≡ false = sym (not-not (is_among (code ">") w)) ∙ ap not q in
+    (λ q _. let no_mark : is_among (code ">") w ≡ false = sym (not-not (is_among (code ">") w)) ∙ ap not q in
     in_marks μ h (by_name w) place refl meant w (λ v. marked_read c u v no_mark) (called_by w e k.0))
     (λ q. let mark : is_among (code ">") w ≡ true = sym (not-not (is_among (code ">") w)) ∙ ap not q in
     cond_both (not (is_among (code "'") w)) _ _ P
-    (λ r. let no_quote : is_among (code "'") w ≡ false = sym (not-not (is_among (code "'") w)) ∙ ap not r in
+    (λ r _. let no_quote : is_among (code "'") w ≡ false = sym (not-not (is_among (code "'") w)) ∙ ap not r in
     in_quotes μ h (by_name w) place refl meant c u no_quote (called_by w e k.0))
     (λ r. let quote : is_among (code "'") w ≡ true = sym (not-not (is_among (code "'") w)) ∙ ap not r in
-    parens ((λ i. e i || (mark i && quote i))))))
+    parens ((λ i. e i || (mark i && quote i)))))) l

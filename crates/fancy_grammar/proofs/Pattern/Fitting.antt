@@ -1,0 +1,312 @@
+-- Where a tree fits if its parts do: wherever the flags suit it, or another group may open. Outside Oniguruma mode.
+use Rattle.std.proofs.Common.{◌≡◌, ℕ, zero, suc, ◌+◌, ◌<◌, ◌≤◌, Bool, true, false, not, ◌&&◌, ◌||◌, refl, sym, ap, ◌∙◌}
+use Rattle.std.proofs.Common.{subst, arith, ◌⊎◌, inl, inr, nat_lt, ltb-true}
+use Rattle.std.proofs.Math.Bool.{or-false}
+use Rattle.std.proofs.lemmas.Bool.{false≢true, ltb-false}
+use Rattle.fancy_lex.specs.declared.flags.Flags.{Flags}
+use Rattle.fancy_grammar.specs.Depth.{max_depth}
+use Rattle.fancy_grammar.specs.Join.{is_empty}
+use Rattle.fancy_grammar.specs.Label as label
+use Rattle.fancy_grammar.specs.Label.{Leaf}
+use Rattle.fancy_grammar.specs.Pattern.{Here, under, past_groups, deeper, takes_pieces, takes_branches, is_operand}
+use Rattle.fancy_grammar.specs.Pattern.{is_last_operand, room, behind}
+use Rattle.fancy_grammar.specs.PatternDepth.{MayOpen, MayOpenIf, MaySet, FitsInParens, FitsInParensIf, is_in_parens}
+use Rattle.fancy_grammar.specs.PatternDepth.{FitsAsCondition, Fits, FitAll}
+use Rattle.fancy_grammar.specs.PatternNeeds.{settled}
+use Rattle.fancy_grammar.specs.PatternQuantifier.{is_possessive}
+use Rattle.fancy_grammar.specs.Quantified.{is_repeatable}
+use Rattle.fancy_grammar.specs.Tree.{Tree, leaf, over, row, Trees, no_trees, more_trees}
+use Rattle.fancy_grammar.specs.declared.kinds.LookAround.{LookAround}
+use Rattle.fancy_grammar.specs.declared.precedence.Precedence.{Precedence}
+use Rattle.fancy_grammar.specs.declared.precedence.Precedence.TheVariants.{Whole, Branch, Piece, Operand}
+use Rattle.fancy_grammar.proofs.Pattern.Levels.{atom_fits, parens_fit, scope_fits}
+use Rattle.fancy_grammar.proofs.Pattern.Needed.{like_behind, settled_again, turns_none}
+use Rattle.fancy_grammar.proofs.Pattern.Repeats.{room_none}
+use Rattle.fancy_grammar.proofs.Pattern.Suited.{Suits, SuitAll, suited_settled, settled_suits, suited_behind}
+
+-- ---- where flags suit, or may be set
+
+abbrev pub Ready : Tree → Here → Type 0
+Ready t h = MayOpen h ⊎ Suits h.flags t
+
+abbrev pub AllReady : Trees → Here → Type 0
+AllReady ts h = MayOpen h ⊎ SuitAll h.flags ts
+
+-- no more groups are open, and the tree is ready
+abbrev pub Fit : ℕ → Precedence → Tree → Type 0
+Fit d p t = (h : Here) → h.flags.oniguruma_mode ≡ false → h.depth ≤ d → Ready t h → Fits t p h
+
+abbrev pub EachFit : ℕ → Precedence → Trees → Type 0
+EachFit d p no_trees = Unit {0}
+EachFit d p (more_trees t ts) = Fit d p t × EachFit d p ts
+
+may_stay : (h : Here) → MaySet h.flags h
+may_stay h e = absurd (false≢true (sym (ap (λ b. b || b) (turns_none h.flags)) ∙ e))
+
+pub may_set : (t : Tree) (h : Here) → h.flags.oniguruma_mode ≡ false → Ready t h → MaySet (settled h.flags t) h
+may_set t h o (inl d) = λ _. d
+may_set t h o (inr s) = subst (λ g. MaySet g h) (sym (suited_settled h.flags t o s)) (may_stay h)
+
+pub ready_settled : (t : Tree) (h : Here) → h.flags.oniguruma_mode ≡ false → Ready t h →
+    Ready t (under (settled h.flags t) h)
+ready_settled t h o (inl d) = inl d
+ready_settled t h o (inr s) = inr (subst (λ g. Suits g t) (sym (suited_settled h.flags t o s)) s)
+
+pub behind_mode : (t : Tree) (p : Precedence) (h : Here) → h.flags.oniguruma_mode ≡ false →
+    (behind t p h).flags.oniguruma_mode ≡ false
+behind_mode t p h o = ap (λ k. k.oniguruma_mode) (like_behind t p h.flags h.flags refl) ∙ o
+
+first_ready : (t : Tree) (ts : Trees) (h : Here) → AllReady (more_trees t ts) h → Ready t h
+first_ready t ts h (inl d) = inl d
+first_ready t ts h (inr s) = inr s.0
+
+others_ready : (t : Tree) (ts : Trees) (p : Precedence) (h : Here) → h.flags.oniguruma_mode ≡ false →
+    AllReady (more_trees t ts) h → AllReady ts (behind t p h)
+others_ready t ts p h o (inl d) = inl d
+others_ready t ts p h o (inr s) = inr (subst (λ g. SuitAll g ts) (sym (suited_behind t p h.flags o s.0)) s.1)
+
+pub all_fit : (d : ℕ) (p : Precedence) (ts : Trees) (h : Here) → EachFit d p ts → h.flags.oniguruma_mode ≡ false →
+    h.depth ≤ d → AllReady ts h → FitAll ts p h
+all_fit d p no_trees h k o l r = tt
+all_fit d p (more_trees t ts) h k o l r = (
+  k.0 h o l (first_ready t ts h r),
+  all_fit d p ts (behind t p h) k.1 (behind_mode t p h o) l (others_ready t ts p h o r),
+)
+
+-- ---- a leaf
+
+pub leaf_fit : (l : Leaf) (d : ℕ) (p : Precedence) → is_empty (leaf l) ≡ false →
+    (is_operand p ≡ true → (f : Flags) → f.oniguruma_mode ≡ false → is_repeatable f (leaf l) ≡ true) →
+    (is_in_parens l ≡ true → d + 1 < max_depth) → Fit d p (leaf l)
+leaf_fit label.empty d p e s b h o m r = absurd (false≢true (sym e))
+leaf_fit l d p e s b h o m r =
+    let i = under (settled h.flags (leaf l)) h in (
+      may_set (leaf l) h o r,
+      atom_fits (leaf l) p (MayOpenIf (is_in_parens l)) i (λ x. s x i.flags o) (λ x. omega (arith, b x, m)),
+    )
+
+-- ---- in the place of a group: where a tree fits alone, here and in parentheses, it fits in any
+
+-- the precedences of texts outside Oniguruma mode
+abbrev pub IsUsed : Precedence → Type 0
+IsUsed (Operand (suc k)) = ⊥
+IsUsed _ = Unit {0}
+
+in_room : (t : Tree) (p : Precedence) → IsUsed p → (i : Here) → Fits t (Operand (room Whole i)) i →
+    Fits t (Operand (room p i)) i
+in_room t Whole u i k = k
+in_room t Branch u i k = k
+in_room t Piece u i k = k
+in_room t (Operand zero) u i k = k
+in_room t (Operand (suc n)) u i k = absurd u
+
+-- a Repeat here, and in parentheses, under the flags that are settled for it
+quantified_fits : (t : Tree) (b : Bool) (p : Precedence) → IsUsed p → (i : Here) → MayOpen i →
+    Fits t (Operand (room Whole i)) i → Fits t (Operand (room Whole (deeper i))) (deeper i) →
+    FitsInParensIf b (λ q j. Fits t (Operand (room q j)) j) p i
+quantified_fits t b p u i d x y =
+    parens_fit b (λ q j. Fits t (Operand (room q j)) j) p i d y (in_room t p u i x)
+
+in_no_room : (t : Tree) (i : Here) → i.flags.oniguruma_mode ≡ false → Fits t (Operand zero) i →
+    Fits t (Operand (room Whole i)) i
+in_no_room t i o = subst (λ k. Fits t (Operand k) i) (sym (room_none i o))
+
+not_possessive : (f : Flags) (lo hi : ℕ) → f.oniguruma_mode ≡ false → not (is_possessive f lo hi) ≡ false
+not_possessive f lo hi o = ap (λ b. not (not b || nat_lt lo hi)) o
+
+pub enclosed : (t : Tree) (p : Precedence) → IsUsed p → (h : Here) → h.flags.oniguruma_mode ≡ false → MayOpen h →
+    Fits t Whole h → Fits t Whole (deeper (under (settled h.flags t) h)) → Fits t p h
+enclosed (leaf label.empty) p u h o d x y = λ _. d
+enclosed (leaf l) p u h o d x y =
+    let i = under (settled h.flags (leaf l)) h in
+    (x.0, parens_fit _ (λ q. MayOpenIf (is_in_parens l)) p i d y.1 x.1)
+enclosed (row label.concat ts) p u h o d x y =
+    scope_fits (takes_pieces p) (row label.concat ts) (FitAll ts Piece) h d x y
+enclosed (row label.alt ts) p u h o d x y =
+    scope_fits (takes_branches p) (row label.alt ts) (FitAll ts Branch) h d x y
+enclosed (over (label.look_around l) t) p u h o d x y =
+    let i = under (settled h.flags t) h in
+    let again = subst (λ g. FitsInParens (Fits t Whole) (under g (deeper i))) (settled_again h.flags t) y.1 in
+    (x.0, parens_fit _ (λ q. FitsInParens (Fits t Whole)) p i d again x.1)
+enclosed (over (label.repeat lo hi greedy) t) p u h o d x y =
+    let i = under (settled h.flags t) h in
+    let again = subst (λ g. Fits t (Operand (room Whole (under g (deeper i)))) (under g (deeper i)))
+    (settled_again h.flags t) y.1 in
+    (x.0, quantified_fits t (is_last_operand p) p u i d x.1 again)
+enclosed (over label.atomic_group (over (label.repeat lo hi greedy) t)) p u h o d x y =
+    let i = under (settled h.flags t) h in
+    let inside = λ (q : Precedence) (j : Here). Fits t (Operand (room q j)) j in
+    let bare = λ (j : Here) (e : j.flags.oniguruma_mode ≡ false)
+    (k : FitsInParensIf (not (is_possessive j.flags lo hi)) inside Whole j).
+    subst (λ b. FitsInParensIf b inside Whole j) (not_possessive j.flags lo hi e) k in
+    let again = subst (λ g. Fits t (Operand (room Whole (under g (deeper i)))) (under g (deeper i)))
+    (settled_again h.flags t) (bare (under (settled i.flags t) (deeper i)) o y.1) in
+    (x.0, quantified_fits t _ p u i d (bare i o x.1) again)
+enclosed (row label.expression no_trees) p u h o d x y = x
+enclosed (row label.expression (more_trees a no_trees)) p u h o d x y = x
+enclosed (row label.expression (more_trees a (more_trees e no_trees))) p u h o d x y = x
+enclosed (row label.expression (more_trees a (more_trees e (more_trees t ts)))) p u h o d x y = x
+enclosed (row label.conditional no_trees) p u h o d x y = x
+enclosed (row label.conditional (more_trees c no_trees)) p u h o d x y = x
+enclosed (row label.conditional (more_trees c (more_trees t no_trees))) p u h o d x y = x
+enclosed (row label.conditional (more_trees c (more_trees t (more_trees e no_trees)))) p u h o d x y = x
+enclosed (row label.conditional (more_trees c (more_trees t (more_trees e (more_trees v ts))))) p u h o d x y = x
+enclosed t p u h o d x y = x
+
+-- an atomic group of it
+pub atomic_fits : (t : Tree) (p : Precedence) → IsUsed p → (h : Here) → h.flags.oniguruma_mode ≡ false → MayOpen h →
+    Fits t Whole h → Fits t Whole (deeper (under (settled h.flags t) h)) → Fits (over label.atomic_group t) p h
+atomic_fits (over (label.repeat lo hi greedy) t) p u h o d x y =
+    let i = under (settled h.flags t) h in
+    let again = subst (λ g. Fits t (Operand (room Whole (under g (deeper i)))) (under g (deeper i)))
+    (settled_again h.flags t) y.1 in
+    (x.0, quantified_fits t _ p u i d x.1 again)
+atomic_fits t p u h o d x y = (λ _. d, (d, y))
+
+-- ---- quantifiers
+
+-- the precedences of what no quantifier follows
+abbrev pub IsLow : Precedence → Type 0
+IsLow (Operand k) = ⊥
+IsLow _ = Unit {0}
+
+no_operand : (p : Precedence) → IsLow p → is_operand p ≡ true → ⊥
+no_operand Whole u e = false≢true e
+no_operand Branch u e = false≢true e
+no_operand Piece u e = false≢true e
+no_operand (Operand k) u e = u
+
+unquantified : (t : Tree) (p : Precedence) → IsLow p → (i : Here) → i.flags.oniguruma_mode ≡ false →
+    Fits t (Operand zero) i → (b : Bool) → b ≡ is_last_operand p →
+    FitsInParensIf b (λ q j. Fits t (Operand (room q j)) j) p i
+unquantified t Whole u i o x b e =
+    subst (λ c. FitsInParensIf c (λ q j. Fits t (Operand (room q j)) j) Whole i) (sym e) (in_no_room t i o x)
+unquantified t Branch u i o x b e =
+    subst (λ c. FitsInParensIf c (λ q j. Fits t (Operand (room q j)) j) Branch i) (sym e) (in_no_room t i o x)
+unquantified t Piece u i o x b e =
+    subst (λ c. FitsInParensIf c (λ q j. Fits t (Operand (room q j)) j) Piece i) (sym e) (in_no_room t i o x)
+unquantified t (Operand k) u i o x b e = absurd u
+
+pub repeat_fit : (t : Tree) (lo hi : ℕ) (greedy : Bool) (d : ℕ) (p : Precedence) → IsLow p →
+    Fit d (Operand zero) t → Fit d p (over (label.repeat lo hi greedy) t)
+repeat_fit t lo hi greedy d p u k h o m r =
+    let i = under (settled h.flags t) h in
+    (may_set t h o r, unquantified t p u i o (k i o m (ready_settled t h o r)) (is_last_operand p) refl)
+
+pub possessive_fit : (t : Tree) (lo hi : ℕ) (greedy : Bool) (d : ℕ) (p : Precedence) → IsLow p →
+    Fit d (Operand zero) t → Fit d p (over label.atomic_group (over (label.repeat lo hi greedy) t))
+possessive_fit t lo hi greedy d p u k h o m r =
+    let i = under (settled h.flags t) h in (
+      may_set t h o r,
+      unquantified t p u i o (k i o m (ready_settled t h o r)) _
+          (ap (λ b. is_last_operand p || b) (not_possessive i.flags lo hi o) ∙ or-false (is_last_operand p)),
+    )
+
+-- ---- the inside of a group, before which d are open at most, where some flags suit it if no more may open in it
+
+module _ (d : ℕ) (b : d + 1 < max_depth) (f : Flags) where
+  abbrev pub SuitsLast : Tree → Type 0
+  SuitsLast t = max_depth ≤ d + 1 + 1 → Suits f t
+
+  pub inner_ready : (t : Tree) → SuitsLast t → (h : Here) → h.flags.oniguruma_mode ≡ false → h.depth ≤ d →
+      Ready t (deeper (under (settled h.flags t) h))
+  inner_ready t s h o l = by_test (nat_lt (h.depth + 1 + 1) max_depth) refl
+    where
+      by_test : (c : Bool) → nat_lt (h.depth + 1 + 1) max_depth ≡ c → Ready t (deeper (under (settled h.flags t) h))
+      by_test true e = inl (ltb-true _ _ e)
+      by_test false e = inr (settled_suits f h.flags t o (s (omega (arith, l, ltb-false _ _ e))))
+
+  module _ (t : Tree) (k : Fit (d + 1) Whole t) (s : SuitsLast t) where
+    inner : (h : Here) → h.flags.oniguruma_mode ≡ false → h.depth ≤ d →
+        Fits t Whole (deeper (under (settled h.flags t) h))
+    inner h o l = k (deeper (under (settled h.flags t) h)) o (omega (arith, l)) (inner_ready t s h o l)
+
+    outer : (h : Here) → h.flags.oniguruma_mode ≡ false → h.depth ≤ d → Fits t Whole h
+    outer h o l = k h o (omega (arith, l)) (inl (omega (arith, l, b)))
+
+    -- in a group that is not written, or only where it must be
+    pub enclosed_fit : (p : Precedence) → IsUsed p → Fit d p t
+    enclosed_fit p u h o l r = enclosed t p u h o (omega (arith, l, b)) (outer h o l) (inner h o l)
+
+    pub group_fit : (p : Precedence) → Fit d p (over label.group t)
+    group_fit p h o l r = (
+      λ _. omega (arith, l, b),
+      (
+        omega (arith, l, b),
+        k (deeper (past_groups 1 (under (settled h.flags t) h))) o (omega (arith, l)) (inner_ready t s h o l),
+      ),
+    )
+
+    pub look_fit : (a : LookAround) (p : Precedence) → IsLow p → Fit d p (over (label.look_around a) t)
+    look_fit a p u h o l r = (
+      λ _. omega (arith, l, b),
+      atom_fits (over (label.look_around a) t) p (FitsInParens (Fits t Whole)) (under (settled h.flags t) h)
+          (λ x. absurd (no_operand p u x)) (omega (arith, l, b), inner h o l),
+    )
+
+    pub atomic_fit : (p : Precedence) → IsUsed p → Fit d p (over label.atomic_group t)
+    atomic_fit p u h o l r = atomic_fits t p u h o (omega (arith, l, b)) (outer h o l) (inner h o l)
+
+    pub define_fit : (p : Precedence) → Fit d p (over label.define_group t)
+    define_fit p h o l r = (λ _. omega (arith, l, b), (omega (arith, l, b), inner h o l))
+
+    pub repeater_fit : (p : Precedence) → Fit d p (over label.repeater t)
+    repeater_fit p h o l r = (λ _. omega (arith, l, b), (omega (arith, l, b), inner h o l))
+
+  pub stopper_fit : (t : Tree) → Fit (d + 1) Branch t → SuitsLast t →
+      (is_empty t ≡ true → d + 1 + 1 < max_depth) → (p : Precedence) → Fit d p (over label.stopper t)
+  stopper_fit t k s e p h o l r = (
+    λ _. omega (arith, l, b),
+    (
+      omega (arith, l, b),
+      (
+        λ x. omega (arith, l, e x),
+        k (deeper (under (settled h.flags t) h)) o (omega (arith, l)) (inner_ready t s h o l),
+      ),
+    ),
+  )
+
+  pub expression_fit : (a e : Tree) → Fit (d + 1) Branch a → Fit (d + 1) Branch e →
+      SuitsLast (row label.expression (more_trees a (more_trees e no_trees))) → (p : Precedence) →
+      Fit d p (row label.expression (more_trees a (more_trees e no_trees)))
+  expression_fit a e k j s p h o l r =
+      let x = row label.expression (more_trees a (more_trees e no_trees)) in
+      let i = deeper (under (settled h.flags x) h) in
+      let y = all_fit (d + 1) Branch (more_trees a (more_trees e no_trees)) i (k, (j, tt)) o (omega (arith, l))
+      (inner_ready x s h o l) in
+      (λ _. omega (arith, l, b), (omega (arith, l, b), (y.0, y.1.0)))
+
+  -- the condition is a target or a verb, or fits as an alternation
+  abbrev pub FitsOrTarget : Tree → Type 0
+  FitsOrTarget c = FitsAsCondition c (Fit (d + 1) Whole c)
+
+  condition_fits : (c : Tree) → FitsOrTarget c → (i : Here) → i.flags.oniguruma_mode ≡ false → i.depth ≤ d + 1 →
+      Ready c i → FitsAsCondition c (Fits c Whole i)
+  condition_fits (leaf (label.backref_exists n level)) k i o l r = tt
+  condition_fits (leaf (label.verb v)) k i o l r = tt
+  condition_fits c k i o l r = k i o l r
+
+  pub conditional_fit : (c t e : Tree) → FitsOrTarget c → Fit (d + 1) Branch t → Fit (d + 1) Whole e →
+      (is_empty t && is_empty e ≡ true → d + 1 + 1 < max_depth) →
+      SuitsLast (row label.conditional (more_trees c (more_trees t (more_trees e no_trees)))) → (p : Precedence) →
+      Fit d p (row label.conditional (more_trees c (more_trees t (more_trees e no_trees))))
+  conditional_fit c t e k0 k1 k2 z s p h o l r =
+      let x = row label.conditional (more_trees c (more_trees t (more_trees e no_trees))) in
+      let i = deeper (under (settled h.flags x) h) in
+      let r0 = inner_ready x s h o l in
+      let j = behind c Whole i in
+      let o1 = behind_mode c Whole i o in
+      let r1 = others_ready c (more_trees t (more_trees e no_trees)) Whole i o r0 in
+      let r2 = others_ready t (more_trees e no_trees) Branch j o1 r1 in (
+        λ _. omega (arith, l, b),
+        (
+          omega (arith, l, b),
+          (
+            condition_fits c k0 i o (omega (arith, l)) (first_ready c (more_trees t (more_trees e no_trees)) i r0),
+            λ y. omega (arith, l, z y),
+            k1 j o1 (omega (arith, l)) (first_ready t (more_trees e no_trees) j r1),
+            k2 (behind t Branch j) (behind_mode t Branch j o1) (omega (arith, l))
+                (first_ready e no_trees (behind t Branch j) r2),
+          ),
+        ),
+      )

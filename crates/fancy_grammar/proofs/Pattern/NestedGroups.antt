@@ -1,0 +1,215 @@
+-- What a group comes to nests in its text no deeper than in the pattern, if its inside does.
+use Rattle.std.proofs.Common.{◌≡◌, ℕ, ◌+◌, ◌<◌, Bool, true, false, ◌&&◌, List, Option}
+use Rattle.std.proofs.Common.{refl, sym, ap, ◌∙◌, subst, arith}
+use Rattle.std.proofs.lemmas.Bool.{cond_both, false≢true, and_parts}
+use Rattle.std.specs.List.{AllByRecursion}
+use Rattle.std.specs.Prelude.{ℤ}
+use Rattle.fancy_lex.specs.Target.{Target}
+use Rattle.fancy_lex.specs.Text.{Text, place_at}
+use Rattle.fancy_lex.specs.declared.flags.Flags.{Flags}
+use Rattle.fancy_parts.specs.Meaning.{Meaning, number, means}
+use Rattle.fancy_parts.specs.Ranks.{is_counted}
+use Rattle.fancy_grammar.specs.Depth.{max_depth}
+use Rattle.fancy_grammar.specs.Grammar.{branches_of, conditional_of, clear_or_stopper}
+use Rattle.fancy_grammar.specs.Head.{Head, capture, scope, look, atomic, define, repeater, group_node}
+use Rattle.fancy_grammar.specs.Items.{role_of, target_of}
+use Rattle.fancy_grammar.specs.Join.{is_empty, choice}
+use Rattle.fancy_grammar.specs.Label as label
+use Rattle.fancy_grammar.specs.Label.{ast_condition}
+use Rattle.fancy_grammar.specs.Resolved.{resolved_all, reference_node}
+use Rattle.fancy_grammar.specs.State.{State}
+use Rattle.fancy_grammar.specs.Tree.{Tree, leaf, over, row, Trees, no_trees, more_trees, list_of}
+use Rattle.fancy_grammar.specs.declared.precedence.Precedence.{Precedence}
+use Rattle.fancy_grammar.specs.declared.precedence.Precedence.TheVariants.{Whole, Branch}
+use Rattle.fancy_grammar.proofs.NeedsLemmas.{listed}
+use Rattle.fancy_grammar.proofs.Pattern.Ahead.{IsLast, IsTarget}
+use Rattle.fancy_grammar.proofs.Pattern.Fitting.{Fit, SuitsLast, enclosed_fit, group_fit, look_fit, atomic_fit}
+use Rattle.fancy_grammar.proofs.Pattern.Fitting.{define_fit, repeater_fit, stopper_fit, expression_fit, FitsOrTarget}
+use Rattle.fancy_grammar.proofs.Pattern.Fitting.{conditional_fit, leaf_fit}
+use Rattle.fancy_grammar.proofs.Pattern.Levels.{as_condition}
+use Rattle.fancy_grammar.proofs.Pattern.Nested.{StandsAs, used, never_operand, Fitted, EachFitted, BranchesFitted, Part}
+use Rattle.fancy_grammar.proofs.Pattern.Nested.{Grouped, fewer, R as resolved_at, counted_in, open_leaf, empty_fitted}
+use Rattle.fancy_grammar.proofs.Pattern.Nested.{choice_fitted}
+use Rattle.fancy_grammar.proofs.Pattern.Suited.{none_met, Suits, SuitAll}
+
+module _ (z : ℕ) (named : Bool) (numbers_of : Text → List ℕ) where
+  abbrev R : ℕ → Tree → Tree
+  R = resolved_at z named numbers_of
+
+  -- ---- at a lesser depth
+
+  less : (k d : ℕ) (r : Tree) → d + 1 < max_depth → Fitted R k (d + 1) r → Fitted R k d r
+  less k d r b h = record {
+    fits = λ c p u i o l q. h.fits c p u i o (omega (arith, l)) q;
+    hollow = λ c e n. b;
+  }
+
+  less_each : (k d : ℕ) (ts : Trees) → d + 1 < max_depth → EachFitted R k (d + 1) ts → EachFitted R k d ts
+  less_each k d no_trees b h = tt
+  less_each k d (more_trees t ts) b h = (less k d t b h.0, less_each k d ts b h.1)
+
+  less_branches : (d : ℕ) (r : Tree) → d + 1 < max_depth → BranchesFitted R (d + 1) r → BranchesFitted R d r
+  less_branches d (row label.alt (more_trees t ts)) b h = less_each 1 d (more_trees t ts) b h
+  less_branches d (row label.alt no_trees) b h = less 1 d _ b h
+  less_branches d r b h = less 1 d r b h
+
+  -- ---- the inside of a group, which is read from s
+
+  module _ (d : ℕ) (b : d + 1 < max_depth) (s : State) (o : s.flags.oniguruma_mode ≡ false) (r : Tree) (t : State)
+      (h : Part R 0 (d + 1) s r t) where
+    abbrev f : Flags
+    f = s.flags
+
+    suits_last : (c : ℕ) → SuitsLast d b f (R c r)
+    suits_last c x = h.suits x c
+
+    alone : (c : ℕ) (p : Precedence) → StandsAs 3 r p → Fit d p (R c r)
+    alone c p u = enclosed_fit d b f (R c r) (h.fitted.fits c Whole tt) (suits_last c) p (used 3 r p u)
+
+    grouped : (x : Tree) → ((c : ℕ) (p : Precedence) → StandsAs 3 x p → Fit d p (R c x)) →
+        (Fitted R 1 d x → BranchesFitted R d x) → Grouped R d x
+    grouped x k j =
+        let all : Fitted R 3 d x = record { fits = k; hollow = λ c e n. b } in
+        record { opens = b; fitted = all; branches = j (fewer R 1 3 d x (omega arith) all) }
+
+    pub group_grouped : (g : Head) (place : ℕ) → Grouped R d (group_node g place r)
+    group_grouped (capture name) place =
+        grouped (over (label.ast_group name place) r)
+        (λ c p u. cond_both (is_counted named name) _ _ (Fit d p)
+        (λ _. group_fit d b f (R (c + 1) r) (h.fitted.fits (c + 1) Whole tt) (suits_last (c + 1)) p)
+        (λ _. enclosed_fit d b f (R c r) (h.fitted.fits c Whole tt) (suits_last c) p
+        (used 3 (over (label.ast_group name place) r) p u))) (λ k. k)
+    group_grouped scope place = grouped r alone (λ _. less_branches d r b h.branches)
+    group_grouped (look a) place =
+        grouped (over (label.look_around a) r)
+        (λ c p u. look_fit d b f (R c r) (h.fitted.fits c Whole tt) (suits_last c) a p
+        (never_operand 3 (over (label.look_around a) r) p f o refl u)) (λ k. k)
+    group_grouped atomic place =
+        grouped (over label.atomic_group r)
+        (λ c p u. atomic_fit d b f (R c r) (h.fitted.fits c Whole tt) (suits_last c) p
+        (used 3 (over label.atomic_group r) p u)) (λ k. k)
+    group_grouped define place =
+        grouped (over label.define_group r)
+        (λ c p u. define_fit d b f (R c r) (h.fitted.fits c Whole tt) (suits_last c) p) (λ k. k)
+    group_grouped repeater place =
+        grouped (over label.repeater r)
+        (λ c p u. repeater_fit d b f (R c r) (h.fitted.fits c Whole tt) (suits_last c) p) (λ k. k)
+
+    -- a condition that is an alternation
+    pub condition_fitted : (c : ℕ) → FitsOrTarget d b f (R c r)
+    condition_fitted c = as_condition (R c r) (Fit (d + 1) Whole (R c r)) (h.fitted.fits c Whole tt)
+
+    pub condition_alone : Grouped R d r
+    condition_alone = grouped r alone (λ _. less_branches d r b h.branches)
+
+  -- ---- absent expressions
+
+  module _ (d : ℕ) (b : d + 1 < max_depth) (f : Flags) where
+    grouped_as : (x : Tree) → ((c : ℕ) (p : Precedence) → Fit d p (R c x)) → (Fitted R 1 d x → BranchesFitted R d x) →
+        Grouped R d x
+    grouped_as x k j =
+        let all : Fitted R 3 d x = record { fits = λ c p u. k c p; hollow = λ c e n. b } in
+        record { opens = b; fitted = all; branches = j (fewer R 1 3 d x (omega arith) all) }
+
+    pub expression_grouped : (a e : Tree) → Fitted R 1 (d + 1) a → Fitted R 1 (d + 1) e →
+        (IsLast (d + 1) → (c : ℕ) → Suits f (R c a)) → (IsLast (d + 1) → (c : ℕ) → Suits f (R c e)) →
+        Grouped R d (row label.expression (more_trees a (more_trees e no_trees)))
+    expression_grouped a e h k s q =
+        grouped_as (row label.expression (more_trees a (more_trees e no_trees)))
+        (λ c p. let n = c + counted_in z named numbers_of a in
+        expression_fit d b f (R c a) (R n e) (h.fits c Branch (omega arith)) (k.fits n Branch (omega arith))
+        (λ x. (s x c, (q x n, tt))) p) (λ k. k)
+
+    pub stopper_grouped : (a : Tree) → Fitted R 1 (d + 1) a → (IsLast (d + 1) → (c : ℕ) → Suits f (R c a)) →
+        Grouped R d (clear_or_stopper a)
+    stopper_grouped a h s =
+        cond_both (is_empty a) _ _ (Grouped R d) (λ _. open_leaf z named numbers_of d label.clear b)
+        (λ e. grouped_as (over label.stopper a)
+        (λ c p. stopper_fit d b f (R c a) (h.fits c Branch (omega arith)) (λ x. s x c) (λ x. h.hollow c x e) p)
+        (λ k. k))
+
+    -- ---- conditionals
+
+    each_listed : (ts : Trees) → EachFitted R 1 (d + 1) ts → AllByRecursion (Fitted R 1 (d + 1)) (list_of ts)
+    each_listed no_trees h = tt
+    each_listed (more_trees t ts) h = (h.0, each_listed ts h.1)
+
+    -- of the body of a conditional
+    branches_are : (r : Tree) → BranchesFitted R (d + 1) r →
+        Fitted R 1 (d + 1) (branches_of r).0 × Fitted R 0 (d + 1) (branches_of r).1
+    branches_are (row label.alt (more_trees t ts)) h =
+        (h.0, choice_fitted z named numbers_of (d + 1) (list_of ts) (each_listed ts h.1))
+    branches_are (row label.alt no_trees) h = (h, empty_fitted z named numbers_of 0 (d + 1))
+    branches_are r h = (h, empty_fitted z named numbers_of 0 (d + 1))
+
+    others_suit : (ts : Trees) (c : ℕ) → SuitAll f (resolved_all z named numbers_of c ts) →
+        Suits f (R c (choice (list_of ts)))
+    others_suit no_trees c h = none_met f
+    others_suit (more_trees t no_trees) c h = h.0
+    others_suit (more_trees t (more_trees u us)) c h =
+        subst (λ ts. SuitAll f (resolved_all z named numbers_of c ts)) (sym (listed (more_trees t (more_trees u us)))) h
+
+    branches_suit : (r : Tree) (c : ℕ) → Suits f (R c r) →
+        Suits f (R c (branches_of r).0)
+        × Suits f (R (c + counted_in z named numbers_of (branches_of r).0) (branches_of r).1)
+    branches_suit (row label.alt (more_trees t ts)) c h = (h.0, others_suit ts _ h.1)
+    branches_suit (row label.alt no_trees) c h = (h, none_met f)
+    branches_suit r c h = (h, none_met f)
+
+    -- where a branch is not Empty, neither is it resolved to one, or a group may open in the conditional
+    not_hollow : (t e : Tree) (c n : ℕ) → Fitted R 1 (d + 1) t → Fitted R 0 (d + 1) e →
+        (is_empty t && is_empty e) ≡ false → (is_empty (R c t) && is_empty (R n e)) ≡ true → d + 1 + 1 < max_depth
+    not_hollow t e c n h k x y = by_test (is_empty t) refl
+      where
+        by_test : (a : Bool) → is_empty t ≡ a → d + 1 + 1 < max_depth
+        by_test false i = h.hollow c (and_parts _ _ y).0 i
+        by_test true i = k.hollow n (and_parts _ _ y).1 (sym (ap (λ a. a && is_empty e) i) ∙ x)
+
+    pub conditional_grouped : (c r : Tree) → Grouped R d c → ((n : ℕ) → FitsOrTarget d b f (R n c)) →
+        (IsLast (d + 1) → (n : ℕ) → Suits f (R n c)) → BranchesFitted R (d + 1) r →
+        (IsLast (d + 1) → (n : ℕ) → Suits f (R n r)) →
+        Grouped R d (conditional_of c (branches_of r).0 (branches_of r).1)
+    conditional_grouped c r single k s h q =
+        let t = (branches_of r).0 in
+        let e = (branches_of r).1 in
+        let both = branches_are r h in
+        cond_both (is_empty t && is_empty e) _ _ (Grouped R d) (λ _. single)
+        (λ x. grouped_as (row label.conditional (more_trees c (more_trees t (more_trees e no_trees))))
+        (λ n p. let i = n + counted_in z named numbers_of c in
+        let j = i + counted_in z named numbers_of t in
+        conditional_fit d b f (R n c) (R i t) (R j e) (k n) (both.0.fits i Branch (omega arith))
+        (both.1.fits j Whole tt)
+        (not_hollow t e i j both.0 both.1 x)
+        (λ y. let w = branches_suit r i (q y i) in (s y n, (w.0, (w.1, tt)))) p) (λ k. k))
+
+    -- a condition that is a target or a verb
+    pub target_grouped : (c : Tree) → IsTarget c → Grouped R d c
+    target_grouped (leaf l) h = open_leaf z named numbers_of d l b
+    target_grouped (over w c) h = absurd h
+    target_grouped (row w cs) h = absurd h
+
+    told_target : (m : Meaning) (t : Target) (level : Option ℤ) (place : ℕ) →
+        FitsOrTarget d b f (reference_node z m (ast_condition t level) place)
+    told_target (number k) t level place = tt
+    told_target m t level place =
+        leaf_fit (label.ast_node (ast_condition t level) (place_at z place)) (d + 1) Whole refl (λ _ g o. refl)
+        (λ e. absurd (false≢true e))
+
+    target_needs : (m : Meaning) (t : Target) (level : Option ℤ) (place : ℕ) →
+        Suits f (reference_node z m (ast_condition t level) place)
+    target_needs (number k) t level place = none_met f
+    target_needs m t level place = none_met f
+
+    pub target_fitted : (c : Tree) → IsTarget c → (n : ℕ) → FitsOrTarget d b f (R n c)
+    target_fitted (leaf (label.verb v)) h n = tt
+    target_fitted (leaf (label.ast_node (ast_condition t level) place)) h n =
+        told_target (means numbers_of n (role_of (ast_condition t level)) (target_of (ast_condition t level))) t
+        level place
+    target_fitted _ h n = absurd h
+
+    pub target_suits : (c : Tree) → IsTarget c → (n : ℕ) → Suits f (R n c)
+    target_suits (leaf (label.verb v)) h n = none_met f
+    target_suits (leaf (label.ast_node (ast_condition t level) place)) h n =
+        target_needs (means numbers_of n (role_of (ast_condition t level)) (target_of (ast_condition t level))) t
+        level place
+    target_suits _ h n = absurd h

@@ -1,0 +1,258 @@
+-- What is read nests in its text no deeper than in the pattern, so that the text of every tree that is answered fits.
+-- By one induction on the derivation. Outside Oniguruma mode.
+use Rattle.std.proofs.Common.{◌≡◌, ℕ, ◌+◌, ◌<◌, Bool, false, not, ◌&&◌, ◌==◌, List, [], ◌∷◌, refl, sym}
+use Rattle.std.proofs.Common.{◌∙◌, subst, arith, inl}
+use Rattle.std.proofs.lemmas.Bool.{cond_both}
+use Rattle.std.specs.List.{AllByRecursion}
+use Prim.Native.Char.{code}
+use Rattle.fancy_lex.specs.Text.{Text, bytes, reach_of}
+use Rattle.fancy_lex.specs.declared.flags.Flags.{Flags}
+use Rattle.fancy_parts.specs.Ranks.{only_named}
+use Rattle.fancy_grammar.specs.Ahead.{Ahead, nothing, read, with_head, condition, body, absent_branch}
+use Rattle.fancy_grammar.specs.Answer.{IsTreeOf}
+use Rattle.fancy_grammar.specs.Depth.{max_depth}
+use Rattle.fancy_grammar.specs.Grammar.{Alternation, alternation, Branches, last, more, branch_fault, Branch, branch}
+use Rattle.fancy_grammar.specs.Grammar.{Pieces, stop, next, piece_fault, Piece, piece, layout_fault, Atom, atom, AtomOf}
+use Rattle.fancy_grammar.specs.Grammar.{a_nothing, a_read, a_group, a_condition, condition_fault, a_body, two_branches}
+use Rattle.fancy_grammar.specs.Grammar.{one_branch, absent_fault, Inside, inside, Body, the_body, Whole, whole, start}
+use Rattle.fancy_grammar.specs.Grammar.{closed, closed_at, ended, ended_at, branches_of, conditional_of, behind_atom}
+use Rattle.fancy_grammar.specs.Grammar.{restored}
+use Rattle.fancy_grammar.specs.Grammar.{is_condition, clear_or_stopper}
+use Rattle.fancy_grammar.specs.Items.{openings, numbers_in}
+use Rattle.fancy_grammar.specs.Join.{join, choice}
+use Rattle.fancy_grammar.specs.Marks.{Marks}
+use Rattle.fancy_grammar.specs.PatternDepth.{Fits}
+use Rattle.fancy_grammar.specs.PatternNeeds.{agreed}
+use Rattle.fancy_grammar.specs.Resolved.{resolved}
+use Rattle.fancy_grammar.specs.State.{State, at, Outcome, done, fault}
+use Rattle.fancy_grammar.specs.Tree.{Tree, expression}
+use Rattle.fancy_grammar.specs.declared.precedence.Precedence.TheVariants.{Whole as AsWhole}
+use Rattle.fancy_grammar.proofs.AheadLaws.{OpensBelow, ahead_below}
+use Rattle.fancy_grammar.proofs.OutcomeLemmas.{Holds, then_holds}
+use Rattle.fancy_grammar.proofs.Pattern.Ahead.{IsLast, AheadTells, ahead_tells, LeafRead}
+use Rattle.fancy_grammar.proofs.Pattern.Fitting.{FitsOrTarget}
+use Rattle.fancy_grammar.proofs.Pattern.Nested.{Part, Parts, Grouped, R as resolved_at}
+use Rattle.fancy_grammar.proofs.Pattern.Nested.{leaf_part, empty_part, quants_part, join_fitted, choice_is_fitted}
+use Rattle.fancy_grammar.proofs.Pattern.Nested.{join_suits, choice_suits}
+use Rattle.fancy_grammar.proofs.Pattern.NestedGroups.{group_grouped, condition_fitted, condition_alone}
+use Rattle.fancy_grammar.proofs.Pattern.NestedGroups.{expression_grouped, stopper_grouped, conditional_grouped}
+use Rattle.fancy_grammar.proofs.Pattern.NestedGroups.{target_grouped, target_fitted, target_suits}
+use Rattle.fancy_grammar.proofs.Pattern.Suited.{Suits}
+
+closed_holds : (P : Tree → State → Type 0) (r : Tree) (s : State) → ((u : Text) → P r (at s u)) → Holds P (closed r s)
+closed_holds P r s h = by_text s.rest
+  where
+    by_text : (t : Text) → Holds P (closed_at r s t)
+    by_text [] = tt
+    by_text (c ∷ t) = cond_both (c == code ")") _ _ (Holds P) (λ _. h t) (λ _. tt)
+
+ended_holds : (P : Tree → State → Type 0) (r : Tree) (s : State) → P r s → Holds P (ended r s)
+ended_holds P r s h = by_text s.rest
+  where
+    by_text : (t : Text) → Holds P (ended_at r s t)
+    by_text [] = h
+    by_text (c ∷ t) = tt
+
+each_flags : (R : ℕ → Tree → Tree) (f g : Flags) (l : List Tree) → f ≡ g →
+    AllByRecursion (λ r. (c : ℕ) → Suits f (R c r)) l → AllByRecursion (λ r. (c : ℕ) → Suits g (R c r)) l
+each_flags R f g l e h = subst (λ k. AllByRecursion (λ r. (c : ℕ) → Suits k (R c r)) l) e h
+
+module _ (z : ℕ) (named : Bool) (numbers_of : Text → List ℕ) where
+  abbrev R : ℕ → Tree → Tree
+  R = resolved_at z named numbers_of
+
+  -- an atom by what stands ahead: behind a group the flags from before it hold again
+  abbrev AtomHolds : Ahead → ℕ → State → Outcome Tree → Type 0
+  AtomHolds nothing d s q = Holds (Part R 3 d s) q
+  AtomHolds (read o) d s q = Holds (Part R 3 d s) q
+  AtomHolds _ d s q = Holds (λ r t. Grouped R d r) q
+
+  restored_part : (d : ℕ) (s : State) → s.flags.oniguruma_mode ≡ false → (r : Tree) (t : State) → Grouped R d r →
+      Part R 3 d s r (record t { flags = s.flags })
+  restored_part d s o r t h = record {
+    fitted = h.fitted;
+    branches = h.branches;
+    suits = λ x. absurd (omega (arith, x, h.opens));
+    stays = λ x. refl;
+    mode = o;
+  }
+
+  group_part : (d : ℕ) (s : State) → s.flags.oniguruma_mode ≡ false → (q : Outcome Tree) →
+      Holds (λ r t. Grouped R d r) q → Holds (Part R 3 d s) (restored s.flags q)
+  group_part d s o (done r t) h = restored_part d s o r t h
+  group_part d s o (fault k p) h = tt
+
+  behind_part : (e : Ahead) (d : ℕ) (s : State) → s.flags.oniguruma_mode ≡ false → (q : Outcome Tree) →
+      AtomHolds e d s q → Holds (Part R 3 d s) (behind_atom e s.flags q)
+  behind_part nothing d s o q h = h
+  behind_part (read p) d s o q h = h
+  behind_part (with_head a t) d s o q h = group_part d s o q h
+  behind_part (condition t) d s o q h = group_part d s o q h
+  behind_part (body c t) d s o q h = group_part d s o q h
+  behind_part (absent_branch t) d s o q h = group_part d s o q h
+
+  leaf_holds : (d : ℕ) (s : State) (q : Outcome Tree) → Holds (LeafRead d s) q → Holds (Part R 3 d s) q
+  leaf_holds d s (done r t) h = leaf_part z named numbers_of d s r t h
+  leaf_holds d s (fault k p) h = tt
+
+  joined : (d : ℕ) (s : State) (l : List Tree) (t : State) → Parts R 2 d s l t → Part R 1 d s (join l) t
+  joined d s l t h =
+      let both = join_fitted z named numbers_of d l h.each in record {
+        fitted = both.0;
+        branches = both.1;
+        suits = λ x. join_suits z named numbers_of s.flags l (h.suits x);
+        stays = h.stays;
+        mode = h.mode;
+      }
+
+  chosen : (d : ℕ) (s : State) (l : List Tree) (t : State) → Parts R 1 d s l t → Part R 0 d s (choice l) t
+  chosen d s l t h =
+      let both = choice_is_fitted z named numbers_of d l h.each in record {
+        fitted = both.0;
+        branches = both.1;
+        suits = λ x. choice_suits z named numbers_of s.flags l (h.suits x);
+        stays = h.stays;
+        mode = h.mode;
+      }
+
+  one_part : (k d : ℕ) (s : State) (r : Tree) (t : State) → Part R k d s r t → Parts R k d s (r ∷ []) t
+  one_part k d s r t h = record {
+    each = ((h.fitted, h.branches), tt);
+    suits = λ x. (h.suits x, tt);
+    stays = h.stays;
+    mode = h.mode;
+  }
+
+  -- one part, and the others behind it, which begin at u
+  more_parts : (k d : ℕ) (s : State) (r : Tree) (t u : State) (l : List Tree) (v : State) → u.flags ≡ t.flags →
+      Part R k d s r t → Parts R k d u l v → Parts R k d s (r ∷ l) v
+  more_parts k d s r t u l v e h i = record {
+    each = ((h.fitted, h.branches), i.each);
+    suits = λ x. (h.suits x, each_flags R u.flags s.flags l (e ∙ h.stays x) (i.suits x));
+    stays = λ x. i.stays x ∙ e ∙ h.stays x;
+    mode = i.mode;
+  }
+
+  -- a part that stands where it was read, and closed
+  closed_part : (k d : ℕ) (s : State) (r : Tree) (t : State) → Part R k d s r t →
+      Holds (Part R k d s) (closed r t)
+  closed_part k d s r t h =
+      closed_holds (Part R k d s) r t (λ u. record {
+        fitted = h.fitted;
+        branches = h.branches;
+        suits = h.suits;
+        stays = h.stays;
+        mode = h.mode;
+      })
+
+  -- ---- the grammar
+
+  mutual
+    pub alternation_fits : {d : ℕ} {s : State} {q : Outcome Tree} → Alternation d s q →
+        s.flags.oniguruma_mode ≡ false → Holds (Part R 0 d s) q
+    alternation_fits (alternation {d} {s} {q} b) o =
+        then_holds (Parts R 1 d s) (Part R 0 d s) q _ (branches_fit b o) (chosen d s)
+
+    branches_fit : {d : ℕ} {s : State} {q : Outcome (List Tree)} → Branches d s q → s.flags.oniguruma_mode ≡ false →
+        Holds (Parts R 1 d s) q
+    branches_fit (last {d} {s} {t} {r} b e) o = one_part 1 d s r t (branch_fits b o)
+    branches_fit (more {d} {s} {t} {u} {r} {q} b e m) o =
+        let h = branch_fits b o in
+        then_holds (Parts R 1 d (at t u)) (Parts R 1 d s) q _ (branches_fit m h.mode)
+        (λ l v i. more_parts 1 d s r t (at t u) l v refl h i)
+    branches_fit (branch_fault b) o = branch_fits b o
+
+    branch_fits : {d : ℕ} {s : State} {q : Outcome Tree} → Branch d s q → s.flags.oniguruma_mode ≡ false →
+        Holds (Part R 1 d s) q
+    branch_fits (branch {d} {s} {q} b) o =
+        then_holds (Parts R 2 d s) (Part R 1 d s) q _ (pieces_fit b o) (joined d s)
+
+    pieces_fit : {d : ℕ} {s : State} {q : Outcome (List Tree)} → Pieces d s q → s.flags.oniguruma_mode ≡ false →
+        Holds (Parts R 2 d s) q
+    pieces_fit (stop e) o = record { each = tt; suits = λ x. tt; stays = λ x. refl; mode = o }
+    pieces_fit (next {d} {t} {r} {q} {s} e a m) o =
+        let h = piece_fits a o in
+        then_holds (Parts R 2 d t) (Parts R 2 d s) q _ (pieces_fit m h.mode)
+        (λ l v i. more_parts 2 d s r t t l v refl h i)
+    pieces_fit (piece_fault e a) o = piece_fits a o
+
+    piece_fits : {d : ℕ} {s : State} {q : Outcome Tree} → Piece d s q → s.flags.oniguruma_mode ≡ false →
+        Holds (Part R 2 d s) q
+    piece_fits (piece {d} {s} {u} {q} l x) o =
+        then_holds (Part R 3 d (at s u)) (Part R 2 d s) q _ (atom_fits x o)
+        (λ a t h. quants_part z named numbers_of d (bytes s.rest) s a t (record {
+          fitted = h.fitted;
+          branches = h.branches;
+          suits = h.suits;
+          stays = h.stays;
+          mode = h.mode;
+        }))
+    piece_fits (layout_fault l) o = tt
+
+    atom_fits : {d : ℕ} {s : State} {q : Outcome Tree} → Atom d s q → s.flags.oniguruma_mode ≡ false →
+        Holds (Part R 3 d s) q
+    atom_fits (atom {d} {s} {e} {q} is a) o =
+        behind_part e d s o q
+        (of_fits a o (subst (AheadTells d s) is (ahead_tells d s o)) (subst (OpensBelow d) is (ahead_below d s)))
+
+    of_fits : {k : Ahead} {d : ℕ} {s : State} {q : Outcome Tree} → AtomOf k d s q → s.flags.oniguruma_mode ≡ false →
+        AheadTells d s k → OpensBelow d k → AtomHolds k d s q
+    of_fits (a_nothing {d} {s}) o h b = empty_part z named numbers_of d s o
+    of_fits (a_read {d} {s} {o = q}) o h b = leaf_holds d s q h
+    of_fits (a_group {d} {s} {t} {h = head} {q} i) o h b =
+        then_holds (Part R 0 (d + 1) t) (λ r v. Grouped R d r) q _ (inside_fits i h)
+        (λ r v k. group_grouped z named numbers_of d b t h r v k head (reach_of s.rest))
+    of_fits (a_condition {d} {s} {t} {v} {c} i m) o h b =
+        let k = inside_fits i h in
+        body_fits m k.mode b t.flags k.stays (condition_alone z named numbers_of d b t h c v k)
+        (condition_fitted z named numbers_of d b t h c v k) k.suits
+    of_fits (condition_fault i) o h b = inside_fits i h
+    of_fits (a_body {d} {s} {t} {c} m) o h b =
+        body_fits m h.1 b t.flags (λ _. refl) (target_grouped z named numbers_of d b t.flags c h.0)
+        (target_fitted z named numbers_of d b t.flags c h.0) (λ _. target_suits z named numbers_of d b t.flags c h.0)
+    of_fits (two_branches {d} {s} {t} {v} {u} {a} {q} m e n) o h b =
+        let k = branch_fits m h in
+        then_holds (Part R 1 (d + 1) (at v u)) (λ r w. Grouped R d r) q _ (branch_fits n k.mode)
+        (λ r w i. closed_holds (λ r w. Grouped R d r) (expression a r) w
+        (λ _. expression_grouped z named numbers_of d b t.flags a r k.fitted i.fitted k.suits
+        (λ x c. subst (λ f. Suits f (R c r)) (k.stays x) (i.suits x c))))
+    of_fits (one_branch {d} {s} {t} {v} {a} m e) o h b =
+        let k = branch_fits m h in
+        closed_holds (λ r w. Grouped R d r) (clear_or_stopper a) v
+        (λ _. stopper_grouped z named numbers_of d b t.flags a k.fitted k.suits)
+    of_fits (absent_fault m) o h b = branch_fits m h
+
+    inside_fits : {d : ℕ} {s : State} {q : Outcome Tree} → Inside d s q → s.flags.oniguruma_mode ≡ false →
+        Holds (Part R 0 (d + 1) s) q
+    inside_fits (inside {d} {s} {q} a) o =
+        then_holds (Part R 0 (d + 1) s) (Part R 0 (d + 1) s) q _ (alternation_fits a o)
+        (closed_part 0 (d + 1) s)
+
+    -- the body of a conditional, whose condition suits the flags f where no group may open in it
+    body_fits : {d : ℕ} {c : Tree} {s : State} {q : Outcome Tree} → Body d c s q → s.flags.oniguruma_mode ≡ false →
+        (b : d + 1 < max_depth) (f : Flags) → (IsLast (d + 1) → s.flags ≡ f) → Grouped R d c →
+        ((n : ℕ) → FitsOrTarget d b f (R n c)) → (IsLast (d + 1) → (n : ℕ) → Suits f (R n c)) →
+        Holds (λ r t. Grouped R d r) q
+    body_fits (the_body {d} {c} {s} {q} a) o b f e single k y =
+        then_holds (Part R 0 (d + 1) s) (λ r t. Grouped R d r) q _ (alternation_fits a o)
+        (λ r v i. cond_both (bytes v.rest == bytes s.rest && not (is_condition c)) _ _ (Holds (λ r t. Grouped R d r))
+        (λ _. tt)
+        (λ _. closed_holds (λ r t. Grouped R d r) (conditional_of c (branches_of r).0 (branches_of r).1) v
+        (λ _. conditional_grouped z named numbers_of d b f c r single k y i.branches
+        (λ x n. subst (λ g. Suits g (R n r)) (e x) (i.suits x n)))))
+
+  pub whole_fits : {f : Flags} {text : Text} {q : Outcome Tree} → Whole f text q → f.oniguruma_mode ≡ false →
+      Holds (Part R 0 0 (start f text)) q
+  whole_fits (whole {f} {text} {q} a) o =
+      then_holds (Part R 0 0 (start f text)) (Part R 0 0 (start f text)) q _ (alternation_fits a o)
+      (ended_holds (Part R 0 0 (start f text)))
+
+-- the text of each tree that is answered fits
+pub answered_fits : (f : Flags) (text : Text) (t : Tree) (m : Marks) → f.oniguruma_mode ≡ false →
+    IsTreeOf f text t m → Fits t AsWhole (record { flags = agreed f t; opened = 0; depth = 0 })
+answered_fits f text t m o h =
+    let part = whole_fits (bytes text) (only_named f (openings h.0)) (numbers_in f h.0) (h.1).1 o in
+    subst (λ u. Fits u AsWhole (record { flags = agreed f u; opened = 0; depth = 0 })) (sym h.3)
+    (part.fitted.fits 0 AsWhole tt
+    (record { flags = agreed f (resolved f (bytes text) h.0); opened = 0; depth = 0 }) o (omega arith)
+    (inl (omega arith)))

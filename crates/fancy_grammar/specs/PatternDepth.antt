@@ -1,0 +1,103 @@
+-- Where the text of a tree fits: each group that it opens, opens where fewer than 63 are open. These follow the texts of
+-- the same names in `Pattern`, parenthesis by parenthesis.
+use Rattle.std.specs.Prelude.{◌≡◌, ◌+◌, ◌<◌, Bool, true, false, not, ◌&&◌, ◌||◌, nat_eq, codes}
+use Rattle.std.specs.List.{starts_with}
+use Rattle.fancy_lex.specs.declared.flags.Flags.{Flags}
+use Rattle.fancy_grammar.specs.Depth.{max_depth}
+use Rattle.fancy_grammar.specs.Join.{is_empty}
+use Rattle.fancy_grammar.specs.Label.{Leaf, empty, backref_exists, verb, clear, ast_node, group, look_around, repeat}
+use Rattle.fancy_grammar.specs.Label.{atomic_group, define_group, repeater, stopper, expression, conditional, concat, alt}
+use Rattle.fancy_grammar.specs.Pattern.{Here, under, past_groups, deeper, takes_pieces, takes_branches, is_operand}
+use Rattle.fancy_grammar.specs.Pattern.{is_last_operand, room, behind}
+use Rattle.fancy_grammar.specs.PatternNeeds.{settled, turns_on}
+use Rattle.fancy_grammar.specs.PatternQuantifier.{is_possessive}
+use Rattle.fancy_grammar.specs.PatternReference.{unresolved_text}
+use Rattle.fancy_grammar.specs.Quantified.{is_repeatable}
+use Rattle.fancy_grammar.specs.Tree.{Tree, leaf, over, row, Trees, no_trees, more_trees}
+use Rattle.fancy_grammar.specs.declared.precedence.Precedence.{Precedence}
+use Rattle.fancy_grammar.specs.declared.precedence.Precedence.TheVariants.{Whole, Branch, Piece, Operand}
+
+-- ---- groups
+
+-- another group may open there
+abbrev pub MayOpen : Here → Type 0
+MayOpen h = h.depth + 1 < max_depth
+
+-- where one is asked for
+abbrev pub MayOpenIf : Bool → Here → Type 0
+MayOpenIf b h = b ≡ true → MayOpen h
+
+-- the flags may be set there: that is a group, where they are not the same
+abbrev pub MaySet : Flags → Here → Type 0
+MaySet g h = MayOpenIf (turns_on h.flags g || turns_on g h.flags) h
+
+-- in the parentheses of a group
+abbrev pub FitsInParens : (Here → Type 0) → Here → Type 0
+FitsInParens inside h = MayOpen h × inside (deeper h)
+
+abbrev pub FitsInParensIf : Bool → (Precedence → Here → Type 0) → Precedence → Here → Type 0
+FitsInParensIf true inside p h = FitsInParens (inside Whole) h
+FitsInParensIf false inside p h = inside p h
+
+abbrev pub FitsAfterSetting : Tree → (Here → Type 0) → Here → Type 0
+FitsAfterSetting t inside h = MaySet (settled h.flags t) h × inside (under (settled h.flags t) h)
+
+abbrev pub FitsInScopeUnless : Bool → Tree → (Here → Type 0) → Here → Type 0
+FitsInScopeUnless true t inside h = inside h
+FitsInScopeUnless false t inside h = FitsInParens inside (under (settled h.flags t) h)
+
+abbrev pub FitsAsAtom : Tree → Precedence → (Here → Type 0) → Here → Type 0
+FitsAsAtom t p inside h = FitsInParensIf (is_operand p && not (is_repeatable h.flags t)) (λ q. inside) p h
+
+-- ---- leaves, and conditions
+
+-- the leaf's text is a group
+abbrev pub is_in_parens : Leaf → Bool
+is_in_parens (backref_exists n level) = true
+is_in_parens (verb v) = true
+is_in_parens clear = true
+is_in_parens (ast_node r place) = starts_with nat_eq (unresolved_text r) (codes "(")
+is_in_parens _ = false
+
+-- a condition that fits as an alternation where it says so; a target and a verb stand in the conditional's parentheses
+abbrev pub FitsAsCondition : Tree → Type 0 → Type 0
+FitsAsCondition (leaf (backref_exists n level)) fits = Unit {0}
+FitsAsCondition (leaf (verb v)) fits = Unit {0}
+FitsAsCondition _ fits = fits
+
+-- ---- the tree
+
+abbrev mutual
+  pub Fits : Tree → Precedence → Here → Type 0
+  Fits (leaf empty) p h = MayOpenIf (not (takes_pieces p)) h
+  Fits (leaf l) p h = FitsAfterSetting (leaf l) (FitsAsAtom (leaf l) p (MayOpenIf (is_in_parens l))) h
+  Fits (row concat ts) p h = FitsInScopeUnless (takes_pieces p) (row concat ts) (FitAll ts Piece) h
+  Fits (row alt ts) p h = FitsInScopeUnless (takes_branches p) (row alt ts) (FitAll ts Branch) h
+  Fits (over group t) p h =
+      FitsAfterSetting (over group t) (λ i. FitsInParens (Fits t Whole) (past_groups 1 i)) h
+  Fits (over (look_around l) t) p h =
+      FitsAfterSetting (over (look_around l) t) (FitsAsAtom (over (look_around l) t) p (FitsInParens (Fits t Whole))) h
+  Fits (over (repeat lo hi greedy) t) p h =
+      FitsAfterSetting t (FitsInParensIf (is_last_operand p) (λ q i. Fits t (Operand (room q i)) i) p) h
+  Fits (over atomic_group (over (repeat lo hi greedy) t)) p h =
+      FitsAfterSetting t
+      (λ i. FitsInParensIf (is_last_operand p || not (is_possessive i.flags lo hi))
+      (λ q j. Fits t (Operand (room q j)) j) p i) h
+  Fits (over atomic_group t) p h = FitsAfterSetting t (FitsInParens (Fits t Whole)) h
+  Fits (over define_group t) p h = FitsAfterSetting t (FitsInParens (Fits t Whole)) h
+  Fits (over repeater t) p h = FitsAfterSetting t (FitsInParens (Fits t Whole)) h
+  Fits (over stopper t) p h =
+      FitsAfterSetting t (FitsInParens (λ i. MayOpenIf (is_empty t) i × Fits t Branch i)) h
+  Fits (row expression (more_trees a (more_trees e no_trees))) p h =
+      FitsAfterSetting (row expression (more_trees a (more_trees e no_trees)))
+      (FitsInParens (λ i. Fits a Branch i × Fits e Branch (behind a Branch i))) h
+  Fits (row conditional (more_trees c (more_trees t (more_trees e no_trees)))) p h =
+      FitsAfterSetting (row conditional (more_trees c (more_trees t (more_trees e no_trees))))
+      (FitsInParens (λ i. let j = behind c Whole i in FitsAsCondition c (Fits c Whole i)
+      × MayOpenIf (is_empty t && is_empty e) i × Fits t Branch j × Fits e Whole (behind t Branch j))) h
+  Fits _ p h = Unit {0}
+
+  -- each at this precedence, one behind the other
+  pub FitAll : Trees → Precedence → Here → Type 0
+  FitAll no_trees p h = Unit {0}
+  FitAll (more_trees t ts) p h = Fits t p h × FitAll ts p (behind t p h)
