@@ -15,7 +15,7 @@ use Rattle.fancy_lex.specs.NumberText.{number_text}
 use Rattle.fancy_lex.specs.Reading.{gives}
 use Rattle.fancy_lex.specs.Target.{Target, by_number, by_name, relative}
 use Rattle.fancy_lex.specs.Text.{Text}
-use Rattle.fancy_lex.specs.declared.escape.Assertion.TheVariants.{StartLineOniguruma}
+use Rattle.fancy_lex.specs.declared.escape.Assertion.TheVariants.{StartLine, StartLineOniguruma}
 use Rattle.fancy_lex.specs.declared.flags.Flags.{Flags}
 use Rattle.fancy_parts.specs.Meaning.{call, means, unresolved}
 use Rattle.fancy_parts.specs.Ranks.{Opening, is_counted, only_named, named_groups, numbers}
@@ -110,7 +110,8 @@ IsWritableLeaf f m c (literal (d ∷ []) casei) = Unit {0}
 IsWritableLeaf f m c (literal_bytes (b ∷ [])) = (f.unicode ≡ false) × (0x80 ≤ b) × (b ≤ 0xFF)
 IsWritableLeaf f m c (delegate s casei) = HasSource f s casei
 IsWritableLeaf f m c (general_newline unicode) = f.unicode ≡ unicode
-IsWritableLeaf f m c (assertion (StartLineOniguruma crlf)) = ⊥
+IsWritableLeaf f m c (assertion (StartLine crlf)) = f.oniguruma_mode ≡ false
+IsWritableLeaf f m c (assertion (StartLineOniguruma crlf)) = f.oniguruma_mode ≡ true
 IsWritableLeaf f m c (assertion a) = Unit {0}
 IsWritableLeaf f m c (any newline crlf) = Unit {0}
 IsWritableLeaf f m c (verb v) = Unit {0}

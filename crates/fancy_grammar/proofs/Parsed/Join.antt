@@ -4,7 +4,7 @@ use Rattle.std.proofs.Common.{◌∙◌, subst, arith}
 use Rattle.std.specs.List.{AllByRecursion}
 use Rattle.fancy_lex.specs.Text.{Text}
 use Rattle.fancy_lex.specs.declared.escape.Assertion.{Assertion}
-use Rattle.fancy_lex.specs.declared.escape.Assertion.TheVariants.{StartLineOniguruma}
+use Rattle.fancy_lex.specs.declared.escape.Assertion.TheVariants.{StartLine, StartLineOniguruma}
 use Rattle.fancy_lex.specs.declared.flags.Flags.{Flags}
 use Rattle.fancy_grammar.specs.Answer.{IsTreeOf}
 use Rattle.fancy_grammar.specs.Answered.{IsAnsweredNode}
@@ -89,6 +89,7 @@ module _ (f : Flags) (m : Marks) (mode : f.oniguruma_mode ≡ false) where
 
   assertion_writable : (c : ℕ) (a : Assertion) → is_line_of_oniguruma a ≡ false →
       IsWritableLeaf f m c (label.assertion a)
+  assertion_writable c (StartLine crlf) e = mode
   assertion_writable c (StartLineOniguruma crlf) e = absurd cc
   assertion_writable c _ e = tt
 

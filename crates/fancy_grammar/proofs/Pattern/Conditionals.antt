@@ -293,13 +293,13 @@ module _ (μ : Marks) where
             ));
       }
 
-  pub conditional_reads : (h : Here) → h.flags.oniguruma_mode ≡ false → (c t e : Tree) →
+  pub conditional_reads : (h : Here) (c t e : Tree) →
       (is_empty t && is_empty e) ≡ false → let j = under (settled h.flags (conditional c t e)) h in let i = deeper j in
       (MayOpen j → FitsAsCondition c (Fits c Whole i) →
       Before μ j (condition_text μ c (written μ c Whole i)) (flags_behind c Whole j.flags) c) →
       ReadsTree μ t (behind c Whole i) → ReadsTree μ e (behind t BranchAlone (behind c Whole i)) →
       ReadsTree μ (conditional c t e) h
-  conditional_reads h o c t e solid before q u =
+  conditional_reads h c t e solid before q u =
       let x = conditional c t e in
       let i = under (settled h.flags x) h in
       let j = behind c Whole (deeper i) in
@@ -312,7 +312,7 @@ module _ (μ : Marks) where
       let same = parens_text (codes "?") text i in
       let b = branches_text t e (written μ t BranchAlone j) (written μ e Whole (behind t BranchAlone j)) in
       let whole_text = λ (v : Text). same v ∙ ap (λ z. codes "(?" ++ z) (regroup s b (code ")" ∷ v)) in
-      by_atom μ x h o refl (Fits x Whole h) (Fits x Whole h) all _ (λ d. d.0)
+      by_atom μ x h refl (Fits x Whole h) (Fits x Whole h) all _ (λ d. d.0)
       (λ _ v. subst (Begins h.flags.ignore_space) (sym (same v))
       (begins_by h.flags.ignore_space (code "(") _ refl refl refl refl))
       (λ d v y _. let a = before d.1.0 d.1.1.0 in let z = b ++ code ")" ∷ v in

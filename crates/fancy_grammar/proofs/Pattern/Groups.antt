@@ -297,24 +297,24 @@ module _ (μ : Marks) (h : Here) (i m s r : Bool) where
   begins_setting x t b = begins_set x (turns_on h.flags g || turns_on g h.flags) t b
 
   set_rest : (b : Bool) → turns_on h.flags g || turns_on g h.flags ≡ b → (t w : Text) (k : Flags) (ys : List Tree) →
-      h.flags.oniguruma_mode ≡ false → MayOpenIf b h → Begins h.flags.ignore_space t →
+      MayOpenIf b h → Begins h.flags.ignore_space t →
       Rest μ (under g h) t k w ys →
       Rest μ h (set_if b ++ t) k w ys
-  set_rest true e t w k ys o l n q =
+  set_rest true e t w k ys l n q =
       let u = letters_between h.flags g ++ code ")" ∷ t in
       subst (λ z. Rest μ h z k w ys) (sym (set_text t))
-      (lead_flags μ h g k (codes "(?" ++ u) t w ys o (begins_letters h.flags.ignore_space h.flags i m s r
+      (lead_flags μ h g k (codes "(?" ++ u) t w ys (begins_letters h.flags.ignore_space h.flags i m s r
       (code ")") t refl)
       n.clear
       (atom
       (question_at h.depth h.flags u (l refl)
       ∙ setting_ahead (st h.flags (code "(" ∷ code "?" ∷ u)) i m s r t e)
       a_read) q)
-  set_rest false e t w k ys o l n q = subst (λ f. Rest μ (under f h) t k w ys) (same_flags h.flags i m s r e) q
+  set_rest false e t w k ys l n q = subst (λ f. Rest μ (under f h) t k w ys) (same_flags h.flags i m s r e) q
 
-  pub setting_rest : (t w : Text) (k : Flags) (ys : List Tree) → h.flags.oniguruma_mode ≡ false → MaySet g h →
+  pub setting_rest : (t w : Text) (k : Flags) (ys : List Tree) → MaySet g h →
       Begins h.flags.ignore_space t → Rest μ (under g h) t k w ys → Rest μ h (setting h.flags g ++ t) k w ys
-  setting_rest t w k ys o l n q = set_rest (turns_on h.flags g || turns_on g h.flags) refl t w k ys o l n q
+  setting_rest t w k ys l n q = set_rest (turns_on h.flags g || turns_on g h.flags) refl t w k ys l n q
 
 -- ---- flags that are set before a whole text
 
@@ -336,7 +336,7 @@ module _ (d : ℕ) (s u : State) (first : (q : Outcome (List Tree)) → Pieces d
     whole_behind (alternation b) = alternation (branches_behind b)
 
 module _ (μ : Marks) (h : Here) (i m s r : Bool) (t v : Text) (k : Flags) (x : Tree)
-    (o : h.flags.oniguruma_mode ≡ false) (c : Clear h.flags.ignore_space t) where
+    (c : Clear h.flags.ignore_space t) where
   abbrev then_flags : Flags
   then_flags = changed h.flags i m s r
 
@@ -356,7 +356,7 @@ module _ (μ : Marks) (h : Here) (i m s r : Bool) (t v : Text) (k : Flags) (x : 
             whole_behind h.depth (st then_flags t) (st h.flags (codes "(?" ++ u))
             (λ q p. next b.goes
             (piece_as b.clear.no_layout a
-            (quants_one h.depth (bytes (codes "(?" ++ u)) then_flags empty empty t t o
+            (quants_one h.depth (bytes (codes "(?" ++ u)) then_flags empty empty t t c
             (quant_none (bytes (codes "(?" ++ u)) then_flags empty t c))) p)
             w.derives;
         becomes =

@@ -81,13 +81,13 @@ module _ (μ : Marks) (t : Tree) (h : Here) (solid : is_empty t ≡ false) where
       (p v v g [] e.clear (λ _. ends_no_digit v e.ends)
       (no_more μ (past_groups (group_count t) (under g h)) v (subst (λ x. Stops x v) (sym same) e)))
 
-  pub atom_leads : (s : Text) → h.flags.oniguruma_mode ≡ false → BeginsHere h s → AtomHere μ t h s → LeadsTo μ t h s
-  atom_leads s o b a v w k ys c y q =
-      lead μ h (s ++ v) v w k t ys o (b v) c solid (a v (clear_name h.flags.ignore_space v c) y) q
+  pub atom_leads : (s : Text) → BeginsHere h s → AtomHere μ t h s → LeadsTo μ t h s
+  atom_leads s b a v w k ys c y q =
+      lead μ h (s ++ v) v w k t ys (b v) c solid (a v (clear_name h.flags.ignore_space v c) y) q
 
 -- ---- what stands behind flags that are set for it
 
-module _ (μ : Marks) (t : Tree) (h : Here) (o : h.flags.oniguruma_mode ≡ false) (solid : is_empty t ≡ false) where
+module _ (μ : Marks) (t : Tree) (h : Here) (solid : is_empty t ≡ false) where
   abbrev pub set_here : Flags
   set_here = settled h.flags t
 
@@ -105,7 +105,7 @@ module _ (μ : Marks) (t : Tree) (h : Here) (o : h.flags.oniguruma_mode ≡ fals
       Rest μ (past_groups (group_count t) (under set_here h)) v k w ys → Rest μ h (behind_set s ++ v) k w (t ∷ ys)
   set_leads d s b l v w k ys c y q =
       subst (λ z. Rest μ h z k w (t ∷ ys)) (sym (append_assoc (setting h.flags set_here) s v))
-      (setting_rest μ h set_here.casei set_here.multi set_here.dotnl set_here.crlf (s ++ v) w k (t ∷ ys) o d (b v)
+      (setting_rest μ h set_here.casei set_here.multi set_here.dotnl set_here.crlf (s ++ v) w k (t ∷ ys) d (b v)
       (l v w k ys c y q))
 
   -- a tree that is a piece wherever it stands
@@ -142,7 +142,7 @@ module _ (μ : Marks) (t : Tree) (h : Here) (o : h.flags.oniguruma_mode ≡ fals
       flags_behind t Piece h.flags ≡ set_here → (is_repeatable h.flags t ≡ true → (d3 → d) × (k3 ≡ behind_set s)) →
       ReadsBy μ t h d d d d3 (behind_set s) (behind_set s) (behind_set s) k3 set_here set_here
   by_atom d d3 s k3 m b a e same =
-      by_piece d d3 s k3 m b (λ x. atom_leads μ t (under set_here h) solid s o (b x) (a x)) e
+      by_piece d d3 s k3 m b (λ x. atom_leads μ t (under set_here h) solid s (b x) (a x)) e
       (λ x r. subst (BeginsHere h) (sym (same r).1) (set_begins s (b ((same r).0 x))))
       (λ x r u. subst (AtomHere μ t h) (sym (same r).1)
       (λ v m y. subst (λ w. AtomAt μ h w v t) (sym (set_none s v u))
@@ -150,7 +150,7 @@ module _ (μ : Marks) (t : Tree) (h : Here) (o : h.flags.oniguruma_mode ≡ fals
 
 -- ---- what stands in a group of flags where it is a piece
 
-module _ (μ : Marks) (t : Tree) (h : Here) (o : h.flags.oniguruma_mode ≡ false) (solid : is_empty t ≡ false) where
+module _ (μ : Marks) (t : Tree) (h : Here) (solid : is_empty t ≡ false) where
   abbrev pub set_in : Flags
   set_in = settled h.flags t
 
@@ -193,7 +193,7 @@ module _ (μ : Marks) (t : Tree) (h : Here) (o : h.flags.oniguruma_mode ≡ fals
         whole = λ x v i. reads_only μ h _ v g t (b x v i.stops) i.no_bar;
         branch = b;
         piece =
-            λ x _ v w k ys c y r. atom_leads μ t h solid (scoped s) o (scope_begins s) (a x) v w k ys c y
+            λ x _ v w k ys c y r. atom_leads μ t h solid (scoped s) (scope_begins s) (a x) v w k ys c y
             (subst (λ f. Rest μ (past_groups (group_count t) (under f h)) v k w ys) e r);
         atom = λ x _ _. a x;
       }
@@ -209,7 +209,7 @@ module _ (μ : Marks) (t : Tree) (h : Here) (o : h.flags.oniguruma_mode ≡ fals
   by_whole d inside k s g f c q w e =
       let a = λ (x : FitsInParens inside (under set_in h)). scope_atom x.0 s f (w x.1) in
       let l = λ (x : FitsInParens inside (under set_in h)).
-      atom_leads μ t h solid (scoped s) o (scope_begins s) (a x) in
+      atom_leads μ t h solid (scoped s) (scope_begins s) (a x) in
       record {
         whole_clear = c;
         branch_clear = λ _ v c. (scope_begins s v).clear;

@@ -337,6 +337,6 @@ lead_quantified μ h s q v w g x ys possessive lo hi greedy o b c r m a k =
     (quantified_tree possessive x lo hi greedy) ys b
     (solid_quantified possessive x lo hi greedy) (over_quantified μ s possessive h.opened a.tree x lo hi greedy a.becomes)
     (piece_as b.clear.no_layout a.derives
-    (quants_one h.depth (bytes s) h.flags a.tree _ q v o
+    (quants_one h.depth (bytes s) h.flags a.tree _ q v c
     (quant_read (bytes s) h.flags a.tree q v possessive lo hi greedy o c e m)))
     (subst (λ n. Rest μ (past_groups n h) v g w ys) (sym (same_count possessive x lo hi greedy)) k)

@@ -125,13 +125,13 @@ module _ (μ : Marks) where
           let again = settled_again h.flags t in
           let inside = λ (v : Text). repeated false t lo hi greedy (written μ t) Whole (deeper here) ++ code ")" ∷ v in
           let same = parens_text (codes "?:") (repeated false t lo hi greedy (written μ t) Whole) here in
-          by_piece μ x h o refl (Fits x Whole h) (Fits x (Operand zero) h)
+          by_piece μ x h refl (Fits x Whole h) (Fits x (Operand zero) h)
           (repeated false t lo hi greedy (written μ t) Whole here)
           (setting h.flags (settled h.flags t) ++ in_head (codes "?:")) (λ d. d.0)
           (λ d. quantified_begins false here o repeatable_here again r (roomless here o d.1))
           (λ d. quantified_leads false here o repeatable_here again r (roomless here o d.1))
           refl
-          (λ _ _. set_begins μ x h o refl (in_head (codes "?:"))
+          (λ _ _. set_begins μ x h refl (in_head (codes "?:"))
           (λ v. subst (Begins h.flags.ignore_space) (sym (same v))
           (begins_by h.flags.ignore_space (code "(") _ refl refl refl refl)))
           (λ d _. operand x (in_head (codes "?:")) refl refl
@@ -160,12 +160,12 @@ module _ (μ : Marks) where
           refit (λ (k : Fits x Whole h). (k.0, roomless here o (low Whole k.1)))
           (λ (k : Fits x Branch h). (k.0, roomless here o (low Branch k.1)))
           (λ (k : Fits x Piece h). (k.0, roomless here o (low Piece k.1)))
-          (by_piece μ x h o refl d (Fits x (Operand zero) h) s
+          (by_piece μ x h refl d (Fits x (Operand zero) h) s
           (setting h.flags (settled h.flags t) ++ in_head (codes "?>")) (λ d. d.0)
           (λ d. subst (BeginsHere here) (sym is) (quantified_begins true here o repeatable_here again r d.1))
           (λ d. subst (LeadsTo μ x here) (sym is) (quantified_leads true here o repeatable_here again r d.1))
           refl
-          (λ _ _. set_begins μ x h o refl (in_head (codes "?>"))
+          (λ _ _. set_begins μ x h refl (in_head (codes "?>"))
           (λ v. subst (Begins h.flags.ignore_space) (sym (same v))
           (begins_by h.flags.ignore_space (code "(") _ refl refl refl refl)))
           (λ d _. operand x (in_head (codes "?>")) refl refl

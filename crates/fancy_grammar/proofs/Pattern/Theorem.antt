@@ -46,7 +46,7 @@ use Rattle.fancy_grammar.proofs.Pattern.Needed.{like_repeatable, like_behind}
 use Rattle.fancy_grammar.proofs.Pattern.Unplaced.{same_referred, same_call, same_numbered, same_of_all}
 use Rattle.fancy_grammar.proofs.Pattern.Parted.{leads_past}
 use Rattle.fancy_grammar.proofs.Pattern.Repeats.{repeat_reads, possessive_reads}
-use Rattle.fancy_grammar.proofs.Pattern.Rows.{EachPiece, EachBranch, concat_reads, alt_reads, same_mode}
+use Rattle.fancy_grammar.proofs.Pattern.Rows.{EachPiece, EachBranch, concat_reads, alt_reads}
 use Rattle.fancy_grammar.proofs.Pattern.Rules.{Clear, ends_nothing, WholeAt}
 use Rattle.fancy_grammar.proofs.ReadBack.RuleLemmas.{st}
 
@@ -58,71 +58,71 @@ is_repeat (over (label.repeat lo hi greedy) t) = true
 is_repeat _ = false
 
 module _ (μ : Marks) where
-  atomic_reads : (t : Tree) → is_repeat t ≡ false → (h : Here) → h.flags.oniguruma_mode ≡ false →
+  atomic_reads : (t : Tree) → is_repeat t ≡ false → (h : Here) →
       ReadsTree μ t (deeper (under (settled h.flags t) h)) → ReadsTree μ (over label.atomic_group t) h
-  atomic_reads (over (label.repeat lo hi greedy) t) e h o r = absurd cc
-  atomic_reads t e h o r = atomic_by μ t h o r
+  atomic_reads (over (label.repeat lo hi greedy) t) e h r = absurd cc
+  atomic_reads t e h r = atomic_by μ t h r
 
   module _ (f : Flags) (mode : f.oniguruma_mode ≡ false)
       (names : (k : ℕ) → IfSome (name_of μ k) (λ e. IsNameWritable e.0))
       (numbered : (k : ℕ) → IfSome (name_of μ k) (λ e. e.1 ≡ numbers_told μ e.0)) where
     mutual
       reads : (t : Tree) (h : Here) → AreNodesWritable f μ h.opened t → IsLike f h.flags → ReadsTree μ t h
-      reads (leaf l) h k e = leaf_reads μ numbered f l h (same_mode μ f mode h.flags e) e k
+      reads (leaf l) h k e = leaf_reads μ numbered f l h e k
       reads (over (label.repeat lo hi greedy) t) h k e =
           let i = under (settled h.flags t) h in
-          repeat_reads μ t lo hi greedy k.2 k.3 h (same_mode μ f mode h.flags e)
+          repeat_reads μ t lo hi greedy k.2 k.3 h (ap (λ j. j.oniguruma_mode) e ∙ mode)
           (like_repeatable t h.flags f (ap (λ j. j.oniguruma_mode) e) ∙ k.1)
           (reads t i k.0 e) (reads t (deeper i) k.0 e)
       reads (over label.group t) h k e =
-          group_reads μ t h (same_mode μ f mode h.flags e) (names (h.opened + 1))
+          group_reads μ t h (names (h.opened + 1))
           (reads t (deeper (past_groups 1 (under (settled h.flags t) h))) k e)
       reads (over (label.look_around l) t) h k e =
-          look_reads μ t h (same_mode μ f mode h.flags e) l
+          look_reads μ t h l
           (reads t (deeper (under (settled h.flags t) h)) k e)
       reads (over label.define_group t) h k e =
-          define_reads μ t h (same_mode μ f mode h.flags e)
+          define_reads μ t h
           (reads t (deeper (under (settled h.flags t) h)) k e)
       reads (over label.atomic_group (over (label.repeat lo hi greedy) t)) h k e =
           let i = under (settled h.flags t) h in
-          possessive_reads μ t lo hi greedy k.2 k.3 h (same_mode μ f mode h.flags e)
+          possessive_reads μ t lo hi greedy k.2 k.3 h (ap (λ j. j.oniguruma_mode) e ∙ mode)
           (like_repeatable t h.flags f (ap (λ j. j.oniguruma_mode) e) ∙ k.1)
           (reads t i k.0 e) (reads t (deeper i) k.0 e)
       reads (over label.atomic_group (leaf l)) h k e =
-          atomic_reads (leaf l) refl h (same_mode μ f mode h.flags e)
+          atomic_reads (leaf l) refl h
           (reads (leaf l) (deeper (under (settled h.flags (leaf l)) h)) k e)
       reads (over label.atomic_group (row w ts)) h k e =
-          atomic_reads (row w ts) refl h (same_mode μ f mode h.flags e)
+          atomic_reads (row w ts) refl h
           (reads (row w ts) (deeper (under (settled h.flags (row w ts)) h)) k e)
       reads (over label.atomic_group (over label.group t)) h k e =
-          atomic_reads (over label.group t) refl h (same_mode μ f mode h.flags e)
+          atomic_reads (over label.group t) refl h
           (reads (over label.group t) (deeper (under (settled h.flags t) h)) k e)
       reads (over label.atomic_group (over (label.look_around l) t)) h k e =
-          atomic_reads (over (label.look_around l) t) refl h (same_mode μ f mode h.flags e)
+          atomic_reads (over (label.look_around l) t) refl h
           (reads (over (label.look_around l) t) (deeper (under (settled h.flags t) h)) k e)
       reads (over label.atomic_group (over label.define_group t)) h k e =
-          atomic_reads (over label.define_group t) refl h (same_mode μ f mode h.flags e)
+          atomic_reads (over label.define_group t) refl h
           (reads (over label.define_group t) (deeper (under (settled h.flags t) h)) k e)
       reads (over label.atomic_group (over label.atomic_group t)) h k e =
-          atomic_reads (over label.atomic_group t) refl h (same_mode μ f mode h.flags e)
+          atomic_reads (over label.atomic_group t) refl h
           (reads (over label.atomic_group t) (deeper (under (settled h.flags t) h)) k e)
       reads (over label.atomic_group (over label.repeater t)) h k e =
-          atomic_reads (over label.repeater t) refl h (same_mode μ f mode h.flags e)
+          atomic_reads (over label.repeater t) refl h
           (reads (over label.repeater t) (deeper (under (settled h.flags t) h)) k e)
       reads (over label.atomic_group (over label.stopper t)) h k e =
-          atomic_reads (over label.stopper t) refl h (same_mode μ f mode h.flags e)
+          atomic_reads (over label.stopper t) refl h
           (reads (over label.stopper t) (deeper (under (settled h.flags t) h)) k e)
       reads (over label.atomic_group (over (label.ast_group name place) t)) h k e = absurd k
       reads (over label.repeater t) h k e =
-          repeater_reads μ h (same_mode μ f mode h.flags e) t
+          repeater_reads μ h t
           (reads t (deeper (under (settled h.flags t) h)) k e)
       reads (over label.stopper t) h k e =
-          stopper_reads μ h (same_mode μ f mode h.flags e) t k.1
+          stopper_reads μ h t k.1
           (reads t (deeper (under (settled h.flags t) h)) k.0 e)
       reads (row label.expression (more_trees a (more_trees b no_trees))) h k e =
           let i = deeper (under (settled h.flags (row label.expression (more_trees a (more_trees b no_trees)))) h) in
           let next = like_behind a BranchAlone f i.flags e in
-          expression_reads μ h (same_mode μ f mode h.flags e) a b
+          expression_reads μ h a b
           (ap (λ j. j.ignore_space) next ∙ sym (ap (λ j. j.ignore_space) e)) (reads a i k.0 e)
           (reads b (behind a BranchAlone i) k.1 next)
       reads (row label.expression no_trees) h k e = absurd k
@@ -130,9 +130,9 @@ module _ (μ : Marks) where
       reads (row label.expression (more_trees a (more_trees b (more_trees c ts)))) h k e = absurd k
       reads (over (label.ast_group name place) t) h k e = absurd k
       reads (row label.concat (more_trees t (more_trees u us))) h k e =
-          concat_reads μ f mode t u us h (each_piece (more_trees t (more_trees u us)) h.opened k) e
+          concat_reads μ f t u us h (each_piece (more_trees t (more_trees u us)) h.opened k) e
       reads (row label.alt (more_trees t (more_trees u us))) h k e =
-          alt_reads μ f mode t u us h (each_branch (more_trees t (more_trees u us)) h.opened k) e
+          alt_reads μ f t u us h (each_branch (more_trees t (more_trees u us)) h.opened k) e
       reads (row label.concat no_trees) h k e = absurd k
       reads (row label.concat (more_trees t no_trees)) h k e = absurd k
       reads (row label.alt no_trees) h k e = absurd k
@@ -142,23 +142,23 @@ module _ (μ : Marks) where
           let i = under (settled h.flags x) h in
           let j = behind c Whole (deeper i) in
           let next = like_behind c Whole f i.flags e in
-          conditional_reads μ h (same_mode μ f mode h.flags e) c t b k.3
-          (before_of μ f numbered c i k.0 (same_mode μ f mode h.flags e) (reads c (deeper i) k.0 e))
+          conditional_reads μ h c t b k.3
+          (before_of μ f numbered c i k.0 (reads c (deeper i) k.0 e))
           (reads t j k.1 next)
           (reads b (behind t BranchAlone j) k.2 (like_behind t BranchAlone f j.flags next))
       reads (row label.conditional ts) h k e = absurd k
 
-      each_piece : (ts : Trees) (c : ℕ) → ArePieces f μ c ts → EachPiece μ f mode c ts
+      each_piece : (ts : Trees) (c : ℕ) → ArePieces f μ c ts → EachPiece μ f c ts
       each_piece no_trees c k = tt
       each_piece (more_trees t ts) c k = (
         (λ h o e. reads t h (subst (λ n. AreNodesWritable f μ n t)
             (sym o) k.0) e),
         k.1,
-        (λ y h e d. leads_past μ f c t k.0 y h (same_mode μ f mode h.flags e) d),
+        (λ y h e d. leads_past μ f c t k.0 y h d),
         each_piece ts _ k.2,
       )
 
-      each_branch : (ts : Trees) (c : ℕ) → AreAllWritable f μ c ts → EachBranch μ f mode c ts
+      each_branch : (ts : Trees) (c : ℕ) → AreAllWritable f μ c ts → EachBranch μ f c ts
       each_branch no_trees c k = tt
       each_branch (more_trees t ts) c k =
           ((λ h o e. reads t h (subst (λ n. AreNodesWritable f μ n t) (sym o) k.0) e), each_branch ts _ k.1)
@@ -329,5 +329,5 @@ reads_back f t μ w =
     let here = subst (λ u. WholeAt μ (under g h) u after [] t) (append-nil s)
     (r.whole w.fits [] (ends_nothing f.ignore_space)) in
     let clear = subst (Clear f.ignore_space) (append-nil s) (r.whole_clear w.fits [] (ends_nothing f.ignore_space).stops.clear) in
-    let all = whole_behind_setting μ h g.casei g.multi g.dotnl g.crlf s [] after t w.mode clear (λ _. omega arith) here in
+    let all = whole_behind_setting μ h g.casei g.multi g.dotnl g.crlf s [] after t clear (λ _. omega arith) here in
     from_whole μ f after (setting f g ++ s) t w.marks w.counted all
