@@ -22,6 +22,7 @@ pub mod Quantifiers
 pub mod Needed
 pub mod Induction
 pub mod Cases
+pub mod Stacked
 pub mod Repeats
 pub mod Parted
 pub mod Rows

@@ -127,12 +127,14 @@ IsWritableLeaf f m c (ast_node (ast_call t) place) = IsCalledTarget t × (means 
 IsWritableLeaf f m c _ = ⊥
 
 abbrev mutual
-  -- what stands under a quantifier is repeatable, a Concat or an Alt has two parts or more, no part of a Concat, nor what
-  -- a stopper holds, is Empty, and a conditional has a branch that is not Empty
+  -- what stands under a quantifier is repeatable, and the counts are in order in Oniguruma mode, a Concat or an Alt has
+  -- two parts or more, no part of a Concat, nor what a stopper holds, is Empty, and a conditional has a branch that is
+  -- not Empty
   pub AreNodesWritable : Flags → Marks → ℕ → Tree → Type 0
   AreNodesWritable f m c (leaf l) = IsWritableLeaf f m c l
   AreNodesWritable f m c (over (repeat lo hi greedy) t) =
       AreNodesWritable f m c t × (is_repeatable f t ≡ true) × (lo < 2 ^ 64) × (hi < 2 ^ 64)
+      × (f.oniguruma_mode ≡ true → lo ≤ hi)
   AreNodesWritable f m c (over group t) = AreNodesWritable f m (c + 1) t
   AreNodesWritable f m c (over (look_around l) t) = AreNodesWritable f m c t
   AreNodesWritable f m c (over atomic_group t) = AreNodesWritable f m c t
@@ -196,9 +198,8 @@ IsNameWritable (c ∷ w) = (is_among (code ">") (c ∷ w) && is_among (code "'")
 
 -- ---- the trees
 
--- outside Oniguruma mode, a tree whose text nests fewer than 64 groups, with its marks
+-- a tree whose text nests fewer than 64 groups, with its marks
 pub record IsWritable (f : Flags) (m : Marks) (t : Tree) : Type 0 where
-  pub mode : f.oniguruma_mode ≡ false
   pub marks : m ≡ marks_of f (openings_told m 0 (group_count t)) t m
   pub counted : AreCounted m.numbered_groups_ignored (openings_told m 0 (group_count t))
   pub names : AllByRecursion (λ e. IsNameWritable e.0) m.named_groups

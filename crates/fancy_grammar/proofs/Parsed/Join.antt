@@ -1,6 +1,7 @@
 -- Parsed trees are writable, but for what is open.
 use Rattle.std.proofs.Common.{◌≡◌, ℕ, ◌+◌, ◌<◌, Bool, true, false, List, [], ◌∷◌, refl, ap}
 use Rattle.std.proofs.Common.{◌∙◌, subst, arith}
+use Rattle.std.proofs.lemmas.Bool.{false≢true}
 use Rattle.std.specs.List.{AllByRecursion}
 use Rattle.fancy_lex.specs.Text.{Text}
 use Rattle.fancy_lex.specs.declared.escape.Assertion.{Assertion}
@@ -136,7 +137,7 @@ module _ (f : Flags) (m : Marks) (mode : f.oniguruma_mode ≡ false) where
         AreReferencesWritable f m c t → AreNodesWritable f m c t
     nodes_writable c (leaf l) a h r = leaf_writable c l a.0 h.0 r
     nodes_writable c (over (label.repeat lo hi greedy) t) a h r =
-        (nodes_writable c t a.1 h.1 r, h.0.0 refl, h.0.1, h.0.2)
+        (nodes_writable c t a.1 h.1 r, h.0.0 refl, h.0.1, h.0.2, (λ o. absurd (false≢true (sym mode ∙ o))))
     nodes_writable c (over label.group t) a h r = nodes_writable (c + 1) t a.1 h.1 r
     nodes_writable c (over (label.look_around l) t) a h r = nodes_writable c t a.1 h.1 r
     nodes_writable c (over label.atomic_group t) a h r = nodes_writable c t a.1 h.1 r
@@ -241,7 +242,6 @@ module _ {f : Flags} {text : Text} {t : Tree} {m : Marks} (a : IsTreeOf f text t
   pub parsed_is_writable : bytes text < 2 ^ 63 → f.oniguruma_mode ≡ false →
       (m.numbered_groups_ignored ≡ true → AllByRecursion (IsWholeNode f) (preorder t)) → IsWritable f m t
   parsed_is_writable small mode w = record {
-    mode = mode;
     marks = marks_told a numeric_told self_told;
     counted = counted_told a;
     names = names_writable a;

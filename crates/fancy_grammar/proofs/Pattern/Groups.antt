@@ -1,4 +1,4 @@
--- Groups, and flags that are set, outside Oniguruma mode.
+-- Groups, and flags that are set.
 use Rattle.std.proofs.Common.{◌≡◌, ℕ, ◌+◌, ◌<◌, Bool, true, false, not, ◌&&◌, ◌||◌, ◌==◌, nat_le, List, [], ◌∷◌, ◌++◌}
 use Rattle.std.proofs.Common.{codes, None, refl, sym, ap, ◌∙◌, subst, arith, append_assoc, if◌then◌else◌, Some, Option}
 use Rattle.std.proofs.lemmas.Bool.{cond-false, or_parts, cond-true, cond_both}

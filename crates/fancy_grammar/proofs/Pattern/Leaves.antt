@@ -1,4 +1,4 @@
--- The texts of leaves read as them, whatever follows, outside Oniguruma mode.
+-- The texts of leaves read as them, whatever follows.
 use Rattle.std.proofs.Common.{◌≡◌, ℕ, ◌+◌, ◌/◌, ◌%◌, ◌<◌, ◌≤◌, Bool, true, false, ◌&&◌, ◌==◌, [], ◌∷◌, ◌++◌}
 use Rattle.std.proofs.Common.{codes, Option, Some, refl, sym, ap, ◌∙◌, subst, append-nil, if◌then◌else◌}
 use Rattle.std.proofs.Math.Bool.{beq}

@@ -178,7 +178,7 @@ unmoved : (n : ℕ) → (n == n) ≡ true
 unmoved n = grind (arith, nat_tests)
 
 -- in Oniguruma mode no other quantifier is adjacent to one that no quantifier follows
-adjacent_none : (k d : ℕ) (f : Flags) (b : Tree) (v : Text) → Clear f.ignore_space v →
+pub adjacent_none : (k d : ℕ) (f : Flags) (b : Tree) (v : Text) → Clear f.ignore_space v →
     adjacent k d b (st f v) ≡ done b (st f v)
 unfolding adjacent
 adjacent_none zero d f b v c =
