@@ -1,12 +1,13 @@
--- Where the text of a tree fits: each group that it opens, opens where fewer than 63 are open. These follow the texts of
--- the same names in `Pattern`, parenthesis by parenthesis.
+-- Where a tree fits: each group that its text opens, opens where fewer than 63 are open. These follow the texts of the
+-- same names in `Pattern`, parenthesis by parenthesis.
 use Rattle.std.specs.Prelude.{◌≡◌, ◌+◌, ◌<◌, Bool, true, false, not, ◌&&◌, ◌||◌, nat_eq, codes}
 use Rattle.std.specs.List.{starts_with}
 use Rattle.fancy_lex.specs.declared.flags.Flags.{Flags}
 use Rattle.fancy_grammar.specs.Depth.{max_depth}
 use Rattle.fancy_grammar.specs.Join.{is_empty}
 use Rattle.fancy_grammar.specs.Label.{Leaf, empty, backref_exists, verb, clear, ast_node, group, look_around, repeat}
-use Rattle.fancy_grammar.specs.Label.{atomic_group, define_group, repeater, stopper, expression, conditional, concat, alt}
+use Rattle.fancy_grammar.specs.Label.{atomic_group, define_group, repeater, stopper, expression, conditional, concat}
+use Rattle.fancy_grammar.specs.Label.{alt}
 use Rattle.fancy_grammar.specs.Pattern.{Here, under, past_groups, deeper, takes_pieces, takes_branches, is_operand}
 use Rattle.fancy_grammar.specs.Pattern.{is_last_operand, room, behind}
 use Rattle.fancy_grammar.specs.PatternNeeds.{settled, turns_on}

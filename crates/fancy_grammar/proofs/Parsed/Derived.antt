@@ -62,7 +62,8 @@ use Rattle.fancy_grammar.proofs.Slices.{here, on, strip_slice, skipped_slice}
 use Rattle.fancy_grammar.proofs.ReadLaws.{branch_read, piece_read, inside_read}
 use Rattle.fancy_grammar.proofs.Pattern.References.{behind_letter}
 use Rattle.fancy_grammar.proofs.Parsed.Escapes.{IsBehindLetter, is_line_of_oniguruma, IsOfMode, escape_mode}
-use Rattle.fancy_grammar.proofs.Parsed.Targets.{IsReferenceRead, IsCallRead, condition_target_read, named_reference_read}
+use Rattle.fancy_grammar.proofs.Parsed.Targets.{IsReferenceRead, IsCallRead, condition_target_read}
+use Rattle.fancy_grammar.proofs.Parsed.Targets.{named_reference_read}
 use Rattle.fancy_grammar.proofs.Parsed.Targets.{named_reference_plain, named_call_read}
 
 -- a tree that is read, behind which the flags keep the mode
@@ -131,7 +132,8 @@ module _ (f : Flags) (text : Text) where
                 (mode_repeatable a f t.flags (sym (same_oniguruma t.flags h.mode)) ∙ e) w h.parsed;
           })) (λ _.
           cond_both (is_dropped t.flags left a u) _ _ P
-          (λ _. then_holds M (IsPart f text) (suffix (at t u) c) _ marks (λ m x k. record { mode = k; parsed = h.parsed }))
+          (λ _. then_holds M (IsPart f text) (suffix (at t u) c) _ marks
+          (λ m x k. record { mode = k; parsed = h.parsed }))
           (λ _. tt))
 
       by_layout : (j : Skipped) → P (quant_at left a t j)
@@ -196,7 +198,8 @@ module _ (f : Flags) (text : Text) where
   behind_no_backslash [] i p h = absurd h
   behind_no_backslash (c ∷ u) i p h =
       let is : text ≡ (i.word ++ (backslash ∷ [])) ++ (code "k" ∷ u)
-      = i.cut ∙ (ap (λ d. i.word ++ (backslash ∷ d ∷ u)) h.0 ∙ sym (append_assoc i.word (backslash ∷ []) (code "k" ∷ u))) in
+      = i.cut ∙ (ap (λ d. i.word ++ (backslash ∷ d ∷ u)) h.0
+      ∙ sym (append_assoc i.word (backslash ∷ []) (code "k" ∷ u))) in
       ap₂ (λ (s : Text) (q : ℕ). is_behind_backslash s (place_at (bytes s) q)) is h.1
       ∙ behind_letter (i.word ++ (backslash ∷ [])) u
 
@@ -244,7 +247,8 @@ module _ (f : Flags) (text : Text) where
         parsed = ((λ o. anchor_plain s.flags (same_oniguruma s.flags m ∙ o)), tt);
       }) (λ _.
       cond_both (c == code "$") _ _ P (λ _. record { mode = m; parsed = ((λ o. end_plain s.flags), tt) }) (λ _.
-      cond_both (c == code "\\") _ _ P (λ e. escape_part s t m (subst (λ d. Slice text (d ∷ t)) (is_backslash e) i)) (λ _.
+      cond_both (c == code "\\") _ _ P
+      (λ e. escape_part s t m (subst (λ d. Slice text (d ∷ t)) (is_backslash e) i)) (λ _.
       cond_both (c == code "[") _ _ P (λ _. class_part s t m)
       (λ _. record { mode = m; parsed = (tt, tt) })))))
     where
@@ -298,7 +302,8 @@ module _ (f : Flags) (text : Text) where
   condition_part : (s : State) (t : Text) → IsSameMode f s.flags → AheadParsed (condition_ahead s t)
   condition_part s [] m = tt
   condition_part s (c ∷ t) m =
-      cond_both (begins_target (c ∷ t)) _ _ AheadParsed (λ _. target_part s (condition_target (c ∷ t)) (condition_target_read (c ∷ t)) m) (λ _.
+      cond_both (begins_target (c ∷ t)) _ _ AheadParsed
+      (λ _. target_part s (condition_target (c ∷ t)) (condition_target_read (c ∷ t)) m) (λ _.
       cond_both (c == code "*") _ _ AheadParsed
       (λ _. choose_both AheadParsed (verb_at t) _ _ (λ p e. (m, (tt, tt))) tt) (λ _. m))
 

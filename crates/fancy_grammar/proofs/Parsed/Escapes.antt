@@ -33,7 +33,8 @@ use Rattle.fancy_lex.specs.declared.flags.Flags.{Flags}
 use Rattle.fancy_lex.proofs.ReferencePlaces.{ReferenceAt, back_reference_at}
 use Rattle.fancy_lex.specs.Referred.{Reference, Call}
 use Rattle.fancy_grammar.proofs.Parsed.Readers.{gives_both, gives_after}
-use Rattle.fancy_grammar.proofs.Parsed.Targets.{IsReferenceRead, IsCallRead, numbered_reference_read, back_reference_read}
+use Rattle.fancy_grammar.proofs.Parsed.Targets.{IsReferenceRead, IsCallRead, numbered_reference_read}
+use Rattle.fancy_grammar.proofs.Parsed.Targets.{back_reference_read}
 use Rattle.fancy_grammar.proofs.Parsed.Targets.{subroutine_call_read}
 use Rattle.std.proofs.Common.{sym, ℤ}
 

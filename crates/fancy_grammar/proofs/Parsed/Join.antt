@@ -1,4 +1,4 @@
--- Parsed trees are writable, but for what is open.
+-- Parsed trees are writable, and their texts read back, but for what groups without a number leave.
 use Rattle.std.proofs.Common.{◌≡◌, ℕ, ◌+◌, ◌<◌, Bool, true, false, List, [], ◌∷◌, refl, ap}
 use Rattle.std.proofs.Common.{◌∙◌, subst, arith}
 use Rattle.std.proofs.lemmas.Bool.{false≢true}
@@ -19,6 +19,7 @@ use Rattle.fancy_grammar.specs.Tree.{Tree, leaf, over, row, Trees, no_trees, mor
 use Rattle.fancy_grammar.specs.Writable.{IsWritable, AreNodesWritable, AreAllWritable, ArePieces, IsWritableLeaf}
 use Rattle.fancy_grammar.specs.Writable.{HasSource, is_numbered, is_numbered_call_of_all}
 use Rattle.std.proofs.Common.{sym, length, ◌≤◌, ◌^◌}
+use Rattle.std.specs.Cmp.{both_ways}
 use Rattle.std.specs.List.{list_any}
 use Rattle.fancy_lex.specs.Text.{bytes}
 use Rattle.fancy_parts.specs.Ranks.{only_named, numbered_openings}
@@ -27,7 +28,7 @@ use Rattle.fancy_grammar.proofs.PreorderLaws.{kept, resolved_nodes, items_of_nod
 use Rattle.fancy_grammar.proofs.ReadLaws.{derived_read, ordered_within}
 use Rattle.fancy_grammar.proofs.Parsed.Derived.{derived_parsed}
 use Rattle.fancy_grammar.proofs.Parsed.Marks.{marks_told, counted_told, numbers_are}
-use Rattle.fancy_grammar.proofs.Parsed.Numeric.{same_truth, numbered_by, called_by, meant, is_written, is_of_all}
+use Rattle.fancy_grammar.proofs.Parsed.Numeric.{numbered_by, called_by, meant, is_written, is_of_all}
 use Rattle.fancy_grammar.proofs.Parsed.Numeric.{marked_nodes, numbered_some, called_some}
 use Rattle.fancy_grammar.proofs.Parsed.References.{AreReferencesWritable, AreAllReferencesWritable, IsMarkedNode}
 use Rattle.fancy_grammar.proofs.Parsed.References.{groups_fit, each_numbered, met}
@@ -41,7 +42,7 @@ use Rattle.fancy_grammar.proofs.Parsed.Resolved.{IsResolvedNode, nodes_told, nam
 use Rattle.fancy_grammar.proofs.Pattern.ReadFits.{answered_fits}
 use Rattle.fancy_grammar.proofs.Pattern.Theorem.{reads_back}
 
--- ---- what is open
+-- ---- groups without a number
 
 -- what stands under a quantifier is repeatable, no part of a Concat, nor what a stopper holds, is Empty, and of both
 -- branches one is not
@@ -158,7 +159,8 @@ module _ (f : Flags) (m : Marks) (mode : f.oniguruma_mode ≡ false) where
     nodes_writable c (row label.conditional ts) a h r =
         conditional_writable c ts (h.0.1 refl) (all_writable c ts a.1 h.1 r)
 
-    all_writable : (c : ℕ) (ts : Trees) → Answered (preorder_all ts) → Resolved (preorder_all ts) → AreAllReferencesWritable f m c ts → AreAllWritable f m c ts
+    all_writable : (c : ℕ) (ts : Trees) → Answered (preorder_all ts) → Resolved (preorder_all ts) →
+        AreAllReferencesWritable f m c ts → AreAllWritable f m c ts
     all_writable c no_trees a h r = tt
     all_writable c (more_trees t ts) a h r =
         let (x, y) = each_split IsAnsweredNode (preorder t) (preorder_all ts) a in
@@ -213,7 +215,7 @@ module _ {f : Flags} {text : Text} {t : Tree} {m : Marks} (a : IsTreeOf f text t
   -- a reference counts as written as a number exactly if some node is to be
   pub numeric_told : m.numeric_capture_group_references ≡ list_any (is_numbered m) (preorder t)
   numeric_told =
-      same_truth m.numeric_capture_group_references (list_any (is_numbered m) (preorder t))
+      both_ways m.numeric_capture_group_references (list_any (is_numbered m) (preorder t))
       (λ b. ap (list_any (is_numbered m)) nodes
       ∙ numbered_some f m text (bytes text) named numbers_of b 0 (preorder raw) (derived_parsed a.1) marked
       (sym numeric_is ∙ b))
@@ -222,7 +224,7 @@ module _ {f : Flags} {text : Text} {t : Tree} {m : Marks} (a : IsTreeOf f text t
   -- and one is a call of all by its number exactly if some node is
   pub self_told : m.self_recursive ≡ list_any (is_numbered_call_of_all m) (preorder t)
   self_told =
-      same_truth m.self_recursive (list_any (is_numbered_call_of_all m) (preorder t))
+      both_ways m.self_recursive (list_any (is_numbered_call_of_all m) (preorder t))
       (λ b. ap (list_any (is_numbered_call_of_all m)) nodes
       ∙ called_some f m text (bytes text) named numbers_of 0 (preorder raw) marked (sym self_is ∙ b))
       (called_by m (preorder t))

@@ -9,12 +9,6 @@ pub each_split : {A : Type 0} (P : A → Type 0) (l m : List A) → AllByRecursi
 each_split P [] m h = (tt, h)
 each_split P (x ∷ l) m h = let (a, b) = each_split P l m h.1 in ((h.0, a), b)
 
--- what follows from it holds of each too
-pub each_map : {A : Type 0} (P Q : A → Type 0) → ((x : A) → P x → Q x) → (l : List A) → AllByRecursion P l →
-    AllByRecursion Q l
-each_map P Q f [] h = tt
-each_map P Q f (x ∷ l) h = (f x h.0, each_map P Q f l h.1)
-
 -- of each that passes
 pub each_filtered : {A : Type 0} (P : A → Type 0) (p : A → Bool) (l : List A) → AllByRecursion P l →
     AllByRecursion P (filter p l)

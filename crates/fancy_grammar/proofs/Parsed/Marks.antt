@@ -18,7 +18,8 @@ use Rattle.fancy_grammar.specs.Marks.{Marks, ascending}
 use Rattle.fancy_grammar.specs.Pattern.{group_count, group_count_all}
 use Rattle.fancy_grammar.specs.Preorder.{preorder, preorder_all}
 use Rattle.fancy_grammar.specs.Tree.{Tree, leaf, over, row, Trees, no_trees, more_trees}
-use Rattle.fancy_grammar.specs.Writable.{numbers_told, is_numbered, is_numbered_call_of_all, openings_told, marks_of, AreCounted}
+use Rattle.fancy_grammar.specs.Writable.{numbers_told, is_numbered, is_numbered_call_of_all, openings_told, marks_of}
+use Rattle.fancy_grammar.specs.Writable.{AreCounted}
 use Rattle.fancy_grammar.proofs.AnsweredLaws.{answered_with}
 use Rattle.fancy_grammar.proofs.NamedNumbers.{fold_all}
 use Rattle.fancy_grammar.proofs.Parsed.Lists.{each_split, each_filtered, length_filtered}
@@ -124,7 +125,8 @@ module _ {f : Flags} {text : Text} {t : Tree} {m : Marks} (a : IsTreeOf f text t
   -- a name has the numbers that the marks tell of
   pub numbers_are : (w : Text) → numbers_told m w ≡ numbers_in f raw w
   numbers_are w =
-      ap (λ n. numbers w (openings_told m 0 n)) (sym count_told) ∙ (ap (numbers w) told ∙ unreached_numbers 0 w numbered)
+      ap (λ n. numbers w (openings_told m 0 n)) (sym count_told)
+      ∙ (ap (numbers w) told ∙ unreached_numbers 0 w numbered)
 
   -- each group of the tree has a number
   pub counted_told : AreCounted m.numbered_groups_ignored (openings_told m 0 (group_count t))

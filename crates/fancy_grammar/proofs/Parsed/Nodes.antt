@@ -89,7 +89,8 @@ module _ (f : Flags) (text : Text) where
 
   pub all_parsed : (ts : List Tree) → AreParsed ts → AllByRecursion (IsParsedNode f text) (preorder_all (trees_of ts))
   all_parsed [] h = tt
-  all_parsed (t ∷ ts) h = each_append (IsParsedNode f text) (preorder t) (preorder_all (trees_of ts)) h.0 (all_parsed ts h.1)
+  all_parsed (t ∷ ts) h =
+      each_append (IsParsedNode f text) (preorder t) (preorder_all (trees_of ts)) h.0 (all_parsed ts h.1)
 
   each_parsed : (ts : Trees) → AllByRecursion (IsParsedNode f text) (preorder_all ts) → AreParsed (list_of ts)
   each_parsed no_trees h = tt

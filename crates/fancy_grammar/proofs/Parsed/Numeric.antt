@@ -2,6 +2,7 @@
 use Rattle.std.proofs.Common.{◌≡◌, ℕ, zero, suc, ◌+◌, ◌==◌, Bool, true, false, ◌||◌, ◌&&◌, if◌then◌else◌, List, [], ◌∷◌}
 use Rattle.std.proofs.Common.{Some, None, nat_lt, refl, sym, ◌∙◌, arith}
 use Rattle.std.proofs.lemmas.Bool.Decides.{nat_tests}
+use Rattle.std.proofs.Math.Bool.{or-true}
 use Rattle.std.specs.List.{AllByRecursion, list_any}
 use Rattle.fancy_lex.specs.Target.{by_number, by_name, relative}
 use Rattle.fancy_lex.specs.Text.{Text, bytes, place_at}
@@ -17,31 +18,19 @@ use Rattle.fancy_grammar.specs.Resolved.{resolved_in}
 use Rattle.fancy_grammar.specs.Tree.{Tree, leaf, ast_node, ast_group}
 use Rattle.fancy_grammar.specs.Writable.{is_numbered, is_numbered_call_of_all}
 use Rattle.fancy_grammar.proofs.PreorderLaws.{kept, kept_if, items_of_all}
+use Rattle.fancy_grammar.proofs.Parsed.Targets.{both_right}
 use Rattle.fancy_grammar.proofs.Parsed.Nodes.{IsParsedNode, IsAstRead}
 use Rattle.fancy_grammar.proofs.Parsed.References.{IsMarkedNode}
 
 -- ---- truth values
 
-or_true : (a : Bool) → (a || true) ≡ true
-or_true true = refl
-or_true false = refl
-
 or_step : (a n b k : Bool) → (a ≡ true → b ≡ true) → (n ≡ true → k ≡ true) → (a || n) ≡ true → (b || k) ≡ true
 or_step true n b k f g e = rw (f refl) refl
-or_step false n b k f g e = rw (g e) (or_true b)
-
-pub same_truth : (a b : Bool) → (a ≡ true → b ≡ true) → (b ≡ true → a ≡ true) → a ≡ b
-same_truth true b f g = sym (f refl)
-same_truth false true f g = g refl
-same_truth false false f g = refl
+or_step false n b k f g e = rw (g e) (or-true b)
 
 both_left : (a b : Bool) → (a && b) ≡ true → a ≡ true
 both_left true b e = refl
 both_left false b e = absurd cc
-
-both_right : (a b : Bool) → (a && b) ≡ true → b ≡ true
-both_right true b e = e
-both_right false b e = absurd cc
 
 -- of one that is so what it gives
 any_gives : (p : Tree → Bool) (P : Type 0) → ((x : Tree) → p x ≡ true → P) → (l : List Tree) → list_any p l ≡ true → P
@@ -126,7 +115,7 @@ module _ (f : Flags) (m : Marks) (text : Text) (z : ℕ) (named : Bool) (u : Tex
   or_left a b e = rw e refl
 
   or_right : (a b : Bool) → b ≡ true → (a || b) ≡ true
-  or_right a b e = rw e (or_true a)
+  or_right a b e = rw e (or-true a)
 
   pub marked_nodes : (c : ℕ) (l : List Tree) → (list_any is_written (meant c l) ≡ true →
       m.numeric_capture_group_references ≡ true) →

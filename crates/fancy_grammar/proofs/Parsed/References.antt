@@ -12,7 +12,8 @@ use Rattle.fancy_lex.specs.NumberText.{number_text}
 use Rattle.fancy_lex.specs.Target.{Target, by_number, by_name, relative}
 use Rattle.fancy_lex.specs.Text.{Text}
 use Rattle.fancy_lex.specs.declared.flags.Flags.{Flags}
-use Rattle.fancy_parts.specs.Meaning.{Meaning, number, unresolved, faulty, means, last_of, only_one, at_distance, back_to}
+use Rattle.fancy_parts.specs.Meaning.{Meaning, number, unresolved, faulty, means, last_of, only_one, at_distance}
+use Rattle.fancy_parts.specs.Meaning.{back_to}
 use Rattle.fancy_parts.specs.Meaning.{call, back_reference, condition, group_or_none, no_group, Role}
 use Rattle.fancy_parts.specs.Ranks.{Opening, is_counted, numbered_openings_in, numbers}
 use Rattle.fancy_grammar.specs.Answered.{IsAnsweredNode, AscendingNumbers}
@@ -86,6 +87,11 @@ pub groups_fit : (named : Bool) (n : ℕ) (l : List Item) → DescendingReaches 
     length (numbered_openings_in named (openings_in l)) ≤ n
 groups_fit named n l h =
     omega (arith, fewer_numbered named (openings_in l), fewer_openings l, fewer_items (n + 2) 2 l h)
+
+counted_append : (named : Bool) (a b : List Item) → counted named (a ++ b) ≡ counted named a + counted named b
+counted_append named a b =
+    ap (λ l. length (numbered_openings_in named l)) (openings_append a b)
+    ∙ length_filtered (λ (o : Opening). is_counted named o.name) (openings_in a) (openings_in b)
 
 -- ---- what a leaf is resolved to
 
@@ -323,10 +329,7 @@ module _ (f : Flags) (m : Marks) (text : Text) (z : ℕ) (named : Bool) (u : Tex
     count_all_there c (more_trees t ts) h =
         let (a, b) = each_split IsReadNode (preorder t) (preorder_all ts) h in
         let k = c + counted named (items t) in
-        let both : counted named (items t ++ items_all ts) ≡ counted named (items t) + counted named (items_all ts)
-        = ap (λ l. length (numbered_openings_in named l)) (openings_append (items t) (items_all ts))
-        ∙ length_filtered (λ (o : Opening). is_counted named o.name) (openings_in (items t))
-        (openings_in (items_all ts)) in
+        let both = counted_append named (items t) (items_all ts) in
         omega (arith, count_there c t a, count_all_there k ts b, both)
 
   mutual
@@ -362,11 +365,9 @@ module _ (f : Flags) (m : Marks) (text : Text) (z : ℕ) (named : Bool) (u : Tex
         let (i0, i1) = each_split IsReadNode (preorder t) (preorder_all ts) i in
         let (k0, k1) = each_split (IsMarkedNode m) (preorder t) (preorder_all ts) k in
         let next = c + counted named (items t) in
-        let (a0, a1) = each_split IsAnsweredNode (preorder (there c t)) (preorder_all (resolved_all z named u next ts)) a in
-        let both : counted named (items t ++ items_all ts) ≡ counted named (items t) + counted named (items_all ts)
-        = ap (λ l. length (numbered_openings_in named l)) (openings_append (items t) (items_all ts))
-        ∙ length_filtered (λ (o : Opening). is_counted named o.name) (openings_in (items t))
-        (openings_in (items_all ts)) in (
+        let (a0, a1) =
+        each_split IsAnsweredNode (preorder (there c t)) (preorder_all (resolved_all z named u next ts)) a in
+        let both = counted_append named (items t) (items_all ts) in (
           met c t h0 i0 k0 a0 (omega (arith, l, both)),
           subst (λ n. AreAllReferencesWritable f m (c + n) (resolved_all z named u next ts)) (sym (count_there c t i0))
               (all_met next ts h1 i1 k1 a1 (omega (arith, l, both))),

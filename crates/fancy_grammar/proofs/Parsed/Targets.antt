@@ -61,7 +61,7 @@ IsReferenceRead r = IsTargetRead r.target × IfSome r.level IsLevelWritable
 abbrev IfWord : Option ℕ → Type 0
 IfWord o = IfSome o IsWord
 
-both_right : (a b : Bool) → (a && b) ≡ true → b ≡ true
+pub both_right : (a b : Bool) → (a && b) ≡ true → b ≡ true
 both_right true b e = e
 both_right false b e = absurd cc
 
@@ -73,7 +73,8 @@ whole_word t = by_number (number t)
     by_number None = tt
     by_number (Some p) =
         cond_both (is_nothing p.1 && nat_lt p.0 (2 ^ 64)) _ _ IfWord
-        (λ e. let less = both_right (is_nothing p.1) (nat_lt p.0 (2 ^ 64)) e in grind (arith, nat_tests, less)) (λ _. tt)
+        (λ e. let less = both_right (is_nothing p.1) (nat_lt p.0 (2 ^ 64)) e in grind (arith, nat_tests, less))
+        (λ _. tt)
 
 text_word : (w : Text) → IfWord (number_text w)
 unfolding number_text
@@ -187,7 +188,8 @@ named_reference_plain t =
     IsPlain : Reference → Type 0
     IsPlain r = r.level ≡ None
 
-    alone : (i v : Text) (r : Reference) → option_map (reference_of (reach_of t)) (with_id false i v) ≡ Some r → IsPlain r
+    alone : (i v : Text) (r : Reference) → option_map (reference_of (reach_of t)) (with_id false i v) ≡ Some r →
+        IsPlain r
     alone i [] r e = let same : reference_of (reach_of t) (id_alone i) ≡ r = cc in subst IsPlain same refl
     alone i (c ∷ v) r e = absurd cc
 
@@ -225,15 +227,16 @@ call_target_read w h =
     by_id (Some (id_and_amount v z)) h = tt
     by_id (Some (amount_alone z)) h = h
 
-abbrev IfNamed : Option (Text × Text) → Type 0
+abbrev pub IfNamed : Option (Text × Text) → Type 0
 IfNamed o = IfSome o (λ q. IsNameWritable q.0)
 
-marked_writable : (t : Text) → IfNamed (marked_name t)
+pub marked_writable : (t : Text) → IfNamed (marked_name t)
 unfolding marked_name
 marked_writable [] = tt
 marked_writable (c ∷ t) =
     cond_both (c == code "<") _ _ IfNamed (λ _. by_angle (name_before (code ">") t) (before_free (code ">") t)) (λ _.
-    cond_both (c == code "'") _ _ IfNamed (λ _. by_quote (name_before (code "'") t) (before_free (code "'") t)) (λ _. tt))
+    cond_both (c == code "'") _ _ IfNamed (λ _. by_quote (name_before (code "'") t) (before_free (code "'") t))
+    (λ _. tt))
   where
     by_angle : (o : Option (Text × Text)) → IfNameFree (code ">") o → IfNamed o
     by_angle None h = tt

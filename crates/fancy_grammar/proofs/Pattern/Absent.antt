@@ -51,7 +51,8 @@ comment_whole μ h s v g x w =
       derives =
           whole_behind h.depth (st h.flags bar) (st h.flags t)
           (λ q p. next refl
-          (piece_as (comment_passed h.flags.ignore_space bar ∙ (stops_bar h.flags.ignore_space s).clear.no_layout) (atom (nothing_at h.depth h.flags s) a_nothing)
+          (piece_as (comment_passed h.flags.ignore_space bar ∙ (stops_bar h.flags.ignore_space s).clear.no_layout)
+          (atom (nothing_at h.depth h.flags s) a_nothing)
           (quants_one h.depth (bytes t) h.flags empty empty bar bar (stops_bar h.flags.ignore_space s).clear
           (quant_none (bytes t) h.flags empty bar (stops_bar h.flags.ignore_space s).clear))) p)
           w.derives;

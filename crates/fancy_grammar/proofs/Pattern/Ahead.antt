@@ -1,5 +1,5 @@
 -- What stands before an atom: a leaf without parentheses suits the flags, and a group keeps the mode.
-use Rattle.std.proofs.Common.{◌≡◌, ℕ, ◌+◌, ◌<◌, ◌≤◌, Bool, false, [], ◌∷◌, codes, refl}
+use Rattle.std.proofs.Common.{◌≡◌, ℕ, ◌+◌, ◌<◌, ◌≤◌, Bool, false, [], ◌∷◌, codes, refl, ap}
 use Rattle.std.proofs.Common.{◌∙◌, arith, nat_le, ◌==◌}
 use Rattle.std.proofs.lemmas.Bool.{cond_both}
 use Rattle.std.proofs.lemmas.Bool.Decides.{nat_tests}
@@ -14,6 +14,7 @@ use Rattle.fancy_lex.specs.Referred.{Reference, Call}
 use Rattle.fancy_lex.specs.Text.{Text, strip_word}
 use Rattle.fancy_lex.specs.declared.flags.Flags.{Flags}
 use Rattle.fancy_lex.proofs.ReadingLemmas.{choose_both}
+use Rattle.fancy_lex.proofs.ReferencePlaces.{IfGives}
 use Rattle.fancy_parts.specs.FlagLetters.{Letters, setting, scope as scoped}
 use Rattle.fancy_parts.specs.GroupName.{group_name}
 use Rattle.fancy_parts.specs.HeadReference.{named_reference, named_call, begins_target, condition_target}
@@ -30,9 +31,10 @@ use Rattle.fancy_grammar.specs.State.{skipped, State, at}
 use Rattle.fancy_grammar.specs.Tree.{Tree, leaf, delegate}
 use Rattle.fancy_grammar.specs.Verb.{verb_at}
 use Rattle.fancy_grammar.proofs.OutcomeLemmas.{Holds}
+use Rattle.fancy_grammar.proofs.Parsed.Readers.{IsModeOf, letters_mode}
 use Rattle.fancy_grammar.proofs.Pattern.Suited.{Suits}
-use Rattle.fancy_grammar.proofs.Pattern.Told.{Gives, HasMode, letters_mode, IsBare, IsTold, told_escape, literal_suits}
-use Rattle.fancy_grammar.proofs.Pattern.Told.{delegate_suits, dot_suits, start_suits, end_suits}
+use Rattle.fancy_grammar.proofs.Pattern.Told.{IsBare, IsTold, told_escape, literal_suits, delegate_suits, dot_suits}
+use Rattle.fancy_grammar.proofs.Pattern.Told.{start_suits, end_suits}
 
 -- no group may open where so many are open
 abbrev pub IsLast : ℕ → Type 0
@@ -86,10 +88,11 @@ module _ (d : ℕ) (s : State) (o : s.flags.oniguruma_mode ≡ false) where
       mode = m;
     }
 
-    flags_tell : (f : Flags) → f.oniguruma_mode ≡ false → (q : Reading Letters) → Gives (HasMode f.oniguruma_mode) q →
+    flags_tell : (f : Flags) → f.oniguruma_mode ≡ false → (q : Reading Letters) → IfGives (IsModeOf f) q →
         AheadTells d s (flags_ahead q)
-    flags_tell f m (gives (setting g) u) h = open_leaf label.empty (record { flags = g; rest = u }) (h ∙ m)
-    flags_tell f m (gives (scoped g) u) h = h ∙ m
+    flags_tell f m (gives (setting g) u) h =
+        open_leaf label.empty (record { flags = g; rest = u }) (ap (λ k. k.oniguruma_mode) h ∙ m)
+    flags_tell f m (gives (scoped g) u) h = ap (λ k. k.oniguruma_mode) h ∙ m
     flags_tell f m (fails e) h = tt
 
     name_tells : (z : State) → z.flags.oniguruma_mode ≡ false → (q : Reading Text) → AheadTells d s (named_ahead z q)
@@ -156,7 +159,7 @@ module _ (d : ℕ) (s : State) (o : s.flags.oniguruma_mode ≡ false) where
   plain_leaf : (l : Leaf) (t : Text) → (IsLast d → IsPlain s.flags l) → LeafRead d s (leaf l) (at s t)
   plain_leaf l t h = record { is_leaf = tt; plain = h; stays = λ _. refl; mode = o }
 
-  escape_tells : (q : Reading Escape) → Gives (IsTold s.flags) q → Holds (LeafRead d s) (leaf_outcome leaf_node s q)
+  escape_tells : (q : Reading Escape) → IfGives (IsTold s.flags) q → Holds (LeafRead d s) (leaf_outcome leaf_node s q)
   escape_tells (gives (escaped.literal c casei) u) h = plain_leaf _ u (λ _. (refl, h))
   escape_tells (gives (escaped.literal_bytes b) u) h = plain_leaf _ u (λ _. (refl, h))
   escape_tells (gives (escaped.any newline crlf) u) h = plain_leaf _ u (λ _. (refl, h))

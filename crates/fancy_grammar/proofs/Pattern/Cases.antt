@@ -123,8 +123,8 @@ module _ (μ : Marks) where
       leaf_by (label.backref n casei) h refl
       (λ _. backref_at μ (under (settled h.flags (leaf (label.backref n casei))) h) numbered n k)
   leaf_reads numbered f (label.backref_at_level n level casei) h like k =
-      leaf_by (label.backref_at_level n level casei) h refl
-      (λ _. level_at μ (under (settled h.flags (leaf (label.backref_at_level n level casei))) h) numbered n level k.0 k.1)
+      let l = label.backref_at_level n level casei in
+      leaf_by l h refl (λ _. level_at μ (under (settled h.flags (leaf l)) h) numbered n level k.0 k.1)
   leaf_reads numbered f (label.subroutine_call n) h like k =
       leaf_by (label.subroutine_call n) h refl (λ _. call_at μ h numbered n k)
   leaf_reads numbered f (label.backref_exists n level) h like k =

@@ -20,7 +20,8 @@ use Rattle.fancy_grammar.specs.Ahead.{ahead, condition, body, refused}
 use Rattle.fancy_grammar.specs.Grammar.{atom, a_condition, a_body, inside}
 use Rattle.fancy_grammar.specs.Label as label
 use Rattle.fancy_grammar.specs.Marks.{Marks}
-use Rattle.fancy_grammar.specs.Pattern.{Here, past_groups, deeper, written, flags_behind, condition_text, verb_name, parted_if}
+use Rattle.fancy_grammar.specs.Pattern.{Here, past_groups, deeper, written, flags_behind, condition_text, verb_name}
+use Rattle.fancy_grammar.specs.Pattern.{parted_if}
 use Rattle.fancy_grammar.specs.PatternDepth.{MayOpen, Fits, FitsAsCondition}
 use Rattle.fancy_grammar.specs.PatternReference.{name_of}
 use Rattle.fancy_grammar.specs.State as states
@@ -40,7 +41,8 @@ use Rattle.fancy_grammar.proofs.Pattern.Conditions.{ConditionAt, condition_at}
 use Rattle.fancy_grammar.proofs.Pattern.Groups.{question_at}
 use Rattle.fancy_grammar.proofs.Pattern.Leaves.{marks, some_verb, reads_spelled, begins_spelled, fail_read, accept_read}
 use Rattle.fancy_grammar.proofs.Pattern.Leaves.{commit_read, skip_read, prune_read}
-use Rattle.fancy_grammar.proofs.Pattern.Rules.{Clear, Stops, ends_close, WholeAt, Rest, no_more, lead, reads_branch, reads_only}
+use Rattle.fancy_grammar.proofs.Pattern.Rules.{Clear, Stops, ends_close, WholeAt, Rest, no_more, lead, reads_branch}
+use Rattle.fancy_grammar.proofs.Pattern.Rules.{reads_only}
 use Rattle.fancy_grammar.proofs.ReadBack.ClearLemmas.{no_mark_is}
 use Rattle.fancy_grammar.proofs.ReadBack.RuleLemmas.{st}
 use Rattle.fancy_grammar.proofs.Unique.{alternation_unique, state_of}
@@ -94,7 +96,8 @@ module _ (μ : Marks) where
           = strip_word_is (w ++ codes ")") (t ++ code ")" ∷ z) r e ∙ append_assoc w (codes ")") r in
           let s = ends_close h.flags.ignore_space r in
           let b = reads_only μ h (w ++ code ")" ∷ r) (code ")" ∷ r) h.flags _
-          (reads_branch μ h (w ++ code ")" ∷ r) (code ")" ∷ r) h.flags _ (letters_rest h w (code ")" ∷ r) letters s.stops))
+          (reads_branch μ h (w ++ code ")" ∷ r) (code ")" ∷ r) h.flags _
+          (letters_rest h w (code ")" ∷ r) letters s.stops))
           s.no_bar in
           let same : st h.flags (code ")" ∷ r) ≡ st g (code ")" ∷ z)
           = state_of (alternation_unique b.derives a.derives (ap (st h.flags) (sym is))) in
@@ -117,7 +120,8 @@ module _ (μ : Marks) (i : Here) (d : MayOpen i) where
   unfolding begins_target
   verb_stands t z b e =
       question_at i.depth i.flags (codes "(*" ++ (t ++ z)) d
-      ∙ ap (λ o. choose o (λ p. body (leaf (label.verb p.0)) (st i.flags p.1)) (refused (unknown_verb (code "*" ∷ (t ++ z))))) e
+      ∙ ap (λ o. choose o (λ p. body (leaf (label.verb p.0)) (st i.flags p.1))
+      (refused (unknown_verb (code "*" ∷ (t ++ z))))) e
 
   on_verb : (b : BacktrackingControlVerb) → Before μ i (verb_name b) i.flags (leaf (label.verb b))
   on_verb b = record {

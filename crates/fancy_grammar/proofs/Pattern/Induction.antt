@@ -175,7 +175,8 @@ module _ (μ : Marks) (t : Tree) (h : Here) (solid : is_empty t ≡ false) where
 
   -- a Concat: pieces as they are in a branch
   pub by_branch : (d : Type 0) (inside : Here → Type 0) (k s : Text) (g f : Flags) (ys : List Tree) →
-      one_or concat ys ≡ t → (d → BeginsHere h k) → (d → (v : Text) → Stops h.flags.ignore_space v → Rest μ h (k ++ v) g v ys) →
+      one_or concat ys ≡ t → (d → BeginsHere h k) →
+      (d → (v : Text) → Stops h.flags.ignore_space v → Rest μ h (k ++ v) g v ys) →
       (inside (inner set_in h) → (v : Text) → Ends h.flags.ignore_space v → WholeAt μ (inner set_in h) (s ++ v) f v t) →
       flags_behind t Piece h.flags ≡ h.flags →
       ReadsBy μ t h d d (FitsInParens inside (under set_in h)) (FitsInParens inside (under set_in h)) k k (scoped s)

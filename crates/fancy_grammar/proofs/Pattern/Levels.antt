@@ -144,8 +144,8 @@ module _ (f : Flags) (μ : Marks) where
           ),
         )
     levels_fit (row label.conditional (more_trees a (more_trees t (more_trees b no_trees)))) p h c k e s d =
-        let i = deeper (under (settled h.flags (row label.conditional (more_trees a (more_trees t (more_trees b no_trees)))))
-        h) in
+        let x = row label.conditional (more_trees a (more_trees t (more_trees b no_trees))) in
+        let i = deeper (under (settled h.flags x) h) in
         let j = behind a Whole i in
         let next = like_behind a Whole f i.flags e in (
           λ _. omega arith,

@@ -52,7 +52,7 @@ pub record PlainName (w : Text) : Type 0 where
   pub ids : AllByRecursion (λ c. is_id_char c ≡ true) w
 
 -- the id at the front is of id characters
-pub run_of_ids : (t : Text) → AllByRecursion (λ c. is_id_char c ≡ true) (id_run t).0
+run_of_ids : (t : Text) → AllByRecursion (λ c. is_id_char c ≡ true) (id_run t).0
 unfolding id_run
 run_of_ids [] = tt
 run_of_ids (c ∷ t) = at (is_id_char c) refl (id_run t) (run_of_ids t)
@@ -62,15 +62,15 @@ run_of_ids (c ∷ t) = at (is_id_char c) refl (id_run t) (run_of_ids t)
     at true e p h = (e, h)
     at false e p h = tt
 
-pub no_id : (c : ℕ) → c ∈ ">+-" ≡ true → is_id_char c ≡ false
+no_id : (c : ℕ) → c ∈ ">+-" ≡ true → is_id_char c ≡ false
 no_id c h =
     other_told c (grind (arith, nat_tests)) (grind (arith, nat_tests)) ∙ grind (arith, nat_tests)
 
 -- so that an id character is none of these
-pub id_apart : (c d : ℕ) → d ∈ ">+-" ≡ true → is_id_char c ≡ true → (c == d) ≡ false
+id_apart : (c d : ℕ) → d ∈ ">+-" ≡ true → is_id_char c ≡ true → (c == d) ≡ false
 id_apart c d h i = ne_eqb c d (λ e. false≢true (sym (no_id d h) ∙ (ap is_id_char (sym e) ∙ i)))
 
-pub id_no_mark : (w : Text) → AllByRecursion (λ c. is_id_char c ≡ true) w → is_among (code ">") w ≡ false
+id_no_mark : (w : Text) → AllByRecursion (λ c. is_id_char c ≡ true) w → is_among (code ">") w ≡ false
 id_no_mark [] h = refl
 id_no_mark (c ∷ []) h = ne_eqb (code ">") c (λ e. false≢true (sym (no_id (code ">") refl) ∙ (ap is_id_char e ∙ h.0)))
 id_no_mark (c ∷ d ∷ w) h =
@@ -78,7 +78,7 @@ id_no_mark (c ∷ d ∷ w) h =
     = ne_eqb (code ">") c (λ e. false≢true (sym (no_id (code ">") refl) ∙ (ap is_id_char e ∙ h.0))) in
     rw first (id_no_mark (d ∷ w) h.1)
 
-pub id_whole : (w : Text) → is_some (id_reference false w) ≡ true →
+id_whole : (w : Text) → is_some (id_reference false w) ≡ true →
     ◌≡◌ {A = Option (Text × Text)} (id w) (Some (w, []))
 unfolding id_reference
 id_whole w h = at (id w) refl h
@@ -90,7 +90,7 @@ id_whole w h = at (id w) refl h
     at (Some (i, [])) e h = e ∙ (λ j. Some (sym (id_cut w i [] e ∙ append-nil i) j, []))
     at (Some (i, d ∷ u)) e h = absurd cc
 
-pub ids_of : (w : Text) → ◌≡◌ {A = Option (Text × Text)} (id w) (Some (w, [])) →
+ids_of : (w : Text) → ◌≡◌ {A = Option (Text × Text)} (id w) (Some (w, [])) →
     AllByRecursion (λ c. is_id_char c ≡ true) w
 unfolding id
 ids_of w e = subst (AllByRecursion (λ c. is_id_char c ≡ true)) (at (id_run w) e) (run_of_ids w)
@@ -100,21 +100,21 @@ ids_of w e = subst (AllByRecursion (λ c. is_id_char c ≡ true)) (at (id_run w)
     at (c ∷ x, v) e =
         let same : ◌≡◌ {A = Text × Text} (c ∷ x, v) (w, []) = cc in ap (λ (p : Text × Text). p.0) same
 
-pub some_of : (w : Text) → ◌≡◌ {A = Option (Text × Text)} (id w) (Some (w, [])) → (c : ℕ) × (u : Text) × (w ≡ c ∷ u)
+some_of : (w : Text) → ◌≡◌ {A = Option (Text × Text)} (id w) (Some (w, [])) → (c : ℕ) × (u : Text) × (w ≡ c ∷ u)
 unfolding id id_run
 some_of [] e = absurd cc
 some_of (c ∷ u) e = (c, u, refl)
 
-pub none_of : (o : Option ℕ) → is_none o ≡ true → o ≡ None
+none_of : (o : Option ℕ) → is_none o ≡ true → o ≡ None
 none_of None h = refl
 none_of (Some n) h = absurd cc
 
-pub no_relative : (w : Text) → AllByRecursion (λ c. is_id_char c ≡ true) w → is_relative w ≡ false
+no_relative : (w : Text) → AllByRecursion (λ c. is_id_char c ≡ true) w → is_relative w ≡ false
 unfolding is_relative
 no_relative [] h = refl
 no_relative (c ∷ t) h = rw (id_apart c (code "+") refl h.0, id_apart c (code "-") refl h.0) refl
 
-pub alone_read : (w : Text) → ◌≡◌ {A = Option (Text × Text)} (id w) (Some (w, [])) →
+alone_read : (w : Text) → ◌≡◌ {A = Option (Text × Text)} (id w) (Some (w, [])) →
     id_reference true w ≡ Some (id_alone w)
 unfolding id_reference
 alone_read w e = rw e refl
@@ -162,7 +162,7 @@ unfolding escape_at lone_escape outside escapes.back_reference reference_by_name
 backref_read_by f w v target level e h = rw (e, h (reach_of (code "<" ∷ (w ++ code ">" ∷ v)))) refl
 
 module _ (w : Text) (h : PlainName w) (v : Text) where
-  abbrev pub in_marks : Text
+  abbrev in_marks : Text
   in_marks = code "<" ∷ (w ++ code ">" ∷ v)
 
   pub name_read : ◌≡◌ {A = Option (Text × Text)} (marked_name in_marks) (Some (w, v))
@@ -182,17 +182,17 @@ module _ (w : Text) (h : PlainName w) (v : Text) where
 
 -- ---- distances
 
-pub whole_digits : (n : ℕ) → n < 2 ^ 64 → whole_number (decimal n) ≡ Some n
+whole_digits : (n : ℕ) → n < 2 ^ 64 → whole_number (decimal n) ≡ Some n
 unfolding whole_number
 whole_digits n h =
     let e : numbers.number (decimal n) ≡ Some (n, [])
     = subst (λ z. numbers.number z ≡ Some (n, [])) (append-nil (decimal n)) (number_read n [] h refl) in
     rw (e, lt-ltb n (2 ^ 64) h) refl
 
-pub digit_apart : (c d : ℕ) → d ∈ ">+-" ≡ true → is_ascii_digit c ≡ true → (c == d) ≡ false
+digit_apart : (c d : ℕ) → d ∈ ">+-" ≡ true → is_ascii_digit c ≡ true → (c == d) ≡ false
 digit_apart c d h e = grind (arith, nat_tests)
 
-pub no_sign : (ds : Text) → IsNumeral 10 ds → strip (code "+") ds ≡ None
+no_sign : (ds : Text) → IsNumeral 10 ds → strip (code "+") ds ≡ None
 no_sign [] h = absurd (omega (arith, h.0))
 no_sign (d ∷ ds) h = rw (digit_apart d (code "+") refl ((digit_is d h.1.0).0)) refl
 
@@ -207,11 +207,11 @@ digits_without mark k (c ∷ d ∷ ds) h =
 pub digits_unmarked : (ds : Text) → AllDigits 10 ds → is_among (code ">") ds ≡ false
 digits_unmarked ds h = digits_without (code ">") refl ds h
 
-pub number_text_digits : (n : ℕ) → n < 2 ^ 64 → number_text (decimal n) ≡ Some n
+number_text_digits : (n : ℕ) → n < 2 ^ 64 → number_text (decimal n) ≡ Some n
 unfolding number_text
 number_text_digits n h = rw (no_sign (decimal n) ((decimal_is_IsNumeral n h).0)) (whole_digits n h)
 
-pub no_relative_digits : (ds : Text) → IsNumeral 10 ds → is_relative ds ≡ false
+no_relative_digits : (ds : Text) → IsNumeral 10 ds → is_relative ds ≡ false
 unfolding is_relative
 no_relative_digits [] h = absurd (omega (arith, h.0))
 no_relative_digits (d ∷ ds) h =
@@ -232,16 +232,16 @@ digits_marked n l v = at (decimal n) ((decimal_is_IsNumeral n l).0)
     at [] h = absurd (omega (arith, h.0))
     at (d ∷ ds) h = marked_read d ds v (digits_unmarked (d ∷ ds) h.1)
 
-pub digit_is_id : (c : ℕ) → is_ascii_digit c ≡ true → is_id_char c ≡ true
+digit_is_id : (c : ℕ) → is_ascii_digit c ≡ true → is_id_char c ≡ true
 digit_is_id c h = alphanumeric_told c (grind (arith, nat_tests))
 
-pub digits_are_id : (ds : Text) → AllDigits 10 ds → ◌≡◌ {A = Text × Text} (id_run ds) (ds, [])
+digits_are_id : (ds : Text) → AllDigits 10 ds → ◌≡◌ {A = Text × Text} (id_run ds) (ds, [])
 unfolding id_run
 digits_are_id [] h = refl
 digits_are_id (d ∷ ds) h =
     rw (digit_is_id d ((digit_is d h.0).0)) (ap (λ (p : Text × Text). (d ∷ p.0, p.1)) (digits_are_id ds h.1))
 
-pub id_of_digits : (ds : Text) → IsNumeral 10 ds → ◌≡◌ {A = Option (Text × Text)} (id ds) (Some (ds, []))
+id_of_digits : (ds : Text) → IsNumeral 10 ds → ◌≡◌ {A = Option (Text × Text)} (id ds) (Some (ds, []))
 unfolding id
 id_of_digits [] h = absurd (omega (arith, h.0))
 id_of_digits (d ∷ ds) h = ap nonempty_front (digits_are_id (d ∷ ds) h.1)
@@ -263,7 +263,7 @@ number_written n l p =
 
 -- ---- levels
 
-pub amount_of : (sign n : ℕ) → sign ∈ "+-" ≡ true → n < amount_bound → amount (sign ∷ decimal n) ≡ Some (with_sign sign n)
+amount_of : (sign n : ℕ) → sign ∈ "+-" ≡ true → n < amount_bound → amount (sign ∷ decimal n) ≡ Some (with_sign sign n)
 unfolding amount
 amount_of sign n is small =
     let fits : n < 2 ^ 64 = omega (arith, small) in
@@ -278,7 +278,7 @@ pub record WrittenLevel (z : ℤ) : Type 0 where
   pub value : amount (sign ∷ digits) ≡ Some z
   pub no_mark : (mark : ℕ) → mark ∈ ">)" ≡ true → is_among mark (sign ∷ digits) ≡ false
 
-pub sign_marks : (mark sign : ℕ) (ds : Text) → sign ∈ "+-" ≡ true → mark ∈ ">)" ≡ true → AllDigits 10 ds →
+sign_marks : (mark sign : ℕ) (ds : Text) → sign ∈ "+-" ≡ true → mark ∈ ">)" ≡ true → AllDigits 10 ds →
     is_among mark (sign ∷ ds) ≡ false
 sign_marks mark sign [] i m h = no_sign mark sign i m
   where
@@ -326,7 +326,7 @@ both_unmarked mark (c ∷ []) (d ∷ v) h k = rw h k
 both_unmarked mark (c ∷ d ∷ w) v h k =
     let (a, b) = or_parts (mark == c) (is_among mark (d ∷ w)) h in rw a (both_unmarked mark (d ∷ w) v b k)
 
-pub run_before : (w ds : Text) (sign : ℕ) → AllByRecursion (λ c. is_id_char c ≡ true) w → is_id_char sign ≡ false →
+run_before : (w ds : Text) (sign : ℕ) → AllByRecursion (λ c. is_id_char c ≡ true) w → is_id_char sign ≡ false →
     ◌≡◌ {A = Text × Text} (id_run (w ++ sign ∷ ds)) (w, sign ∷ ds)
 unfolding id_run
 run_before [] ds sign h i = rw i refl
@@ -335,17 +335,17 @@ run_before (c ∷ w) ds sign h i =
 
 -- a name before a level
 module _ (c : ℕ) (u : Text) (z : ℤ) (l : WrittenLevel z) (ids : AllByRecursion (λ c. is_id_char c ≡ true) (c ∷ u)) where
-  pub no_sign_id : is_id_char l.sign ≡ false
+  no_sign_id : is_id_char l.sign ≡ false
   no_sign_id = no_id l.sign (later l.sign l.is_sign)
     where
       later : (sign : ℕ) → sign ∈ "+-" ≡ true → sign ∈ ">+-" ≡ true
       later sign h = grind (arith, nat_tests)
 
-  pub id_before : ◌≡◌ {A = Option (Text × Text)} (id ((c ∷ u) ++ l.sign ∷ l.digits)) (Some (c ∷ u, l.sign ∷ l.digits))
+  id_before : ◌≡◌ {A = Option (Text × Text)} (id ((c ∷ u) ++ l.sign ∷ l.digits)) (Some (c ∷ u, l.sign ∷ l.digits))
   unfolding id
   id_before = ap nonempty_front (run_before (c ∷ u) l.digits l.sign ids no_sign_id)
 
-  pub level_read : id_reference true ((c ∷ u) ++ l.sign ∷ l.digits) ≡ Some (id_and_amount (c ∷ u) z)
+  level_read : id_reference true ((c ∷ u) ++ l.sign ∷ l.digits) ≡ Some (id_and_amount (c ∷ u) z)
   unfolding id_reference
   level_read = rw (id_before, l.value) refl
 
@@ -357,7 +357,9 @@ module _ (c : ℕ) (u : Text) (z : ℤ) (l : WrittenLevel z) (ids : AllByRecursi
   pub level_marked : is_among (code ">") (c ∷ u) ≡ false → (v : Text) → ◌≡◌ {A = Option (Text × Text)}
       (marked_name (code "<" ∷ (((c ∷ u) ++ l.sign ∷ l.digits) ++ code ">" ∷ v)))
       (Some ((c ∷ u) ++ l.sign ∷ l.digits, v))
-  level_marked h v = marked_read c (u ++ l.sign ∷ l.digits) v (both_unmarked (code ">") (c ∷ u) (l.sign ∷ l.digits) h (l.no_mark (code ">") refl))
+  level_marked h v =
+      marked_read c (u ++ l.sign ∷ l.digits) v
+      (both_unmarked (code ">") (c ∷ u) (l.sign ∷ l.digits) h (l.no_mark (code ">") refl))
 
 pub not_zero : (k : ℕ) → int_eq (pos (suc k)) (pos 0) ≡ false
 not_zero k = at (int_eq (pos (suc k)) (pos 0)) refl
@@ -374,25 +376,25 @@ not_zero k = at (int_eq (pos (suc k)) (pos 0)) refl
 -- the target of a sign and a number that is not 0
 module _ (sign k : ℕ) (z : ℤ) (is_sign : sign ∈ "+-" ≡ true) (small : suc k < amount_bound)
     (is : with_sign sign (suc k) ≡ z) (some : int_eq z (pos 0) ≡ false) where
-  pub fits_word : suc k < 2 ^ 64
+  fits_word : suc k < 2 ^ 64
   fits_word = omega (arith, small)
 
-  pub no_id_at_sign : ◌≡◌ {A = Option (Text × Text)} (id (sign ∷ decimal (suc k))) None
+  no_id_at_sign : ◌≡◌ {A = Option (Text × Text)} (id (sign ∷ decimal (suc k))) None
   unfolding id id_run
   no_id_at_sign = rw (no_id sign (later is_sign)) refl
     where
       later : sign ∈ "+-" ≡ true → sign ∈ ">+-" ≡ true
       later h = grind (arith, nat_tests)
 
-  pub amount_read : amount (sign ∷ decimal (suc k)) ≡ Some z
+  amount_read : amount (sign ∷ decimal (suc k)) ≡ Some z
   unfolding amount
   amount_read = rw (is_sign, whole_digits (suc k) fits_word, lt-ltb (suc k) amount_bound small) (ap Some is)
 
-  pub amount_alone_read : id_reference true (sign ∷ decimal (suc k)) ≡ Some (amount_alone z)
+  amount_alone_read : id_reference true (sign ∷ decimal (suc k)) ≡ Some (amount_alone z)
   unfolding id_reference
   amount_alone_read = rw (no_id_at_sign, amount_read, some) refl
 
-  pub is_relative_name : is_relative (sign ∷ decimal (suc k)) ≡ true
+  is_relative_name : is_relative (sign ∷ decimal (suc k)) ≡ true
   unfolding is_relative
   is_relative_name = rw (is_sign, number_text_digits (suc k) fits_word) (or_true (is_nothing (decimal (suc k))))
     where

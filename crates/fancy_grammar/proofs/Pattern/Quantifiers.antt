@@ -355,7 +355,7 @@ module _ (f : Flags) (possessive : Bool) (lo hi : ℕ) (greedy : Bool) (v : Text
       let lazy_text = lazy_mark f greedy in
       let m = swapped_counted f.ignore_space lo hi (lazy_text ++ v) l h in
       let same : (codes "{" ++ (decimal hi ++ (codes "," ++ (decimal lo ++ codes "}"))) ++ lazy_text) ++ v
-          ≡ (codes "{" ++ (first ++ codes "}")) ++ (lazy_text ++ v)
+      ≡ (codes "{" ++ (first ++ codes "}")) ++ (lazy_text ++ v)
       = ap (λ w. code "{" ∷ w)
       (append_assoc (decimal hi ++ (codes "," ++ (decimal lo ++ codes "}"))) lazy_text v
       ∙ ap (λ w. w ++ (lazy_text ++ v)) (sym (append_assoc (decimal hi) (codes "," ++ decimal lo) (codes "}")))) in
@@ -378,7 +378,7 @@ module _ (f : Flags) (possessive : Bool) (lo hi : ℕ) (greedy : Bool) (v : Text
       ((counts_as lo hi o ++ (lazy_mark f greedy ++ possessive_mark possessive)) ++ v)
   by_marks o ordered may m =
       let same : (counts_as lo hi o ++ (lazy_mark f greedy ++ possessive_mark possessive)) ++ v
-          ≡ counts_as lo hi o ++ (lazy_mark f greedy ++ (possessive_mark possessive ++ v))
+      ≡ counts_as lo hi o ++ (lazy_mark f greedy ++ (possessive_mark possessive ++ v))
       = append_assoc (counts_as lo hi o) _ v
       ∙ ap (λ w. counts_as lo hi o ++ w) (append_assoc (lazy_mark f greedy) (possessive_mark possessive) v) in
       let may_be : possessive ≡ true → not (f.oniguruma_mode && is_none o) ≡ true

@@ -246,7 +246,8 @@ behind_k text t (w, z) =
 
 module _ (μ : Marks) (h : Here) (numbered : (k : ℕ) → IfSome (name_of μ k) (λ e. e.1 ≡ numbers_told μ e.0)) where
   -- by the name, where it is fit, and else by the number
-  backref_without : μ.numeric_capture_group_references ≡ false → (n : ℕ) → n < 2 ^ 64 → LeafAt μ h (backref_text μ h.opened n) (label.backref n h.flags.casei)
+  backref_without : μ.numeric_capture_group_references ≡ false → (n : ℕ) → n < 2 ^ 64 →
+      LeafAt μ h (backref_text μ h.opened n) (label.backref n h.flags.casei)
   backref_without none n l =
       let such = λ (l : List ℕ). is_last n l && nat_le n h.opened in
       let P = λ (w : Text). LeafAt μ h (marked (codes "\\k") w) (label.backref n h.flags.casei) in

@@ -149,7 +149,8 @@ unresolved_at μ h (relative (pos n)) place l k meant = absurd cc
 unresolved_at μ h (relative (negsuc n)) place l k meant =
     let z = negsuc n in
     let same : suc n ≡ n + 1 = omega arith in
-    subst (λ m. LeafAt μ h (marked (codes "\\g") (code "-" ∷ decimal m)) (label.ast_node (ast_call (relative z)) place)) same
+    subst
+    (λ m. LeafAt μ h (marked (codes "\\g") (code "-" ∷ decimal m)) (label.ast_node (ast_call (relative z)) place)) same
     (in_marks μ h (relative z) place refl meant (code "-" ∷ decimal (suc n))
     (distance_marked (code "-") n z refl (omega (arith, k)) refl refl)
     (distance_called (code "-") n z refl (omega (arith, k)) refl refl))
