@@ -1,7 +1,6 @@
 -- Parsed trees are writable, and their texts read back, but for what groups without a number leave.
 use Rattle.std.proofs.Common.{◌≡◌, ℕ, ◌+◌, ◌<◌, Bool, true, false, List, [], ◌∷◌, refl, ap}
 use Rattle.std.proofs.Common.{◌∙◌, subst, arith}
-use Rattle.std.proofs.lemmas.Bool.{false≢true}
 use Rattle.std.specs.List.{AllByRecursion}
 use Rattle.fancy_lex.specs.Text.{Text}
 use Rattle.fancy_lex.specs.declared.escape.Assertion.{Assertion}
@@ -13,9 +12,13 @@ use Rattle.fancy_grammar.specs.Label as label
 use Rattle.fancy_grammar.specs.Label.{Leaf}
 use Rattle.fancy_grammar.specs.Marks.{Marks}
 use Rattle.fancy_grammar.specs.Pattern.{group_count, pattern_text}
+use Rattle.fancy_grammar.specs.Depth.{max_depth}
+use Rattle.fancy_grammar.specs.PatternDepth.{Fits}
+use Rattle.fancy_grammar.specs.PatternNeeds.{agreed}
+use Rattle.fancy_grammar.specs.declared.precedence.Precedence.TheVariants.{Whole}
 use Rattle.fancy_grammar.specs.Preorder.{preorder, preorder_all}
 use Rattle.fancy_grammar.specs.ReadAs.{IsReadAs}
-use Rattle.fancy_grammar.specs.Tree.{Tree, leaf, over, row, Trees, no_trees, more_trees, list_of}
+use Rattle.fancy_grammar.specs.Tree.{Tree, leaf, over, row, Trees, no_trees, more_trees, levels, list_of}
 use Rattle.fancy_grammar.specs.Writable.{IsWritable, AreNodesWritable, AreAllWritable, ArePieces, IsWritableLeaf}
 use Rattle.fancy_grammar.specs.Writable.{HasSource, is_numbered, is_numbered_call_of_all}
 use Rattle.std.proofs.Common.{sym, length, ◌≤◌, ◌^◌}
@@ -37,8 +40,9 @@ use Rattle.fancy_grammar.proofs.Parsed.Lists.{each_split}
 use Rattle.fancy_grammar.proofs.Parsed.Nodes.{IsSolid, AreTwo, AreBranched, IsSourceRead, by_escape, by_class}
 use Rattle.fancy_grammar.proofs.Pattern.Source.Law.{sources_read, by_escape as escaped_so, by_class as classed_so}
 use Rattle.fancy_grammar.specs.Quantified.{is_repeatable}
-use Rattle.fancy_grammar.proofs.Parsed.Escapes.{is_line_of_oniguruma}
+use Rattle.fancy_grammar.proofs.Pattern.Needed.{IsLineOfMode}
 use Rattle.fancy_grammar.proofs.Parsed.Resolved.{IsResolvedNode, nodes_told, names_writable}
+use Rattle.fancy_grammar.proofs.Pattern.Levels.{few_levels_fit}
 use Rattle.fancy_grammar.proofs.Pattern.ReadFits.{answered_fits}
 use Rattle.fancy_grammar.proofs.Pattern.Theorem.{reads_back}
 
@@ -56,7 +60,7 @@ IsWholeNode f _ = Unit {0}
 -- so it is where each group has a number, or else by itself
 module _ (f : Flags) where
   node_whole : (t : Tree) → IsResolvedNode f true t → IsWholeNode f t → IsResolvedNode f false t
-  node_whole (over (label.repeat lo hi greedy) t) h w = ((λ e. w), h.1, h.2)
+  node_whole (over (label.repeat lo hi greedy) t) h w = ((λ e. w), h.1, h.2, h.3)
   node_whole (over label.stopper t) h w = λ e. w
   node_whole (row label.concat ts) h w = (h.0, λ e. w)
   node_whole (row label.conditional ts) h w = (h.0, λ e. w)
@@ -82,17 +86,16 @@ source_had f s casei (by_class g t u same case e) =
 
 -- ---- the join
 
-module _ (f : Flags) (m : Marks) (mode : f.oniguruma_mode ≡ false) where
+module _ (f : Flags) (m : Marks) where
   abbrev Answered : List Tree → Type 0
   Answered = AllByRecursion IsAnsweredNode
 
   abbrev Resolved : List Tree → Type 0
   Resolved = AllByRecursion (IsResolvedNode f false)
 
-  assertion_writable : (c : ℕ) (a : Assertion) → is_line_of_oniguruma a ≡ false →
-      IsWritableLeaf f m c (label.assertion a)
-  assertion_writable c (StartLine crlf) e = mode
-  assertion_writable c (StartLineOniguruma crlf) e = absurd cc
+  assertion_writable : (c : ℕ) (a : Assertion) → IsLineOfMode f a → IsWritableLeaf f m c (label.assertion a)
+  assertion_writable c (StartLine crlf) e = e
+  assertion_writable c (StartLineOniguruma crlf) e = e
   assertion_writable c _ e = tt
 
   leaf_writable : (c : ℕ) (l : Leaf) → IsAnsweredNode (leaf l) → IsResolvedNode f false (leaf l) →
@@ -105,7 +108,7 @@ module _ (f : Flags) (m : Marks) (mode : f.oniguruma_mode ≡ false) where
   leaf_writable c (label.literal_bytes (b ∷ d ∷ w)) a h r = absurd (omega (arith, a.0))
   leaf_writable c (label.delegate s casei) a h r = source_had f s casei h
   leaf_writable c (label.general_newline unicode) a h r = h
-  leaf_writable c (label.assertion x) a h r = assertion_writable c x (h mode)
+  leaf_writable c (label.assertion x) a h r = assertion_writable c x h
   leaf_writable c (label.any newline crlf) a h r = tt
   leaf_writable c (label.verb v) a h r = tt
   leaf_writable c label.empty a h r = tt
@@ -138,7 +141,7 @@ module _ (f : Flags) (m : Marks) (mode : f.oniguruma_mode ≡ false) where
         AreReferencesWritable f m c t → AreNodesWritable f m c t
     nodes_writable c (leaf l) a h r = leaf_writable c l a.0 h.0 r
     nodes_writable c (over (label.repeat lo hi greedy) t) a h r =
-        (nodes_writable c t a.1 h.1 r, h.0.0 refl, h.0.1, h.0.2, (λ o. absurd (false≢true (sym mode ∙ o))))
+        (nodes_writable c t a.1 h.1 r, h.0.0 refl, h.0.1, h.0.2, h.0.3)
     nodes_writable c (over label.group t) a h r = nodes_writable (c + 1) t a.1 h.1 r
     nodes_writable c (over (label.look_around l) t) a h r = nodes_writable c t a.1 h.1 r
     nodes_writable c (over label.atomic_group t) a h r = nodes_writable c t a.1 h.1 r
@@ -240,20 +243,42 @@ module _ {f : Flags} {text : Text} {t : Tree} {m : Marks} (a : IsTreeOf f text t
       (derived_read a.1.1) marked (subst (λ x. AllByRecursion IsAnsweredNode (preorder x)) a.3 (answered_with a).nodes)
       (omega arith))
 
-  -- Outside Oniguruma mode the tree is writable, where its nodes are whole if some groups have no number.
-  pub parsed_is_writable : bytes text < 2 ^ 63 → f.oniguruma_mode ≡ false →
-      (m.numbered_groups_ignored ≡ true → AllByRecursion (IsWholeNode f) (preorder t)) → IsWritable f m t
-  parsed_is_writable small mode w = record {
+  nodes_writable_here : bytes text < 2 ^ 63 →
+      (m.numbered_groups_ignored ≡ true → AllByRecursion (IsWholeNode f) (preorder t)) → AreNodesWritable f m 0 t
+  nodes_writable_here small w =
+      nodes_writable f m 0 t (answered_with a).nodes
+      (whole_or_counted f m.numbered_groups_ignored (preorder t) (nodes_told a) w) (references_writable small)
+
+  -- The tree is writable where its text fits, and where its nodes are whole if some groups have no number.
+  pub fitting_is_writable : bytes text < 2 ^ 63 →
+      (m.numbered_groups_ignored ≡ true → AllByRecursion (IsWholeNode f) (preorder t)) →
+      Fits t Whole (record { flags = agreed f t; opened = 0; depth = 0 }) → IsWritable f m t
+  fitting_is_writable small w fits = record {
     marks = marks_told a numeric_told self_told;
     counted = counted_told a;
     names = names_writable a;
-    nodes = nodes_writable f m mode 0 t (answered_with a).nodes
-        (whole_or_counted f m.numbered_groups_ignored (preorder t) (nodes_told a) w) (references_writable small);
-    fits = answered_fits f text t m mode a;
+    nodes = nodes_writable_here small w;
+    fits = fits;
   }
+
+  -- its text fits outside Oniguruma mode
+  pub parsed_is_writable : bytes text < 2 ^ 63 → f.oniguruma_mode ≡ false →
+      (m.numbered_groups_ignored ≡ true → AllByRecursion (IsWholeNode f) (preorder t)) → IsWritable f m t
+  parsed_is_writable small mode w = fitting_is_writable small w (answered_fits f text t m mode a)
+
+  -- and in any mode where the tree has fewer than 64 levels
+  pub shallow_is_writable : bytes text < 2 ^ 63 → levels t < max_depth →
+      (m.numbered_groups_ignored ≡ true → AllByRecursion (IsWholeNode f) (preorder t)) → IsWritable f m t
+  shallow_is_writable small shallow w =
+      fitting_is_writable small w (few_levels_fit f m t (nodes_writable_here small w) shallow)
 
   -- then its text reads back
   pub parsed_reads_back : bytes text < 2 ^ 63 → f.oniguruma_mode ≡ false →
       (m.numbered_groups_ignored ≡ true → AllByRecursion (IsWholeNode f) (preorder t)) →
       IsReadAs f (pattern_text f t m) t m
   parsed_reads_back small mode w = reads_back f t m (parsed_is_writable small mode w)
+
+  pub shallow_reads_back : bytes text < 2 ^ 63 → levels t < max_depth →
+      (m.numbered_groups_ignored ≡ true → AllByRecursion (IsWholeNode f) (preorder t)) →
+      IsReadAs f (pattern_text f t m) t m
+  shallow_reads_back small shallow w = reads_back f t m (shallow_is_writable small shallow w)

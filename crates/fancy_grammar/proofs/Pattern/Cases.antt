@@ -33,7 +33,7 @@ use Rattle.fancy_grammar.proofs.Pattern.Induction.{ReadsBy}
 use Rattle.fancy_grammar.proofs.Pattern.Induction.{by_atom, by_nothing}
 use Rattle.fancy_grammar.proofs.Pattern.Leaves.{LeafAt, literal_at, byte_at, keep_at, continue_at, newline_at, any_at}
 use Rattle.fancy_grammar.proofs.Pattern.Leaves.{assertion_at, verb_leaf_at, clear_at, source_at}
-use Rattle.fancy_grammar.proofs.Pattern.Needed.{like_repeatable, settled_again, case_fits, any_fits, IsOfMode}
+use Rattle.fancy_grammar.proofs.Pattern.Needed.{like_repeatable, settled_again, case_fits, any_fits, IsLineOfMode}
 use Rattle.fancy_grammar.proofs.Pattern.Needed.{assertion_fits}
 use Rattle.fancy_grammar.proofs.Pattern.Rules.{Clear, Begins, begins_by, no_question, ends_close, AtomAt}
 use Rattle.fancy_grammar.proofs.ReadBack.ClearLemmas.{not_asking}
@@ -80,7 +80,7 @@ module _ (μ : Marks) where
       ))
 
   of_mode : (f g : Flags) (c : ℕ) (a : Assertion) → g.oniguruma_mode ≡ f.oniguruma_mode →
-      IsWritableLeaf f μ c (label.assertion a) → IsOfMode g a
+      IsWritableLeaf f μ c (label.assertion a) → IsLineOfMode g a
   of_mode f g c (StartLine crlf) e k = e ∙ k
   of_mode f g c (StartLineOniguruma crlf) e k = e ∙ k
   of_mode f g c _ e k = tt

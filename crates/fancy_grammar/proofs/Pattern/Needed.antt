@@ -111,12 +111,12 @@ any_fits f true false e = (sym (ap (λ k. k.dotnl) e), sym (ap (λ k. k.crlf) e)
 any_fits f false true e = (sym (ap (λ k. k.dotnl) e), sym (ap (λ k. k.crlf) e))
 
 -- the start of a line is that of the mode
-abbrev pub IsOfMode : Flags → Assertion → Type 0
-IsOfMode f (StartLine crlf) = f.oniguruma_mode ≡ false
-IsOfMode f (StartLineOniguruma crlf) = f.oniguruma_mode ≡ true
-IsOfMode f _ = Unit {0}
+abbrev pub IsLineOfMode : Flags → Assertion → Type 0
+IsLineOfMode f (StartLine crlf) = f.oniguruma_mode ≡ false
+IsLineOfMode f (StartLineOniguruma crlf) = f.oniguruma_mode ≡ true
+IsLineOfMode f _ = Unit {0}
 
-pub assertion_fits : (f : Flags) (a : Assertion) → IsOfMode f a → settled f (leaf (assertion a)) ≡ f →
+pub assertion_fits : (f : Flags) (a : Assertion) → IsLineOfMode f a → settled f (leaf (assertion a)) ≡ f →
     AssertionFits f a
 assertion_fits f (StartLine crlf) k e = (sym (ap (λ k. k.multi) e), sym (ap (λ k. k.crlf) e), k)
 assertion_fits f (StartLineOniguruma crlf) k e = (sym (ap (λ k. k.multi) e), sym (ap (λ k. k.crlf) e), k)
