@@ -40,6 +40,7 @@ pub mod PatternQuantifier
 pub mod Pattern
 pub mod PatternDepth
 pub mod ReadAs
+pub mod OfPattern
 pub mod Writable
 -- What no public contract speaks of, but private ones of the parser and the resolver do.
 

@@ -3,6 +3,7 @@ ghost use Rattle.std.specs.Prelude.{◌≡◌, IfOk, IfSome, IfNone};
 ghost use Rattle.fancy_lex.specs.Flags.{flags_of};
 ghost use Rattle.fancy_lex.specs.Text.{text_of};
 ghost use Rattle.fancy_grammar.specs.Pattern.{pattern_text};
+ghost use Rattle.fancy_grammar.specs.OfPattern.{IsOfPattern};
 ghost use Rattle.fancy_grammar.specs.ReadAs.{IsReadAs};
 ghost use Rattle.fancy_syntax.specs.Answer.{marks_of};
 ghost use Rattle.fancy_syntax.specs.View.{view};
@@ -36,7 +37,8 @@ impl ExprTree {
     /// position in an `AstNode` may differ. Pass the flags that the tree was parsed under.
     ///
     /// Returns `None` if the text for the tree does not parse back as this tree, as can happen with other flags or after
-    /// the tree was changed. Returns `AllocError` if out of memory.
+    /// the tree was changed. For a tree that was parsed outside Oniguruma mode, under the same flags, and that is not
+    /// changed, a text is returned if `numbered_groups_ignored` is false. Returns `AllocError` if out of memory.
     ///
     /// ```rust
     /// let tree = Expr::parse_tree_with_flags(alloc, "(?<n>a)\\k<n>++", flags)?;
@@ -52,6 +54,8 @@ impl ExprTree {
         ensures none { IfOk result (λ t. IfNone t
             (IsReadAs (flags_of flags) (pattern_text (flags_of flags) (view self.now.expr) (marks_of self.now))
             (view self.now.expr) (marks_of self.now) → ⊥)) }
+        ensures parsed { IfOk result (λ t. IfNone t
+            (IsOfPattern (flags_of flags) (view self.now.expr) (marks_of self.now) → ⊥)) }
     {
         let text = text_of_tree(alloc, self, Flags::from_bits(flags))?;
         if is_read_as(alloc, text.as_str(), flags, self)? {

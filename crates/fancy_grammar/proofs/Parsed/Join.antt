@@ -17,6 +17,7 @@ use Rattle.fancy_grammar.specs.PatternDepth.{Fits}
 use Rattle.fancy_grammar.specs.PatternNeeds.{agreed}
 use Rattle.fancy_grammar.specs.declared.precedence.Precedence.TheVariants.{Whole}
 use Rattle.fancy_grammar.specs.Preorder.{preorder, preorder_all}
+use Rattle.fancy_grammar.specs.OfPattern.{IsOfPattern}
 use Rattle.fancy_grammar.specs.ReadAs.{IsReadAs}
 use Rattle.fancy_grammar.specs.Tree.{Tree, leaf, over, row, Trees, no_trees, more_trees, levels, list_of}
 use Rattle.fancy_grammar.specs.Writable.{IsWritable, AreNodesWritable, AreAllWritable, ArePieces, IsWritableLeaf}
@@ -282,3 +283,12 @@ module _ {f : Flags} {text : Text} {t : Tree} {m : Marks} (a : IsTreeOf f text t
       (m.numbered_groups_ignored ≡ true → AllByRecursion (IsWholeNode f) (preorder t)) →
       IsReadAs f (pattern_text f t m) t m
   shallow_reads_back small shallow w = reads_back f t m (shallow_is_writable small shallow w)
+
+-- where each group has a number, there is no tree whose text does not
+pub none_of_pattern : (f : Flags) (t : Tree) (m : Marks) → (IsReadAs f (pattern_text f t m) t m → ⊥) →
+    IsOfPattern f t m → ⊥
+none_of_pattern f t m never (text, tree, small, mode, counted) =
+    never (parsed_reads_back tree small mode (λ e. absurd-both (sym e ∙ counted)))
+  where
+    absurd-both : {A : Type 0} → true ≡ false → A
+    absurd-both e = absurd cc
