@@ -1,6 +1,7 @@
 -- Parsed trees are writable, and their texts read back, but for what groups without a number leave.
 use Rattle.std.proofs.Common.{◌≡◌, ℕ, ◌+◌, ◌<◌, Bool, true, false, List, [], ◌∷◌, refl, ap}
 use Rattle.std.proofs.Common.{◌∙◌, subst, arith}
+use Rattle.std.proofs.lemmas.Bool.{false≢true}
 use Rattle.std.specs.List.{AllByRecursion}
 use Rattle.fancy_lex.specs.Text.{Text}
 use Rattle.fancy_lex.specs.declared.escape.Assertion.{Assertion}
@@ -287,8 +288,11 @@ module _ {f : Flags} {text : Text} {t : Tree} {m : Marks} (a : IsTreeOf f text t
 -- where each group has a number, there is no tree whose text does not
 pub none_of_pattern : (f : Flags) (t : Tree) (m : Marks) → (IsReadAs f (pattern_text f t m) t m → ⊥) →
     IsOfPattern f t m → ⊥
-none_of_pattern f t m never (text, tree, small, mode, counted) =
-    never (parsed_reads_back tree small mode (λ e. absurd-both (sym e ∙ counted)))
+none_of_pattern f t m never (text, tree, small, shallow, counted) = never (by_mode f.oniguruma_mode refl)
   where
-    absurd-both : {A : Type 0} → true ≡ false → A
-    absurd-both e = absurd cc
+    whole : m.numbered_groups_ignored ≡ true → AllByRecursion (IsWholeNode f) (preorder t)
+    whole e = absurd (false≢true (sym counted ∙ e))
+
+    by_mode : (b : Bool) → f.oniguruma_mode ≡ b → IsReadAs f (pattern_text f t m) t m
+    by_mode true o = shallow_reads_back tree small (shallow o) whole
+    by_mode false o = parsed_reads_back tree small o whole
