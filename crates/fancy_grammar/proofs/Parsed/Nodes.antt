@@ -63,8 +63,8 @@ IsAstRead text (ast_condition t level) p = IsTargetRead t × IfSome level IsLeve
 
 -- Under flags with the mode of these: a byte is read without Unicode, a general new line tells it, the start of a line
 -- is that of the mode, and a Delegate's source was read. What stands under a quantifier is repeatable, a word holds its
--- counts, and in Oniguruma mode they are in order; a stopper holds no Empty; a name can be written. A Concat has two parts or
--- more, none of them Empty, an absent expression two, and a conditional three, of which a branch is not Empty.
+-- counts, and in Oniguruma mode they are in order; a stopper holds no Empty; a name can be written. A Concat has two
+-- parts or more, none of them Empty, an absent expression two, and a conditional three, of which a branch is not Empty.
 abbrev pub IsParsedNode : Flags → Text → Tree → Type 0
 IsParsedNode f text (leaf (label.literal_bytes w)) = f.unicode ≡ false
 IsParsedNode f text (leaf (label.general_newline unicode)) = f.unicode ≡ unicode

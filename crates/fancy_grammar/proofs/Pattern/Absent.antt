@@ -233,5 +233,6 @@ module _ (μ : Marks) (h : Here) where
       (sym (same v ∙ ap (λ z. codes "(?~|" ++ z) (append_assoc first _ (code ")" ∷ v))))
       (expression_at μ i (first ++ code "|" ∷ second v) (second v) v _ _ a e d.1.0
       (r.branch d.1.1.0 (code "|" ∷ second v) (stops_bar h.flags.ignore_space (second v)))
-      (q.branch d.1.1.1 (code ")" ∷ v) (subst (λ y. Stops y (code ")" ∷ v)) (sym space) (ends_close h.flags.ignore_space v).stops))))
+      (q.branch d.1.1.1 (code ")" ∷ v)
+      (subst (λ y. Stops y (code ")" ∷ v)) (sym space) (ends_close h.flags.ignore_space v).stops))))
       refl (λ e. ((λ d. d), refl))

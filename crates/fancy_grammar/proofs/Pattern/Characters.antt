@@ -2,7 +2,8 @@
 use Rattle.std.proofs.Common.{◌≡◌, ℕ, ◌+◌, ◌*◌, ◌/◌, ◌%◌, ◌<◌, ◌≤◌, Bool, true, false, not, ◌&&◌, ◌||◌, ◌==◌, nat_le}
 use Rattle.std.proofs.Common.{nat_lt, [], ◌∷◌, ◌++◌, codes, Option, Some, refl, sym, ap, ◌∙◌, subst, arith, lt-ltb}
 use Rattle.std.proofs.Common.{⊎_elim, ◌⊎◌, inl, inr, eqb-true, if◌then◌else◌}
-use Rattle.std.proofs.lemmas.Bool.{cond-true, cond-false, cond_both, or_parts, or_cases, and_parts, and_from, false≢true}
+use Rattle.std.proofs.lemmas.Bool.{cond-true, cond-false, cond_both, or_parts, or_cases, and_parts, and_from}
+use Rattle.std.proofs.lemmas.Bool.{false≢true}
 use Rattle.std.proofs.lemmas.Bool.Decides.{nat_tests}
 use Rattle.std.specs.Char.{is_ascii_digit, is_ascii_alphanumeric}
 use Rattle.std.proofs.lemmas.Option.{same_Some}
@@ -37,7 +38,8 @@ both_layout false c h = refl
 
 digits_layout : (x : Bool) (d : ℕ) (t : Text) → d < 16 → layout x (upper_hex_digit d ∷ t) ≡ rest (upper_hex_digit d ∷ t)
 digits_layout x d t h =
-    not_layout x (upper_hex_digit d) t (not_open _ t (hex_paren d h)) (both_layout x (upper_hex_digit d) (hex_layout d h))
+    not_layout x (upper_hex_digit d) t (not_open _ t (hex_paren d h))
+    (both_layout x (upper_hex_digit d) (hex_layout d h))
 
 digits_four : (a b c d : ℕ) (s : Text) → a < 16 → b < 16 → c < 16 → d < 16 →
     fixed_digits 4 0 (upper_hex_digit a ∷ upper_hex_digit b ∷ upper_hex_digit c ∷ upper_hex_digit d ∷ s)

@@ -63,7 +63,8 @@ question_at d f t l = paren_at d f (code "?" ∷ t) l (no_layout f.ignore_space)
     no_layout true = not_layout true (code "?") t refl refl
     no_layout false = not_layout false (code "?") t refl refl
 
-head_group : (f : Flags) (s t : Text) → Clear f.ignore_space t → group_ahead (st f s) t ≡ with_head (capture None) (st f t)
+head_group : (f : Flags) (s t : Text) → Clear f.ignore_space t →
+    group_ahead (st f s) t ≡ with_head (capture None) (st f t)
 head_group f s t c = rw (no_question t c.no_mark, no_star t c.no_mark) refl
 
 pub capture_at : (d : ℕ) (f : Flags) (t : Text) → d + 1 < max_depth → Clear f.ignore_space t →
@@ -173,9 +174,17 @@ over_becomes μ s (label.repeat lo hi greedy) c r x k b =
       groups = b.groups;
     }
 over_becomes μ s label.atomic_group c r x k b =
-    record { is = λ named k n u e. ap (over label.atomic_group) (b.is named k n u e); count = b.count; groups = b.groups }
+    record {
+      is = λ named k n u e. ap (over label.atomic_group) (b.is named k n u e);
+      count = b.count;
+      groups = b.groups;
+    }
 over_becomes μ s label.define_group c r x k b =
-    record { is = λ named k n u e. ap (over label.define_group) (b.is named k n u e); count = b.count; groups = b.groups }
+    record {
+      is = λ named k n u e. ap (over label.define_group) (b.is named k n u e);
+      count = b.count;
+      groups = b.groups;
+    }
 over_becomes μ s label.repeater c r x k b =
     record { is = λ named k n u e. ap (over label.repeater) (b.is named k n u e); count = b.count; groups = b.groups }
 over_becomes μ s label.stopper c r x k b =
@@ -286,7 +295,8 @@ module _ (μ : Marks) (h : Here) (i m s r : Bool) where
   set_if b = if b then codes "(?" ++ (letters_between h.flags g ++ codes ")") else []
 
   set_text : (t : Text) →
-      (codes "(?" ++ (letters_between h.flags g ++ codes ")")) ++ t ≡ codes "(?" ++ (letters_between h.flags g ++ code ")" ∷ t)
+      (codes "(?" ++ (letters_between h.flags g ++ codes ")")) ++ t
+      ≡ codes "(?" ++ (letters_between h.flags g ++ code ")" ∷ t)
   set_text t = ap (λ w. codes "(?" ++ w) (append_assoc (letters_between h.flags g) (codes ")") t)
 
   begins_set : (x b : Bool) (t : Text) → Begins x t → Begins x (set_if b ++ t)
@@ -318,22 +328,22 @@ module _ (μ : Marks) (h : Here) (i m s r : Bool) where
 
 -- ---- flags that are set before a whole text
 
-module _ (d : ℕ) (s u : State) (first : (q : Outcome (List Tree)) → Pieces d s q → Pieces d u (seen_through (empty ∷◌) q))
-  where
-    same_branch : (q : Outcome (List Tree)) → seen_through join (seen_through (empty ∷◌) q) ≡ seen_through join q
-    same_branch (done l t) = refl
-    same_branch (fault k p) = refl
+module _ (d : ℕ) (s u : State)
+    (first : (q : Outcome (List Tree)) → Pieces d s q → Pieces d u (seen_through (empty ∷◌) q)) where
+  same_branch : (q : Outcome (List Tree)) → seen_through join (seen_through (empty ∷◌) q) ≡ seen_through join q
+  same_branch (done l t) = refl
+  same_branch (fault k p) = refl
 
-    branch_behind : {q : Outcome Tree} → Branch d s q → Branch d u q
-    branch_behind (branch {q} p) = subst (Branch d u) (same_branch q) (branch (first q p))
+  branch_behind : {q : Outcome Tree} → Branch d s q → Branch d u q
+  branch_behind (branch {q} p) = subst (Branch d u) (same_branch q) (branch (first q p))
 
-    branches_behind : {q : Outcome (List Tree)} → Branches d s q → Branches d u q
-    branches_behind (last b e) = last (branch_behind b) e
-    branches_behind (more b e r) = more (branch_behind b) e r
-    branches_behind (branch_fault b) = branch_fault (branch_behind b)
+  branches_behind : {q : Outcome (List Tree)} → Branches d s q → Branches d u q
+  branches_behind (last b e) = last (branch_behind b) e
+  branches_behind (more b e r) = more (branch_behind b) e r
+  branches_behind (branch_fault b) = branch_fault (branch_behind b)
 
-    pub whole_behind : {q : Outcome Tree} → Alternation d s q → Alternation d u q
-    whole_behind (alternation b) = alternation (branches_behind b)
+  pub whole_behind : {q : Outcome Tree} → Alternation d s q → Alternation d u q
+  whole_behind (alternation b) = alternation (branches_behind b)
 
 module _ (μ : Marks) (h : Here) (i m s r : Bool) (t v : Text) (k : Flags) (x : Tree)
     (c : Clear h.flags.ignore_space t) where

@@ -119,7 +119,8 @@ reads_spelled μ h casei c t v (itself e m k) =
 reads_spelled μ h casei c t v (by_escape {t = w} e) =
     reads_escape μ h (w ++ v) v (escaped.literal c casei) (label.literal (c ∷ []) casei) tt refl (e v)
 
-pub begins_spelled : (f : Flags) (casei : Bool) (c : ℕ) (t v : Text) → Spells f casei c t → Begins f.ignore_space (t ++ v)
+pub begins_spelled : (f : Flags) (casei : Bool) (c : ℕ) (t v : Text) → Spells f casei c t →
+    Begins f.ignore_space (t ++ v)
 begins_spelled f casei c t v (itself e m k) = begins_plain f.ignore_space c v m k
 begins_spelled f casei c t v (by_escape {t = w} e) = begins_escape f.ignore_space (w ++ v)
 
@@ -198,7 +199,8 @@ escape_Z f v = refl
 escape_left : (f : Flags) (v : Text) → f.oniguruma_mode ≡ false →
     escape f false (code "<" ∷ v) ≡ gives (escaped.assertion LeftWordBoundary) v
 unfolding escape_at lone_escape
-escape_left f v o = ap (λ b. gives (if b then escaped.literal (code "<") false else escaped.assertion LeftWordBoundary) v) o
+escape_left f v o =
+    ap (λ b. gives (if b then escaped.literal (code "<") false else escaped.assertion LeftWordBoundary) v) o
 
 escape_right : (f : Flags) (v : Text) → f.oniguruma_mode ≡ false →
     escape f false (code ">" ∷ v) ≡ gives (escaped.assertion RightWordBoundary) v
@@ -206,11 +208,13 @@ unfolding escape_at lone_escape
 escape_right f v o =
     ap (λ b. gives (if b then escaped.literal (code ">") false else escaped.assertion RightWordBoundary) v) o
 
-escape_b : (f : Flags) (v : Text) → escape f false (code "b" ∷ v) ≡ boundary f.ignore_space (reach_of (code "b" ∷ v) + 1) false v
+escape_b : (f : Flags) (v : Text) → escape f false (code "b" ∷ v)
+    ≡ boundary f.ignore_space (reach_of (code "b" ∷ v) + 1) false v
 unfolding escape_at lone_escape outside
 escape_b f v = refl
 
-escape_B : (f : Flags) (v : Text) → escape f false (code "B" ∷ v) ≡ boundary f.ignore_space (reach_of (code "B" ∷ v) + 1) true v
+escape_B : (f : Flags) (v : Text) → escape f false (code "B" ∷ v)
+    ≡ boundary f.ignore_space (reach_of (code "B" ∷ v) + 1) true v
 unfolding escape_at lone_escape outside
 escape_B f v = refl
 

@@ -38,7 +38,8 @@ module _ (μ : Marks) where
       let a = digits_atom μ i n e small v refl in
       let piece = piece_as b.clear.no_layout a.derives
       (quants_one i.depth (bytes (s ++ v)) i.flags a.tree a.tree v u c
-      (quant_past (bytes (s ++ v)) i.flags a.tree v u (comment_passed i.flags.ignore_space u ∙ c.no_layout) c.no_mark)) in
+      (quant_past (bytes (s ++ v)) i.flags a.tree v u
+      (comment_passed i.flags.ignore_space u ∙ c.no_layout) c.no_mark)) in
       subst (λ z. Rest μ h ((setting h.flags g ++ z) ++ v) k w (t ∷ ys)) (sym (cond-true _ _ _ e))
       (subst (λ z. Rest μ h z k w (t ∷ ys)) (sym (append_assoc (setting h.flags g) s v))
       (setting_rest μ h g.casei g.multi g.dotnl g.crlf (s ++ v) w k (t ∷ ys) d b

@@ -190,7 +190,8 @@ module _ (x : Bool) (lo hi : ℕ) (s : Text) (l : lo < 2 ^ 64) (h : hi < 2 ^ 64)
       (λ e. brace_counted x lo hi lo (codes ",") _ s l refl
       (braces_open x lo s l ∙ same_counts lo most lo hi true s refl (eqb-true hi most e)))
       (λ _. brace_counted x lo hi lo (codes "," ++ decimal hi) _ s l refl
-      (ap (λ y. braced_counts x (decimal lo ++ code "," ∷ y)) (append_assoc [] (decimal hi) _) ∙ braces_both x lo hi s l h)))
+      (ap (λ y. braced_counts x (decimal lo ++ code "," ∷ y)) (append_assoc [] (decimal hi) _)
+      ∙ braces_both x lo hi s l h)))
 
   -- behind another quantifier, or not
   module _ (adjacent : Bool) where
@@ -221,10 +222,12 @@ module _ (x : Bool) (lo hi : ℕ) (s : Text) (l : lo < 2 ^ 64) (h : hi < 2 ^ 64)
         (λ _. range_counted)))
 
   -- with the greatest first
-  swapped_counted : Counted x hi lo true s ((codes "{" ++ ((decimal hi ++ (codes "," ++ decimal lo)) ++ codes "}")) ++ s)
+  swapped_counted :
+      Counted x hi lo true s ((codes "{" ++ ((decimal hi ++ (codes "," ++ decimal lo)) ++ codes "}")) ++ s)
   swapped_counted =
       brace_counted x hi lo hi (codes "," ++ decimal lo) _ s h refl
-      (ap (λ y. braced_counts x (decimal hi ++ code "," ∷ y)) (append_assoc [] (decimal lo) _) ∙ braces_both x hi lo s h l)
+      (ap (λ y. braced_counts x (decimal hi ++ code "," ∷ y)) (append_assoc [] (decimal lo) _)
+      ∙ braces_both x hi lo s h l)
 
 -- ---- the marks behind the counts
 
@@ -405,7 +408,8 @@ quantifier_at f possessive adjacent lo hi greedy v l h k ordered possible =
     (λ e. let (mode, both) = and_parts _ _ e in
     let (is, none) = and_parts possessive (is_none o) both in
     let text = codes "{" ++ (decimal hi ++ (codes "," ++ (decimal lo ++ codes "}"))) ++ lazy_mark f greedy in
-    subst (λ p. QuantifierAt f p lo hi greedy v (text ++ v)) (sym is) (by_swapping f possessive lo hi greedy v l h k mode
+    subst (λ p. QuantifierAt f p lo hi greedy v (text ++ v)) (sym is)
+    (by_swapping f possessive lo hi greedy v l h k mode
     (subst (λ b. not b || nat_lt lo hi ≡ true) mode (possible is))))
     (λ e. by_marks f possessive lo hi greedy v l h k o ordered e
     (mark_counted f.ignore_space lo hi (lazy_mark f greedy ++ (possessive_mark possessive ++ v)) l h adjacent))

@@ -28,8 +28,8 @@ use Rattle.fancy_grammar.proofs.Pattern.Induction.{set_begins, by_piece, atom_le
 use Rattle.fancy_grammar.proofs.Pattern.Needed.{like_repeatable, settled_again, no_setting, no_letters}
 use Rattle.fancy_grammar.proofs.Pattern.Quantifiers.{quantified_tree, solid_quantified, AreOrdered, Apart, NoName}
 use Rattle.fancy_grammar.proofs.Pattern.Quantifiers.{clear_apart, quantifier_at, adjacent_apart}
-use Rattle.fancy_grammar.proofs.Pattern.Stacked.{ReadsAll, ReadsOperand, ReadsOperands, OperandAt, ends_quantified, ends_behind}
-use Rattle.fancy_grammar.proofs.Pattern.Stacked.{operand_atom, operand_under, lead_operand, as_operand}
+use Rattle.fancy_grammar.proofs.Pattern.Stacked.{ReadsAll, ReadsOperand, ReadsOperands, OperandAt, ends_quantified}
+use Rattle.fancy_grammar.proofs.Pattern.Stacked.{ends_behind, operand_atom, operand_under, lead_operand, as_operand}
 use Rattle.fancy_grammar.proofs.Pattern.Rules.{Begins, Ends, begins_by, ends_close, AtomAt, WholeAt}
 use Rattle.fancy_grammar.proofs.Pattern.Rules.{reads_only, Follows}
 use Rattle.fancy_grammar.proofs.ReadBack.RuleLemmas.{st}
@@ -73,7 +73,8 @@ module _ (μ : Marks) where
           let x = quantified_tree possessive t lo hi greedy in
           let s = written μ t (Operand r) i in
           let q = mark_at r ++ v in
-          let m = quantifier_at i.flags possessive (ends_quantified i.flags r t) lo hi greedy v low high k ordered possible in
+          let m = quantifier_at i.flags possessive (ends_quantified i.flags r t) lo hi greedy v low high k ordered
+          possible in
           subst (λ z. OperandAt μ i (suc r) z v x) (sym (append_assoc s (mark_at r) v))
           (operand_under μ i r (s ++ q) q v t possessive lo hi greedy rep m
           (a.reads rep none q m.no_name (λ _. m.no_digit)
@@ -195,7 +196,8 @@ module _ (μ : Marks) where
       abbrev one_text : Bool → ℕ → Text
       one_text b r =
           if not b then in_head (codes "?>")
-          else written μ t (Operand r) here ++ quantifier_text here.flags true (ends_quantified here.flags r t) lo hi greedy
+          else written μ t (Operand r) here
+          ++ quantifier_text here.flags true (ends_quantified here.flags r t) lo hi greedy
 
       abbrev OneFits : Bool → ℕ → Type 0
       OneFits true r = Fits t (Operand r) here

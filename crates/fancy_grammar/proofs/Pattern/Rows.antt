@@ -120,7 +120,8 @@ module _ (μ : Marks) (f : Flags) where
       (λ y. (k.0 h refl e).piece d.0 k.1 u v g ys c y q)
       (λ y. k.2 y h e d.0 u v g ys c q))
 
-  two_listed : (t u : Tree) (ts : Trees) → trees_of (list_of (more_trees t (more_trees u ts))) ≡ more_trees t (more_trees u ts)
+  two_listed : (t u : Tree) (ts : Trees) →
+      trees_of (list_of (more_trees t (more_trees u ts))) ≡ more_trees t (more_trees u ts)
   two_listed t u ts = listed (more_trees t (more_trees u ts))
 
   pub concat_reads : (t u : Tree) (us : Trees) (h : Here) →

@@ -25,8 +25,8 @@ use Rattle.fancy_grammar.proofs.OutcomeLemmas.{piece_as}
 use Rattle.fancy_grammar.proofs.Pattern.Becomes.{Becomes, stays_repeatable}
 use Rattle.fancy_grammar.proofs.Pattern.Cases.{ReadsTree}
 use Rattle.fancy_grammar.proofs.Pattern.Quantifiers.{Apart, NoName, QuantifierAt, quantified_tree, over_quantified}
-use Rattle.fancy_grammar.proofs.Pattern.Rules.{Clear, Begins, AtomAt, Rest, Follows, adjacent_none, quants_one, quant_none}
-use Rattle.fancy_grammar.proofs.Pattern.Rules.{lead_piece}
+use Rattle.fancy_grammar.proofs.Pattern.Rules.{Clear, Begins, AtomAt, Rest, Follows, adjacent_none, quants_one}
+use Rattle.fancy_grammar.proofs.Pattern.Rules.{quant_none, lead_piece}
 use Rattle.fancy_grammar.proofs.ReadBack.RuleLemmas.{st}
 
 -- ---- so many quantifiers from one text to another
@@ -57,7 +57,8 @@ stacked : (m k d left : ℕ) (f : Flags) (a c : Tree) (q v : Text) → f.oniguru
 stacked zero k d left f a c q v o e deep (b, w, (same, here), step, less) =
     let all : max_adjacent ≡ k = omega (arith, e) in
     ap₂ (λ x y. quants d left x (st f y)) same here
-    ∙ (ap (λ q. and_then q (λ b t. if t.flags.oniguruma_mode then adjacent max_adjacent d b t else done b t)) (step left)
+    ∙ (ap (λ q. and_then q (λ b t. if t.flags.oniguruma_mode then adjacent max_adjacent d b t else done b t))
+    (step left)
     ∙ (cond-true _ _ _ o
     ∙ (ap (λ n. adjacent n d c (st f v)) all ∙ ap (λ n. adjacent k n c (st f v)) (omega arith))))
 stacked (suc m) k d left f a c q v o e deep (b, w, before, step, less) =
@@ -156,7 +157,8 @@ ends_behind f k t e = and_from _ _ (lt-ltb 0 (suc k) (omega arith)) e
 -- where so many quantifiers may stand before the one that follows
 pub record ReadsOperand (μ : Marks) (t : Tree) (h : Here) (r : ℕ) (k : Text) : Type 0 where
   pub begins : is_repeatable h.flags t ≡ true → (v : Text) → Begins h.flags.ignore_space (k ++ v)
-  pub reads : is_repeatable h.flags t ≡ true → settled h.flags t ≡ h.flags → (v : Text) → NoName h.flags.ignore_space v →
+  pub reads : is_repeatable h.flags t ≡ true → settled h.flags t ≡ h.flags → (v : Text) →
+      NoName h.flags.ignore_space v →
       Follows μ t v → (ends_quantified h.flags r t ≡ true → Apart h.flags.ignore_space v) →
       OperandAt μ h r (k ++ v) v t
 

@@ -351,6 +351,7 @@ reads_back f t μ w =
     let after = flags_behind t Whole g in
     let here = subst (λ u. WholeAt μ (under g h) u after [] t) (append-nil s)
     (r.whole w.fits [] (ends_nothing f.ignore_space)) in
-    let clear = subst (Clear f.ignore_space) (append-nil s) (r.whole_clear w.fits [] (ends_nothing f.ignore_space).stops.clear) in
+    let clear = subst (Clear f.ignore_space) (append-nil s)
+    (r.whole_clear w.fits [] (ends_nothing f.ignore_space).stops.clear) in
     let all = whole_behind_setting μ h g.casei g.multi g.dotnl g.crlf s [] after t clear (λ _. omega arith) here in
     from_whole μ f after (setting f g ++ s) t w.marks w.counted all
