@@ -31,6 +31,7 @@ pub mod Conditionals
 pub mod ConditionTexts
 -- ---- where texts fit
 pub mod Levels
+pub mod Roomier
 pub mod Suited
 pub mod Fitting
 pub mod Told
