@@ -22,6 +22,7 @@ pub mod Quantifiers
 pub mod Needed
 pub mod Induction
 pub mod Cases
+pub mod Stacked
 pub mod Repeats
 pub mod Parted
 pub mod Rows
@@ -29,7 +30,6 @@ pub mod Absent
 pub mod Conditionals
 pub mod ConditionTexts
 -- ---- where texts fit
-pub mod Levels
 pub mod Suited
 pub mod Fitting
 pub mod Outermost

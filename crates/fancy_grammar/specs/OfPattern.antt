@@ -1,12 +1,11 @@
 -- Trees whose texts always read back.
-use Rattle.std.specs.Prelude.{◌≡◌, ◌<◌, ◌^◌, false}
+use Rattle.std.specs.Prelude.{◌<◌, ◌^◌}
 use Rattle.fancy_lex.specs.Text.{Text, bytes}
 use Rattle.fancy_lex.specs.declared.flags.Flags.{Flags}
 use Rattle.fancy_grammar.specs.Answer.{IsTreeOf}
 use Rattle.fancy_grammar.specs.Marks.{Marks}
 use Rattle.fancy_grammar.specs.Tree.{Tree}
 
--- outside Oniguruma mode some pattern of fewer than 2 ^ 63 bytes is read as the tree, with the marks
+-- some pattern of fewer than 2 ^ 63 bytes is read as the tree, with the marks
 abbrev pub IsOfPattern : Flags → Tree → Marks → Type 0
-IsOfPattern f t m =
-    (text : Text) × IsTreeOf f text t m × (bytes text < 2 ^ 63) × (f.oniguruma_mode ≡ false)
+IsOfPattern f t m = (text : Text) × IsTreeOf f text t m × (bytes text < 2 ^ 63)

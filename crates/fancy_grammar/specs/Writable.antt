@@ -15,7 +15,7 @@ use Rattle.fancy_lex.specs.NumberText.{number_text}
 use Rattle.fancy_lex.specs.Reading.{gives}
 use Rattle.fancy_lex.specs.Target.{Target, by_number, by_name, relative}
 use Rattle.fancy_lex.specs.Text.{Text}
-use Rattle.fancy_lex.specs.declared.escape.Assertion.TheVariants.{StartLineOniguruma}
+use Rattle.fancy_lex.specs.declared.escape.Assertion.TheVariants.{StartLine, StartLineOniguruma}
 use Rattle.fancy_lex.specs.declared.flags.Flags.{Flags}
 use Rattle.fancy_parts.specs.Meaning.{call, means, unresolved}
 use Rattle.fancy_parts.specs.Ranks.{Opening, is_counted, only_named, named_groups, numbers}
@@ -110,7 +110,8 @@ IsWritableLeaf f m c (literal (d ∷ []) casei) = Unit {0}
 IsWritableLeaf f m c (literal_bytes (b ∷ [])) = (f.unicode ≡ false) × (0x80 ≤ b) × (b ≤ 0xFF)
 IsWritableLeaf f m c (delegate s casei) = HasSource f s casei
 IsWritableLeaf f m c (general_newline unicode) = f.unicode ≡ unicode
-IsWritableLeaf f m c (assertion (StartLineOniguruma crlf)) = ⊥
+IsWritableLeaf f m c (assertion (StartLine crlf)) = f.oniguruma_mode ≡ false
+IsWritableLeaf f m c (assertion (StartLineOniguruma crlf)) = f.oniguruma_mode ≡ true
 IsWritableLeaf f m c (assertion a) = Unit {0}
 IsWritableLeaf f m c (any newline crlf) = Unit {0}
 IsWritableLeaf f m c (verb v) = Unit {0}
@@ -126,14 +127,15 @@ IsWritableLeaf f m c (ast_node (ast_call t) place) = IsCalledTarget t × (means 
 IsWritableLeaf f m c _ = ⊥
 
 abbrev mutual
-  -- each group has a number, and a Concat or an Alt has two parts or more. Unless groups without a name have no number,
-  -- of which the insides are left: what stands under a quantifier is repeatable, no part of a Concat, nor what a stopper
-  -- holds, is Empty, and a conditional has a branch that is not Empty
+  -- each group has a number, a Concat or an Alt has two parts or more, and in Oniguruma mode the counts of a quantifier
+  -- are in order. Unless groups without a name have no number, of which the insides are left: what stands under a
+  -- quantifier is repeatable, no part of a Concat, nor what a stopper holds, is Empty, and a conditional has a branch
+  -- that is not Empty
   pub AreNodesWritable : Flags → Marks → ℕ → Tree → Type 0
   AreNodesWritable f m c (leaf l) = IsWritableLeaf f m c l
   AreNodesWritable f m c (over (repeat lo hi greedy) t) =
       AreNodesWritable f m c t × (m.numbered_groups_ignored ≡ false → is_repeatable f t ≡ true)
-      × (lo < 2 ^ 64) × (hi < 2 ^ 64)
+      × (lo < 2 ^ 64) × (hi < 2 ^ 64) × (f.oniguruma_mode ≡ true → lo ≤ hi)
   AreNodesWritable f m c (over group t) =
       (is_counted m.numbered_groups_ignored (name_at m (c + 1)) ≡ true) × AreNodesWritable f m (c + 1) t
   AreNodesWritable f m c (over (look_around l) t) = AreNodesWritable f m c t
@@ -201,9 +203,8 @@ IsNameWritable (c ∷ w) = (is_among (code ">") (c ∷ w) && is_among (code "'")
 
 -- ---- the trees
 
--- outside Oniguruma mode, a tree whose text nests fewer than 64 groups, with its marks
+-- a tree whose text nests fewer than 64 groups, with its marks
 pub record IsWritable (f : Flags) (m : Marks) (t : Tree) : Type 0 where
-  pub mode : f.oniguruma_mode ≡ false
   pub marks : m ≡ marks_of f (openings_told m 0 (group_count t)) t m
   pub names : AllByRecursion (λ e. IsNameWritable e.0) m.named_groups
   pub nodes : AreNodesWritable f m 0 t

@@ -37,8 +37,8 @@ impl ExprTree {
     /// position in an `AstNode` may differ. Pass the flags that the tree was parsed under.
     ///
     /// Returns `None` if the text for the tree does not parse back as this tree, as can happen with other flags or after
-    /// the tree was changed. For a tree that was parsed outside Oniguruma mode, under the same flags, and that is not
-    /// changed, a text is always returned. Returns `AllocError` if out of memory.
+    /// the tree was changed. For a tree that was parsed under the same flags, and that is not changed, a text is always
+    /// returned. Returns `AllocError` if out of memory.
     ///
     /// ```rust
     /// let tree = Expr::parse_tree_with_flags(alloc, "(?<n>a)\\k<n>++", flags)?;

@@ -15,6 +15,8 @@ use Rattle.fancy_lex.specs.LayoutSteps.{Skipped, rest, fault as open_comment}
 use Rattle.fancy_lex.specs.Reading.{Reading, gives, fails}
 use Rattle.fancy_lex.specs.Referred.{Reference}
 use Rattle.fancy_lex.specs.Text.{Text, bytes, place_at, strip, strip_word, reach_of}
+use Rattle.fancy_lex.specs.declared.escape.Assertion.{Assertion}
+use Rattle.fancy_lex.specs.declared.escape.Assertion.TheVariants.{StartLine, StartLineOniguruma}
 use Rattle.fancy_lex.specs.declared.flags.Flags.{Flags}
 use Rattle.fancy_parts.specs.FlagLetters.{Letters, setting, scope as scoped}
 use Rattle.fancy_parts.specs.GroupName.{group_name}
@@ -61,7 +63,8 @@ use Rattle.fancy_grammar.proofs.AheadLaws.{AheadReads, ahead_reads}
 use Rattle.fancy_grammar.proofs.Slices.{here, on, strip_slice, skipped_slice}
 use Rattle.fancy_grammar.proofs.ReadLaws.{branch_read, piece_read, inside_read}
 use Rattle.fancy_grammar.proofs.Pattern.References.{behind_letter}
-use Rattle.fancy_grammar.proofs.Parsed.Escapes.{IsBehindLetter, is_line_of_oniguruma, IsOfMode, escape_mode}
+use Rattle.fancy_grammar.proofs.Pattern.Needed.{IsLineOfMode}
+use Rattle.fancy_grammar.proofs.Parsed.Escapes.{IsBehindLetter, is_start_of_line, IsOfMode, escape_mode}
 use Rattle.fancy_grammar.proofs.Parsed.Targets.{IsReferenceRead, IsCallRead, condition_target_read}
 use Rattle.fancy_grammar.proofs.Parsed.Targets.{named_reference_read}
 use Rattle.fancy_grammar.proofs.Parsed.Targets.{named_reference_plain, named_call_read}
@@ -81,12 +84,18 @@ mode_repeatable : (a : Tree) (f g : Flags) → f.oniguruma_mode ≡ g.oniguruma_
 mode_repeatable (leaf (label.assertion x)) f g e = ap not e
 mode_repeatable _ f g e = refl
 
-anchor_plain : (g : Flags) → g.oniguruma_mode ≡ false → is_line_of_oniguruma (start_anchor g) ≡ false
-anchor_plain g e =
-    cond_both g.multi _ _ (λ a. is_line_of_oniguruma a ≡ false) (λ _. rw e refl) (λ _. refl)
+anchor_line : (f g : Flags) → g.oniguruma_mode ≡ f.oniguruma_mode → IsLineOfMode f (start_anchor g)
+anchor_line f g e =
+    cond_both g.multi _ _ (IsLineOfMode f)
+    (λ _. cond_both g.oniguruma_mode _ _ (IsLineOfMode f) (λ o. sym e ∙ o) (λ o. sym e ∙ o)) (λ _. tt)
 
-end_plain : (g : Flags) → is_line_of_oniguruma (end_anchor g) ≡ false
-end_plain g = cond_both g.multi _ _ (λ a. is_line_of_oniguruma a ≡ false) (λ _. refl) (λ _. refl)
+end_line : (f g : Flags) → IsLineOfMode f (end_anchor g)
+end_line f g = cond_both g.multi _ _ (IsLineOfMode f) (λ _. tt) (λ _. tt)
+
+no_line : (f : Flags) (a : Assertion) → is_start_of_line a ≡ false → IsLineOfMode f a
+no_line f (StartLine crlf) h = absurd cc
+no_line f (StartLineOniguruma crlf) h = absurd cc
+no_line f _ h = tt
 
 module _ (f : Flags) (text : Text) where
   abbrev P : Outcome Tree → Type 0
@@ -128,7 +137,7 @@ module _ (f : Flags) (text : Text) where
           cond_both (is_repeatable t.flags a) _ _ P
           (λ e. then_holds M (IsPart f text) (suffix (at t u) c) _ marks (λ m x k. record {
             mode = k;
-            parsed = quantified_parsed f text t.flags c m a
+            parsed = quantified_parsed f text t.flags c m a (same_oniguruma t.flags h.mode)
                 (mode_repeatable a f t.flags (sym (same_oniguruma t.flags h.mode)) ∙ e) w h.parsed;
           })) (λ _.
           cond_both (is_dropped t.flags left a u) _ _ P
@@ -222,7 +231,7 @@ module _ (f : Flags) (text : Text) where
           by_leaf (escaped.literal c casei) is h = (tt, tt)
           by_leaf (escaped.literal_bytes b) is h = (sym (same_unicode s.flags m) ∙ h, tt)
           by_leaf (escaped.any newline crlf) is h = (tt, tt)
-          by_leaf (escaped.assertion a) is h = ((λ _. h), tt)
+          by_leaf (escaped.assertion a) is h = (no_line f a h, tt)
           by_leaf (escaped.general_newline unicode) is h = (sym (same_unicode s.flags m) ∙ h, tt)
           by_leaf escaped.keep_out is h = (tt, tt)
           by_leaf escaped.continue_from_previous_match_end is h = (tt, tt)
@@ -244,9 +253,9 @@ module _ (f : Flags) (text : Text) where
       cond_both (c == code ".") _ _ P (λ _. record { mode = m; parsed = (tt, tt) }) (λ _.
       cond_both (c == code "^") _ _ P (λ _. record {
         mode = m;
-        parsed = ((λ o. anchor_plain s.flags (same_oniguruma s.flags m ∙ o)), tt);
+        parsed = (anchor_line f s.flags (same_oniguruma s.flags m), tt);
       }) (λ _.
-      cond_both (c == code "$") _ _ P (λ _. record { mode = m; parsed = ((λ o. end_plain s.flags), tt) }) (λ _.
+      cond_both (c == code "$") _ _ P (λ _. record { mode = m; parsed = (end_line f s.flags, tt) }) (λ _.
       cond_both (c == code "\\") _ _ P
       (λ e. escape_part s t m (subst (λ d. Slice text (d ∷ t)) (is_backslash e) i)) (λ _.
       cond_both (c == code "[") _ _ P (λ _. class_part s t m)

@@ -27,7 +27,7 @@ use Rattle.fancy_lex.specs.Property.{read_property}
 use Rattle.fancy_lex.specs.Reading.{Reading, gives, fails, ◌>=>◌, layout_reading}
 use Rattle.fancy_lex.specs.Text.{Text, strip, reach_of}
 use Rattle.fancy_lex.specs.declared.escape.Assertion.{Assertion}
-use Rattle.fancy_lex.specs.declared.escape.Assertion.TheVariants.{StartLineOniguruma, LeftWordBoundary}
+use Rattle.fancy_lex.specs.declared.escape.Assertion.TheVariants.{StartLine, StartLineOniguruma, LeftWordBoundary}
 use Rattle.fancy_lex.specs.declared.escape.Assertion.TheVariants.{RightWordBoundary}
 use Rattle.fancy_lex.specs.declared.flags.Flags.{Flags}
 use Rattle.fancy_lex.proofs.ReferencePlaces.{ReferenceAt, back_reference_at}
@@ -38,10 +38,11 @@ use Rattle.fancy_grammar.proofs.Parsed.Targets.{back_reference_read}
 use Rattle.fancy_grammar.proofs.Parsed.Targets.{subroutine_call_read}
 use Rattle.std.proofs.Common.{sym, ℤ}
 
--- the assertion is the start of a line in Oniguruma mode
-abbrev pub is_line_of_oniguruma : Assertion → Bool
-is_line_of_oniguruma (StartLineOniguruma crlf) = true
-is_line_of_oniguruma _ = false
+-- the assertion is the start of a line
+abbrev pub is_start_of_line : Assertion → Bool
+is_start_of_line (StartLine crlf) = true
+is_start_of_line (StartLineOniguruma crlf) = true
+is_start_of_line _ = false
 
 -- a reference with a level stands right behind the letter of `\k`, at the front of the text
 abbrev pub IsBehindLetter : Text → ℕ → Type 0
@@ -52,11 +53,11 @@ abbrev pub IsLevelBehind : Text → Reference → Type 0
 IsLevelBehind t r = IfSome r.level (λ z. IsBehindLetter t r.reach)
 
 -- what an escape of the text says of the flags: a byte is read without Unicode, a general new line tells it, and no
--- assertion is the start of a line in Oniguruma mode; and what it refers to
+-- assertion is the start of a line; and what it refers to
 abbrev pub IsOfMode : Flags → Text → Escape → Type 0
 IsOfMode f t (literal_bytes b) = f.unicode ≡ false
 IsOfMode f t (general_newline unicode) = f.unicode ≡ unicode
-IsOfMode f t (assertion a) = is_line_of_oniguruma a ≡ false
+IsOfMode f t (assertion a) = is_start_of_line a ≡ false
 IsOfMode f t (backref r casei) = IsReferenceRead r × IsLevelBehind t r
 IsOfMode f t (subroutine_call c) = IsCallRead c.target
 IsOfMode f t _ = Unit {0}
@@ -108,18 +109,18 @@ module _ (f : Flags) (whole : Text) where
       unnamed true = refl
       unnamed false = refl
 
-      names : (w : Text) → IfSome (boundaries.boundary_of_name negated w) (λ a. is_line_of_oniguruma a ≡ false)
+      names : (w : Text) → IfSome (boundaries.boundary_of_name negated w) (λ a. is_start_of_line a ≡ false)
       names w =
-          let P = λ (o : Option Assertion). IfSome o (λ a. is_line_of_oniguruma a ≡ false) in
+          let P = λ (o : Option Assertion). IfSome o (λ a. is_start_of_line a ≡ false) in
           cond_both negated _ _ P (λ _. tt) (λ _.
           cond_both (bytes_eq w (codes "start")) _ _ P (λ _. refl) (λ _.
           cond_both (bytes_eq w (codes "end")) _ _ P (λ _. refl) (λ _.
           cond_both (bytes_eq w (codes "start-half")) _ _ P (λ _. refl) (λ _.
           cond_both (bytes_eq w (codes "end-half")) _ _ P (λ _. refl) (λ _. tt)))))
 
-      named : (w u : Text) (o : Option Assertion) → IfSome o (λ a. is_line_of_oniguruma a ≡ false) → (a : Assertion) →
-          o ≡ Some a → is_line_of_oniguruma a ≡ false
-      named w u o h a e = subst (λ q. IfSome q (λ a. is_line_of_oniguruma a ≡ false)) e h
+      named : (w u : Text) (o : Option Assertion) → IfSome o (λ a. is_start_of_line a ≡ false) → (a : Assertion) →
+          o ≡ Some a → is_start_of_line a ≡ false
+      named w u o h a e = subst (λ q. IfSome q (λ a. is_start_of_line a ≡ false)) e h
 
       braces : (v : Text) → Sound (boundary_steps.named_boundary f.ignore_space p negated v)
       braces v =
@@ -175,7 +176,7 @@ module _ (f : Flags) (whole : Text) where
   lone_mode c t =
       of_lone (IsOfMode f whole) f false c (λ _. tt) (search rules) outside_rows
     where
-      pointed : (b : Bool) (x : ℕ) (a : Assertion) → is_line_of_oniguruma a ≡ false →
+      pointed : (b : Bool) (x : ℕ) (a : Assertion) → is_start_of_line a ≡ false →
           IsOfMode f whole (if b then literal x false else assertion a)
       pointed true x a e = tt
       pointed false x a e = e

@@ -1,4 +1,4 @@
--- Parsed trees are writable, and their texts read back, but for what groups without a number leave.
+-- Parsed trees are writable, and their texts read back.
 use Rattle.std.proofs.Common.{zero, suc}
 use Rattle.fancy_parts.specs.Ranks.{is_counted}
 use Rattle.fancy_grammar.specs.Pattern.{group_count_all}
@@ -8,7 +8,7 @@ use Rattle.std.proofs.Common.{◌∙◌, subst, arith}
 use Rattle.std.specs.List.{AllByRecursion}
 use Rattle.fancy_lex.specs.Text.{Text}
 use Rattle.fancy_lex.specs.declared.escape.Assertion.{Assertion}
-use Rattle.fancy_lex.specs.declared.escape.Assertion.TheVariants.{StartLineOniguruma}
+use Rattle.fancy_lex.specs.declared.escape.Assertion.TheVariants.{StartLine, StartLineOniguruma}
 use Rattle.fancy_lex.specs.declared.flags.Flags.{Flags}
 use Rattle.fancy_grammar.specs.Answer.{IsTreeOf}
 use Rattle.fancy_grammar.specs.Answered.{IsAnsweredNode}
@@ -40,7 +40,7 @@ use Rattle.fancy_grammar.proofs.AnsweredLaws.{answered_with}
 use Rattle.fancy_grammar.proofs.Parsed.Lists.{each_split}
 use Rattle.fancy_grammar.proofs.Parsed.Nodes.{IsSolid, AreTwo, AreBranched, IsSourceRead, by_escape, by_class}
 use Rattle.fancy_grammar.proofs.Pattern.Source.Law.{sources_read, by_escape as escaped_so, by_class as classed_so}
-use Rattle.fancy_grammar.proofs.Parsed.Escapes.{is_line_of_oniguruma}
+use Rattle.fancy_grammar.proofs.Pattern.Needed.{IsLineOfMode}
 use Rattle.fancy_grammar.proofs.Parsed.Resolved.{IsResolvedNode, AreThree, nodes_told, names_writable}
 use Rattle.fancy_grammar.proofs.Pattern.ReadFits.{answered_fits}
 use Rattle.fancy_grammar.proofs.Pattern.Theorem.{reads_back}
@@ -56,16 +56,16 @@ source_had f s casei (by_class g t u same case e) =
 
 -- ---- the join
 
-module _ (f : Flags) (m : Marks) (mode : f.oniguruma_mode ≡ false) where
+module _ (f : Flags) (m : Marks) where
   abbrev Answered : List Tree → Type 0
   Answered = AllByRecursion IsAnsweredNode
 
   abbrev Resolved : List Tree → Type 0
   Resolved = AllByRecursion (IsResolvedNode f m.numbered_groups_ignored)
 
-  assertion_writable : (c : ℕ) (a : Assertion) → is_line_of_oniguruma a ≡ false →
-      IsWritableLeaf f m c (label.assertion a)
-  assertion_writable c (StartLineOniguruma crlf) e = absurd cc
+  assertion_writable : (c : ℕ) (a : Assertion) → IsLineOfMode f a → IsWritableLeaf f m c (label.assertion a)
+  assertion_writable c (StartLine crlf) e = e
+  assertion_writable c (StartLineOniguruma crlf) e = e
   assertion_writable c _ e = tt
 
   leaf_writable : (c : ℕ) (l : Leaf) → IsAnsweredNode (leaf l) → IsResolvedNode f m.numbered_groups_ignored (leaf l) →
@@ -78,7 +78,7 @@ module _ (f : Flags) (m : Marks) (mode : f.oniguruma_mode ≡ false) where
   leaf_writable c (label.literal_bytes (b ∷ d ∷ w)) a h r = absurd (omega (arith, a.0))
   leaf_writable c (label.delegate s casei) a h r = source_had f s casei h
   leaf_writable c (label.general_newline unicode) a h r = h
-  leaf_writable c (label.assertion x) a h r = assertion_writable c x (h mode)
+  leaf_writable c (label.assertion x) a h r = assertion_writable c x h
   leaf_writable c (label.any newline crlf) a h r = tt
   leaf_writable c (label.verb v) a h r = tt
   leaf_writable c label.empty a h r = tt
@@ -133,7 +133,7 @@ module _ (f : Flags) (m : Marks) (mode : f.oniguruma_mode ≡ false) where
         AreReferencesWritable f m c t → Counted c (group_count t) → AreNodesWritable f m c t
     nodes_writable c (leaf l) a h r q = leaf_writable c l a.0 h.0 r
     nodes_writable c (over (label.repeat lo hi greedy) t) a h r q =
-        (nodes_writable c t a.1 h.1 r q, h.0.0, h.0.1, h.0.2)
+        (nodes_writable c t a.1 h.1 r q, h.0.0, h.0.1, h.0.2, h.0.3)
     nodes_writable c (over label.group t) a h r q =
         let (x, y) = counted_first c (group_count t) q in (x, nodes_writable (c + 1) t a.1 h.1 r y)
     nodes_writable c (over (label.look_around l) t) a h r q = nodes_writable c t a.1 h.1 r q
@@ -165,8 +165,8 @@ module _ (f : Flags) (m : Marks) (mode : f.oniguruma_mode ≡ false) where
         (nodes_writable c t x j r.0 o, all_writable (c + group_count t) ts y k r.1 w)
 
     pieces_writable : (c : ℕ) (ts : Trees) → Answered (preorder_all ts) → Resolved (preorder_all ts) →
-        (m.numbered_groups_ignored ≡ false → AllByRecursion IsSolid (list_of ts)) → AreAllReferencesWritable f m c ts → Counted c (group_count_all ts) →
-        ArePieces f m c ts
+        (m.numbered_groups_ignored ≡ false → AllByRecursion IsSolid (list_of ts)) → AreAllReferencesWritable f m c ts →
+        Counted c (group_count_all ts) → ArePieces f m c ts
     pieces_writable c no_trees a h s r q = tt
     pieces_writable c (more_trees t ts) a h s r q =
         let (x, y) = each_split IsAnsweredNode (preorder t) (preorder_all ts) a in
@@ -238,22 +238,20 @@ module _ {f : Flags} {text : Text} {t : Tree} {m : Marks} (a : IsTreeOf f text t
       (derived_read a.1.1) marked (subst (λ x. AllByRecursion IsAnsweredNode (preorder x)) a.3 (answered_with a).nodes)
       (omega arith))
 
-  -- outside Oniguruma mode the tree is writable
-  pub parsed_is_writable : bytes text < 2 ^ 63 → f.oniguruma_mode ≡ false → IsWritable f m t
-  parsed_is_writable small mode = record {
-    mode = mode;
+  -- the tree is writable
+  pub parsed_is_writable : bytes text < 2 ^ 63 → IsWritable f m t
+  parsed_is_writable small = record {
     marks = marks_told a numeric_told self_told;
     names = names_writable a;
-    nodes = nodes_writable f m mode 0 t (answered_with a).nodes (nodes_told a) (references_writable small)
-        (counted_told a);
+    nodes = nodes_writable f m 0 t (answered_with a).nodes (nodes_told a) (references_writable small) (counted_told a);
     fits = answered_fits f text t m a;
   }
 
   -- then its text reads back
-  pub parsed_reads_back : bytes text < 2 ^ 63 → f.oniguruma_mode ≡ false → IsReadAs f (pattern_text f t m) t m
-  parsed_reads_back small mode = reads_back f t m (parsed_is_writable small mode)
+  pub parsed_reads_back : bytes text < 2 ^ 63 → IsReadAs f (pattern_text f t m) t m
+  parsed_reads_back small = reads_back f t m (parsed_is_writable small)
 
 -- there is no tree of a pattern whose text does not
 pub none_of_pattern : (f : Flags) (t : Tree) (m : Marks) → (IsReadAs f (pattern_text f t m) t m → ⊥) →
     IsOfPattern f t m → ⊥
-none_of_pattern f t m never (text, tree, small, mode) = never (parsed_reads_back tree small mode)
+none_of_pattern f t m never (text, tree, small) = never (parsed_reads_back tree small)

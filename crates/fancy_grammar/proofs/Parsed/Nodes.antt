@@ -1,9 +1,10 @@
 -- What is true of each node of a raw tree under the flags that its pattern is read under, by how trees are put
 -- together.
 use Rattle.std.proofs.Common.{◌≡◌, ℕ, ◌<◌, ◌≤◌, ◌^◌, ◌∷◌, [], List, refl, sym, subst, arith, Bool, true, false}
-use Rattle.std.proofs.Common.{length, if◌then◌else◌, IfSome}
+use Rattle.std.proofs.Common.{length, if◌then◌else◌, IfSome, nat_lt, ap, ◌∙◌}
 use Rattle.std.specs.Prelude.{◌&&◌}
-use Rattle.std.proofs.lemmas.Bool.{cond_both}
+use Rattle.std.proofs.lemmas.Bool.{cond_both, and_parts}
+use Rattle.std.proofs.lemmas.Bool.Decides.{nat_tests}
 use Rattle.std.specs.List.{AllByRecursion}
 use Rattle.fancy_lex.specs.Class.{class}
 use Rattle.fancy_lex.specs.Escape.{escape}
@@ -26,7 +27,7 @@ use Rattle.fancy_grammar.specs.Writable.{IsNameWritable, IsLevelWritable}
 use Rattle.fancy_grammar.proofs.OutcomeLemmas.{each_append, each_solid}
 use Rattle.fancy_grammar.proofs.TreeLaws.{list_back}
 use Rattle.fancy_grammar.proofs.Parsed.Lists.{each_split}
-use Rattle.fancy_grammar.proofs.Parsed.Escapes.{is_line_of_oniguruma}
+use Rattle.fancy_grammar.proofs.Pattern.Needed.{IsLineOfMode}
 use Rattle.fancy_grammar.proofs.Parsed.Readers.{IsSameMode, AreWords}
 use Rattle.fancy_grammar.proofs.Parsed.Targets.{IsTargetRead, IsCallRead}
 
@@ -61,16 +62,17 @@ IsAstRead text (ast_call t) p = IsCallRead t
 IsAstRead text (ast_condition t level) p = IsTargetRead t × IfSome level IsLevelWritable
 
 -- Under flags with the mode of these: a byte is read without Unicode, a general new line tells it, the start of a line
--- is that of Oniguruma mode there alone, and a Delegate's source was read. What stands under a quantifier is
--- repeatable, and a word holds its counts; a stopper holds no Empty; a name can be written. A Concat has two parts or
--- more, none of them Empty, an absent expression two, and a conditional three, of which a branch is not Empty.
+-- is that of the mode, and a Delegate's source was read. What stands under a quantifier is repeatable, a word holds its
+-- counts, and in Oniguruma mode they are in order; a stopper holds no Empty; a name can be written. A Concat has two
+-- parts or more, none of them Empty, an absent expression two, and a conditional three, of which a branch is not Empty.
 abbrev pub IsParsedNode : Flags → Text → Tree → Type 0
 IsParsedNode f text (leaf (label.literal_bytes w)) = f.unicode ≡ false
 IsParsedNode f text (leaf (label.general_newline unicode)) = f.unicode ≡ unicode
-IsParsedNode f text (leaf (label.assertion a)) = f.oniguruma_mode ≡ false → is_line_of_oniguruma a ≡ false
+IsParsedNode f text (leaf (label.assertion a)) = IsLineOfMode f a
 IsParsedNode f text (leaf (label.delegate s casei)) = IsSourceRead f s casei
 IsParsedNode f text (leaf (label.ast_node r p)) = IsAstRead text r p
-IsParsedNode f text (over (label.repeat lo hi greedy) t) = (is_repeatable f t ≡ true) × (lo < 2 ^ 64) × (hi < 2 ^ 64)
+IsParsedNode f text (over (label.repeat lo hi greedy) t) =
+    (is_repeatable f t ≡ true) × (lo < 2 ^ 64) × (hi < 2 ^ 64) × (f.oniguruma_mode ≡ true → lo ≤ hi)
 IsParsedNode f text (over label.stopper t) = IsSolid t
 IsParsedNode f text (over (label.ast_group name reach) t) = IfSome name IsNameWritable
 IsParsedNode f text (row label.concat ts) = (2 ≤ length (list_of ts)) × AllByRecursion IsSolid (list_of ts)
@@ -122,11 +124,21 @@ module _ (f : Flags) (text : Text) where
   choice_parsed (t ∷ []) h = h.0
   choice_parsed (t ∷ u ∷ ts) h = (tt, all_parsed (t ∷ u ∷ ts) h)
 
-  pub quantified_parsed : (g : Flags) (c : Counts) (m : Suffix) (a : Tree) → is_repeatable f a ≡ true → AreWords c →
-      IsParsed a → IsParsed (quantified g c m a)
-  quantified_parsed g c m a r w h =
-      cond_both (is_swapped g c) _ _ IsParsed (λ _. (tt, ((r, w.1, w.0), h)))
-      (λ _. cond_both m.possessive _ _ IsParsed (λ _. (tt, ((r, w.0, w.1), h))) (λ _. ((r, w.0, w.1), h)))
+  less_ordered : (a b : ℕ) → nat_lt a b ≡ true → a ≤ b
+  less_ordered a b h = grind (arith, nat_tests)
+
+  not_less_ordered : (a b : ℕ) → nat_lt a b ≡ false → b ≤ a
+  not_less_ordered a b h = grind (arith, nat_tests)
+
+  pub quantified_parsed : (g : Flags) (c : Counts) (m : Suffix) (a : Tree) → g.oniguruma_mode ≡ f.oniguruma_mode →
+      is_repeatable f a ≡ true → AreWords c → IsParsed a → IsParsed (quantified g c m a)
+  quantified_parsed g c m a same r w h =
+      cond_both (is_swapped g c) _ _ IsParsed
+      (λ e. (tt, ((r, w.1, w.0, (λ _. less_ordered c.high c.low (and_parts g.oniguruma_mode _ e).1)), h)))
+      (λ e. let ordered : f.oniguruma_mode ≡ true → c.low ≤ c.high
+      = λ o. not_less_ordered c.high c.low (sym (ap (λ b. b && nat_lt c.high c.low) (same ∙ o)) ∙ e) in
+      cond_both m.possessive _ _ IsParsed (λ _. (tt, ((r, w.0, w.1, ordered), h)))
+      (λ _. ((r, w.0, w.1, ordered), h)))
 
   -- the name in a group's head can be written
   abbrev pub IsHeadParsed : Head → Type 0

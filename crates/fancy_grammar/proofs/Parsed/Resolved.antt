@@ -35,7 +35,7 @@ abbrev pub IsResolvedNode : Flags → Bool → Tree → Type 0
 IsResolvedNode f named (leaf (label.ast_node r place)) = Unit {0}
 IsResolvedNode f named (leaf l) = IsParsedNode f [] (leaf l)
 IsResolvedNode f named (over (label.repeat lo hi greedy) t) =
-    (named ≡ false → is_repeatable f t ≡ true) × (lo < 2 ^ 64) × (hi < 2 ^ 64)
+    (named ≡ false → is_repeatable f t ≡ true) × (lo < 2 ^ 64) × (hi < 2 ^ 64) × (f.oniguruma_mode ≡ true → lo ≤ hi)
 IsResolvedNode f named (over label.stopper t) = named ≡ false → IsSolid t
 IsResolvedNode f named (row label.concat ts) =
     (2 ≤ length (list_of ts)) × (named ≡ false → AllByRecursion IsSolid (list_of ts))
@@ -124,7 +124,7 @@ module _ (f : Flags) (text : Text) (z : ℕ) (named : Bool) (numbers_of : Text �
   nodes_kept c (ast_node r place ∷ l) h = ((reference_there c r place).fact named, nodes_kept c l h.1)
   nodes_kept c (leaf x ∷ l) h = (h.0, nodes_kept c l h.1)
   nodes_kept c (over (label.repeat lo hi greedy) t ∷ l) h =
-      (((λ e. repeatable_kept e c t ∙ h.0.0), h.0.1, h.0.2), nodes_kept c l h.1)
+      (((λ e. repeatable_kept e c t ∙ h.0.0), h.0.1, h.0.2, h.0.3), nodes_kept c l h.1)
   nodes_kept c (over label.stopper t ∷ l) h = ((λ e. empty_kept e c t ∙ h.0), nodes_kept c l h.1)
   nodes_kept c (row label.concat ts ∷ l) h = (
     (subst (λ k. 2 ≤ k) (sym (list_length z named numbers_of ts c)) h.0.0, λ e. solid_kept e ts c h.0.1),

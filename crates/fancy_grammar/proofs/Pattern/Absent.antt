@@ -43,9 +43,9 @@ unfolding ahead
 nothing_at d f s = refl
 
 -- a text that begins with a bar reads the same behind it
-comment_whole : (μ : Marks) (h : Here) (s v : Text) (g : Flags) (x : Tree) → h.flags.oniguruma_mode ≡ false →
+comment_whole : (μ : Marks) (h : Here) (s v : Text) (g : Flags) (x : Tree) →
     WholeAt μ h (code "|" ∷ s) g v x → WholeAt μ h (codes "(?#)|" ++ s) g v x
-comment_whole μ h s v g x o w =
+comment_whole μ h s v g x w =
     let t = codes "(?#)|" ++ s in
     let bar = code "|" ∷ s in
     record {
@@ -55,7 +55,7 @@ comment_whole μ h s v g x o w =
           (λ q p. next refl
           (piece_as (comment_passed h.flags.ignore_space bar ∙ (stops_bar h.flags.ignore_space s).clear.no_layout)
           (atom (nothing_at h.depth h.flags s) a_nothing)
-          (quants_one h.depth (bytes t) h.flags empty empty bar bar o
+          (quants_one h.depth (bytes t) h.flags empty empty bar bar (stops_bar h.flags.ignore_space s).clear
           (quant_none (bytes t) h.flags empty bar (stops_bar h.flags.ignore_space s).clear))) p)
           w.derives;
       becomes = in_longer μ bar t (codes "(?#)", refl) h.opened w.tree x w.becomes;
@@ -81,7 +81,7 @@ starts_bar t = refl
 starts_other : (c : ℕ) (t : Text) → (c ≢ code "|") → starts_with nat_eq (c ∷ t) (codes "|") ≡ false
 starts_other c t h = rw (ne_eqb (code "|") c (λ e. h (sym e))) refl
 
-module _ (μ : Marks) (h : Here) (v : Text) (g : Flags) (x : Tree) (o : h.flags.oniguruma_mode ≡ false) where
+module _ (μ : Marks) (h : Here) (v : Text) (g : Flags) (x : Tree) where
   abbrev PartedIf : Bool → Text → Type 0
   PartedIf b t = Parted μ h ((if b then codes "(?#)" ++ t else t) ++ code ")" ∷ v) (code ")" ∷ v) g x
 
@@ -98,7 +98,7 @@ module _ (μ : Marks) (h : Here) (v : Text) (g : Flags) (x : Tree) (o : h.flags.
     others = codes "?#)|" ++ (t ++ code ")" ∷ v);
     is = refl;
     no_bar = refl;
-    reads = comment_whole μ h (t ++ code ")" ∷ v) (code ")" ∷ v) g x o w;
+    reads = comment_whole μ h (t ++ code ")" ∷ v) (code ")" ∷ v) g x w;
   }
   parted_bar false t e w = absurd (false≢true (sym e))
 
@@ -177,7 +177,7 @@ expression_at μ h t u v f g a e l b d = record {
 
 -- ---- the trees
 
-module _ (μ : Marks) (h : Here) (o : h.flags.oniguruma_mode ≡ false) where
+module _ (μ : Marks) (h : Here) where
   begins_absent : (u : Text) → Begins h.flags.ignore_space (codes "(?~" ++ u)
   begins_absent u = begins_by h.flags.ignore_space (code "(") _ refl refl refl refl
 
@@ -190,11 +190,11 @@ module _ (μ : Marks) (h : Here) (o : h.flags.oniguruma_mode ≡ false) where
       let text = λ (j : Here). repeater_text (written μ t Whole j) in
       let s = in_parens (codes "?~") text i in
       let same = parens_text (codes "?~") text i in
-      by_atom μ x h o refl (Fits x Whole h) (Fits x Whole h) s _ (λ d. d.0)
+      by_atom μ x h refl (Fits x Whole h) (Fits x Whole h) s _ (λ d. d.0)
       (λ _ v. subst (Begins h.flags.ignore_space) (sym (same v)) (begins_absent _))
       (λ d v k _. subst (λ z. AtomAt μ i z v x) (sym (same v))
       (repeater_at μ i _ _ v t d.1.0
-      (parted μ (deeper i) v _ t o w (r.whole d.1.1 (code ")" ∷ v) (ends_close h.flags.ignore_space v)))))
+      (parted μ (deeper i) v _ t w (r.whole d.1.1 (code ")" ∷ v) (ends_close h.flags.ignore_space v)))))
       refl (λ e. ((λ d. d), refl)) (λ _ e. absurd (true≢false e))
 
   solid_stopper : (t : Tree) → is_empty t ≡ false → ReadsTree μ t (deeper (under (settled h.flags t) h)) →
@@ -207,7 +207,7 @@ module _ (μ : Marks) (h : Here) (o : h.flags.oniguruma_mode ≡ false) where
       let s = in_parens (codes "?~|") text i in
       let same = parens_text (codes "?~|") text i in
       let bare = λ (d : Fits x Whole h). stopper_same h.flags.ignore_space w (r.branch_begins d.1.1.1 solid []) in
-      by_atom μ x h o refl (Fits x Whole h) (Fits x Whole h) s _ (λ d. d.0)
+      by_atom μ x h refl (Fits x Whole h) (Fits x Whole h) s _ (λ d. d.0)
       (λ _ v. subst (Begins h.flags.ignore_space) (sym (same v)) (begins_absent _))
       (λ d v k _. let b = r.branch d.1.1.1 (code ")" ∷ v) (ends_close h.flags.ignore_space v).stops in
       subst (λ z. AtomAt μ i z v x) (sym (same v ∙ ap (λ z. codes "(?~|" ++ (z ++ code ")" ∷ v)) (bare d)))
@@ -218,9 +218,9 @@ module _ (μ : Marks) (h : Here) (o : h.flags.oniguruma_mode ≡ false) where
   nothing_stopper ignored =
       let x = over label.stopper empty in
       let text = λ (j : Here). codes "()" in
-      by_atom μ x h o refl (Fits x Whole h) (Fits x Whole h) (in_parens (codes "?~|") text h) _ (λ d. d.0)
+      by_atom μ x h refl (Fits x Whole h) (Fits x Whole h) (in_parens (codes "?~|") text h) _ (λ d. d.0)
       (λ _ v. begins_absent _)
-      (λ d v k _. let b = bare_branch μ (deeper h) (codes "()" ++ code ")" ∷ v) (code ")" ∷ v) empty o
+      (λ d v k _. let b = bare_branch μ (deeper h) (codes "()" ++ code ")" ∷ v) (code ")" ∷ v) empty
       (begins_nothing h.flags.ignore_space (code ")" ∷ v)) (ends_close h.flags.ignore_space v).stops
       (reads_nothing μ (deeper h) (code ")" ∷ v) (d.1.1.0 refl) ignored) in
       stopper_at μ h (codes "()" ++ code ")" ∷ v) v h.flags empty d.1.0 b.branch b.solid)
@@ -245,11 +245,12 @@ module _ (μ : Marks) (h : Here) (o : h.flags.oniguruma_mode ≡ false) where
       let same = parens_text (codes "?~|") text i in
       let first = written μ a Branch (deeper i) in
       let second = λ (v : Text). written μ e Branch (behind a Branch (deeper i)) ++ code ")" ∷ v in
-      by_atom μ x h o refl (Fits x Whole h) (Fits x Whole h) s _ (λ d. d.0)
+      by_atom μ x h refl (Fits x Whole h) (Fits x Whole h) s _ (λ d. d.0)
       (λ _ v. subst (Begins h.flags.ignore_space) (sym (same v)) (begins_absent _))
       (λ d v k _. subst (λ z. AtomAt μ i z v x)
       (sym (same v ∙ ap (λ z. codes "(?~|" ++ z) (append_assoc first _ (code ")" ∷ v))))
       (expression_at μ i (first ++ code "|" ∷ second v) (second v) v _ _ a e d.1.0
       (r.branch d.1.1.0 (code "|" ∷ second v) (stops_bar h.flags.ignore_space (second v)))
-      (q.branch d.1.1.1 (code ")" ∷ v) (subst (λ y. Stops y (code ")" ∷ v)) (sym space) (ends_close h.flags.ignore_space v).stops))))
+      (q.branch d.1.1.1 (code ")" ∷ v)
+      (subst (λ y. Stops y (code ")" ∷ v)) (sym space) (ends_close h.flags.ignore_space v).stops))))
       refl (λ e. ((λ d. d), refl)) (λ _ e. absurd (true≢false e))

@@ -10,7 +10,7 @@ use Rattle.std.proofs.lemmas.Bool.{cond-false, false≢true, cond_both}
 use Prim.Native.Char.{code}
 use Rattle.fancy_lex.specs.Text.{Text}
 use Rattle.fancy_lex.specs.declared.escape.Assertion.{Assertion}
-use Rattle.fancy_lex.specs.declared.escape.Assertion.TheVariants.{StartLineOniguruma}
+use Rattle.fancy_lex.specs.declared.escape.Assertion.TheVariants.{StartLine, StartLineOniguruma}
 use Rattle.fancy_lex.specs.declared.flags.Flags.{Flags}
 use Rattle.fancy_grammar.specs.Ahead.{with_head, ahead}
 use Rattle.fancy_grammar.specs.Head.{look, capture}
@@ -40,7 +40,7 @@ use Rattle.fancy_grammar.proofs.Pattern.Induction.{ReadsBy}
 use Rattle.fancy_grammar.proofs.Pattern.Induction.{by_atom, by_nothing}
 use Rattle.fancy_grammar.proofs.Pattern.Leaves.{LeafAt, literal_at, byte_at, keep_at, continue_at, newline_at, any_at}
 use Rattle.fancy_grammar.proofs.Pattern.Leaves.{assertion_at, verb_leaf_at, clear_at, source_at}
-use Rattle.fancy_grammar.proofs.Pattern.Needed.{like_repeatable, settled_again, case_fits, any_fits, IsOutside}
+use Rattle.fancy_grammar.proofs.Pattern.Needed.{like_repeatable, settled_again, case_fits, any_fits, IsLineOfMode}
 use Rattle.fancy_grammar.proofs.Pattern.Needed.{assertion_fits}
 use Rattle.fancy_grammar.proofs.Pattern.Rules.{Clear, Begins, begins_by, no_question, ends_close, AtomAt}
 use Rattle.fancy_grammar.proofs.ReadBack.ClearLemmas.{not_asking}
@@ -74,7 +74,7 @@ module _ (μ : Marks) where
       let i = deeper (under (settled h.flags (leaf l)) h) in
       is_repeatable i.flags (leaf l) ≡ false → MayOpenIf (is_in_parens l) i → LeafAt μ i (leaf_text μ l i) l
 
-  leaf_by : (l : Leaf) (h : Here) → h.flags.oniguruma_mode ≡ false → is_empty (leaf l) ≡ false →
+  leaf_by : (l : Leaf) (h : Here) → is_empty (leaf l) ≡ false →
       (MayOpenIf (is_in_parens l) h →
       LeafAt μ (under (settled h.flags (leaf l)) h) (leaf_text μ l (under (settled h.flags (leaf l)) h)) l) →
       BareLeaf l h →
@@ -83,99 +83,105 @@ module _ (μ : Marks) where
       (after_setting (leaf l) (leaf_text μ l) h)
       (after_setting (leaf l) (as_atom (leaf l) (Operand zero) (leaf_text μ l)) h) (settled h.flags (leaf l))
       (settled h.flags (leaf l))
-  leaf_by l h o e a bare =
+  leaf_by l h e a bare =
       let g = settled h.flags (leaf l) in
       let i = under g h in
-      by_atom μ (leaf l) h o e (FitsAlone l h) (FitsUnder l h) (leaf_text μ l i) _ (λ x. x.0) (λ x. (a x.1).begins)
+      by_atom μ (leaf l) h e (FitsAlone l h) (FitsUnder l h) (leaf_text μ l i) _ (λ x. x.0) (λ x. (a x.1).begins)
       (λ x. (a x.1).reads) refl
       (λ r. let not_so = ap not (sym (like_repeatable (leaf l) h.flags g refl) ∙ r) in (
         λ x. (x.0, subst (λ b. FitsInParensIf b (λ q. MayOpenIf (is_in_parens l)) (Operand zero) i) not_so x.1),
         ap (λ w. setting h.flags g ++ w) (cond-false _ _ _ not_so),
       ))
-      (λ x r q. let so : not (is_repeatable g (leaf l)) ≡ true = ap not (sym (like_repeatable (leaf l) h.flags g refl) ∙ r) in
+      (λ x r q. let so : not (is_repeatable g (leaf l)) ≡ true
+      = ap not (sym (like_repeatable (leaf l) h.flags g refl) ∙ r) in
       let inner = λ (x : FitsUnder l h).
       bare (sym (like_repeatable (leaf l) h.flags g refl) ∙ r)
       (subst (λ b. FitsInParensIf b (λ q. MayOpenIf (is_in_parens l)) (Operand zero) i) so x.1).1 in
       subst (λ w. ((v : Text) → Begins h.flags.ignore_space ((setting h.flags g ++ w) ++ v))
       × (settled h.flags (leaf l) ≡ h.flags → (v : Text) → BareAt μ h ((setting h.flags g ++ w) ++ v) v (leaf l)))
       (sym (cond-true _ _ _ so))
-      (bare_by μ (leaf l) h o e (FitsUnder l h) (leaf_text μ l (deeper i))
+      (bare_by μ (leaf l) h e (FitsUnder l h) (leaf_text μ l (deeper i))
       (λ x. (subst (λ b. FitsInParensIf b (λ q. MayOpenIf (is_in_parens l)) (Operand zero) i) so x.1).0)
       (λ x. (inner x).begins) (λ x. (inner x).reads) x r q))
 
-  outside : (f : Flags) (c : ℕ) (a : Assertion) → IsWritableLeaf f μ c (label.assertion a) → IsOutside a
-  outside f c (StartLineOniguruma crlf) k = k
-  outside f c _ k = tt
+  of_mode : (f g : Flags) (c : ℕ) (a : Assertion) → g.oniguruma_mode ≡ f.oniguruma_mode →
+      IsWritableLeaf f μ c (label.assertion a) → IsLineOfMode g a
+  of_mode f g c (StartLine crlf) e k = e ∙ k
+  of_mode f g c (StartLineOniguruma crlf) e k = e ∙ k
+  of_mode f g c _ e k = tt
 
   pub leaf_reads : ((k : ℕ) → IfSome (name_of μ k) (λ e. e.1 ≡ numbers_told μ e.0)) →
-      (f : Flags) (l : Leaf) (h : Here) → h.flags.oniguruma_mode ≡ false → IsLike f h.flags →
+      (f : Flags) (l : Leaf) (h : Here) → IsLike f h.flags →
       IsWritableLeaf f μ h.opened l → ReadsTree (leaf l) h
-  leaf_reads numbered f label.empty h o like k = by_nothing μ h _ _ _ _ o (λ d. d refl) (λ d. d refl)
-  leaf_reads numbered f (label.any a b) h o like k =
+  leaf_reads numbered f label.empty h like k = by_nothing μ h _ _ _ _ (λ d. d refl) (λ d. d refl)
+  leaf_reads numbered f (label.any a b) h like k =
       let i = under (settled h.flags (leaf (label.any a b))) h in
-      leaf_by (label.any a b) h o refl (λ _. any_at μ i a b (any_fits i.flags a b
+      leaf_by (label.any a b) h refl (λ _. any_at μ i a b (any_fits i.flags a b
       (settled_again h.flags (leaf (label.any a b)))))
       (λ e. absurd (true≢false e))
-  leaf_reads numbered f (label.assertion a) h o like k =
+  leaf_reads numbered f (label.assertion a) h like k =
       let i = under (settled h.flags (leaf (label.assertion a))) h in
-      leaf_by (label.assertion a) h o refl (λ _. assertion_at μ i a o (assertion_fits i.flags a (outside f h.opened a k)
+      leaf_by (label.assertion a) h refl (λ _. assertion_at μ i a (assertion_fits i.flags a
+      (of_mode f i.flags h.opened a (ap (λ g. g.oniguruma_mode) like) k)
       (settled_again h.flags (leaf (label.assertion a)))))
-      (λ e. absurd (true≢false (sym (ap not o) ∙ e)))
-  leaf_reads numbered f (label.general_newline u) h o like k =
-      leaf_by (label.general_newline u) h o refl (λ _. newline_at μ h u (ap (λ g. g.unicode) like ∙ k))
+      (λ _ _. assertion_at μ (deeper i) a (assertion_fits i.flags a
+      (of_mode f i.flags h.opened a (ap (λ g. g.oniguruma_mode) like) k)
+      (settled_again h.flags (leaf (label.assertion a)))))
+  leaf_reads numbered f (label.general_newline u) h like k =
+      leaf_by (label.general_newline u) h refl (λ _. newline_at μ h u (ap (λ g. g.unicode) like ∙ k))
       (λ e. absurd (true≢false e))
-  leaf_reads numbered f (label.literal [] casei) h o like k = absurd k
-  leaf_reads numbered f (label.literal (c ∷ []) casei) h o like k =
+  leaf_reads numbered f (label.literal [] casei) h like k = absurd k
+  leaf_reads numbered f (label.literal (c ∷ []) casei) h like k =
       let l = label.literal (c ∷ []) casei in
       let i = under (settled h.flags (leaf l)) h in
-      leaf_by l h o refl (λ _. literal_at μ i casei c (case_fits i.flags casei c o (settled_again h.flags (leaf l))))
+      leaf_by l h refl (λ _. literal_at μ i casei c (case_fits i.flags casei c (settled_again h.flags (leaf l))))
       (λ e. absurd (true≢false e))
-  leaf_reads numbered f (label.literal (c ∷ e ∷ s) casei) h o like k = absurd k
-  leaf_reads numbered f (label.literal_bytes []) h o like k = absurd k
-  leaf_reads numbered f (label.literal_bytes (b ∷ [])) h o like k =
-      leaf_by (label.literal_bytes (b ∷ [])) h o refl (λ _. byte_at μ h b (ap (λ g. g.unicode) like ∙ k.0) k.1 k.2)
+  leaf_reads numbered f (label.literal (c ∷ e ∷ s) casei) h like k = absurd k
+  leaf_reads numbered f (label.literal_bytes []) h like k = absurd k
+  leaf_reads numbered f (label.literal_bytes (b ∷ [])) h like k =
+      leaf_by (label.literal_bytes (b ∷ [])) h refl (λ _. byte_at μ h b (ap (λ g. g.unicode) like ∙ k.0) k.1 k.2)
       (λ e. absurd (true≢false e))
-  leaf_reads numbered f (label.literal_bytes (b ∷ e ∷ s)) h o like k = absurd k
-  leaf_reads numbered f (label.delegate s casei) h o like k =
+  leaf_reads numbered f (label.literal_bytes (b ∷ e ∷ s)) h like k = absurd k
+  leaf_reads numbered f (label.delegate s casei) h like k =
       let l = label.delegate s casei in
       let i = under (settled h.flags (leaf l)) h in
-      leaf_by l h o refl (λ _. source_at μ i s casei _ (k i.flags like (settled_again h.flags (leaf l))))
+      leaf_by l h refl (λ _. source_at μ i s casei _ (k i.flags like (settled_again h.flags (leaf l))))
       (λ e. absurd (true≢false e))
-  leaf_reads numbered f label.keep_out h o like k = leaf_by label.keep_out h o refl (λ _. keep_at μ h)
+  leaf_reads numbered f label.keep_out h like k = leaf_by label.keep_out h refl (λ _. keep_at μ h)
       (λ _ _. keep_at μ _)
-  leaf_reads numbered f label.continue_from_previous_match_end h o like k =
-      leaf_by label.continue_from_previous_match_end h o refl (λ _. continue_at μ h)
+  leaf_reads numbered f label.continue_from_previous_match_end h like k =
+      leaf_by label.continue_from_previous_match_end h refl (λ _. continue_at μ h)
       (λ _ _. continue_at μ _)
-  leaf_reads numbered f (label.verb v) h o like k = leaf_by (label.verb v) h o refl (λ d. verb_leaf_at μ h v (d refl))
+  leaf_reads numbered f (label.verb v) h like k = leaf_by (label.verb v) h refl (λ d. verb_leaf_at μ h v (d refl))
       (λ _ d. verb_leaf_at μ _ v (d refl))
-  leaf_reads numbered f label.clear h o like k = leaf_by label.clear h o refl (λ d. clear_at μ h (d refl))
+  leaf_reads numbered f label.clear h like k = leaf_by label.clear h refl (λ d. clear_at μ h (d refl))
       (λ e. absurd (true≢false e))
-  leaf_reads numbered f (label.backref n casei) h o like k =
-      leaf_by (label.backref n casei) h o refl
+  leaf_reads numbered f (label.backref n casei) h like k =
+      leaf_by (label.backref n casei) h refl
       (λ _. backref_at μ (under (settled h.flags (leaf (label.backref n casei))) h) numbered n k)
       (λ e. absurd (true≢false e))
-  leaf_reads numbered f (label.backref_at_level n level casei) h o like k =
+  leaf_reads numbered f (label.backref_at_level n level casei) h like k =
       let l = label.backref_at_level n level casei in
-      leaf_by l h o refl (λ _. level_at μ (under (settled h.flags (leaf l)) h) numbered n level k.0 k.1)
+      leaf_by l h refl (λ _. level_at μ (under (settled h.flags (leaf l)) h) numbered n level k.0 k.1)
       (λ e. absurd (true≢false e))
-  leaf_reads numbered f (label.subroutine_call n) h o like k =
-      leaf_by (label.subroutine_call n) h o refl (λ _. call_at μ h numbered n k)
+  leaf_reads numbered f (label.subroutine_call n) h like k =
+      leaf_by (label.subroutine_call n) h refl (λ _. call_at μ h numbered n k)
       (λ e. absurd (true≢false e))
-  leaf_reads numbered f (label.backref_exists n level) h o like k =
-      leaf_by (label.backref_exists n level) h o refl
+  leaf_reads numbered f (label.backref_exists n level) h like k =
+      leaf_by (label.backref_exists n level) h refl
       (λ d. exists_at μ h (target_text μ n level) n level (condition_at μ h n (d refl) level (numbered n) k.0 k.1))
       (λ e. absurd (true≢false e))
-  leaf_reads numbered f (label.ast_node (label.ast_call t) place) h o like k =
-      leaf_by (label.ast_node (label.ast_call t) place) h o refl (λ d. unresolved_at μ h t place d k.0 k.1)
+  leaf_reads numbered f (label.ast_node (label.ast_call t) place) h like k =
+      leaf_by (label.ast_node (label.ast_call t) place) h refl (λ d. unresolved_at μ h t place d k.0 k.1)
       (λ e. absurd (true≢false e))
-  leaf_reads numbered f _ h o like k = absurd k
+  leaf_reads numbered f _ h like k = absurd k
 
   -- ---- groups
 
   begins_open : (x : Bool) (s : Text) → Clear x s → Begins x (code "(" ∷ s)
   begins_open x s c = begins_by x (code "(") s (not_asking s (no_question s c.no_mark)) refl refl refl
 
-  module _ (t : Tree) (h : Here) (o : h.flags.oniguruma_mode ≡ false) where
+  module _ (t : Tree) (h : Here) where
     -- a group whose name the marks give it
     group_head_read : MayOpen h → (o : Option Named) → IfSome o (λ e. IsNameWritable e.0) → (f : Flags) (u : Text) →
         Clear f.ignore_space u →
@@ -207,7 +213,7 @@ module _ (μ : Marks) where
         let clear = λ (d : fits) (v : Text).
         r.whole_clear d.1.1 (code ")" ∷ v) (ends_close h.flags.ignore_space v).stops.clear in
         let same = parens_text head (written μ t Whole) (past_groups 1 i) in
-        by_atom μ (over label.group t) h o refl fits fits s _ (λ d. d.0)
+        by_atom μ (over label.group t) h refl fits fits s _ (λ d. d.0)
         (λ d v. subst (Begins h.flags.ignore_space) (sym (same v))
         (begins_head (name_of μ (h.opened + 1)) named h.flags.ignore_space (inside v) (clear d v)))
         (λ d v k _. subst (λ w. AtomAt μ i w v (over label.group t)) (sym (same v))
@@ -224,10 +230,12 @@ module _ (μ : Marks) where
 
     -- its text, where it may stand
     look_atom : (l : LookAround) (i : Here) → MayOpen i → (v : Text) →
-        WholeAt μ (deeper i) (written μ t Whole (deeper i) ++ code ")" ∷ v) (flags_behind t Whole i.flags) (code ")" ∷ v) t →
+        WholeAt μ (deeper i) (written μ t Whole (deeper i) ++ code ")" ∷ v) (flags_behind t Whole i.flags)
+        (code ")" ∷ v) t →
         AtomAt μ i (in_parens (look_head l) (written μ t Whole) i ++ v) v (over (label.look_around l) t)
     look_atom l i d v w =
-        subst (λ z. AtomAt μ i z v (over (label.look_around l) t)) (sym (parens_text (look_head l) (written μ t Whole) i v))
+        subst (λ z. AtomAt μ i z v (over (label.look_around l) t))
+        (sym (parens_text (look_head l) (written μ t Whole) i v))
         (reads_look μ i l _ _ (written μ t Whole (deeper i) ++ code ")" ∷ v) v t
         (look_ahead_in d i.flags l (written μ t Whole (deeper i) ++ code ")" ∷ v)) w)
       where
@@ -249,11 +257,11 @@ module _ (μ : Marks) where
         subst (Begins h.flags.ignore_space) (sym (parens_text (look_head l) (written μ t Whole) j v))
         (begins_look h.flags.ignore_space l (written μ t Whole (deeper j) ++ code ")" ∷ v)) in
         let close = λ (v : Text). ends_close h.flags.ignore_space v in
-        by_atom μ x h o refl (fits Whole) (fits (Operand zero)) (text i) _ (λ d. d.0)
+        by_atom μ x h refl (fits Whole) (fits (Operand zero)) (text i) _ (λ d. d.0)
         (λ _ v. begins i v)
         (λ d v k _. look_atom l i d.1.0 v (r.whole d.1.1 (code ")" ∷ v) (close v)))
         refl (λ e. absurd (false≢true e))
-        (bare_by μ x h o refl (fits (Operand zero)) (text (deeper i)) (λ d. d.1.0) (λ _ v. begins (deeper i) v)
+        (bare_by μ x h refl (fits (Operand zero)) (text (deeper i)) (λ d. d.1.0) (λ _ v. begins (deeper i) v)
         (λ d v k _. look_atom l (deeper i) d.1.1.0 v (r2.whole d.1.1.1 (code ")" ∷ v) (close v))))
 
     pub define_reads : ReadsTree t (deeper (under (settled h.flags t) h)) → ReadsTree (over label.define_group t) h
@@ -263,7 +271,7 @@ module _ (μ : Marks) where
         let inside = λ (v : Text). written μ t Whole (deeper i) ++ code ")" ∷ v in
         let same = parens_text (codes "?(DEFINE)") (written μ t Whole) i in
         let fits = Fits (over label.define_group t) Whole h in
-        by_atom μ (over label.define_group t) h o refl fits fits s _ (λ d. d.0)
+        by_atom μ (over label.define_group t) h refl fits fits s _ (λ d. d.0)
         (λ _ v. subst (Begins h.flags.ignore_space) (sym (same v))
         (begins_by h.flags.ignore_space (code "(") _ refl refl refl refl))
         (λ d v k _. subst (λ w. AtomAt μ i w v (over label.define_group t)) (sym (same v))
@@ -285,7 +293,7 @@ module _ (μ : Marks) where
         let inside = λ (v : Text). written μ t Whole (deeper i) ++ code ")" ∷ v in
         let same = parens_text (codes "?>") (written μ t Whole) i in
         let fits = FitsAfterSetting t (FitsInParens (Fits t Whole)) h in
-        by_atom μ (over label.atomic_group t) h o refl fits fits s _ (λ d. d.0)
+        by_atom μ (over label.atomic_group t) h refl fits fits s _ (λ d. d.0)
         (λ _ v. subst (Begins h.flags.ignore_space) (sym (same v))
         (begins_by h.flags.ignore_space (code "(") _ refl refl refl refl))
         (λ d v k _. subst (λ w. AtomAt μ i w v (over label.atomic_group t)) (sym (same v))

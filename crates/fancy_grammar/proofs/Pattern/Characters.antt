@@ -1,8 +1,9 @@
--- The text of a character reads as it, whatever follows, outside Oniguruma mode.
+-- The text of a character reads as it, whatever follows.
 use Rattle.std.proofs.Common.{◌≡◌, ℕ, ◌+◌, ◌*◌, ◌/◌, ◌%◌, ◌<◌, ◌≤◌, Bool, true, false, not, ◌&&◌, ◌||◌, ◌==◌, nat_le}
 use Rattle.std.proofs.Common.{nat_lt, [], ◌∷◌, ◌++◌, codes, Option, Some, refl, sym, ap, ◌∙◌, subst, arith, lt-ltb}
-use Rattle.std.proofs.Common.{⊎_elim, eqb-true, if◌then◌else◌}
-use Rattle.std.proofs.lemmas.Bool.{cond-true, cond-false, cond_both, or_parts, or_cases, and_parts, false≢true}
+use Rattle.std.proofs.Common.{⊎_elim, ◌⊎◌, inl, inr, eqb-true, if◌then◌else◌}
+use Rattle.std.proofs.lemmas.Bool.{cond-true, cond-false, cond_both, or_parts, or_cases, and_parts, and_from}
+use Rattle.std.proofs.lemmas.Bool.{false≢true}
 use Rattle.std.proofs.lemmas.Bool.Decides.{nat_tests}
 use Rattle.std.specs.Char.{is_ascii_digit, is_ascii_alphanumeric}
 use Rattle.std.proofs.lemmas.Option.{same_Some}
@@ -16,6 +17,7 @@ use Rattle.fancy_lex.specs.Hex.{hex, fixed_digits, value, leaf_of_value, is_scal
 use Rattle.fancy_lex.specs.LayoutSteps.{layout, is_layout, rest}
 use Rattle.fancy_lex.specs.Reading.{gives, choose}
 use Rattle.fancy_lex.specs.Text.{Text, reach_of}
+use Rattle.fancy_lex.specs.declared.escape.Assertion.TheVariants.{LeftWordBoundary, RightWordBoundary}
 use Rattle.fancy_lex.specs.declared.flags.Flags.{Flags}
 use Rattle.fancy_grammar.specs.PatternLetters as letters
 use Rattle.fancy_grammar.specs.PatternLetters.{is_unseen, coded, letter_of, plain, character}
@@ -36,7 +38,8 @@ both_layout false c h = refl
 
 digits_layout : (x : Bool) (d : ℕ) (t : Text) → d < 16 → layout x (upper_hex_digit d ∷ t) ≡ rest (upper_hex_digit d ∷ t)
 digits_layout x d t h =
-    not_layout x (upper_hex_digit d) t (not_open _ t (hex_paren d h)) (both_layout x (upper_hex_digit d) (hex_layout d h))
+    not_layout x (upper_hex_digit d) t (not_open _ t (hex_paren d h))
+    (both_layout x (upper_hex_digit d) (hex_layout d h))
 
 digits_four : (a b c d : ℕ) (s : Text) → a < 16 → b < 16 → c < 16 → d < 16 →
     fixed_digits 4 0 (upper_hex_digit a ∷ upper_hex_digit b ∷ upper_hex_digit c ∷ upper_hex_digit d ∷ s)
@@ -209,6 +212,31 @@ escapes_letter inside f c d =
     esc : EscapesIn inside f false (code "\u{1b}") (code "e" ∷ [])
     esc s = refl
 
+-- in Oniguruma mode these two are no boundaries
+reads_angle : (f : Flags) (c : ℕ) → c ∈ "<>" ≡ true → f.oniguruma_mode ≡ true → EscapesAs f false c (c ∷ [])
+unfolding escape_at lone_escape
+reads_angle f c h o = each_among (λ c. EscapesAs f false c (c ∷ [])) (codes "<>") c (also left (also right no_more)) h
+  where
+    left : EscapesAs f false (code "<") (codes "<")
+    left s =
+        ap (λ b. gives (if b then escaped.literal (code "<") false else escaped.assertion LeftWordBoundary) s) o
+
+    right : EscapesAs f false (code ">") (codes ">")
+    right s =
+        ap (λ b. gives (if b then escaped.literal (code ">") false else escaped.assertion RightWordBoundary) s) o
+
+pub reads_by_backslash : (f : Flags) (c : ℕ) → is_kept_by_backslash f.oniguruma_mode c ≡ true →
+    EscapesAs f false c (c ∷ [])
+reads_by_backslash f c h =
+    let (a, b) = and_parts (not (is_ascii_alphanumeric c)) _ h in
+    by_test (c ∈ "<>") refl a (or_cases f.oniguruma_mode (not (c ∈ "<>")) b)
+  where
+    by_test : (b : Bool) → c ∈ "<>" ≡ b → not (is_ascii_alphanumeric c) ≡ true →
+        (f.oniguruma_mode ≡ true) ⊎ (not (c ∈ "<>") ≡ true) → EscapesAs f false c (c ∷ [])
+    by_test true e a (inl o) = reads_angle f c e o
+    by_test true e a (inr n) = absurd (false≢true (ap not (sym e) ∙ n))
+    by_test false e a k = reads_kept f c (and_from _ _ a (ap not e))
+
 -- ---- characters
 
 -- the text is a character that stands for itself here, or an escape of it
@@ -244,7 +272,7 @@ plain_spells f c h k =
 -- the flags that hold leave the character as it is to be read
 abbrev pub CaseFits : Flags → Bool → ℕ → Type 0
 CaseFits f true c = f.casei ≡ true
-CaseFits f false c = f.casei ≡ true → is_kept_by_backslash false c ≡ true
+CaseFits f false c = f.casei ≡ true → is_kept_by_backslash f.oniguruma_mode c ≡ true
 
 mark_small : (c : ℕ) → c ∈ "\\.+*?()|[{^$" ≡ true → (c < 0x10000) × (is_scalar c ≡ true)
 mark_small c h = grind (arith, nat_tests)
@@ -280,10 +308,11 @@ character_spells f true c h =
 character_spells f false c h =
     choose_both (Spells f false c) (letter_of c) _ _ (λ d e. by_escape (escapes_letter false f c d e))
     (cond_both (c ∈ "\\.+*?()|[]{}^$" || (letters.is_layout f c || f.casei)) _ _ (Spells f false c)
-    (λ e. by_escape (reads_kept f c
-    (⊎_elim (λ m. mark_kept c m)
-    (λ m. ⊎_elim (λ b. blank_kept f.ignore_space c b) (λ b. h b) (or_cases (letters.is_layout f c) f.casei m))
-    (or_cases (c ∈ "\\.+*?()|[]{}^$") _ e))))
+    (λ e. by_escape
+    (⊎_elim (λ m. reads_kept f c (mark_kept c m))
+    (λ m. ⊎_elim (λ b. reads_kept f c (blank_kept f.ignore_space c b)) (λ b. reads_by_backslash f c (h b))
+    (or_cases (letters.is_layout f c) f.casei m))
+    (or_cases (c ∈ "\\.+*?()|[]{}^$") _ e)))
     (λ e. let (a, b) = or_parts (c ∈ "\\.+*?()|[]{}^$") _ e in
     let (k, i) = or_parts (letters.is_layout f c) f.casei b in
     subst (λ b. Spells f b c (plain c)) i (plain_spells f c (fewer_marks c a) k)))

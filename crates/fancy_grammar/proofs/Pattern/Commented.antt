@@ -1,4 +1,4 @@
--- An empty comment before an alternation leaves what it is read as, outside Oniguruma mode.
+-- An empty comment before an alternation leaves what it is read as.
 use Rattle.std.proofs.Common.{◌≡◌, ℕ, Bool, true, false, ◌&&◌, ◌==◌, nat_lt, ◌+◌, List, ◌∷◌, ◌++◌, codes, Option}
 use Rattle.std.proofs.Common.{Some, None}
 use Rattle.std.proofs.Common.{refl, sym, ap, ◌∙◌, subst, if◌then◌else◌}
@@ -6,6 +6,8 @@ use Rattle.std.proofs.lemmas.Bool.{cond_both, cond-true, cond-false, false≢tru
 use Prim.Native.Char.{code}
 use Rattle.fancy_lex.specs.Class.{class}
 use Rattle.fancy_lex.specs.Escape.{escape}
+use Rattle.fancy_lex.specs.Escaped as escaped
+use Rattle.fancy_lex.specs.Escaped.{Escape}
 use Rattle.fancy_lex.specs.LayoutSteps.{Skipped, rest, fault as open_comment}
 use Rattle.fancy_lex.specs.Reading.{Reading, gives, fails}
 use Rattle.fancy_lex.specs.Text.{Text, bytes}
@@ -22,67 +24,88 @@ use Rattle.fancy_grammar.specs.Pattern.{Here}
 use Rattle.fancy_grammar.specs.Quantified.{is_repeatable, is_dropped, quant, quant_at, quants, with_counts}
 use Rattle.fancy_grammar.specs.Quantified.{adjacent, max_adjacent}
 use Rattle.fancy_grammar.specs.State.{State, at, skipped, Outcome, done, fault, and_then, ends}
-use Rattle.fancy_grammar.specs.Tree.{Tree, delegate}
+use Rattle.fancy_grammar.specs.Tree.{Tree, empty, delegate}
 use Rattle.fancy_grammar.proofs.OutcomeLemmas.{Holds, piece_as}
 use Rattle.fancy_grammar.proofs.Pattern.Becomes.{in_longer}
-use Rattle.fancy_grammar.proofs.Pattern.Rules.{Clear, WholeAt, comment_passed}
+use Rattle.fancy_grammar.proofs.Pattern.Rules.{Clear, WholeAt, comment_passed, quants_one, quant_none}
 use Rattle.fancy_grammar.proofs.ReadBack.RuleLemmas.{st, leaf_at}
 use Rattle.fancy_grammar.proofs.Unique.{same_layout, layout_or_fault, atom_unique}
 
--- ---- where a piece began counts in Oniguruma mode alone
+-- ---- where a piece began counts for an Empty alone
 
-same_counts : (l m : ℕ) (a : Tree) (s : State) → s.flags.oniguruma_mode ≡ false → (o : Option (Counts × Text)) →
+same_counts : (l m : ℕ) (a : Tree) (s : State) → is_empty a ≡ false → (o : Option (Counts × Text)) →
     with_counts l a s o ≡ with_counts m a s o
 same_counts l m a s e None = refl
 same_counts l m a s e (Some (c, t)) =
     let dropped : is_dropped s.flags l a t ≡ is_dropped s.flags m a t
-    = ap (λ b. b && (is_empty a && nat_lt (bytes t + 1) l)) e
-    ∙ sym (ap (λ b. b && (is_empty a && nat_lt (bytes t + 1) m)) e) in
+    = ap (λ b. s.flags.oniguruma_mode && (b && nat_lt (bytes t + 1) l)) e
+    ∙ sym (ap (λ b. s.flags.oniguruma_mode && (b && nat_lt (bytes t + 1) m)) e) in
     cond_both (is_repeatable s.flags a) _ _ (λ z. z ≡ with_counts m a s (Some (c, t)))
     (λ q. sym (cond-true _ _ _ q))
     (λ q. cond_both (is_dropped s.flags l a t) _ _ (λ z. z ≡ with_counts m a s (Some (c, t)))
     (λ d. sym (cond-false _ _ _ q ∙ cond-true _ _ _ (sym dropped ∙ d)))
     (λ d. sym (cond-false _ _ _ q ∙ cond-false _ _ _ (sym dropped ∙ d))))
 
-same_at : (l m : ℕ) (a : Tree) (s : State) → s.flags.oniguruma_mode ≡ false → (k : Skipped) →
-    quant_at l a s k ≡ quant_at m a s k
+same_at : (l m : ℕ) (a : Tree) (s : State) → is_empty a ≡ false → (k : Skipped) → quant_at l a s k ≡ quant_at m a s k
 same_at l m a s e (rest t) = same_counts l m a (at s t) e (counts s.flags.ignore_space t)
 same_at l m a s e (open_comment p) = refl
 
-same_quants : (d l m : ℕ) (a : Tree) (s : State) → s.flags.oniguruma_mode ≡ false → quants d l a s ≡ quants d m a s
+same_quants : (d l m : ℕ) (a : Tree) (s : State) → is_empty a ≡ false → quants d l a s ≡ quants d m a s
 unfolding quant
 same_quants d l m a s e =
     ap (λ q. and_then q (λ b t. if t.flags.oniguruma_mode then adjacent max_adjacent d b t else done b t))
     (same_at l m a s e (skipped s))
 
--- ---- an atom that opens no group leaves the flags
+node_solid : (e : Escape) → is_empty (leaf_node e) ≡ false
+node_solid (escaped.literal c casei) = refl
+node_solid (escaped.literal_bytes b) = refl
+node_solid (escaped.any newline crlf) = refl
+node_solid (escaped.assertion a) = refl
+node_solid (escaped.general_newline unicode) = refl
+node_solid escaped.keep_out = refl
+node_solid escaped.continue_from_previous_match_end = refl
+node_solid (escaped.delegate t casei) = refl
+node_solid (escaped.backref r casei) = refl
+node_solid (escaped.subroutine_call c) = refl
 
-abbrev KeepsMode : Outcome Tree → Type 0
-KeepsMode = Holds (λ r t. t.flags.oniguruma_mode ≡ false)
+-- ---- behind an atom that opens no group, where its piece began does not count
 
-module _ (d : ℕ) (f : Flags) (o : f.oniguruma_mode ≡ false) (c : ℕ) (t : Text) (e : (c == code "(") ≡ false) where
-  leaf_keeps : {A : Type 0} (node : A → Tree) (r : Reading A) → KeepsMode (leaf_outcome node (st f (c ∷ t)) r)
-  leaf_keeps node (gives a u) = o
-  leaf_keeps node (fails k) = tt
+module _ (d : ℕ) (f : Flags) (c : ℕ) (t : Text) (k : Clear f.ignore_space (c ∷ t)) (e : (c == code "(") ≡ false) where
+  abbrev FromAnywhere : Outcome Tree → Type 0
+  FromAnywhere = Holds (λ r u. (l m : ℕ) → quants d l r u ≡ quants d m r u)
 
-  character_keeps : KeepsMode (leaf_of (st f (c ∷ t)) c t)
+  leaf_keeps : {A : Type 0} (node : A → Tree) → ((a : A) → is_empty (node a) ≡ false) → (r : Reading A) →
+      FromAnywhere (leaf_outcome node (st f (c ∷ t)) r)
+  leaf_keeps node solid (gives a u) = λ l m. same_quants d l m (node a) (st f u) (solid a)
+  leaf_keeps node solid (fails k) = tt
+
+  one_keeps : (a : Tree) → is_empty a ≡ false → FromAnywhere (done a (st f t))
+  one_keeps a solid = λ l m. same_quants d l m a (st f t) solid
+
+  character_keeps : FromAnywhere (leaf_of (st f (c ∷ t)) c t)
   character_keeps =
-      cond_both (c == code ".") _ _ KeepsMode (λ _. o)
-      (λ _. cond_both (c == code "^") _ _ KeepsMode (λ _. o)
-      (λ _. cond_both (c == code "$") _ _ KeepsMode (λ _. o)
-      (λ _. cond_both (c == code "\\") _ _ KeepsMode (λ _. leaf_keeps leaf_node (escape f false t))
-      (λ _. cond_both (c == code "[") _ _ KeepsMode (λ _. leaf_keeps (λ w. delegate w f.casei) (class f t)) (λ _. o)))))
+      cond_both (c == code ".") _ _ FromAnywhere (λ _. one_keeps _ refl)
+      (λ _. cond_both (c == code "^") _ _ FromAnywhere (λ _. one_keeps _ refl)
+      (λ _. cond_both (c == code "$") _ _ FromAnywhere (λ _. one_keeps _ refl)
+      (λ _. cond_both (c == code "\\") _ _ FromAnywhere (λ _. leaf_keeps leaf_node node_solid (escape f false t))
+      (λ _. cond_both (c == code "[") _ _ FromAnywhere
+      (λ _. leaf_keeps (λ w. delegate w f.casei) (λ w. refl) (class f t)) (λ _. one_keeps _ refl)))))
+
+  nothing_keeps : FromAnywhere (done empty (st f (c ∷ t)))
+  nothing_keeps =
+      λ l m. let one = λ (n : ℕ). quants_one d n f empty empty (c ∷ t) (c ∷ t) k (quant_none n f empty (c ∷ t) k) in
+      one l ∙ sym (one m)
 
   nothing_ahead : is_before_nothing c ≡ true → ahead d (st f (c ∷ t)) ≡ nothing
   unfolding ahead
   nothing_ahead b = cond-false _ _ _ e ∙ cond-true _ _ _ b
 
-  atom_keeps : {q : Outcome Tree} → Atom d (st f (c ∷ t)) q → KeepsMode q
+  atom_keeps : {q : Outcome Tree} → Atom d (st f (c ∷ t)) q → FromAnywhere q
   atom_keeps a = by_test (is_before_nothing c) refl a
     where
-      by_test : (b : Bool) → is_before_nothing c ≡ b → {q : Outcome Tree} → Atom d (st f (c ∷ t)) q → KeepsMode q
-      by_test true b a = subst KeepsMode (atom_unique (atom (nothing_ahead b) a_nothing) a refl) o
-      by_test false b a = subst KeepsMode (atom_unique (atom (leaf_at d f c t e b) a_read) a refl) character_keeps
+      by_test : (b : Bool) → is_before_nothing c ≡ b → {q : Outcome Tree} → Atom d (st f (c ∷ t)) q → FromAnywhere q
+      by_test true b a = subst FromAnywhere (atom_unique (atom (nothing_ahead b) a_nothing) a refl) nothing_keeps
+      by_test false b a = subst FromAnywhere (atom_unique (atom (leaf_at d f c t e b) a_read) a refl) character_keeps
 
   -- ---- the alternation
 
@@ -93,9 +116,9 @@ module _ (d : ℕ) (f : Flags) (o : f.oniguruma_mode ≡ false) (c : ℕ) (t : T
     past : skipped commented ≡ rest (c ∷ t)
     past = comment_passed f.ignore_space (c ∷ t) ∙ clear
 
-    quants_past : (q : Outcome Tree) → KeepsMode q →
+    quants_past : (q : Outcome Tree) → FromAnywhere q →
         and_then q (quants d (bytes (codes "(?#)" ++ c ∷ t))) ≡ and_then q (quants d (bytes (c ∷ t)))
-    quants_past (done a s) h = same_quants d _ _ a s h
+    quants_past (done a s) h = h _ _
     quants_past (fault k p) h = refl
 
     piece_from : (s : State) → s ≡ st f (c ∷ t) → {q : Outcome Tree} → Piece d s q → Piece d commented q
@@ -125,10 +148,10 @@ module _ (d : ℕ) (f : Flags) (o : f.oniguruma_mode ≡ false) (c : ℕ) (t : T
 
 -- a text that begins with no parenthesis reads the same behind it
 pub commented_whole : (μ : Marks) (h : Here) (c : ℕ) (t v : Text) (g : Flags) (x : Tree) →
-    h.flags.oniguruma_mode ≡ false → (c == code "(") ≡ false → ends (c ∷ t) ≡ false →
+    (c == code "(") ≡ false → ends (c ∷ t) ≡ false →
     Clear h.flags.ignore_space (c ∷ t) → WholeAt μ h (c ∷ t) g v x → WholeAt μ h (codes "(?#)" ++ c ∷ t) g v x
-commented_whole μ h c t v g x o e go clear w = record {
+commented_whole μ h c t v g x e go clear w = record {
   tree = w.tree;
-  derives = alternation_from h.depth h.flags o c t e clear.no_layout go (st h.flags (c ∷ t)) refl w.derives;
+  derives = alternation_from h.depth h.flags c t clear e clear.no_layout go (st h.flags (c ∷ t)) refl w.derives;
   becomes = in_longer μ (c ∷ t) _ (codes "(?#)", refl) h.opened w.tree x w.becomes;
 }

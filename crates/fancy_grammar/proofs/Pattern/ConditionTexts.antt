@@ -67,26 +67,26 @@ module _ (μ : Marks) where
       subst (λ x. Clear x (d ∷ (w ++ v))) e
       (begins_spelled f f.casei d (d ∷ []) (w ++ v) (itself refl (not_not _ m) layout)).clear
 
-  letters_rest : (h : Here) (w v : Text) → h.flags.oniguruma_mode ≡ false → list_all is_letter w ≡ true →
+  letters_rest : (h : Here) (w v : Text) → list_all is_letter w ≡ true →
       Stops h.flags.ignore_space v →
       Rest μ h (w ++ v) h.flags v (map (λ c. leaf (label.literal (c ∷ []) h.flags.casei)) w)
-  letters_rest h [] v o e s = no_more μ h v s
-  letters_rest h (c ∷ w) v o e s =
+  letters_rest h [] v e s = no_more μ h v s
+  letters_rest h (c ∷ w) v e s =
       let (a, b) = and_parts (is_letter c) (list_all is_letter w) e in
       let (m, k) = and_parts (not (marks c)) (not (is_layout true c)) a in
       let layout : is_layout h.flags.ignore_space c ≡ false
       = ap (λ y. h.flags.ignore_space && y) (not_not _ k) ∙ and-false _ in
       let spelled = itself refl (not_not _ m) layout in
-      lead μ h (c ∷ (w ++ v)) (w ++ v) v h.flags (leaf (label.literal (c ∷ []) h.flags.casei)) _ o
+      lead μ h (c ∷ (w ++ v)) (w ++ v) v h.flags (leaf (label.literal (c ∷ []) h.flags.casei)) _
       (begins_spelled h.flags h.flags.casei c (c ∷ []) (w ++ v) spelled)
       (letters_clear h.flags.ignore_space w v h.flags refl b s.clear) refl
-      (reads_spelled μ h h.flags.casei c (c ∷ []) (w ++ v) spelled) (letters_rest (past_groups 0 h) w v o b s)
+      (reads_spelled μ h h.flags.casei c (c ∷ []) (w ++ v) spelled) (letters_rest (past_groups 0 h) w v b s)
 
   -- an alternation that is no such word does not go on behind it
-  no_word : (h : Here) (w t z : Text) (g : Flags) (x : Tree) → h.flags.oniguruma_mode ≡ false →
+  no_word : (h : Here) (w t z : Text) (g : Flags) (x : Tree) →
       list_all is_letter w ≡ true → (t ≡ w → ⊥) → WholeAt μ h (t ++ code ")" ∷ z) g (code ")" ∷ z) x →
       strip_word (w ++ codes ")") (t ++ code ")" ∷ z) ≡ None
-  no_word h w t z g x o letters other a = by_option (strip_word (w ++ codes ")") (t ++ code ")" ∷ z)) refl
+  no_word h w t z g x letters other a = by_option (strip_word (w ++ codes ")") (t ++ code ")" ∷ z)) refl
     where
       by_option : (q : Option Text) → strip_word (w ++ codes ")") (t ++ code ")" ∷ z) ≡ q →
           strip_word (w ++ codes ")") (t ++ code ")" ∷ z) ≡ None
@@ -97,7 +97,7 @@ module _ (μ : Marks) where
           let s = ends_close h.flags.ignore_space r in
           let b = reads_only μ h (w ++ code ")" ∷ r) (code ")" ∷ r) h.flags _
           (reads_branch μ h (w ++ code ")" ∷ r) (code ")" ∷ r) h.flags _
-          (letters_rest h w (code ")" ∷ r) o letters s.stops))
+          (letters_rest h w (code ")" ∷ r) letters s.stops))
           s.no_bar in
           let same : st h.flags (code ")" ∷ r) ≡ st g (code ")" ∷ z)
           = state_of (alternation_unique b.derives a.derives (ap (st h.flags) (sym is))) in
@@ -191,35 +191,35 @@ module _ (μ : Marks) (i : Here) (d : MayOpen i) where
     unfolding begins_target
     same_target c t u = refl
 
-    pub on_alternation : i.flags.oniguruma_mode ≡ false → (s : Text) →
+    pub on_alternation : (s : Text) →
         ((z : Text) → Clear i.flags.ignore_space (s ++ code ")" ∷ z)) → WholeBefore s → (b : Bool) →
         (begins_target s || bytes_eq s (codes "DEFINE")) ≡ b → Before μ i (parted_if b s) g x
     unfolding begins_target
-    on_alternation o [] k w true e = absurd (false≢true e)
-    on_alternation o [] k w false e = as_alternation [] w nothing_ahead
-    on_alternation o (c ∷ t) k w true e =
+    on_alternation [] k w true e = absurd (false≢true e)
+    on_alternation [] k w false e = as_alternation [] w nothing_ahead
+    on_alternation (c ∷ t) k w true e =
         as_alternation (codes "(?#)" ++ c ∷ t)
         (λ z. let (a, b) = commented_first c t e (code ")" ∷ z) in
-        commented_whole μ (deeper i) c (t ++ code ")" ∷ z) (code ")" ∷ z) g x o a b (k z) (w z))
+        commented_whole μ (deeper i) c (t ++ code ")" ∷ z) (code ")" ∷ z) g x a b (k z) (w z))
         (λ z. comment_ahead ((c ∷ t) ++ code ")" ∷ z))
-    on_alternation o (c ∷ t) k w false e =
+    on_alternation (c ∷ t) k w false e =
         let (a, b) = or_parts (begins_target (c ∷ t)) (bytes_eq (c ∷ t) (codes "DEFINE")) e in
         as_alternation (c ∷ t) w
         (λ z. alternation_ahead c (t ++ code ")" ∷ z)
-        (no_word μ (deeper i) (codes "DEFINE") (c ∷ t) z g x o refl
+        (no_word μ (deeper i) (codes "DEFINE") (c ∷ t) z g x refl
         (λ q. false≢true (sym b ∙ (bytes_decides (c ∷ t) (codes "DEFINE")).1 q)) (w z))
         (same_target c (t ++ code ")" ∷ z) t ∙ a) (no_mark_is c (k z).no_mark).star)
 
 -- ---- a condition of any kind
 
 module _ (μ : Marks) (f : Flags) (numbered : (k : ℕ) → IfSome (name_of μ k) (λ e. e.1 ≡ numbers_told μ e.0)) where
-  pub before_of : (c : Tree) (i : Here) → AreNodesWritable f μ i.opened c → i.flags.oniguruma_mode ≡ false →
+  pub before_of : (c : Tree) (i : Here) → AreNodesWritable f μ i.opened c →
       ReadsTree μ c (deeper i) → MayOpen i → FitsAsCondition c (Fits c Whole (deeper i)) →
       Before μ i (condition_text μ c (written μ c Whole (deeper i))) (flags_behind c Whole i.flags) c
-  before_of (leaf (label.backref_exists n level)) i k o r d fits =
+  before_of (leaf (label.backref_exists n level)) i k r d fits =
       on_group μ i d _ n level (condition_at μ i n d level (numbered n) k.0 k.1)
-  before_of (leaf (label.verb b)) i k o r d fits = on_verb μ i d b
-  before_of c i k o r d fits =
-      on_alternation μ i d (flags_behind c Whole i.flags) c o (written μ c Whole (deeper i))
+  before_of (leaf (label.verb b)) i k r d fits = on_verb μ i d b
+  before_of c i k r d fits =
+      on_alternation μ i d (flags_behind c Whole i.flags) c (written μ c Whole (deeper i))
       (λ z. r.whole_clear fits (code ")" ∷ z) (ends_close i.flags.ignore_space z).stops.clear)
       (λ z. r.whole fits (code ")" ∷ z) (ends_close i.flags.ignore_space z)) _ refl

@@ -194,13 +194,14 @@ two_body μ d k f n t u v g i x e some b w =
                 (append_assoc t (codes "|") (u ++ code ")" ∷ v)),
           ) _ other e
           (subst (λ r. Becomes μ (u ++ code ")" ∷ v) (n + group_count x) r e) (sym same) w.becomes);
-      solid = one_solid (is_empty x) (is_empty e) (is_empty b.tree) (is_empty other) (stays_solid μ s n b.tree x b.becomes)
+      solid = one_solid (is_empty x) (is_empty e) (is_empty b.tree) (is_empty other)
+          (stays_solid μ s n b.tree x b.becomes)
           (λ q. ap is_empty same ∙ stays_solid μ _ _ w.tree e w.becomes q) some;
     }
 
 one_body : (μ : Marks) (d : ℕ) (k : Tree) (f : Flags) (n : ℕ) (t v : Text) (g : Flags) (x : Tree) (c : ℕ) (u : Text) →
-    t ≡ c ∷ u →
-    is_alt x ≡ false → (b : BranchAt μ (within d f n) (t ++ code ")" ∷ v) g (code ")" ∷ v) x) → is_empty b.tree ≡ false →
+    t ≡ c ∷ u → is_alt x ≡ false →
+    (b : BranchAt μ (within d f n) (t ++ code ")" ∷ v) g (code ")" ∷ v) x) → is_empty b.tree ≡ false →
     BodyAt μ d k (within d f n) (t ++ code ")" ∷ v) v x (leaf label.empty)
 one_body μ d k f n t v g x c u e a b solid = record {
   after = g;
@@ -217,12 +218,12 @@ one_body μ d k f n t v g x c u e a b solid = record {
 }
 
 -- two Empties, the first in a group without a number
-nothing_body : (μ : Marks) (d : ℕ) (k : Tree) (f : Flags) (n : ℕ) (v : Text) → f.oniguruma_mode ≡ false →
+nothing_body : (μ : Marks) (d : ℕ) (k : Tree) (f : Flags) (n : ℕ) (v : Text) →
     d + 1 + 1 < max_depth → μ.numbered_groups_ignored ≡ true →
     BodyAt μ d k (within d f n) (codes "()" ++ code ")" ∷ v) v (leaf label.empty) (leaf label.empty)
-nothing_body μ d k f n v o l ignored =
+nothing_body μ d k f n v l ignored =
     let i = within d f n in
-    let b = bare_branch μ i (codes "()" ++ code ")" ∷ v) (code ")" ∷ v) empty o
+    let b = bare_branch μ i (codes "()" ++ code ")" ∷ v) (code ")" ∷ v) empty
     (begins_nothing f.ignore_space (code ")" ∷ v)) (ends_close f.ignore_space v).stops
     (reads_nothing μ i (code ")" ∷ v) l ignored) in
     one_body μ d k f n (codes "()") v f empty (code "(") (codes ")") refl refl b.branch b.solid
@@ -274,14 +275,15 @@ module _ (μ : Marks) (d : ℕ) (k : Tree) (f : Flags) (c : ℕ) (t e : Tree) (v
       subst (λ s. BodyAt μ d k (within d f c) (s ++ code ")" ∷ v) v t e) (sym (cond-false _ _ _ solid))
       (body_if (not (is_empty e) || is_alt t) refl)
 
-module _ (μ : Marks) (d : ℕ) (k : Tree) (f : Flags) (c : ℕ) (t e : Tree) (v : Text) (o : f.oniguruma_mode ≡ false)
+module _ (μ : Marks) (d : ℕ) (k : Tree) (f : Flags) (c : ℕ) (t e : Tree) (v : Text)
     (left : μ.numbered_groups_ignored ≡ false → (is_empty t && is_empty e) ≡ false)
     (fits : MayOpenIf (is_empty t && is_empty e) (within d f c)) (r : ReadsTree μ t (within d f c))
     (q : ReadsTree μ e (behind t BranchAlone (within d f c))) (first_fits : Fits t BranchAlone (within d f c))
     (second_fits : Fits e Whole (behind t BranchAlone (within d f c))) where
   abbrev both_text : Text
   both_text =
-      branches_text t e (written μ t BranchAlone (within d f c)) (written μ e Whole (behind t BranchAlone (within d f c)))
+      branches_text t e (written μ t BranchAlone (within d f c))
+      (written μ e Whole (behind t BranchAlone (within d f c)))
 
   body_at : BodyAt μ d k (within d f c) (both_text ++ code ")" ∷ v) v t e
   body_at = by_test (is_empty t && is_empty e) refl
@@ -295,7 +297,7 @@ module _ (μ : Marks) (d : ℕ) (k : Tree) (f : Flags) (c : ℕ) (t e : Tree) (v
           subst (λ s. BodyAt μ d k (within d f c) (s ++ code ")" ∷ v) v t e) (sym (cond-true _ _ _ h))
           (subst (λ x. BodyAt μ d k (within d f c) (codes "()" ++ code ")" ∷ v) v x e) (empty_is t a)
           (subst (BodyAt μ d k (within d f c) (codes "()" ++ code ")" ∷ v) v empty) (empty_is e b)
-          (nothing_body μ d k f c v o (fits h) ignored)))
+          (nothing_body μ d k f c v (fits h) ignored)))
 
 -- ---- a condition before a body
 
@@ -308,10 +310,12 @@ pub record Before (μ : Marks) (i : Here) (s : Text) (g : Flags) (c : Tree) : Ty
 
 regroup : (c b r : Text) → ((code "(" ∷ (c ++ code ")" ∷ [])) ++ b) ++ r ≡ code "(" ∷ (c ++ code ")" ∷ (b ++ r))
 regroup c b r =
-    append_assoc (code "(" ∷ (c ++ code ")" ∷ [])) b r ∙ ap (λ z. code "(" ∷ z) (append_assoc c (code ")" ∷ []) (b ++ r))
+    append_assoc (code "(" ∷ (c ++ code ")" ∷ [])) b r
+    ∙ ap (λ z. code "(" ∷ z) (append_assoc c (code ")" ∷ []) (b ++ r))
 
 module _ (μ : Marks) where
-  with_body : (i : Here) (s z v : Text) (g : Flags) (c t e : Tree) → (b : Before μ i s g c) → BodyAt μ i.depth (b.node z) (within i.depth g (i.opened + group_count c)) z v t e →
+  with_body : (i : Here) (s z v : Text) (g : Flags) (c t e : Tree) → (b : Before μ i s g c) →
+      BodyAt μ i.depth (b.node z) (within i.depth g (i.opened + group_count c)) z v t e →
       AtomAt μ i (codes "(?(" ++ (s ++ code ")" ∷ z)) v (conditional c t e)
   with_body i s z v g c t e b y =
       let is : conditional_of (b.node z) y.one y.other ≡ conditional (b.node z) y.one y.other
@@ -333,14 +337,14 @@ module _ (μ : Marks) where
             ));
       }
 
-  pub conditional_reads : (h : Here) → h.flags.oniguruma_mode ≡ false → (c t e : Tree) →
+  pub conditional_reads : (h : Here) (c t e : Tree) →
       (μ.numbered_groups_ignored ≡ false → (is_empty t && is_empty e) ≡ false) →
       let j = under (settled h.flags (conditional c t e)) h in let i = deeper j in
       (MayOpen j → FitsAsCondition c (Fits c Whole i) →
       Before μ j (condition_text μ c (written μ c Whole i)) (flags_behind c Whole j.flags) c) →
       ReadsTree μ t (behind c Whole i) → ReadsTree μ e (behind t BranchAlone (behind c Whole i)) →
-      (behind c Whole i).flags.oniguruma_mode ≡ false → ReadsTree μ (conditional c t e) h
-  conditional_reads h o c t e left before q u same_mode =
+      ReadsTree μ (conditional c t e) h
+  conditional_reads h c t e left before q u =
       let x = conditional c t e in
       let i = under (settled h.flags x) h in
       let j = behind c Whole (deeper i) in
@@ -353,11 +357,11 @@ module _ (μ : Marks) where
       let same = parens_text (codes "?") text i in
       let b = branches_text t e (written μ t BranchAlone j) (written μ e Whole (behind t BranchAlone j)) in
       let whole_text = λ (v : Text). same v ∙ ap (λ z. codes "(?" ++ z) (regroup s b (code ")" ∷ v)) in
-      by_atom μ x h o refl (Fits x Whole h) (Fits x Whole h) all _ (λ d. d.0)
+      by_atom μ x h refl (Fits x Whole h) (Fits x Whole h) all _ (λ d. d.0)
       (λ _ v. subst (Begins h.flags.ignore_space) (sym (same v))
       (begins_by h.flags.ignore_space (code "(") _ refl refl refl refl))
       (λ d v y _. let a = before d.1.0 d.1.1.0 in let z = b ++ code ")" ∷ v in
       subst (λ z. AtomAt μ i z v x) (sym (whole_text v))
       (with_body i s z v _ c t e a
-      (body_at μ i.depth (a.node z) j.flags j.opened t e v same_mode left d.1.1.1 q u d.1.1.2 d.1.1.3)))
+      (body_at μ i.depth (a.node z) j.flags j.opened t e v left d.1.1.1 q u d.1.1.2 d.1.1.3)))
       refl (λ e. ((λ d. d), refl)) (λ _ e. absurd (true≢false e))

@@ -1,5 +1,5 @@
 -- Where a tree fits if its parts do: wherever the flags suit it, or another group may open.
-use Rattle.std.proofs.Common.{◌≡◌, ℕ, ◌+◌, ◌<◌, ◌≤◌, Bool, true, false, ◌&&◌, ◌||◌, refl, sym, ap, ◌∙◌}
+use Rattle.std.proofs.Common.{◌≡◌, ℕ, ◌+◌, ◌<◌, ◌≤◌, Bool, true, false, not, ◌&&◌, ◌||◌, refl, sym, ap, ◌∙◌}
 use Rattle.std.proofs.Common.{subst, arith, ◌⊎◌, inl, inr, nat_lt, ltb-true}
 use Rattle.std.proofs.lemmas.Bool.{false≢true, ltb-false}
 use Rattle.fancy_lex.specs.declared.flags.Flags.{Flags}
@@ -10,16 +10,36 @@ use Rattle.fancy_grammar.specs.Label.{Leaf}
 use Rattle.fancy_grammar.specs.Pattern.{Here, under, past_groups, deeper, takes_pieces, takes_branches, is_operand}
 use Rattle.fancy_grammar.specs.Pattern.{is_last_operand, room, behind}
 use Rattle.fancy_grammar.specs.PatternDepth.{MayOpen, MayOpenIf, MaySet, FitsInParens, FitsInParensIf, is_in_parens}
-use Rattle.fancy_grammar.specs.PatternDepth.{FitsAsCondition, Fits, FitAll}
+use Rattle.fancy_grammar.specs.PatternDepth.{FitsAsCondition, FitsAsAtom, FitsInScopeUnless, Fits, FitAll}
 use Rattle.fancy_grammar.specs.PatternNeeds.{settled}
 use Rattle.fancy_grammar.specs.Quantified.{is_repeatable}
 use Rattle.fancy_grammar.specs.Tree.{Tree, leaf, over, row, Trees, no_trees, more_trees}
 use Rattle.fancy_grammar.specs.declared.kinds.LookAround.{LookAround}
 use Rattle.fancy_grammar.specs.declared.precedence.Precedence.{Precedence}
 use Rattle.fancy_grammar.specs.declared.precedence.Precedence.TheVariants.{Whole, Branch, Piece, Operand}
-use Rattle.fancy_grammar.proofs.Pattern.Levels.{atom_fits, parens_fit, scope_fits}
 use Rattle.fancy_grammar.proofs.Pattern.Needed.{like_behind, settled_again, turns_none}
 use Rattle.fancy_grammar.proofs.Pattern.Suited.{Suits, SuitAll, suited_settled, settled_suits, suited_behind}
+
+-- ---- what fits without parentheses and within them fits either way
+
+atom_fits : (t : Tree) (p : Precedence) (inside : Here → Type 0) (h : Here) →
+    (is_operand p ≡ true → is_repeatable h.flags t ≡ true) → inside h → FitsAsAtom t p inside h
+atom_fits t p inside h s x = by (is_operand p) (is_repeatable h.flags t) s
+  where
+    by : (a b : Bool) → (a ≡ true → b ≡ true) → FitsInParensIf (a && not b) (λ q. inside) p h
+    by true true s = x
+    by true false s = absurd (false≢true (s refl))
+    by false b s = x
+
+parens_fit : (b : Bool) (inside : Precedence → Here → Type 0) (p : Precedence) (h : Here) → MayOpen h →
+    inside Whole (deeper h) → inside p h → FitsInParensIf b inside p h
+parens_fit true inside p h d x y = (d, x)
+parens_fit false inside p h d x y = y
+
+scope_fits : (b : Bool) (t : Tree) (inside : Here → Type 0) (h : Here) → MayOpen h → inside h →
+    inside (deeper (under (settled h.flags t) h)) → FitsInScopeUnless b t inside h
+scope_fits true t inside h d x y = x
+scope_fits false t inside h d x y = (d, y)
 
 -- ---- where flags suit, or may be set
 

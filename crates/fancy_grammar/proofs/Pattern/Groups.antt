@@ -1,4 +1,4 @@
--- Groups, and flags that are set, outside Oniguruma mode.
+-- Groups, and flags that are set.
 use Rattle.fancy_grammar.proofs.Pattern.Rules.{lead_raw, BranchAt, Stops}
 use Rattle.fancy_grammar.specs.Join.{is_empty, one_or}
 use Rattle.fancy_grammar.specs.Tree.{concat}
@@ -73,7 +73,8 @@ question_at d f t l = paren_at d f (code "?" ∷ t) l (no_layout f.ignore_space)
     no_layout true = not_layout true (code "?") t refl refl
     no_layout false = not_layout false (code "?") t refl refl
 
-head_group : (f : Flags) (s t : Text) → Clear f.ignore_space t → group_ahead (st f s) t ≡ with_head (capture None) (st f t)
+head_group : (f : Flags) (s t : Text) → Clear f.ignore_space t →
+    group_ahead (st f s) t ≡ with_head (capture None) (st f t)
 head_group f s t c = rw (no_question t c.no_mark, no_star t c.no_mark) refl
 
 pub capture_at : (d : ℕ) (f : Flags) (t : Text) → d + 1 < max_depth → Clear f.ignore_space t →
@@ -288,21 +289,22 @@ begins_nothing x v = begins_by x (code "(") (code ")" ∷ v) refl refl refl refl
 
 -- a bare group before other pieces
 pub bare_rest : (μ : Marks) (h : Here) (s v w : Text) (g : Flags) (x : Tree) (ys : List Tree) →
-    h.flags.oniguruma_mode ≡ false → Begins h.flags.ignore_space s → Clear h.flags.ignore_space v → BareAt μ h s v x →
+    Begins h.flags.ignore_space s → Clear h.flags.ignore_space v → BareAt μ h s v x →
     Rest μ (past_groups (group_count x) h) v g w ys → Rest μ h s g w (x ∷ ys)
-bare_rest μ h s v w g x ys o b c a r =
+bare_rest μ h s v w g x ys b c a r =
     lead_raw μ h s v w g a.atom.tree x ys b a.solid a.atom.becomes
     (piece_as b.clear.no_layout a.atom.derives
-    (quants_one h.depth (bytes s) h.flags a.atom.tree a.atom.tree v v o (quant_none (bytes s) h.flags a.atom.tree v c))) r
+    (quants_one h.depth (bytes s) h.flags a.atom.tree a.atom.tree v v c
+    (quant_none (bytes s) h.flags a.atom.tree v c))) r
 
 -- a branch that is one
 pub record BareBranch (μ : Marks) (h : Here) (s : Text) (g : Flags) (v : Text) (x : Tree) : Type 0 where
   pub branch : BranchAt μ h s g v x
   pub solid : is_empty branch.tree ≡ false
 
-pub bare_branch : (μ : Marks) (h : Here) (s v : Text) (x : Tree) → h.flags.oniguruma_mode ≡ false →
+pub bare_branch : (μ : Marks) (h : Here) (s v : Text) (x : Tree) →
     Begins h.flags.ignore_space s → Stops h.flags.ignore_space v → BareAt μ h s v x → BareBranch μ h s h.flags v x
-bare_branch μ h s v x o b c a =
+bare_branch μ h s v x b c a =
     let r = a.atom.tree in
     let alone : join (r ∷ []) ≡ r = ap (one_or concat) (cond-false _ _ _ a.solid) in
     record {
@@ -311,7 +313,8 @@ bare_branch μ h s v x o b c a =
         derives =
             subst (λ z. Branch h.depth (st h.flags s) (done z (st h.flags v))) alone
             (branch (next b.goes (piece_as b.clear.no_layout a.atom.derives
-            (quants_one h.depth (bytes s) h.flags r r v v o (quant_none (bytes s) h.flags r v c.clear))) (stop c.ends)));
+            (quants_one h.depth (bytes s) h.flags r r v v c.clear (quant_none (bytes s) h.flags r v c.clear)))
+            (stop c.ends)));
         becomes = a.atom.becomes;
       };
       solid = a.solid;
@@ -374,7 +377,8 @@ module _ (μ : Marks) (h : Here) (i m s r : Bool) where
   set_if b = if b then codes "(?" ++ (letters_between h.flags g ++ codes ")") else []
 
   set_text : (t : Text) →
-      (codes "(?" ++ (letters_between h.flags g ++ codes ")")) ++ t ≡ codes "(?" ++ (letters_between h.flags g ++ code ")" ∷ t)
+      (codes "(?" ++ (letters_between h.flags g ++ codes ")")) ++ t
+      ≡ codes "(?" ++ (letters_between h.flags g ++ code ")" ∷ t)
   set_text t = ap (λ w. codes "(?" ++ w) (append_assoc (letters_between h.flags g) (codes ")") t)
 
   begins_set : (x b : Bool) (t : Text) → Begins x t → Begins x (set_if b ++ t)
@@ -385,46 +389,46 @@ module _ (μ : Marks) (h : Here) (i m s r : Bool) where
   begins_setting x t b = begins_set x (turns_on h.flags g || turns_on g h.flags) t b
 
   set_rest : (b : Bool) → turns_on h.flags g || turns_on g h.flags ≡ b → (t w : Text) (k : Flags) (ys : List Tree) →
-      h.flags.oniguruma_mode ≡ false → MayOpenIf b h → Begins h.flags.ignore_space t →
+      MayOpenIf b h → Begins h.flags.ignore_space t →
       Rest μ (under g h) t k w ys →
       Rest μ h (set_if b ++ t) k w ys
-  set_rest true e t w k ys o l n q =
+  set_rest true e t w k ys l n q =
       let u = letters_between h.flags g ++ code ")" ∷ t in
       subst (λ z. Rest μ h z k w ys) (sym (set_text t))
-      (lead_flags μ h g k (codes "(?" ++ u) t w ys o (begins_letters h.flags.ignore_space h.flags i m s r
+      (lead_flags μ h g k (codes "(?" ++ u) t w ys (begins_letters h.flags.ignore_space h.flags i m s r
       (code ")") t refl)
       n.clear
       (atom
       (question_at h.depth h.flags u (l refl)
       ∙ setting_ahead (st h.flags (code "(" ∷ code "?" ∷ u)) i m s r t e)
       a_read) q)
-  set_rest false e t w k ys o l n q = subst (λ f. Rest μ (under f h) t k w ys) (same_flags h.flags i m s r e) q
+  set_rest false e t w k ys l n q = subst (λ f. Rest μ (under f h) t k w ys) (same_flags h.flags i m s r e) q
 
-  pub setting_rest : (t w : Text) (k : Flags) (ys : List Tree) → h.flags.oniguruma_mode ≡ false → MaySet g h →
+  pub setting_rest : (t w : Text) (k : Flags) (ys : List Tree) → MaySet g h →
       Begins h.flags.ignore_space t → Rest μ (under g h) t k w ys → Rest μ h (setting h.flags g ++ t) k w ys
-  setting_rest t w k ys o l n q = set_rest (turns_on h.flags g || turns_on g h.flags) refl t w k ys o l n q
+  setting_rest t w k ys l n q = set_rest (turns_on h.flags g || turns_on g h.flags) refl t w k ys l n q
 
 -- ---- flags that are set before a whole text
 
-module _ (d : ℕ) (s u : State) (first : (q : Outcome (List Tree)) → Pieces d s q → Pieces d u (seen_through (empty ∷◌) q))
-  where
-    same_branch : (q : Outcome (List Tree)) → seen_through join (seen_through (empty ∷◌) q) ≡ seen_through join q
-    same_branch (done l t) = refl
-    same_branch (fault k p) = refl
+module _ (d : ℕ) (s u : State)
+    (first : (q : Outcome (List Tree)) → Pieces d s q → Pieces d u (seen_through (empty ∷◌) q)) where
+  same_branch : (q : Outcome (List Tree)) → seen_through join (seen_through (empty ∷◌) q) ≡ seen_through join q
+  same_branch (done l t) = refl
+  same_branch (fault k p) = refl
 
-    branch_behind : {q : Outcome Tree} → Branch d s q → Branch d u q
-    branch_behind (branch {q} p) = subst (Branch d u) (same_branch q) (branch (first q p))
+  branch_behind : {q : Outcome Tree} → Branch d s q → Branch d u q
+  branch_behind (branch {q} p) = subst (Branch d u) (same_branch q) (branch (first q p))
 
-    branches_behind : {q : Outcome (List Tree)} → Branches d s q → Branches d u q
-    branches_behind (last b e) = last (branch_behind b) e
-    branches_behind (more b e r) = more (branch_behind b) e r
-    branches_behind (branch_fault b) = branch_fault (branch_behind b)
+  branches_behind : {q : Outcome (List Tree)} → Branches d s q → Branches d u q
+  branches_behind (last b e) = last (branch_behind b) e
+  branches_behind (more b e r) = more (branch_behind b) e r
+  branches_behind (branch_fault b) = branch_fault (branch_behind b)
 
-    pub whole_behind : {q : Outcome Tree} → Alternation d s q → Alternation d u q
-    whole_behind (alternation b) = alternation (branches_behind b)
+  pub whole_behind : {q : Outcome Tree} → Alternation d s q → Alternation d u q
+  whole_behind (alternation b) = alternation (branches_behind b)
 
 module _ (μ : Marks) (h : Here) (i m s r : Bool) (t v : Text) (k : Flags) (x : Tree)
-    (o : h.flags.oniguruma_mode ≡ false) (c : Clear h.flags.ignore_space t) where
+    (c : Clear h.flags.ignore_space t) where
   abbrev then_flags : Flags
   then_flags = changed h.flags i m s r
 
@@ -444,7 +448,7 @@ module _ (μ : Marks) (h : Here) (i m s r : Bool) (t v : Text) (k : Flags) (x : 
             whole_behind h.depth (st then_flags t) (st h.flags (codes "(?" ++ u))
             (λ q p. next b.goes
             (piece_as b.clear.no_layout a
-            (quants_one h.depth (bytes (codes "(?" ++ u)) then_flags empty empty t t o
+            (quants_one h.depth (bytes (codes "(?" ++ u)) then_flags empty empty t t c
             (quant_none (bytes (codes "(?" ++ u)) then_flags empty t c))) p)
             w.derives;
         becomes =

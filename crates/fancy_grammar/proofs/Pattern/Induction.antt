@@ -103,13 +103,13 @@ module _ (μ : Marks) (t : Tree) (h : Here) (solid : is_empty t ≡ false) where
       (p v v g [] e.clear (λ _. ends_no_digit v e.ends)
       (no_more μ (past_groups (group_count t) (under g h)) v (subst (λ x. Stops x v) (sym same) e)))
 
-  pub atom_leads : (s : Text) → h.flags.oniguruma_mode ≡ false → BeginsHere h s → AtomHere μ t h s → LeadsTo μ t h s
-  atom_leads s o b a v w k ys c y q =
-      lead μ h (s ++ v) v w k t ys o (b v) c solid (a v (clear_name h.flags.ignore_space v c) y) q
+  pub atom_leads : (s : Text) → BeginsHere h s → AtomHere μ t h s → LeadsTo μ t h s
+  atom_leads s b a v w k ys c y q =
+      lead μ h (s ++ v) v w k t ys (b v) c solid (a v (clear_name h.flags.ignore_space v c) y) q
 
 -- ---- what stands behind flags that are set for it
 
-module _ (μ : Marks) (t : Tree) (h : Here) (o : h.flags.oniguruma_mode ≡ false) (solid : is_empty t ≡ false) where
+module _ (μ : Marks) (t : Tree) (h : Here) (solid : is_empty t ≡ false) where
   abbrev pub set_here : Flags
   set_here = settled h.flags t
 
@@ -127,7 +127,7 @@ module _ (μ : Marks) (t : Tree) (h : Here) (o : h.flags.oniguruma_mode ≡ fals
       Rest μ (past_groups (group_count t) (under set_here h)) v k w ys → Rest μ h (behind_set s ++ v) k w (t ∷ ys)
   set_leads d s b l v w k ys c y q =
       subst (λ z. Rest μ h z k w (t ∷ ys)) (sym (append_assoc (setting h.flags set_here) s v))
-      (setting_rest μ h set_here.casei set_here.multi set_here.dotnl set_here.crlf (s ++ v) w k (t ∷ ys) o d (b v)
+      (setting_rest μ h set_here.casei set_here.multi set_here.dotnl set_here.crlf (s ++ v) w k (t ∷ ys) d (b v)
       (l v w k ys c y q))
 
   -- a tree that is a piece wherever it stands
@@ -165,7 +165,7 @@ module _ (μ : Marks) (t : Tree) (h : Here) (o : h.flags.oniguruma_mode ≡ fals
       flags_behind t Piece h.flags ≡ set_here → (is_repeatable h.flags t ≡ true → (d3 → d) × (k3 ≡ behind_set s)) →
       BareHere μ t h d3 k3 → ReadsBy μ t h d d d d3 (behind_set s) (behind_set s) (behind_set s) k3 set_here set_here
   by_atom d d3 s k3 m b a e same bare =
-      by_piece d d3 s k3 m b (λ x. atom_leads μ t (under set_here h) solid s o (b x) (a x)) e
+      by_piece d d3 s k3 m b (λ x. atom_leads μ t (under set_here h) solid s (b x) (a x)) e
       (λ x r. subst (BeginsHere h) (sym (same r).1) (set_begins s (b ((same r).0 x))))
       (λ x r u. subst (AtomHere μ t h) (sym (same r).1)
       (λ v m y. subst (λ w. AtomAt μ h w v t) (sym (set_none s v u))
@@ -186,9 +186,10 @@ module _ (μ : Marks) (t : Tree) (h : Here) (o : h.flags.oniguruma_mode ≡ fals
       (reads_bare μ i i.flags (code "(" ∷ (text ++ code ")" ∷ v)) (text ++ code ")" ∷ v) v t
       (capture_at i.depth i.flags (text ++ code ")" ∷ v) (m x) (first v).clear) g
       (reads_only μ (deeper i) (text ++ code ")" ∷ v) (code ")" ∷ v) i.flags t
-      (one_branch μ t (deeper i) solid text i.flags (atom_leads μ t (deeper i) solid text o (b x) (a x)) (code ")" ∷ v)
+      (one_branch μ t (deeper i) solid text i.flags (atom_leads μ t (deeper i) solid text (b x) (a x)) (code ")" ∷ v)
       q.stops refl) q.no_bar)) in (
-        set_begins s (λ v. subst (Begins h.flags.ignore_space) (sym (same v)) (begins_by h.flags.ignore_space (code "(") _
+        set_begins s (λ v. subst (Begins h.flags.ignore_space) (sym (same v))
+            (begins_by h.flags.ignore_space (code "(") _
             (not_asking (text ++ code ")" ∷ v) (no_question (text ++ code ")" ∷ v) (first v).clear.no_mark)) refl refl
             refl)),
         λ u v. subst (λ z. BareAt μ h z v t) (sym (set_none s v u))
@@ -197,7 +198,7 @@ module _ (μ : Marks) (t : Tree) (h : Here) (o : h.flags.oniguruma_mode ≡ fals
 
 -- ---- what stands in a group of flags where it is a piece
 
-module _ (μ : Marks) (t : Tree) (h : Here) (o : h.flags.oniguruma_mode ≡ false) (solid : is_empty t ≡ false)
+module _ (μ : Marks) (t : Tree) (h : Here) (solid : is_empty t ≡ false)
     (rep : is_repeatable h.flags t ≡ true) where
   abbrev pub set_in : Flags
   set_in = settled h.flags t
@@ -242,7 +243,7 @@ module _ (μ : Marks) (t : Tree) (h : Here) (o : h.flags.oniguruma_mode ≡ fals
         whole = λ x v i. reads_only μ h _ v g t (b x v i.stops) i.no_bar;
         branch = b;
         piece =
-            λ x _ v w k ys c y r. atom_leads μ t h solid (scoped s) o (scope_begins s) (a x) v w k ys c y
+            λ x _ v w k ys c y r. atom_leads μ t h solid (scoped s) (scope_begins s) (a x) v w k ys c y
             (subst (λ f. Rest μ (past_groups (group_count t) (under f h)) v k w ys) e r);
         atom = λ x _ _. a x;
         bare = λ _ e. absurd (true≢false (sym rep ∙ e));
@@ -259,7 +260,7 @@ module _ (μ : Marks) (t : Tree) (h : Here) (o : h.flags.oniguruma_mode ≡ fals
   by_whole d inside k s g f c q w e =
       let a = λ (x : FitsInParens inside (under set_in h)). scope_atom x.0 s f (w x.1) in
       let l = λ (x : FitsInParens inside (under set_in h)).
-      atom_leads μ t h solid (scoped s) o (scope_begins s) (a x) in
+      atom_leads μ t h solid (scoped s) (scope_begins s) (a x) in
       record {
         whole_clear = c;
         branch_clear = λ _ v c. (scope_begins s v).clear;
@@ -280,10 +281,10 @@ pub by_left : (b : Bool) → (b ≡ false → true ≡ false) → b ≡ true
 by_left true h = refl
 by_left false h = sym (h refl)
 
-pub by_nothing : (μ : Marks) (h : Here) (d0 d1 d2 d3 : Type 0) → h.flags.oniguruma_mode ≡ false →
+pub by_nothing : (μ : Marks) (h : Here) (d0 d1 d2 d3 : Type 0) →
     (d2 → h.depth + 1 < max_depth) → (d3 → h.depth + 1 < max_depth) →
     ReadsBy μ (leaf label.empty) h d0 d1 d2 d3 [] [] (codes "()") (codes "()") h.flags h.flags
-by_nothing μ h d0 d1 d2 d3 o m n =
+by_nothing μ h d0 d1 d2 d3 m n =
     let q = λ (v : Text) (i : Stops h.flags.ignore_space v).
     reads_branch μ h v v h.flags [] (no_more μ h v i) in
     record {
@@ -295,7 +296,7 @@ by_nothing μ h d0 d1 d2 d3 o m n =
       whole = λ _ v i. reads_only μ h v v h.flags (leaf label.empty) (q v i.stops) i.no_bar;
       branch = λ _. q;
       piece =
-          λ d e v w g ys c y r. bare_rest μ h (codes "()" ++ v) v w g (leaf label.empty) ys o
+          λ d e v w g ys c y r. bare_rest μ h (codes "()" ++ v) v w g (leaf label.empty) ys
           (begins_nothing h.flags.ignore_space v) c (reads_nothing μ h v (m d) (by_left μ.numbered_groups_ignored e)) r;
       atom = λ _ e. absurd (false≢true e);
       bare = λ d _ g. ((λ v. begins_nothing h.flags.ignore_space v), (λ _ v. reads_nothing μ h v (n d) g));

@@ -1,4 +1,4 @@
--- The texts of leaves read as them, whatever follows, outside Oniguruma mode.
+-- The texts of leaves read as them, whatever follows.
 use Rattle.std.proofs.Common.{◌≡◌, ℕ, ◌+◌, ◌/◌, ◌%◌, ◌<◌, ◌≤◌, Bool, true, false, ◌&&◌, ◌==◌, [], ◌∷◌, ◌++◌}
 use Rattle.std.proofs.Common.{codes, Option, Some, refl, sym, ap, ◌∙◌, subst, append-nil, if◌then◌else◌}
 use Rattle.std.proofs.Math.Bool.{beq}
@@ -119,7 +119,8 @@ reads_spelled μ h casei c t v (itself e m k) =
 reads_spelled μ h casei c t v (by_escape {t = w} e) =
     reads_escape μ h (w ++ v) v (escaped.literal c casei) (label.literal (c ∷ []) casei) tt refl (e v)
 
-pub begins_spelled : (f : Flags) (casei : Bool) (c : ℕ) (t v : Text) → Spells f casei c t → Begins f.ignore_space (t ++ v)
+pub begins_spelled : (f : Flags) (casei : Bool) (c : ℕ) (t v : Text) → Spells f casei c t →
+    Begins f.ignore_space (t ++ v)
 begins_spelled f casei c t v (itself e m k) = begins_plain f.ignore_space c v m k
 begins_spelled f casei c t v (by_escape {t = w} e) = begins_escape f.ignore_space (w ++ v)
 
@@ -198,7 +199,8 @@ escape_Z f v = refl
 escape_left : (f : Flags) (v : Text) → f.oniguruma_mode ≡ false →
     escape f false (code "<" ∷ v) ≡ gives (escaped.assertion LeftWordBoundary) v
 unfolding escape_at lone_escape
-escape_left f v o = ap (λ b. gives (if b then escaped.literal (code "<") false else escaped.assertion LeftWordBoundary) v) o
+escape_left f v o =
+    ap (λ b. gives (if b then escaped.literal (code "<") false else escaped.assertion LeftWordBoundary) v) o
 
 escape_right : (f : Flags) (v : Text) → f.oniguruma_mode ≡ false →
     escape f false (code ">" ∷ v) ≡ gives (escaped.assertion RightWordBoundary) v
@@ -206,11 +208,13 @@ unfolding escape_at lone_escape
 escape_right f v o =
     ap (λ b. gives (if b then escaped.literal (code ">") false else escaped.assertion RightWordBoundary) v) o
 
-escape_b : (f : Flags) (v : Text) → escape f false (code "b" ∷ v) ≡ boundary f.ignore_space (reach_of (code "b" ∷ v) + 1) false v
+escape_b : (f : Flags) (v : Text) → escape f false (code "b" ∷ v)
+    ≡ boundary f.ignore_space (reach_of (code "b" ∷ v) + 1) false v
 unfolding escape_at lone_escape outside
 escape_b f v = refl
 
-escape_B : (f : Flags) (v : Text) → escape f false (code "B" ∷ v) ≡ boundary f.ignore_space (reach_of (code "B" ∷ v) + 1) true v
+escape_B : (f : Flags) (v : Text) → escape f false (code "B" ∷ v)
+    ≡ boundary f.ignore_space (reach_of (code "B" ∷ v) + 1) true v
 unfolding escape_at lone_escape outside
 escape_B f v = refl
 
@@ -301,10 +305,10 @@ any_at μ h false true k = unlike_at μ h false true (codes "\\N") k
 
 -- the flags that hold are those that the condition was read under
 abbrev pub AssertionFits : Flags → Assertion → Type 0
-AssertionFits f (StartLine crlf) = (f.multi ≡ true) × (f.crlf ≡ crlf)
+AssertionFits f (StartLine crlf) = (f.multi ≡ true) × (f.crlf ≡ crlf) × (f.oniguruma_mode ≡ false)
+AssertionFits f (StartLineOniguruma crlf) = (f.multi ≡ true) × (f.crlf ≡ crlf) × (f.oniguruma_mode ≡ true)
 AssertionFits f (EndLine crlf) = (f.multi ≡ true) × (f.crlf ≡ crlf)
 AssertionFits f (EndTextIgnoreTrailingNewlines crlf) = f.crlf ≡ crlf
-AssertionFits f (StartLineOniguruma crlf) = ⊥
 AssertionFits f _ = Unit {0}
 
 half_start : (x : Bool) (p : ℕ) (v : Text) →
@@ -319,6 +323,18 @@ unfolding boundary named_boundary name layout_from
 half_end true p v = refl
 half_end false p v = refl
 
+word_start : (x : Bool) (p : ℕ) (v : Text) →
+    boundary x p false (codes "{start}" ++ v) ≡ gives (escaped.assertion LeftWordBoundary) v
+unfolding boundary named_boundary name layout_from
+word_start true p v = refl
+word_start false p v = refl
+
+word_end : (x : Bool) (p : ℕ) (v : Text) →
+    boundary x p false (codes "{end}" ++ v) ≡ gives (escaped.assertion RightWordBoundary) v
+unfolding boundary named_boundary name layout_from
+word_end true p v = refl
+word_end false p v = refl
+
 -- a boundary behind its letter
 boundary_at : (μ : Marks) (h : Here) (t : Text) (a : Assertion) →
     ((v : Text) → ((p : ℕ) (negated : Bool) →
@@ -329,38 +345,43 @@ boundary_at μ h t a q = record {
   begins = λ v. begins_escape h.flags.ignore_space (t ++ v);
 }
 
-pub assertion_at : (μ : Marks) (h : Here) (a : Assertion) → h.flags.oniguruma_mode ≡ false → AssertionFits h.flags a →
+pub assertion_at : (μ : Marks) (h : Here) (a : Assertion) → AssertionFits h.flags a →
     LeafAt μ h (assertion_text h.flags a) (label.assertion a)
-assertion_at μ h StartText o k =
+assertion_at μ h StartText k =
     cond_both h.flags.multi _ _ (λ t. LeafAt μ h t (label.assertion StartText))
     (λ e. letter_at μ h (code "A") _ (label.assertion StartText) tt refl (escape_A h.flags))
     (λ e. caret_at μ h StartText (cond-false _ _ _ e))
-assertion_at μ h EndText o k =
+assertion_at μ h EndText k =
     cond_both h.flags.multi _ _ (λ t. LeafAt μ h t (label.assertion EndText))
     (λ e. letter_at μ h (code "z") _ (label.assertion EndText) tt refl (escape_z h.flags))
     (λ e. dollar_at μ h EndText (cond-false _ _ _ e))
-assertion_at μ h (EndTextIgnoreTrailingNewlines crlf) o k =
+assertion_at μ h (EndTextIgnoreTrailingNewlines crlf) k =
     subst (λ b. LeafAt μ h (codes "\\Z") (label.assertion (EndTextIgnoreTrailingNewlines b))) k
     (letter_at μ h (code "Z") _ (label.assertion (EndTextIgnoreTrailingNewlines h.flags.crlf)) tt refl
     (escape_Z h.flags))
-assertion_at μ h (StartLine crlf) o k =
-    caret_at μ h (StartLine crlf) (cond-true _ _ _ k.0 ∙ (cond-false _ _ _ o ∙ ap StartLine k.1))
-assertion_at μ h (StartLineOniguruma crlf) o k = absurd k
-assertion_at μ h (EndLine crlf) o k = dollar_at μ h (EndLine crlf) (cond-true _ _ _ k.0 ∙ ap EndLine k.1)
-assertion_at μ h WordBoundary o k =
+assertion_at μ h (StartLine crlf) k =
+    caret_at μ h (StartLine crlf) (cond-true _ _ _ k.0 ∙ (cond-false _ _ _ k.2 ∙ ap StartLine k.1))
+assertion_at μ h (StartLineOniguruma crlf) k =
+    caret_at μ h (StartLineOniguruma crlf) (cond-true _ _ _ k.0 ∙ (cond-true _ _ _ k.2 ∙ ap StartLineOniguruma k.1))
+assertion_at μ h (EndLine crlf) k = dollar_at μ h (EndLine crlf) (cond-true _ _ _ k.0 ∙ ap EndLine k.1)
+assertion_at μ h WordBoundary k =
     boundary_at μ h (codes "b") WordBoundary (λ v m. escape_b h.flags v ∙ m _ false)
-assertion_at μ h NotWordBoundary o k =
+assertion_at μ h NotWordBoundary k =
     boundary_at μ h (codes "B") NotWordBoundary (λ v m. escape_B h.flags v ∙ m _ true)
-assertion_at μ h LeftWordBoundary o k =
-    subst (λ b. LeafAt μ h (if b then codes "\\b{start}" else codes "\\<") (label.assertion LeftWordBoundary)) (sym o)
-    (letter_at μ h (code "<") _ (label.assertion LeftWordBoundary) tt refl (λ v. escape_left h.flags v o))
-assertion_at μ h RightWordBoundary o k =
-    subst (λ b. LeafAt μ h (if b then codes "\\b{end}" else codes "\\>") (label.assertion RightWordBoundary)) (sym o)
-    (letter_at μ h (code ">") _ (label.assertion RightWordBoundary) tt refl (λ v. escape_right h.flags v o))
-assertion_at μ h LeftWordHalfBoundary o k =
+assertion_at μ h LeftWordBoundary k =
+    cond_both h.flags.oniguruma_mode _ _ (λ t. LeafAt μ h t (label.assertion LeftWordBoundary))
+    (λ e. boundary_at μ h (codes "b{start}") LeftWordBoundary
+    (λ v m. escape_b h.flags _ ∙ word_start h.flags.ignore_space _ v))
+    (λ e. letter_at μ h (code "<") _ (label.assertion LeftWordBoundary) tt refl (λ v. escape_left h.flags v e))
+assertion_at μ h RightWordBoundary k =
+    cond_both h.flags.oniguruma_mode _ _ (λ t. LeafAt μ h t (label.assertion RightWordBoundary))
+    (λ e. boundary_at μ h (codes "b{end}") RightWordBoundary
+    (λ v m. escape_b h.flags _ ∙ word_end h.flags.ignore_space _ v))
+    (λ e. letter_at μ h (code ">") _ (label.assertion RightWordBoundary) tt refl (λ v. escape_right h.flags v e))
+assertion_at μ h LeftWordHalfBoundary k =
     boundary_at μ h (codes "b{start-half}") LeftWordHalfBoundary
     (λ v m. escape_b h.flags _ ∙ half_start h.flags.ignore_space _ v)
-assertion_at μ h RightWordHalfBoundary o k =
+assertion_at μ h RightWordHalfBoundary k =
     boundary_at μ h (codes "b{end-half}") RightWordHalfBoundary
     (λ v m. escape_b h.flags _ ∙ half_end h.flags.ignore_space _ v)
 

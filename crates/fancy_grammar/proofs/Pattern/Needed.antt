@@ -1,5 +1,5 @@
 -- What leaves need of the flags, where it holds; and what stays of the flags along a text.
-use Rattle.std.proofs.Common.{◌≡◌, ℕ, Bool, true, false, not, ◌&&◌, ◌||◌, [], ◌∷◌, refl, sym, ap, ◌∙◌, subst}
+use Rattle.std.proofs.Common.{◌≡◌, ℕ, Bool, true, false, not, ◌&&◌, ◌||◌, [], ◌∷◌, refl, sym, ap, ◌∙◌}
 use Rattle.std.proofs.Common.{if◌then◌else◌}
 use Rattle.std.proofs.lemmas.Bool.{cond-false, and_parts, false≢true}
 use Rattle.std.specs.List.{list_all}
@@ -90,15 +90,15 @@ like_repeatable _ f g e = refl
 
 -- ---- leaves whose needs hold
 
-pub case_fits : (f : Flags) (casei : Bool) (c : ℕ) → f.oniguruma_mode ≡ false →
+pub case_fits : (f : Flags) (casei : Bool) (c : ℕ) →
     settled f (leaf (literal (c ∷ []) casei)) ≡ f → CaseFits f casei c
-case_fits f true c o e = sym (ap (λ k. k.casei) e)
-case_fits f false c o e =
+case_fits f true c e = sym (ap (λ k. k.casei) e)
+case_fits f false c e =
     λ on. by_test (list_all (is_kept_by_backslash f.oniguruma_mode) (c ∷ [])) refl on
   where
     by_test : (b : Bool) → list_all (is_kept_by_backslash f.oniguruma_mode) (c ∷ []) ≡ b → f.casei ≡ true →
-        is_kept_by_backslash false c ≡ true
-    by_test true k on = subst (λ o. is_kept_by_backslash o c ≡ true) o (and_parts _ true k).0
+        is_kept_by_backslash f.oniguruma_mode c ≡ true
+    by_test true k on = (and_parts _ true k).0
     by_test false k on =
         let off : f.casei ≡ false
         = sym (ap (λ g. g.casei) e) ∙ ap (λ (n : Needs). fixed_or f.casei n.casei) (cond-false _ _ _ k) in
@@ -110,13 +110,16 @@ any_fits f false false e = tt
 any_fits f true false e = (sym (ap (λ k. k.dotnl) e), sym (ap (λ k. k.crlf) e))
 any_fits f false true e = (sym (ap (λ k. k.dotnl) e), sym (ap (λ k. k.crlf) e))
 
-abbrev pub IsOutside : Assertion → Type 0
-IsOutside (StartLineOniguruma crlf) = ⊥
-IsOutside _ = Unit {0}
+-- the start of a line is that of the mode
+abbrev pub IsLineOfMode : Flags → Assertion → Type 0
+IsLineOfMode f (StartLine crlf) = f.oniguruma_mode ≡ false
+IsLineOfMode f (StartLineOniguruma crlf) = f.oniguruma_mode ≡ true
+IsLineOfMode f _ = Unit {0}
 
-pub assertion_fits : (f : Flags) (a : Assertion) → IsOutside a → settled f (leaf (assertion a)) ≡ f → AssertionFits f a
-assertion_fits f (StartLine crlf) k e = (sym (ap (λ k. k.multi) e), sym (ap (λ k. k.crlf) e))
+pub assertion_fits : (f : Flags) (a : Assertion) → IsLineOfMode f a → settled f (leaf (assertion a)) ≡ f →
+    AssertionFits f a
+assertion_fits f (StartLine crlf) k e = (sym (ap (λ k. k.multi) e), sym (ap (λ k. k.crlf) e), k)
+assertion_fits f (StartLineOniguruma crlf) k e = (sym (ap (λ k. k.multi) e), sym (ap (λ k. k.crlf) e), k)
 assertion_fits f (EndLine crlf) k e = (sym (ap (λ k. k.multi) e), sym (ap (λ k. k.crlf) e))
 assertion_fits f (EndTextIgnoreTrailingNewlines crlf) k e = sym (ap (λ k. k.crlf) e)
-assertion_fits f (StartLineOniguruma crlf) k e = absurd k
 assertion_fits f _ k e = tt

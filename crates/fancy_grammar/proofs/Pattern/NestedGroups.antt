@@ -17,6 +17,7 @@ use Rattle.fancy_grammar.specs.Join.{is_empty, choice}
 use Rattle.fancy_grammar.specs.Label as label
 use Rattle.fancy_grammar.specs.Label.{ast_condition}
 use Rattle.fancy_grammar.specs.Resolved.{resolved_in, resolved_all, reference_node}
+use Rattle.fancy_grammar.specs.PatternDepth.{FitsAsCondition}
 use Rattle.fancy_grammar.specs.State.{State}
 use Rattle.fancy_grammar.specs.Tree.{Tree, leaf, over, row, Trees, no_trees, more_trees, list_of}
 use Rattle.fancy_grammar.specs.declared.kinds.LookAround.{LookAround}
@@ -28,11 +29,15 @@ use Rattle.fancy_grammar.proofs.Pattern.Fitting.{Fit, IsLow, fit_alone, alone_fi
 use Rattle.fancy_grammar.proofs.Pattern.Fitting.{group_fit, look_fit, atomic_fit}
 use Rattle.fancy_grammar.proofs.Pattern.Fitting.{define_fit, repeater_fit, stopper_fit, expression_fit, FitsOrTarget}
 use Rattle.fancy_grammar.proofs.Pattern.Fitting.{conditional_fit, leaf_fit}
-use Rattle.fancy_grammar.proofs.Pattern.Levels.{as_condition}
 use Rattle.fancy_grammar.proofs.Pattern.Nested.{never_operand, Fitted, EachFitted, BranchesFitted, Part}
 use Rattle.fancy_grammar.proofs.Pattern.Nested.{Grouped, fewer, counted_in, open_leaf, empty_fitted}
 use Rattle.fancy_grammar.proofs.Pattern.Nested.{choice_fitted}
 use Rattle.fancy_grammar.proofs.Pattern.Suited.{none_met, Suits, SuitAll}
+
+as_condition : (c : Tree) (F : Type 0) → F → FitsAsCondition c F
+as_condition (leaf (label.backref_exists n level)) F k = tt
+as_condition (leaf (label.verb v)) F k = tt
+as_condition c F k = k
 
 module _ (in_mode : Bool) (z : ℕ) (named : Bool) (numbers_of : Text → List ℕ) where
   abbrev R : ℕ → Tree → Tree

@@ -1,5 +1,5 @@
 -- An empty comment parts a reference in digits from a digit behind it.
-use Rattle.std.proofs.Common.{◌≡◌, ℕ, ◌<◌, ◌^◌, Bool, true, false, List, ◌∷◌, ◌++◌, codes, decimal, refl, sym}
+use Rattle.std.proofs.Common.{◌≡◌, ℕ, ◌<◌, ◌^◌, Bool, true, List, ◌∷◌, ◌++◌, codes, decimal, refl, sym}
 use Rattle.std.proofs.Common.{◌∙◌, subst, append_assoc}
 use Rattle.std.proofs.lemmas.Bool.{cond-true, false≢true}
 use Rattle.fancy_lex.specs.Characters.{backslash}
@@ -26,9 +26,9 @@ module _ (μ : Marks) where
       Rest μ h (written μ t Piece h ++ (codes "(?#)" ++ u)) k w (t ∷ ys)
 
   digits_lead : (h : Here) (n : ℕ) (casei : Bool) → μ.numeric_capture_group_references ≡ true → n < 2 ^ 64 →
-      h.flags.oniguruma_mode ≡ false → MaySet (settled h.flags (leaf (label.backref n casei))) h →
+      MaySet (settled h.flags (leaf (label.backref n casei))) h →
       LeadsPast h (leaf (label.backref n casei))
-  digits_lead h n casei e small o d u w k ys c q =
+  digits_lead h n casei e small d u w k ys c q =
       let t = leaf (label.backref n casei) in
       let g = settled h.flags t in
       let i = under g h in
@@ -37,14 +37,15 @@ module _ (μ : Marks) where
       let b = begins_reference h.flags.ignore_space (decimal n ++ v) in
       let a = digits_atom μ i n e small v refl in
       let piece = piece_as b.clear.no_layout a.derives
-      (quants_one i.depth (bytes (s ++ v)) i.flags a.tree a.tree v u o
-      (quant_past (bytes (s ++ v)) i.flags a.tree v u (comment_passed i.flags.ignore_space u ∙ c.no_layout) c.no_mark)) in
+      (quants_one i.depth (bytes (s ++ v)) i.flags a.tree a.tree v u c
+      (quant_past (bytes (s ++ v)) i.flags a.tree v u
+      (comment_passed i.flags.ignore_space u ∙ c.no_layout) c.no_mark)) in
       subst (λ z. Rest μ h ((setting h.flags g ++ z) ++ v) k w (t ∷ ys)) (sym (cond-true _ _ _ e))
       (subst (λ z. Rest μ h z k w (t ∷ ys)) (sym (append_assoc (setting h.flags g) s v))
-      (setting_rest μ h g.casei g.multi g.dotnl g.crlf (s ++ v) w k (t ∷ ys) o d b
+      (setting_rest μ h g.casei g.multi g.dotnl g.crlf (s ++ v) w k (t ∷ ys) d b
       (lead_piece μ i (s ++ v) u w k a.tree t ys b refl a.becomes piece q)))
 
   pub leads_past : (f : Flags) (c : ℕ) (t : Tree) → AreNodesWritable f μ c t → is_in_digits μ t ≡ true → (h : Here) →
-      h.flags.oniguruma_mode ≡ false → Fits t Piece h → LeadsPast h t
-  leads_past f c (leaf (label.backref n casei)) k e h o d = digits_lead h n casei e k o d.0
-  leads_past f c _ k e h o d = absurd (false≢true e)
+      Fits t Piece h → LeadsPast h t
+  leads_past f c (leaf (label.backref n casei)) k e h d = digits_lead h n casei e k d.0
+  leads_past f c _ k e h d = absurd (false≢true e)

@@ -1,5 +1,5 @@
--- The text of a quantifier is read as it, outside Oniguruma mode.
-use Rattle.std.proofs.Common.{◌≡◌, ℕ, ◌+◌, ◌*◌, ◌^◌, ◌<◌, Bool, true, false, not, ◌&&◌, ◌==◌, nat_lt, List, [], ◌∷◌}
+-- The text of a quantifier is read as it.
+use Rattle.std.proofs.Common.{◌≡◌, ℕ, ◌+◌, ◌*◌, ◌^◌, ◌<◌, Bool, true, false, not, ◌&&◌, ◌==◌, nat_lt, [], ◌∷◌}
 use Rattle.std.proofs.Common.{◌++◌}
 use Rattle.std.proofs.Common.{Option, Some, None, is_none, codes, decimal, refl, sym, ap, ap₂, ◌∙◌, subst, arith}
 use Rattle.std.proofs.Common.{append_assoc}
@@ -7,7 +7,8 @@ use Rattle.std.proofs.Common.{append-nil, eqb-true, lt-ltb, if◌then◌else◌}
 use Rattle.std.proofs.Math.Bool.{beq}
 use Rattle.std.specs.Char.{digit_value, is_ascii_digit}
 use Rattle.std.specs.Str.Parse.{AllDigits, IsNumeral, digits_value_after}
-use Rattle.std.proofs.lemmas.Bool.{cond-true, cond-false, cond_both, and_parts}
+use Rattle.std.proofs.Common.{◌||◌, ◌≤◌}
+use Rattle.std.proofs.lemmas.Bool.{cond-true, cond-false, cond_both, and_parts, and_from, false≢true}
 use Rattle.std.proofs.lemmas.Bool.Decides.{nat_tests}
 use Rattle.std.proofs.lemmas.Fmt.{decimal_is_IsNumeral}
 use Prim.Native.Char.{code}
@@ -18,26 +19,26 @@ use Rattle.fancy_lex.specs.Number.{at_digit, number, run}
 use Rattle.fancy_lex.specs.Reading.{gives, choose}
 use Rattle.fancy_lex.specs.Text.{Text, bytes, strip}
 use Rattle.fancy_lex.specs.declared.flags.Flags.{Flags}
+use Rattle.fancy_lex.proofs.TextLemmas.{bytes-append}
+use Rattle.std.specs.Char.{len_utf8}
 use Rattle.fancy_lex.proofs.NumberLemmas.{number_none, number_some, run_stop}
 use Rattle.fancy_parts.specs.Quantifier.{most, count, spaced_count, counts_from, braced_counts, counts}
 use Rattle.fancy_parts.specs.Quote.{range, mark, counts_as}
 use Rattle.fancy_parts.specs.declared.counts.Counts.{Counts}
-use Rattle.fancy_grammar.specs.PatternQuantifier.{mark_left, lazy_mark, possessive_mark, quantifier_by}
-use Rattle.fancy_grammar.specs.PatternQuantifier.{quantifier_text}
+use Rattle.fancy_grammar.specs.PatternQuantifier.{mark_left, lazy_mark, possessive_mark}
+use Rattle.fancy_grammar.specs.PatternQuantifier.{quantifier_text, is_possessive as possessive_counts}
 use Rattle.fancy_grammar.specs.Quantified as quantified
 use Rattle.fancy_grammar.specs.Quantified.{is_repeatable, may_be_possessive, quant, quant_at, behind_lazy, suffix}
-use Rattle.fancy_grammar.specs.Quantified.{suffix_at}
+use Rattle.fancy_grammar.specs.Quantified.{suffix_at, is_swapped}
 use Rattle.fancy_grammar.specs.State.{done, seen_through}
 use Rattle.fancy_grammar.specs.Tree.{Tree, repeat, atomic_group}
 use Rattle.fancy_grammar.specs.Join.{is_empty}
 use Rattle.fancy_grammar.specs.Label.{atomic_group as atomic, repeat as repeated}
 use Rattle.fancy_grammar.specs.Marks.{Marks}
-use Rattle.fancy_grammar.specs.Pattern.{Here, past_groups, group_count}
-use Rattle.fancy_grammar.proofs.OutcomeLemmas.{piece_as}
+use Rattle.fancy_grammar.specs.Pattern.{group_count}
 use Rattle.fancy_grammar.proofs.Pattern.Becomes.{Becomes}
 use Rattle.fancy_grammar.proofs.Pattern.Groups.{over_becomes}
-use Rattle.fancy_grammar.proofs.Pattern.Rules.{Clear, Begins, AtomAt, Rest, not_layout, no_question, no_plus}
-use Rattle.fancy_grammar.proofs.Pattern.Rules.{quants_one, lead_piece}
+use Rattle.fancy_grammar.proofs.Pattern.Rules.{Clear, not_layout, no_question, no_plus}
 use Rattle.fancy_grammar.proofs.ReadBack.ClearLemmas.{not_open}
 use Rattle.fancy_grammar.proofs.ReadBack.CountTexts.{digit_is, counts_and_rest}
 use Rattle.fancy_grammar.proofs.ReadBack.RuleLemmas.{st}
@@ -127,10 +128,10 @@ pub no_name : (x : Bool) (v : Text) → layout x v ≡ rest v → strip (code "{
 unfolding boundary
 no_name x v e b p negated = rw (e, b) refl
 
--- the counts in front of s, as they are written
-pub record Counted (x : Bool) (lo hi : ℕ) (s q : Text) : Type 0 where
-  pub braces : Bool
+-- the counts in front of s, as they are written, in braces or not
+pub record Counted (x : Bool) (lo hi : ℕ) (braces : Bool) (s q : Text) : Type 0 where
   pub counted : counts x q ≡ counts_and_rest lo hi braces s
+  pub longer : bytes s < bytes q
   pub no_layout : layout x q ≡ rest q
   pub no_digit : at_digit q ≡ false
   pub no_name : NoName x q
@@ -150,15 +151,15 @@ same_counts lo hi l h b s e g = ap₂ (λ x y. counts_and_rest x y b s) (sym e) 
 
 brace_counted : (x : Bool) (lo hi n : ℕ) (w r s : Text) → n < 2 ^ 64 → r ≡ decimal n ++ w →
     braced_counts x (decimal n ++ (w ++ code "}" ∷ s)) ≡ counts_and_rest lo hi true s →
-    Counted x lo hi s ((codes "{" ++ (r ++ codes "}")) ++ s)
-unfolding counts
+    Counted x lo hi true s ((codes "{" ++ (r ++ codes "}")) ++ s)
+unfolding counts bytes
 brace_counted x lo hi n w r s h q e =
     let numeral = (decimal_is_IsNumeral n h).0 in
     let same : (r ++ code "}" ∷ []) ++ s ≡ decimal n ++ (w ++ code "}" ∷ s) =
     append_assoc r (code "}" ∷ []) s ∙ ap (λ x. x ++ code "}" ∷ s) q ∙ append_assoc (decimal n) w (code "}" ∷ s) in
     record {
-      braces = true;
       counted = ap (braced_counts x) same ∙ e;
+      longer = omega (arith, bytes-append (r ++ codes "}") s);
       no_layout = at_character x (code "{") _ refl refl;
       no_digit = refl;
       no_name = subst (λ y. NoName x (code "{" ∷ y)) (sym same) (brace_name x (decimal n) (w ++ code "}" ∷ s) numeral);
@@ -166,71 +167,107 @@ brace_counted x lo hi n w r s h q e =
 
 sign_counted : (x : Bool) (lo hi l h c : ℕ) (s : Text) → lo ≡ l → hi ≡ h →
     counts x (c ∷ s) ≡ counts_and_rest l h false s → layout x (c ∷ s) ≡ rest (c ∷ s) →
-    strip (code "{") (c ∷ s) ≡ None → is_ascii_digit c ≡ false → Counted x lo hi s ((c ∷ []) ++ s)
-sign_counted x lo hi l h c s a b e o n z =
+    strip (code "{") (c ∷ s) ≡ None → is_ascii_digit c ≡ false → len_utf8 c ≡ 1 →
+    Counted x lo hi false s ((c ∷ []) ++ s)
+unfolding bytes
+sign_counted x lo hi l h c s a b e o n z u =
     record {
-      braces = false;
       counted = e ∙ same_counts l h lo hi false s a b;
+      longer = omega (arith, u);
       no_layout = o;
       no_digit = z;
       no_name = no_name x (c ∷ s) o n;
     }
 
 module _ (x : Bool) (lo hi : ℕ) (s : Text) (l : lo < 2 ^ 64) (h : hi < 2 ^ 64) where
-  range_counted : Counted x lo hi s (counts_as lo hi None ++ s)
+  range_counted : Counted x lo hi true s (counts_as lo hi None ++ s)
   unfolding range
   range_counted =
-      cond_both (lo == hi) _ _ (λ r. Counted x lo hi s ((codes "{" ++ (r ++ codes "}")) ++ s))
+      cond_both (lo == hi) _ _ (λ r. Counted x lo hi true s ((codes "{" ++ (r ++ codes "}")) ++ s))
       (λ e. brace_counted x lo hi lo [] _ s l (sym (append-nil (decimal lo)))
       (braces_one x lo s l ∙ same_counts lo lo lo hi true s refl (sym (eqb-true lo hi e))))
-      (λ _. cond_both (hi == most) _ _ (λ r. Counted x lo hi s ((codes "{" ++ (r ++ codes "}")) ++ s))
+      (λ _. cond_both (hi == most) _ _ (λ r. Counted x lo hi true s ((codes "{" ++ (r ++ codes "}")) ++ s))
       (λ e. brace_counted x lo hi lo (codes ",") _ s l refl
       (braces_open x lo s l ∙ same_counts lo most lo hi true s refl (eqb-true hi most e)))
       (λ _. brace_counted x lo hi lo (codes "," ++ decimal hi) _ s l refl
-      (ap (λ y. braced_counts x (decimal lo ++ code "," ∷ y)) (append_assoc [] (decimal hi) _) ∙ braces_both x lo hi s l h)))
+      (ap (λ y. braced_counts x (decimal lo ++ code "," ∷ y)) (append_assoc [] (decimal hi) _)
+      ∙ braces_both x lo hi s l h)))
 
-  mark_counted : Counted x lo hi s (counts_as lo hi (mark lo hi) ++ s)
-  unfolding mark counts
-  mark_counted =
-      cond_both ((lo == 0) && (hi == 1)) _ _ (λ o. Counted x lo hi s (counts_as lo hi o ++ s))
-      (λ e. let (a, b) = and_parts _ _ e in
-      sign_counted x lo hi 0 1 (code "?") s (eqb-true lo 0 a) (eqb-true hi 1 b) refl
-      (at_character x (code "?") s refl refl) refl refl)
-      (λ _. cond_both ((lo == 0) && (hi == most)) _ _ (λ o. Counted x lo hi s (counts_as lo hi o ++ s))
-      (λ e. let (a, b) = and_parts _ _ e in
-      sign_counted x lo hi 0 most (code "*") s (eqb-true lo 0 a) (eqb-true hi most b) refl
-      (at_character x (code "*") s refl refl) refl refl)
-      (λ _. cond_both ((lo == 1) && (hi == most)) _ _ (λ o. Counted x lo hi s (counts_as lo hi o ++ s))
-      (λ e. let (a, b) = and_parts _ _ e in
-      sign_counted x lo hi 1 most (code "+") s (eqb-true lo 1 a) (eqb-true hi most b) refl
-      (at_character x (code "+") s refl refl) refl refl)
-      (λ _. range_counted)))
+  -- behind another quantifier, or not
+  module _ (adjacent : Bool) where
+    abbrev LeftCounted : Option ℕ → Type 0
+    LeftCounted o =
+        Counted x lo hi (is_none (mark_left adjacent o)) s (counts_as lo hi (mark_left adjacent o) ++ s)
+
+    sign_left : (c : ℕ) → Counted x lo hi false s ((c ∷ []) ++ s) → LeftCounted (Some c)
+    sign_left c k =
+        cond_both (adjacent && not (c == code "*")) _ _ (λ o. Counted x lo hi (is_none o) s (counts_as lo hi o ++ s))
+        (λ _. range_counted) (λ _. k)
+
+    mark_counted : LeftCounted (mark lo hi)
+    unfolding mark counts
+    mark_counted =
+        cond_both ((lo == 0) && (hi == 1)) _ _ LeftCounted
+        (λ e. let (a, b) = and_parts _ _ e in
+        sign_left (code "?") (sign_counted x lo hi 0 1 (code "?") s (eqb-true lo 0 a) (eqb-true hi 1 b) refl
+        (at_character x (code "?") s refl refl) refl refl refl))
+        (λ _. cond_both ((lo == 0) && (hi == most)) _ _ LeftCounted
+        (λ e. let (a, b) = and_parts _ _ e in
+        sign_left (code "*") (sign_counted x lo hi 0 most (code "*") s (eqb-true lo 0 a) (eqb-true hi most b) refl
+        (at_character x (code "*") s refl refl) refl refl refl))
+        (λ _. cond_both ((lo == 1) && (hi == most)) _ _ LeftCounted
+        (λ e. let (a, b) = and_parts _ _ e in
+        sign_left (code "+") (sign_counted x lo hi 1 most (code "+") s (eqb-true lo 1 a) (eqb-true hi most b) refl
+        (at_character x (code "+") s refl refl) refl refl refl))
+        (λ _. range_counted)))
+
+  -- with the greatest first
+  swapped_counted :
+      Counted x hi lo true s ((codes "{" ++ ((decimal hi ++ (codes "," ++ decimal lo)) ++ codes "}")) ++ s)
+  swapped_counted =
+      brace_counted x hi lo hi (codes "," ++ decimal lo) _ s h refl
+      (ap (λ y. braced_counts x (decimal hi ++ code "," ∷ y)) (append_assoc [] (decimal lo) _)
+      ∙ braces_both x hi lo s h l)
 
 -- ---- the marks behind the counts
 
 abbrev lazy : Bool → Text
 lazy b = if b then codes "?" else []
 
-no_possessive : (f : Flags) (c : Counts) (b : Bool) (s v : Text) → Clear f.ignore_space v →
+-- behind a quantifier: no layout, and no mark of its own
+pub record Apart (x : Bool) (v : Text) : Type 0 where
+  pub no_layout : layout x v ≡ rest v
+  pub no_question : strip (code "?") v ≡ None
+  pub no_plus : strip (code "+") v ≡ None
+
+pub clear_apart : (x : Bool) (v : Text) → Clear x v → Apart x v
+clear_apart x v c = record {
+  no_layout = c.no_layout;
+  no_question = no_question v c.no_mark;
+  no_plus = no_plus v c.no_mark;
+}
+
+no_possessive : (f : Flags) (c : Counts) (b : Bool) (s v : Text) → strip (code "+") v ≡ None →
     behind_lazy (st f s) c b v ≡ done (record { lazy = b; possessive = false }) (st f v)
-no_possessive f c b s v k = rw (no_plus v k.no_mark) (same (may_be_possessive f c))
+no_possessive f c b s v k = rw k (same (may_be_possessive f c))
   where
     same : {A : Type 0} {a : A} (b : Bool) → (if b then a else a) ≡ a
     same true = refl
     same false = refl
 
-is_possessive : (f : Flags) (c : Counts) (b : Bool) (s v : Text) → f.oniguruma_mode ≡ false →
+is_possessive : (f : Flags) (c : Counts) (b : Bool) (s v : Text) → may_be_possessive f c ≡ true →
     behind_lazy (st f s) c b (code "+" ∷ v) ≡ done (record { lazy = b; possessive = true }) (st f v)
-is_possessive f c b s v o = cond-true _ _ _ (ap (λ m. not (m && c.braces)) o)
+is_possessive f c b s v o = cond-true _ _ _ o
 
-behind : (f : Flags) (c : Counts) (b possessive : Bool) (s v : Text) → f.oniguruma_mode ≡ false → Clear f.ignore_space v →
+behind : (f : Flags) (c : Counts) (b possessive : Bool) (s v : Text) →
+    (possessive ≡ true → may_be_possessive f c ≡ true) → Apart f.ignore_space v →
     behind_lazy (st f s) c b (possessive_mark possessive ++ v)
     ≡ done (record { lazy = b; possessive = possessive }) (st f v)
-behind f c b true s v o k = is_possessive f c b s v o
-behind f c b false s v o k = no_possessive f c b s v k
+behind f c b true s v o k = is_possessive f c b s v (o refl)
+behind f c b false s v o k = no_possessive f c b s v k.no_plus
 
-suffix_read : (f : Flags) (c : Counts) (b possessive : Bool) (v : Text) → f.oniguruma_mode ≡ false →
-    Clear f.ignore_space v →
+suffix_read : (f : Flags) (c : Counts) (b possessive : Bool) (v : Text) →
+    (possessive ≡ true → may_be_possessive f c ≡ true) → Apart f.ignore_space v →
     suffix (st f (lazy b ++ (possessive_mark possessive ++ v))) c
     ≡ done (record { lazy = b; possessive = possessive }) (st f v)
 suffix_read f c true possessive v o k =
@@ -239,11 +276,11 @@ suffix_read f c true possessive v o k =
     ∙ behind f c true possessive (code "?" ∷ t) v o k
 suffix_read f c false true v o k =
     ap (suffix_at (st f (code "+" ∷ v)) c) (at_character f.ignore_space (code "+") v refl refl)
-    ∙ is_possessive f c false (code "+" ∷ v) v o
+    ∙ is_possessive f c false (code "+" ∷ v) v (o refl)
 suffix_read f c false false v o k =
     ap (suffix_at (st f v) c) k.no_layout
-    ∙ ap (λ o. choose o (behind_lazy (st f v) c true) (behind_lazy (st f v) c false v)) (no_question v k.no_mark)
-    ∙ no_possessive f c false v v k
+    ∙ ap (λ o. choose o (behind_lazy (st f v) c true) (behind_lazy (st f v) c false v)) k.no_question
+    ∙ no_possessive f c false v v k.no_plus
 
 greed : (swap greedy : Bool) → (if swap then beq greedy swap else not (beq greedy swap)) ≡ greedy
 greed true true = refl
@@ -256,65 +293,172 @@ abbrev pub quantified_tree : Bool → Tree → ℕ → ℕ → Bool → Tree
 quantified_tree true a lo hi greedy = atomic_group (repeat a lo hi greedy)
 quantified_tree false a lo hi greedy = repeat a lo hi greedy
 
-quantified_as : (f : Flags) (a : Tree) (c : Counts) (possessive greedy : Bool) → f.oniguruma_mode ≡ false →
+quantified_as : (f : Flags) (a : Tree) (c : Counts) (possessive greedy : Bool) → is_swapped f c ≡ false →
     quantified.quantified f c (record { lazy = beq greedy f.swap_greed; possessive = possessive }) a
     ≡ quantified_tree possessive a c.low c.high greedy
 quantified_as f a c true greedy o =
-    cond-false _ _ _ (ap (λ o. o && nat_lt c.high c.low) o)
-    ∙ ap (λ g. atomic_group (repeat a c.low c.high g)) (greed f.swap_greed greedy)
+    cond-false _ _ _ o ∙ ap (λ g. atomic_group (repeat a c.low c.high g)) (greed f.swap_greed greedy)
 quantified_as f a c false greedy o =
-    cond-false _ _ _ (ap (λ o. o && nat_lt c.high c.low) o)
-    ∙ ap (λ g. repeat a c.low c.high g) (greed f.swap_greed greedy)
+    cond-false _ _ _ o ∙ ap (λ g. repeat a c.low c.high g) (greed f.swap_greed greedy)
 
-pub quant_read : (left : ℕ) (f : Flags) (a : Tree) (q v : Text) (possessive : Bool) (lo hi : ℕ) (greedy : Bool) →
-    f.oniguruma_mode ≡ false → Clear f.ignore_space v → is_repeatable f a ≡ true →
-    Counted f.ignore_space lo hi (lazy_mark f greedy ++ (possessive_mark possessive ++ v)) q →
-    quant left a (st f q) ≡ done (quantified_tree possessive a lo hi greedy) (st f v)
+-- one whose counts have changed places
+quantified_swapped : (f : Flags) (a : Tree) (c : Counts) (greedy : Bool) → is_swapped f c ≡ true →
+    quantified.quantified f c (record { lazy = beq greedy f.swap_greed; possessive = false }) a
+    ≡ quantified_tree true a c.high c.low greedy
+quantified_swapped f a c greedy o =
+    cond-true _ _ _ o ∙ ap (λ g. atomic_group (repeat a c.high c.low g)) (greed f.swap_greed greedy)
+
+quant_by : (left : ℕ) (f : Flags) (a b : Tree) (q v : Text) (possessive : Bool) (lo hi : ℕ) (braces greedy : Bool) →
+    let c : Counts = record { low = lo; high = hi; braces = braces } in
+    (possessive ≡ true → may_be_possessive f c ≡ true) → Apart f.ignore_space v → is_repeatable f a ≡ true →
+    Counted f.ignore_space lo hi braces (lazy_mark f greedy ++ (possessive_mark possessive ++ v)) q →
+    quantified.quantified f c (record { lazy = beq greedy f.swap_greed; possessive = possessive }) a ≡ b →
+    quant left a (st f q) ≡ done b (st f v)
 unfolding quant
-quant_read left f a q v possessive lo hi greedy o k r m =
-    let read_counts : Counts = record { low = lo; high = hi; braces = m.braces } in
+quant_by left f a b q v possessive lo hi braces greedy o k r m e =
+    let read_counts : Counts = record { low = lo; high = hi; braces = braces } in
     ap (quant_at left a (st f q)) m.no_layout
     ∙ ap (quantified.with_counts left a (st f q)) m.counted
     ∙ cond-true _ _ _ r
     ∙ ap (seen_through (λ m. quantified.quantified f read_counts m a))
     (suffix_read f read_counts (beq greedy f.swap_greed) possessive v o k)
-    ∙ ap (λ x. done x (st f v)) (quantified_as f a read_counts possessive greedy o)
+    ∙ ap (λ x. done x (st f v)) e
 
 -- ---- the text
 
-left_same : (o : Option ℕ) → mark_left false o ≡ o
-left_same None = refl
-left_same (Some c) = refl
+-- before q stands this quantifier, and behind it v
+pub record QuantifierAt (f : Flags) (possessive : Bool) (lo hi : ℕ) (greedy : Bool) (v q : Text) : Type 0 where
+  pub reads : (left : ℕ) (a : Tree) → is_repeatable f a ≡ true →
+      quant left a (st f q) ≡ done (quantified_tree possessive a lo hi greedy) (st f v)
+  pub longer : bytes v < bytes q
+  pub no_digit : at_digit q ≡ false
+  pub no_name : NoName f.ignore_space q
 
--- no other quantifier stands before it
-pub text_is : (f : Flags) (possessive : Bool) (lo hi : ℕ) (greedy : Bool) (v : Text) → f.oniguruma_mode ≡ false →
-    quantifier_text f possessive false lo hi greedy ++ v
-    ≡ counts_as lo hi (mark lo hi) ++ (lazy_mark f greedy ++ (possessive_mark possessive ++ v))
-text_is f possessive lo hi greedy v o =
-    ap (λ m. quantifier_by f possessive lo hi greedy m ++ v) (left_same (mark lo hi))
-    ∙ (ap (λ w. w ++ v) (cond-false _ _ _ (ap (λ m. m && (possessive && is_none (mark lo hi))) o))
-    ∙ (append_assoc (counts_as lo hi (mark lo hi)) _ v
-    ∙ ap (λ w. counts_as lo hi (mark lo hi) ++ w) (append_assoc (lazy_mark f greedy) (possessive_mark possessive) v)))
+-- the counts of a quantifier of this mode: none is read with the greatest below the least
+abbrev pub AreOrdered : Flags → ℕ → ℕ → Type 0
+AreOrdered f lo hi = f.oniguruma_mode && nat_lt hi lo ≡ false
 
-pub text_counted : (f : Flags) (possessive : Bool) (lo hi : ℕ) (greedy : Bool) (v : Text) → f.oniguruma_mode ≡ false →
-    lo < 2 ^ 64 → hi < 2 ^ 64 →
-    Counted f.ignore_space lo hi (lazy_mark f greedy ++ (possessive_mark possessive ++ v))
-    (quantifier_text f possessive false lo hi greedy ++ v)
-text_counted f possessive lo hi greedy v o l h =
-    subst (Counted f.ignore_space lo hi (lazy_mark f greedy ++ (possessive_mark possessive ++ v)))
-    (sym (text_is f possessive lo hi greedy v o))
-    (mark_counted f.ignore_space lo hi (lazy_mark f greedy ++ (possessive_mark possessive ++ v)) l h)
+marks_longer : (f : Flags) (possessive greedy : Bool) (v : Text) →
+    bytes v ≤ bytes (lazy_mark f greedy ++ (possessive_mark possessive ++ v))
+marks_longer f possessive greedy v =
+    omega (
+      arith,
+      bytes-append (lazy_mark f greedy) (possessive_mark possessive ++ v),
+      bytes-append (possessive_mark possessive) v,
+    )
+
+module _ (f : Flags) (possessive : Bool) (lo hi : ℕ) (greedy : Bool) (v : Text) (l : lo < 2 ^ 64) (h : hi < 2 ^ 64)
+    (k : Apart f.ignore_space v) where
+  -- counts in braces with the greatest first
+  by_swapping : f.oniguruma_mode ≡ true → nat_lt lo hi ≡ true →
+      QuantifierAt f true lo hi greedy v
+      ((codes "{" ++ (decimal hi ++ (codes "," ++ (decimal lo ++ codes "}"))) ++ lazy_mark f greedy) ++ v)
+  by_swapping o less =
+      let first = decimal hi ++ (codes "," ++ decimal lo) in
+      let lazy_text = lazy_mark f greedy in
+      let m = swapped_counted f.ignore_space lo hi (lazy_text ++ v) l h in
+      let same : (codes "{" ++ (decimal hi ++ (codes "," ++ (decimal lo ++ codes "}"))) ++ lazy_text) ++ v
+      ≡ (codes "{" ++ (first ++ codes "}")) ++ (lazy_text ++ v)
+      = ap (λ w. code "{" ∷ w)
+      (append_assoc (decimal hi ++ (codes "," ++ (decimal lo ++ codes "}"))) lazy_text v
+      ∙ ap (λ w. w ++ (lazy_text ++ v)) (sym (append_assoc (decimal hi) (codes "," ++ decimal lo) (codes "}")))) in
+      let swapped : f.oniguruma_mode && nat_lt lo hi ≡ true = and_from _ _ o less in
+      subst (QuantifierAt f true lo hi greedy v) (sym same) (record {
+        reads =
+            λ left a r. quant_by left f a (quantified_tree true a lo hi greedy) _ v false hi lo true greedy
+            (λ e. absurd (false≢true e)) k r m
+            (quantified_swapped f a (record { low = hi; high = lo; braces = true }) greedy swapped);
+        longer = omega (arith, m.longer, marks_longer f false greedy v);
+        no_digit = m.no_digit;
+        no_name = m.no_name;
+      })
+
+  -- a mark, or counts in braces, and the marks behind it
+  by_marks : (o : Option ℕ) → AreOrdered f lo hi → f.oniguruma_mode && (possessive && is_none o) ≡ false →
+      Counted f.ignore_space lo hi (is_none o) (lazy_mark f greedy ++ (possessive_mark possessive ++ v))
+      (counts_as lo hi o ++ (lazy_mark f greedy ++ (possessive_mark possessive ++ v))) →
+      QuantifierAt f possessive lo hi greedy v
+      ((counts_as lo hi o ++ (lazy_mark f greedy ++ possessive_mark possessive)) ++ v)
+  by_marks o ordered may m =
+      let same : (counts_as lo hi o ++ (lazy_mark f greedy ++ possessive_mark possessive)) ++ v
+      ≡ counts_as lo hi o ++ (lazy_mark f greedy ++ (possessive_mark possessive ++ v))
+      = append_assoc (counts_as lo hi o) _ v
+      ∙ ap (λ w. counts_as lo hi o ++ w) (append_assoc (lazy_mark f greedy) (possessive_mark possessive) v) in
+      let may_be : possessive ≡ true → not (f.oniguruma_mode && is_none o) ≡ true
+      = λ e. ap not (sym (ap (λ p. f.oniguruma_mode && (p && is_none o)) e) ∙ may) in
+      subst (QuantifierAt f possessive lo hi greedy v) (sym same) (record {
+        reads =
+            λ left a r. quant_by left f a (quantified_tree possessive a lo hi greedy) _ v possessive lo hi (is_none o)
+            greedy may_be k r m
+            (quantified_as f a (record { low = lo; high = hi; braces = is_none o }) possessive greedy ordered);
+        longer = omega (arith, m.longer, marks_longer f possessive greedy v);
+        no_digit = m.no_digit;
+        no_name = m.no_name;
+      })
+
+-- behind another quantifier, or not
+pub quantifier_at : (f : Flags) (possessive adjacent : Bool) (lo hi : ℕ) (greedy : Bool) (v : Text) → lo < 2 ^ 64 →
+    hi < 2 ^ 64 → Apart f.ignore_space v → AreOrdered f lo hi →
+    (possessive ≡ true → possessive_counts f lo hi ≡ true) →
+    QuantifierAt f possessive lo hi greedy v (quantifier_text f possessive adjacent lo hi greedy ++ v)
+quantifier_at f possessive adjacent lo hi greedy v l h k ordered possible =
+    let o = mark_left adjacent (mark lo hi) in
+    cond_both (f.oniguruma_mode && (possessive && is_none o)) _ _
+    (λ w. QuantifierAt f possessive lo hi greedy v (w ++ v))
+    (λ e. let (mode, both) = and_parts _ _ e in
+    let (is, none) = and_parts possessive (is_none o) both in
+    let text = codes "{" ++ (decimal hi ++ (codes "," ++ (decimal lo ++ codes "}"))) ++ lazy_mark f greedy in
+    subst (λ p. QuantifierAt f p lo hi greedy v (text ++ v)) (sym is)
+    (by_swapping f possessive lo hi greedy v l h k mode
+    (subst (λ b. not b || nat_lt lo hi ≡ true) mode (possible is))))
+    (λ e. by_marks f possessive lo hi greedy v l h k o ordered e
+    (mark_counted f.ignore_space lo hi (lazy_mark f greedy ++ (possessive_mark possessive ++ v)) l h adjacent))
+
+-- directly behind another its text is no mark of that
+pub adjacent_apart : (f : Flags) (possessive : Bool) (lo hi : ℕ) (greedy : Bool) (v : Text) →
+    Apart f.ignore_space (quantifier_text f possessive true lo hi greedy ++ v)
+unfolding range
+adjacent_apart f possessive lo hi greedy v =
+    cond_both (f.oniguruma_mode && (possessive && is_none (mark_left true (mark lo hi)))) _ _
+    (λ w. Apart f.ignore_space (w ++ v)) (λ _. brace_apart _)
+    (λ _. by_mark (mark lo hi) (lazy_mark f greedy ++ possessive_mark possessive))
+  where
+    brace_apart : (w : Text) → Apart f.ignore_space (code "{" ∷ w)
+    brace_apart w = record {
+      no_layout = at_character f.ignore_space (code "{") w refl refl;
+      no_question = refl;
+      no_plus = refl;
+    }
+
+    star_apart : (w : Text) → Apart f.ignore_space (code "*" ∷ w)
+    star_apart w = record {
+      no_layout = at_character f.ignore_space (code "*") w refl refl;
+      no_question = refl;
+      no_plus = refl;
+    }
+
+    not_not : (b : Bool) → not b ≡ false → b ≡ true
+    not_not true e = refl
+    not_not false e = absurd (false≢true (sym e))
+
+    by_mark : (o : Option ℕ) (w : Text) → Apart f.ignore_space ((counts_as lo hi (mark_left true o) ++ w) ++ v)
+    by_mark None w = brace_apart _
+    by_mark (Some c) w =
+        cond_both (not (c == code "*")) _ _ (λ o. Apart f.ignore_space ((counts_as lo hi o ++ w) ++ v))
+        (λ _. brace_apart _)
+        (λ e. subst (λ c. Apart f.ignore_space (c ∷ (w ++ v))) (sym (eqb-true c (code "*") (not_not (c == code "*") e)))
+        (star_apart (w ++ v)))
 
 -- ---- an atom under it, before the pieces that follow
 
-over_quantified : (μ : Marks) (s : Text) (possessive : Bool) (c : ℕ) (r x : Tree) (lo hi : ℕ) (greedy : Bool) →
+pub over_quantified : (μ : Marks) (s : Text) (possessive : Bool) (c : ℕ) (r x : Tree) (lo hi : ℕ) (greedy : Bool) →
     Becomes μ s c r x →
     Becomes μ s c (quantified_tree possessive r lo hi greedy) (quantified_tree possessive x lo hi greedy)
 over_quantified μ s true c r x lo hi greedy b =
     over_becomes μ s atomic c _ _ tt (over_becomes μ s (repeated lo hi greedy) c r x tt b)
 over_quantified μ s false c r x lo hi greedy b = over_becomes μ s (repeated lo hi greedy) c r x tt b
 
-solid_quantified : (possessive : Bool) (x : Tree) (lo hi : ℕ) (greedy : Bool) →
+pub solid_quantified : (possessive : Bool) (x : Tree) (lo hi : ℕ) (greedy : Bool) →
     is_empty (quantified_tree possessive x lo hi greedy) ≡ false
 solid_quantified true x lo hi greedy = refl
 solid_quantified false x lo hi greedy = refl
@@ -323,19 +467,3 @@ pub same_count : (possessive : Bool) (x : Tree) (lo hi : ℕ) (greedy : Bool) �
     group_count (quantified_tree possessive x lo hi greedy) ≡ group_count x
 same_count true x lo hi greedy = refl
 same_count false x lo hi greedy = refl
-
-pub lead_quantified : (μ : Marks) (h : Here) (s q v w : Text) (g : Flags) (x : Tree) (ys : List Tree)
-    (possessive : Bool)
-    (lo hi : ℕ) (greedy : Bool) → h.flags.oniguruma_mode ≡ false → Begins h.flags.ignore_space s →
-    Clear h.flags.ignore_space v →
-    Counted h.flags.ignore_space lo hi (lazy_mark h.flags greedy ++ (possessive_mark possessive ++ v)) q →
-    (a : AtomAt μ h s q x) → is_repeatable h.flags a.tree ≡ true → Rest μ (past_groups (group_count x) h) v g w ys →
-    Rest μ h s g w (quantified_tree possessive x lo hi greedy ∷ ys)
-lead_quantified μ h s q v w g x ys possessive lo hi greedy o b c m a e k =
-    lead_piece μ h s v w g (quantified_tree possessive a.tree lo hi greedy)
-    (quantified_tree possessive x lo hi greedy) ys b
-    (solid_quantified possessive x lo hi greedy) (over_quantified μ s possessive h.opened a.tree x lo hi greedy a.becomes)
-    (piece_as b.clear.no_layout a.derives
-    (quants_one h.depth (bytes s) h.flags a.tree _ q v o
-    (quant_read (bytes s) h.flags a.tree q v possessive lo hi greedy o c e m)))
-    (subst (λ n. Rest μ (past_groups n h) v g w ys) (sym (same_count possessive x lo hi greedy)) k)

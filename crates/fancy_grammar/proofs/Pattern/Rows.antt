@@ -28,7 +28,7 @@ use Rattle.fancy_grammar.proofs.Pattern.Rules.{Rest, no_more, ends_no_digit}
 use Rattle.fancy_grammar.proofs.Pattern.Rules.{reads_branch, reads_last, reads_more, reads_whole, reads_only}
 use Rattle.fancy_lex.specs.Number.{at_digit}
 
-module _ (μ : Marks) (f : Flags) (mode : f.oniguruma_mode ≡ false) where
+module _ (μ : Marks) (f : Flags) where
   -- behind the openings of c groups the tree reads back wherever it stands
   abbrev pub Everywhere : ℕ → Tree → Type 0
   Everywhere c t =
@@ -47,9 +47,6 @@ module _ (μ : Marks) (f : Flags) (mode : f.oniguruma_mode ≡ false) where
   abbrev pub EachBranch : ℕ → Trees → Type 0
   EachBranch c no_trees = Unit {0}
   EachBranch c (more_trees t ts) = Everywhere c t × EachBranch (c + group_count t) ts
-
-  pub same_mode : (g : Flags) → IsLike f g → g.oniguruma_mode ≡ false
-  same_mode g e = ap (λ k. k.oniguruma_mode) e ∙ mode
 
   -- layout stays what it is
   same_space : (g k : Flags) → IsLike f g → IsLike f k → g.ignore_space ≡ k.ignore_space
@@ -123,7 +120,8 @@ module _ (μ : Marks) (f : Flags) (mode : f.oniguruma_mode ≡ false) where
       (λ y. (k.0 h refl e).piece d.0 k.1 u v g ys c y q)
       (λ y. k.2 y h e d.0 u v g ys c q))
 
-  two_listed : (t u : Tree) (ts : Trees) → trees_of (list_of (more_trees t (more_trees u ts))) ≡ more_trees t (more_trees u ts)
+  two_listed : (t u : Tree) (ts : Trees) →
+      trees_of (list_of (more_trees t (more_trees u ts))) ≡ more_trees t (more_trees u ts)
   two_listed t u ts = listed (more_trees t (more_trees u ts))
 
   pub concat_reads : (t u : Tree) (us : Trees) (h : Here) →
@@ -134,7 +132,7 @@ module _ (μ : Marks) (f : Flags) (mode : f.oniguruma_mode ≡ false) where
       let x = row label.concat ts in
       let j = inner (settled h.flags x) h in
       let is : one_or concat (list_of ts) ≡ x = ap (row label.concat) (two_listed t u us) in
-      by_branch μ x h (same_mode h.flags e) refl refl (Fits x Whole h) (FitAll ts Piece) (written_all μ false ts h)
+      by_branch μ x h refl refl (Fits x Whole h) (FitAll ts Piece) (written_all μ false ts h)
       (written_all μ false ts j) (flags_behind_all ts Piece h.flags) (flags_behind_all ts Piece j.flags) (list_of ts) is
       (pieces_begin t (more_trees u us) h k e) (pieces_rest ts h k e)
       (λ d v i. reads_only μ j _ v (flags_behind_all ts Piece j.flags) x
@@ -200,7 +198,7 @@ module _ (μ : Marks) (f : Flags) (mode : f.oniguruma_mode ≡ false) where
       let ts = more_trees t (more_trees u us) in
       let x = row label.alt ts in
       let j = inner (settled h.flags x) h in
-      by_whole μ x h (same_mode h.flags e) refl refl (Fits x Whole h) (FitAll ts Branch) (written_branches μ ts h)
+      by_whole μ x h refl refl (Fits x Whole h) (FitAll ts Branch) (written_branches μ ts h)
       (written_branches μ ts j) (flags_behind_all ts Branch h.flags) (flags_behind_all ts Branch j.flags)
       (branches_clear t (more_trees u us) h k e)
       (alt_whole t u us h k e)

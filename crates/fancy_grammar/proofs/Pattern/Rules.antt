@@ -1,10 +1,12 @@
--- What the grammar's rules read outside Oniguruma mode, under flags that change along the text.
+-- What the grammar's rules read under flags that change along the text.
 use Rattle.std.proofs.Common.{◌≡◌, ℕ, Bool, true, false, ◌==◌, List, []}
 use Rattle.std.proofs.Common.{◌∷◌, ◌++◌, None, is_some, refl, ap, ◌∙◌, if◌then◌else◌, codes, ◌+◌, arith}
-use Rattle.std.proofs.lemmas.Bool.{cond-false, or_parts}
+use Rattle.std.proofs.Common.{zero, suc, nat_lt}
+use Rattle.std.proofs.lemmas.Bool.{cond-true, cond-false, cond_both, or_parts}
 use Rattle.std.proofs.lemmas.Bool.Decides.{nat_tests}
 use Prim.Native.Char.{code}
 use Rattle.fancy_lex.specs.Characters.{bar, hash}
+use Rattle.fancy_lex.specs.FaultTable.{quantifier_too_deep}
 use Rattle.fancy_lex.specs.Layout.{is_blank}
 use Rattle.fancy_lex.specs.LayoutSteps.{layout, after_comment_head, is_layout, layout_from, rest}
 use Rattle.fancy_lex.specs.Number.{at_digit}
@@ -13,6 +15,7 @@ use Rattle.fancy_lex.specs.declared.flags.Flags.{Flags}
 use Rattle.fancy_lex.proofs.LayoutLemmas.{between_step}
 use Rattle.fancy_lex.proofs.LeaveLaws.{ends_twice}
 use Rattle.fancy_parts.specs.Quantifier.{counts}
+use Rattle.fancy_grammar.specs.Depth.{max_depth}
 use Rattle.fancy_grammar.specs.State as states
 use Rattle.fancy_grammar.specs.Grammar.{Alternation, alternation, Branches, last, more, Branch, branch, Pieces, stop}
 use Rattle.fancy_grammar.specs.Grammar.{next}
@@ -22,7 +25,7 @@ use Rattle.fancy_grammar.specs.Label as label
 use Rattle.fancy_grammar.specs.Marks.{Marks}
 use Rattle.fancy_grammar.specs.Pattern.{Here, under, past_groups, group_count, is_in_digits}
 use Rattle.fancy_grammar.specs.Quantified as quantified
-use Rattle.fancy_grammar.specs.Quantified.{quant, quant_at, quants}
+use Rattle.fancy_grammar.specs.Quantified.{quant, quant_at, quants, adjacent}
 use Rattle.fancy_grammar.specs.State.{done}
 use Rattle.fancy_grammar.specs.Tree.{Tree, empty, concat}
 use Rattle.fancy_grammar.proofs.OutcomeLemmas.{piece_as}
@@ -161,13 +164,6 @@ no_more μ h v e = record { trees = []; derives = stop e.ends; become = tt }
 
 -- ---- pieces
 
-pub quants_one : (d left : ℕ) (f : Flags) (a b : Tree) (s v : Text) → f.oniguruma_mode ≡ false →
-    quant left a (st f s) ≡ done b (st f v) → quants d left a (st f s) ≡ done b (st f v)
-quants_one d left f a b s v o e =
-    ap (λ q. states.and_then q (λ b t.
-    if t.flags.oniguruma_mode then quantified.adjacent quantified.max_adjacent d b t else done b t)) e
-    ∙ cond-false _ _ _ o
-
 -- behind layout no quantifier follows
 pub quant_past : (left : ℕ) (f : Flags) (a : Tree) (v u : Text) → layout f.ignore_space v ≡ rest u →
     begins_mark u ≡ false → quant left a (st f v) ≡ done a (st f u)
@@ -178,6 +174,32 @@ quant_past left f a v u e m =
 pub quant_none : (left : ℕ) (f : Flags) (a : Tree) (v : Text) → Clear f.ignore_space v →
     quant left a (st f v) ≡ done a (st f v)
 quant_none left f a v c = quant_past left f a v v c.no_layout c.no_mark
+
+unmoved : (n : ℕ) → (n == n) ≡ true
+unmoved n = grind (arith, nat_tests)
+
+-- in Oniguruma mode no other quantifier is adjacent to one that no quantifier follows
+pub adjacent_none : (k d : ℕ) (f : Flags) (b : Tree) (v : Text) → Clear f.ignore_space v →
+    adjacent k d b (st f v) ≡ done b (st f v)
+unfolding adjacent
+adjacent_none zero d f b v c =
+    ap (λ q. states.and_then q (λ b t. if quantified.is_unmoved (st f v) t then done b t
+    else states.faulted (quantifier_too_deep t.rest))) (quant_none (bytes v) f b v c)
+    ∙ cond-true _ _ _ (unmoved (bytes v))
+adjacent_none (suc k) d f b v c =
+    ap (λ q. states.and_then q (λ b t. if quantified.is_unmoved (st f v) t then done b t
+    else if nat_lt (d + 1) max_depth then adjacent k (d + 1) b t
+    else states.faulted (quantifier_too_deep t.rest))) (quant_none (bytes v) f b v c)
+    ∙ cond-true _ _ _ (unmoved (bytes v))
+
+-- before such a text one quantifier is all, or none
+pub quants_one : (d left : ℕ) (f : Flags) (a b : Tree) (s v : Text) → Clear f.ignore_space v →
+    quant left a (st f s) ≡ done b (st f v) → quants d left a (st f s) ≡ done b (st f v)
+quants_one d left f a b s v c e =
+    ap (λ q. states.and_then q (λ b t.
+    if t.flags.oniguruma_mode then adjacent quantified.max_adjacent d b t else done b t)) e
+    ∙ cond_both f.oniguruma_mode _ _ (λ z. z ≡ done b (st f v))
+    (λ _. adjacent_none quantified.max_adjacent d f b v c) (λ _. refl)
 
 -- a piece that was read, before those that follow
 pub lead_raw : (μ : Marks) (h : Here) (s v w : Text) (g : Flags) (r x : Tree) (ys : List Tree) →
@@ -199,24 +221,23 @@ lead_piece μ h s v w g r x ys b e k p q = lead_raw μ h s v w g r x ys b (stays
 
 -- an atom that no quantifier follows
 pub lead : (μ : Marks) (h : Here) (s v w : Text) (g : Flags) (x : Tree) (ys : List Tree) →
-    h.flags.oniguruma_mode ≡ false →
     Begins h.flags.ignore_space s → Clear h.flags.ignore_space v → is_empty x ≡ false → AtomAt μ h s v x →
     Rest μ (past_groups (group_count x) h) v g w ys → Rest μ h s g w (x ∷ ys)
-lead μ h s v w g x ys o b c e a q =
+lead μ h s v w g x ys b c e a q =
     lead_piece μ h s v w g a.tree x ys b e a.becomes
     (piece_as b.clear.no_layout a.derives
-    (quants_one h.depth (bytes s) h.flags a.tree a.tree v v o (quant_none (bytes s) h.flags a.tree v c))) q
+    (quants_one h.depth (bytes s) h.flags a.tree a.tree v v c (quant_none (bytes s) h.flags a.tree v c))) q
 
 -- an Empty that is read at once, with other flags behind it
-pub lead_flags : (μ : Marks) (h : Here) (f g : Flags) (s v w : Text) (ys : List Tree) → f.oniguruma_mode ≡ false →
+pub lead_flags : (μ : Marks) (h : Here) (f g : Flags) (s v w : Text) (ys : List Tree) →
     Begins h.flags.ignore_space s → Clear f.ignore_space v → Atom h.depth (st h.flags s) (done empty (st f v)) →
     Rest μ (under f h) v g w ys → Rest μ h s g w ys
-lead_flags μ h f g s v w ys o b c a q = record {
+lead_flags μ h f g s v w ys b c a q = record {
   trees = empty ∷ q.trees;
   derives =
       next b.goes
       (piece_as b.clear.no_layout a
-      (quants_one h.depth (bytes s) f empty empty v v o (quant_none (bytes s) f empty v c))) q.derives;
+      (quants_one h.depth (bytes s) f empty empty v v c (quant_none (bytes s) f empty v c))) q.derives;
   become =
       each_in_longer μ v s (to_ends (atom_read a).span.slice) (solid q.trees) ys h.opened q.become;
 }

@@ -5,6 +5,8 @@ use Rattle.std.proofs.Common.{append-nil, ◌||◌, ◌==◌, Option, IfSome, is
 use Rattle.std.specs.Prelude.{fold, find}
 use Rattle.std.specs.BTreeSet.{insert_key}
 use Rattle.std.specs.List.{list_any, AllByRecursion, cons_option}
+use Rattle.std.proofs.Common.{◌≤◌}
+use Rattle.std.proofs.lemmas.Bool.Decides.{nat_tests}
 use Rattle.std.proofs.lemmas.Bool.{cond_both}
 use Rattle.std.proofs.lemmas.List.{length-map}
 use Rattle.fancy_lex.specs.Text.{Text, bytes}
@@ -15,7 +17,6 @@ use Rattle.fancy_grammar.specs.Answer.{IsTreeOf}
 use Rattle.fancy_grammar.specs.Answered.{IsAnsweredWith, groups_referred, has_call}
 use Rattle.fancy_grammar.specs.Grammar.{whole, DerivesTree}
 use Rattle.fancy_grammar.specs.Items.{Item, opening, reference, items, openings, openings_in, numbers_in}
-use Rattle.fancy_grammar.specs.Label.{AstReference}
 use Rattle.fancy_grammar.specs.Label as label
 use Rattle.fancy_grammar.specs.Marks.{Marks, marks, ascending}
 use Rattle.fancy_grammar.specs.Pattern.{Here, under, past_groups, deeper, group_count}
@@ -50,94 +51,115 @@ use Rattle.fancy_grammar.proofs.Pattern.Marked.{none_faulty, numeric_told, of_al
 use Rattle.fancy_grammar.proofs.Pattern.Needed.{like_repeatable, like_behind}
 use Rattle.fancy_grammar.proofs.Pattern.Unplaced.{same_referred, same_call, same_numbered, same_of_all}
 use Rattle.fancy_grammar.proofs.Pattern.Parted.{leads_past}
+use Rattle.fancy_grammar.proofs.Pattern.Quantifiers.{AreOrdered}
+use Rattle.fancy_grammar.proofs.Pattern.Stacked.{ReadsAll, reads_all, is_stacking}
 use Rattle.fancy_grammar.proofs.Pattern.Repeats.{repeat_reads, possessive_reads}
-use Rattle.fancy_grammar.proofs.Pattern.Rows.{EachPiece, EachBranch, concat_reads, alt_reads, same_mode}
+use Rattle.fancy_grammar.proofs.Pattern.Rows.{EachPiece, EachBranch, concat_reads, alt_reads}
 use Rattle.fancy_grammar.proofs.Pattern.Rules.{Clear, ends_nothing, WholeAt}
 use Rattle.fancy_grammar.proofs.ReadBack.RuleLemmas.{st}
 
 -- ---- every writable tree, wherever it stands
 
--- the tree is no Repeat, so that an atomic group of it is written as one
-abbrev is_repeat : Tree → Bool
-is_repeat (over (label.repeat lo hi greedy) t) = true
-is_repeat _ = false
+-- counts that the mode keeps in order
+ordered : (f g : Flags) (lo hi : ℕ) → g.oniguruma_mode ≡ f.oniguruma_mode → (f.oniguruma_mode ≡ true → lo ≤ hi) →
+    AreOrdered g lo hi
+ordered f g lo hi e k = by_mode g.oniguruma_mode refl
+  where
+    by_mode : (b : Bool) → g.oniguruma_mode ≡ b → g.oniguruma_mode && nat_lt hi lo ≡ false
+    by_mode true o =
+        let less : lo ≤ hi = k (sym e ∙ o) in
+        let first : nat_lt hi lo ≡ false = grind (arith, nat_tests) in
+        ap (λ b. b && nat_lt hi lo) o ∙ first
+    by_mode false o = ap (λ b. b && nat_lt hi lo) o
 
 module _ (μ : Marks) where
-  atomic_reads : (t : Tree) → is_repeat t ≡ false → (h : Here) → h.flags.oniguruma_mode ≡ false →
-      ReadsTree μ t (deeper (under (settled h.flags t) h)) → ReadsTree μ (over label.atomic_group t) h
-  atomic_reads (over (label.repeat lo hi greedy) t) e h o r = absurd cc
-  atomic_reads t e h o r = atomic_by μ t h o r
+  -- an atomic group that is none of a Repeat
+  atomic_reads : (t : Tree) → is_stacking (over label.atomic_group t) ≡ false → (h : Here) →
+      ReadsTree μ t (deeper (under (settled h.flags t) h)) → ReadsAll μ (over label.atomic_group t) h
+  atomic_reads (over (label.repeat lo hi greedy) t) e h r = absurd cc
+  atomic_reads t e h r = reads_all μ (over label.atomic_group t) h e (atomic_by μ t h r)
 
-  module _ (f : Flags) (mode : f.oniguruma_mode ≡ false)
-      (names : (k : ℕ) → IfSome (name_of μ k) (λ e. IsNameWritable e.0))
+  module _ (f : Flags) (names : (k : ℕ) → IfSome (name_of μ k) (λ e. IsNameWritable e.0))
       (numbered : (k : ℕ) → IfSome (name_of μ k) (λ e. e.1 ≡ numbers_told μ e.0)) where
     mutual
-      reads : (t : Tree) (h : Here) → AreNodesWritable f μ h.opened t → IsLike f h.flags → ReadsTree μ t h
-      reads (leaf l) h k e = leaf_reads μ numbered f l h (same_mode μ f mode h.flags e) e k
+      reads : (t : Tree) (h : Here) → AreNodesWritable f μ h.opened t → IsLike f h.flags → ReadsAll μ t h
+      reads (leaf l) h k e =
+          reads_all μ (leaf l) h refl
+          (leaf_reads μ numbered f l h e k)
       reads (over (label.repeat lo hi greedy) t) h k e =
           let i = under (settled h.flags t) h in
-          repeat_reads μ t lo hi greedy k.2 k.3 h (same_mode μ f mode h.flags e)
+          repeat_reads μ t lo hi greedy k.2 k.3 h
+          (ordered f h.flags lo hi (ap (λ j. j.oniguruma_mode) e) k.4)
           (λ n. like_repeatable t h.flags f (ap (λ j. j.oniguruma_mode) e) ∙ k.1 n)
-          (reads t i k.0 e) (reads t (deeper i) k.0 e)
+          (reads t i k.0 e).operands (reads t (deeper i) k.0 e).operands
       reads (over label.group t) h k e =
-          group_reads μ t h (same_mode μ f mode h.flags e) (names (h.opened + 1)) k.0
-          (reads t (deeper (past_groups 1 (under (settled h.flags t) h))) k.1 e)
+          reads_all μ (over label.group t) h refl
+          (group_reads μ t h (names (h.opened + 1)) k.0
+          (reads t (deeper (past_groups 1 (under (settled h.flags t) h))) k.1 e).tree)
       reads (over (label.look_around l) t) h k e =
           let i = deeper (under (settled h.flags t) h) in
-          look_reads μ t h (same_mode μ f mode h.flags e) l (reads t i k e) (reads t (deeper i) k e)
+          reads_all μ (over (label.look_around l) t) h refl
+          (look_reads μ t h l (reads t i k e).tree (reads t (deeper i) k e).tree)
       reads (over label.define_group t) h k e =
-          define_reads μ t h (same_mode μ f mode h.flags e)
-          (reads t (deeper (under (settled h.flags t) h)) k e)
+          reads_all μ (over label.define_group t) h refl
+          (define_reads μ t h
+          (reads t (deeper (under (settled h.flags t) h)) k e).tree)
       reads (over label.atomic_group (over (label.repeat lo hi greedy) t)) h k e =
           let i = under (settled h.flags t) h in
-          possessive_reads μ t lo hi greedy k.2 k.3 h (same_mode μ f mode h.flags e)
+          possessive_reads μ t lo hi greedy k.2 k.3 h
+          (ordered f h.flags lo hi (ap (λ j. j.oniguruma_mode) e) k.4)
           (λ n. like_repeatable t h.flags f (ap (λ j. j.oniguruma_mode) e) ∙ k.1 n)
-          (reads t i k.0 e) (reads t (deeper i) k.0 e)
+          (reads t i k.0 e).operands (reads t (deeper i) k.0 e).operands
       reads (over label.atomic_group (leaf l)) h k e =
-          atomic_reads (leaf l) refl h (same_mode μ f mode h.flags e)
-          (reads (leaf l) (deeper (under (settled h.flags (leaf l)) h)) k e)
+          atomic_reads (leaf l) refl h
+          (reads (leaf l) (deeper (under (settled h.flags (leaf l)) h)) k e).tree
       reads (over label.atomic_group (row w ts)) h k e =
-          atomic_reads (row w ts) refl h (same_mode μ f mode h.flags e)
-          (reads (row w ts) (deeper (under (settled h.flags (row w ts)) h)) k e)
+          atomic_reads (row w ts) refl h
+          (reads (row w ts) (deeper (under (settled h.flags (row w ts)) h)) k e).tree
       reads (over label.atomic_group (over label.group t)) h k e =
-          atomic_reads (over label.group t) refl h (same_mode μ f mode h.flags e)
-          (reads (over label.group t) (deeper (under (settled h.flags t) h)) k e)
+          atomic_reads (over label.group t) refl h
+          (reads (over label.group t) (deeper (under (settled h.flags t) h)) k e).tree
       reads (over label.atomic_group (over (label.look_around l) t)) h k e =
-          atomic_reads (over (label.look_around l) t) refl h (same_mode μ f mode h.flags e)
-          (reads (over (label.look_around l) t) (deeper (under (settled h.flags t) h)) k e)
+          atomic_reads (over (label.look_around l) t) refl h
+          (reads (over (label.look_around l) t) (deeper (under (settled h.flags t) h)) k e).tree
       reads (over label.atomic_group (over label.define_group t)) h k e =
-          atomic_reads (over label.define_group t) refl h (same_mode μ f mode h.flags e)
-          (reads (over label.define_group t) (deeper (under (settled h.flags t) h)) k e)
+          atomic_reads (over label.define_group t) refl h
+          (reads (over label.define_group t) (deeper (under (settled h.flags t) h)) k e).tree
       reads (over label.atomic_group (over label.atomic_group t)) h k e =
-          atomic_reads (over label.atomic_group t) refl h (same_mode μ f mode h.flags e)
-          (reads (over label.atomic_group t) (deeper (under (settled h.flags t) h)) k e)
+          atomic_reads (over label.atomic_group t) refl h
+          (reads (over label.atomic_group t) (deeper (under (settled h.flags t) h)) k e).tree
       reads (over label.atomic_group (over label.repeater t)) h k e =
-          atomic_reads (over label.repeater t) refl h (same_mode μ f mode h.flags e)
-          (reads (over label.repeater t) (deeper (under (settled h.flags t) h)) k e)
+          atomic_reads (over label.repeater t) refl h
+          (reads (over label.repeater t) (deeper (under (settled h.flags t) h)) k e).tree
       reads (over label.atomic_group (over label.stopper t)) h k e =
-          atomic_reads (over label.stopper t) refl h (same_mode μ f mode h.flags e)
-          (reads (over label.stopper t) (deeper (under (settled h.flags t) h)) k e)
+          atomic_reads (over label.stopper t) refl h
+          (reads (over label.stopper t) (deeper (under (settled h.flags t) h)) k e).tree
       reads (over label.atomic_group (over (label.ast_group name place) t)) h k e = absurd k
       reads (over label.repeater t) h k e =
-          repeater_reads μ h (same_mode μ f mode h.flags e) t
-          (reads t (deeper (under (settled h.flags t) h)) k e)
+          reads_all μ (over label.repeater t) h refl
+          (repeater_reads μ h t
+          (reads t (deeper (under (settled h.flags t) h)) k e).tree)
       reads (over label.stopper t) h k e =
-          stopper_reads μ h (same_mode μ f mode h.flags e) t k.1
-          (reads t (deeper (under (settled h.flags t) h)) k.0 e)
+          reads_all μ (over label.stopper t) h refl
+          (stopper_reads μ h t k.1
+          (reads t (deeper (under (settled h.flags t) h)) k.0 e).tree)
       reads (row label.expression (more_trees a (more_trees b no_trees))) h k e =
           let i = deeper (under (settled h.flags (row label.expression (more_trees a (more_trees b no_trees)))) h) in
           let next = like_behind a BranchAlone f i.flags e in
-          expression_reads μ h (same_mode μ f mode h.flags e) a b
-          (ap (λ j. j.ignore_space) next ∙ sym (ap (λ j. j.ignore_space) e)) (reads a i k.0 e)
-          (reads b (behind a BranchAlone i) k.1 next)
+          reads_all μ (row label.expression (more_trees a (more_trees b no_trees))) h refl
+          (expression_reads μ h a b
+          (ap (λ j. j.ignore_space) next ∙ sym (ap (λ j. j.ignore_space) e)) (reads a i k.0 e).tree
+          (reads b (behind a BranchAlone i) k.1 next).tree)
       reads (row label.expression no_trees) h k e = absurd k
       reads (row label.expression (more_trees a no_trees)) h k e = absurd k
       reads (row label.expression (more_trees a (more_trees b (more_trees c ts)))) h k e = absurd k
       reads (over (label.ast_group name place) t) h k e = absurd k
       reads (row label.concat (more_trees t (more_trees u us))) h k e =
-          concat_reads μ f mode t u us h (each_piece (more_trees t (more_trees u us)) h.opened k) e
+          reads_all μ (row label.concat (more_trees t (more_trees u us))) h refl
+          (concat_reads μ f t u us h (each_piece (more_trees t (more_trees u us)) h.opened k) e)
       reads (row label.alt (more_trees t (more_trees u us))) h k e =
-          alt_reads μ f mode t u us h (each_branch (more_trees t (more_trees u us)) h.opened k) e
+          reads_all μ (row label.alt (more_trees t (more_trees u us))) h refl
+          (alt_reads μ f t u us h (each_branch (more_trees t (more_trees u us)) h.opened k) e)
       reads (row label.concat no_trees) h k e = absurd k
       reads (row label.concat (more_trees t no_trees)) h k e = absurd k
       reads (row label.alt no_trees) h k e = absurd k
@@ -147,27 +169,26 @@ module _ (μ : Marks) where
           let i = under (settled h.flags x) h in
           let j = behind c Whole (deeper i) in
           let next = like_behind c Whole f i.flags e in
-          conditional_reads μ h (same_mode μ f mode h.flags e) c t b k.3
-          (before_of μ f numbered c i k.0 (same_mode μ f mode h.flags e) (reads c (deeper i) k.0 e))
-          (reads t j k.1 next)
-          (reads b (behind t BranchAlone j) k.2 (like_behind t BranchAlone f j.flags next))
-          (same_mode μ f mode j.flags next)
+          reads_all μ (row label.conditional (more_trees c (more_trees t (more_trees b no_trees)))) h refl
+          (conditional_reads μ h c t b k.3
+          (before_of μ f numbered c i k.0 (reads c (deeper i) k.0 e).tree)
+          (reads t j k.1 next).tree
+          (reads b (behind t BranchAlone j) k.2 (like_behind t BranchAlone f j.flags next)).tree)
       reads (row label.conditional ts) h k e = absurd k
 
-      each_piece : (ts : Trees) (c : ℕ) → ArePieces f μ c ts → EachPiece μ f mode c ts
+      each_piece : (ts : Trees) (c : ℕ) → ArePieces f μ c ts → EachPiece μ f c ts
       each_piece no_trees c k = tt
       each_piece (more_trees t ts) c k = (
-        (λ h o e. reads t h (subst (λ n. AreNodesWritable f μ n t)
-            (sym o) k.0) e),
+        (λ h o e. (reads t h (subst (λ n. AreNodesWritable f μ n t) (sym o) k.0) e).tree),
         k.1,
-        (λ y h e d. leads_past μ f c t k.0 y h (same_mode μ f mode h.flags e) d),
+        (λ y h e d. leads_past μ f c t k.0 y h d),
         each_piece ts _ k.2,
       )
 
-      each_branch : (ts : Trees) (c : ℕ) → AreAllWritable f μ c ts → EachBranch μ f mode c ts
+      each_branch : (ts : Trees) (c : ℕ) → AreAllWritable f μ c ts → EachBranch μ f c ts
       each_branch no_trees c k = tt
       each_branch (more_trees t ts) c k =
-          ((λ h o e. reads t h (subst (λ n. AreNodesWritable f μ n t) (sym o) k.0) e), each_branch ts _ k.1)
+          ((λ h o e. (reads t h (subst (λ n. AreNodesWritable f μ n t) (sym o) k.0) e).tree), each_branch ts _ k.1)
 
 -- ---- the marks of a tree
 
@@ -360,11 +381,12 @@ reads_back f t μ w =
     (sym total) (all_numbers (openings_told μ 0 (group_count t)) _)) in
     let numbered = λ (k : ℕ). found (λ (e : Named). e.1 ≡ numbers_told μ e.0)
     (λ e. list_any (λ n. n == k) e.1) μ.named_groups entries in
-    let r = reads μ f w.mode names numbered t (under g h) w.nodes refl in
+    let r = (reads μ f names numbered t (under g h) w.nodes refl).tree in
     let s = written μ t Whole (under g h) in
     let after = flags_behind t Whole g in
     let here = subst (λ u. WholeAt μ (under g h) u after [] t) (append-nil s)
     (r.whole w.fits [] (ends_nothing f.ignore_space)) in
-    let clear = subst (Clear f.ignore_space) (append-nil s) (r.whole_clear w.fits [] (ends_nothing f.ignore_space).stops.clear) in
-    let all = whole_behind_setting μ h g.casei g.multi g.dotnl g.crlf s [] after t w.mode clear (λ _. omega arith) here in
+    let clear = subst (Clear f.ignore_space) (append-nil s)
+    (r.whole_clear w.fits [] (ends_nothing f.ignore_space).stops.clear) in
+    let all = whole_behind_setting μ h g.casei g.multi g.dotnl g.crlf s [] after t clear (λ _. omega arith) here in
     from_whole μ f after (setting f g ++ s) t w.marks all
