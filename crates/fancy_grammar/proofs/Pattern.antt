@@ -39,6 +39,7 @@ pub mod Nested
 pub mod NestedQuantifiers
 pub mod NestedGroups
 pub mod ReadFits
+pub mod Levels
 -- ---- the theorem
 pub mod Marked
 pub mod Theorem

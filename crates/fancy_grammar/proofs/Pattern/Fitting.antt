@@ -36,7 +36,7 @@ parens_fit : (b : Bool) (inside : Precedence → Here → Type 0) (p : Precedenc
 parens_fit true inside p h d x y = (d, x)
 parens_fit false inside p h d x y = y
 
-scope_fits : (b : Bool) (t : Tree) (inside : Here → Type 0) (h : Here) → MayOpen h → inside h →
+pub scope_fits : (b : Bool) (t : Tree) (inside : Here → Type 0) (h : Here) → MayOpen h → inside h →
     inside (deeper (under (settled h.flags t) h)) → FitsInScopeUnless b t inside h
 scope_fits true t inside h d x y = x
 scope_fits false t inside h d x y = (d, y)

@@ -34,7 +34,7 @@ use Rattle.fancy_grammar.proofs.Pattern.Nested.{Grouped, fewer, counted_in, open
 use Rattle.fancy_grammar.proofs.Pattern.Nested.{choice_fitted}
 use Rattle.fancy_grammar.proofs.Pattern.Suited.{none_met, Suits, SuitAll}
 
-as_condition : (c : Tree) (F : Type 0) → F → FitsAsCondition c F
+pub as_condition : (c : Tree) (F : Type 0) → F → FitsAsCondition c F
 as_condition (leaf (label.backref_exists n level)) F k = tt
 as_condition (leaf (label.verb v)) F k = tt
 as_condition c F k = k
