@@ -49,7 +49,7 @@ use Rattle.fancy_syntax.specs.declared.grammar.frame.Frame.{Frame}
 use Rattle.fancy_syntax.specs.declared.grammar.step.Step.{Step}
 use Rattle.fancy_syntax.specs.declared.grammar.step.Step.TheVariants as step
 use Rattle.fancy_lex.proofs.TextLemmas.{strip_is}
-use Rattle.fancy_grammar.proofs.OutcomeLemmas.{IsErrorAmong-map, before-nil, before-push, more_any, next_any}
+use Rattle.fancy_grammar.proofs.OutcomeLemmas.{IsErrorAmong-map, before-nil, before-push}
 use Rattle.fancy_grammar.proofs.OutcomeLemmas.{trees_before, solid-append, piece_as}
 use Rattle.fancy_grammar.proofs.ReadLaws.{piece_read}
 use Rattle.fancy_grammar.proofs.Slices.{here, on, strip_slice}

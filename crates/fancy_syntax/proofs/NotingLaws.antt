@@ -1,9 +1,9 @@
 -- What a derivation notes shows its spans, part by part.
-use Rattle.std.proofs.Common.{◌≡◌, ℕ, suc, ◌+◌, ◌-◌, ◌==◌, Bool, true, false, ◌&&◌, ◌||◌, not, if◌then◌else◌, List, []}
-use Rattle.std.proofs.Common.{◌∷◌, ◌++◌, length, take, Option, Some, None, refl, sym, ap, ◌∙◌, subst, arith, append-nil}
+use Rattle.std.proofs.Common.{◌≡◌, ℕ, suc, ◌+◌, ◌-◌, ◌==◌, Bool, true, false, ◌&&◌, not, if◌then◌else◌, List, []}
+use Rattle.std.proofs.Common.{◌∷◌, ◌++◌, length, Some, None, refl, sym, ap, ◌∙◌, subst, arith, append-nil}
 use Rattle.std.proofs.Common.{length-append, append_assoc, nat_lt}
 use Rattle.std.specs.Prelude.{remove}
-use Rattle.std.specs.List.{slice_get, slice_index_or}
+use Rattle.std.specs.List.{slice_get}
 use Rattle.std.proofs.lemmas.Bool.{cond_both}
 use Rattle.std.proofs.lemmas.Bool.Decides.{nat_tests}
 use Rattle.std.proofs.lemmas.List.{length_push}
@@ -31,13 +31,13 @@ use Rattle.fancy_grammar.specs.Spans.{body_parts, conditional_spans, condition_s
 use Rattle.fancy_grammar.specs.Spans.{alternation_spans, branches_spans, branch_spans, pieces_spans, piece_spans}
 use Rattle.fancy_grammar.specs.Spans.{atom_spans, atom_of_spans, inside_spans, body_spans}
 use Rattle.fancy_grammar.specs.State.{State, at, Outcome, done, fault, and_then, seen_through}
-use Rattle.fancy_grammar.specs.Tree.{Tree, leaf, over, row, Trees, more_trees, trees_of, list_of, alt, concat, empty}
+use Rattle.fancy_grammar.specs.Tree.{Tree, leaf, over, row, Trees, trees_of, list_of, alt, concat, empty}
 use Rattle.fancy_grammar.specs.Tree.{expression, conditional}
 use Rattle.fancy_grammar.proofs.AheadLaws.{IsLeaf, AheadReads, ahead_reads}
 use Rattle.fancy_grammar.proofs.OutcomeLemmas.{Holds, then_holds, behind_keeps}
 use Rattle.fancy_grammar.proofs.Slices.{Reads}
 use Rattle.fancy_grammar.proofs.SpansCondition.{ConditionStands, condition_stands}
-use Rattle.fancy_grammar.proofs.SpansLemmas.{Stands, leaf_at, over_at, inside_at, row_at, alt_at, leaf_stands}
+use Rattle.fancy_grammar.proofs.SpansLemmas.{Stands, row_at, leaf_stands}
 use Rattle.fancy_grammar.proofs.TreeLaws.{list_back}
 use Rattle.fancy_syntax.specs.Log.{Log, plain, put, reaches, shown, started, leaf_noted, left_out, opened, part_begun}
 use Rattle.fancy_syntax.specs.Log.{body_opened, branch_begun, branch_ended, choice_ended, body_split, branch_lacked}

@@ -1,17 +1,14 @@
 -- What is noted of a text shows the spans of its derivation.
 use Rattle.std.proofs.Common.{◌≡◌, ℕ, zero, suc, ◌+◌, ◌-◌, min, Bool, true, false, ◌||◌, ◌&&◌, if◌then◌else◌, List, []}
-use Rattle.std.proofs.Common.{◌∷◌, ◌++◌, length, take, Option, Some, None, refl, sym, ap, ◌∙◌, subst, arith, append-nil}
-use Rattle.std.proofs.Common.{length-append, append_assoc, nat_lt}
+use Rattle.std.proofs.Common.{◌∷◌, ◌++◌, length, Option, Some, None, refl, sym, ap, ◌∙◌, arith, append-nil}
+use Rattle.std.proofs.Common.{length-append, nat_lt}
 use Rattle.std.specs.Prelude.{insert}
 use Rattle.std.specs.Option.{option_and_then}
 use Rattle.std.proofs.lemmas.Bool.{cond_both}
-use Rattle.std.proofs.lemmas.List.{length_push}
 use Rattle.std.proofs.lemmas.List.Edits.{insert-append_right}
-use Rattle.std.proofs.Math.Seq.{take-append_seam, get_or-append_seam}
-use Rattle.std.specs.List.{slice_index_or}
 use Rattle.fancy_lex.specs.LayoutSteps.{Skipped, rest, rest_of, fault as open_comment}
 use Rattle.fancy_lex.specs.Reading.{choose}
-use Rattle.fancy_lex.specs.Text.{Text, bytes, reach_of}
+use Rattle.fancy_lex.specs.Text.{Text, bytes}
 use Rattle.fancy_lex.specs.FaultTable.{not_repeatable, quantifier_too_deep}
 use Rattle.fancy_lex.specs.declared.flags.Flags.{Flags}
 use Rattle.fancy_parts.specs.Quantifier.{counts}
@@ -20,7 +17,7 @@ use Rattle.fancy_grammar.specs.Depth.{max_depth}
 use Rattle.fancy_grammar.specs.Label as label
 use Rattle.fancy_grammar.specs.Quantified.{quants, adjacent, max_adjacent, is_unmoved, quant, quant_at, with_counts}
 use Rattle.fancy_grammar.specs.Quantified.{suffix, is_swapped, quantified, is_repeatable, is_dropped, is_greedy, Suffix}
-use Rattle.fancy_grammar.specs.Spans.{Span, Spans, node, Forest, no_spans, more_spans, behind_bar, alone, around}
+use Rattle.fancy_grammar.specs.Spans.{Span, Spans, node, Forest, no_spans, more_spans, behind_bar, around}
 use Rattle.fancy_grammar.specs.Spans.{in_preorder, all_in_preorder, if_done, under, quantifier_end, counted, quant_spans}
 use Rattle.fancy_grammar.specs.Spans.{adjacent_spans, quants_spans}
 use Rattle.fancy_grammar.specs.State.{skipped, State, at, Outcome, done, fault, faulted, and_then, seen_through}

@@ -1,6 +1,5 @@
 -- A plain character is a piece that is noted as a leaf, and so is an escape of one character.
 use Rattle.std.proofs.Common.{◌≡◌, ℕ, Bool, true, false, [], ◌∷◌, refl, sym, ap, ◌∙◌, subst, if◌then◌else◌}
-use Rattle.std.specs.Option.{option_and_then}
 use Rattle.fancy_lex.specs.Characters.{backslash}
 use Rattle.fancy_lex.specs.Escape.{escape}
 use Rattle.fancy_lex.specs.Escaped.{Escape}
@@ -14,7 +13,7 @@ use Rattle.fancy_grammar.specs.Join.{is_empty}
 use Rattle.fancy_grammar.specs.Plain.{is_special, is_suffix}
 use Rattle.fancy_grammar.specs.Quantified.{quant, quants, max_adjacent}
 use Rattle.fancy_grammar.specs.Spans.{if_done}
-use Rattle.fancy_grammar.specs.State.{ends, State, at, Outcome, done}
+use Rattle.fancy_grammar.specs.State.{ends, State, at, done}
 use Rattle.fancy_grammar.specs.Tree.{Tree, literal}
 use Rattle.fancy_grammar.proofs.PlainLemmas.{unmoved, not_open, not_paren, no_layout, no_end, is_leaf, no_counts}
 use Rattle.fancy_grammar.proofs.PlainLemmas.{no_quant, no_layout_at_end, no_counts_at_end, no_quant_at_end, unquantified}

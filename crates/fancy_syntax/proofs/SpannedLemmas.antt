@@ -1,6 +1,6 @@
 -- How many nodes each node has, and which of the spans its children have.
-use Rattle.std.proofs.Common.{◌≡◌, ℕ, zero, suc, ◌+◌, ◌-◌, ◌<◌, ◌≤◌, List, [], ◌∷◌, ◌++◌, length, take, drop, map, min, refl, ap}
-use Rattle.std.proofs.Common.{sym, ◌∙◌, subst, arith, append_assoc, append-nil, length-append, length-take, length-drop}
+use Rattle.std.proofs.Common.{◌≡◌, ℕ, suc, ◌-◌, List, [], ◌∷◌, ◌++◌, length, take, drop, map, min, refl, ap}
+use Rattle.std.proofs.Common.{sym, ◌∙◌, arith, append_assoc, append-nil, length-append, length-take, length-drop}
 use Rattle.std.proofs.Math.ListN.{set}
 use Rattle.std.proofs.Math.Seq.{take-append_seam, drop-append_seam}
 use Rattle.std.proofs.lemmas.List.{take-append-drop}
@@ -9,7 +9,6 @@ use Rattle.fancy_grammar.specs.Answered.{IsAnswered, IsAnsweredNode}
 use Rattle.fancy_grammar.specs.Label as label
 use Rattle.fancy_grammar.specs.Preorder.{preorder, preorder_all}
 use Rattle.fancy_grammar.specs.Tree.{Tree, leaf, over, row, Trees, no_trees, more_trees, list_of, children}
-use Rattle.fancy_syntax.specs.Children.{children_of}
 use Rattle.fancy_syntax.specs.Spanned.{Spanned, IsWhole, sizes, sizes_all, first_size, side_by_side}
 use Rattle.fancy_syntax.specs.View.{view, views}
 use Rattle.fancy_syntax.specs.declared.expr.Expr.{Expr}

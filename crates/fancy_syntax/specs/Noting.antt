@@ -1,11 +1,10 @@
 -- What is noted of the places of nodes once a text is read: the events of the log in the order of the derivation.
-use Rattle.std.specs.Prelude.{◌≡◌, ℕ, zero, suc, ◌+◌, Bool, true, false, ◌||◌, ◌&&◌, List, [], ◌∷◌, length, Option, None}
+use Rattle.std.specs.Prelude.{◌≡◌, ℕ, zero, suc, true, false, ◌||◌, ◌&&◌, List, ◌∷◌, length, None}
 use Rattle.std.specs.Prelude.{if◌then◌else◌}
 use Rattle.std.specs.Option.{option_and_then}
 use Rattle.fancy_lex.specs.LayoutSteps.{Skipped, rest, fault as open_comment, past_layout}
 use Rattle.fancy_lex.specs.Reading.{choose}
 use Rattle.fancy_lex.specs.Text.{Text, bytes, reach_of}
-use Rattle.fancy_lex.specs.declared.flags.Flags.{Flags}
 use Rattle.fancy_parts.specs.Quantifier.{counts}
 use Rattle.fancy_parts.specs.declared.counts.Counts.{Counts}
 use Rattle.fancy_grammar.specs.Ahead.{Ahead, nothing, read, with_head, condition, body, absent_branch, ahead}
@@ -15,7 +14,7 @@ use Rattle.fancy_grammar.specs.Grammar.{a_nothing, a_read, a_group, a_condition,
 use Rattle.fancy_grammar.specs.Grammar.{one_branch, absent_fault, Inside, inside, Body, the_body, branches_of}
 use Rattle.fancy_grammar.specs.Head.{Head, capture, scope}
 use Rattle.fancy_grammar.specs.Join.{is_empty, solid}
-use Rattle.fancy_grammar.specs.Quantified.{quant, suffix, Suffix, is_repeatable, is_swapped, is_unmoved, max_adjacent}
+use Rattle.fancy_grammar.specs.Quantified.{quant, suffix, is_repeatable, is_swapped, is_unmoved, max_adjacent}
 use Rattle.fancy_grammar.specs.Spans.{end_of, if_done, quantifier_end}
 use Rattle.fancy_grammar.specs.State.{State, at, skipped, Outcome, done}
 use Rattle.fancy_grammar.specs.Tree.{Tree, alt, list_of, empty}

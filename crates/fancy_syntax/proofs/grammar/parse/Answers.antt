@@ -1,7 +1,6 @@
 use Rattle.std.proofs.Common.{ap, subst}
 use Rattle.std.proofs.lemmas.Result.{err_from_is_err_and}
 use Rattle.std.specs.Str.{chars}
-use Rattle.fancy_lex.specs.Text.{reach_of}
 use Rattle.fancy_grammar.specs.Grammar.{Alternation, Whole, whole, start, ended_at}
 use Rattle.fancy_grammar.specs.State.{done}
 use Rattle.fancy_syntax.specs.Log.{Log}

@@ -1,4 +1,4 @@
-use Rattle.std.proofs.Common.{◌≡◌, Ok, chars, subst}
+use Rattle.std.proofs.Common.{◌≡◌, Ok, chars}
 use Rattle.std.proofs.lemmas.Result.{err_from_is_err_and}
 use Rattle.fancy_grammar.specs.Ahead.{ahead, read}
 use Rattle.fancy_grammar.specs.Grammar.{Piece, piece, atom, a_read}
