@@ -1,9 +1,8 @@
 -- Pieces of branches, one by one.
-use Rattle.std.proofs.Common.{◌≡◌, ℕ, suc, Vec, Global, ◌+◌, ◌<◌, ◌≤◌, ◌&&◌, true, false, List, [], ◌∷◌, length, drop, get_or}
-use Rattle.std.proofs.Common.{sym, ap, ◌∙◌, drop-cons, add-one, arith}
+use Rattle.std.proofs.Common.{◌≡◌, ℕ, suc, Vec, Global, ◌+◌, ◌<◌, ◌≤◌, ◌&&◌, true, false, List, ◌∷◌, length, drop, get_or}
+use Rattle.std.proofs.Common.{sym, ap, ◌∙◌, drop-cons, add-one}
 use Rattle.std.proofs.lemmas.List.{drop_all, nil_from_length}
 use Rattle.fancy_syntax.specs.View.{view, views}
-use Rattle.fancy_grammar.specs.Tree.{concat, trees_of}
 use Rattle.fancy_syntax.proofs.ChildrenLemmas.{view_Concat, list_of_trees_of}
 use Rattle.fancy_syntax.specs.declared.expr.Expr.{Expr, Concat}
 use Rattle.patterns_program.specs.Branches.{pieces, covers, begins_with}

@@ -1,7 +1,7 @@
 -- Nodes that are as they were read, and absent forms, by their cases.
 use Rattle.std.proofs.Common.{◌≡◌, ℕ, Bool, true, false, List, Option, rules, ◌∙◌, refl, ap, sym}
 use Rattle.fancy_grammar.specs.Label.{AstReference}
-use Rattle.fancy_grammar.specs.Tree.{Tree, ast_node, ast_group, repeater, expression, stopper, clear}
+use Rattle.fancy_grammar.specs.Tree.{Tree, ast_node, ast_group}
 use Rattle.fancy_syntax.specs.View.{view, view_absent, view_ast, absent_step, ast_step, expr_step}
 use Rattle.fancy_syntax.specs.declared.expr.Absent.{Absent, out-Absent, map-Absent, fold_out-Absent}
 use Rattle.fancy_syntax.specs.declared.expr.Absent.TheOpen.{Absent-F, AstNode-F, Expr-F}

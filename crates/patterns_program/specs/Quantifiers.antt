@@ -1,5 +1,5 @@
 -- Quantifiers that are surely not meant.
-use Rattle.std.specs.Prelude.{ℕ, Bool, true, false, ◌&&◌, ◌==◌, not, if◌then◌else◌, Option, Some, None}
+use Rattle.std.specs.Prelude.{ℕ, Bool, false, ◌&&◌, ◌==◌, not, if◌then◌else◌, Option, Some, None}
 use Rattle.fancy_grammar.specs.Tree.{Tree, repeat}
 use Rattle.patterns_program.specs.declared.lint.problem.Problem.{Problem}
 use Rattle.patterns_program.specs.declared.lint.problem.Problem.TheVariants as problem

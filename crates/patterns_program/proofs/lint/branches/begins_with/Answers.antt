@@ -1,4 +1,4 @@
-use Rattle.std.proofs.Common.{◌≡◌, ◌+◌, ◌&&◌, drop, sym, ap, ◌∙◌}
+use Rattle.std.proofs.Common.{◌+◌, ◌&&◌, drop, sym, ap, ◌∙◌}
 use Rattle.fancy_syntax.specs.View.{views}
 use Rattle.patterns_program.specs.Branches.{begins_with}
 use Rattle.patterns_program.proofs.BranchLemmas.{begins_next, begins_none, begins_end}

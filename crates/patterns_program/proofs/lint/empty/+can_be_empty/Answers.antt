@@ -1,6 +1,5 @@
-use Rattle.std.proofs.Common.{◌≡◌, ◌+◌, ◌&&◌, ◌||◌, sym, ap, ◌∙◌}
+use Rattle.std.proofs.Common.{◌+◌, ◌&&◌, ◌||◌, sym, ap, ◌∙◌}
 use Rattle.fancy_syntax.proofs.PrintLemmas.{left, left_step, left_end}
-use Rattle.fancy_syntax.specs.View.{view}
 use Rattle.patterns_program.specs.Empty.{all_can_match_empty, any_can_match_empty}
 use Rattle.patterns_program.proofs.lint.empty.+can_be_empty.Goals as goal
 

@@ -1,4 +1,4 @@
-use Rattle.std.proofs.Common.{◌≡◌, sym}
+use Rattle.std.proofs.Common.{sym}
 use Rattle.patterns_program.proofs.NodeLemmas.{not_call}
 use Rattle.patterns_program.proofs.lint.targets.is_unresolved_call.Goals as goal
 
