@@ -48,8 +48,8 @@ enum {
     FANCY_STATUS_OUT_OF_MEMORY = 3,    /* the pattern may be valid or not */
     FANCY_STATUS_BUFFER_TOO_SHORT = 4, /* no buffer was written; the size that is needed is set */
     FANCY_STATUS_NOT_PRINTABLE = 5,    /* of fancy_print: the pattern is valid, and its tree is not printable */
-    FANCY_STATUS_NO_PATTERN = 6        /* of fancy_pattern: the text for the tree does not parse back as that tree. No
-                                          pattern is known for which this happens */
+    FANCY_STATUS_NO_PATTERN = 6        /* of fancy_pattern: the text for the tree does not parse back as that tree. By
+                                          what is proved of the library, this does not happen */
 };
 
 /* Kinds of errors. */

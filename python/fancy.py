@@ -670,8 +670,8 @@ def check(pattern: Pattern, flags: int = UNICODE) -> Optional[Error]:
 def format(pattern: Pattern, flags: int = UNICODE) -> str:
     """Returns a pattern that is parsed, under the same flags, as the same tree with the same groups and names. Comments,
     ignored whitespace, and the choice among several ways to write the same node are lost. Raises `Error` if the pattern
-    is invalid, and `RuntimeError` if the text for the tree does not parse back as it; no pattern is known for which this
-    happens."""
+    is invalid, and `RuntimeError` if the text for the tree does not parse back as it; by what is proved of the library,
+    this does not happen."""
     source = _Source(pattern, flags)
     status, text = source.text(
         lambda buffer, capacity: _library.fancy_pattern(*source.arguments, buffer, capacity)
