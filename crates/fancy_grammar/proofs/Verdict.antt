@@ -4,10 +4,11 @@ use Rattle.std.proofs.Common.{subst, chars, length, arith}
 use Rattle.std.specs.Str.{IsUtf8, IsCharBoundary, all_scalars}
 use Rattle.std.proofs.Math.Utf8.{encodes}
 use Rattle.std.proofs.lemmas.Str.{scalars-chars, chars-encodes}
+use Rattle.fancy_lex.proofs.LeaveLaws.{stands_within}
 use Rattle.fancy_lex.proofs.TextLemmas.{bytes_chars, cut_boundary}
 use Rattle.fancy_lex.specs.Fault.{Kind, Fault}
 use Rattle.fancy_lex.specs.ErrorViews.{kind_of, error_in}
-use Rattle.fancy_lex.specs.Text.{Text, EndsWith, as_told, begins, beyond, bytes, past_end, place_at}
+use Rattle.fancy_lex.specs.Text.{Text, EndsWith, as_told, begins, beyond, bytes, past_end, place_at, IsPositionOf}
 use Rattle.fancy_lex.specs.declared.error.ParseError.{ParseError as ErrorKind}
 use Rattle.fancy_lex.specs.declared.error.Error.TheVariants.{ParseError}
 use Rattle.fancy_lex.specs.declared.error.Failure.{Failure}
@@ -36,8 +37,8 @@ same_tree a b = let e = whole_unique a.1 b.1 in cc
 same_fault : {A : Type 0} {k j : Kind} {p q : ℕ} → ◌≡◌ {A = Outcome A} (fault k p) (fault j q) → (j ≡ k) × (q ≡ p)
 same_fault e = (cc, cc)
 
-apart : {f : Flags} {text : Text} {r : Tree} {k : Kind} {p : ℕ} → DerivesTree f text r → Faults f text k p → ⊥
-apart a (q, b, i) = let e = whole_unique a.1 b in cc
+apart : {f : Flags} {text : Text} {r : Tree} {k : Kind} (p : ℕ) → DerivesTree f text r → Faults f text k p → ⊥
+apart p a (q, b, i) = let e = whole_unique a.1 b in cc
 
 kind_in : Kind → Option Fault → Kind
 kind_in k None = k
@@ -60,8 +61,8 @@ only_tree f text t u m k (r, a, none, e, d) (q, b, none2, e2, d2) =
 
 pub no_fault : (f : Flags) (text : Text) (t : Tree) (m : Marks) (k : Kind) (p : ℕ) → IsTreeOf f text t m →
     IsFaultOf f text k p → ⊥
-no_fault f text t m k p (r, a, none, e, d) (of_reading b) = apart a b
-no_fault f text t m k p (r, a, none, e, d) (of_resolving {q} b some) =
+no_fault f text t m k p (r, a, none, e, d) (of_reading b) = apart p a b
+no_fault f text t m k p (r, a, none, e, d) (of_resolving {q} b some i) =
     let same = ap (fault_of f) (same_tree a b) in
     let both : ◌≡◌ {A = Option Fault} None (Some (record { reach = q; kind = k })) = sym none ∙ sym same ∙ some in
     absurd cc
@@ -74,6 +75,10 @@ only_read f text t m a = record { is = a; only = λ b h. other b h }
     other (read s k) h = let (e, d) = only_tree f text t s m k a h in ap₂ read e d
     other (refused k p) h = absurd (no_fault f text t m k p a h)
 
+-- a reach where the pattern may be cut, or one past its end, is that of a position
+at_position : (text : Text) (q : ℕ) → MayStand text q → IsPositionOf (bytes text) q (place_at (bytes text) q)
+at_position text q h = let small = stands_within {m = bytes text + 1} (omega arith) (omega arith) h in omega arith
+
 -- the one fault of a text that cannot be read
 pub only_reading : (e : Failure) (f : Flags) (text : Text) → IsErrorAmong e (Whole f text) →
     IsOnlyFault (error_in text e) f text
@@ -81,25 +86,35 @@ only_reading (At p k) f text a =
     (of_reading here, λ j q b. other j q b, λ t m b. no_fault f text t m (kind_of k) _ b (of_reading here))
   where
     here : Faults f text (kind_of k) (place_at (bytes text) p)
-    here = (p, a, refl)
+    here = (p, a, at_position text p (fault_stands a))
 
     other : (j : Kind) (q : ℕ) → IsFaultOf f text j q → (j ≡ kind_of k) × (q ≡ place_at (bytes text) p)
     other j q (of_reading (r, b, i)) =
-        let same = same_fault (whole_unique a b) in (same.0, i ∙ ap (place_at (bytes text)) same.1)
-    other j q (of_resolving b some) = absurd (apart b here)
+        let same = same_fault (whole_unique a b) in (same.0, omega (arith, i, same.1))
+    other j q (of_resolving b some i) = absurd (apart _ b here)
 only_reading OutOfMemory f text a = tt
+
+-- where the fault of a reference may stand
+resolving_stands : (f : Flags) (text : Text) (r : Tree) (k : Kind) (p : ℕ) → DerivesTree f text r →
+    fault_of f r ≡ Some (record { reach = p; kind = k }) → MayStand text p
+resolving_stands f text r k p a h =
+    fault_place (MayStand text) (only_named f (openings r)) (numbers_in f r) 0 (items r) (record { reach = p; kind = k })
+    (items_stand a.1) h
 
 -- the one fault of a text that is read, and cannot be resolved
 pub only_resolving : (e : Failure) (f : Flags) (text : Text) (r : Tree) → DerivesTree f text r →
     IsErrorIn e (fault_of f r) → IsOnlyFault (error_in text e) f text
 only_resolving (At p k) f text r a h =
-    (of_resolving a h, λ j q b. other j q b, λ t m b. no_fault f text t m (kind_of k) _ b (of_resolving a h))
+    (here, λ j q b. other j q b, λ t m b. no_fault f text t m (kind_of k) _ b here)
   where
+    here : IsFaultOf f text (kind_of k) (place_at (bytes text) p)
+    here = of_resolving a h (at_position text p (resolving_stands f text r (kind_of k) p a h))
+
     other : (j : Kind) (q : ℕ) → IsFaultOf f text j q → (j ≡ kind_of k) × (q ≡ place_at (bytes text) p)
-    other j q (of_reading b) = absurd (apart a b)
-    other j q (of_resolving b some) =
+    other j q (of_reading b) = absurd (apart q a b)
+    other j q (of_resolving b some i) =
         let same = same_first (sym h ∙ sym (ap (fault_of f) (same_tree a b)) ∙ some) in
-        (same.0, ap (place_at (bytes text)) same.1)
+        (same.0, omega (arith, i, same.1))
 only_resolving OutOfMemory f text r a h = tt
 
 -- ---- places
@@ -139,8 +154,5 @@ text_order f re r u a = subst (λ n. DescendingReaches (n + 2) 2 (items r)) (byt
 pub resolving_placed : (e : Failure) (f : Flags) (re : List ℕ) (r : Tree) → IsUtf8 re → DerivesTree f (chars re) r →
     IsErrorIn e (fault_of f r) → IsPlacedIn (error_in (chars re) e) re
 resolving_placed (At p k) f re r u a h =
-    placed k re p u
-    (fault_place (MayStand (chars re)) (only_named f (openings r)) (numbers_in f r) 0 (items r)
-    (record { reach = p; kind = kind_of k })
-    (items_stand a.1) h)
+    placed k re p u (resolving_stands f (chars re) r (kind_of k) p a h)
 resolving_placed OutOfMemory f re r u a h = tt

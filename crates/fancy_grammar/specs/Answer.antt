@@ -2,7 +2,7 @@
 use Rattle.std.specs.Prelude.{◌≡◌, ℕ, ◌+◌, ◌⊎◌, List, length, Some, None}
 use Rattle.std.specs.Str.{IsCharBoundary}
 use Rattle.fancy_lex.specs.Fault.{Kind}
-use Rattle.fancy_lex.specs.Text.{Text, bytes, place_at}
+use Rattle.fancy_lex.specs.Text.{Text, bytes, IsPositionOf}
 use Rattle.fancy_lex.specs.declared.error.Error.{Error}
 use Rattle.fancy_lex.specs.declared.flags.Flags.{Flags}
 use Rattle.fancy_grammar.specs.Errors.{IfFault}
@@ -20,8 +20,8 @@ IsTreeOf f text t m =
 -- the fault of the text: that of reading it, or, where the text derives, the first fault of its references
 pub data IsFaultOf : Flags → Text → Kind → ℕ → Type 0 where
   of_reading : {f text k p : _} → Faults f text k p → IsFaultOf f text k p
-  of_resolving : {f text k q r : _} → DerivesTree f text r → fault_of f r ≡ Some (record { reach = q; kind = k }) →
-      IsFaultOf f text k (place_at (bytes text) q)
+  of_resolving : {f text k p q r : _} → DerivesTree f text r → fault_of f r ≡ Some (record { reach = q; kind = k }) →
+      IsPositionOf (bytes text) q p → IsFaultOf f text k p
 
 -- memory ran out, or the text has this fault and no other, and no tree
 abbrev pub IsOnlyFault : Error → Flags → Text → Type 0

@@ -10,7 +10,7 @@ use Rattle.fancy_lex.specs.Fault.{Kind}
 use Rattle.fancy_lex.specs.FaultTable.{comment_not_closed, group_not_closed, bar_for_close_paren, close_paren_left_over}
 use Rattle.fancy_lex.specs.FaultTable.{body_wanting}
 use Rattle.fancy_lex.specs.LayoutSteps.{rest, fault as open_comment}
-use Rattle.fancy_lex.specs.Text.{Text, bytes, place_at, reach_of, strip}
+use Rattle.fancy_lex.specs.Text.{Text, bytes, IsPositionOf, reach_of, strip}
 use Rattle.fancy_lex.specs.declared.flags.Flags.{Flags}
 use Rattle.fancy_grammar.specs.Ahead.{Ahead, nothing, read, with_head, condition, body, absent_branch, ahead}
 use Rattle.fancy_grammar.specs.Head.{group_node}
@@ -156,6 +156,6 @@ pub data Whole : Flags → Text → Outcome Tree → Type 0 where
 abbrev pub DerivesTree : Flags → Text → Tree → Type 0
 DerivesTree f text r = (t : State) × Whole f text (done r t)
 
--- the reading of the text ends with this fault, at this place
+-- the reading of the text ends with this fault, at this position
 abbrev pub Faults : Flags → Text → Kind → ℕ → Type 0
-Faults f text k p = (q : ℕ) × Whole f text (fault k q) × (p ≡ place_at (bytes text) q)
+Faults f text k p = (q : ℕ) × Whole f text (fault k q) × IsPositionOf (bytes text) q p

@@ -34,6 +34,10 @@ past_end = 0
 abbrev pub place_at : ℕ → ℕ → ℕ
 place_at n reach = n + 1 - reach
 
+-- p is the position of this reach in a pattern of n bytes: the bytes before p and the reach are all of them, and one
+abbrev pub IsPositionOf : ℕ → ℕ → ℕ → Type 0
+IsPositionOf n reach p = p + reach ≡ n + 1
+
 -- what follows the character, if the text begins with it
 abbrev pub strip : ℕ → Text → Option Text
 strip mark [] = None

@@ -10,7 +10,7 @@ use Prim.Native.Char.{code}
 use Rattle.fancy_lex.specs.Fault.{Kind, recursion_exceeded}
 use Rattle.fancy_lex.specs.LayoutSteps.{layout, after_comment_head, rest}
 use Rattle.fancy_lex.specs.Reading.{gives, choose, layout_reading}
-use Rattle.fancy_lex.specs.Text.{Text, bytes, place_at, reach_of}
+use Rattle.fancy_lex.specs.Text.{Text, bytes, IsPositionOf, reach_of}
 use Rattle.fancy_lex.specs.declared.flags.Flags.{Flags}
 use Rattle.fancy_parts.specs.FlagLetters.{Letters, scope as scoped, flags_end, flags_go_on}
 use Rattle.fancy_parts.specs.LetterSteps.{letters, letters_in, step}
@@ -555,6 +555,6 @@ pub reads_text : (f : Flags) (s : Text) (x : Tree) → WholeAs 0 f s [] x →
     (r : Tree) × DerivesTree f s r × Becomes r x
 reads_text f s x w = (w.tree, (_, whole w.derives), w.becomes)
 
-pub fails_text : (f : Flags) (s : Text) (k : Kind) (q : ℕ) → Alternation 0 (st f s) (fault k q) →
-    Faults f s k (place_at (bytes s) q)
-fails_text f s k q w = (q, whole w, refl)
+pub fails_text : (f : Flags) (s : Text) (k : Kind) (p q : ℕ) → Alternation 0 (st f s) (fault k q) →
+    IsPositionOf (bytes s) q p → Faults f s k p
+fails_text f s k p q w at = (q, whole w, at)

@@ -1,7 +1,7 @@
 -- What is printed for a printable tree reads as its normal form, or is refused where it nests too deep: the text has no
 -- other answer.
 use Rattle.std.proofs.Common.{◌≡◌, ℕ, Bool, true, false, nat_lt, List, [], ◌∷◌, length}
-use Rattle.std.proofs.Common.{filter_map, map, Option, Some, None, refl, sym, ap, ap₂, ◌∙◌, subst}
+use Rattle.std.proofs.Common.{filter_map, map, Option, Some, None, refl, sym, ap, ap₂, ◌∙◌, subst, arith}
 use Rattle.std.specs.Prelude.{fold, chars, encode_utf8_all}
 use Rattle.std.specs.BTreeSet.{insert_key}
 use borrow.Author.Tests.{ltb-true, ltb-false}
@@ -81,7 +81,7 @@ only_refused f text p a = record { is = of_reading a; only = λ b h. other b h }
     other : (b : Answer) → IsAnswerOf f text b → b ≡ refused recursion_exceeded p
     other (read s k) h = absurd (no_fault f text s k recursion_exceeded p h (of_reading a))
     other (refused k q) h =
-        let (e, d) = (only_reading (At a.0 RecursionExceeded) f text a.1).1 k q h in ap₂ refused e (d ∙ sym a.2)
+        let (e, d) = (only_reading (At a.0 RecursionExceeded) f text a.1).1 k q h in ap₂ refused e (omega (arith, d, a.2))
 
 only_answer : (t : Tree) (p : ℕ) (u : Bool) → printable t ≡ true →
     IsOnlyAnswer (unicode_flags u) (printed t p) (read_back u t p)

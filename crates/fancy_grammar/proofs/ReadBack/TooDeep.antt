@@ -4,7 +4,7 @@ use Rattle.std.proofs.Common.{◌∷◌, ◌++◌, refl, sym, ap, ◌∙◌, sub
 use Rattle.std.proofs.lemmas.Bool.{cond_both}
 use Prim.Native.Char.{code}
 use Rattle.fancy_lex.specs.Fault.{recursion_exceeded}
-use Rattle.fancy_lex.specs.Text.{Text, bytes, place_at, reach_of}
+use Rattle.fancy_lex.specs.Text.{Text, bytes, IsPositionOf, reach_of}
 use Rattle.fancy_lex.specs.declared.escape.Assertion.{Assertion}
 use Rattle.fancy_lex.specs.declared.escape.Assertion.TheVariants.{StartLine, StartLineOniguruma, EndLine}
 use Rattle.fancy_parts.specs.Quote.{quantifier}
@@ -393,17 +393,14 @@ place_high t p h = refl
 abbrev DeepFrom : Bool → Text → ℕ → Type 0
 DeepFrom u s p = Faults (unicode_flags u) s recursion_exceeded p
 
-from_whole : (u : Bool) (s : Text) (q : ℕ) →
-    Alternation 0 (st (unicode_flags u) s) (fault recursion_exceeded q) → DeepFrom u s (place_at (bytes s) q)
-from_whole u s q w = fails_text (unicode_flags u) s recursion_exceeded q w
-
 at_level : (t : Tree) (p : ℕ) (u : Bool) → max_depth ≤ nest t p → FailsWhole u (put t p) (nest t p) (left t p) →
     DeepFrom u (printed t p) (place t p 0)
 at_level t p u h w =
     let s = put t p [] in
-    let here : place_at (bytes s) (reach_of (left t p 0 [])) ≡ place t p 0 = omega (arith, left_bytes t p 0 []) in
+    let at : IsPositionOf (bytes s) (reach_of (left t p 0 [])) (place t p 0) = omega (arith, left_bytes t p 0 []) in
     subst (λ x. DeepFrom u x (place t p 0)) (put_alone t p)
-    (subst (DeepFrom u s) here (from_whole u s _ (w 0 [] (omega arith) (omega arith) ends_nothing)))
+    (fails_text (unicode_flags u) s recursion_exceeded (place t p 0) _
+    (w 0 [] (omega arith) (omega arith) ends_nothing) at)
 
 -- where too many groups nest, the text fails at the first parenthesis that opens too deep
 pub deep_fails : (t : Tree) (p : ℕ) (u : Bool) → Printable t → max_depth ≤ nest t p →

@@ -1,5 +1,5 @@
 //! Word boundaries behind `\b` and `\B`.
-ghost use Rattle.std.specs.Prelude.{◌≡◌, ℕ, ◌+◌, ◌<◌, ◌≤◌, [], ◌∷◌, ◌++◌, true, length, chars, IfSome, IfErr, IfOk, MatchResult, option_map};
+ghost use Rattle.std.specs.Prelude.{◌≡◌, ℕ, ◌+◌, ◌<◌, ◌≤◌, Bool, ◌∷◌, length, chars, IfSome, IfErr, IfOk, MatchResult, option_map};
 ghost use Rattle.fancy_lex.specs.Boundary as spec;
 ghost use Rattle.fancy_lex.specs.BoundarySteps as steps;
 ghost use Rattle.fancy_lex.specs.Escaped.{Escape};
@@ -7,15 +7,16 @@ ghost use Rattle.fancy_lex.specs.EscapeViews.{escape_of};
 ghost use Rattle.fancy_lex.specs.Fault.{invalid_escape};
 ghost use Rattle.fancy_lex.specs.ErrorViews.{StandsWithin};
 ghost use Rattle.fancy_lex.specs.FaultTable.{boundary_head, boundary_not_closed};
-ghost use Rattle.fancy_lex.specs.Reading.{Reading, Answers, Reports, Derives, gives, fails, fault_at};
+ghost use Rattle.fancy_lex.specs.Reading.{Reading, Answers, CarriesText, Reports, Derives, gives, fails, fault_at, layout_reading};
 ghost use Rattle.fancy_lex.specs.BoundaryName as name_spec;
-ghost use Rattle.fancy_lex.specs.Text.{EndsWith, text_of};
+ghost use Rattle.fancy_lex.specs.LayoutSteps.{layout};
+ghost use Rattle.fancy_lex.specs.Text.{EndsWith, Text, text_of};
 
 use crate::error::{Failure, ParseError};
 use crate::escape::{Assertion, Escaped};
 use crate::flags::Flags;
 use crate::layout::{begins_layout, past_layout, skip};
-use crate::text::{after, append, next, push};
+use crate::text::{after, next, push};
 use std::alloc::Global;
 
 /// The boundary that has no name.
@@ -114,14 +115,50 @@ fn boundary_head(negated: bool) -> &'static str
     if negated { r"\B{" } else { r"\b{" }
 }
 
-/// Adds the character, where all before it was added. Whether it was.
-fn push_behind(out: &mut String, whole: bool, c: char) -> bool
-    ensures { result ≡ true → (whole ≡ true) × (text_of out.new ≡ text_of out.old ++ c ∷ []) }
+/// Reads the next character of a name in braces, after layout: the character and the text after it. It is an error if
+/// a comment in the layout is not closed, or if the text ends.
+fn next_in_name<'a>(
+    alloc: Global,
+    text: &'a str,
+    ignore_space: bool,
+    reach: usize,
+) -> Result<(char, &'a str), Failure>
+    ensures value { MatchResult result
+        (λ p. layout_reading (layout ignore_space (chars text.now)) ≡ gives tt (p.0 ∷ chars p.1.now))
+        (λ e. (k : ℕ) (out : Text) → 0 < k → Reports e (name_spec.name_fault_behind ignore_space reach out k (chars text.now))) }
+    ensures shorter { IfOk result (λ p. length p.1.now < length text.now) }
 {
-    whole && push(out, c).is_ok()
+    let name = skip(text, ignore_space)?;
+    match next(name) {
+        Some(read) => Ok(read),
+        None => Err(unclosed_fault(alloc, reach)),
+    }
 }
 
-/// Reads the name and its closing brace: the escape with layout taken out, for the fault that tells it.
+/// Looks for the closing brace of a name, and allocates nothing on the way there. So an error before the brace is found
+/// without memory for the name.
+fn find_closing_brace(
+    alloc: Global,
+    text: &str,
+    ignore_space: bool,
+    reach: usize,
+) -> Result<(), Failure>
+    ensures found { IfOk result (λ _. (negated : Bool) →
+        CarriesText (name_spec.name_fault ignore_space reach negated (chars text.now))) }
+    ensures error { IfErr result (λ e. (negated : Bool) →
+        Reports e (name_spec.name_fault ignore_space reach negated (chars text.now))) }
+{
+    let mut rest = text;
+    loop {
+        let (c, more) = next_in_name(alloc, rest, ignore_space, reach)?;
+        if c == '}' {
+            return Ok(());
+        }
+        rest = more;
+    }
+}
+
+/// The escape through its closing brace, with layout taken out: the text that the error of an unknown name carries.
 fn bare_escape(
     alloc: Global,
     text: &str,
@@ -129,27 +166,19 @@ fn bare_escape(
     ignore_space: bool,
     reach: usize,
 ) -> Result<String, Failure>
-    ensures value { let told = name_spec.name_fault ignore_space reach negated (chars text.now) in
-        MatchResult result (λ s. told ≡ fault_at reach (invalid_escape (text_of s))) (λ e. Reports e told) }
+    ensures value { let fault = name_spec.name_fault ignore_space reach negated (chars text.now) in
+        MatchResult result (λ s. fault ≡ fault_at reach (invalid_escape (text_of s))) (λ e. Reports e fault) }
 {
-    let mut out = String::new(alloc);
-    // A fault of the pattern comes first, so that where memory runs out the name is read on.
-    let mut whole = append(&mut out, boundary_head(negated)).is_ok();
+    find_closing_brace(alloc, text, ignore_space, reach)?;
+    let mut out = String::from_str(alloc, boundary_head(negated))?;
     let mut rest = text;
     loop {
-        let name = skip(rest, ignore_space)?;
-        let Some((c, behind)) = next(name) else {
-            return Err(unclosed_fault(alloc, reach));
-        };
-        whole = push_behind(&mut out, whole, c);
+        let (c, more) = next_in_name(alloc, rest, ignore_space, reach)?;
+        push(&mut out, c)?;
         if c == '}' {
-            return if whole {
-                Ok(out)
-            } else {
-                Err(Failure::OutOfMemory)
-            };
+            return Ok(out);
         }
-        rest = behind;
+        rest = more;
     }
 }
 

@@ -1,16 +1,15 @@
-use Rattle.std.proofs.Common.{◌≡◌, ◌<◌, ℕ, true, length, chars}
+use Rattle.std.proofs.Common.{◌≡◌, ◌<◌, ℕ, length, chars}
 use denote.Text.{Utf8}
 use denote.Shadow.{shadow}
 use Rattle.fancy_lex.specs.BoundaryName.{name_fault, name_fault_behind}
-use Rattle.fancy_lex.specs.Text.{Text, text_of}
+use Rattle.fancy_lex.specs.Text.{text_of}
 use Rattle.fancy_lex.proofs.escape.boundary.bare_escape.Given as goal
 
 abbrev pub invariant-loop-out : goal.invariant-loop-out
 invariant-loop-out l = record {
   text : shadow (Utf8 l.rest);
-  same : (k : ℕ) × (length (chars l.rest) < k) × (o : Text) × (l.whole ≡ true → o ≡ text_of l.out)
-      × (name_fault l.ignore_space l.reach l.negated (chars l.text) ≡ name_fault_behind l.ignore_space
-      l.reach o k (chars l.rest));
+  same : (k : ℕ) × (length (chars l.rest) < k) × (name_fault l.ignore_space l.reach l.negated (chars l.text) ≡
+      name_fault_behind l.ignore_space l.reach (text_of l.out) k (chars l.rest));
 }
 
 abbrev pub decreases-loop-out : goal.decreases-loop-out
