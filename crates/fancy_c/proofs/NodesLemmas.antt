@@ -1,16 +1,21 @@
 -- A tree and its marks in the buffers.
-use Rattle.std.proofs.Common.{◌≡◌, ℕ, ◌+◌, ◌≤◌, List, ◌++◌, length, drop, ap, ◌∙◌}
-use Rattle.std.proofs.Common.{get_or, min, length-append, zero-add, arith}
-use Rattle.std.proofs.Math.Nat.{min-le_right}
+use Rattle.std.proofs.Common.{◌≡◌, ℕ, zero, suc, ◌+◌, ◌≤◌, List, [], ◌∷◌, ◌++◌, length, drop, map, chars, ap, ◌∙◌}
+use Rattle.std.proofs.Common.{subst, length-append, zero-add, arith}
+use Rattle.std.specs.List.{AllByRecursion}
 use Rattle.fancy_lex.specs.declared.flags.Flags.{Flags}
 use Rattle.fancy_grammar.specs.Marks.{Marks}
 use Rattle.fancy_c.specs.Answer.{IsTreeOfBytes}
 use Rattle.fancy_grammar.specs.Label as label
+use Rattle.fancy_grammar.specs.Preorder.{preorder}
+use Rattle.fancy_grammar.specs.Spans as spec
+use Rattle.fancy_grammar.specs.Spans.{AreSpansOf, Nests}
 use Rattle.fancy_grammar.specs.Tree.{Tree, leaf, over, row, Trees, no_trees, more_trees, nodes, nodes_all}
 use Rattle.fancy_c.specs.Buffer.{Fills, put_at}
+use Rattle.fancy_grammar.proofs.SpansAnswer.{nests_within}
+use Rattle.fancy_syntax.specs.SpanViews.{span_of}
 use Rattle.fancy_syntax.specs.declared.span.Span.{Span}
-use Rattle.fancy_c.specs.Marks.{told, IsToldOf, AreSpansIn}
-use Rattle.fancy_c.specs.Node.{listed, listed_all, spans_in}
+use Rattle.fancy_c.specs.Marks.{told, IsToldOf, AreSpansOfBytes}
+use Rattle.fancy_c.specs.Node.{listed, listed_all, span_at}
 use Rattle.fancy_c.specs.declared.marks.TreeInfo.{TreeInfo}
 use Rattle.fancy_c.proofs.RowLemmas.{put_more}
 
@@ -44,10 +49,20 @@ told_of f bytes t m info tree is = record {
   few = omega (arith, tree.small.0, listed_nodes t, ap (λ k. k.node_count) is);
 }
 
--- the spans of a list lie in the pattern whose size they are cut to
-pub spans_inside : (n k : ℕ) (spans : List Span) → n ≡ k → AreSpansIn k (spans_in n spans)
-spans_inside n k spans is = λ i.
-    let s = get_or spans i (record { start = 0; end = 0 }) in
-    let low = min-le_right s.start (min s.end n) in
-    let high = min-le_right s.end n in
-    (low, omega (arith, high, is))
+-- a span of the list is within the bytes
+span_within : (n : ℕ) (l : List Span) → AllByRecursion (λ p. (0 ≤ p.start) × (p.start ≤ p.end) × (p.end ≤ n))
+    (map span_of l) → (i : ℕ) → ((span_at l i).start ≤ (span_at l i).end) × ((span_at l i).end ≤ n)
+span_within n [] e i = (omega arith, omega arith)
+span_within n (p ∷ l) e zero = (e.0.1, e.0.2)
+span_within n (p ∷ l) e (suc i) = span_within n l e.1 i
+
+pub spans_of_bytes : (f : Flags) (text bytes : List ℕ) (t : Tree) (l : List Span) → text ≡ bytes →
+    AreSpansOf f (chars text) (map span_of l) →
+    ((k : List spec.Span) → AreSpansOf f (chars text) k → k ≡ map span_of l) → length l ≡ length (preorder t) →
+    Nests 0 (length text) t (map span_of l) → AreSpansOfBytes f bytes t l
+spans_of_bytes f text bytes t l is spans only each nests = subst (λ b. AreSpansOfBytes f b t l) is (record {
+  spans_are = spans;
+  only = only;
+  each = each;
+  within = span_within (length text) l (nests_within nests).1;
+})

@@ -1,18 +1,21 @@
 -- The texts of trees.
 use Rattle.std.proofs.Common.{◌≡◌, ℕ, Result, Ok, Err, Option, None, Some, IfOk, IfSome, MatchOption, is_some, false}
-use Rattle.std.proofs.Common.{IfNone, chars, sym, ap, ◌∙◌}
+use Rattle.std.proofs.Common.{IfNone, ℕ, List, ◌<◌, ◌^◌, length, chars, sym, ap, ◌∙◌, subst}
 use Rattle.std.specs.Prelude.{String, encode_utf8_all, string_bytes}
 use Rattle.std.specs.declared.alloc.AllocError.{AllocError}
 use Rattle.std.specs.declared.alloc.Global.{Global}
+use Rattle.fancy_lex.proofs.TextLemmas.{bytes_chars}
 use Rattle.fancy_lex.specs.Text.{text_of}
 use Rattle.fancy_lex.specs.declared.flags.Flags.{Flags}
 use Rattle.fancy_grammar.specs.Marks.{Marks}
+use Rattle.fancy_grammar.specs.OfPattern.{IsOfPattern}
 use Rattle.fancy_grammar.specs.Pattern.{pattern_text}
 use Rattle.fancy_grammar.specs.Printable.{printable}
 use Rattle.fancy_grammar.specs.Printed.{printed}
 use Rattle.fancy_grammar.specs.ReadAs.{IsReadAs}
 use Rattle.fancy_grammar.specs.ReadBack.{IsReadBack}
 use Rattle.fancy_grammar.specs.Tree.{Tree}
+use Rattle.fancy_c.specs.Answer.{IsTreeOfBytes}
 use Rattle.fancy_c.specs.Text.{IsText, IsPatternText}
 use Rattle.fancy_c.proofs.NodeLemmas.{string_text}
 
@@ -28,9 +31,15 @@ text_told t p (Err e) is told reads = tt
 pub pattern_told : (f : Flags) (t : Tree) (m : Marks) (r : Result (Option (String Global)) AllocError) →
     IfOk r (λ o. IfSome o (λ s. text_of s ≡ pattern_text f t m)) →
     IfOk r (λ o. IfSome o (λ s. IsReadAs f (text_of s) t m)) →
-    IfOk r (λ o. IfNone o (IsReadAs f (pattern_text f t m) t m → ⊥)) →
-    IfOk r (λ o. MatchOption o (IsReadAs f (pattern_text f t m) t m → ⊥) (λ s. IsPatternText f t m (string_bytes s)))
+    IfOk r (λ o. IfNone o (IsOfPattern f t m → ⊥)) →
+    IfOk r (λ o. MatchOption o (IsOfPattern f t m → ⊥) (λ s. IsPatternText f t m (string_bytes s)))
 pattern_told f t m (Ok (Some s)) text reads none =
     record { is = sym (string_text s) ∙ ap encode_utf8_all text; reads_as = reads }
 pattern_told f t m (Ok None) text reads none = none
 pattern_told f t m (Err e) text reads none = tt
+
+-- a tree of bytes is one of a pattern, since no slice has 2 ^ 63 bytes or more
+pub of_pattern : (f : Flags) (bytes : List ℕ) (t : Tree) (m : Marks) → IsTreeOfBytes f bytes t m →
+    length bytes < 2 ^ 63 → IsOfPattern f t m
+of_pattern f bytes t m tree few =
+    (chars bytes, (tree.tree, subst (λ n. n < 2 ^ 63) (sym (bytes_chars bytes tree.utf8)) few))

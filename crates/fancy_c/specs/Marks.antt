@@ -1,14 +1,19 @@
 -- What is said of a tree beside it, as a caller in C gets it.
-use Rattle.std.specs.Prelude.{◌≡◌, ℕ, ◌+◌, ◌*◌, ◌≤◌, List, [], ◌∷◌, ◌++◌, length, map, encode_utf8_all}
+use Rattle.std.specs.Prelude.{◌≡◌, ℕ, ◌+◌, ◌*◌, ◌≤◌, List, [], ◌∷◌, ◌++◌, chars, length, map, encode_utf8_all}
 use Rattle.std.specs.Option.{unwrap_or, is_some}
 use Rattle.fancy_lex.specs.Text.{Text}
 use Rattle.fancy_lex.specs.declared.flags.Flags.{Flags}
 use Rattle.fancy_parts.specs.Room.{in_word}
 use Rattle.fancy_grammar.specs.Marks.{Marks}
+use Rattle.fancy_grammar.specs.Preorder.{preorder}
+use Rattle.fancy_grammar.specs.Spans as spec
+use Rattle.fancy_grammar.specs.Spans.{AreSpansOf}
 use Rattle.fancy_grammar.specs.Tree.{Tree}
+use Rattle.fancy_syntax.specs.SpanViews.{span_of}
+use Rattle.fancy_syntax.specs.declared.span.Span.{Span}
 use Rattle.fancy_c.specs.Answer.{IsTreeOfBytes}
 use Rattle.fancy_c.specs.Buffer.{Fills}
-use Rattle.fancy_c.specs.Node.{listed, rows, texts, SpanAt}
+use Rattle.fancy_c.specs.Node.{listed, rows, span_at, texts, SpanAt}
 use Rattle.fancy_c.specs.declared.marks.Name.{Name}
 use Rattle.fancy_c.specs.declared.node.Node.{Node}
 use Rattle.fancy_c.specs.declared.marks.TreeInfo.{TreeInfo}
@@ -57,9 +62,13 @@ pub record AreWritten (t : Tree) (m : Marks) (spans : SpanAt) (nodes nodes' : Li
   pub names_are : Fills names names' (name_rows (length (texts (listed t))) m.named_groups)
   pub backrefs_are : Fills backrefs backrefs' m.backrefs
 
--- each span lies in a pattern of n bytes
-abbrev pub AreSpansIn : ℕ → SpanAt → Type 0
-AreSpansIn n spans = (i : ℕ) → ((spans i).start ≤ (spans i).end) × ((spans i).end ≤ n)
+-- the spans are those of a derivation of the bytes, and no others; there is one for each node of the tree, and each is
+-- within the bytes
+pub record AreSpansOfBytes (f : Flags) (bytes : List ℕ) (t : Tree) (spans : List Span) : Type 0 where
+  pub spans_are : AreSpansOf f (chars bytes) (map span_of spans)
+  pub only : (l : List spec.Span) → AreSpansOf f (chars bytes) l → l ≡ map span_of spans
+  pub each : length spans ≡ length (preorder t)
+  pub within : (i : ℕ) → ((span_at spans i).start ≤ (span_at spans i).end) × ((span_at spans i).end ≤ length bytes)
 
 -- what is told is said of the tree of the bytes, and its nodes are at most 2 n + 1 where there are n bytes
 pub record IsToldOf (info : TreeInfo) (f : Flags) (bytes : List ℕ) (t : Tree) (m : Marks) : Type 0 where

@@ -1,6 +1,6 @@
 -- The nodes of a tree as an array: a row for each.
 use Rattle.std.specs.Prelude.{ℕ, ◌+◌, ℤ, pos, Bool, true, false, List, [], ◌∷◌, ◌++◌, length, Option, Some, None}
-use Rattle.std.specs.Prelude.{min, get_or, encode_utf8_all}
+use Rattle.std.specs.Prelude.{get_or, encode_utf8_all}
 use Rattle.fancy_lex.specs.Target.{Target, by_number, by_name, relative}
 use Rattle.fancy_lex.specs.Text.{Text}
 use Rattle.fancy_lex.specs.declared.escape.Assertion.{Assertion}
@@ -182,13 +182,9 @@ start_of_text o (b ∷ bs) = o
 abbrev pub SpanAt : Type 0
 SpanAt = ℕ → Span
 
--- the span as far as it lies in a pattern of n bytes
-abbrev pub cut : ℕ → Span → Span
-cut n s = record { start = min s.start (min s.end n); end = min s.end n }
-
--- the spans of a list, each as far as it lies in a pattern of n bytes; 0 to 0 past the end of the list
-abbrev pub spans_in : ℕ → List Span → SpanAt
-spans_in n spans i = cut n (get_or spans i (record { start = 0; end = 0 }))
+-- the spans of a list; 0 to 0 past the end of the list
+abbrev pub span_at : List Span → SpanAt
+span_at spans i = get_or spans i (record { start = 0; end = 0 })
 
 -- their rows, from the index i and the byte o on
 abbrev pub rows : SpanAt → ℕ → ℕ → List Tree → List Node

@@ -33,11 +33,6 @@ pub record IsPatternText (f : Flags) (t : Tree) (m : Marks) (w : List ℕ) : Typ
 abbrev pub IsPatternTextOfBytes : Flags → List ℕ → List ℕ → Type 0
 IsPatternTextOfBytes f bytes w = (t : Tree) × (m : Marks) × IsTreeOfBytes f bytes t m × IsPatternText f t m w
 
--- the bytes have a tree, and what is written for it does not read as the tree
-abbrev pub HasNoPatternText : Flags → List ℕ → Type 0
-HasNoPatternText f bytes = (t : Tree) × (m : Marks) × IsTreeOfBytes f bytes t m
-    × (IsReadAs f (pattern_text f t m) t m → ⊥)
-
 -- the text that a kind of error carries, which its message ends with; empty where it carries none
 abbrev pub carried : Kind → Text
 carried (general_parse_error s) = s

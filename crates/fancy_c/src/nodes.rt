@@ -1,14 +1,15 @@
 //! A pattern's tree as an array, with what is said of it.
-ghost use Rattle.std.specs.Prelude.{◌≡◌, ◌≢◌, ◌<◌, ◌≤◌, ◌⊎◌, length, true, false};
+ghost use Rattle.std.specs.Prelude.{◌≡◌, ◌≢◌, ◌<◌, ◌≤◌, ◌⊎◌, List, length, true, false};
 ghost use Rattle.fancy_lex.specs.Fault.{Kind};
 ghost use Rattle.fancy_lex.specs.Flags.{flags_of};
 ghost use Rattle.fancy_grammar.specs.Marks.{Marks};
 ghost use Rattle.fancy_grammar.specs.Tree.{Tree};
 ghost use Rattle.fancy_syntax.specs.Answer.{marks_of};
 ghost use Rattle.fancy_syntax.specs.View.{view};
+ghost use Rattle.fancy_syntax.specs.declared.span.Span.{Span};
 ghost use Rattle.fancy_c.specs.Answer.{number_of_kind, IsFaultOfBytes, IsNoUtf8};
-ghost use Rattle.fancy_c.specs.Marks.{told, all_texts, name_rows, AreWritten, AreSpansIn, IsToldOf};
-ghost use Rattle.fancy_c.specs.Node.{listed, spans_in, SpanAt};
+ghost use Rattle.fancy_c.specs.Marks.{told, all_texts, name_rows, AreWritten, AreSpansOfBytes, IsToldOf};
+ghost use Rattle.fancy_c.specs.Node.{listed, span_at};
 
 use crate::answer::{
     Answer, ERROR_NONE, STATUS_BUFFER_TOO_SHORT, STATUS_NOT_UTF8, STATUS_OK, STATUS_REFUSED,
@@ -16,7 +17,8 @@ use crate::answer::{
 use crate::marks::{Name, TreeInfo, count_names, put_backrefs, put_names};
 use crate::node::Node;
 use crate::read::read_with_spans;
-use crate::rows::{Counts, Spans, count, put_tree};
+use crate::rows::{Counts, count, put_tree};
+use fancy_syntax::span::Span;
 use fancy_syntax::tree::ExprTree;
 use std::alloc::Global;
 
@@ -52,13 +54,13 @@ fn put_all(
     names: &mut [Name],
     backrefs: &mut [usize],
     tree: &ExprTree,
-    spans: &Spans,
+    spans: &[Span],
 )
     requires nodes_room { length (listed (view tree.now.expr)) ≤ length nodes.old }
     requires texts_room { length (all_texts (view tree.now.expr) (marks_of tree.now)) ≤ length texts.old }
     requires names_room { length (name_rows 0 (marks_of tree.now).named_groups) ≤ length names.old }
     requires backrefs_room { length tree.now.backrefs.keys ≤ length backrefs.old }
-    ensures { AreWritten (view tree.now.expr) (marks_of tree.now) (spans_in spans.now.size spans.now.list.items)
+    ensures { AreWritten (view tree.now.expr) (marks_of tree.now) (span_at spans.now)
         nodes.old nodes.new texts.old texts.new names.old names.new backrefs.old backrefs.new }
 {
     let behind = put_tree(nodes, texts, &tree.expr, spans, Counts { rows: 0, text: 0 });
@@ -97,10 +99,10 @@ fn tell(
     backrefs: &mut [usize],
     info: &mut TreeInfo,
     tree: &ExprTree,
-    spans: &Spans,
+    spans: &[Span],
 ) -> Answer
     ensures read { result.status ≡ STATUS_OK → AreWritten (view tree.now.expr) (marks_of tree.now)
-        (spans_in spans.now.size spans.now.list.items) nodes.old nodes.new
+        (span_at spans.now) nodes.old nodes.new
         texts.old texts.new names.old names.new backrefs.old backrefs.new }
     ensures short { result.status ≡ STATUS_BUFFER_TOO_SHORT → (length nodes.old < info.new.node_count)
         ⊎ ((length texts.old < info.new.texts_size)
@@ -151,9 +153,9 @@ pub extern "C" fn fancy_parse_nonnull(
     backrefs: &mut [usize],
     info: &mut TreeInfo,
 ) -> Answer
-    ensures read { result.status ≡ STATUS_OK → (t : Tree) × (m : Marks) × (spans : SpanAt)
-        × IsToldOf info.new (flags_of flags) pattern.now t m × AreSpansIn (length pattern.now) spans
-        × AreWritten t m spans nodes.old nodes.new texts.old texts.new names.old names.new backrefs.old backrefs.new }
+    ensures read { result.status ≡ STATUS_OK → (t : Tree) × (m : Marks) × (spans : List Span)
+        × IsToldOf info.new (flags_of flags) pattern.now t m × AreSpansOfBytes (flags_of flags) pattern.now t spans
+        × AreWritten t m (span_at spans) nodes.old nodes.new texts.old texts.new names.old names.new backrefs.old backrefs.new }
     ensures short { result.status ≡ STATUS_BUFFER_TOO_SHORT →
         (t : Tree) × (m : Marks) × IsToldOf info.new (flags_of flags) pattern.now t m
         × ((length nodes.old < info.new.node_count) ⊎ ((length texts.old < info.new.texts_size)
@@ -172,7 +174,7 @@ pub extern "C" fn fancy_parse_nonnull(
     ensures no_size { result.size ≡ 0 }
 {
     match read_with_spans(alloc, pattern, flags) {
-        Ok((tree, spans)) => tell(nodes, texts, names, backrefs, info, &tree, &spans),
+        Ok((tree, spans)) => tell(nodes, texts, names, backrefs, info, &tree, spans.as_slice()),
         Err(refusal) => refusal.answer(),
     }
 }

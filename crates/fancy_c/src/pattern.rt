@@ -2,13 +2,12 @@
 ghost use Rattle.std.specs.Prelude.{◌≡◌, ◌≢◌, ◌<◌, ◌≤◌, ℕ, List, IfOk, MatchOption, length, string_bytes};
 ghost use Rattle.fancy_lex.specs.Fault.{Kind};
 ghost use Rattle.fancy_lex.specs.Flags.{flags_of};
-ghost use Rattle.fancy_grammar.specs.Pattern.{pattern_text};
-ghost use Rattle.fancy_grammar.specs.ReadAs.{IsReadAs};
+ghost use Rattle.fancy_grammar.specs.OfPattern.{IsOfPattern};
 ghost use Rattle.fancy_syntax.specs.Answer.{marks_of};
 ghost use Rattle.fancy_syntax.specs.View.{view};
 ghost use Rattle.fancy_c.specs.Answer.{number_of_kind, IsFaultOfBytes, IsNoUtf8};
 ghost use Rattle.fancy_c.specs.Buffer.{Fills};
-ghost use Rattle.fancy_c.specs.Text.{IsPatternText, IsPatternTextOfBytes, HasNoPatternText};
+ghost use Rattle.fancy_c.specs.Text.{IsPatternText, IsPatternTextOfBytes};
 
 use crate::answer::{
     Answer, ERROR_NONE, STATUS_BUFFER_TOO_SHORT, STATUS_NO_PATTERN, STATUS_NOT_PRINTABLE,
@@ -16,17 +15,17 @@ use crate::answer::{
 };
 use crate::buffer::write;
 use crate::read::read;
+use fancy_pattern::to_pattern;
 use fancy_syntax::tree::ExprTree;
 use std::alloc::{AllocError, Global};
 
 /// What is written for the tree, where that reads as the tree.
 fn pattern_of(alloc: Global, tree: &ExprTree, flags: u32) -> Result<Option<String>, AllocError>
     ensures { IfOk result (λ text. MatchOption text
-        (IsReadAs (flags_of flags) (pattern_text (flags_of flags) (view tree.now.expr) (marks_of tree.now))
-        (view tree.now.expr) (marks_of tree.now) → ⊥)
+        (IsOfPattern (flags_of flags) (view tree.now.expr) (marks_of tree.now) → ⊥)
         (λ s. IsPatternText (flags_of flags) (view tree.now.expr) (marks_of tree.now) (string_bytes s))) }
 {
-    tree.to_pattern(alloc, flags)
+    to_pattern(alloc, tree, flags)
 }
 
 /// Writes it at the front of the buffer, where there is one and that fits.
@@ -38,8 +37,7 @@ fn put_pattern(alloc: Global, tree: &ExprTree, flags: u32, buffer: &mut [u8]) ->
         × IsPatternText (flags_of flags) (view tree.now.expr) (marks_of tree.now) w × (result.size ≡ length w)
         × (length buffer.old < length w) }
     ensures no_pattern { result.status ≡ STATUS_NO_PATTERN →
-        IsReadAs (flags_of flags) (pattern_text (flags_of flags) (view tree.now.expr) (marks_of tree.now))
-        (view tree.now.expr) (marks_of tree.now) → ⊥ }
+        IsOfPattern (flags_of flags) (view tree.now.expr) (marks_of tree.now) → ⊥ }
     ensures kept { result.status ≢ STATUS_OK → buffer.new ≡ buffer.old }
     ensures fault { (result.status ≢ STATUS_REFUSED) × (result.status ≢ STATUS_NOT_UTF8) }
     ensures printed { result.status ≢ STATUS_NOT_PRINTABLE }
@@ -68,9 +66,9 @@ fn put_pattern(alloc: Global, tree: &ExprTree, flags: u32, buffer: &mut [u8]) ->
 /// Parses a pattern as `fancy_check_nonnull` does, and writes to the front of `buffer` a pattern that is parsed, under
 /// the same flags, as the same tree with the same group information; only the position of an unresolved call may
 /// differ. Every node and every name is written; comments and ignored whitespace are not. Returns `STATUS_OK` with the
-/// size of the text in bytes; `STATUS_BUFFER_TOO_SHORT` with that size if the text does not fit; `STATUS_NO_PATTERN` if
-/// what is written for the tree does not parse back as it, which no pattern is known for; else what
-/// `fancy_check_nonnull` returns. Unless it returns `STATUS_OK`, nothing is written.
+/// size of the text in bytes; `STATUS_BUFFER_TOO_SHORT` with that size if the text does not fit; else what
+/// `fancy_check_nonnull` returns. It never returns `STATUS_NO_PATTERN`. Unless it returns `STATUS_OK`, nothing is
+/// written.
 #[unsafe(no_mangle)]
 pub extern "C" fn fancy_pattern_nonnull(
     alloc: Global,
@@ -83,7 +81,7 @@ pub extern "C" fn fancy_pattern_nonnull(
     ensures short { result.status ≡ STATUS_BUFFER_TOO_SHORT → (w : List ℕ)
         × IsPatternTextOfBytes (flags_of flags) pattern.now w
         × (result.size ≡ length w) × (length buffer.old < length w) }
-    ensures no_pattern { result.status ≡ STATUS_NO_PATTERN → HasNoPatternText (flags_of flags) pattern.now }
+    ensures never { result.status ≢ STATUS_NO_PATTERN }
     ensures refused { result.status ≡ STATUS_REFUSED → (k : Kind) × (result.kind ≡ number_of_kind k)
         × IsFaultOfBytes (flags_of flags) pattern.now k result.position }
     ensures no_utf8 { result.status ≡ STATUS_NOT_UTF8 → IsNoUtf8 pattern.now result.position }

@@ -1,5 +1,5 @@
 //! Bytes parsed as a pattern.
-ghost use Rattle.std.specs.Prelude.{◌≡◌, ◌≢◌, ◌≤◌, IfOk, IfErr, length};
+ghost use Rattle.std.specs.Prelude.{◌≡◌, ◌≢◌, ◌≤◌, IfOk, IfErr};
 ghost use Rattle.std.specs.Str.{IsUtf8};
 ghost use Rattle.fancy_lex.specs.Fault.{Kind};
 ghost use Rattle.fancy_lex.specs.Flags.{flags_of};
@@ -9,14 +9,15 @@ ghost use Rattle.fancy_grammar.specs.Tree.{Tree};
 ghost use Rattle.fancy_syntax.specs.Answer.{marks_of};
 ghost use Rattle.fancy_syntax.specs.View.{view};
 ghost use Rattle.fancy_c.specs.Answer.{number_of_kind, IsTreeOfBytes, IsFaultOfBytes, IsNoUtf8, IsRefusalOf, answer_of};
+ghost use Rattle.fancy_c.specs.Marks.{AreSpansOfBytes};
 
 use crate::answer::{
     Answer, ERROR_NONE, STATUS_NOT_UTF8, STATUS_OK, STATUS_OUT_OF_MEMORY, STATUS_REFUSED,
     kind_number,
 };
-use crate::rows::Spans;
 use fancy_syntax::error::Error;
 use fancy_syntax::expr::Expr;
+use fancy_syntax::span::Span;
 use fancy_syntax::tree::ExprTree;
 use std::alloc::Global;
 use std::str;
@@ -86,20 +87,14 @@ pub(crate) fn read_with_spans(
     alloc: Global,
     pattern: &[u8],
     flags: u32,
-) -> Result<(ExprTree, Spans), Refusal>
+) -> Result<(ExprTree, Vec<Span>), Refusal>
     ensures tree { IfOk result (λ p. IsTreeOfBytes (flags_of flags) pattern.now (view p.0.expr) (marks_of p.0)) }
-    ensures size { IfOk result (λ p. p.1.size ≡ length pattern.now) }
+    ensures spans { IfOk result (λ p. AreSpansOfBytes (flags_of flags) pattern.now (view p.0.expr) p.1.items) }
     ensures refusal { IfErr result (λ r. IsRefusalOf r (flags_of flags) pattern.now) }
 {
     let text = text_of(pattern)?;
     match Expr::parse_tree_with_spans(alloc, text, flags) {
-        Ok((tree, list)) => Ok((
-            tree,
-            Spans {
-                list,
-                size: pattern.len(),
-            },
-        )),
+        Ok(found) => Ok(found),
         Err(error) => Err(Refusal::Fault(error)),
     }
 }

@@ -5,7 +5,7 @@ ghost use Rattle.fancy_grammar.specs.Tree.{children};
 ghost use Rattle.fancy_syntax.specs.View.{view};
 ghost use Rattle.fancy_c.specs.Buffer.{put_at};
 ghost use Rattle.fancy_c.specs.Node as spec;
-ghost use Rattle.fancy_c.specs.Node.{listed, listed_each, rows, texts, spans_in};
+ghost use Rattle.fancy_c.specs.Node.{listed, listed_each, rows, span_at, texts};
 
 use crate::node::{Node, Stand, carried};
 use fancy_syntax::expr::Expr;
@@ -18,27 +18,13 @@ pub(crate) struct Counts {
     pub(crate) text: usize,
 }
 
-/// The spans of a tree's nodes, in preorder, and how many bytes its pattern has.
-#[derive(Drop)]
-pub(crate) struct Spans {
-    pub(crate) list: Vec<Span>,
-    pub(crate) size: usize,
-}
-
-impl Spans {
-    /// The span of the node with this index, as far as it lies in the pattern; 0 to 0 where there is none.
-    fn at(&self, i: usize) -> Span
-        ensures { result ≡ spans_in self.now.size self.now.list.items i }
-    {
-        let span = match self.list.get(i) {
-            Some(span) => *span,
-            None => Span { start: 0, end: 0 },
-        };
-        let end = span.end.min(self.size);
-        Span {
-            start: span.start.min(end),
-            end,
-        }
+/// The span of the node with this index in preorder; 0 to 0 if there is no such node.
+fn span_at(spans: &[Span], i: usize) -> Span
+    ensures { result ≡ span_at spans.now i }
+{
+    match spans.get(i) {
+        Some(span) => *span,
+        None => Span { start: 0, end: 0 },
     }
 }
 
@@ -85,7 +71,7 @@ pub(crate) fn put_tree(
     nodes: &mut [Node],
     bytes: &mut [u8],
     tree: &Expr,
-    spans: &Spans,
+    spans: &[Span],
     before: Counts,
 ) -> Counts
     requires nodes_room { before.rows + length (listed (view tree.now)) ≤ length nodes.old }
@@ -93,7 +79,7 @@ pub(crate) fn put_tree(
     ensures behind { result.rows ≡ before.rows + length (listed (view tree.now)) }
     ensures text_behind { result.text ≡ before.text + length (texts (listed (view tree.now))) }
     ensures nodes { nodes.new ≡ put_at nodes.old before.rows
-        (rows (spans_in spans.now.size spans.now.list.items) before.rows before.text (listed (view tree.now))) }
+        (rows (span_at spans.now) before.rows before.text (listed (view tree.now))) }
     ensures bytes { bytes.new ≡ put_at bytes.old before.text (texts (listed (view tree.now))) }
 {
     let text = carried(tree);
@@ -105,7 +91,7 @@ pub(crate) fn put_tree(
     let stand = Stand {
         end: behind.rows,
         text: start_of_text(before.text, text),
-        span: spans.at(before.rows),
+        span: span_at(spans, before.rows),
     };
     nodes[before.rows] = stand.row(tree);
     behind
@@ -117,7 +103,7 @@ fn put_children(
     nodes: &mut [Node],
     bytes: &mut [u8],
     tree: &Expr,
-    spans: &Spans,
+    spans: &[Span],
     before: Counts,
 ) -> Counts
     requires nodes_room { before.rows + length (listed_each (children (view tree.now))) ≤ length nodes.old }
@@ -125,7 +111,7 @@ fn put_children(
     ensures behind { result.rows ≡ before.rows + length (listed_each (children (view tree.now))) }
     ensures text_behind { result.text ≡ before.text + length (texts (listed_each (children (view tree.now)))) }
     ensures nodes { nodes.new ≡ put_at nodes.old before.rows
-        (rows (spans_in spans.now.size spans.now.list.items) before.rows before.text
+        (rows (span_at spans.now) before.rows before.text
         (listed_each (children (view tree.now)))) }
     ensures bytes { bytes.new ≡ put_at bytes.old before.text (texts (listed_each (children (view tree.now)))) }
 {

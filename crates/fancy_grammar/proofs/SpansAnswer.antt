@@ -52,6 +52,38 @@ mutual
         all_as_many i,
       )
 
+-- spans within a part are within a larger one
+within_more : (a low high b : ℕ) (l : List Span) → a ≤ low → high ≤ b →
+    AllByRecursion (λ p. (low ≤ p.start) × (p.start ≤ p.end) × (p.end ≤ high)) l →
+    AllByRecursion (λ p. (a ≤ p.start) × (p.start ≤ p.end) × (p.end ≤ b)) l
+within_more a low high b [] h i e = tt
+within_more a low high b (p ∷ l) h i e =
+    ((omega (arith, e.0.0), e.0.1, omega (arith, e.0.2)), within_more a low high b l h i e.1)
+
+-- each span is within the part in which the tree nests
+mutual
+  pub nests_within : {low high : ℕ} {t : Tree} {l : List Span} → Nests low high t l →
+      (low ≤ high) × AllByRecursion (λ p. (low ≤ p.start) × (p.start ≤ p.end) × (p.end ≤ high)) l
+  nests_within (of_leaf h i j) = (omega arith, ((h, i, j), tt))
+  nests_within (of_over {low} {high} {l = l} {p = p} h i k) =
+      let (inside, each) = nests_within k in
+      (omega arith, ((h, inside, i), within_more low p.start p.end high l h i each))
+  nests_within (of_row {low} {high} {l = l} {p = p} h i k) =
+      let (inside, each) = all_nest_within k in
+      (omega arith, ((h, inside, i), within_more low p.start p.end high l h i each))
+
+  all_nest_within : {low high : ℕ} {ts : Trees} {l : List Span} → AllNest low high ts l →
+      (low ≤ high) × AllByRecursion (λ p. (low ≤ p.start) × (p.start ≤ p.end) × (p.end ≤ high)) l
+  all_nest_within (of_none h) = (h, tt)
+  all_nest_within (of_more {low} {mid} {high} {l = l} {m = m} h i e) =
+      let (first, front) = nests_within h in
+      let (others, back) = all_nest_within i in (
+        omega arith,
+        subst (AllByRecursion (λ p. (low ≤ p.start) × (p.start ≤ p.end) × (p.end ≤ high))) (sym e)
+            (each_append _ l m (within_more low low mid high l (omega arith) others front)
+            (within_more low mid high high m first (omega arith) back)),
+      )
+
 nests_in : {a low high b : ℕ} {t : Tree} {l : List Span} → a ≤ low → high ≤ b → Nests low high t l → Nests a b t l
 nests_in f g (of_leaf h i j) = of_leaf (omega arith) i (omega arith)
 nests_in f g (of_over h i k) = of_over (omega arith) (omega arith) k

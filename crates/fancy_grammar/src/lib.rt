@@ -3,6 +3,7 @@
 //! joins the grammar's premises with the relations.
 #![tactic(auto)]
 
+pub mod depth;
 pub mod kinds;
 pub mod needs;
 pub mod precedence;

@@ -5,7 +5,6 @@ pub mod SameLemmas
 pub mod Descents
 pub mod LoanLemmas
 pub mod WriteLemmas
-pub mod SpannedLemmas
 -- ---- the loop of the grammar
 mod TreesLemmas
 mod StepLemmas
@@ -23,17 +22,3 @@ pub mod PartLemmas
 -- ---- printing
 pub mod PrintLemmas
 mod EmptyLemmas
--- ---- the texts of all trees
-pub mod SinkLemmas
-mod LetterLemmas
-pub mod PartingLemmas
-pub mod WritesLemmas
-pub mod SettledLemmas
-pub mod RowLemmas
-pub mod NodeLemmas
-mod ExpressionLemmas
-mod AmongLemmas
-mod NamesLemmas
-pub mod MarksLemmas
-mod NeedsWalk
-mod SourceWalk

@@ -26,7 +26,6 @@ pub use Rattle.fancy_grammar.specs.Answered
 -- ---- where the nodes stand
 pub use Rattle.fancy_grammar.specs.Spans
 pub mod SpanViews
-pub mod Spanned
 -- ---- printing, and what a printed text reads as
 pub use Rattle.fancy_grammar.specs.Printed
 pub use Rattle.fancy_grammar.specs.HasDelegate
@@ -47,8 +46,3 @@ pub mod Noting
 pub mod NotedWhole
 -- ---- the resolver's walks
 pub mod Notes
--- ---- the writing of texts
-pub mod Sink
-pub mod Wheres
-pub mod Writers
-pub mod Source

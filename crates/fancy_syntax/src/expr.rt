@@ -5,6 +5,7 @@ mod clone;
 mod descendants;
 mod equality;
 mod parent;
+pub mod repeatable;
 
 pub use children::ExprChildrenIter;
 pub use fancy_grammar::kinds::{BacktrackingControlVerb, LookAround};

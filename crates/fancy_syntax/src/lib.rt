@@ -15,11 +15,9 @@
 
 pub mod expr;
 mod grammar;
-mod pattern;
 pub mod print;
 mod resolve;
 pub mod span;
-pub mod spanned;
 pub mod tree;
 
 pub use expr::{
@@ -34,5 +32,4 @@ pub use fancy_lex::flags::{
 pub use fancy_lex::{error, flags};
 pub use print::{BRANCH, OPERAND, PIECE, WHOLE};
 pub use span::Span;
-pub use spanned::{SpannedChildren, SpannedNode, SpannedTree};
 pub use tree::ExprTree;

@@ -2,6 +2,7 @@
 use crate::notation::Notation;
 use crate::page::Column;
 use anyhow::{Result, bail};
+use fancy_pattern::to_pattern;
 use fancy_syntax::error::Error;
 use fancy_syntax::expr::Expr;
 use std::alloc::Global;
@@ -45,7 +46,7 @@ impl Example<'_> {
             Err(Error::OutOfMemory) => bail!("out of memory"),
             Err(Error::ParseError(..)) => return Ok(false),
         };
-        Ok(match tree.to_pattern(alloc, flags)? {
+        Ok(match to_pattern(alloc, &tree, flags)? {
             Some(text) => text.as_str() == self.said,
             None => false,
         })

@@ -1,4 +1,5 @@
 //! Where the nodes of patterns stand.
+use fancy_spans::{SpannedNode, SpannedTree};
 use fancy_syntax::error::Error;
 use fancy_syntax::expr::Expr;
 use fancy_syntax::flags::{
@@ -6,7 +7,6 @@ use fancy_syntax::flags::{
     FLAG_UNICODE,
 };
 use fancy_syntax::span::Span;
-use fancy_syntax::spanned::{SpannedNode, SpannedTree};
 use std::alloc::{AllocError, Global};
 
 const NAMED: u32 = FLAG_UNICODE | FLAG_IGNORE_NUMBERED_GROUPS_WHEN_NAMED_GROUPS_EXIST;

@@ -1,6 +1,7 @@
 //! How far a pattern is taken.
 use crate::sample::Sample;
 use anyhow::{Context, Result, bail};
+use fancy_pattern::to_pattern;
 use fancy_syntax::{Error, Expr, ExprTree, WHOLE};
 use fre_program::flag_word::flags_named;
 use std::alloc::{AllocError, Global};
@@ -71,7 +72,7 @@ impl Stage {
         flags: u32,
     ) -> Result<usize, AllocError> {
         match self {
-            Stage::Write => Ok(tree.to_pattern(alloc, flags)?.map_or(0, |text| text.len())),
+            Stage::Write => Ok(to_pattern(alloc, tree, flags)?.map_or(0, |text| text.len())),
             Stage::Ask => Ok(usize::from(tree.expr.is_printable(alloc)?)),
             Stage::Print => Ok(tree.expr.print(alloc, WHOLE)?.map_or(0, |text| text.len())),
             Stage::Decode | Stage::Read | Stage::Locate => Ok(1),

@@ -1,6 +1,7 @@
 //! Texts that are written for trees.
 use crate::record::Writing;
 use anyhow::{Context, Result, bail};
+use fancy_pattern::to_pattern;
 use fancy_syntax::error::Error;
 use fancy_syntax::expr::Expr;
 use fancy_syntax::tree::ExprTree;
@@ -18,7 +19,7 @@ fn tree_of(alloc: Global, pattern: &str, flags: u32) -> Result<Option<ExprTree>>
 
 /// Whether the tree has a text, which is read as the tree but for places, and is the text of what is read.
 pub(crate) fn is_written(alloc: Global, tree: &ExprTree, flags: u32) -> Result<bool> {
-    let Some(text) = tree.to_pattern(alloc, flags)? else {
+    let Some(text) = to_pattern(alloc, tree, flags)? else {
         return Ok(false);
     };
     let Some(again) = tree_of(alloc, text.as_str(), flags)? else {
@@ -26,7 +27,7 @@ pub(crate) fn is_written(alloc: Global, tree: &ExprTree, flags: u32) -> Result<b
     };
     Ok(
         again.expr.is_same_but_for_places(&tree.expr)
-            && again.to_pattern(alloc, flags)? == Some(text),
+            && to_pattern(alloc, &again, flags)? == Some(text),
     )
 }
 
@@ -37,7 +38,7 @@ pub(crate) fn replay_writing(alloc: Global, record: &Writing) -> Result<bool> {
     let Some(tree) = tree_of(alloc, pattern.as_str(), flags)? else {
         return Ok(false);
     };
-    Ok(match tree.to_pattern(alloc, flags)? {
+    Ok(match to_pattern(alloc, &tree, flags)? {
         Some(text) => text == record.text,
         None => false,
     })

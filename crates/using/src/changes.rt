@@ -3,6 +3,7 @@ ghost use Rattle.std.specs.Prelude.{chars, string_bytes, IfOk, IfSome};
 ghost use Rattle.fancy_lex.specs.Flags.{flags_of};
 ghost use Rattle.using.specs.Forms.{HasMarksOf};
 
+use fancy_pattern::to_pattern;
 use fancy_syntax::{Error, Expr, FLAG_UNICODE};
 use std::alloc::Global;
 
@@ -32,5 +33,5 @@ pub fn with_child(
     if !replace_child(&mut tree.expr, i, new) {
         return Ok(None);
     }
-    Ok(tree.to_pattern(alloc, FLAG_UNICODE)?)
+    Ok(to_pattern(alloc, &tree, FLAG_UNICODE)?)
 }

@@ -21,7 +21,8 @@ use crate::spans::push_nested_repeats;
 use crate::summary::summary;
 use crate::walks::{push_literals, repeats_without_bound};
 use anyhow::Result;
-use fancy_syntax::{Expr, ExprTree, FLAG_UNICODE, SpannedTree};
+use fancy_spans::SpannedTree;
+use fancy_syntax::{Expr, ExprTree, FLAG_UNICODE};
 
 fn show_summary(rt: &HostRuntime, pattern: &str) -> Result<()> {
     let (groups, text) = summary(rt.alloc(), pattern)?;

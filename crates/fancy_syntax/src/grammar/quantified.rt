@@ -11,9 +11,11 @@ ghost use Rattle.fancy_syntax.specs.Parsed.{state, suffix_of, Turns, GivesSuffix
 ghost use Rattle.fancy_syntax.specs.View.{view};
 
 use crate::expr::Expr;
+use crate::expr::repeatable::is_repeatable;
 use crate::grammar::spanning::Spanning;
-use crate::grammar::state::{MAX_DEPTH, State, skip_layout};
+use crate::grammar::state::{State, skip_layout};
 use crate::grammar::trees::is_empty;
+use fancy_grammar::depth::MAX_DEPTH;
 use fancy_lex::error::{Failure, ParseError};
 use fancy_lex::flags::Flags;
 use fancy_lex::text::{after, byte_len, reach, reach_before};
@@ -30,21 +32,6 @@ const MAX_ADJACENT: usize = 4;
 pub(crate) struct Suffix {
     pub(crate) lazy: bool,
     pub(crate) possessive: bool,
-}
-
-/// Whether a quantifier may follow the tree; in Oniguruma mode none follows an assertion.
-pub(crate) fn is_repeatable(flags: Flags, tree: &Expr) -> bool
-    ensures { result ≡ spec.is_repeatable flags (view tree.now) }
-{
-    match tree {
-        Expr::Empty
-        | Expr::LookAround(_, _)
-        | Expr::KeepOut
-        | Expr::ContinueFromPreviousMatchEnd
-        | Expr::BacktrackingControlVerb(_) => false,
-        Expr::Assertion(_) => !flags.oniguruma_mode,
-        _ => true,
-    }
 }
 
 /// Whether an Empty stays without the quantifier whose mark or closing brace the text follows, as in Oniguruma mode

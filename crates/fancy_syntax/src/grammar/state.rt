@@ -9,9 +9,6 @@ use fancy_lex::flags::Flags;
 use fancy_lex::layout::skip;
 use fancy_lex::text::next;
 
-/// Groups nest less deep than this.
-pub(crate) const MAX_DEPTH: usize = 64;
-
 /// The flags that hold, and the text that is still to be read.
 #[derive(Clone, Copy)]
 pub(crate) struct State<'a> {

@@ -3,7 +3,7 @@ use Rattle.fancy_syntax.specs.Answer.{marks_of}
 use Rattle.fancy_syntax.specs.View.{view}
 use Rattle.fancy_c.specs.Buffer.{put_at}
 use Rattle.fancy_c.specs.Marks.{name_rows}
-use Rattle.fancy_c.specs.Node.{listed, texts, spans_in}
+use Rattle.fancy_c.specs.Node.{listed, span_at, texts}
 use Rattle.fancy_c.proofs.MarkLemmas.{names_length}
 use Rattle.fancy_c.proofs.NodesLemmas.{filled, texts_put}
 use Rattle.fancy_c.proofs.RowLemmas.{rows_length}
@@ -15,7 +15,7 @@ returns c =
     let m = marks_of c.args.tree.now in
     let put = c.put_tree-behind.ensures in
     let at : c.put_tree-behind.result.text ≡ length (texts (listed t)) = omega (arith, put.text_behind) in
-    let spans = spans_in c.args.spans.now.size c.args.spans.now.list.items in
+    let spans = span_at c.args.spans.now in
     let rows = rows_length spans 0 0 (listed t) in
     record {
       nodes_are = filled _ _ _ (omega (arith, c.requires.nodes_room, rows)) put.nodes;

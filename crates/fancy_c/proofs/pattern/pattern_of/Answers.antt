@@ -3,4 +3,4 @@ use Rattle.fancy_c.proofs.pattern.pattern_of.Goals as goal
 
 pub returns : goal.returns
 returns c = pattern_told _ _ _ c.to_pattern.result c.to_pattern.ensures.text c.to_pattern.ensures.reads_back
-    c.to_pattern.ensures.none
+    c.to_pattern.ensures.parsed

@@ -1,3 +1,4 @@
+use Rattle.fancy_c.proofs.NodesLemmas.{spans_of_bytes}
 use Rattle.fancy_c.proofs.ReadLemmas.{tree_told, fault_told}
 use Rattle.fancy_c.proofs.read.read_with_spans.Goals as goal
 
@@ -6,6 +7,11 @@ returns-in-Ok-clause-tree c =
     let text = c.in_ok-text.ensures.text in
     let tree = c.in-Ok.ensures in
     tree_told _ _ _ _ _ text.0 text.1 tree.found tree.only tree.exact tree.bounds tree.answered
+
+pub returns-in-Ok-clause-spans : goal.returns-in-Ok-clause-spans
+returns-in-Ok-clause-spans c =
+    let tree = c.in-Ok.ensures in
+    spans_of_bytes _ _ _ _ _ c.in_ok-text.ensures.text.0 tree.spans tree.only_spans tree.each tree.nested
 
 pub returns-in-Err-clause-refusal : goal.returns-in-Err-clause-refusal
 returns-in-Err-clause-refusal c =

@@ -2,7 +2,7 @@ use Rattle.std.proofs.Common.{◌+◌, ◌<◌, ◌∙◌, ap, sym, set, length,
 use Rattle.fancy_grammar.specs.Tree.{levels, children}
 use Rattle.fancy_syntax.specs.View.{view, views}
 use Rattle.fancy_syntax.proofs.Descents.{sweep_start, sweep_head, sweep_next, levels_of_child}
-use Rattle.fancy_c.specs.Node.{listed_each, row, rows, start_of_text, spans_in}
+use Rattle.fancy_c.specs.Node.{listed_each, row, rows, start_of_text, span_at}
 use Rattle.fancy_c.specs.Buffer.{put_at}
 use Rattle.fancy_c.proofs.RowLemmas.{putting_starts, putting_as, putting_next, putting_ends, putting_room, put_length}
 use Rattle.fancy_c.proofs.RowLemmas.{listed_length, texts_size, row_put, text_put, text_place}
@@ -96,7 +96,7 @@ put_tree-returns-clause-nodes t c =
     let n = c.args.before.rows in
     let put = c.put_children-behind.ensures in
     let at_text = text_place _ _ _ _ c.carried-text.ensures c.put_text.ensures.behind in
-    let spans = spans_in c.args.spans.now.size c.args.spans.now.list.items in
+    let spans = span_at c.args.spans.now in
     ap (λ r. set c.put_children-behind.new.nodes n r) c.row.ensures
     ∙ ap (λ s. set c.put_children-behind.new.nodes n (row (record {
       end = c.put_children-behind.result.rows;

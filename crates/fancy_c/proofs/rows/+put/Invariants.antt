@@ -3,7 +3,7 @@ use Rattle.fancy_grammar.specs.Tree.{levels, children}
 use Rattle.fancy_syntax.specs.Children.{remaining_children}
 use Rattle.fancy_syntax.specs.View.{view, views}
 use Rattle.fancy_syntax.proofs.Descents.{Sweep}
-use Rattle.fancy_c.specs.Node.{listed_each, spans_in}
+use Rattle.fancy_c.specs.Node.{listed_each, span_at}
 use Rattle.fancy_c.proofs.RowLemmas.{Putting}
 use Rattle.fancy_c.proofs.rows.+put.Given as goal
 
@@ -16,7 +16,7 @@ decreases-put_children l = 2 * levels (view l.tree.now)
 abbrev pub invariant-put_children-loop-child : goal.invariant-put_children-loop-child
 invariant-put_children-loop-child l = record {
   sweep : Sweep (λ _. Unit {0}) l.tree (remaining_children l.children);
-  putting : Putting (spans_in l.spans.size l.spans.list.items) l.initial.nodes l.nodes l.initial.bytes l.bytes
+  putting : Putting (span_at l.spans) l.initial.nodes l.nodes l.initial.bytes l.bytes
       l.fn.before.rows l.fn.before.text l.behind.rows l.behind.text
       (listed_each (children (view l.tree))) (listed_each (views (remaining_children l.children)));
 }

@@ -1,0 +1,6 @@
+use Rattle.std.proofs.lemmas.Bool.Decides.{Decides-at}
+use Rattle.fancy_pattern.proofs.MarksLemmas.{names_Decides}
+use Rattle.fancy_pattern.proofs.same.have_same_names.Goals as goal
+
+pub returns : goal.returns
+returns c = Decides-at _ _ c.eq.ensures (names_Decides _ _)

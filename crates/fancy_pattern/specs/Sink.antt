@@ -1,0 +1,29 @@
+-- What a text is written to, piece by piece.
+use Rattle.std.specs.Prelude.{◌≡◌, ℕ, ◌||◌, Bool, ◌++◌, codes, nat_eq}
+use Rattle.std.specs.List.{starts_with}
+use Rattle.std.specs.Str.{bytes_eq}
+use Rattle.fancy_lex.specs.Number.{at_digit}
+use Rattle.fancy_lex.specs.Text.{Text, bytes}
+use Rattle.fancy_parts.specs.HeadReference.{begins_target}
+use Rattle.fancy_grammar.specs.Pattern.{parted_if}
+use Rattle.fancy_pattern.specs.declared.parting.Parting.{Parting}
+use Rattle.fancy_pattern.specs.declared.parting.Parting.TheVariants.{Number, Condition, Absent}
+
+-- the text stands behind what was taken before
+pub record Added {S : Type 0} (holds : S → Text → Type 0) (old new : S) (text : Text) : Type 0 where
+  pub behind : (t : Text) → holds old t → holds new (t ++ text)
+
+-- the text would be read with what stands before it
+abbrev pub needs_parting : Parting → Text → Bool
+needs_parting Number t = at_digit t
+needs_parting Condition t = begins_target t || bytes_eq t (codes "DEFINE")
+needs_parting Absent t = starts_with nat_eq t (codes "|")
+
+-- what was taken from the place on is changed so, and what stands before it is as it was
+pub record Changed {S : Type 0} (holds : S → Text → Type 0) (old new : S) (place : ℕ) (change : Text → Text) : Type 0
+  where
+    pub changes : (t u : Text) → holds old (t ++ u) → place ≡ bytes t → holds new (t ++ change u)
+
+-- parted from what stands before it, where it would be read with that
+abbrev pub parted : Parting → Text → Text
+parted parting t = parted_if (needs_parting parting t) t

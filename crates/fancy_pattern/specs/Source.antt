@@ -1,0 +1,18 @@
+-- The parts of a source, as the code answers and writes them.
+use Rattle.std.specs.Prelude.{◌≡◌, chars, Option, option_map}
+use Rattle.fancy_lex.specs.Text.{Text}
+use Rattle.fancy_grammar.specs.PatternSource.{Part}
+use Rattle.fancy_pattern.specs.Sink.{Added}
+use Rattle.fancy_pattern.specs.declared.source.Found.{Found}
+
+-- an escape that was found is a part
+abbrev pub part_of : Found → Part
+part_of f = record { source = chars f.escape.now; rest = chars f.rest.now; negated = f.negated }
+
+abbrev pub found_part : Option Found → Option Part
+found_part r = option_map part_of r
+
+-- the part's source stands behind what was taken before, and the other text is left of the Delegate's
+pub record AddedPart {S : Type 0} (holds : S → Text → Type 0) (old new : S) (part : Part) (left : Text) : Type 0 where
+  pub source : Added holds old new part.source
+  pub rest : left ≡ part.rest

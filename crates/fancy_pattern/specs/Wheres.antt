@@ -1,0 +1,56 @@
+-- How the place of a writer of texts, and what it knows beside the tree, stand to the definition.
+use Rattle.std.specs.Prelude.{◌≡◌, ℕ, ◌-◌, ◌==◌, List, [], chars, find, Option, Some, None, ⊤}
+use Rattle.std.specs.BTreeMap.{BTreeMap, get}
+use Rattle.std.specs.List.{list_any}
+use Rattle.std.specs.Ordering.{nat_cmp}
+use Rattle.fancy_lex.specs.Text.{Text}
+use Rattle.fancy_grammar.specs.Depth.{max_depth}
+use Rattle.fancy_grammar.specs.Marks.{Marks}
+use Rattle.fancy_grammar.specs.Pattern.{Here, leaf_text}
+use Rattle.fancy_grammar.specs.PatternReference.{Named, is_plain_name, is_last, is_only}
+use Rattle.fancy_grammar.specs.Tree.{Tree, leaf}
+use Rattle.fancy_grammar.specs.declared.needs.Needs.{Needs}
+use Rattle.fancy_pattern.specs.declared.here.Here as code
+use Rattle.fancy_pattern.specs.declared.names.Known as known
+use Rattle.fancy_pattern.specs.declared.names.Name as name
+
+-- ---- where a text stands
+
+-- the same place, before nodes that need this
+pub record IsHere (i : code.Here) (h : Here) (l : List Needs) : Type 0 where
+  pub flags : i.flags ≡ h.flags
+  pub opened : i.opened ≡ h.opened
+  pub left : i.left ≡ max_depth - h.depth
+  pub needs : i.needs.now ≡ l
+
+-- ---- names
+
+-- the name is that of the entry, and says of the group n what the entry does
+pub record Tells (n : ℕ) (a : name.Name) (e : Named) : Type 0 where
+  pub text : chars a.text.now ≡ e.0
+  pub plain : a.is_plain ≡ is_plain_name e.0
+  pub last : a.is_last ≡ is_last n e.1
+  pub only : a.is_only ≡ is_only n e.1
+
+-- the group n has that name, or none
+abbrev pub IsNameOf : ℕ → Option name.Name → Option Named → Type 0
+IsNameOf n None None = ⊤
+IsNameOf n (Some a) (Some e) = Tells n a e
+IsNameOf n _ _ = ⊥
+
+-- each group has the name that the entries give it
+pub record AreNames (b : BTreeMap ℕ name.Name) (es : List Named) : Type 0 where
+  pub at : (n : ℕ) → IsNameOf n (get nat_cmp b n) (find (λ e. list_any (λ k. k == n) e.1) es)
+
+-- what is known of the tree is what its marks say
+pub record IsKnown (k : known.Known) (m : Marks) : Type 0 where
+  pub numeric : k.is_numeric ≡ m.numeric_capture_group_references
+  pub self_recursive : k.self_recursive ≡ m.self_recursive
+  pub names : AreNames k.names m.named_groups
+
+-- ---- leaves
+
+-- the text of a tree that holds no other; none of one that does
+abbrev pub alone_text : Marks → Tree → Here → Text
+alone_text m (leaf l) h = leaf_text m l h
+alone_text m t h = []

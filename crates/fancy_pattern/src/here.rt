@@ -1,0 +1,95 @@
+//! Where a text stands.
+ghost use Rattle.std.specs.Prelude.{◌≡◌, ◌∷◌, List, OnOk};
+ghost use Rattle.fancy_lex.specs.declared.flags.Flags.{Flags};
+ghost use Rattle.fancy_grammar.specs.Pattern as spec;
+ghost use Rattle.fancy_grammar.specs.PatternNeeds.{with_needs};
+ghost use Rattle.fancy_grammar.specs.declared.needs.Needs.{Needs};
+ghost use Rattle.fancy_pattern.specs.Wheres.{IsHere};
+
+use crate::needs::{no_needs, with_needs};
+use fancy_grammar::depth::MAX_DEPTH;
+use fancy_grammar::needs::Needs;
+use fancy_lex::flags::Flags;
+use std::alloc::AllocError;
+
+/// Where a text stands.
+#[derive(Clone, Copy)]
+pub(crate) struct Here<'a> {
+    /// The flags that hold there.
+    pub(crate) flags: Flags,
+    /// How many groups opened before.
+    pub(crate) opened: usize,
+    /// How many levels are left: the groups that may still open in it, and one.
+    pub(crate) left: usize,
+    /// What each node from there on needs of the flags, in preorder.
+    pub(crate) needs: &'a [Needs],
+}
+
+impl<'a> Here<'a> {
+    /// Where a pattern begins.
+    pub(crate) fn at_start(flags: Flags, needs: &'a [Needs]) -> Here<'a>
+        ensures { IsHere result (record { flags = flags; opened = 0; depth = 0 }) needs.now }
+    {
+        Here {
+            flags,
+            opened: 0,
+            left: MAX_DEPTH,
+            needs,
+        }
+    }
+
+    /// What the next node needs, which is passed.
+    pub(crate) fn next_node(&mut self) -> Needs
+        ensures { (h : spec.Here) (n : Needs) (l : List Needs) → IsHere self.old h (n ∷ l) →
+            (result ≡ n) × IsHere self.new h l }
+    {
+        match self.needs {
+            [first, rest @ ..] => {
+                self.needs = rest;
+                *first
+            }
+            [] => no_needs(),
+        }
+    }
+
+    /// Passes the next node.
+    pub(crate) fn pass_node(&mut self)
+        ensures { (h : spec.Here) (n : Needs) (l : List Needs) → IsHere self.old h (n ∷ l) → IsHere self.new h l }
+    {
+        let _needs = self.next_node();
+    }
+
+    /// Sets the flags as they are needed.
+    pub(crate) fn set(&mut self, needs: Needs)
+        ensures flags { self.new.flags ≡ with_needs self.old.flags needs }
+        ensures here { (h : spec.Here) (l : List Needs) → IsHere self.old h l →
+            IsHere self.new (spec.under (with_needs h.flags needs) h) l }
+    {
+        self.flags = with_needs(self.flags, needs);
+    }
+
+    /// Goes into a group.
+    pub(crate) fn enter(&mut self)
+        ensures { (h : spec.Here) (l : List Needs) → IsHere self.old h l → IsHere self.new (spec.deeper h) l }
+    {
+        self.left = self.left.saturating_sub(1);
+    }
+
+    /// Counts a group with a number. There are fewer than a word holds: no memory has room for more.
+    pub(crate) fn count_opening(&mut self) -> Result<(), AllocError>
+        ensures { OnOk result ((h : spec.Here) (l : List Needs) → IsHere self.old h l →
+            IsHere self.new (spec.past_groups 1 h) l) }
+    {
+        self.opened = self.opened.checked_add(1).ok_or(AllocError)?;
+        Ok(())
+    }
+
+    /// Leaves a group that stands at `outside`: the flags from before hold again.
+    pub(crate) fn leave(&mut self, outside: &Here)
+        ensures { (h e : spec.Here) (k l : List Needs) → IsHere outside.now h k → IsHere self.old e l →
+            IsHere self.new (record h { opened = e.opened }) l }
+    {
+        self.flags = outside.flags;
+        self.left = outside.left;
+    }
+}

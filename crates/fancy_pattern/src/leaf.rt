@@ -1,0 +1,158 @@
+//! Trees that hold no other.
+ghost use Rattle.std.specs.Prelude.{◌≡◌, List, ◌++◌, codes, nat_lt, true, OnOk};
+ghost use Rattle.std.specs.List.{list_all};
+ghost use Rattle.fancy_grammar.specs.Marks.{Marks};
+ghost use Rattle.fancy_grammar.specs.Pattern as spec;
+ghost use Rattle.fancy_grammar.specs.PatternLetters as letters;
+ghost use Rattle.fancy_grammar.specs.PatternReference as reference;
+ghost use Rattle.fancy_grammar.specs.declared.needs.Needs.{Needs};
+ghost use Rattle.fancy_pattern.specs.Sink.{Added};
+ghost use Rattle.fancy_syntax.specs.View.{view};
+ghost use Rattle.fancy_pattern.specs.Wheres.{IsHere, IsKnown, alone_text};
+
+use crate::here::Here;
+use crate::letters::{put_bytes, put_literal};
+use crate::names::Known;
+use crate::reference::{put_backref, put_backref_at_level, put_call, put_target, put_unresolved};
+use crate::sink::{Sink, put_ascii};
+use crate::source::put_delegate;
+use fancy_lex::flags::Flags;
+use fancy_syntax::expr::{Absent, Assertion, BacktrackingControlVerb, Expr};
+use std::alloc::AllocError;
+
+/// The text of any character.
+fn any_text(newline: bool, crlf: bool, flags: Flags) -> &'static str
+    ensures text { letters.any_text flags newline crlf ≡ result.now }
+    ensures ascii { list_all (λ b. nat_lt b 128) result.now ≡ true }
+{
+    if newline == flags.dotnl && crlf == flags.crlf {
+        "."
+    } else if newline {
+        r"\O"
+    } else {
+        r"\N"
+    }
+}
+
+/// The text of an assertion.
+fn assertion_text(assertion: Assertion, flags: Flags) -> &'static str
+    ensures text { letters.assertion_text flags assertion ≡ result.now }
+    ensures ascii { list_all (λ b. nat_lt b 128) result.now ≡ true }
+{
+    match assertion {
+        Assertion::StartText => if flags.multi { r"\A" } else { "^" },
+        Assertion::EndText => if flags.multi { r"\z" } else { "$" },
+        Assertion::EndTextIgnoreTrailingNewlines { .. } => r"\Z",
+        Assertion::StartLine { .. } => "^",
+        Assertion::StartLineOniguruma { .. } => "^",
+        Assertion::EndLine { .. } => "$",
+        Assertion::WordBoundary => r"\b",
+        Assertion::NotWordBoundary => r"\B",
+        Assertion::LeftWordBoundary => if flags.oniguruma_mode {
+            r"\b{start}"
+        } else {
+            r"\<"
+        },
+        Assertion::RightWordBoundary => if flags.oniguruma_mode {
+            r"\b{end}"
+        } else {
+            r"\>"
+        },
+        Assertion::LeftWordHalfBoundary => r"\b{start-half}",
+        Assertion::RightWordHalfBoundary => r"\b{end-half}",
+    }
+}
+
+/// The name of a verb, as it stands in the parentheses.
+pub(crate) fn verb_name(verb: BacktrackingControlVerb) -> &'static str
+    ensures text { spec.verb_name verb ≡ result.now }
+    ensures ascii { list_all (λ b. nat_lt b 128) result.now ≡ true }
+{
+    match verb {
+        BacktrackingControlVerb::Fail => "*FAIL",
+        BacktrackingControlVerb::Accept => "*ACCEPT",
+        BacktrackingControlVerb::Commit => "*COMMIT",
+        BacktrackingControlVerb::Skip => "*SKIP",
+        BacktrackingControlVerb::Prune => "*PRUNE",
+    }
+}
+
+/// Writes any character.
+#[tactic(auto, using(crate::proofs::SinkLemmas::added_steps))]
+fn put_any<S: Sink>(out: &mut S, newline: bool, crlf: bool, flags: Flags) -> Result<(), AllocError>
+    ensures { OnOk result (Added S.holds out.old out.new (letters.any_text flags newline crlf)) }
+{
+    put_ascii(out, any_text(newline, crlf, flags))
+}
+
+/// Writes an assertion.
+#[tactic(auto, using(crate::proofs::SinkLemmas::added_steps))]
+fn put_assertion<S: Sink>(out: &mut S, assertion: Assertion, flags: Flags) -> Result<(), AllocError>
+    ensures { OnOk result (Added S.holds out.old out.new (letters.assertion_text flags assertion)) }
+{
+    put_ascii(out, assertion_text(assertion, flags))
+}
+
+/// Writes a verb.
+#[tactic(auto, using(crate::proofs::SinkLemmas::added_steps))]
+fn put_verb<S: Sink>(out: &mut S, verb: BacktrackingControlVerb) -> Result<(), AllocError>
+    ensures { OnOk result (Added S.holds out.old out.new (spec.parenthesized (spec.verb_name verb))) }
+{
+    out.put('(')?;
+    put_ascii(out, verb_name(verb))?;
+    out.put(')')
+}
+
+/// Writes a condition on a group that stands alone.
+#[tactic(auto, using(crate::proofs::SinkLemmas::added_steps))]
+fn put_condition_alone<S: Sink>(
+    out: &mut S,
+    known: &Known,
+    group: usize,
+    level: Option<isize>,
+) -> Result<(), AllocError>
+    ensures { (m : Marks) → IsKnown known.now m → OnOk result (Added S.holds out.old out.new
+        (codes "(?" ++ (spec.parenthesized (reference.target_text m group level) ++ codes ")"))) }
+{
+    put_ascii(out, "(?(")?;
+    put_target(out, known, group, level)?;
+    put_ascii(out, "))")
+}
+
+/// Writes a leaf where its flags are set, and nothing for a tree that holds others.
+#[tactic(auto, using(crate::proofs::SinkLemmas::added_steps))]
+pub(crate) fn put_leaf<S: Sink>(
+    out: &mut S,
+    known: &Known,
+    leaf: &Expr,
+    here: &Here,
+) -> Result<(), AllocError>
+    ensures { (m : Marks) (h : spec.Here) (l : List Needs) → IsKnown known.now m → IsHere here.now h l →
+        OnOk result (Added S.holds out.old out.new (alone_text m (view leaf.now) h)) }
+{
+    match leaf {
+        Expr::Any { newline, crlf } => put_any(out, *newline, *crlf, here.flags),
+        Expr::Assertion(assertion) => put_assertion(out, *assertion, here.flags),
+        Expr::GeneralNewline { .. } => put_ascii(out, r"\R"),
+        Expr::Literal { val, casei } => put_literal(out, val.as_str(), *casei, here.flags),
+        Expr::LiteralBytes { bytes } => put_bytes(out, bytes.as_slice()),
+        Expr::Delegate { inner, casei } => put_delegate(out, inner.as_str(), *casei, here.flags),
+        Expr::KeepOut => put_ascii(out, r"\K"),
+        Expr::ContinueFromPreviousMatchEnd => put_ascii(out, r"\G"),
+        Expr::BacktrackingControlVerb(verb) => put_verb(out, *verb),
+        Expr::Absent(Absent::Clear) => put_ascii(out, "(?~|)"),
+        Expr::Backref { group, .. } => put_backref(out, known, *group, here.opened),
+        Expr::BackrefWithRelativeRecursionLevel {
+            group,
+            relative_level,
+            ..
+        } => put_backref_at_level(out, known, *group, *relative_level, here.opened),
+        Expr::BackrefExistsCondition {
+            group,
+            relative_recursion_level,
+        } => put_condition_alone(out, known, *group, *relative_recursion_level),
+        Expr::SubroutineCall(group) => put_call(out, known, *group, here.opened),
+        Expr::AstNode(node, _) => put_unresolved(out, node),
+        _ => Ok(()),
+    }
+}

@@ -1,0 +1,213 @@
+//! Characters: as they stand, behind a backslash, and by their codes.
+ghost use Rattle.std.specs.Prelude.{◌≡◌, ◌<◌, ◌/◌, ◌%◌, ◌∷◌, [], true, false, chars, map, OnOk};
+ghost use Rattle.std.specs.Bool.{OnTrue};
+ghost use Rattle.std.specs.List.{flat_map};
+ghost use Rattle.fancy_lex.specs.Characters.{◌∈◌, backslash};
+ghost use Rattle.fancy_lex.specs.Class.{byte_text, upper_hex_digit};
+ghost use Rattle.fancy_grammar.specs.PatternLetters as spec;
+ghost use Rattle.fancy_pattern.specs.Sink.{Added};
+
+use crate::sink::{Sink, put_ascii};
+use fancy_lex::class::upper_hex_digit;
+use fancy_lex::flags::Flags;
+use fancy_lex::text::next;
+use std::alloc::AllocError;
+
+/// A control character, or one of those that show nothing.
+fn is_unseen(c: char) -> bool
+    ensures { result ≡ spec.is_unseen c }
+{
+    matches!(
+        c,
+        '\0'..='\u{1F}'
+            | '\u{7F}'..='\u{A0}'
+            | '\u{AD}'
+            | '\u{2000}'..='\u{200F}'
+            | '\u{2028}'..='\u{202F}'
+            | '\u{205F}'..='\u{206F}'
+            | '\u{3000}'
+            | '\u{FEFF}'
+    )
+}
+
+/// The letter behind a backslash that stands for the character.
+fn letter_of(c: char) -> Option<char>
+    ensures { spec.letter_of c ≡ result }
+{
+    match c {
+        '\n' => Some('n'),
+        '\t' => Some('t'),
+        '\r' => Some('r'),
+        '\u{C}' => Some('f'),
+        '\u{B}' => Some('v'),
+        '\u{7}' => Some('a'),
+        '\u{1B}' => Some('e'),
+        _ => None,
+    }
+}
+
+/// Whether the character is a mark outside a class, whatever stands before it.
+fn is_mark(c: char) -> bool
+    ensures { result ≡ (c ∈ "\\.+*?()|[{^$") }
+{
+    matches!(
+        c,
+        '\\' | '.' | '+' | '*' | '?' | '(' | ')' | '|' | '[' | '{' | '^' | '$'
+    )
+}
+
+/// Whether the character is layout under these flags.
+fn is_layout(c: char, flags: Flags) -> bool
+    ensures { result ≡ spec.is_layout flags c }
+{
+    flags.ignore_space && (c == ' ' || c == '#')
+}
+
+/// Writes a digit of a code.
+fn put_hex_digit<S: Sink>(out: &mut S, digit: u8) -> Result<(), AllocError>
+    requires { digit < 16 }
+    ensures { OnOk result (Added S.holds out.old out.new (upper_hex_digit digit ∷ [])) }
+{
+    out.put(upper_hex_digit(digit))
+}
+
+/// Writes a byte by its code.
+fn put_byte<S: Sink>(out: &mut S, byte: u8) -> Result<(), AllocError>
+    ensures { OnOk result (Added S.holds out.old out.new (byte_text byte)) }
+{
+    put_ascii(out, r"\x")?;
+    put_hex_digit(out, byte / 16)?;
+    put_hex_digit(out, byte % 16)
+}
+
+/// Writes four digits.
+fn put_hex_digits<S: Sink>(out: &mut S, code: u32) -> Result<(), AllocError>
+    requires { code < 65536 }
+    ensures { OnOk result (Added S.holds out.old out.new
+        (map upper_hex_digit (code / 4096 ∷ code / 256 % 16 ∷ code / 16 % 16 ∷ code % 16 ∷ []))) }
+{
+    put_hex_digit(out, (code / 4096) as u8)?;
+    put_hex_digit(out, (code / 256 % 16) as u8)?;
+    put_hex_digit(out, (code / 16 % 16) as u8)?;
+    put_hex_digit(out, (code % 16) as u8)
+}
+
+/// Writes a character of at most four digits by its code.
+#[tactic(auto, using(crate::proofs::SinkLemmas::added_steps))]
+fn put_code<S: Sink>(out: &mut S, c: char) -> Result<(), AllocError>
+    requires { c < 65536 }
+    ensures { OnOk result (Added S.holds out.old out.new (spec.coded c)) }
+{
+    let code = u32::from(c);
+    if code < 0x80 {
+        return put_byte(out, code as u8);
+    }
+    put_ascii(out, r"\u")?;
+    put_hex_digits(out, code)
+}
+
+/// Writes a character that shows, or the code of one that does not.
+fn put_plain<S: Sink>(out: &mut S, c: char) -> Result<(), AllocError>
+    ensures { OnOk result (Added S.holds out.old out.new (spec.plain c)) }
+{
+    if is_unseen(c) {
+        put_code(out, c)
+    } else {
+        out.put(c)
+    }
+}
+
+/// Writes the character behind a backslash.
+#[tactic(auto, using(crate::proofs::SinkLemmas::added_steps))]
+fn put_behind_backslash<S: Sink>(out: &mut S, c: char) -> Result<(), AllocError>
+    ensures { OnOk result (Added S.holds out.old out.new (backslash ∷ c ∷ [])) }
+{
+    out.put('\\')?;
+    out.put(c)
+}
+
+/// Writes a character of a class.
+pub(crate) fn put_class_character<S: Sink>(out: &mut S, c: char) -> Result<(), AllocError>
+    ensures { OnOk result (Added S.holds out.old out.new (spec.by_letter_or c (spec.plain c))) }
+{
+    match letter_of(c) {
+        Some(letter) => put_behind_backslash(out, letter),
+        None => put_plain(out, c),
+    }
+}
+
+/// Writes a character of a Literal that ignores case.
+fn put_caseless<S: Sink>(out: &mut S, c: char, flags: Flags) -> Result<(), AllocError>
+    ensures { OnOk result (Added S.holds out.old out.new (spec.character flags true c)) }
+{
+    if is_mark(c) || is_layout(c, flags) {
+        put_code(out, c)
+    } else {
+        put_plain(out, c)
+    }
+}
+
+/// Writes a character of a Literal with its case kept.
+fn put_cased<S: Sink>(out: &mut S, c: char, flags: Flags) -> Result<(), AllocError>
+    ensures { OnOk result (Added S.holds out.old out.new (spec.character flags false c)) }
+{
+    if let Some(letter) = letter_of(c) {
+        return put_behind_backslash(out, letter);
+    }
+    if is_mark(c) || c == ']' || c == '}' || is_layout(c, flags) || flags.casei {
+        put_behind_backslash(out, c)
+    } else {
+        put_plain(out, c)
+    }
+}
+
+/// Whether an ASCII letter or digit stands for itself in a Literal: with its case kept it needs a backslash where the
+/// flag is on.
+#[tactic(auto, using(crate::proofs::LetterLemmas::stands_for_itself))]
+fn is_itself(c: char, casei: bool, flags: Flags) -> bool
+    ensures { OnTrue result (spec.character flags casei c ≡ c ∷ []) }
+{
+    c.is_ascii_alphanumeric() && (casei || !flags.casei)
+}
+
+/// Writes a character of a Literal.
+#[tactic(auto, using(crate::proofs::SinkLemmas::added_steps))]
+fn put_character<S: Sink>(out: &mut S, c: char, casei: bool, flags: Flags) -> Result<(), AllocError>
+    ensures { OnOk result (Added S.holds out.old out.new (spec.character flags casei c)) }
+{
+    if is_itself(c, casei, flags) {
+        return out.put(c);
+    }
+    if casei {
+        put_caseless(out, c, flags)
+    } else {
+        put_cased(out, c, flags)
+    }
+}
+
+/// Writes a Literal.
+pub(crate) fn put_literal<S: Sink>(
+    out: &mut S,
+    val: &str,
+    casei: bool,
+    flags: Flags,
+) -> Result<(), AllocError>
+    ensures { OnOk result (Added S.holds out.old out.new (flat_map (spec.character flags casei) (chars val.now))) }
+{
+    let mut rest = val;
+    while let Some((c, behind)) = next(rest) {
+        put_character(out, c, casei, flags)?;
+        rest = behind;
+    }
+    Ok(())
+}
+
+/// Writes bytes by their codes.
+pub(crate) fn put_bytes<S: Sink>(out: &mut S, bytes: &[u8]) -> Result<(), AllocError>
+    ensures { OnOk result (Added S.holds out.old out.new (flat_map byte_text bytes.now)) }
+{
+    for byte in bytes {
+        put_byte(out, *byte)?;
+    }
+    Ok(())
+}

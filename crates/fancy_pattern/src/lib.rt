@@ -1,0 +1,87 @@
+//! The text of every parsed tree, for the flags that its pattern was parsed under.
+//!
+//! ```rust
+//! use fancy_pattern::to_pattern;
+//!
+//! let tree = Expr::parse_tree_with_flags(alloc, "(?<n>a)\\k<n>++", flags)?;
+//! if let Some(text) = to_pattern(alloc, &tree, flags)? {
+//!     println!(rt; "{text}")?;
+//! }
+//! ```
+#![tactic(auto)]
+
+ghost use Rattle.std.specs.Prelude.{◌≡◌, IfOk, IfSome, IfNone};
+ghost use Rattle.fancy_lex.specs.Flags.{flags_of};
+ghost use Rattle.fancy_lex.specs.Text.{text_of};
+ghost use Rattle.fancy_grammar.specs.Pattern.{pattern_text};
+ghost use Rattle.fancy_grammar.specs.OfPattern.{IsOfPattern};
+ghost use Rattle.fancy_grammar.specs.ReadAs.{IsReadAs};
+ghost use Rattle.fancy_syntax.specs.Answer.{marks_of};
+ghost use Rattle.fancy_syntax.specs.View.{view};
+
+mod flags;
+mod group;
+mod here;
+mod leaf;
+mod letters;
+mod names;
+mod needs;
+mod parting;
+mod quantifier;
+mod reference;
+mod same;
+mod sink;
+mod source;
+mod write;
+
+use crate::here::Here;
+use crate::names::Known;
+use crate::needs::push_needs;
+use crate::same::is_read_as;
+use crate::write::put_pattern;
+use fancy_lex::flags::Flags;
+use fancy_syntax::tree::ExprTree;
+use std::alloc::{AllocError, Global};
+
+/// Returns a pattern that is parsed, under the same flags, as this tree with the same group information; only the
+/// position in an `AstNode` may differ. Pass the flags that the tree was parsed under.
+///
+/// Returns `None` if the text for the tree does not parse back as this tree, as can happen with other flags or after
+/// the tree was changed. For a tree that was parsed under the same flags, and that is not changed, a text is always
+/// returned. Returns `AllocError` if out of memory.
+pub fn to_pattern(alloc: Global, tree: &ExprTree, flags: u32) -> Result<Option<String>, AllocError>
+    ensures text { IfOk result (λ t. IfSome t (λ s.
+        text_of s ≡ pattern_text (flags_of flags) (view tree.now.expr) (marks_of tree.now))) }
+    ensures reads_back { IfOk result (λ t. IfSome t (λ s.
+        IsReadAs (flags_of flags) (text_of s) (view tree.now.expr) (marks_of tree.now))) }
+    ensures none { IfOk result (λ t. IfNone t
+        (IsReadAs (flags_of flags) (pattern_text (flags_of flags) (view tree.now.expr) (marks_of tree.now))
+        (view tree.now.expr) (marks_of tree.now) → ⊥)) }
+    ensures parsed { IfOk result (λ t. IfNone t
+        (IsOfPattern (flags_of flags) (view tree.now.expr) (marks_of tree.now) → ⊥)) }
+{
+    let text = text_of_tree(alloc, tree, Flags::from_bits(flags))?;
+    if is_read_as(alloc, text.as_str(), flags, tree)? {
+        Ok(Some(text))
+    } else {
+        Ok(None)
+    }
+}
+
+/// What a list has capacity for from the start, so that a small one does not grow.
+const FIRST_CAPACITY: usize = 32;
+
+/// The tree's text. It is written to a string that has capacity for more than a byte a node from the start, and grows
+/// from there; what is answered owns memory for the text alone.
+fn text_of_tree(alloc: Global, tree: &ExprTree, flags: Flags) -> Result<String, AllocError>
+    ensures { IfOk result (λ s. text_of s ≡ pattern_text flags (view tree.now.expr) (marks_of tree.now)) }
+{
+    let known = Known::new(alloc, tree)?;
+    let mut listed = Vec::with_capacity(alloc, FIRST_CAPACITY)?;
+    let needs = push_needs(&mut listed, &tree.expr, flags.oniguruma_mode)?;
+    let here = Here::at_start(flags, listed.as_slice());
+    let capacity = listed.len().saturating_add(FIRST_CAPACITY);
+    let mut text = String::with_capacity(alloc, capacity)?;
+    put_pattern(&mut text, &known, &tree.expr, needs.common, here)?;
+    String::from_str(alloc, text.as_str())
+}

@@ -1,0 +1,298 @@
+//! What a tree needs of the flags that a text sets.
+ghost use Rattle.std.specs.Prelude.{◌≡◌, Bool, chars, ◌++◌, Decides, IfOk, OnOk};
+ghost use Rattle.std.specs.List.{list_all};
+ghost use Rattle.fancy_grammar.specs.Label.{literal, delegate};
+ghost use Rattle.fancy_grammar.specs.PatternNeeds as spec;
+ghost use Rattle.fancy_grammar.specs.PatternWalk.{needs_alone, needs_listed};
+ghost use Rattle.fancy_syntax.specs.View.{view};
+
+use crate::parting::is_text;
+use fancy_grammar::needs::{Need, Needs};
+use fancy_lex::flags::Flags;
+use fancy_lex::text::next;
+use fancy_syntax::expr::{Assertion, Expr};
+use std::alloc::AllocError;
+
+/// Nothing.
+pub(crate) fn no_needs() -> Needs
+    ensures { result ≡ spec.no_needs }
+{
+    Needs {
+        casei: Need::Free,
+        multi: Need::Free,
+        dotnl: Need::Free,
+        crlf: Need::Free,
+    }
+}
+
+/// The case flag as it is told.
+fn needs_case(casei: bool) -> Needs
+    ensures { result ≡ spec.needs_case casei }
+{
+    Needs {
+        casei: Need::Fixed(casei),
+        ..no_needs()
+    }
+}
+
+/// Lines, which end so.
+fn needs_line(crlf: bool) -> Needs
+    ensures { result ≡ spec.needs_line crlf }
+{
+    Needs {
+        multi: Need::Fixed(true),
+        crlf: Need::Fixed(crlf),
+        ..no_needs()
+    }
+}
+
+/// Whether each character stands behind a backslash for itself with its case kept, whatever the flags.
+fn are_kept_by_backslash(text: &str, oniguruma_mode: bool) -> bool
+    ensures { result ≡ list_all (spec.is_kept_by_backslash oniguruma_mode) (chars text.now) }
+{
+    let mut rest = text;
+    while let Some((c, behind)) = next(rest) {
+        if c.is_ascii_alphanumeric() || !oniguruma_mode && (c == '<' || c == '>') {
+            return false;
+        }
+        rest = behind;
+    }
+    true
+}
+
+/// Whether the text is what `\h` or `\H` is read as.
+fn is_hex_class(text: &str) -> bool
+    ensures { result ≡ spec.is_hex_class (chars text.now) }
+{
+    is_text(text, "[0-9A-Fa-f]") || is_text(text, "[^0-9A-Fa-f]")
+}
+
+/// What an assertion needs.
+fn assertion_needs(assertion: Assertion) -> Needs
+    ensures { result ≡ spec.assertion_needs assertion }
+{
+    match assertion {
+        Assertion::StartLine { crlf }
+        | Assertion::StartLineOniguruma { crlf }
+        | Assertion::EndLine { crlf } => needs_line(crlf),
+        Assertion::EndTextIgnoreTrailingNewlines { crlf } => Needs {
+            crlf: Need::Fixed(crlf),
+            ..no_needs()
+        },
+        _ => no_needs(),
+    }
+}
+
+/// A dot with these fields.
+fn needs_dot(newline: bool, crlf: bool) -> Needs
+    ensures { result ≡ spec.needs_dot newline crlf }
+{
+    Needs {
+        dotnl: Need::Fixed(newline),
+        crlf: Need::Fixed(crlf),
+        ..no_needs()
+    }
+}
+
+/// What a Literal needs.
+fn literal_needs(text: &str, casei: bool, oniguruma_mode: bool) -> Needs
+    ensures { result ≡ spec.leaf_needs oniguruma_mode (literal (chars text.now) casei) }
+{
+    if !casei && are_kept_by_backslash(text, oniguruma_mode) {
+        no_needs()
+    } else {
+        needs_case(casei)
+    }
+}
+
+/// What a Delegate needs.
+fn delegate_needs(text: &str, casei: bool) -> Needs
+    ensures { (o : Bool) → result ≡ spec.leaf_needs o (delegate (chars text.now) casei) }
+{
+    if !casei && is_hex_class(text) {
+        no_needs()
+    } else {
+        needs_case(casei)
+    }
+}
+
+/// What a leaf needs; nothing for a tree that holds others.
+fn leaf_needs(tree: &Expr, oniguruma_mode: bool) -> Needs
+    ensures { result ≡ needs_alone oniguruma_mode (view tree.now) }
+{
+    match tree {
+        Expr::Literal { val, casei } => literal_needs(val.as_str(), *casei, oniguruma_mode),
+        Expr::Delegate { inner, casei } => delegate_needs(inner.as_str(), *casei),
+        Expr::Backref { casei, .. } => needs_case(*casei),
+        Expr::BackrefWithRelativeRecursionLevel { casei, .. } => needs_case(*casei),
+        Expr::Any { newline, crlf } => if *newline == *crlf {
+            no_needs()
+        } else {
+            needs_dot(*newline, *crlf)
+        },
+        Expr::Assertion(assertion) => assertion_needs(*assertion),
+        _ => no_needs(),
+    }
+}
+
+/// What the one needs, or where that needs nothing the other behind it.
+fn first(one: Need, other: Need) -> Need
+    ensures { result ≡ spec.first one other }
+{
+    match one {
+        Need::Free => other,
+        _ => one,
+    }
+}
+
+/// Adds to what the one needs what the other behind it does.
+#[inline(always)]
+#[tactic(auto, using(crate::proofs::NeedsWalk::first_free))]
+fn join_first(one: &mut Need, other: Need)
+    ensures { one.new ≡ spec.first one.old other }
+{
+    match other {
+        Need::Free => {}
+        _ => *one = first(*one, other),
+    }
+}
+
+/// The same for each flag.
+fn join_first_needs(one: &mut Needs, other: &Needs)
+    ensures { one.new ≡ spec.joined spec.first one.old other.now }
+{
+    join_first(&mut one.casei, other.casei);
+    join_first(&mut one.multi, other.multi);
+    join_first(&mut one.dotnl, other.dotnl);
+    join_first(&mut one.crlf, other.crlf);
+}
+
+/// What both need together.
+fn both(one: Need, other: Need) -> Need
+    ensures { result ≡ spec.both one other }
+{
+    match (one, other) {
+        (Need::Free, _) => other,
+        (_, Need::Free) => one,
+        (Need::Fixed(a), Need::Fixed(b)) if a == b => one,
+        _ => Need::Torn,
+    }
+}
+
+/// Adds to what the one needs what the other does.
+#[inline(always)]
+#[tactic(auto, using(crate::proofs::NeedsWalk::both_free))]
+fn join_both(one: &mut Need, other: Need)
+    ensures { one.new ≡ spec.both one.old other }
+{
+    match other {
+        Need::Free => {}
+        _ => *one = both(*one, other),
+    }
+}
+
+/// The same for each flag.
+fn join_both_needs(one: &mut Needs, other: &Needs)
+    ensures { one.new ≡ spec.joined spec.both one.old other.now }
+{
+    join_both(&mut one.casei, other.casei);
+    join_both(&mut one.multi, other.multi);
+    join_both(&mut one.dotnl, other.dotnl);
+    join_both(&mut one.crlf, other.crlf);
+}
+
+/// What a tree needs.
+#[derive(Clone, Copy)]
+pub(crate) struct TreeNeeds {
+    /// What the first leaf in it needs that needs something, for each flag.
+    pub(crate) first: Needs,
+    /// What all leaves in it need together.
+    pub(crate) common: Needs,
+}
+
+impl TreeNeeds {
+    /// Adds what a tree behind it needs. It is lent, and not inlined, so that its bytes are not moved one by one.
+    #[inline(never)]
+    fn join(&mut self, below: &TreeNeeds)
+        ensures first { self.new.first ≡ spec.joined spec.first self.old.first below.now.first }
+        ensures common { self.new.common ≡ spec.joined spec.both self.old.common below.now.common }
+    {
+        join_first_needs(&mut self.first, &below.first);
+        join_both_needs(&mut self.common, &below.common);
+    }
+}
+
+/// Adds for each node of the tree, in preorder, what the first leaf in it needs that needs something, and answers what
+/// the tree needs.
+pub(crate) fn push_needs(
+    list: &mut Vec<Needs>,
+    tree: &Expr,
+    oniguruma_mode: bool,
+) -> Result<TreeNeeds, AllocError>
+    ensures first { IfOk result (λ n. n.first ≡ spec.needs spec.first oniguruma_mode (view tree.now)) }
+    ensures common { IfOk result (λ n. n.common ≡ spec.needs spec.both oniguruma_mode (view tree.now)) }
+    ensures list { OnOk result (list.new.items ≡ list.old.items ++ needs_listed oniguruma_mode (view tree.now)) }
+{
+    let at = list.len();
+    let alone = leaf_needs(tree, oniguruma_mode);
+    list.push(alone)?;
+    let mut needs = TreeNeeds {
+        first: alone,
+        common: alone,
+    };
+    if tree.is_leaf_node() {
+        return Ok(needs);
+    }
+    let mut children = tree.children_iter();
+    while let Some(child) = children.next() {
+        let below = push_needs(list, child, oniguruma_mode)?;
+        needs.join(&below);
+    }
+    if let Some(place) = list.get_mut(at) {
+        *place = needs.first;
+    }
+    Ok(needs)
+}
+
+/// The flag as it is needed, or else as it is.
+fn fixed_or(flag: bool, need: Need) -> bool
+    ensures { result ≡ spec.fixed_or flag need }
+{
+    match need {
+        Need::Fixed(on) => on,
+        _ => flag,
+    }
+}
+
+/// Whether the flag is as it is needed.
+fn is_met(flag: bool, need: Need) -> bool
+    ensures { Decides result (spec.fixed_or flag need ≡ flag) }
+{
+    match need {
+        Need::Fixed(on) => on == flag,
+        _ => true,
+    }
+}
+
+/// Whether the flags are as they are needed.
+pub(crate) fn are_met(flags: Flags, needs: Needs) -> bool
+    ensures { Decides result (spec.with_needs flags needs ≡ flags) }
+{
+    is_met(flags.casei, needs.casei)
+        && is_met(flags.multi, needs.multi)
+        && is_met(flags.dotnl, needs.dotnl)
+        && is_met(flags.crlf, needs.crlf)
+}
+
+/// The flags as they are needed.
+pub(crate) fn with_needs(flags: Flags, needs: Needs) -> Flags
+    ensures { result ≡ spec.with_needs flags needs }
+{
+    Flags {
+        casei: fixed_or(flags.casei, needs.casei),
+        multi: fixed_or(flags.multi, needs.multi),
+        dotnl: fixed_or(flags.dotnl, needs.dotnl),
+        crlf: fixed_or(flags.crlf, needs.crlf),
+        ..flags
+    }
+}

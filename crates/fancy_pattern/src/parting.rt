@@ -1,0 +1,51 @@
+//! Texts before which an empty comment stands, since they would be read with what stands before them.
+ghost use Rattle.std.specs.Prelude.{◌≡◌, true, nat_lt, chars};
+ghost use Rattle.std.specs.List.{list_all};
+ghost use Rattle.std.specs.Str.{bytes_eq};
+ghost use Rattle.fancy_lex.specs.Number.{at_digit};
+ghost use Rattle.fancy_pattern.specs.Sink.{needs_parting};
+
+use fancy_lex::text::{after, is_same_text, next};
+use fancy_parts::heads::references::begins_target;
+
+/// What stands before a text.
+#[derive(Clone, Copy)]
+pub(crate) enum Parting {
+    /// A number, to which a digit would belong.
+    Number,
+    /// `(?(`, behind which a target or `DEFINE` would be read.
+    Condition,
+    /// `(?~`, to which a bar would belong.
+    Absent,
+}
+
+impl Parting {
+    /// Whether the text has to be parted from what stands before it.
+    pub(crate) fn is_needed(self, text: &str) -> bool
+        ensures { result ≡ needs_parting self (chars text.now) }
+    {
+        match self {
+            Parting::Number => begins_with_digit(text),
+            Parting::Condition => begins_target(text) || is_text(text, "DEFINE"),
+            Parting::Absent => after(text, '|').is_some(),
+        }
+    }
+}
+
+/// Whether the text is the word, which has ASCII characters alone.
+pub(crate) fn is_text(text: &str, word: &str) -> bool
+    requires { list_all (λ b. nat_lt b 128) word.now ≡ true }
+    ensures { result ≡ bytes_eq (chars text.now) word.now }
+{
+    is_same_text(text, word)
+}
+
+/// Whether an ASCII digit stands at the front.
+fn begins_with_digit(text: &str) -> bool
+    ensures { result ≡ at_digit (chars text.now) }
+{
+    match next(text) {
+        Some((c, _)) => c.is_ascii_digit(),
+        None => false,
+    }
+}

@@ -1,0 +1,160 @@
+//! Quantifiers.
+ghost use Rattle.std.specs.Prelude.{◌≡◌, ◌-◌, ℕ, ◌++◌, codes, decimal, true, nat_lt, OnOk};
+ghost use Rattle.std.specs.List.{list_all};
+ghost use Rattle.fancy_parts.specs.Quote.{range, counts_as};
+ghost use Rattle.fancy_grammar.specs.Depth.{max_depth};
+ghost use Rattle.fancy_grammar.specs.PatternQuantifier as spec;
+ghost use Rattle.fancy_pattern.specs.Sink.{Added};
+ghost use Rattle.fancy_syntax.specs.View.{view};
+
+use crate::sink::{Sink, put_ascii};
+use fancy_lex::flags::Flags;
+use fancy_parts::quote::mark;
+use fancy_syntax::expr::Expr;
+use std::alloc::AllocError;
+
+/// The counts of a Repeat, what is tried first, and whether it is not entered again.
+#[derive(Clone, Copy)]
+pub(crate) struct Quantifier {
+    pub(crate) lo: usize,
+    pub(crate) hi: usize,
+    pub(crate) greedy: bool,
+    pub(crate) possessive: bool,
+}
+
+/// Whether a possessive quantifier, or in Oniguruma mode one whose counts have changed places, is read as an atomic
+/// group of a Repeat with these counts.
+pub(crate) fn is_possessive(lo: usize, hi: usize, flags: Flags) -> bool
+    ensures { result ≡ spec.is_possessive flags lo hi }
+{
+    !flags.oniguruma_mode || lo < hi
+}
+
+/// Whether the tree's text ends with a quantifier of its own.
+pub(crate) fn is_quantified(tree: &Expr, flags: Flags) -> bool
+    ensures { result ≡ spec.is_quantified flags (view tree.now) }
+{
+    match tree {
+        Expr::Repeat { .. } => true,
+        Expr::AtomicGroup(child) => match &**child {
+            Expr::Repeat { lo, hi, .. } => is_possessive(*lo, *hi, flags),
+            _ => false,
+        },
+        _ => false,
+    }
+}
+
+/// The most quantifiers that may stand one behind another in Oniguruma mode.
+const MOST_ADJACENT: usize = 5;
+
+/// How many quantifiers may stand one behind another where so many groups may yet open.
+pub(crate) fn most_quantifiers(flags: Flags, left: usize) -> usize
+    ensures { (d : ℕ) → left ≡ max_depth - d → result ≡ spec.most_quantifiers flags d }
+{
+    if flags.oniguruma_mode {
+        left.min(MOST_ADJACENT)
+    } else {
+        1
+    }
+}
+
+/// Writes what stands in the braces of a quantifier.
+#[tactic(auto, using(crate::proofs::SinkLemmas::added_steps, fancy_parts::proofs::QuoteLemmas::range_steps))]
+fn put_range<S: Sink>(out: &mut S, lo: usize, hi: usize) -> Result<(), AllocError>
+    ensures { OnOk result (Added S.holds out.old out.new (range lo hi)) }
+{
+    if lo == hi {
+        out.put_number(lo)
+    } else if hi == usize::MAX {
+        out.put_number(lo)?;
+        out.put(',')
+    } else {
+        out.put_number(lo)?;
+        out.put(',')?;
+        out.put_number(hi)
+    }
+}
+
+/// The mark that is left for the counts where the quantifier is adjacent to another: `?` and `+` would belong to that.
+fn mark_left(adjacent: bool, mark: Option<char>) -> Option<char>
+    ensures { spec.mark_left adjacent mark ≡ result }
+{
+    match mark {
+        Some(c) if adjacent && c != '*' => None,
+        _ => mark,
+    }
+}
+
+/// Writes the mark, or the counts in braces where there is none.
+fn put_counts<S: Sink>(
+    out: &mut S,
+    lo: usize,
+    hi: usize,
+    mark: Option<char>,
+) -> Result<(), AllocError>
+    ensures { OnOk result (Added S.holds out.old out.new (counts_as lo hi mark)) }
+{
+    match mark {
+        Some(c) => out.put(c),
+        None => {
+            out.put('{')?;
+            put_range(out, lo, hi)?;
+            out.put('}')
+        }
+    }
+}
+
+/// Writes the counts in braces with their places changed.
+fn put_swapped<S: Sink>(out: &mut S, lo: usize, hi: usize) -> Result<(), AllocError>
+    ensures { OnOk result (Added S.holds out.old out.new
+        (codes "{" ++ (decimal hi ++ (codes "," ++ (decimal lo ++ codes "}"))))) }
+{
+    out.put('{')?;
+    out.put_number(hi)?;
+    out.put(',')?;
+    out.put_number(lo)?;
+    out.put('}')
+}
+
+/// `?` where the quantifier is not greedy, or under SWAP_GREED where it is.
+fn lazy_mark(flags: Flags, greedy: bool) -> &'static str
+    ensures text { spec.lazy_mark flags greedy ≡ result.now }
+    ensures ascii { list_all (λ b. nat_lt b 128) result.now ≡ true }
+{
+    if greedy == flags.swap_greed { "?" } else { "" }
+}
+
+/// `+` where the quantifier is possessive.
+fn possessive_mark(possessive: bool) -> &'static str
+    ensures text { spec.possessive_mark possessive ≡ result.now }
+    ensures ascii { list_all (λ b. nat_lt b 128) result.now ≡ true }
+{
+    if possessive { "+" } else { "" }
+}
+
+/// Writes a quantifier, which may be adjacent to another.
+pub(crate) fn put_quantifier<S: Sink>(
+    out: &mut S,
+    quantifier: Quantifier,
+    adjacent: bool,
+    flags: Flags,
+) -> Result<(), AllocError>
+    ensures { OnOk result (Added S.holds out.old out.new
+        (spec.quantifier_text flags quantifier.possessive adjacent quantifier.lo quantifier.hi quantifier.greedy)) }
+{
+    let Quantifier {
+        lo,
+        hi,
+        greedy,
+        possessive,
+    } = quantifier;
+    let mark = mark_left(adjacent, mark(lo, hi));
+    let lazy = lazy_mark(flags, greedy);
+    if flags.oniguruma_mode && possessive && mark.is_none() {
+        put_swapped(out, lo, hi)?;
+        return put_ascii(out, lazy);
+    }
+    put_counts(out, lo, hi, mark)?;
+    put_ascii(out, lazy)?;
+    put_ascii(out, possessive_mark(possessive))
+}

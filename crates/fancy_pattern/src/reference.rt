@@ -1,0 +1,342 @@
+//! References, calls and the targets of conditions.
+ghost use Rattle.std.specs.Prelude.{◌≡◌, ℕ, ◌++◌, [], ◌∷◌, ◌<◌, codes, chars, decimal, nat_lt, true, unsigned_abs, OnOk, if◌then◌else◌};
+ghost use Rattle.std.specs.List.{list_all};
+ghost use Rattle.fancy_lex.specs.Characters.{◌∈◌, is_among};
+ghost use Rattle.fancy_lex.specs.NameViews.{view_target};
+ghost use Rattle.fancy_grammar.specs.Label.{ast_call};
+ghost use Rattle.fancy_grammar.specs.Marks.{Marks};
+ghost use Rattle.fancy_grammar.specs.Pattern.{Here};
+ghost use Rattle.fancy_grammar.specs.PatternReference as spec;
+ghost use Rattle.fancy_pattern.specs.Sink.{Added};
+ghost use Rattle.fancy_syntax.specs.View.{view_ast};
+ghost use Rattle.fancy_pattern.specs.Wheres.{IsKnown, alone_text};
+
+use crate::names::Known;
+use crate::sink::{Sink, put_ascii};
+use fancy_lex::escape::reference::is_relative;
+use fancy_lex::text::{next, split_at};
+use fancy_syntax::expr::{AstNode, CaptureGroupTarget};
+use std::alloc::AllocError;
+
+/// The sign of a number.
+fn sign(amount: isize) -> char
+    ensures { spec.signed amount ≡ result ∷ decimal (unsigned_abs amount) }
+{
+    if amount < 0 { '-' } else { '+' }
+}
+
+/// Writes a number with its sign.
+#[tactic(auto, using(crate::proofs::SinkLemmas::added_steps))]
+fn put_signed<S: Sink>(out: &mut S, amount: isize) -> Result<(), AllocError>
+    ensures { OnOk result (Added S.holds out.old out.new (spec.signed amount)) }
+{
+    out.put(sign(amount))?;
+    out.put_number(amount.unsigned_abs())
+}
+
+/// Writes a level with its sign, where there is one.
+#[tactic(auto, using(crate::proofs::SinkLemmas::added_steps))]
+fn put_level<S: Sink>(out: &mut S, level: Option<isize>) -> Result<(), AllocError>
+    ensures { OnOk result (Added S.holds out.old out.new (spec.level_text level)) }
+{
+    match level {
+        Some(level) => put_signed(out, level),
+        None => Ok(()),
+    }
+}
+
+/// Writes a text between marks, behind a head.
+#[tactic(auto, using(crate::proofs::SinkLemmas::added_steps))]
+fn put_marked<S: Sink>(out: &mut S, head: &str, text: &str) -> Result<(), AllocError>
+    requires { list_all (λ b. nat_lt b 128) head.now ≡ true }
+    ensures { OnOk result (Added S.holds out.old out.new (spec.marked head.now (chars text.now))) }
+{
+    put_ascii(out, head)?;
+    out.put('<')?;
+    out.put_text(text)?;
+    out.put('>')
+}
+
+/// Writes a text between quotes, behind a head.
+#[tactic(auto, using(crate::proofs::SinkLemmas::added_steps))]
+fn put_quoted<S: Sink>(out: &mut S, head: &str, text: &str) -> Result<(), AllocError>
+    requires { list_all (λ b. nat_lt b 128) head.now ≡ true }
+    ensures { OnOk result (Added S.holds out.old out.new
+        (head.now ++ (codes "'" ++ (chars text.now ++ codes "'")))) }
+{
+    put_ascii(out, head)?;
+    out.put('\'')?;
+    out.put_text(text)?;
+    out.put('\'')
+}
+
+/// Writes what a back reference names: the group by its name, where that means this group and stands before, or else by
+/// its number.
+#[tactic(auto, using(crate::proofs::SinkLemmas::added_steps))]
+fn put_group<S: Sink>(
+    out: &mut S,
+    known: &Known,
+    group: usize,
+    opened: usize,
+) -> Result<(), AllocError>
+    ensures { (m : Marks) → IsKnown known.now m →
+        OnOk result (Added S.holds out.old out.new (spec.backref_name m opened group)) }
+{
+    match known.last_name(group) {
+        Some(name) if group <= opened => out.put_text(name),
+        _ => out.put_number(group),
+    }
+}
+
+/// Writes a back reference.
+#[tactic(auto, using(crate::proofs::SinkLemmas::added_steps))]
+pub(crate) fn put_backref<S: Sink>(
+    out: &mut S,
+    known: &Known,
+    group: usize,
+    opened: usize,
+) -> Result<(), AllocError>
+    ensures { (m : Marks) → IsKnown known.now m →
+        OnOk result (Added S.holds out.old out.new (spec.backref_text m opened group)) }
+{
+    if known.is_numeric {
+        out.put('\\')?;
+        return out.put_number(group);
+    }
+    put_ascii(out, r"\k<")?;
+    put_group(out, known, group, opened)?;
+    out.put('>')
+}
+
+/// Writes a back reference at a level.
+#[tactic(auto, using(crate::proofs::SinkLemmas::added_steps))]
+pub(crate) fn put_backref_at_level<S: Sink>(
+    out: &mut S,
+    known: &Known,
+    group: usize,
+    level: isize,
+    opened: usize,
+) -> Result<(), AllocError>
+    ensures { (m : Marks) → IsKnown known.now m →
+        OnOk result (Added S.holds out.old out.new (spec.backref_at_level_text m opened group level)) }
+{
+    put_ascii(out, r"\k<")?;
+    put_group(out, known, group, opened)?;
+    put_signed(out, level)?;
+    out.put('>')
+}
+
+/// Writes a name and a level between marks.
+#[tactic(auto, using(crate::proofs::SinkLemmas::added_steps))]
+fn put_name_at_level<S: Sink>(
+    out: &mut S,
+    name: &str,
+    level: Option<isize>,
+) -> Result<(), AllocError>
+    ensures { OnOk result (Added S.holds out.old out.new (spec.marked [] (chars name.now ++ spec.level_text level))) }
+{
+    out.put('<')?;
+    out.put_text(name)?;
+    put_level(out, level)?;
+    out.put('>')
+}
+
+/// Writes a number and a level.
+#[tactic(auto, using(crate::proofs::SinkLemmas::added_steps))]
+fn put_number_at_level<S: Sink>(
+    out: &mut S,
+    group: usize,
+    level: Option<isize>,
+) -> Result<(), AllocError>
+    ensures { OnOk result (Added S.holds out.old out.new (decimal group ++ spec.level_text level)) }
+{
+    out.put_number(group)?;
+    put_level(out, level)
+}
+
+/// Writes what a condition on a group asks for.
+#[tactic(auto, using(crate::proofs::SinkLemmas::added_steps))]
+pub(crate) fn put_target<S: Sink>(
+    out: &mut S,
+    known: &Known,
+    group: usize,
+    level: Option<isize>,
+) -> Result<(), AllocError>
+    ensures { (m : Marks) → IsKnown known.now m →
+        OnOk result (Added S.holds out.old out.new (spec.target_text m group level)) }
+{
+    match known.last_name(group) {
+        Some(name) => put_name_at_level(out, name, level),
+        None => put_number_at_level(out, group, level),
+    }
+}
+
+/// Writes a group by its distance: so many groups on, or back.
+#[tactic(auto, using(crate::proofs::SinkLemmas::added_steps))]
+fn put_distance<S: Sink>(out: &mut S, opened: usize, group: usize) -> Result<(), AllocError>
+    ensures { OnOk result (Added S.holds out.old out.new (spec.distance opened group)) }
+{
+    if opened < group {
+        out.put('+')?;
+        out.put_number(group - opened)
+    } else {
+        out.put('-')?;
+        out.put_number((opened - group).checked_add(1).ok_or(AllocError)?)
+    }
+}
+
+/// Writes what a call names: by number where some reference is, and 0 where some call was; else by a name that this
+/// group alone has, or by distance.
+#[tactic(auto, using(crate::proofs::SinkLemmas::added_steps))]
+fn put_called<S: Sink>(
+    out: &mut S,
+    known: &Known,
+    group: usize,
+    opened: usize,
+) -> Result<(), AllocError>
+    ensures { (m : Marks) → IsKnown known.now m →
+        OnOk result (Added S.holds out.old out.new (spec.call_name m opened group)) }
+{
+    if known.is_numeric && (group > 0 || known.self_recursive) {
+        return out.put_number(group);
+    }
+    match known.only_name(group) {
+        Some(name) => out.put_text(name),
+        None => put_distance(out, opened, group),
+    }
+}
+
+/// Writes a call.
+#[tactic(auto, using(crate::proofs::SinkLemmas::added_steps))]
+pub(crate) fn put_call<S: Sink>(
+    out: &mut S,
+    known: &Known,
+    group: usize,
+    opened: usize,
+) -> Result<(), AllocError>
+    ensures { (m : Marks) → IsKnown known.now m →
+        OnOk result (Added S.holds out.old out.new (spec.call_text m opened group)) }
+{
+    put_ascii(out, r"\g<")?;
+    put_called(out, known, group, opened)?;
+    out.put('>')
+}
+
+/// Whether the mark, an ASCII character, stands in the text.
+fn has(text: &str, mark: char) -> bool
+    requires { mark < 128 }
+    ensures { result ≡ is_among mark (chars text.now) }
+{
+    split_at(text, mark).is_some()
+}
+
+/// Writes a call by name as a group.
+#[tactic(auto, using(crate::proofs::SinkLemmas::added_steps))]
+fn put_grouped_call<S: Sink>(out: &mut S, name: &str) -> Result<(), AllocError>
+    ensures { OnOk result (Added S.holds out.old out.new (codes "(?P>" ++ (chars name.now ++ codes ")"))) }
+{
+    put_ascii(out, "(?P>")?;
+    out.put_text(name)?;
+    out.put(')')
+}
+
+/// Writes a call by a name that means no group, or several.
+fn put_call_by_name<S: Sink>(out: &mut S, name: &str) -> Result<(), AllocError>
+    ensures { OnOk result (Added S.holds out.old out.new (spec.unresolved_call_by_name (chars name.now))) }
+{
+    if is_relative(name) {
+        put_grouped_call(out, name)
+    } else if !has(name, '>') {
+        put_marked(out, r"\g", name)
+    } else if !has(name, '\'') {
+        put_quoted(out, r"\g", name)
+    } else {
+        put_grouped_call(out, name)
+    }
+}
+
+/// Writes a call so many groups away.
+#[tactic(auto, using(crate::proofs::SinkLemmas::added_steps))]
+fn put_call_by_amount<S: Sink>(out: &mut S, amount: isize) -> Result<(), AllocError>
+    ensures { OnOk result (Added S.holds out.old out.new (spec.marked (codes "\\g") (spec.signed amount))) }
+{
+    put_ascii(out, r"\g<")?;
+    put_signed(out, amount)?;
+    out.put('>')
+}
+
+/// Writes a call by number.
+#[tactic(auto, using(crate::proofs::SinkLemmas::added_steps))]
+fn put_call_by_number<S: Sink>(out: &mut S, group: usize) -> Result<(), AllocError>
+    ensures { OnOk result (Added S.holds out.old out.new (spec.marked (codes "\\g") (decimal group))) }
+{
+    put_ascii(out, r"\g<")?;
+    out.put_number(group)?;
+    out.put('>')
+}
+
+/// Writes a call of this target that means no group.
+fn put_unresolved_call<S: Sink>(out: &mut S, target: &CaptureGroupTarget) -> Result<(), AllocError>
+    ensures { OnOk result (Added S.holds out.old out.new (spec.unresolved_text (ast_call (view_target target.now)))) }
+{
+    match target {
+        CaptureGroupTarget::ByName(name) => put_call_by_name(out, name.as_str()),
+        CaptureGroupTarget::Relative(amount) => put_call_by_amount(out, *amount),
+        CaptureGroupTarget::ByNumber(group) => put_call_by_number(out, *group),
+    }
+}
+
+/// Writes a call that means no group.
+#[tactic(auto, using(crate::proofs::SinkLemmas::added_steps))]
+pub(crate) fn put_unresolved<S: Sink>(out: &mut S, node: &AstNode) -> Result<(), AllocError>
+    ensures { (m : Marks) (h : Here) (place : ℕ) →
+        OnOk result (Added S.holds out.old out.new (alone_text m (view_ast node.now place) h)) }
+{
+    match node {
+        AstNode::SubroutineCall(target) => put_unresolved_call(out, target),
+        AstNode::AstGroup { .. } => Ok(()),
+        AstNode::Backref { .. } => Ok(()),
+        AstNode::BackrefExistsCondition { .. } => Ok(()),
+    }
+}
+
+/// What stands before a group's name: before `=` and `!` a `<` alone would begin a look-behind.
+fn name_mark(first: char) -> &'static str
+    ensures text { (if first ∈ "=!" then codes "?P" else codes "?") ≡ result.now }
+    ensures ascii { list_all (λ b. nat_lt b 128) result.now ≡ true }
+{
+    if first == '=' || first == '!' {
+        "?P"
+    } else {
+        "?"
+    }
+}
+
+/// Writes the head of a capturing group of this name.
+fn put_name_head<S: Sink>(out: &mut S, name: &str) -> Result<(), AllocError>
+    ensures { OnOk result (Added S.holds out.old out.new (spec.name_head (chars name.now))) }
+{
+    let Some((first, _)) = next(name) else {
+        return Ok(());
+    };
+    if has(name, '>') {
+        return put_quoted(out, "?", name);
+    }
+    put_marked(out, name_mark(first), name)
+}
+
+/// Writes what stands behind the parenthesis of a capturing group.
+#[tactic(auto, using(crate::proofs::SinkLemmas::added_steps))]
+pub(crate) fn put_group_head<S: Sink>(
+    out: &mut S,
+    known: &Known,
+    group: usize,
+) -> Result<(), AllocError>
+    ensures { (m : Marks) → IsKnown known.now m →
+        OnOk result (Added S.holds out.old out.new (spec.group_head m group)) }
+{
+    match known.name_of(group) {
+        Some(name) => put_name_head(out, name.text),
+        None => Ok(()),
+    }
+}

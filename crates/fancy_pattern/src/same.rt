@@ -1,0 +1,109 @@
+//! Whether a text is read as a tree.
+ghost use Rattle.std.specs.Prelude.{◌≡◌, ◌&&◌, chars, map, nat_eq, false, Decides, IfOk};
+ghost use Rattle.std.specs.Option.{option_eq};
+ghost use mathlib.Core.Bool.{beq};
+ghost use Rattle.fancy_lex.specs.Flags.{flags_of};
+ghost use Rattle.fancy_lex.specs.Text.{Text};
+ghost use Rattle.fancy_lex.specs.declared.flags.Flags.{Flags};
+ghost use Rattle.fancy_parts.specs.Groups.{entry_of};
+ghost use Rattle.fancy_grammar.specs.Answer.{IsTreeOf, IsOnlyFault};
+ghost use Rattle.fancy_grammar.specs.Marks.{Marks};
+ghost use Rattle.fancy_grammar.specs.ReadAs.{IsReadAs, unplaced};
+ghost use Rattle.fancy_grammar.specs.Tree.{Tree};
+ghost use Rattle.fancy_syntax.specs.Answer.{marks_of};
+ghost use Rattle.fancy_syntax.specs.View.{view};
+
+use fancy_lex::error::Error;
+use fancy_syntax::expr::Expr;
+use fancy_syntax::tree::ExprTree;
+use std::alloc::{AllocError, Global};
+
+/// Whether the same groups have the same names.
+fn have_same_names(a: &ExprTree, b: &ExprTree) -> bool
+    ensures { Decides result
+        (map entry_of a.now.named_groups.entries ≡ map entry_of b.now.named_groups.entries) }
+{
+    a.named_groups == b.named_groups
+}
+
+/// Whether back references refer to the same groups.
+fn have_same_backrefs(a: &ExprTree, b: &ExprTree) -> bool
+    ensures { Decides result (a.now.backrefs.keys ≡ b.now.backrefs.keys) }
+{
+    a.backrefs == b.backrefs
+}
+
+/// Whether the same is true of both.
+fn have_same_flags(a: &ExprTree, b: &ExprTree) -> bool
+    ensures { result ≡ (beq a.now.numeric_capture_group_references b.now.numeric_capture_group_references
+        && beq a.now.contains_subroutines b.now.contains_subroutines
+        && beq a.now.self_recursive b.now.self_recursive
+        && beq a.now.numbered_groups_ignored b.now.numbered_groups_ignored) }
+{
+    a.numeric_capture_group_references == b.numeric_capture_group_references
+        && a.contains_subroutines == b.contains_subroutines
+        && a.self_recursive == b.self_recursive
+        && a.numbered_groups_ignored == b.numbered_groups_ignored
+}
+
+/// Whether both have as many groups, and the same back reference above them.
+fn have_same_numbers(a: &ExprTree, b: &ExprTree) -> bool
+    ensures { result ≡ (nat_eq a.now.total_groups b.now.total_groups
+        && option_eq nat_eq a.now.out_of_range_backref b.now.out_of_range_backref) }
+{
+    a.total_groups == b.total_groups && a.out_of_range_backref == b.out_of_range_backref
+}
+
+/// Whether what is said beside the trees is the same.
+fn have_same_marks(a: &ExprTree, b: &ExprTree) -> bool
+    ensures { Decides result (marks_of a.now ≡ marks_of b.now) }
+{
+    if !have_same_names(a, b) {
+        return false;
+    }
+    if !have_same_backrefs(a, b) {
+        return false;
+    }
+    if !have_same_flags(a, b) {
+        return false;
+    }
+    have_same_numbers(a, b)
+}
+
+/// Whether the trees are the same up to places, with the same marks.
+fn is_same_answer(a: &ExprTree, b: &ExprTree) -> bool
+    ensures { Decides result
+        ((unplaced (view a.now.expr) ≡ unplaced (view b.now.expr)) × (marks_of a.now ≡ marks_of b.now)) }
+{
+    if !have_same_marks(a, b) {
+        return false;
+    }
+    a.expr.is_same_but_for_places(&b.expr)
+}
+
+/// Whether a text is read that was refused with this error: it is not, unless memory ran out.
+fn is_read_after(error: Error) -> Result<bool, AllocError>
+    ensures { (f : Flags) (text : Text) → IsOnlyFault error f text →
+        IfOk result (λ b. (b ≡ false) × ((t : Tree) (m : Marks) → IsTreeOf f text t m → ⊥)) }
+{
+    match error {
+        Error::OutOfMemory => Err(AllocError),
+        Error::ParseError(..) => Ok(false),
+    }
+}
+
+/// Whether the text is read under the flags as this tree, up to places, with these marks.
+pub(crate) fn is_read_as(
+    alloc: Global,
+    text: &str,
+    flags: u32,
+    tree: &ExprTree,
+) -> Result<bool, AllocError>
+    ensures { IfOk result (λ b. Decides b
+        (IsReadAs (flags_of flags) (chars text.now) (view tree.now.expr) (marks_of tree.now))) }
+{
+    match Expr::parse_tree_with_flags(alloc, text, flags) {
+        Ok(read) => Ok(is_same_answer(&read, tree)),
+        Err(error) => is_read_after(error),
+    }
+}

@@ -1,0 +1,232 @@
+//! What a Delegate was written as: a text that the reader writes as that of the Delegate.
+ghost use Rattle.std.specs.Prelude.{◌≡◌, ◌∷◌, [], Bool, true, nat_lt, chars, option_map, IfOk, OnOk};
+ghost use Rattle.std.specs.List.{list_all};
+ghost use Rattle.fancy_lex.specs.Characters.{◌∈◌};
+ghost use Rattle.fancy_lex.specs.Class.{joint};
+ghost use Rattle.fancy_lex.specs.Property as property;
+ghost use Rattle.fancy_lex.specs.Text.{Text, strip_word};
+ghost use Rattle.fancy_grammar.specs.PatternSource as spec;
+ghost use Rattle.fancy_pattern.specs.Sink.{Added};
+ghost use Rattle.fancy_pattern.specs.Source.{AddedPart, found_part};
+
+use crate::letters::put_class_character;
+use crate::parting::is_text;
+use crate::sink::{Sink, put_ascii};
+use fancy_lex::flags::Flags;
+use fancy_lex::text::{after, after_word, next, split_at};
+use std::alloc::AllocError;
+
+/// An escape, where the text begins with what the reader writes for it.
+#[derive(Clone, Copy)]
+struct Found<'a> {
+    /// The escape.
+    escape: &'static str,
+    /// The text behind what the reader writes for it.
+    rest: &'a str,
+    /// Whether that is a negated set.
+    negated: bool,
+}
+
+/// The escape, where the text begins with the items that the reader writes for it.
+fn items<'a>(text: &'a str, written: &'static str, escape: &'static str) -> Option<Found<'a>>
+    ensures { (seen : Bool) → found_part result
+        ≡ spec.replaced_part seen (spec.items (chars written.now) (chars escape.now) ∷ []) (chars text.now) }
+{
+    let rest = after_word(text, written)?;
+    Some(Found {
+        escape,
+        rest,
+        negated: false,
+    })
+}
+
+/// The text behind the `&&` that the reader writes before a negated set where it wrote another before.
+fn after_joint(text: &str, seen: bool) -> Option<&str>
+    ensures { strip_word (joint seen) (chars text.now) ≡ option_map (λ r. chars r.now) result }
+{
+    if seen {
+        after_word(text, "&&")
+    } else {
+        Some(text)
+    }
+}
+
+/// The escape, where the text begins with the negated set that the reader writes for it, behind `&&` where it wrote
+/// another before.
+fn negated_set<'a>(
+    text: &'a str,
+    seen: bool,
+    written: &'static str,
+    escape: &'static str,
+) -> Option<Found<'a>>
+    ensures { found_part result
+        ≡ spec.replaced_part seen (spec.negated_set (chars written.now) (chars escape.now) ∷ []) (chars text.now) }
+{
+    let set = after_joint(text, seen)?;
+    let rest = after_word(set, written)?;
+    Some(Found {
+        escape,
+        rest,
+        negated: true,
+    })
+}
+
+/// The escape at the front, where UNICODE is set, that no other source is written as.
+fn replaced_with_unicode(text: &str, seen: bool) -> Option<Found<'_>>
+    ensures { found_part result ≡ spec.replaced_part seen (spec.replaced true) (chars text.now) }
+{
+    items(text, r"\p{Zs}\x09", r"\p{blank}")
+        .or(items(text, r"\x00-\x1F\x7F-\x9F", r"\p{cntrl}"))
+        .or(items(text, r"[\p{White_Space}\p{C}]", r"\P{graph}"))
+        .or(items(text, r"[\p{C}\t\n\v\f\r]", r"\P{print}"))
+        .or(negated_set(text, seen, r"[^\p{White_Space}\p{C}]", r"\p{graph}"))
+        .or(negated_set(text, seen, r"[^\p{C}\t\n\v\f\r]", r"\p{print}"))
+}
+
+/// The escape at the front that no other source is written as.
+fn replaced(text: &str, unicode: bool, seen: bool) -> Option<Found<'_>>
+    ensures { found_part result ≡ spec.replaced_part seen (spec.replaced unicode) (chars text.now) }
+{
+    if unicode {
+        replaced_with_unicode(text, seen)
+    } else {
+        items(text, r"\t ", r"\p{blank}")
+    }
+}
+
+/// Whether what the reader writes for an escape may begin with the character.
+fn may_be_replaced(c: char) -> bool
+    ensures { result ≡ (c ∈ "\\[&") }
+{
+    matches!(c, '\\' | '[' | '&')
+}
+
+/// The escape at the front of a text that begins with the character.
+fn replaced_at(c: char, text: &str, unicode: bool, seen: bool) -> Option<Found<'_>>
+    ensures { (t : Text) → chars text.now ≡ c ∷ t →
+        found_part result ≡ spec.replaced_part seen (spec.replaced unicode) (chars text.now) }
+{
+    if may_be_replaced(c) {
+        replaced(text, unicode, seen)
+    } else {
+        None
+    }
+}
+
+/// `\P`, or `\p`.
+fn letter(upper: bool) -> &'static str
+    ensures text { property.letter upper ≡ result.now }
+    ensures ascii { list_all (λ b. nat_lt b 128) result.now ≡ true }
+{
+    if upper { r"\P" } else { r"\p" }
+}
+
+/// Writes a property by its name: the reader takes one caret off, and turns the letter.
+fn put_property<S: Sink>(out: &mut S, upper: bool, name: &str) -> Result<(), AllocError>
+    ensures { OnOk result (Added S.holds out.old out.new (spec.named_property upper (chars name.now))) }
+{
+    put_property_front(out, upper, name)?;
+    out.put('}')
+}
+
+/// Writes what stands before the closing brace of a property.
+fn put_property_front<S: Sink>(out: &mut S, upper: bool, name: &str) -> Result<(), AllocError>
+    ensures { OnOk result (Added S.holds out.old out.new (spec.named_front upper (chars name.now))) }
+{
+    match after(name, '^') {
+        Some(name) => {
+            put_ascii(out, letter(!upper))?;
+            put_ascii(out, "{^^")?;
+            out.put_text(name)
+        }
+        None => {
+            put_ascii(out, letter(upper))?;
+            out.put('{')?;
+            out.put_text(name)
+        }
+    }
+}
+
+/// Writes what stands behind the letter of a property, and answers what is left.
+fn put_property_at<'a, S: Sink>(
+    out: &mut S,
+    upper: bool,
+    text: &'a str,
+) -> Result<&'a str, AllocError>
+    ensures { IfOk result (λ r. AddedPart S.holds out.old out.new (spec.property_part upper (chars text.now)) (chars r.now)) }
+{
+    let Some((c, rest)) = next(text) else {
+        put_ascii(out, letter(upper))?;
+        return Ok(text);
+    };
+    if c != '{' {
+        put_ascii(out, letter(upper))?;
+        out.put(c)?;
+        return Ok(rest);
+    }
+    match split_at(rest, '}') {
+        Some((name, behind)) => {
+            put_property(out, upper, name)?;
+            Ok(behind)
+        }
+        None => {
+            put_ascii(out, letter(upper))?;
+            Ok(text)
+        }
+    }
+}
+
+/// Writes a character, or a backslash and what belongs to it, and answers what is left.
+fn put_unit<'a, S: Sink>(out: &mut S, c: char, rest: &'a str) -> Result<&'a str, AllocError>
+    ensures { IfOk result (λ r. AddedPart S.holds out.old out.new (spec.single_part c (chars rest.now)) (chars r.now)) }
+{
+    if c == '\\'
+        && let Some((letter, behind)) = next(rest)
+    {
+        if letter == 'p' || letter == 'P' {
+            return put_property_at(out, letter == 'P', behind);
+        }
+        out.put(c)?;
+        out.put(letter)?;
+        return Ok(behind);
+    }
+    put_class_character(out, c)?;
+    Ok(rest)
+}
+
+/// Writes a text that the reader writes as this one.
+fn put_source<S: Sink>(out: &mut S, text: &str, unicode: bool) -> Result<(), AllocError>
+    ensures { OnOk result (Added S.holds out.old out.new (spec.source unicode (chars text.now))) }
+{
+    let mut rest = text;
+    let mut seen = false;
+    while let Some((c, behind)) = next(rest) {
+        match replaced_at(c, rest, unicode, seen) {
+            Some(found) => {
+                out.put_text(found.escape)?;
+                seen |= found.negated;
+                rest = found.rest;
+            }
+            None => rest = put_unit(out, c, behind)?,
+        }
+    }
+    Ok(())
+}
+
+/// Writes a Delegate.
+pub(crate) fn put_delegate<S: Sink>(
+    out: &mut S,
+    inner: &str,
+    casei: bool,
+    flags: Flags,
+) -> Result<(), AllocError>
+    ensures { OnOk result (Added S.holds out.old out.new (spec.delegate_text flags casei (chars inner.now))) }
+{
+    if flags.casei && !casei && is_text(inner, "[0-9A-Fa-f]") {
+        return put_ascii(out, r"\h");
+    }
+    if flags.casei && !casei && is_text(inner, "[^0-9A-Fa-f]") {
+        return put_ascii(out, r"\H");
+    }
+    put_source(out, inner, flags.unicode)
+}

@@ -1,8 +1,0 @@
-use Rattle.std.proofs.Common.{rules}
-use Rattle.fancy_syntax.specs.declared.expr.Expr.{the_lemmas}
-use Rattle.fancy_syntax.proofs.pattern.needs.leaf_needs.Goals as goal
-
-pub returns-in-Delegate : goal.returns-in-Delegate
-returns-in-Delegate c =
-    let e = c.delegate_needs.ensures c.args.oniguruma_mode in
-    search (rules, the_lemmas, e, c.as_str-in-Delegate.ensures.value)

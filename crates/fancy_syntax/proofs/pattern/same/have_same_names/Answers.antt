@@ -1,6 +1,0 @@
-use Rattle.std.proofs.lemmas.Bool.Decides.{Decides-at}
-use Rattle.fancy_syntax.proofs.MarksLemmas.{names_Decides}
-use Rattle.fancy_syntax.proofs.pattern.same.have_same_names.Goals as goal
-
-pub returns : goal.returns
-returns c = Decides-at _ _ c.eq.ensures (names_Decides _ _)
