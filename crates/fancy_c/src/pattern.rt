@@ -69,7 +69,7 @@ fn put_pattern(alloc: Global, tree: &ExprTree, flags: u32, buffer: &mut [u8]) ->
 /// the same flags, as the same tree with the same group information; only the position of an unresolved call may
 /// differ. Every node and every name is written; comments and ignored whitespace are not. Returns `STATUS_OK` with the
 /// size of the text in bytes; `STATUS_BUFFER_TOO_SHORT` with that size if the text does not fit; `STATUS_NO_PATTERN` if
-/// what is written for the tree does not parse back as it, which no pattern is known for; else what
+/// what is written for the tree does not parse back as it, which does not happen for a parsed tree; else what
 /// `fancy_check_nonnull` returns. Unless it returns `STATUS_OK`, nothing is written.
 #[unsafe(no_mangle)]
 pub extern "C" fn fancy_pattern_nonnull(
