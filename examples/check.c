@@ -1,9 +1,11 @@
 /* Checks patterns, one per line of standard input, and reports each that is refused, as LINE:COLUMN: message. A column
- * counts bytes from 1. The exit status is 1 if one is refused, and 2 if out of memory. */
-#include "../include/fancy.h"
+ * counts bytes from 1. The exit status is 1 if one is refused, and 2 if out of memory. It needs POSIX, for getline. */
+#define _POSIX_C_SOURCE 200809L
 
+#include <fancy.h>
 #include <stdio.h>
 #include <stdlib.h>
+#include <sys/types.h>
 
 int main(void) {
     char *line = NULL;

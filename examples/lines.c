@@ -1,6 +1,5 @@
 /* Parses a pattern under flags, and writes what the program `fre` writes: lines FLAGS PATTERN. */
-#include "../include/fancy.h"
-
+#include <fancy.h>
 #include <stdio.h>
 #include <stdlib.h>
 #include <string.h>

@@ -34,7 +34,7 @@ enum {
     FANCY_FLAG_SWAP_GREED = 8,   /* quantifiers are lazy, and greedy with a ? after them */
     FANCY_FLAG_IGNORE_SPACE = 16, /* whitespace and comments from # to the end of a line are ignored */
     FANCY_FLAG_UNICODE = 32,     /* \p{alnum} and the like, \x80 to \xFF and \R are those of Unicode */
-    FANCY_FLAG_CRLF = 64,        /* CR is a line break, and CR LF a single one */
+    FANCY_FLAG_CRLF = 64,        /* CR is a line terminator too, and CR LF a single one */
     FANCY_FLAG_ONIGURUMA_MODE = 128, /* the pattern is in Oniguruma's syntax */
     /* if some group has a name, groups without a name have no number */
     FANCY_FLAG_IGNORE_NUMBERED_GROUPS_WHEN_NAMED_GROUPS_EXIST = 256
@@ -161,7 +161,7 @@ typedef struct {
     size_t start;     /* its span, the part of the pattern that it was parsed from: the offset of the first byte */
     size_t stop;      /* one past the offset of the last byte of its span: start <= stop <= the length of the pattern */
     bool newline;     /* it matches a line break too */
-    bool crlf;        /* CR is a line break, and CR LF a single one */
+    bool crlf;        /* CR is a line terminator too, and CR LF a single one */
     bool unicode;     /* the line breaks of Unicode count too */
     bool casei;       /* case-insensitive */
     bool greedy;

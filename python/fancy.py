@@ -228,7 +228,7 @@ class Any(Node):
     """Any character: `.`"""
 
     newline: bool  #: it matches a line break too
-    crlf: bool  #: CR is a line break, and CR LF a single one
+    crlf: bool  #: CR is a line terminator too, and CR LF a single one
 
 
 @dataclass(frozen=True)
@@ -236,7 +236,7 @@ class Assertion(Node):
     """An assertion, as `^`, `$`, `\\b`."""
 
     which: AssertionKind
-    crlf: bool  #: CR is a line break, and CR LF a single one
+    crlf: bool  #: CR is a line terminator too, and CR LF a single one
 
 
 @dataclass(frozen=True)

@@ -196,7 +196,7 @@ pub struct Node {
     pub stop: usize,
     /// Whether it matches a line break too.
     pub newline: bool,
-    /// Whether CR is a line break, and CR LF a single one.
+    /// Whether CR is a line terminator too, and CR LF a single one.
     pub crlf: bool,
     /// Whether the line breaks of Unicode count too.
     pub unicode: bool,
@@ -238,7 +238,7 @@ fn assertion_number(assertion: Assertion) -> u32
     }
 }
 
-/// Whether the assertion takes CR LF for one line break; no where it does not ask for line breaks.
+/// Whether CR is a line terminator too for the assertion, and CR LF a single one; no where it asks for none.
 fn has_crlf(assertion: Assertion) -> bool
     ensures { result ≡ spec.has_crlf assertion }
 {

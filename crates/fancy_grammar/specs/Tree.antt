@@ -155,7 +155,7 @@ is_list _ = false
 -- ---- the measures of a tree
 
 abbrev mutual
-  -- how many nodes
+  -- how many nodes, those in an ast_group too; a raw tree may have one, and no parsed tree has
   pub nodes : Tree → ℕ
   nodes (leaf l) = 1
   nodes (over w t) = suc (nodes t)
@@ -166,7 +166,7 @@ abbrev mutual
   nodes_all (more_trees t ts) = nodes t + nodes_all ts
 
 abbrev mutual
-  -- how many levels
+  -- how many levels, those in an ast_group too
   pub levels : Tree → ℕ
   levels (leaf l) = 1
   levels (over w t) = suc (levels t)

@@ -23,15 +23,15 @@ pub mod boundary;
 pub mod hex;
 pub mod reference;
 
-/// A zero-width assertion about the position in the text. `crlf` says whether CR LF is one line terminator, as under
-/// `FLAG_CRLF`.
+/// A zero-width assertion about the position in the text. `crlf` says whether CR is a line terminator too, and CR LF a
+/// single one, as under `FLAG_CRLF`.
 #[derive(Clone, Copy, PartialEq, Eq, Debug, Drop)]
 pub enum Assertion {
     /// The start of the text: `\A`, and `^` without `FLAG_MULTI`.
     StartText,
     /// The end of the text: `\z`, and `$` without `FLAG_MULTI`.
     EndText,
-    /// The end of the text, or before line terminators that end it: `\Z`.
+    /// The end of the text, or before line terminators that end it: `\Z`. A CR alone is none here.
     EndTextIgnoreTrailingNewlines { crlf: bool },
     /// The start of a line: `^` with `FLAG_MULTI`, as in `(?m)^`.
     StartLine { crlf: bool },
@@ -261,7 +261,7 @@ fn short_property(text: &str, letter: char, flags: Flags) -> Option<(Escaped<'st
     Some((Escaped::Delegate { inner, casei }, rest))
 }
 
-/// Any character, a line break too where `newline` says so; CR LF counts as one then.
+/// Any character, a line terminator too where `newline` says so; `crlf` is set then.
 fn any(newline: bool) -> Escaped<'static>
     ensures { escape_of result ≡ leaf.any newline newline }
 {

@@ -3,8 +3,8 @@
 ghost use Rattle.std.specs.Prelude.{◌≡◌};
 ghost use Rattle.fancy_lex.specs.Bits.{has_bit};
 
-/// Case-insensitive (`i`): literals that are not escaped, hexadecimal escapes that are characters, classes, properties
-/// and back references have `casei`.
+/// Case-insensitive (`i`): literals that are not escaped, hexadecimal escapes that are characters, classes, properties,
+/// `\d`, `\D`, `\s`, `\S`, `\w`, `\W` and back references have `casei`.
 pub const FLAG_CASEI: u32 = 1;
 /// Multi-line (`m`): `^` and `$` match at the start and the end of each line, as `StartLine` and `EndLine`.
 pub const FLAG_MULTI: u32 = 2;
@@ -18,7 +18,8 @@ pub const FLAG_IGNORE_SPACE: u32 = 16;
 /// Unicode: `\x80` is the character U+0080, and a byte without the flag; properties are rewritten as Unicode's. A
 /// pattern cannot change it. `parse_tree` parses under this flag alone.
 pub const FLAG_UNICODE: u32 = 32;
-/// CR LF is one line terminator (`R`): `.`, `\Z`, and under `FLAG_MULTI` `^` and `$`, have `crlf`.
+/// CR is a line terminator too, and CR LF a single one (`R`): `.`, `\Z`, and under `FLAG_MULTI` `^` and `$`,
+/// have `crlf`.
 pub const FLAG_CRLF: u32 = 64;
 /// The pattern is in Oniguruma's syntax: quantifiers can follow one another, as in `a{3}{2}`, `x{3,0}` repeats 0 to 3
 /// times, and `\<` and `\>` are literals.

@@ -77,7 +77,7 @@ pub enum Expr {
     Any {
         /// Whether it also matches a line feed, as under `FLAG_DOTNL`.
         newline: bool,
-        /// Whether a carriage return is a line terminator too, as under `FLAG_CRLF`.
+        /// Whether CR is a line terminator too, and CR LF a single one, as under `FLAG_CRLF`.
         crlf: bool,
     },
     /// A zero-width assertion: `^`, `\b`.

@@ -20,16 +20,28 @@ mod resolve;
 pub mod span;
 pub mod tree;
 
+/// Errors, as the root has them.
+pub mod error {
+    pub use fancy_lex::error::{Error, ParseError, ParseErrorPosition, Result};
+}
+
+/// Flags, as the root has them.
+pub mod flags {
+    pub use fancy_lex::flags::{
+        FLAG_CASEI, FLAG_CRLF, FLAG_DOTNL, FLAG_IGNORE_NUMBERED_GROUPS_WHEN_NAMED_GROUPS_EXIST,
+        FLAG_IGNORE_SPACE, FLAG_MULTI, FLAG_ONIGURUMA_MODE, FLAG_SWAP_GREED, FLAG_UNICODE,
+    };
+}
+
+pub use error::{Error, ParseError, ParseErrorPosition, Result};
 pub use expr::{
     Absent, Assertion, AstNode, BacktrackingControlVerb, CaptureGroupTarget, Expr,
     ExprChildrenIter, LookAround,
 };
-pub use fancy_lex::error::{Error, ParseError, ParseErrorPosition, Result};
-pub use fancy_lex::flags::{
+pub use flags::{
     FLAG_CASEI, FLAG_CRLF, FLAG_DOTNL, FLAG_IGNORE_NUMBERED_GROUPS_WHEN_NAMED_GROUPS_EXIST,
     FLAG_IGNORE_SPACE, FLAG_MULTI, FLAG_ONIGURUMA_MODE, FLAG_SWAP_GREED, FLAG_UNICODE,
 };
-pub use fancy_lex::{error, flags};
 pub use print::{BRANCH, OPERAND, PIECE, WHOLE};
 pub use span::Span;
 pub use tree::ExprTree;

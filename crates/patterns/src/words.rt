@@ -29,7 +29,7 @@ const LETTERS: &str = "The letters of --flags:
   U  a quantifier is lazy without ?, and greedy with it
   x  verbose: whitespace is ignored, and so is # with the rest of its line
   u  Unicode
-  R  CR LF is one line terminator
+  R  CR is a line terminator too, and CR LF a single one
   o  Oniguruma's syntax
   n  if some group has a name, groups without a name have no number";
 

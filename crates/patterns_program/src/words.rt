@@ -48,15 +48,17 @@ fn assertion_words(assertion: Assertion) -> &'static str {
             "end of the text, or before line terminators that end it, CR LF as one"
         }
         Assertion::StartLine { crlf: false } => "start of a line",
-        Assertion::StartLine { crlf: true } => "start of a line, CR LF as one terminator",
+        Assertion::StartLine { crlf: true } =>
+            "start of a line, CR a line terminator too, and CR LF a single one",
         Assertion::StartLineOniguruma { crlf: false } => {
             "start of a line, except at the end of the text"
         }
         Assertion::StartLineOniguruma { crlf: true } => {
-            "start of a line, except at the end of the text, CR LF as one terminator"
+            "start of a line, except at the end of the text, CR a line terminator too, and CR LF a single one"
         }
         Assertion::EndLine { crlf: false } => "end of a line",
-        Assertion::EndLine { crlf: true } => "end of a line, CR LF as one terminator",
+        Assertion::EndLine { crlf: true } =>
+            "end of a line, CR a line terminator too, and CR LF a single one",
         Assertion::LeftWordBoundary => "start of a word",
         Assertion::LeftWordHalfBoundary => "no word character before",
         Assertion::RightWordBoundary => "end of a word",
