@@ -48,8 +48,7 @@ enum {
     FANCY_STATUS_OUT_OF_MEMORY = 3,    /* the pattern may be valid or not */
     FANCY_STATUS_BUFFER_TOO_SHORT = 4, /* no buffer was written; the size that is needed is set */
     FANCY_STATUS_NOT_PRINTABLE = 5,    /* of fancy_print: the pattern is valid, and its tree is not printable */
-    FANCY_STATUS_NO_PATTERN = 6        /* of fancy_pattern: the text for the tree does not parse back as that tree. By
-                                          what is proved of the library, this does not happen */
+    FANCY_STATUS_NO_PATTERN = 6        /* never returned: that a text for the tree does not parse back as that tree */
 };
 
 /* Kinds of errors. */
@@ -265,8 +264,7 @@ FANCY_INLINE fancy_result fancy_print(const char *pattern, size_t length, uint32
 
 /* Writes a pattern that is parsed, under the same flags, as the same tree with the same groups and names. Comments, ignored
  * whitespace, and the choice among several ways to write the same node are lost. Returns OK or BUFFER_TOO_SHORT, each with
- * the size of the text; or NO_PATTERN. Otherwise it returns what fancy_check returns. Unless it returns OK, nothing is
- * written. */
+ * the size of the text. Otherwise it returns what fancy_check returns. Unless it returns OK, nothing is written. */
 FANCY_INLINE fancy_result fancy_pattern(const char *pattern, size_t length, uint32_t flags, char *buffer, size_t capacity) {
     char none;
     return fancy_pattern_nonnull(pattern ? pattern : "", length, flags, buffer ? buffer : &none, capacity);
