@@ -238,7 +238,7 @@ fn assertion_number(assertion: Assertion) -> u32
     }
 }
 
-/// Whether CR is a line terminator too for the assertion, and CR LF a single one; no where it asks for none.
+/// Whether CR is a line terminator too for the assertion, and CR LF a single one; false for an assertion without lines.
 fn has_crlf(assertion: Assertion) -> bool
     ensures { result ≡ spec.has_crlf assertion }
 {

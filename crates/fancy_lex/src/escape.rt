@@ -31,7 +31,7 @@ pub enum Assertion {
     StartText,
     /// The end of the text: `\z`, and `$` without `FLAG_MULTI`.
     EndText,
-    /// The end of the text, or before line terminators that end it: `\Z`. A CR alone is none here.
+    /// The end of the text, or before line terminators that end it: `\Z`. A CR alone does not count.
     EndTextIgnoreTrailingNewlines { crlf: bool },
     /// The start of a line: `^` with `FLAG_MULTI`, as in `(?m)^`.
     StartLine { crlf: bool },
