@@ -20,8 +20,6 @@ mod readers;
 #[cfg(test)]
 mod references;
 #[cfg(test)]
-mod refused;
-#[cfg(test)]
 mod samples;
 #[cfg(test)]
 mod spans;
