@@ -1,6 +1,6 @@
-//! Tests of the readers on worked patterns; and of the trees: each public call once, and what stands where memory was
-//! refused. Each test passes a refusal on: a run of each with its first request for memory refused, its second and so
-//! on comes from outside, by a script of the gate.
+//! Tests of `fancy_lex`, `fancy_parts` and `fancy_syntax`: the readers on worked patterns, and each public call on trees
+//! once. Each test passes a refusal on: a run of each with its first request for memory refused, its second and so on
+//! comes from outside, by a script of the gate.
 #![tactic(auto)]
 
 #[cfg(test)]
@@ -19,8 +19,6 @@ mod questions;
 mod readers;
 #[cfg(test)]
 mod references;
-#[cfg(test)]
-mod refused;
 #[cfg(test)]
 mod samples;
 #[cfg(test)]

@@ -58,10 +58,8 @@ impl fmt::Display for Found<'_> {
 fn write_escaped<W: fmt::Write>(f: &mut fmt::Formatter<W>, escaped: &Escaped) -> fmt::Result {
     match escaped {
         Escaped::Literal { val, casei } => write!(f, "Literal {val} {casei}"),
-        Escaped::LiteralBytes { byte } => write!(f, "LiteralBytes {byte}"),
         Escaped::Any { newline, crlf } => write!(f, "Any {newline} {crlf}"),
         Escaped::Assertion(assertion) => write!(f, "{assertion:?}"),
-        Escaped::GeneralNewline { unicode } => write!(f, "GeneralNewline {unicode}"),
         _ => f.write_str("another"),
     }
 }

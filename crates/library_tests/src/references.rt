@@ -1,4 +1,4 @@
-//! Names and references.
+//! Names and references: what no recorded result of `replay` shows.
 use crate::readers::Reader::{Name, Reference};
 use crate::readers::{Row, first_wrong};
 use std::alloc::AllocError;
@@ -9,19 +9,12 @@ const NAMELESS_AT_3: &str = "Parsing error at position 3: Could not parse group 
 
 const NAMELESS_AT_4: &str = "Parsing error at position 4: Could not parse group name";
 
-const NAMELESS_AT_7: &str = "Parsing error at position 7: Could not parse group name";
-
-static ROWS: [Row; 49] = [
+static ROWS: [Row; 33] = [
     // what references say
     (
         Reference(r"\k"),
         r"\k<n-3>x",
         "ByName(\"n\") Some(-3) at 2 then x",
-    ),
-    (
-        Reference(r"\k"),
-        r"()\k<1+3>",
-        "ByNumber(1) Some(3) at 4 then ",
     ),
     (Reference(r"\k"), r"\k'-1'", "Relative(-1) None at 2 then "),
     (
@@ -33,11 +26,6 @@ static ROWS: [Row; 49] = [
         Reference(r"\k"),
         "\\k<\u{E9}\u{661}_>",
         "ByName(\"\u{E9}\u{661}_\") None at 2 then ",
-    ),
-    (
-        Reference(r"\k"),
-        r"\k<+9223372036854775807>",
-        "Relative(9223372036854775807) None at 2 then ",
     ),
     (
         Reference(r"\k"),
@@ -84,22 +72,8 @@ static ROWS: [Row; 49] = [
         r"\g<+18446744073709551616>",
         "ByName(\"+18446744073709551616\") at 2 then ",
     ),
-    (Reference("(?P>"), "(a)(?P>+1)", "ByNumber(1) at 7 then "),
-    (Reference("(?P>"), "(?P>-1)", "ByName(\"-1\") at 4 then "),
     // the names of groups; or why they have none
-    (Name, "(?<1-2>a)", "1-2 then a)"),
-    (Name, "(?'a>b'(c))", "a>b then (c))"),
     (Name, "(?P<n (?#o)>a)", "n (?#o) then a)"),
-    (
-        Name,
-        "(?<>a)",
-        "Parsing error at position 1: Could not parse group name",
-    ),
-    (
-        Name,
-        "(?<n",
-        "Parsing error at position 1: Could not parse group name",
-    ),
     (
         Name,
         "(?P<>a)",
@@ -107,37 +81,20 @@ static ROWS: [Row; 49] = [
     ),
     (Name, "(?P'n'a)", "nothing then (?P'n'a)"),
     // where a name is wanting
-    (Reference(r"\k"), r"\k<+9223372036854775808>", NAMELESS_AT_2),
     (Reference(r"\k"), r"\k<+0>", NAMELESS_AT_2),
-    (Reference(r"\k"), r"\k<id-withdash>", NAMELESS_AT_2),
     (Reference(r"\k"), r"\k<>", NAMELESS_AT_2),
     (Reference(r"\k"), r"\k<a", NAMELESS_AT_2),
     (Reference(r"\k"), r"\k<a b>", NAMELESS_AT_2),
     (Reference(r"\k"), r"\kx", NAMELESS_AT_2),
     (Reference(r"\g"), r"\g<+>", NAMELESS_AT_2),
-    (Reference(r"\g"), r"\g<++1>", NAMELESS_AT_2),
     (Reference(r"\g"), r"\g<-0>", NAMELESS_AT_2),
-    (Reference(r"\g"), r"\g<-9223372036854775808>", NAMELESS_AT_2),
-    (Reference(r"\g"), r"\gx", NAMELESS_AT_2),
     (Reference(r"\g"), r"\g<a", NAMELESS_AT_2),
-    (Reference("(?P="), "(.)(?P=-)", NAMELESS_AT_7),
     (Reference("(?P="), "(?P=a+1)", NAMELESS_AT_4),
     (Reference("(?P>"), "(?P>)", NAMELESS_AT_4),
     (Reference("(?("), "(?(1", NAMELESS_AT_3),
     (Reference("(?("), "(?(<n)b)", NAMELESS_AT_3),
     (Reference("(?("), "(?('n'b)", NAMELESS_AT_3),
     (Reference("(?("), "(?(+0)b)", NAMELESS_AT_3),
-    // where no word holds the number
-    (
-        Reference(r"\"),
-        r"\18446744073709551616",
-        "Parsing error at position 1: Invalid back reference",
-    ),
-    (
-        Reference(r"\g"),
-        r"\g18446744073709551616",
-        "Parsing error at position 2: Invalid back reference",
-    ),
 ];
 
 #[test]

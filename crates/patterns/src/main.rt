@@ -49,13 +49,7 @@ fn main(rt: HostRuntime) -> ExitCode {
 }
 
 #[cfg(test)]
-mod formats;
-#[cfg(test)]
-mod lints;
-#[cfg(test)]
 mod memory;
-#[cfg(test)]
-mod objects;
 #[cfg(test)]
 mod progress;
 #[cfg(test)]

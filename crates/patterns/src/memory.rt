@@ -32,28 +32,12 @@ impl BufRead for End {
     fn consume(&mut self, _amount: usize) {}
 }
 
-/// JSON that has five texts under the keys of TextMate's grammars, and one that is none of them.
-const GRAMMAR: &[u8] = br#"{
-  "patterns": [
-    { "match": "\\d+", "name": "(" },
-    { "begin": "(<<)\\w", "end": "\\1", "match": ["(", { "while": "(?x) a\n (" }] }
-  ],
-  "repository": { "a \"b\"\n": { "match": "\u00e9\\\"[a" } }
-}"#;
-
-/// Back references to groups that a pattern does not have, or not yet.
-const ENDS: &[u8] = br#"{ "begin": "(a)\\2", "end": "\\1(a)", "while": "(a)\\2(?(3)b)" }"#;
-
 /// The names of files, and what they hold.
-static FILES: [(&str, &[u8]); 8] = [
-    ("grammar", GRAMMAR),
-    ("ends", ENDS),
-    ("cut", b"{ \"match\": \"(\",\n  ]"),
+static FILES: [(&str, &[u8]); 4] = [
     ("good", b"a|b\r\n\nc"),
     ("empty", b""),
     ("mixed", b"a|b\r\n(\n\n\xFFx\na)b\n"),
     ("broken", b"(\r\n"),
-    ("spaced", b"a # ("),
 ];
 
 /// The files above, of which `broken` cannot be read to its end, and a standard input.

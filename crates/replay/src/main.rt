@@ -1,7 +1,7 @@
-//! Replays recorded answers of the original's program: `replay FILE..` runs `fre` on each pattern of the files,
-//! compares what it answers byte by byte, and writes for each file how many answers are the same. The status says only
-//! whether every line was replayed: it is 0 where an answer is different, so that a run in which memory is refused,
-//! which ends with another, is told from one with a wrong answer.
+//! Replays recorded results of the original's program: `replay FILE..` runs `fre` on each pattern of the files, compares
+//! what it writes byte by byte, and writes for each file how many results are the same. The status is 0 only if every
+//! line was replayed and no result is different. A run that ends before its last line, as one that is out of memory
+//! does, writes an error.
 #![tactic(auto)]
 
 mod comparison;
@@ -18,6 +18,7 @@ use fre_program::program::fre_run;
 use nodes::read_tree;
 use record::{Printing, Reading, Record};
 use std::alloc::Global;
+use std::process::ExitCode;
 use std::rt::Files;
 use std::{env, fs};
 use texts::{is_written, replay_writing};
@@ -92,8 +93,8 @@ fn replay_line(alloc: Global, line: &str) -> Result<bool> {
     })
 }
 
-/// Replays a file, and writes its counts.
-fn replay(rt: &(impl Files + Print + AllocGlobal), name: &str) -> Result<()> {
+/// Replays a file, writes its counts, and returns how many results are different.
+fn replay(rt: &(impl Files + Print + AllocGlobal), name: &str) -> Result<usize> {
     let text = fs::read_to_string(rt, name).context(format_args!("reading {name}"))?;
     let mut same = 0usize;
     let mut different = 0usize;
@@ -106,12 +107,15 @@ fn replay(rt: &(impl Files + Print + AllocGlobal), name: &str) -> Result<()> {
         }
     }
     println!(rt; "{name}: {same} same, {different} different")?;
-    Ok(())
+    Ok(different)
 }
 
-fn main(rt: HostRuntime) -> Result<()> {
+fn main(rt: HostRuntime) -> Result<ExitCode> {
+    let mut status = ExitCode::SUCCESS;
     for name in env::args(&rt)?.skip(1) {
-        replay(&rt, name.as_str())?;
+        if replay(&rt, name.as_str())? > 0 {
+            status = ExitCode::FAILURE;
+        }
     }
-    Ok(())
+    Ok(status)
 }
