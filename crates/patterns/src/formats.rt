@@ -2,9 +2,9 @@
 use crate::memory::{Limited, Memory};
 use patterns_program::form::Form;
 use patterns_program::lines::Ending;
-use patterns_program::paint::{Paint, Paints};
 use patterns_program::printing::Comments;
 use patterns_program::run::{Job, Verb, run};
+use patterns_text::paint::{Paint, Paints};
 use std::alloc::Global;
 use std::str;
 use std::test::Fail;

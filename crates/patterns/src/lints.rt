@@ -1,11 +1,11 @@
 //! What `lint` reports of patterns, and what it does not.
 use crate::memory::{Limited, Memory};
+use patterns_lint::chosen::{Chosen, Level};
+use patterns_lint::rule::{RULES, Rule};
 use patterns_program::form::Form;
 use patterns_program::lines::Ending;
-use patterns_program::lint::chosen::{Chosen, Level};
-use patterns_program::lint::rule::{RULES, Rule};
-use patterns_program::paint::{Paint, Paints};
 use patterns_program::run::{Job, Verb, run};
+use patterns_text::paint::{Paint, Paints};
 use std::alloc::Global;
 use std::str;
 use std::test::Fail;

@@ -1,7 +1,7 @@
 //! What the program writes as JSON, parsed again.
 use crate::answer::answer;
 use crate::memory::{Limited, Memory};
-use patterns_program::paint::{Paint, Paints};
+use patterns_text::paint::{Paint, Paints};
 use serde_json::Value;
 use std::alloc::Global;
 use std::str;

@@ -1,7 +1,7 @@
 //! What the program writes, and what it ends with.
 use crate::answer::answer;
 use crate::memory::{Limited, Memory};
-use patterns_program::paint::{Paint, Paints};
+use patterns_text::paint::{Paint, Paints};
 use std::alloc::Global;
 use std::str;
 use std::test::Fail;

@@ -4,10 +4,10 @@ ghost use Rattle.fancy_lex.specs.Flags.{flags_of};
 ghost use Rattle.fre_program.specs.Words.{HasTree, HasFault};
 ghost use Rattle.patterns_program.specs.declared.outcome.Outcome.{Outcome};
 
-use crate::fault::Fault;
 use crate::outcome::Outcome;
-use crate::place::Location;
-use crate::reading::read;
+use patterns_text::fault::Fault;
+use patterns_text::place::Location;
+use patterns_text::reading::read;
 use std::alloc::Global;
 use std::io::Write;
 

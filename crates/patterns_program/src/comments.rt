@@ -1,12 +1,12 @@
 //! The comments of a pattern. No node tells of one, so that the text is read again: a `#` is a comment's if it is neither a
 //! leaf's own, nor in the name of a group. Of a leaf's text only what may be layout is not its own.
-use crate::fault::Fault;
-use crate::names::Names;
-use crate::nodes::{Node, nodes_of};
 use fancy_lex::layout::past_layout;
 use fancy_syntax::error::Error;
 use fancy_syntax::expr::{Absent, Expr};
 use fancy_syntax::span::Span;
+use patterns_text::fault::Fault;
+use patterns_text::names::Names;
+use patterns_text::nodes::{Node, nodes_of};
 use std::alloc::{AllocError, Global};
 
 /// Where the comment begins whose first `#` is at the offset.

@@ -4,97 +4,17 @@ ghost use Rattle.fancy_lex.specs.Flags.{flags_of};
 ghost use Rattle.fre_program.specs.Words.{HasTree, HasFault};
 ghost use Rattle.patterns_program.specs.declared.outcome.Outcome.{Outcome};
 
-use crate::fault::Fault;
-use crate::names::Names;
-use crate::nodes::{Node, nodes_of};
 use crate::outcome::Outcome;
-use crate::paint::Ink;
-use crate::place::{Columns, Location};
-use crate::reading::read_with_spans;
-use crate::words::{is_reference, write_reference};
-use fancy_syntax::expr::Expr;
 use fancy_syntax::span::Span;
 use fancy_syntax::tree::ExprTree;
+use patterns_text::fault::Fault;
+use patterns_text::listing::{Lead, write_at, write_numbered, write_references};
+use patterns_text::names::Names;
+use patterns_text::nodes::nodes_of;
+use patterns_text::place::Location;
+use patterns_text::reading::read_with_spans;
 use std::alloc::Global;
-use std::io;
 use std::io::Write;
-
-/// Begins a line on the whole pattern with its file and line.
-fn write_at<O: Write>(out: &mut O, at: Location<'_>) -> io::Result<()> {
-    let (bold, end) = (at.listed.begin(Ink::Position), at.listed.end());
-    write!(out, "{bold}{at}:{end} ")
-}
-
-/// What the line of a group or a reference begins with.
-#[derive(Clone, Copy)]
-pub(crate) enum Lead<'a> {
-    /// Blanks.
-    Indent,
-    /// The pattern's file and line.
-    At(Location<'a>),
-}
-
-impl Lead<'_> {
-    /// Begins the line of what has the span.
-    fn write<O: Write>(self, out: &mut O, pattern: &str, span: Span) -> io::Result<()> {
-        match self {
-            Lead::Indent => out.write_all(b"  "),
-            Lead::At(at) => {
-                let (bold, end) = (at.listed.begin(Ink::Position), at.listed.end());
-                write!(out, "{bold}{at}:{}:{end} ", Columns::of(pattern, span))
-            }
-        }
-    }
-
-    /// Begins a line on the whole pattern.
-    fn write_whole<O: Write>(self, out: &mut O) -> io::Result<()> {
-        match self {
-            Lead::Indent => out.write_all(b"  "),
-            Lead::At(at) => write_at(out, at),
-        }
-    }
-}
-
-/// Writes the groups that have a number, a line each.
-pub(crate) fn write_numbered<O: Write>(
-    out: &mut O,
-    lead: Lead<'_>,
-    pattern: &str,
-    nodes: &[Node<'_>],
-    names: &Names<'_>,
-) -> io::Result<()> {
-    let mut number = 0usize;
-    for node in nodes {
-        if let Expr::Group(_) = node.expr {
-            number = number.saturating_add(1);
-            lead.write(out, pattern, node.span)?;
-            writeln!(out, "{}", names.group(number))?;
-        }
-    }
-    if number == 0 {
-        lead.write_whole(out)?;
-        writeln!(out, "no numbered groups")?;
-    }
-    Ok(())
-}
-
-/// Writes the references and calls in the order of the text, a line each.
-pub(crate) fn write_references<O: Write>(
-    out: &mut O,
-    lead: Lead<'_>,
-    pattern: &str,
-    nodes: &[Node<'_>],
-    names: &Names<'_>,
-) -> io::Result<()> {
-    for node in nodes {
-        if is_reference(node.expr) {
-            lead.write(out, pattern, node.span)?;
-            write_reference(out, node.expr, names, pattern)?;
-            out.write_all(b"\n")?;
-        }
-    }
-    Ok(())
-}
 
 /// Writes the pattern, and what is known of its groups.
 fn write_groups<O: Write>(

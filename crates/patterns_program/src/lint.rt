@@ -3,72 +3,24 @@ ghost use Rattle.std.specs.Prelude.{◌≡◌, ◌⊎◌, chars, Ok, IfOk, Conta
 ghost use Rattle.std.specs.Bool.{OnTrue};
 ghost use Rattle.fancy_lex.specs.Flags.{flags_of};
 ghost use Rattle.fre_program.specs.Words.{HasTree, HasFault};
-ghost use Rattle.patterns_program.specs.declared.lint.chosen.Level.{Level};
+ghost use Rattle.patterns_lint.specs.declared.chosen.Level.{Level};
 ghost use Rattle.patterns_program.specs.declared.outcome.Outcome.{Outcome};
 
-mod branches;
-pub mod chosen;
-mod classes;
-mod empty;
-mod fingerprint;
-mod flags;
 pub(crate) mod objects;
-mod problem;
-mod quantifiers;
-mod references;
 mod report;
-pub mod rule;
-mod scan;
-mod targets;
-mod walk;
 
-use crate::fault::Fault;
-use crate::lint::chosen::{Chosen, Level};
-use crate::lint::flags::useless_flags;
-use crate::lint::problem::Found;
-use crate::lint::references::{Ways, follow};
 use crate::lint::report::write_report;
-use crate::lint::scan::{About, scan};
-use crate::lint::walk::Walk;
 use crate::outcome::Outcome;
-use crate::place::Location;
-use crate::reading::read_with_spans;
 use crate::tally::Tally;
-use fancy_syntax::span::Span;
-use fancy_syntax::tree::ExprTree;
-use std::alloc::{AllocError, Global};
+use patterns_lint::chosen::{Chosen, Level};
+use patterns_lint::find::problems;
+use patterns_lint::problem::Found;
+use patterns_text::fault::Fault;
+use patterns_text::place::Location;
+use patterns_text::reading::read_with_spans;
+use std::alloc::Global;
 use std::io;
 use std::io::Write;
-
-/// All that the rules find, in the order of the text.
-fn problems<'a>(
-    alloc: Global,
-    flags: u32,
-    at: Location<'_>,
-    pattern: &str,
-    tree: &'a ExprTree,
-    spans: &'a [Span],
-) -> Result<Vec<Found<'a>>, AllocError> {
-    let about = About {
-        alloc,
-        pattern,
-        total: tree.total_groups,
-        has_calls: tree.contains_subroutines,
-    };
-    let mut walk = Walk::new(alloc, spans);
-    scan(&tree.expr, &mut walk, about, true)?;
-    let mut ways = Ways::new(alloc, tree, spans)?;
-    follow(&tree.expr, &mut ways)?;
-    ways.report_unused()?;
-    let mut found = walk.found;
-    found.extend_from_slice(&ways.walk.found)?;
-    found.extend_from_slice(&useless_flags(alloc, pattern, &walk.leaves, flags)?)?;
-    if at.refers_to_begin() {
-        found.retain(|f| !f.is_of_digits(pattern));
-    }
-    found.sort_by_key(|f| f.span.start)?;
-    Ok(found)
-}
 
 /// How many reports are written of a pattern. Each shows the pattern's line, which may be long.
 const MAX_REPORTS: usize = 100;

@@ -14,11 +14,11 @@ pub(crate) mod places;
 pub(crate) mod reading;
 pub mod tree;
 
-use crate::fault::Fault;
 use crate::objects::check::check;
 use crate::objects::groups::list_groups;
 use crate::outcome::Outcome;
-use crate::place::Location;
+use patterns_text::fault::Fault;
+use patterns_text::place::Location;
 use std::alloc::Global;
 use std::io::Write;
 

@@ -11,14 +11,14 @@ ghost use Rattle.patterns_program.specs.declared.outcome.Outcome.{Outcome};
 ghost use Rattle.patterns_program.specs.declared.printing.Comments.{Comments};
 
 use crate::comments::first_comment;
-use crate::fault::Fault;
 use crate::lines::Ending;
 use crate::outcome::Outcome;
-use crate::paint::Ink;
-use crate::place::{Location, write_refusal};
-use crate::reading::read;
 use crate::tally::Tally;
 use fancy_syntax::tree::ExprTree;
+use patterns_text::fault::Fault;
+use patterns_text::paint::Ink;
+use patterns_text::place::{Location, write_refusal};
+use patterns_text::reading::read;
 use std::alloc::Global;
 use std::io;
 use std::io::Write;

@@ -2,17 +2,13 @@
 ghost use Rattle.std.specs.Prelude.{◌≤◌};
 
 use crate::check::check;
-use crate::fault::{Fault, give_up};
 use crate::form::Form;
 use crate::groups::list_groups;
 use crate::lines::{lines_in, next_record};
-use crate::lint::chosen::Chosen;
 use crate::lint::lint;
 use crate::lint::objects::lint_objects;
 use crate::objects::{Report, report_pattern};
 use crate::outcome::Outcome;
-use crate::paint::Paints;
-use crate::place::{Location, Spot};
 use crate::printing::{Comments, format_pattern, is_formatted};
 use crate::progress::{Screen, System};
 use crate::tally::Tally;
@@ -20,6 +16,10 @@ use crate::values::keys::Keys;
 use crate::values::trail::Trail;
 use crate::values::values_of;
 use json::Scratch;
+use patterns_lint::chosen::Chosen;
+use patterns_text::fault::{Fault, give_up};
+use patterns_text::paint::Paints;
+use patterns_text::place::{Location, Spot};
 use std::alloc::{AllocError, Global};
 use std::io::{BufRead, ErrorKind, Write};
 use std::time::Clock;

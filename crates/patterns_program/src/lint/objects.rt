@@ -3,19 +3,20 @@ ghost use Rattle.std.specs.Prelude.{◌≡◌, ◌⊎◌, chars, Ok, IfOk, Conta
 ghost use Rattle.std.specs.Bool.{OnTrue};
 ghost use Rattle.fancy_lex.specs.Flags.{flags_of};
 ghost use Rattle.fre_program.specs.Words.{HasTree, HasFault};
-ghost use Rattle.patterns_program.specs.declared.lint.chosen.Level.{Level};
+ghost use Rattle.patterns_lint.specs.declared.chosen.Level.{Level};
 ghost use Rattle.patterns_program.specs.declared.outcome.Outcome.{Outcome};
 
-use crate::fault::Fault;
-use crate::lint::chosen::{Chosen, Level};
-use crate::lint::problem::Found;
-use crate::lint::{MAX_REPORTS, problems};
+use crate::lint::MAX_REPORTS;
 use crate::objects::line::{begin, finish, write_number, write_span, write_text};
 use crate::objects::places::Places;
 use crate::objects::reading::read;
 use crate::outcome::Outcome;
-use crate::place::Location;
 use crate::tally::Tally;
+use patterns_lint::chosen::{Chosen, Level};
+use patterns_lint::find::problems;
+use patterns_lint::problem::Found;
+use patterns_text::fault::Fault;
+use patterns_text::place::Location;
 use std::alloc::Global;
 use std::io::Write;
 

@@ -1,8 +1,8 @@
 //! How a report of `lint` is written.
-use crate::lint::chosen::Level;
-use crate::lint::problem::Found;
-use crate::paint::{Ink, Paint};
-use crate::place::{Blank, Cut, Location, column_after};
+use patterns_lint::chosen::Level;
+use patterns_lint::problem::Found;
+use patterns_text::paint::{Ink, Paint};
+use patterns_text::place::{Blank, Cut, Location, column_after};
 use std::io;
 use std::io::Write;
 use unicode_width::UnicodeWidthStr;

@@ -1,9 +1,9 @@
 //! An object of JSON, written as a line.
-use crate::fault::Fault;
 use crate::objects::places::Places;
-use crate::place::{Location, Spot};
 use fancy_syntax::span::Span;
 use json::Writer;
+use patterns_text::fault::Fault;
+use patterns_text::place::{Location, Spot};
 use std::alloc::{AllocError, Global};
 use std::io::Write;
 

@@ -1,14 +1,14 @@
 //! The groups and references of a pattern, as JSON.
-use crate::names::Names;
 use crate::objects::line::{write_number, write_span, write_text, write_truth};
 use crate::objects::node::{write_own, write_some_number};
 use crate::objects::places::Places;
-use crate::words::is_reference;
 use fancy_syntax::expr::Expr;
 use fancy_syntax::span::Span;
 use fancy_syntax::spanned::{SpannedNode, SpannedTree};
 use fancy_syntax::tree::ExprTree;
 use json::Writer;
+use patterns_text::names::Names;
+use patterns_text::words::is_reference;
 use std::alloc::{AllocError, Global};
 
 /// Adds the spans of the groups, in the order of their numbers.

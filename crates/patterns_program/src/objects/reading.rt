@@ -3,15 +3,15 @@ ghost use Rattle.std.specs.Prelude.{chars, IfOk, OnSome, IfNone};
 ghost use Rattle.fancy_lex.specs.Flags.{flags_of};
 ghost use Rattle.fre_program.specs.Words.{HasTree, HasFault};
 
-use crate::fault::Fault;
 use crate::objects::code::code;
 use crate::objects::line::{begin, finish, write_span, write_text};
 use crate::objects::places::Places;
-use crate::place::Location;
 use fancy_lex::error::ParseError;
 use fancy_syntax::error::Error;
 use fancy_syntax::span::Span;
 use fancy_syntax::spanned::SpannedTree;
+use patterns_text::fault::Fault;
+use patterns_text::place::Location;
 use std::alloc::{AllocError, Global};
 use std::io::Write;
 

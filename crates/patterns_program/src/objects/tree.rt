@@ -3,14 +3,14 @@ ghost use Rattle.std.specs.Prelude.{◌≡◌, ◌≤◌, ◌⊎◌, chars, Ok, 
 ghost use Rattle.fancy_lex.specs.Flags.{flags_of};
 ghost use Rattle.fre_program.specs.Words.{HasTree, HasFault};
 
-use crate::fault::{Fault, give_up};
 use crate::objects::line::{begin, finish};
 use crate::objects::marks::{write_groups, write_marks};
 use crate::objects::node::write_node;
 use crate::objects::places::Places;
 use crate::objects::reading::read;
-use crate::place::Location;
 use fancy_syntax::spanned::SpannedTree;
+use patterns_text::fault::{Fault, give_up};
+use patterns_text::place::Location;
 use std::alloc::Global;
 use std::io::Write;
 

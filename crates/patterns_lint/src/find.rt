@@ -1,0 +1,40 @@
+//! All that the rules find in a pattern.
+use crate::flags::useless_flags;
+use crate::problem::Found;
+use crate::references::{Ways, follow};
+use crate::scan::{About, scan};
+use crate::walk::Walk;
+use fancy_syntax::span::Span;
+use fancy_syntax::tree::ExprTree;
+use patterns_text::place::Location;
+use std::alloc::{AllocError, Global};
+
+/// All that the rules find, in the order of the text.
+pub fn problems<'a>(
+    alloc: Global,
+    flags: u32,
+    at: Location<'_>,
+    pattern: &str,
+    tree: &'a ExprTree,
+    spans: &'a [Span],
+) -> Result<Vec<Found<'a>>, AllocError> {
+    let about = About {
+        alloc,
+        pattern,
+        total: tree.total_groups,
+        has_calls: tree.contains_subroutines,
+    };
+    let mut walk = Walk::new(alloc, spans);
+    scan(&tree.expr, &mut walk, about, true)?;
+    let mut ways = Ways::new(alloc, tree, spans)?;
+    follow(&tree.expr, &mut ways)?;
+    ways.report_unused()?;
+    let mut found = walk.found;
+    found.extend_from_slice(&ways.walk.found)?;
+    found.extend_from_slice(&useless_flags(alloc, pattern, &walk.leaves, flags)?)?;
+    if at.refers_to_begin() {
+        found.retain(|f| !f.is_of_digits(pattern));
+    }
+    found.sort_by_key(|f| f.span.start)?;
+    Ok(found)
+}
