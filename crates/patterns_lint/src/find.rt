@@ -4,20 +4,22 @@ use crate::problem::Found;
 use crate::references::{Ways, follow};
 use crate::scan::{About, scan};
 use crate::walk::Walk;
-use fancy_syntax::span::Span;
-use fancy_syntax::tree::ExprTree;
-use patterns_text::place::Location;
-use std::alloc::{AllocError, Global};
+use fancy_syntax::spanned::SpannedTree;
+use patterns_text::subject::Subject;
+use std::alloc::AllocError;
 
-/// All that the rules find, in the order of the text.
+/// All that the rules find, in the order of the text. The tree is that of the pattern.
 pub fn problems<'a>(
-    alloc: Global,
-    flags: u32,
-    at: Location<'_>,
-    pattern: &str,
-    tree: &'a ExprTree,
-    spans: &'a [Span],
+    subject: Subject<'_>,
+    parsed: &'a SpannedTree,
 ) -> Result<Vec<Found<'a>>, AllocError> {
+    let Subject {
+        alloc,
+        flags,
+        at,
+        pattern,
+    } = subject;
+    let SpannedTree { tree, spans, .. } = parsed;
     let about = About {
         alloc,
         pattern,

@@ -5,8 +5,10 @@ use crate::size::{GAP, ROLE, Size, WORD_LINE};
 use crate::text::columns;
 use fancy_syntax::expr::Expr;
 use fancy_syntax::span::Span;
+use fancy_syntax::spanned::{SpannedNode, SpannedTree};
 use patterns_text::fault::Fault;
-use std::alloc::{AllocError, Global};
+use patterns_text::subject::Subject;
+use std::alloc::AllocError;
 
 /// A node, and where it is drawn.
 #[derive(Clone, Copy)]
@@ -66,7 +68,6 @@ impl Drawn<'_> {
 pub(crate) struct Layout<'a> {
     pub(crate) nodes: Vec<Drawn<'a>>,
     pattern: &'a str,
-    spans: &'a [Span],
     groups: usize,
 }
 
@@ -141,24 +142,20 @@ impl Cursor {
 }
 
 impl<'a> Layout<'a> {
-    /// The nodes of the tree of the pattern, each where it is drawn if the tree is drawn there. The spans are those of its
-    /// nodes in preorder.
+    /// The nodes of the tree of the pattern, each where it is drawn if the tree is drawn there.
     pub(crate) fn of(
-        alloc: Global,
+        subject: Subject<'a>,
         words: &mut Words<'_>,
-        pattern: &'a str,
-        tree: &'a Expr,
-        spans: &'a [Span],
+        parsed: &'a SpannedTree,
         left: usize,
         top: usize,
     ) -> Result<Layout<'a>, Fault> {
         let mut layout = Layout {
-            nodes: Vec::with_capacity(alloc, spans.len())?,
-            pattern,
-            spans,
+            nodes: Vec::with_capacity(subject.alloc, parsed.spans.len())?,
+            pattern: subject.pattern,
             groups: 0,
         };
-        measure(&mut layout, words, tree)?;
+        measure(&mut layout, words, parsed.root())?;
         layout.put_root(left, top);
         layout.put_nodes();
         Ok(layout)
@@ -190,16 +187,15 @@ impl<'a> Layout<'a> {
     }
 
     /// Adds a node whose size is not known yet, and returns its index.
-    fn begin(&mut self, node: &'a Expr) -> Result<usize, AllocError> {
+    fn begin(&mut self, node: SpannedNode<'a>) -> Result<usize, AllocError> {
         let index = self.nodes.len();
-        if let Expr::Group(_) = node {
+        if let Expr::Group(_) = node.expr() {
             self.groups = self.groups.saturating_add(1);
         }
-        let none = Span { start: 0, end: 0 };
         self.nodes.push(Drawn {
-            node,
-            span: self.spans.get(index).copied().unwrap_or(none),
-            shape: Shape::of(node),
+            node: node.expr(),
+            span: node.span(),
+            shape: Shape::of(node.expr()),
             groups: self.groups,
             children: 0,
             nodes: 1,
@@ -261,18 +257,18 @@ impl<'a> Layout<'a> {
     }
 }
 
-/// Adds the nodes of the tree, and returns its shape and its size.
+/// Adds the node and those below it, and returns its shape and its size.
 fn measure<'a>(
     layout: &mut Layout<'a>,
     words: &mut Words<'_>,
-    tree: &'a Expr,
+    node: SpannedNode<'a>,
 ) -> Result<(Shape, Size), Fault> {
-    let index = layout.begin(tree)?;
-    let shape = Shape::of(tree);
+    let index = layout.begin(node)?;
+    let shape = Shape::of(node.expr());
     let mut content = Size::EMPTY;
     let mut last = None;
     let mut children: usize = 0;
-    for child in tree.children_iter() {
+    for child in node.children() {
         let next = measure(layout, words, child)?;
         content = shape.joined(content, last, next);
         last = Some(next.0);

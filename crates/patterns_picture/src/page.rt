@@ -1,12 +1,13 @@
 //! The picture in a page of HTML, with the drawn tree and what is known of the groups.
-use crate::svg::{Subject, write_picture};
+use crate::svg::write_picture;
 use crate::text::{Xml, XmlLines};
-use patterns_text::drawing::{Style, write_tree};
+use fancy_syntax::spanned::SpannedTree;
+use patterns_text::drawing::{Look, Style, write_tree};
 use patterns_text::fault::Fault;
 use patterns_text::listing::{Lead, write_numbered, write_references};
 use patterns_text::names::Names;
 use patterns_text::nodes::nodes_of;
-use std::alloc::Global;
+use patterns_text::subject::Subject;
 use std::io::Write;
 use std::{io, str};
 
@@ -26,14 +27,14 @@ fn write_section<O: Write>(out: &mut O, heading: &str, text: &[u8]) -> io::Resul
 }
 
 /// Writes the groups, and what is known of them.
-fn write_groups<O: Write>(alloc: Global, subject: Subject<'_>, out: &mut O) -> Result<(), Fault> {
-    let Subject {
-        pattern,
-        tree,
-        spans,
-    } = subject;
-    let names = Names::of(alloc, tree)?;
-    let nodes = nodes_of(alloc, &tree.expr, spans)?;
+fn write_groups<O: Write>(
+    subject: Subject<'_>,
+    parsed: &SpannedTree,
+    out: &mut O,
+) -> Result<(), Fault> {
+    let Subject { alloc, pattern, .. } = subject;
+    let names = Names::of(alloc, &parsed.tree)?;
+    let nodes = nodes_of(alloc, parsed)?;
     let mut text = Vec::new(alloc);
     write_numbered(&mut text, Lead::Indent, pattern, &nodes, &names)?;
     write_references(&mut text, Lead::Indent, pattern, &nodes, &names)?;
@@ -43,27 +44,24 @@ fn write_groups<O: Write>(alloc: Global, subject: Subject<'_>, out: &mut O) -> R
 
 /// Writes the tree, and what is known of it.
 fn write_drawn_tree<O: Write>(
-    alloc: Global,
     subject: Subject<'_>,
+    parsed: &SpannedTree,
     out: &mut O,
 ) -> Result<(), Fault> {
-    let mut text = Vec::new(alloc);
-    write_tree(
-        alloc,
-        Style::Lines,
-        subject.pattern,
-        subject.tree,
-        &[],
-        &mut text,
-    )?;
+    let look = Look {
+        style: Style::Lines,
+        has_spans: false,
+    };
+    let mut text = Vec::new(subject.alloc);
+    write_tree(subject, look, parsed, &mut text)?;
     write_section(out, "Tree", &text)?;
     Ok(())
 }
 
 /// Writes a page with the picture of the tree.
 pub(crate) fn write_page<O: Write>(
-    alloc: Global,
     subject: Subject<'_>,
+    parsed: &SpannedTree,
     out: &mut O,
 ) -> Result<(), Fault> {
     out.write_all(
@@ -73,10 +71,10 @@ pub(crate) fn write_page<O: Write>(
     writeln!(out, "<title>{}</title>", Xml(subject.pattern))?;
     out.write_all(HEAD.as_bytes())?;
     out.write_all(b"</head>\n<body>\n<div class=\"wide\">\n")?;
-    write_picture(alloc, subject, out)?;
+    write_picture(subject, parsed, out)?;
     out.write_all(b"</div>\n")?;
-    write_drawn_tree(alloc, subject, out)?;
-    write_groups(alloc, subject, out)?;
+    write_drawn_tree(subject, parsed, out)?;
+    write_groups(subject, parsed, out)?;
     out.write_all(b"</body>\n</html>\n")?;
     Ok(())
 }

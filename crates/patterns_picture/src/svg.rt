@@ -9,11 +9,11 @@ use crate::style::STYLE;
 use crate::text::Xml;
 use fancy_syntax::expr::Expr;
 use fancy_syntax::span::Span;
-use fancy_syntax::tree::ExprTree;
+use fancy_syntax::spanned::SpannedTree;
 use patterns_text::drawing::role;
 use patterns_text::fault::Fault;
 use patterns_text::names::Names;
-use std::alloc::Global;
+use patterns_text::subject::Subject;
 use std::io;
 use std::io::Write;
 
@@ -23,14 +23,6 @@ const MARGIN: usize = 16;
 const FEWEST_COLUMNS: usize = 40;
 /// How many colours groups have.
 const COLOURS: usize = 6;
-
-/// A tree with its pattern, and the spans of its nodes in preorder.
-#[derive(Clone, Copy)]
-pub(crate) struct Subject<'a> {
-    pub(crate) pattern: &'a str,
-    pub(crate) tree: &'a ExprTree,
-    pub(crate) spans: &'a [Span],
-}
 
 /// A picture, as it is written.
 #[derive(Drop)]
@@ -234,21 +226,17 @@ fn write_box<O: Write>(out: &mut O, node: &Drawn<'_>) -> io::Result<()> {
 }
 
 impl<'a> Picture<'a> {
-    fn of(alloc: Global, subject: Subject<'a>) -> Result<Picture<'a>, Fault> {
-        let Subject {
-            pattern,
-            tree,
-            spans,
-        } = subject;
-        let mut words = Words::new(alloc, Names::of(alloc, tree)?, pattern);
+    fn of(subject: Subject<'a>, parsed: &'a SpannedTree) -> Result<Picture<'a>, Fault> {
+        let Subject { alloc, pattern, .. } = subject;
+        let mut words = Words::new(alloc, Names::of(alloc, &parsed.tree)?, pattern);
         let left = MARGIN + SIDE;
-        let layout = Layout::of(alloc, &mut words, pattern, &tree.expr, spans, left, MARGIN)?;
+        let layout = Layout::of(subject, &mut words, parsed, left, MARGIN)?;
         let (right, bottom) = layout.corner();
         let limit = (right / COLUMN).max(FEWEST_COLUMNS);
         let grid = Grid::of(alloc, pattern, limit, MARGIN, bottom.saturating_add(LINE))?;
         Ok(Picture {
             pattern,
-            total: tree.total_groups,
+            total: parsed.tree.total_groups,
             words,
             layout,
             grid,
@@ -385,9 +373,9 @@ impl<'a> Picture<'a> {
 
 /// Writes the picture of a tree.
 pub(crate) fn write_picture<O: Write>(
-    alloc: Global,
     subject: Subject<'_>,
+    parsed: &SpannedTree,
     out: &mut O,
 ) -> Result<(), Fault> {
-    Picture::of(alloc, subject)?.write(out)
+    Picture::of(subject, parsed)?.write(out)
 }

@@ -1,49 +1,30 @@
-//! The subcommand `tree`: a pattern's tree, drawn with branches, and its group information.
+//! The subcommand `tree`: a pattern's tree, and its group information.
 ghost use Rattle.std.specs.Prelude.{◌≡◌, ◌≤◌, ◌⊎◌, chars, Ok, IfOk};
 ghost use Rattle.fancy_lex.specs.Flags.{flags_of};
 ghost use Rattle.fre_program.specs.Words.{HasTree, HasFault};
+ghost use Rattle.patterns_text.specs.Subject.{IsAccepted, IsRefused};
 
-use fancy_syntax::span::Span;
-use patterns_text::drawing::{Style, write_tree};
+use crate::objects::Json;
+use crate::reporter::{Reporter, parse};
+use crate::text::Text;
+use patterns_text::drawing::Look;
 use patterns_text::fault::{Fault, give_up};
-use patterns_text::place::Location;
-use patterns_text::reading::read_with_spans;
+use patterns_text::subject::Subject;
 use std::alloc::Global;
 use std::io::Write;
 
-/// How a tree is drawn.
-#[derive(Clone, Copy)]
-pub struct Look {
-    pub style: Style,
-    /// Whether the span of each node is written, in byte offsets, and its text.
-    pub has_spans: bool,
-}
-
-impl Look {
-    /// The spans that are written.
-    fn shown(self, spans: &[Span]) -> &[Span] {
-        if self.has_spans { spans } else { &[] }
-    }
-}
-
-/// Reads the pattern, and writes its tree on `out`, or on `err` where and why it is refused.
-fn answer<O: Write, E: Write>(
-    alloc: Global,
-    flags: u32,
-    look: Look,
-    pattern: &str,
-    out: &mut O,
-    err: &mut E,
-) -> Result<u8, Fault>
-    ensures read { result ≡ Ok 0 → HasTree (flags_of flags) (chars pattern.now) }
-    ensures refused { result ≡ Ok 1 → HasFault (flags_of flags) (chars pattern.now) }
+/// Reports the tree of the pattern, or its error if it is refused.
+fn answer<R: Reporter>(subject: Subject<'_>, reporter: &mut R) -> Result<u8, Fault>
+    ensures read { result ≡ Ok 0 → IsAccepted subject.entry }
+    ensures refused { result ≡ Ok 1 → IsRefused subject.entry }
     ensures status { IfOk result (λ n. n ≤ 1) }
 {
-    let at = Location::plain("PATTERN", 1);
-    let Some((tree, spans)) = read_with_spans(alloc, flags, at, pattern, err)? else {
+    let Some(parsed) = parse(subject, reporter)? else {
+        reporter.flush()?;
         return Ok(1);
     };
-    write_tree(alloc, look.style, pattern, &tree, look.shown(&spans), out)?;
+    reporter.tree(subject, &parsed)?;
+    reporter.flush()?;
     Ok(0)
 }
 
@@ -62,7 +43,29 @@ pub fn draw_tree<O: Write, E: Write>(
     ensures refused { result ≡ 1 → HasFault (flags_of flags) (chars pattern.now) }
     ensures status { (result ≡ 0) ⊎ ((result ≡ 1) ⊎ (result ≡ 3)) }
 {
-    match answer(alloc, flags, look, pattern, out, err) {
+    let subject = Subject::of_argument(alloc, flags, pattern);
+    match answer(subject, &mut Text::drawn(out, err, look)) {
+        Ok(status) => status,
+        Err(fault) => give_up(err, fault),
+    }
+}
+
+/// Writes the tree of a pattern as a line of JSON, and returns the status: 0 if the pattern is accepted, with the tree on
+/// `out`; 1 if it is refused, with the error on `out`; 3 if memory ran out or a write failed, which is reported on `err` if
+/// that is possible. Then `out` may hold a beginning.
+pub fn write_tree<O: Write, E: Write>(
+    alloc: Global,
+    flags: u32,
+    pattern: &str,
+    out: &mut O,
+    err: &mut E,
+) -> u8
+    ensures read { result ≡ 0 → HasTree (flags_of flags) (chars pattern.now) }
+    ensures refused { result ≡ 1 → HasFault (flags_of flags) (chars pattern.now) }
+    ensures status { (result ≡ 0) ⊎ ((result ≡ 1) ⊎ (result ≡ 3)) }
+{
+    let subject = Subject::of_argument(alloc, flags, pattern);
+    match answer(subject, &mut Json { out }) {
         Ok(status) => status,
         Err(fault) => give_up(err, fault),
     }

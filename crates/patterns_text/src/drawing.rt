@@ -2,11 +2,10 @@
 use crate::fault::Fault;
 use crate::marks::write_marks;
 use crate::names::Names;
+use crate::subject::Subject;
 use crate::words::{Held, Visible, is_reference, write_reference};
 use fancy_syntax::expr::{Absent, Expr};
-use fancy_syntax::span::Span;
-use fancy_syntax::tree::ExprTree;
-use std::alloc::Global;
+use fancy_syntax::spanned::{SpannedNode, SpannedTree};
 use std::io::Write;
 use std::{fmt, io};
 
@@ -17,6 +16,14 @@ pub enum Style {
     Lines,
     /// Some of ASCII's.
     Ascii,
+}
+
+/// How a tree is drawn.
+#[derive(Clone, Copy)]
+pub struct Look {
+    pub style: Style,
+    /// Whether the span of each node is written, in byte offsets, and its text.
+    pub has_spans: bool,
 }
 
 /// What stands before a node: for each level from the first whether the node that it runs through is the last there.
@@ -62,14 +69,12 @@ impl fmt::Display for Branches<'_> {
 /// A tree that is being drawn.
 #[derive(Drop)]
 struct Drawing<'a> {
-    style: Style,
+    look: Look,
     pattern: &'a str,
     names: Names<'a>,
     /// How many groups are drawn.
     groups: usize,
     lasts: Vec<bool>,
-    /// The spans of the nodes that are still to come; none where they are not written.
-    spans: &'a [Span],
 }
 
 impl Drawing<'_> {
@@ -85,13 +90,13 @@ impl Drawing<'_> {
         write!(out, "{}", Held(node))
     }
 
-    /// Writes the span of the node that comes next, and its text.
-    fn write_span<O: Write>(&mut self, out: &mut O) -> io::Result<()> {
-        let Some((span, rest)) = self.spans.split_first() else {
+    /// Writes the span of the node and its text, if spans are written.
+    fn write_span<O: Write>(&self, out: &mut O, node: SpannedNode<'_>) -> io::Result<()> {
+        if !self.look.has_spans {
             return Ok(());
-        };
-        self.spans = rest;
-        let text = span.text(self.pattern).unwrap_or("");
+        }
+        let span = node.span();
+        let text = node.text(self.pattern).unwrap_or("");
         let colon = if text.is_empty() { "" } else { ": " };
         write!(
             out,
@@ -103,14 +108,19 @@ impl Drawing<'_> {
     }
 
     /// Writes the node's line; `role` is what it is to its parent.
-    fn write_line<O: Write>(&mut self, out: &mut O, role: &str, node: &Expr) -> io::Result<()> {
+    fn write_line<O: Write>(
+        &mut self,
+        out: &mut O,
+        role: &str,
+        node: SpannedNode<'_>,
+    ) -> io::Result<()> {
         let branches = Branches {
-            style: self.style,
+            style: self.look.style,
             lasts: &self.lasts,
         };
         write!(out, "{branches}{role}")?;
-        self.write_label(out, node)?;
-        self.write_span(out)?;
+        self.write_label(out, node.expr())?;
+        self.write_span(out, node)?;
         out.write_all(b"\n")
     }
 }
@@ -127,43 +137,40 @@ pub fn role(parent: &Expr, following: usize) -> &'static str {
     }
 }
 
-/// Draws the tree below the branches that are drawn.
+/// Draws the node and those below it, below the branches that are drawn.
 fn draw<O: Write>(
     out: &mut O,
     drawing: &mut Drawing<'_>,
     as_what: &str,
-    tree: &Expr,
+    node: SpannedNode<'_>,
 ) -> Result<(), Fault> {
-    drawing.write_line(out, as_what, tree)?;
-    let mut following = tree.children_iter().count();
-    for child in tree.children_iter() {
+    drawing.write_line(out, as_what, node)?;
+    let mut following = node.expr().children_iter().count();
+    for child in node.children() {
         following = following.saturating_sub(1);
         drawing.lasts.push(following == 0)?;
-        draw(out, drawing, role(tree, following), child)?;
+        draw(out, drawing, role(node.expr(), following), child)?;
         drawing.lasts.pop();
     }
     Ok(())
 }
 
-/// Draws the pattern's tree, with the spans if there are any, and writes what is known of it.
+/// Draws the pattern's tree, and writes its group information.
 pub fn write_tree<O: Write>(
-    alloc: Global,
-    style: Style,
-    pattern: &str,
-    tree: &ExprTree,
-    spans: &[Span],
+    subject: Subject<'_>,
+    look: Look,
+    parsed: &SpannedTree,
     out: &mut O,
 ) -> Result<(), Fault> {
     let mut drawing = Drawing {
-        style,
-        pattern,
-        names: Names::of(alloc, tree)?,
+        look,
+        pattern: subject.pattern,
+        names: Names::of(subject.alloc, &parsed.tree)?,
         groups: 0,
-        lasts: Vec::new(alloc),
-        spans,
+        lasts: Vec::new(subject.alloc),
     };
-    draw(out, &mut drawing, "", &tree.expr)?;
-    write_marks(out, tree)?;
+    draw(out, &mut drawing, "", parsed.root())?;
+    write_marks(out, &parsed.tree)?;
     out.flush()?;
     Ok(())
 }

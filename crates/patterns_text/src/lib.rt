@@ -10,5 +10,5 @@ pub mod nodes;
 pub mod paint;
 pub mod path;
 pub mod place;
-pub mod reading;
+pub mod subject;
 pub mod words;

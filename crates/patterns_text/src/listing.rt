@@ -1,11 +1,11 @@
 //! A pattern's groups, and what its references and calls refer to, a line each.
 use crate::names::Names;
-use crate::nodes::Node;
 use crate::paint::Ink;
 use crate::place::{Columns, Location};
 use crate::words::{is_reference, write_reference};
 use fancy_syntax::expr::Expr;
 use fancy_syntax::span::Span;
+use fancy_syntax::spanned::SpannedNode;
 use std::io;
 use std::io::Write;
 
@@ -50,14 +50,14 @@ pub fn write_numbered<O: Write>(
     out: &mut O,
     lead: Lead<'_>,
     pattern: &str,
-    nodes: &[Node<'_>],
+    nodes: &[SpannedNode<'_>],
     names: &Names<'_>,
 ) -> io::Result<()> {
     let mut number = 0usize;
     for node in nodes {
-        if let Expr::Group(_) = node.expr {
+        if let Expr::Group(_) = node.expr() {
             number = number.saturating_add(1);
-            lead.write(out, pattern, node.span)?;
+            lead.write(out, pattern, node.span())?;
             writeln!(out, "{}", names.group(number))?;
         }
     }
@@ -73,13 +73,13 @@ pub fn write_references<O: Write>(
     out: &mut O,
     lead: Lead<'_>,
     pattern: &str,
-    nodes: &[Node<'_>],
+    nodes: &[SpannedNode<'_>],
     names: &Names<'_>,
 ) -> io::Result<()> {
     for node in nodes {
-        if is_reference(node.expr) {
-            lead.write(out, pattern, node.span)?;
-            write_reference(out, node.expr, names, pattern)?;
+        if is_reference(node.expr()) {
+            lead.write(out, pattern, node.span())?;
+            write_reference(out, node.expr(), names, pattern)?;
             out.write_all(b"\n")?;
         }
     }

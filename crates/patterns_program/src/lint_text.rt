@@ -2,7 +2,8 @@
 use patterns_lint::chosen::Level;
 use patterns_lint::problem::Found;
 use patterns_text::paint::{Ink, Paint};
-use patterns_text::place::{Blank, Cut, Location, column_after};
+use patterns_text::place::{Blank, Cut, column_after};
+use patterns_text::subject::Subject;
 use std::io;
 use std::io::Write;
 use unicode_width::UnicodeWidthStr;
@@ -23,13 +24,13 @@ fn write_underline<O: Write>(
 }
 
 /// Writes a report: where and what, the line of the pattern, carets below the part, and help.
-pub(super) fn write_report<O: Write>(
+pub(crate) fn write_report<O: Write>(
     out: &mut O,
-    at: Location<'_>,
-    pattern: &str,
+    subject: Subject<'_>,
     level: Level,
     found: Found<'_>,
 ) -> io::Result<()> {
+    let Subject { at, pattern, .. } = subject;
     let Found { span, problem } = found;
     let Cut {
         above,
@@ -55,4 +56,16 @@ pub(super) fn write_report<O: Write>(
     let part = after.get(..length).unwrap_or(after);
     write_underline(out, at.reported, ink, before, part)?;
     writeln!(out, "help: {}", rule.help())
+}
+
+/// Writes how many more reports there are than are shown, if there are more.
+pub(crate) fn write_more<O: Write>(
+    out: &mut O,
+    subject: Subject<'_>,
+    more: usize,
+) -> io::Result<()> {
+    if more > 0 {
+        writeln!(out, "{}: {more} more reports are not shown", subject.at)?;
+    }
+    Ok(())
 }
