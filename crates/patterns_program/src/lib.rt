@@ -9,7 +9,6 @@ pub mod form;
 mod groups;
 pub mod lines;
 mod lint;
-mod lint_text;
 pub mod objects;
 mod outcome;
 pub mod printing;

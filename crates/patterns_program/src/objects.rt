@@ -1,19 +1,21 @@
 //! Reports as JSON, an object a line.
 mod code;
-pub(crate) mod line;
+mod line;
 mod marks;
 mod node;
-pub(crate) mod places;
+mod places;
+mod problem;
 
 use crate::objects::code::code;
-use crate::objects::line::{begin, finish, write_number, write_span, write_text};
+use crate::objects::line::{begin, finish, write_span, write_text};
 use crate::objects::marks::{write_groups, write_marks, write_references};
 use crate::objects::node::write_node;
 use crate::objects::places::Places;
+use crate::objects::problem::{write_omitted, write_problem};
 use crate::reporter::{MAX_REPORTS, Reporter};
 use fancy_syntax::span::Span;
 use fancy_syntax::spanned::SpannedTree;
-use patterns_lint::chosen::{Chosen, Level};
+use patterns_lint::chosen::Chosen;
 use patterns_lint::problem::Found;
 use patterns_text::fault::Fault;
 use patterns_text::nodes::nodes_of;
@@ -33,47 +35,6 @@ pub enum Report {
 #[derive(Drop)]
 pub(crate) struct Json<'a, O> {
     pub(crate) out: &'a mut O,
-}
-
-/// What a report is called.
-fn type_name(level: Level) -> &'static str {
-    if level == Level::Deny {
-        "error"
-    } else {
-        "warning"
-    }
-}
-
-/// Writes a likely mistake.
-fn write_problem<O: Write>(
-    subject: Subject<'_>,
-    places: &Places,
-    level: Level,
-    found: Found<'_>,
-    out: &mut O,
-) -> Result<(), Fault> {
-    let Found { span, problem } = found;
-    let rule = problem.rule();
-    let mut writer = begin(subject, type_name(level))?;
-    write_span(&mut writer, places, span)?;
-    write_text(&mut writer, "code", rule.name())?;
-    write_text(
-        &mut writer,
-        "message",
-        format!(in subject.alloc; "{problem}")?.as_str(),
-    )?;
-    write_text(&mut writer, "help", rule.help())?;
-    finish(writer, out)
-}
-
-/// Writes how many likely mistakes are not written, if there are some.
-fn write_omitted<O: Write>(subject: Subject<'_>, more: usize, out: &mut O) -> Result<(), Fault> {
-    if more == 0 {
-        return Ok(());
-    }
-    let mut writer = begin(subject, "omitted")?;
-    write_number(&mut writer, "count", more as u64)?;
-    finish(writer, out)
 }
 
 impl<O: Write> Reporter for Json<'_, O> {

@@ -1,6 +1,8 @@
 //! Reports as lines of text.
-use crate::lint_text::{write_more, write_report};
+mod problem;
+
 use crate::reporter::{MAX_REPORTS, Reporter};
+use crate::text::problem::{write_more, write_report};
 use fancy_syntax::spanned::SpannedTree;
 use patterns_lint::chosen::Chosen;
 use patterns_lint::problem::Found;

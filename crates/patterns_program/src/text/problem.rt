@@ -24,7 +24,7 @@ fn write_underline<O: Write>(
 }
 
 /// Writes a report: where and what, the line of the pattern, carets below the part, and help.
-pub(crate) fn write_report<O: Write>(
+pub(super) fn write_report<O: Write>(
     out: &mut O,
     subject: Subject<'_>,
     level: Level,
@@ -59,7 +59,7 @@ pub(crate) fn write_report<O: Write>(
 }
 
 /// Writes how many more reports there are than are shown, if there are more.
-pub(crate) fn write_more<O: Write>(
+pub(super) fn write_more<O: Write>(
     out: &mut O,
     subject: Subject<'_>,
     more: usize,
