@@ -19,17 +19,17 @@ pub fn problems<'a>(
         at,
         pattern,
     } = subject;
-    let SpannedTree { tree, spans, .. } = parsed;
+    let tree = &parsed.tree;
     let about = About {
         alloc,
         pattern,
         total: tree.total_groups,
         has_calls: tree.contains_subroutines,
     };
-    let mut walk = Walk::new(alloc, spans);
-    scan(&tree.expr, &mut walk, about, true)?;
-    let mut ways = Ways::new(alloc, tree, spans)?;
-    follow(&tree.expr, &mut ways)?;
+    let mut walk = Walk::new(alloc);
+    scan(parsed.root(), &mut walk, about, true)?;
+    let mut ways = Ways::new(alloc, tree)?;
+    follow(parsed.root(), &mut ways)?;
     ways.report_unused()?;
     let mut found = walk.found;
     found.extend_from_slice(&ways.walk.found)?;

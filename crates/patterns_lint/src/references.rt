@@ -1,8 +1,9 @@
 //! The rules on groups, and on what refers to them.
 use crate::problem::Problem;
 use crate::walk::Walk;
-use fancy_syntax::expr::{Absent, Expr, LookAround};
+use fancy_syntax::expr::{Expr, LookAround};
 use fancy_syntax::span::Span;
+use fancy_syntax::spanned::SpannedNode;
 use fancy_syntax::tree::ExprTree;
 use patterns_text::names::Names;
 use std::alloc::{AllocError, Global};
@@ -66,13 +67,9 @@ fn captures_of(alloc: Global, tree: &ExprTree) -> Result<Vec<Capture>, AllocErro
 
 impl<'a> Ways<'a> {
     /// The walk that begins at the root.
-    pub(crate) fn new(
-        alloc: Global,
-        tree: &'a ExprTree,
-        spans: &'a [Span],
-    ) -> Result<Ways<'a>, AllocError> {
+    pub(crate) fn new(alloc: Global, tree: &'a ExprTree) -> Result<Ways<'a>, AllocError> {
         Ok(Ways {
-            walk: Walk::new(alloc, spans),
+            walk: Walk::new(alloc),
             names: Names::of(alloc, tree)?,
             has_calls: tree.contains_subroutines,
             captures: captures_of(alloc, tree)?,
@@ -225,88 +222,80 @@ impl<'a> Ways<'a> {
         }
         Ok(())
     }
-}
 
-/// Goes along the ways through the tree.
-#[cycle(follow)]
-pub(crate) fn follow(tree: &Expr, ways: &mut Ways<'_>) -> Result<(), AllocError> {
-    let span = ways.walk.enter();
-    match tree {
-        Expr::Concat(pieces) => follow_all(pieces, ways),
-        Expr::Alt(branches) => follow_branches(branches, ways),
-        Expr::Group(child) => {
-            let group = ways.open(span)?;
-            follow(child, ways)?;
-            ways.close(group)
-        }
-        Expr::LookAround(child, LookAround::LookAheadNeg | LookAround::LookBehindNeg) => {
-            let from = ways.closed.len();
-            follow(child, ways)?;
-            ways.leave(from);
-            ways.closed.truncate(from);
-            Ok(())
-        }
-        Expr::LookAround(child, _) => follow(child, ways),
-        Expr::AtomicGroup(child) => follow(child, ways),
-        Expr::DefineGroup { definitions } => follow(definitions, ways),
-        Expr::Repeat { child, hi, .. } => {
-            if *hi > 1 && ways.before_loop.is_none() {
-                ways.before_loop = Some(ways.opened);
-                follow(child, ways)?;
-                return ways.leave_loop();
+    /// Enters a node.
+    fn enter(&mut self, node: SpannedNode<'_>) -> Result<Entry, AllocError> {
+        let mut entry = Entry {
+            closed: self.closed.len(),
+            group: 0,
+            is_outermost_loop: false,
+        };
+        match node.expr() {
+            Expr::Group(_) => entry.group = self.open(node.span())?,
+            Expr::Repeat { hi, .. } => {
+                if *hi > 1 && self.before_loop.is_none() {
+                    self.before_loop = Some(self.opened);
+                    entry.is_outermost_loop = true;
+                }
             }
-            follow(child, ways)
+            Expr::Backref { group, .. } => self.look_at_backref(node.span(), *group)?,
+            Expr::BackrefWithRelativeRecursionLevel { group, .. }
+            | Expr::BackrefExistsCondition { group, .. }
+            | Expr::SubroutineCall(group) => self.refer(*group),
+            _ => {}
         }
-        Expr::Conditional {
-            condition,
-            true_branch,
-            false_branch,
-        } => {
-            follow(condition, ways)?;
-            let from = ways.closed.len();
-            follow(true_branch, ways)?;
-            ways.leave(from);
-            let middle = ways.closed.len();
-            follow(false_branch, ways)?;
-            ways.leave(middle);
-            ways.join(from);
-            Ok(())
+        Ok(entry)
+    }
+
+    /// Goes on past a child, in which the groups were closed from the index `from` on. A branch is one of several ways, and
+    /// so are the two after a condition.
+    fn pass_child(&mut self, parent: &Expr, index: usize, from: usize, entry: &mut Entry) {
+        match parent {
+            Expr::Conditional { .. } if index == 0 => entry.closed = self.closed.len(),
+            Expr::Alt(_) | Expr::Conditional { .. } => self.leave(from),
+            _ => {}
         }
-        Expr::Absent(Absent::Repeater(child)) => follow(child, ways),
-        Expr::Absent(Absent::Stopper(child)) => follow(child, ways),
-        Expr::Absent(Absent::Expression { absent, exp }) => {
-            follow(absent, ways)?;
-            follow(exp, ways)
+    }
+
+    /// Goes on past the node, whose children were passed.
+    fn pass(&mut self, node: &Expr, entry: Entry) -> Result<(), AllocError> {
+        match node {
+            Expr::Group(_) => self.close(entry.group),
+            Expr::LookAround(_, LookAround::LookAheadNeg | LookAround::LookBehindNeg) => {
+                self.leave(entry.closed);
+                self.closed.truncate(entry.closed);
+                Ok(())
+            }
+            Expr::Repeat { .. } if entry.is_outermost_loop => self.leave_loop(),
+            Expr::Alt(_) | Expr::Conditional { .. } => {
+                self.join(entry.closed);
+                Ok(())
+            }
+            _ => Ok(()),
         }
-        Expr::Backref { group, .. } => ways.look_at_backref(span, *group),
-        Expr::BackrefWithRelativeRecursionLevel { group, .. }
-        | Expr::BackrefExistsCondition { group, .. }
-        | Expr::SubroutineCall(group) => {
-            ways.refer(*group);
-            Ok(())
-        }
-        _ => Ok(()),
     }
 }
 
-/// Goes along the ways through the trees, one after another.
-#[cycle(follow)]
-fn follow_all(trees: &[Expr], ways: &mut Ways<'_>) -> Result<(), AllocError> {
-    for tree in trees {
-        follow(tree, ways)?;
-    }
-    Ok(())
+/// What is known of a node since it was entered.
+#[derive(Clone, Copy)]
+struct Entry {
+    /// How many groups were closed before it, or before the ways after a condition.
+    closed: usize,
+    /// The number of the group that it is; 0 if it is none.
+    group: usize,
+    /// Whether it is a loop, and in no other.
+    is_outermost_loop: bool,
 }
 
-/// Goes along the ways through the trees, of which each way takes one.
-#[cycle(follow)]
-fn follow_branches(trees: &[Expr], ways: &mut Ways<'_>) -> Result<(), AllocError> {
-    let start = ways.closed.len();
-    for tree in trees {
+/// Goes along the ways through the node.
+pub(crate) fn follow(node: SpannedNode<'_>, ways: &mut Ways<'_>) -> Result<(), AllocError> {
+    let mut entry = ways.enter(node)?;
+    let mut index = 0usize;
+    for child in node.children() {
         let from = ways.closed.len();
-        follow(tree, ways)?;
-        ways.leave(from);
+        follow(child, ways)?;
+        ways.pass_child(node.expr(), index, from, &mut entry);
+        index = index.saturating_add(1);
     }
-    ways.join(start);
-    Ok(())
+    ways.pass(node.expr(), entry)
 }
