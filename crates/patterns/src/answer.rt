@@ -5,14 +5,13 @@ use crate::words::{
 };
 use clap::error::ErrorKind;
 use clap::{ArgMatches, Error};
-use patterns_program::draw::draw_tree;
-use patterns_program::fault::{Fault, give_up};
-use patterns_program::lint::rule::write_rules;
-use patterns_program::objects::tree::write_tree;
-use patterns_program::paint::Paints;
-use patterns_program::picture::draw_picture;
+use patterns_lint::rule::write_rules;
+use patterns_picture::picture::draw_picture;
+use patterns_program::draw::{draw_tree, write_tree};
 use patterns_program::progress::System;
 use patterns_program::run::{Job, Verb, run};
+use patterns_text::fault::{Fault, give_up};
+use patterns_text::paint::Paints;
 use std::alloc::{AllocError, Global};
 use std::io::Write;
 

@@ -8,9 +8,9 @@ mod words;
 
 use answer::answer;
 use files::Host;
-use patterns_program::fault::{Fault, give_up};
-use patterns_program::paint::{Paint, Paints};
 use patterns_program::progress::{System, Terminals};
+use patterns_text::fault::{Fault, give_up};
+use patterns_text::paint::{Paint, Paints};
 use std::alloc::AllocError;
 use std::env::VarError;
 use std::io::BufWriter;

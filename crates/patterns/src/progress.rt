@@ -1,9 +1,9 @@
 //! Tests of the line that says how far a run is.
 use crate::answer::answer;
 use crate::memory::{End, Limited, Memory};
-use patterns_program::paint::{Paint, Paints};
 use patterns_program::progress::{System, Terminals};
 use patterns_program::sources::Sources;
+use patterns_text::paint::{Paint, Paints};
 use std::alloc::Global;
 use std::cell::Cell;
 use std::io;

@@ -1,7 +1,7 @@
 //! The rules of `lint` that the arguments choose.
 use clap::ArgMatches;
-use patterns_program::lint::chosen::{Chosen, Level};
-use patterns_program::lint::rule::Rule;
+use patterns_lint::chosen::{Chosen, Level};
+use patterns_lint::rule::Rule;
 
 /// The options that give a level to a rule.
 static OPTIONS: [(&str, Level); 3] = [

@@ -2,7 +2,7 @@
 //! writes is compared by `.ci/patterns` with the folder `data`.
 use crate::answer::answer;
 use crate::memory::{Limited, Memory};
-use patterns_program::paint::{Paint, Paints};
+use patterns_text::paint::{Paint, Paints};
 use std::alloc::Global;
 use std::test::Fail;
 

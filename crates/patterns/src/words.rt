@@ -1,15 +1,15 @@
 //! The arguments of the program.
 use clap::{Arg, ArgAction, ArgMatches, Command};
 use fre_program::flag_word::flags_named;
-use patterns_program::draw::{Look, Style};
+use patterns_picture::picture::Canvas;
 use patterns_program::form::Form;
 use patterns_program::lines::Ending;
 use patterns_program::objects::Report;
-use patterns_program::paint::{Paint, Paints};
-use patterns_program::picture::Canvas;
 use patterns_program::printing::Comments;
 use patterns_program::run::{STANDARD_INPUT, Verb};
 use patterns_program::values::keys::Keys;
+use patterns_text::drawing::{Look, Style};
+use patterns_text::paint::{Paint, Paints};
 use std::alloc::{AllocError, Global};
 
 const ABOUT: &str =

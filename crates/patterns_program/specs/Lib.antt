@@ -1,9 +1,4 @@
 pub mod Line
-pub mod Empty
-pub mod Quantifiers
-pub mod Branches
-pub mod Rules
-pub mod Targets
 pub mod Codes
 pub mod Progress
 pub mod Keys

@@ -1,29 +1,20 @@
 //! The subcommand `check`: whether a pattern is accepted.
-ghost use Rattle.std.specs.Prelude.{◌≡◌, chars, Ok};
-ghost use Rattle.fancy_lex.specs.Flags.{flags_of};
-ghost use Rattle.fre_program.specs.Words.{HasTree, HasFault};
+ghost use Rattle.std.specs.Prelude.{◌≡◌, Ok};
 ghost use Rattle.patterns_program.specs.declared.outcome.Outcome.{Outcome};
+ghost use Rattle.patterns_text.specs.Subject.{IsAccepted, IsRefused};
 
-use crate::fault::Fault;
 use crate::outcome::Outcome;
-use crate::place::Location;
-use crate::reading::read;
-use std::alloc::Global;
-use std::io::Write;
+use crate::reporter::{Reporter, parse};
+use patterns_text::fault::Fault;
+use patterns_text::subject::Subject;
 
-/// Writes the position and the reason to `out` if the pattern is refused.
-pub(crate) fn check<O: Write>(
-    alloc: Global,
-    flags: u32,
-    at: Location<'_>,
-    pattern: &str,
-    out: &mut O,
-) -> Result<Outcome, Fault>
-    ensures good { result ≡ Ok Outcome.Good → HasTree (flags_of flags) (chars pattern.now) }
-    ensures refused { result ≡ Ok Outcome.Refused → HasFault (flags_of flags) (chars pattern.now) }
+/// Reports the error of the pattern, if it is refused.
+pub(crate) fn check<R: Reporter>(subject: Subject<'_>, reporter: &mut R) -> Result<Outcome, Fault>
+    ensures good { result ≡ Ok Outcome.Good → IsAccepted subject.entry }
+    ensures refused { result ≡ Ok Outcome.Refused → IsRefused subject.entry }
     ensures read { result ≡ Ok Outcome.Unread → ⊥ }
 {
-    match read(alloc, flags, at, pattern, out)? {
+    match parse(subject, reporter)? {
         Some(_) => Ok(Outcome::Good),
         None => Ok(Outcome::Refused),
     }

@@ -1,13 +1,13 @@
 //! The comments of a pattern. No node tells of one, so that the text is read again: a `#` is a comment's if it is neither a
 //! leaf's own, nor in the name of a group. Of a leaf's text only what may be layout is not its own.
-use crate::fault::Fault;
-use crate::names::Names;
-use crate::nodes::{Node, nodes_of};
 use fancy_lex::layout::past_layout;
-use fancy_syntax::error::Error;
+use fancy_spans::{SpannedNode, SpannedTree};
 use fancy_syntax::expr::{Absent, Expr};
 use fancy_syntax::span::Span;
-use std::alloc::{AllocError, Global};
+use patterns_text::names::Names;
+use patterns_text::nodes::nodes_of;
+use patterns_text::subject::Subject;
+use std::alloc::AllocError;
 
 /// Where the comment begins whose first `#` is at the offset.
 fn start_of(text: &str, hash: usize) -> usize {
@@ -125,26 +125,26 @@ impl Search<'_> {
     }
 
     /// Goes on to the next node.
-    fn visit(&mut self, node: Node<'_>) -> Option<usize> {
-        match node.expr {
+    fn visit(&mut self, node: SpannedNode<'_>) -> Option<usize> {
+        match node.expr() {
             Expr::Group(_) => {
                 self.groups = self.groups.saturating_add(1);
                 if self.names.name(self.groups).is_none() {
                     return None;
                 }
-                self.pass(name_span(self.pattern, node.span), None)
+                self.pass(name_span(self.pattern, node.span()), None)
             }
             Expr::Empty | Expr::Absent(Absent::Clear) => None,
             leaf if leaf.is_leaf_node() => {
-                let text = node.span.text(self.pattern).unwrap_or("");
-                self.pass(node.span, in_leaf(leaf, text))
+                let text = node.text(self.pattern).unwrap_or("");
+                self.pass(node.span(), in_leaf(leaf, text))
             }
             _ => None,
         }
     }
 
     /// The first comment.
-    fn find(&mut self, nodes: &[Node<'_>]) -> Option<usize> {
+    fn find(&mut self, nodes: &[SpannedNode<'_>]) -> Option<usize> {
         for node in nodes {
             let found = self.visit(*node);
             if found.is_some() {
@@ -155,22 +155,16 @@ impl Search<'_> {
     }
 }
 
-/// The byte offset of the first comment in an accepted pattern, `(?#..)` or under IGNORE_SPACE `#..`; none if there is none
-/// but empty ones, `(?#)`.
+/// The byte offset of the first comment in a pattern that is parsed, `(?#..)` or under IGNORE_SPACE `#..`; `None` if there is
+/// none but empty ones, `(?#)`.
 pub(crate) fn first_comment(
-    alloc: Global,
-    flags: u32,
-    pattern: &str,
-) -> Result<Option<usize>, Fault> {
-    let (tree, spans) = match Expr::parse_tree_with_spans(alloc, pattern, flags) {
-        Ok(read) => read,
-        Err(Error::ParseError(..)) => return Ok(None),
-        Err(Error::OutOfMemory) => return Err(Fault::Memory(AllocError)),
-    };
-    let nodes = nodes_of(alloc, &tree.expr, &spans)?;
+    subject: Subject<'_>,
+    parsed: &SpannedTree,
+) -> Result<Option<usize>, AllocError> {
+    let nodes = nodes_of(subject.alloc, parsed)?;
     let mut search = Search {
-        pattern,
-        names: Names::of(alloc, &tree)?,
+        pattern: subject.pattern,
+        names: Names::of(subject.alloc, &parsed.tree)?,
         groups: 0,
         end: 0,
     };

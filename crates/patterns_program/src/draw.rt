@@ -1,212 +1,30 @@
-//! The subcommand `tree`: a pattern's tree, drawn with branches, and its group information.
+//! The subcommand `tree`: a pattern's tree, and its group information.
 ghost use Rattle.std.specs.Prelude.{◌≡◌, ◌≤◌, ◌⊎◌, chars, Ok, IfOk};
 ghost use Rattle.fancy_lex.specs.Flags.{flags_of};
 ghost use Rattle.fre_program.specs.Words.{HasTree, HasFault};
+ghost use Rattle.patterns_text.specs.Subject.{IsAccepted, IsRefused};
 
-use crate::fault::{Fault, give_up};
-use crate::marks::write_marks;
-use crate::names::Names;
-use crate::place::Location;
-use crate::reading::read_with_spans;
-use crate::words::{Held, Visible, is_reference, write_reference};
-use fancy_syntax::expr::{Absent, Expr};
-use fancy_syntax::span::Span;
-use fancy_syntax::tree::ExprTree;
+use crate::objects::Json;
+use crate::reporter::{Reporter, parse};
+use crate::text::Text;
+use patterns_text::drawing::Look;
+use patterns_text::fault::{Fault, give_up};
+use patterns_text::subject::Subject;
 use std::alloc::Global;
 use std::io::Write;
-use std::{fmt, io};
 
-/// The characters of the branches.
-#[derive(Clone, Copy)]
-pub enum Style {
-    /// Those that Unicode has for drawing.
-    Lines,
-    /// Some of ASCII's.
-    Ascii,
-}
-
-/// How a tree is drawn.
-#[derive(Clone, Copy)]
-pub struct Look {
-    pub style: Style,
-    /// Whether the span of each node is written, in byte offsets, and its text.
-    pub has_spans: bool,
-}
-
-/// What stands before a node: for each level from the first whether the node that it runs through is the last there.
-#[derive(Clone, Copy)]
-struct Branches<'a> {
-    style: Style,
-    lasts: &'a [bool],
-}
-
-impl Look {
-    /// The spans that are written.
-    fn shown(self, spans: &[Span]) -> &[Span] {
-        if self.has_spans { spans } else { &[] }
-    }
-}
-
-impl Style {
-    /// What stands before a node itself.
-    fn own(self, is_last: bool) -> &'static str {
-        match (self, is_last) {
-            (Style::Lines, false) => "├─ ",
-            (Style::Lines, true) => "└─ ",
-            (Style::Ascii, false) => "|- ",
-            (Style::Ascii, true) => "`- ",
-        }
-    }
-
-    /// What stands at a level before what is below its node.
-    fn above(self, is_last: bool) -> &'static str {
-        match (self, is_last) {
-            (_, true) => "   ",
-            (Style::Lines, false) => "│  ",
-            (Style::Ascii, false) => "|  ",
-        }
-    }
-}
-
-impl fmt::Display for Branches<'_> {
-    fn fmt<W: fmt::Write>(&self, f: &mut fmt::Formatter<W>) -> fmt::Result {
-        let Some((own, above)) = self.lasts.split_last() else {
-            return Ok(());
-        };
-        for is_last in above {
-            f.write_str(self.style.above(*is_last))?;
-        }
-        f.write_str(self.style.own(*own))
-    }
-}
-
-/// A tree that is being drawn.
-#[derive(Drop)]
-struct Drawing<'a> {
-    style: Style,
-    pattern: &'a str,
-    names: Names<'a>,
-    /// How many groups are drawn.
-    groups: usize,
-    lasts: Vec<bool>,
-    /// The spans of the nodes that are still to come; none where they are not written.
-    spans: &'a [Span],
-}
-
-impl Drawing<'_> {
-    /// Writes what the node is.
-    fn write_label<O: Write>(&mut self, out: &mut O, node: &Expr) -> io::Result<()> {
-        if is_reference(node) {
-            return write_reference(out, node, &self.names, self.pattern);
-        }
-        if let Expr::Group(_) = node {
-            self.groups = self.groups.saturating_add(1);
-            return write!(out, "{}", self.names.group(self.groups));
-        }
-        write!(out, "{}", Held(node))
-    }
-
-    /// Writes the span of the node that comes next, and its text.
-    fn write_span<O: Write>(&mut self, out: &mut O) -> io::Result<()> {
-        let Some((span, rest)) = self.spans.split_first() else {
-            return Ok(());
-        };
-        self.spans = rest;
-        let text = span.text(self.pattern).unwrap_or("");
-        let colon = if text.is_empty() { "" } else { ": " };
-        write!(
-            out,
-            " at {}..{}{colon}{}",
-            span.start,
-            span.end,
-            Visible(text)
-        )
-    }
-
-    /// Writes the node's line; `role` is what it is to its parent.
-    fn write_line<O: Write>(&mut self, out: &mut O, role: &str, node: &Expr) -> io::Result<()> {
-        let branches = Branches {
-            style: self.style,
-            lasts: &self.lasts,
-        };
-        write!(out, "{branches}{role}")?;
-        self.write_label(out, node)?;
-        self.write_span(out)?;
-        out.write_all(b"\n")
-    }
-}
-
-/// What a child is to its parent, where so many follow it.
-pub(crate) fn role(parent: &Expr, following: usize) -> &'static str {
-    match (parent, following) {
-        (Expr::Conditional { .. }, 2) => "if: ",
-        (Expr::Conditional { .. }, 1) => "then: ",
-        (Expr::Conditional { .. }, _) => "else: ",
-        (Expr::Absent(Absent::Expression { .. }), 1) => "absent: ",
-        (Expr::Absent(Absent::Expression { .. }), _) => "text: ",
-        _ => "",
-    }
-}
-
-/// Draws the tree below the branches that are drawn.
-fn draw<O: Write>(
-    out: &mut O,
-    drawing: &mut Drawing<'_>,
-    as_what: &str,
-    tree: &Expr,
-) -> Result<(), Fault> {
-    drawing.write_line(out, as_what, tree)?;
-    let mut following = tree.children_iter().count();
-    for child in tree.children_iter() {
-        following = following.saturating_sub(1);
-        drawing.lasts.push(following == 0)?;
-        draw(out, drawing, role(tree, following), child)?;
-        drawing.lasts.pop();
-    }
-    Ok(())
-}
-
-/// Draws the pattern's tree, with the spans if there are any, and writes what is known of it.
-pub(crate) fn write_tree<O: Write>(
-    alloc: Global,
-    style: Style,
-    pattern: &str,
-    tree: &ExprTree,
-    spans: &[Span],
-    out: &mut O,
-) -> Result<(), Fault> {
-    let mut drawing = Drawing {
-        style,
-        pattern,
-        names: Names::of(alloc, tree)?,
-        groups: 0,
-        lasts: Vec::new(alloc),
-        spans,
-    };
-    draw(out, &mut drawing, "", &tree.expr)?;
-    write_marks(out, tree)?;
-    out.flush()?;
-    Ok(())
-}
-
-/// Reads the pattern, and writes its tree on `out`, or on `err` where and why it is refused.
-fn answer<O: Write, E: Write>(
-    alloc: Global,
-    flags: u32,
-    look: Look,
-    pattern: &str,
-    out: &mut O,
-    err: &mut E,
-) -> Result<u8, Fault>
-    ensures read { result ≡ Ok 0 → HasTree (flags_of flags) (chars pattern.now) }
-    ensures refused { result ≡ Ok 1 → HasFault (flags_of flags) (chars pattern.now) }
+/// Reports the tree of the pattern, or its error if it is refused.
+fn answer<R: Reporter>(subject: Subject<'_>, reporter: &mut R) -> Result<u8, Fault>
+    ensures read { result ≡ Ok 0 → IsAccepted subject.entry }
+    ensures refused { result ≡ Ok 1 → IsRefused subject.entry }
     ensures status { IfOk result (λ n. n ≤ 1) }
 {
-    let at = Location::plain("PATTERN", 1);
-    let Some((tree, spans)) = read_with_spans(alloc, flags, at, pattern, err)? else {
+    let Some(parsed) = parse(subject, reporter)? else {
+        reporter.flush()?;
         return Ok(1);
     };
-    write_tree(alloc, look.style, pattern, &tree, look.shown(&spans), out)?;
+    reporter.tree(subject, &parsed)?;
+    reporter.flush()?;
     Ok(0)
 }
 
@@ -225,7 +43,29 @@ pub fn draw_tree<O: Write, E: Write>(
     ensures refused { result ≡ 1 → HasFault (flags_of flags) (chars pattern.now) }
     ensures status { (result ≡ 0) ⊎ ((result ≡ 1) ⊎ (result ≡ 3)) }
 {
-    match answer(alloc, flags, look, pattern, out, err) {
+    let subject = Subject::of_argument(alloc, flags, pattern);
+    match answer(subject, &mut Text::drawn(out, err, look)) {
+        Ok(status) => status,
+        Err(fault) => give_up(err, fault),
+    }
+}
+
+/// Writes the tree of a pattern as a line of JSON, and returns the status: 0 if the pattern is accepted, with the tree on
+/// `out`; 1 if it is refused, with the error on `out`; 3 if memory ran out or a write failed, which is reported on `err` if
+/// that is possible. Then `out` may hold a beginning.
+pub fn write_tree<O: Write, E: Write>(
+    alloc: Global,
+    flags: u32,
+    pattern: &str,
+    out: &mut O,
+    err: &mut E,
+) -> u8
+    ensures read { result ≡ 0 → HasTree (flags_of flags) (chars pattern.now) }
+    ensures refused { result ≡ 1 → HasFault (flags_of flags) (chars pattern.now) }
+    ensures status { (result ≡ 0) ⊎ ((result ≡ 1) ⊎ (result ≡ 3)) }
+{
+    let subject = Subject::of_argument(alloc, flags, pattern);
+    match answer(subject, &mut Json { out }) {
         Ok(status) => status,
         Err(fault) => give_up(err, fault),
     }

@@ -1,25 +1,25 @@
 //! Reports as JSON, an object a line.
-ghost use Rattle.std.specs.Prelude.{◌≡◌, chars, Ok};
-ghost use Rattle.fancy_lex.specs.Flags.{flags_of};
-ghost use Rattle.fre_program.specs.Words.{HasTree, HasFault};
-ghost use Rattle.patterns_program.specs.declared.outcome.Outcome.{Outcome};
-
-mod check;
 mod code;
-mod groups;
-pub(crate) mod line;
+mod line;
 mod marks;
 mod node;
-pub(crate) mod places;
-pub(crate) mod reading;
-pub mod tree;
+mod places;
+mod problem;
 
-use crate::fault::Fault;
-use crate::objects::check::check;
-use crate::objects::groups::list_groups;
-use crate::outcome::Outcome;
-use crate::place::Location;
-use std::alloc::Global;
+use crate::objects::code::code;
+use crate::objects::line::{begin, finish, write_span, write_text};
+use crate::objects::marks::{write_groups, write_marks, write_references};
+use crate::objects::node::write_node;
+use crate::objects::places::Places;
+use crate::objects::problem::{write_omitted, write_problem};
+use crate::reporter::{MAX_REPORTS, Reporter};
+use fancy_spans::SpannedTree;
+use fancy_syntax::span::Span;
+use patterns_lint::chosen::Chosen;
+use patterns_lint::problem::Found;
+use patterns_text::fault::Fault;
+use patterns_text::nodes::nodes_of;
+use patterns_text::subject::{Refusal, Subject};
 use std::io::Write;
 
 /// What is reported of each pattern as JSON.
@@ -31,21 +31,72 @@ pub enum Report {
     Groups,
 }
 
-/// Writes the report on a pattern to `out`, a line for each object. A refusal is an object too.
-pub(crate) fn report_pattern<O: Write>(
-    alloc: Global,
-    flags: u32,
-    at: Location<'_>,
-    pattern: &str,
-    report: Report,
-    out: &mut O,
-) -> Result<Outcome, Fault>
-    ensures good { result ≡ Ok Outcome.Good → HasTree (flags_of flags) (chars pattern.now) }
-    ensures refused { result ≡ Ok Outcome.Refused → HasFault (flags_of flags) (chars pattern.now) }
-    ensures read { result ≡ Ok Outcome.Unread → ⊥ }
-{
-    match report {
-        Report::Check => check(alloc, flags, at, pattern, out),
-        Report::Groups => list_groups(alloc, flags, at, pattern, out),
+/// Reports as JSON, errors too.
+#[derive(Drop)]
+pub(crate) struct Json<'a, O> {
+    pub(crate) out: &'a mut O,
+}
+
+impl<O: Write> Reporter for Json<'_, O> {
+    /// The span is empty, and is at most at the end of the pattern.
+    fn error(&mut self, subject: Subject<'_>, refusal: &Refusal) -> Result<(), Fault> {
+        let Subject { alloc, pattern, .. } = subject;
+        let start = refusal.position.min(pattern.len());
+        let kind = &refusal.kind;
+        let mut writer = begin(subject, "error")?;
+        write_span(
+            &mut writer,
+            &Places::of(alloc, pattern)?,
+            Span { start, end: start },
+        )?;
+        write_text(&mut writer, "code", code(kind))?;
+        write_text(
+            &mut writer,
+            "message",
+            format!(in alloc; "{kind}")?.as_str(),
+        )?;
+        finish(writer, self.out)
+    }
+
+    fn problems(
+        &mut self,
+        subject: Subject<'_>,
+        chosen: &Chosen,
+        found: &[Found<'_>],
+    ) -> Result<(), Fault> {
+        let places = Places::of(subject.alloc, subject.pattern)?;
+        for one in found.iter().take(MAX_REPORTS) {
+            let level = chosen.level(one.problem.rule());
+            write_problem(subject, &places, level, *one, self.out)?;
+        }
+        write_omitted(subject, found.len().saturating_sub(MAX_REPORTS), self.out)
+    }
+
+    fn groups(&mut self, subject: Subject<'_>, parsed: &SpannedTree) -> Result<(), Fault> {
+        let Subject { alloc, pattern, .. } = subject;
+        let places = Places::of(alloc, pattern)?;
+        let nodes = nodes_of(alloc, parsed)?;
+        let mut writer = begin(subject, "groups")?;
+        write_groups(alloc, &mut writer, &places, &nodes, &parsed.tree)?;
+        write_references(&mut writer, &places, &nodes)?;
+        write_marks(&mut writer, &parsed.tree)?;
+        finish(writer, self.out)
+    }
+
+    fn tree(&mut self, subject: Subject<'_>, parsed: &SpannedTree) -> Result<(), Fault> {
+        let Subject { alloc, pattern, .. } = subject;
+        let places = Places::of(alloc, pattern)?;
+        let nodes = nodes_of(alloc, parsed)?;
+        let mut writer = begin(subject, "tree")?;
+        writer.key("tree")?;
+        write_node(&mut writer, &places, parsed.root())?;
+        write_groups(alloc, &mut writer, &places, &nodes, &parsed.tree)?;
+        write_marks(&mut writer, &parsed.tree)?;
+        finish(writer, self.out)
+    }
+
+    fn flush(&mut self) -> Result<(), Fault> {
+        self.out.flush()?;
+        Ok(())
     }
 }

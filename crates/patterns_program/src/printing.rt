@@ -1,25 +1,28 @@
 //! The subcommand `format`: each pattern as the text of its tree.
 ghost use Rattle.std.specs.Bool.{OnTrue};
-ghost use Rattle.std.specs.Prelude.{◌≡◌, ◌⊎◌, chars, string_bytes, Ok, IfOk, IfSome, IfNone};
+ghost use Rattle.std.specs.Prelude.{◌≡◌, ◌⊎◌, string_bytes, Ok, IfOk, IfSome, IfNone};
 ghost use Rattle.fancy_lex.specs.Flags.{flags_of};
 ghost use Rattle.fancy_syntax.specs.Answer.{marks_of};
 ghost use Rattle.fancy_syntax.specs.View.{view};
-ghost use Rattle.fre_program.specs.Words.{HasTree, HasFault};
 ghost use Rattle.patterns_program.specs.Line as spec;
 ghost use Rattle.patterns_program.specs.Line.{IsLineOf, HasNoLine, MayKeep, Stays, Changes};
 ghost use Rattle.patterns_program.specs.declared.outcome.Outcome.{Outcome};
 ghost use Rattle.patterns_program.specs.declared.printing.Comments.{Comments};
+ghost use Rattle.patterns_text.specs.Subject.{IsAccepted, IsRefused};
 
 use crate::comments::first_comment;
-use crate::fault::Fault;
 use crate::lines::Ending;
 use crate::outcome::Outcome;
-use crate::paint::Ink;
-use crate::place::{Location, write_refusal};
-use crate::reading::read;
+use crate::reporter::parse;
 use crate::tally::Tally;
+use crate::text::Text;
+use fancy_pattern::to_pattern;
+use fancy_spans::SpannedTree;
 use fancy_syntax::tree::ExprTree;
-use std::alloc::Global;
+use patterns_text::fault::Fault;
+use patterns_text::paint::Ink;
+use patterns_text::place::write_refusal;
+use patterns_text::subject::Subject;
 use std::io;
 use std::io::Write;
 
@@ -55,21 +58,16 @@ fn breaks_line(text: &str, pattern: &str) -> bool
 
 /// The text of the pattern's tree, for the pattern's line. None where it is not read as the tree, or cannot stand in the
 /// line: the pattern itself is written then.
-fn text_of(
-    alloc: Global,
-    flags: u32,
-    pattern: &str,
-    tree: &ExprTree,
-) -> Result<Option<String>, Fault>
-    ensures some { IfOk result (λ text. IfSome text (λ s.
-        IsLineOf (flags_of flags) pattern.now (view tree.now.expr) (marks_of tree.now) (string_bytes s))) }
-    ensures none { IfOk result (λ text. IfNone text
-        (HasNoLine (flags_of flags) pattern.now (view tree.now.expr) (marks_of tree.now))) }
+fn text_of(subject: Subject<'_>, tree: &ExprTree) -> Result<Option<String>, Fault>
+    ensures some { IfOk result (λ text. IfSome text (λ s. let given = subject.entry in
+        IsLineOf (flags_of given.flags) given.pattern.now (view tree.now.expr) (marks_of tree.now) (string_bytes s))) }
+    ensures none { IfOk result (λ text. IfNone text (let given = subject.entry in
+        HasNoLine (flags_of given.flags) given.pattern.now (view tree.now.expr) (marks_of tree.now))) }
 {
-    let Some(text) = tree.to_pattern(alloc, flags)? else {
+    let Some(text) = to_pattern(subject.alloc, tree, subject.flags)? else {
         return Ok(None);
     };
-    if breaks_line(text.as_str(), pattern) {
+    if breaks_line(text.as_str(), subject.pattern) {
         return Ok(None);
     }
     Ok(Some(text))
@@ -83,64 +81,54 @@ fn write_ended<O: Write>(out: &mut O, text: &str, ending: Ending) -> io::Result<
 
 /// Whether the pattern has a comment that is to be kept. The position is reported on `err` then.
 fn keeps_comment<E: Write>(
-    alloc: Global,
-    flags: u32,
+    subject: Subject<'_>,
+    parsed: &SpannedTree,
     comments: Comments,
-    at: Location<'_>,
-    pattern: &str,
     err: &mut E,
 ) -> Result<bool, Fault>
-    ensures { IfOk result (λ keeps. OnTrue keeps (MayKeep comments pattern.now)) }
+    ensures { IfOk result (λ keeps. OnTrue keeps (MayKeep comments subject.entry.pattern.now)) }
 {
-    if comments == Comments::Drop || !pattern.as_bytes().contains(&b'#') {
+    if comments == Comments::Drop || !subject.pattern.as_bytes().contains(&b'#') {
         return Ok(false);
     }
-    let Some(position) = first_comment(alloc, flags, pattern)? else {
+    let Some(position) = first_comment(subject, parsed)? else {
         return Ok(false);
     };
-    write_refusal(err, at, pattern, position, &LOST)?;
+    write_refusal(err, subject.at, subject.pattern, position, &LOST)?;
     Ok(true)
 }
 
-/// Writes the text of the pattern's tree as a line of `out`, or a record. A pattern that is refused, or whose comments are
-/// kept, is written unchanged, with the position and the reason on `err`.
+/// Writes the text of the pattern's tree as a line of the output, or a record. A pattern that is refused, or whose comments
+/// are kept, is written unchanged, and the position and the reason are reported.
 pub(crate) fn format_pattern<O: Write, E: Write>(
-    alloc: Global,
-    flags: u32,
+    subject: Subject<'_>,
     ending: Ending,
     comments: Comments,
-    at: Location<'_>,
-    pattern: &str,
-    out: &mut O,
-    err: &mut E,
+    text: &mut Text<'_, O, E>,
 ) -> Result<Outcome, Fault>
-    ensures good { result ≡ Ok Outcome.Good → HasTree (flags_of flags) (chars pattern.now) }
-    ensures refused { result ≡ Ok Outcome.Refused → HasFault (flags_of flags) (chars pattern.now)
-        ⊎ MayKeep comments pattern.now }
+    ensures good { result ≡ Ok Outcome.Good → IsAccepted subject.entry }
+    ensures refused { result ≡ Ok Outcome.Refused → IsRefused subject.entry
+        ⊎ MayKeep comments subject.entry.pattern.now }
     ensures read { result ≡ Ok Outcome.Unread → ⊥ }
 {
-    let Some(tree) = read(alloc, flags, at, pattern, err)? else {
-        write_ended(out, pattern, ending)?;
+    let Some(parsed) = parse(subject, text)? else {
+        write_ended(text.out, subject.pattern, ending)?;
         return Ok(Outcome::Refused);
     };
-    if keeps_comment(alloc, flags, comments, at, pattern, err)? {
-        write_ended(out, pattern, ending)?;
+    if keeps_comment(subject, &parsed, comments, text.err)? {
+        write_ended(text.out, subject.pattern, ending)?;
         return Ok(Outcome::Refused);
     }
-    match text_of(alloc, flags, pattern, &tree)? {
-        Some(text) => write_ended(out, text.as_str(), ending)?,
-        None => write_ended(out, pattern, ending)?,
+    match text_of(subject, &parsed.tree)? {
+        Some(line) => write_ended(text.out, line.as_str(), ending)?,
+        None => write_ended(text.out, subject.pattern, ending)?,
     }
     Ok(Outcome::Good)
 }
 
 /// Writes that the pattern would change, what it is, and what it would be.
-fn write_change<O: Write>(
-    out: &mut O,
-    at: Location<'_>,
-    pattern: &str,
-    text: &str,
-) -> io::Result<()> {
+fn write_change<O: Write>(out: &mut O, subject: Subject<'_>, text: &str) -> io::Result<()> {
+    let Subject { at, pattern, .. } = subject;
     let (bold, red, green, end) = (
         at.listed.begin(Ink::Position),
         at.listed.begin(Ink::Removed),
@@ -152,34 +140,30 @@ fn write_change<O: Write>(
     writeln!(out, "{green}+{text}{end}")
 }
 
-/// Whether the pattern would be written unchanged. If not, what it is and what it would be is written to `out`; if it is
-/// refused, or its comments are kept, the position and the reason to `err`.
+/// Whether the pattern would be written unchanged. If not, what it is and what it would be is written to the output; if it
+/// is refused, or its comments are kept, the position and the reason are reported.
 pub(crate) fn is_formatted<O: Write, E: Write>(
-    alloc: Global,
-    flags: u32,
+    subject: Subject<'_>,
     comments: Comments,
-    at: Location<'_>,
-    pattern: &str,
-    out: &mut O,
-    err: &mut E,
+    text: &mut Text<'_, O, E>,
     tally: &mut Tally,
 ) -> Result<Outcome, Fault>
-    ensures good { result ≡ Ok Outcome.Good → Stays (flags_of flags) pattern.now }
-    ensures refused { result ≡ Ok Outcome.Refused → HasFault (flags_of flags) (chars pattern.now)
-        ⊎ (MayKeep comments pattern.now ⊎ Changes (flags_of flags) pattern.now) }
+    ensures good { result ≡ Ok Outcome.Good → Stays (flags_of subject.entry.flags) subject.entry.pattern.now }
+    ensures refused { result ≡ Ok Outcome.Refused → let given = subject.entry in IsRefused given
+        ⊎ (MayKeep comments given.pattern.now ⊎ Changes (flags_of given.flags) given.pattern.now) }
     ensures read { result ≡ Ok Outcome.Unread → ⊥ }
 {
-    let Some(tree) = read(alloc, flags, at, pattern, err)? else {
+    let Some(parsed) = parse(subject, text)? else {
         return Ok(Outcome::Refused);
     };
-    if keeps_comment(alloc, flags, comments, at, pattern, err)? {
+    if keeps_comment(subject, &parsed, comments, text.err)? {
         return Ok(Outcome::Refused);
     }
-    let Some(text) = text_of(alloc, flags, pattern, &tree)? else {
+    let Some(line) = text_of(subject, &parsed.tree)? else {
         return Ok(Outcome::Good);
     };
-    if text.as_str() != pattern {
-        write_change(out, at, pattern, text.as_str())?;
+    if line.as_str() != subject.pattern {
+        write_change(text.out, subject, line.as_str())?;
         tally.changed = tally.changed.saturating_add(1);
         return Ok(Outcome::Refused);
     }

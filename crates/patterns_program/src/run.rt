@@ -2,24 +2,26 @@
 ghost use Rattle.std.specs.Prelude.{◌≤◌};
 
 use crate::check::check;
-use crate::fault::{Fault, give_up};
 use crate::form::Form;
 use crate::groups::list_groups;
 use crate::lines::{lines_in, next_record};
-use crate::lint::chosen::Chosen;
 use crate::lint::lint;
-use crate::lint::objects::lint_objects;
-use crate::objects::{Report, report_pattern};
+use crate::objects::{Json, Report};
 use crate::outcome::Outcome;
-use crate::paint::Paints;
-use crate::place::{Location, Spot};
 use crate::printing::{Comments, format_pattern, is_formatted};
 use crate::progress::{Screen, System};
+use crate::sources::Sources;
 use crate::tally::Tally;
+use crate::text::{Stream, Text};
 use crate::values::keys::Keys;
 use crate::values::trail::Trail;
 use crate::values::values_of;
 use json::Scratch;
+use patterns_lint::chosen::Chosen;
+use patterns_text::fault::{Fault, give_up};
+use patterns_text::paint::Paints;
+use patterns_text::place::{Location, Spot};
+use patterns_text::subject::Subject;
 use std::alloc::{AllocError, Global};
 use std::io::{BufRead, ErrorKind, Write};
 use std::time::Clock;
@@ -58,11 +60,25 @@ pub struct Job<'a> {
     pub paints: Paints,
 }
 
+impl Verb {
+    /// Where errors are written, and not as JSON.
+    fn errors(self) -> Stream {
+        match self {
+            Verb::Check | Verb::Lint(_) => Stream::Out,
+            Verb::Format(_)
+            | Verb::IsFormatted(_)
+            | Verb::Groups
+            | Verb::Json(_)
+            | Verb::LintJson(_) => Stream::Err,
+        }
+    }
+}
+
 /// Where a pattern is, with the colours of the streams that the verb writes to.
 fn located<'a>(job: Job<'_>, file: &'a str, spot: Spot<'a>) -> Location<'a> {
-    let reported = match job.verb {
-        Verb::Check | Verb::Lint(_) => job.paints.out,
-        _ => job.paints.err,
+    let reported = match job.verb.errors() {
+        Stream::Out => job.paints.out,
+        Stream::Err => job.paints.err,
     };
     Location {
         file,
@@ -72,74 +88,7 @@ fn located<'a>(job: Job<'_>, file: &'a str, spot: Spot<'a>) -> Location<'a> {
     }
 }
 
-/// Says that the line is no text; where lines are formatted, it is written as it was.
-fn pass_over<O: Write, E: Write>(
-    job: Job<'_>,
-    at: Location<'_>,
-    line: &[u8],
-    out: &mut O,
-    err: &mut E,
-) -> io::Result<()> {
-    writeln!(err, "{at}: the line is not valid UTF-8")?;
-    if let Verb::Format(_) = job.verb {
-        out.write_all(line)?;
-        out.write_all(&[job.form.ending().byte()])?;
-    }
-    Ok(())
-}
-
-/// Does the verb's work on a pattern.
-fn answer_pattern<O: Write, E: Write>(
-    alloc: Global,
-    job: Job<'_>,
-    at: Location<'_>,
-    pattern: &str,
-    out: &mut O,
-    err: &mut E,
-    tally: &mut Tally,
-) -> Result<Outcome, Fault> {
-    match job.verb {
-        Verb::Check => check(alloc, job.flags, at, pattern, out),
-        Verb::Format(kept) => format_pattern(
-            alloc,
-            job.flags,
-            job.form.ending(),
-            kept,
-            at,
-            pattern,
-            out,
-            err,
-        ),
-        Verb::IsFormatted(kept) => {
-            is_formatted(alloc, job.flags, kept, at, pattern, out, err, tally)
-        }
-        Verb::Groups => list_groups(alloc, job.flags, at, pattern, out, err),
-        Verb::Lint(chosen) => lint(alloc, job.flags, at, pattern, &chosen, out, tally),
-        Verb::Json(what) => report_pattern(alloc, job.flags, at, pattern, what, out),
-        Verb::LintJson(chosen) => lint_objects(alloc, job.flags, at, pattern, &chosen, out, tally),
-    }
-}
-
-/// Does the verb's work on a line.
-fn answer_line<O: Write, E: Write>(
-    alloc: Global,
-    job: Job<'_>,
-    at: Location<'_>,
-    line: &[u8],
-    out: &mut O,
-    err: &mut E,
-    tally: &mut Tally,
-) -> Result<Outcome, Fault> {
-    match str::from_utf8(line) {
-        Ok(pattern) => answer_pattern(alloc, job, at, pattern, out, err, tally),
-        Err(_) => {
-            pass_over(job, at, line, out, err)?;
-            Ok(Outcome::Unread)
-        }
-    }
-}
-
-/// Says that a file cannot be opened, or not be read further; gives up where that is since memory is wanting.
+/// Says that a file cannot be opened, or not be read further; gives up if that is because memory ran out.
 fn unread<E: Write>(file: &str, error: io::Error, err: &mut E) -> Result<Outcome, Fault> {
     if error.kind() == ErrorKind::OutOfMemory {
         return Err(Fault::Memory(AllocError));
@@ -148,125 +97,174 @@ fn unread<E: Write>(file: &str, error: io::Error, err: &mut E) -> Result<Outcome
     Ok(Outcome::Unread)
 }
 
-/// Does the verb's work on each line of a reader.
-fn answer_lines<R: BufRead, C: Clock, O: Write, E: Write>(
+/// A run over files.
+#[derive(Drop)]
+struct FileRun<'a, C, O, E> {
     alloc: Global,
-    job: Job<'_>,
-    file: &str,
-    reader: &mut R,
-    screen: &mut Screen<'_, C, O, E>,
-    tally: &mut Tally,
-) -> Result<Outcome, Fault> {
-    let mut buffer = Vec::new(alloc);
-    let mut outcome = Outcome::Good;
-    let mut line = 1u64;
-    for _ in 0..u64::MAX {
-        match next_record(reader, job.form.ending(), &mut buffer) {
-            Ok(Some(text)) => {
-                let at = located(job, file, Spot::Line(line));
-                let Screen { out, err, .. } = screen;
-                let found = answer_line(alloc, job, at, text, out, err, tally)?;
-                line = line.saturating_add(lines_in(text));
-                tally.add(found);
-                outcome = outcome.and(found);
-                screen.end_pattern(text.len(), tally)?;
-            }
-            Ok(None) => return Ok(outcome),
-            Err(error) => return unread(file, error, &mut screen.err),
+    job: Job<'a>,
+    screen: Screen<'a, C, O, E>,
+    tally: Tally,
+}
+
+impl<C: Clock, O: Write, E: Write> FileRun<'_, C, O, E> {
+    /// Says that the line is no text; where lines are formatted, it is written as it was.
+    fn pass_over(&mut self, at: Location<'_>, line: &[u8]) -> io::Result<()> {
+        writeln!(self.screen.err, "{at}: the line is not valid UTF-8")?;
+        if let Verb::Format(_) = self.job.verb {
+            self.screen.out.write_all(line)?;
+            self.screen.out.write_all(&[self.job.form.ending().byte()])?;
         }
+        Ok(())
     }
-    Ok(Outcome::Unread)
-}
 
-/// Does the verb's work on each text under the keys in the JSON of a reader.
-fn answer_values<R: BufRead, C: Clock, O: Write, E: Write>(
-    alloc: Global,
-    job: Job<'_>,
-    keys: Keys<'_>,
-    file: &str,
-    reader: &mut R,
-    screen: &mut Screen<'_, C, O, E>,
-    tally: &mut Tally,
-) -> Result<Outcome, Fault> {
-    let mut bytes = Vec::new(alloc);
-    if let Err(error) = reader.read_to_end(&mut bytes) {
-        return unread(file, error, &mut screen.err);
-    }
-    let mut scratch = Scratch::new(alloc);
-    let Some(values) = values_of(alloc, file, &bytes, &mut scratch, &mut screen.err)? else {
-        return Ok(Outcome::Unread);
-    };
-    let mut trail = Trail::new(alloc);
-    let mut outcome = Outcome::Good;
-    for node in values.nodes() {
-        if let Some((spot, pattern)) = trail.pattern(*node, keys) {
-            let at = located(job, file, spot);
-            let Screen { out, err, .. } = screen;
-            let found = answer_pattern(alloc, job, at, pattern, out, err, tally)?;
-            tally.add(found);
-            outcome = outcome.and(found);
-            screen.end_pattern(pattern.len(), tally)?;
-        }
-        trail.pass(*node)?;
-    }
-    Ok(outcome)
-}
-
-/// Does the verb's work on each pattern of a reader.
-fn answer_reader<R: BufRead, C: Clock, O: Write, E: Write>(
-    alloc: Global,
-    job: Job<'_>,
-    file: &str,
-    reader: &mut R,
-    screen: &mut Screen<'_, C, O, E>,
-    tally: &mut Tally,
-) -> Result<Outcome, Fault> {
-    match job.form {
-        Form::Records(_) => answer_lines(alloc, job, file, reader, screen, tally),
-        Form::Values(keys) => answer_values(alloc, job, keys, file, reader, screen, tally),
-    }
-}
-
-/// Does the verb's work on each pattern of a file.
-fn answer_file<S: System, O: Write, E: Write>(
-    alloc: Global,
-    job: Job<'_>,
-    file: &str,
-    sources: &S,
-    screen: &mut Screen<'_, S, O, E>,
-    tally: &mut Tally,
-) -> Result<Outcome, Fault> {
-    if file == STANDARD_INPUT {
-        return match sources.input() {
-            Ok(mut input) => answer_reader(alloc, job, file, &mut input, screen, tally),
-            Err(error) => unread(file, error, &mut screen.err),
+    /// Does the verb's work on a pattern.
+    fn answer_pattern(&mut self, pattern: &str, at: Location<'_>) -> Result<Outcome, Fault> {
+        let subject = Subject {
+            alloc: self.alloc,
+            flags: self.job.flags,
+            at,
+            pattern,
         };
+        let verb = self.job.verb;
+        let tally = &mut self.tally;
+        let Screen { out, err, .. } = &mut self.screen;
+        match verb {
+            Verb::Check => check(subject, &mut Text::new(out, err, verb.errors())),
+            Verb::Format(kept) => {
+                let ending = self.job.form.ending();
+                format_pattern(
+                    subject,
+                    ending,
+                    kept,
+                    &mut Text::new(out, err, verb.errors()),
+                )
+            }
+            Verb::IsFormatted(kept) => {
+                is_formatted(
+                    subject,
+                    kept,
+                    &mut Text::new(out, err, verb.errors()),
+                    tally,
+                )
+            }
+            Verb::Groups => list_groups(subject, &mut Text::new(out, err, verb.errors())),
+            Verb::Lint(chosen) => {
+                lint(
+                    subject,
+                    &chosen,
+                    &mut Text::new(out, err, verb.errors()),
+                    tally,
+                )
+            }
+            Verb::Json(Report::Check) => check(subject, &mut Json { out }),
+            Verb::Json(Report::Groups) => list_groups(subject, &mut Json { out }),
+            Verb::LintJson(chosen) => lint(subject, &chosen, &mut Json { out }, tally),
+        }
     }
-    match sources.open(file) {
-        Ok(mut opened) => answer_reader(alloc, job, file, &mut opened, screen, tally),
-        Err(error) => unread(file, error, &mut screen.err),
-    }
-}
 
-/// Does the verb's work on each pattern of each file, and sees that it is written.
-fn answer_files<S: System, O: Write, E: Write>(
-    alloc: Global,
-    job: Job<'_>,
-    files: &[&str],
-    sources: &S,
-    screen: &mut Screen<'_, S, O, E>,
-) -> Result<Outcome, Fault> {
-    let mut outcome = Outcome::Good;
-    let mut tally = Tally::new();
-    for (done, file) in files.iter().enumerate() {
-        screen.begin_file(done, &tally)?;
-        outcome = outcome.and(answer_file(alloc, job, file, sources, screen, &mut tally)?);
+    /// Does the verb's work on a line.
+    fn answer_line(&mut self, line: &[u8], at: Location<'_>) -> Result<Outcome, Fault> {
+        match str::from_utf8(line) {
+            Ok(pattern) => self.answer_pattern(pattern, at),
+            Err(_) => {
+                self.pass_over(at, line)?;
+                Ok(Outcome::Unread)
+            }
+        }
     }
-    screen.out.flush()?;
-    if !job.is_quiet {
-        writeln!(screen.err, "{tally}")?;
+
+    /// Counts what became of a pattern that has so many bytes.
+    fn count(&mut self, found: Outcome, bytes: usize) -> io::Result<()> {
+        self.tally.add(found);
+        self.screen.end_pattern(bytes, &self.tally)
     }
-    Ok(outcome)
+
+    /// Does the verb's work on each line of a reader.
+    fn answer_lines<R: BufRead>(&mut self, file: &str, reader: &mut R) -> Result<Outcome, Fault> {
+        let mut buffer = Vec::new(self.alloc);
+        let mut outcome = Outcome::Good;
+        let mut line = 1u64;
+        for _ in 0..u64::MAX {
+            match next_record(reader, self.job.form.ending(), &mut buffer) {
+                Ok(Some(text)) => {
+                    let at = located(self.job, file, Spot::Line(line));
+                    let found = self.answer_line(text, at)?;
+                    line = line.saturating_add(lines_in(text));
+                    outcome = outcome.and(found);
+                    self.count(found, text.len())?;
+                }
+                Ok(None) => return Ok(outcome),
+                Err(error) => return unread(file, error, &mut self.screen.err),
+            }
+        }
+        Ok(Outcome::Unread)
+    }
+
+    /// Does the verb's work on each text under the keys in the JSON of a reader.
+    fn answer_values<R: BufRead>(
+        &mut self,
+        keys: Keys<'_>,
+        file: &str,
+        reader: &mut R,
+    ) -> Result<Outcome, Fault> {
+        let mut bytes = Vec::new(self.alloc);
+        if let Err(error) = reader.read_to_end(&mut bytes) {
+            return unread(file, error, &mut self.screen.err);
+        }
+        let mut scratch = Scratch::new(self.alloc);
+        let err = &mut self.screen.err;
+        let Some(values) = values_of(self.alloc, file, &bytes, &mut scratch, err)? else {
+            return Ok(Outcome::Unread);
+        };
+        let mut trail = Trail::new(self.alloc);
+        let mut outcome = Outcome::Good;
+        for node in values.nodes() {
+            if let Some((spot, pattern)) = trail.pattern(*node, keys) {
+                let at = located(self.job, file, spot);
+                let found = self.answer_pattern(pattern, at)?;
+                outcome = outcome.and(found);
+                self.count(found, pattern.len())?;
+            }
+            trail.pass(*node)?;
+        }
+        Ok(outcome)
+    }
+
+    /// Does the verb's work on each pattern of a reader.
+    fn answer_reader<R: BufRead>(&mut self, file: &str, reader: &mut R) -> Result<Outcome, Fault> {
+        match self.job.form {
+            Form::Records(_) => self.answer_lines(file, reader),
+            Form::Values(keys) => self.answer_values(keys, file, reader),
+        }
+    }
+
+    /// Does the verb's work on each pattern of a file.
+    fn answer_file<S: Sources>(&mut self, file: &str, sources: &S) -> Result<Outcome, Fault> {
+        if file == STANDARD_INPUT {
+            return match sources.input() {
+                Ok(mut input) => self.answer_reader(file, &mut input),
+                Err(error) => unread(file, error, &mut self.screen.err),
+            };
+        }
+        match sources.open(file) {
+            Ok(mut opened) => self.answer_reader(file, &mut opened),
+            Err(error) => unread(file, error, &mut self.screen.err),
+        }
+    }
+
+    /// Does the verb's work on each pattern of each file, and sees that it is written.
+    fn answer_files<S: Sources>(&mut self, files: &[&str], sources: &S) -> Result<Outcome, Fault> {
+        let mut outcome = Outcome::Good;
+        for (done, file) in files.iter().enumerate() {
+            self.screen.begin_file(done, &self.tally)?;
+            outcome = outcome.and(self.answer_file(file, sources)?);
+        }
+        self.screen.out.flush()?;
+        if !self.job.is_quiet {
+            writeln!(self.screen.err, "{}", self.tally)?;
+        }
+        Ok(outcome)
+    }
 }
 
 /// Does the job on each pattern of the files, and returns the exit status: 0 if every pattern passes; 1 if
@@ -289,9 +287,14 @@ pub fn run<S: System, O: Write, E: Write>(
 ) -> u8
     ensures status { result ≤ 3 }
 {
-    let mut screen = Screen::new(sources, job.is_quiet, files.len(), out, err);
-    match answer_files(alloc, job, files, sources, &mut screen) {
+    let mut work = FileRun {
+        alloc,
+        job,
+        screen: Screen::new(sources, job.is_quiet, files.len(), out, err),
+        tally: Tally::new(),
+    };
+    match work.answer_files(files, sources) {
         Ok(outcome) => outcome.status(),
-        Err(fault) => give_up(&mut screen.err, fault),
+        Err(fault) => give_up(&mut work.screen.err, fault),
     }
 }

@@ -1,6 +1,6 @@
 //! The line that ends a run over files.
-use crate::lint::chosen::Level;
 use crate::outcome::Outcome;
+use patterns_lint::chosen::Level;
 use std::fmt;
 
 /// How many patterns a run has met, and what became of them.

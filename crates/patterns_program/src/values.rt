@@ -1,12 +1,11 @@
 //! Patterns that are texts in a file of JSON.
 pub mod keys;
-pub mod path;
 mod refusal;
 pub(crate) mod trail;
 
-use crate::fault::Fault;
 use crate::values::refusal::{write_not_text, write_refusal, write_too_long};
 use json::{Error, Scratch, Tape};
+use patterns_text::fault::Fault;
 use std::alloc::{AllocError, Global};
 use std::io::Write;
 use std::str;

@@ -4,8 +4,8 @@
 mod samples;
 
 use fancy_syntax::flags::FLAG_UNICODE;
-use patterns_program::fault::{Fault, give_up};
-use patterns_program::picture::{Canvas, draw_picture};
+use patterns_picture::picture::{Canvas, draw_picture};
+use patterns_text::fault::{Fault, give_up};
 use samples::{DATE, SAMPLES};
 use std::alloc::AllocError;
 use std::io;

@@ -1,6 +1,6 @@
 //! How large pictures are.
 use fancy_syntax::flags::FLAG_UNICODE;
-use patterns_program::picture::{Canvas, draw_picture};
+use patterns_picture::picture::{Canvas, draw_picture};
 use std::alloc::Global;
 use std::str;
 use std::test::Fail;

@@ -1,9 +1,10 @@
 //! An object of JSON, written as a line.
-use crate::fault::Fault;
 use crate::objects::places::Places;
-use crate::place::{Location, Spot};
 use fancy_syntax::span::Span;
 use json::Writer;
+use patterns_text::fault::Fault;
+use patterns_text::place::Spot;
+use patterns_text::subject::Subject;
 use std::alloc::{AllocError, Global};
 use std::io::Write;
 
@@ -36,12 +37,13 @@ fn write_spot(alloc: Global, writer: &mut Writer, spot: Spot<'_>) -> Result<(), 
 }
 
 /// Begins an object of this type on a pattern.
-pub(crate) fn begin(
-    alloc: Global,
-    kind: &str,
-    at: Location<'_>,
-    pattern: &str,
-) -> Result<Writer, AllocError> {
+pub(crate) fn begin(subject: Subject<'_>, kind: &str) -> Result<Writer, AllocError> {
+    let Subject {
+        alloc,
+        at,
+        pattern,
+        ..
+    } = subject;
     let mut writer = Writer::new(Vec::new(alloc));
     writer.begin_object()?;
     write_text(&mut writer, "type", kind)?;

@@ -1,26 +1,15 @@
 //! The groups and references of a pattern, as JSON.
-use crate::names::Names;
 use crate::objects::line::{write_number, write_span, write_text, write_truth};
 use crate::objects::node::{write_own, write_some_number};
 use crate::objects::places::Places;
-use crate::words::is_reference;
+use fancy_spans::SpannedNode;
 use fancy_syntax::expr::Expr;
 use fancy_syntax::span::Span;
-use fancy_syntax::spanned::{SpannedNode, SpannedTree};
 use fancy_syntax::tree::ExprTree;
 use json::Writer;
+use patterns_text::names::Names;
+use patterns_text::words::is_reference;
 use std::alloc::{AllocError, Global};
-
-/// Adds the spans of the groups, in the order of their numbers.
-fn push_groups(groups: &mut Vec<Span>, node: SpannedNode<'_>) -> Result<(), AllocError> {
-    if let Expr::Group(_) = node.expr() {
-        groups.push(node.span())?;
-    }
-    for child in node.children() {
-        push_groups(groups, child)?;
-    }
-    Ok(())
-}
 
 /// Writes a field that is a text or nothing.
 fn write_some_text(writer: &mut Writer, name: &str, text: Option<&str>) -> Result<(), AllocError> {
@@ -51,36 +40,38 @@ pub(super) fn write_groups(
     alloc: Global,
     writer: &mut Writer,
     places: &Places,
-    parsed: &SpannedTree,
+    nodes: &[SpannedNode<'_>],
+    tree: &ExprTree,
 ) -> Result<(), AllocError> {
-    let names = Names::of(alloc, &parsed.tree)?;
-    let mut groups = Vec::new(alloc);
-    push_groups(&mut groups, parsed.root())?;
+    let names = Names::of(alloc, tree)?;
     writer.key("groups")?;
     writer.begin_array()?;
     let mut number = 0usize;
-    for span in &groups {
-        number = number.saturating_add(1);
-        write_group(writer, places, number, names.name(number), *span)?;
+    for node in nodes {
+        if let Expr::Group(_) = node.expr() {
+            number = number.saturating_add(1);
+            write_group(writer, places, number, names.name(number), node.span())?;
+        }
     }
     writer.end_array()
 }
 
-/// Writes the references and calls below the node, and the node if it is one.
+/// Writes the references and calls, in the order of the text.
 pub(super) fn write_references(
     writer: &mut Writer,
     places: &Places,
-    node: SpannedNode<'_>,
+    nodes: &[SpannedNode<'_>],
 ) -> Result<(), AllocError> {
-    if is_reference(node.expr()) {
-        writer.begin_object()?;
-        write_own(writer, places, node)?;
-        writer.end_object()?;
+    writer.key("references")?;
+    writer.begin_array()?;
+    for node in nodes {
+        if is_reference(node.expr()) {
+            writer.begin_object()?;
+            write_own(writer, places, *node)?;
+            writer.end_object()?;
+        }
     }
-    for child in node.children() {
-        write_references(writer, places, child)?;
-    }
-    Ok(())
+    writer.end_array()
 }
 
 /// Writes the groups that back references refer to.

@@ -1,8 +1,8 @@
 //! Why a file is not read as JSON.
-use crate::fault::Fault;
 use crate::lines::lines_in;
-use crate::place::{Cut, column_after};
 use json::{MAX_DEPTH, MAX_LEN, Reader, Scratch};
+use patterns_text::fault::Fault;
+use patterns_text::place::{Cut, column_after};
 use std::alloc::{AllocError, Global};
 use std::io::Write;
 use std::{fmt, io};

@@ -1,8 +1,8 @@
 //! A walk over the values of JSON, in the order of the text.
-use crate::place::Spot;
 use crate::values::keys::Keys;
-use crate::values::path::{Path, Step};
 use json::Node;
+use patterns_text::path::{Path, Step};
+use patterns_text::place::Spot;
 use std::alloc::{AllocError, Global};
 
 /// The steps from the root to the node that the walk has come to.

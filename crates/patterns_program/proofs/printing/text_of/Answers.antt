@@ -15,5 +15,5 @@ breaks s t w pattern text bytes is =
 pub returns-then-breaks_line-clause-none : goal.returns-then-breaks_line-clause-none
 returns-then-breaks_line-clause-none c =
     let text = rw c.in-Some.is at c.in_ok-text.ensures.text in
-    inr (breaks c.in-Some.text _ c.as_str.result.now c.args.pattern.now text c.as_str.ensures.value
+    inr (breaks c.in-Some.text _ c.as_str.result.now c.args.subject.pattern.now text c.as_str.ensures.value
     (sym c.breaks_line.ensures ∙ c.if-breaks_line.true))

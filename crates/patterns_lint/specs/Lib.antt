@@ -1,0 +1,5 @@
+pub mod Empty
+pub mod Quantifiers
+pub mod Branches
+pub mod Rules
+pub mod Targets

@@ -1,0 +1,40 @@
+-- Quantifiers that are surely not meant.
+use Rattle.std.specs.Prelude.{ℕ, Bool, false, ◌&&◌, ◌==◌, not, if◌then◌else◌, Option, Some, None}
+use Rattle.fancy_grammar.specs.Tree.{Tree, repeat}
+use Rattle.patterns_lint.specs.declared.problem.Problem.{Problem}
+use Rattle.patterns_lint.specs.declared.problem.Problem.TheVariants as problem
+use Rattle.patterns_lint.specs.Empty.{matches_only_empty, can_match_empty, has_group}
+
+-- the upper count of a quantifier without a limit
+abbrev pub no_limit : ℕ
+no_limit = 0xFFFF_FFFF_FFFF_FFFF
+
+-- a quantifier on what matches nothing but the empty text; but an optional group is none, since whether it matched may
+-- be asked later
+abbrev pub is_quantified_assertion : Tree → Bool
+is_quantified_assertion (repeat t lo hi greedy) = matches_only_empty t && not ((hi == 1) && has_group t)
+is_quantified_assertion _ = false
+
+-- a quantifier without a limit on what can match the empty text, and other texts
+abbrev pub is_empty_loop : Tree → Bool
+is_empty_loop (repeat t lo hi greedy) = (hi == no_limit) && can_match_empty t && not (matches_only_empty t)
+is_empty_loop _ = false
+
+-- a quantifier that repeats once
+abbrev pub is_useless_quantifier : Tree → Bool
+is_useless_quantifier (repeat t lo hi greedy) = (lo == 1) && (hi == 1)
+is_useless_quantifier _ = false
+
+-- a quantifier that repeats no times; but where there are calls, a group may be defined so
+abbrev pub is_zero_quantifier : Bool → Tree → Bool
+is_zero_quantifier has_calls (repeat t lo hi greedy) = (lo == 0) && (hi == 0) && not (has_calls && has_group t)
+is_zero_quantifier _ _ = false
+
+-- what is wrong with the quantifier of a node, if it has one
+abbrev pub quantifier_problem : Bool → Tree → Option Problem
+quantifier_problem has_calls t =
+    if is_zero_quantifier has_calls t then Some problem.ZeroQuantifier
+    else if is_useless_quantifier t then Some problem.UselessQuantifier
+    else if is_quantified_assertion t then Some problem.QuantifiedAssertion
+    else if is_empty_loop t then Some problem.EmptyLoop
+    else None

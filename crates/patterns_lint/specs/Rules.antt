@@ -1,0 +1,20 @@
+-- The names of the rules of `lint`.
+use Rattle.std.specs.Prelude.{ℕ, List, codes}
+use Rattle.patterns_lint.specs.declared.rule.Rule.{Rule}
+use Rattle.patterns_lint.specs.declared.rule.Rule.TheVariants as rule
+
+abbrev pub rule_name : Rule → List ℕ
+rule_name rule.MissingGroup = codes "missing-group"
+rule_name rule.UselessBackreference = codes "useless-backreference"
+rule_name rule.UnresolvedCall = codes "unresolved-call"
+rule_name rule.DuplicateGroupName = codes "duplicate-group-name"
+rule_name rule.UnusedCapturingGroup = codes "unused-capturing-group"
+rule_name rule.DuplicateBranch = codes "duplicate-branch"
+rule_name rule.UnreachableBranch = codes "unreachable-branch"
+rule_name rule.EmptyBranch = codes "empty-branch"
+rule_name rule.QuantifiedAssertion = codes "quantified-assertion"
+rule_name rule.EmptyLoop = codes "empty-loop"
+rule_name rule.UselessQuantifier = codes "useless-quantifier"
+rule_name rule.ZeroQuantifier = codes "zero-quantifier"
+rule_name rule.UselessFlag = codes "useless-flag"
+rule_name rule.SingleCharacterClass = codes "single-character-class"

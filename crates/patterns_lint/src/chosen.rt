@@ -1,0 +1,50 @@
+//! Which rules of `lint` speak, and how.
+ghost use Rattle.std.specs.Prelude.{◌≡◌, Contains};
+
+use crate::rule::Rule;
+
+/// What a report of a rule is.
+#[derive(Debug, Clone, Copy, PartialEq, Eq)]
+pub enum Level {
+    /// The rule is silent.
+    Allow,
+    /// A warning, which leaves the exit status as it is.
+    Warn,
+    /// An error, which makes the exit status 1.
+    Deny,
+}
+
+/// The level of each rule.
+#[derive(Clone, Copy)]
+pub struct Chosen {
+    levels: [Level; 14],
+}
+
+impl Chosen {
+    /// Every rule warns, except `unused-capturing-group`, which is silent: many patterns mix named and numbered groups
+    /// on purpose.
+    pub fn new() -> Chosen {
+        let mut chosen = Chosen {
+            levels: [Level::Warn; 14],
+        };
+        chosen.set(Rule::UnusedCapturingGroup, Level::Allow);
+        chosen
+    }
+
+    /// The level of the rule.
+    pub fn level(&self, rule: Rule) -> Level
+        ensures denied { result ≡ Level.Deny → Contains self.now.levels Level.Deny }
+    {
+        self.levels
+            .get(rule as usize)
+            .copied()
+            .unwrap_or(Level::Warn)
+    }
+
+    /// Gives the rule this level.
+    pub fn set(&mut self, rule: Rule, level: Level) {
+        if let Some(old) = self.levels.get_mut(rule as usize) {
+            *old = level;
+        }
+    }
+}

@@ -1,0 +1,231 @@
+//! Flags that are set where they are set already. No node tells of a flag group, so that the text is read again: what
+//! stands for a leaf is passed over, and what is left is what opens and closes groups.
+use crate::problem::{Found, Problem};
+use fancy_lex::flags::Flags;
+use fancy_lex::layout::past_layout;
+use fancy_lex::text::{after, next};
+use fancy_syntax::span::Span;
+use std::alloc::{AllocError, Global};
+
+/// Whether the flag of this letter is set; none for a letter of no flag that a pattern can change.
+fn is_set(flags: Flags, letter: char) -> Option<bool> {
+    match letter {
+        'i' => Some(flags.casei),
+        'm' => Some(flags.multi),
+        's' => Some(flags.dotnl),
+        'U' => Some(flags.swap_greed),
+        'x' => Some(flags.ignore_space),
+        'R' => Some(flags.crlf),
+        _ => None,
+    }
+}
+
+/// The flags with that of the letter set or cleared.
+fn with(flags: Flags, letter: char, on: bool) -> Flags {
+    match letter {
+        'i' => Flags { casei: on, ..flags },
+        'm' => Flags { multi: on, ..flags },
+        's' => Flags { dotnl: on, ..flags },
+        'U' => Flags {
+            swap_greed: on,
+            ..flags
+        },
+        'x' => Flags {
+            ignore_space: on,
+            ..flags
+        },
+        'R' => Flags { crlf: on, ..flags },
+        _ => flags,
+    }
+}
+
+/// The text after the name that begins the text, and after its closing mark.
+fn after_name(text: &str, mark: char) -> &str {
+    match text.split_once(mark) {
+        Some((_, rest)) => rest,
+        None => "",
+    }
+}
+
+/// A reading of a pattern's groups.
+#[derive(Drop)]
+struct Reading<'a> {
+    pattern: &'a str,
+    rest: &'a str,
+    /// The leaves that are still to come.
+    leaves: &'a [Span],
+    flags: Flags,
+    /// The flags from before each group that is open; none for a condition, after which they stay.
+    outer: Vec<Option<Flags>>,
+    /// Whether the next parenthesis opens a condition.
+    opens_condition: bool,
+    found: Vec<Found<'static>>,
+}
+
+impl<'a> Reading<'a> {
+    /// The position of the text.
+    fn position(&self, text: &str) -> usize {
+        self.pattern.len().saturating_sub(text.len())
+    }
+
+    /// The text without the layout that begins it.
+    fn past_layout(&self, text: &'a str, flags: Flags) -> &'a str {
+        past_layout(text, flags.ignore_space).unwrap_or("")
+    }
+
+    /// Passes over the leaf that begins here, and answers whether one does.
+    fn pass_leaf(&mut self) -> bool {
+        let Some((leaf, more)) = self.leaves.split_first() else {
+            return false;
+        };
+        let here = self.position(self.rest);
+        if here < leaf.start {
+            return false;
+        }
+        self.leaves = more;
+        if here < leaf.end {
+            self.rest = self.pattern.get(leaf.end..).unwrap_or("");
+            self.opens_condition = false;
+        }
+        true
+    }
+
+    /// Opens a group, whose inside begins at the text.
+    fn open(&mut self, inside: &'a str) -> Result<(), AllocError> {
+        let outer = if self.opens_condition {
+            None
+        } else {
+            Some(self.flags)
+        };
+        self.opens_condition = false;
+        self.outer.push(outer)?;
+        self.rest = inside;
+        Ok(())
+    }
+
+    /// Closes a group, before the text.
+    fn close(&mut self, rest: &'a str) {
+        if let Some(Some(flags)) = self.outer.pop() {
+            self.flags = flags;
+        }
+        self.rest = rest;
+    }
+
+    /// Reads the letter of a flag, which is before the text, and answers the flags then.
+    fn letter(
+        &mut self,
+        flags: Flags,
+        letter: char,
+        clears: bool,
+        rest: &str,
+    ) -> Result<Flags, AllocError> {
+        if is_set(flags, letter) == Some(true) && !clears {
+            let end = self.position(rest);
+            let span = Span {
+                start: end.saturating_sub(1),
+                end,
+            };
+            let problem = Problem::UselessFlag { letter };
+            self.found.push(Found { span, problem })?;
+        }
+        Ok(with(flags, letter, !clears))
+    }
+
+    /// Reads the letters of a flag group.
+    fn letters(&mut self, text: &'a str) -> Result<(), AllocError> {
+        let mut clears = false;
+        let mut flags = self.flags;
+        let mut rest = text;
+        for _ in 0..text.len() {
+            let Some((c, behind)) = next(self.past_layout(rest, flags)) else {
+                break;
+            };
+            rest = behind;
+            match c {
+                ')' => {
+                    self.flags = flags;
+                    break;
+                }
+                ':' => {
+                    self.open(rest)?;
+                    self.flags = flags;
+                    break;
+                }
+                '-' => clears = true,
+                _ => flags = self.letter(flags, c, clears, rest)?,
+            }
+        }
+        self.rest = rest;
+        Ok(())
+    }
+
+    /// Reads what stands after a parenthesis and a question mark.
+    fn head(&mut self, text: &'a str) -> Result<(), AllocError> {
+        let Some((c, rest)) = next(text) else {
+            return self.open(text);
+        };
+        match c {
+            '=' | '!' | '>' | '~' => self.open(rest),
+            '<' if rest.starts_with('=') || rest.starts_with('!') => self.open(rest),
+            '<' => self.open(after_name(rest, '>')),
+            '\'' => self.open(after_name(rest, '\'')),
+            'P' => self.open(after_name(rest, '>')),
+            '(' => {
+                self.open(text)?;
+                self.opens_condition = true;
+                Ok(())
+            }
+            _ => self.letters(text),
+        }
+    }
+
+    /// Reads a leaf, a group's head, its end, or a character of no meaning here.
+    fn turn(&mut self) -> Result<(), AllocError> {
+        self.rest = self.past_layout(self.rest, self.flags);
+        if self.pass_leaf() {
+            return Ok(());
+        }
+        let Some((c, rest)) = next(self.rest) else {
+            return Ok(());
+        };
+        match c {
+            '(' => {
+                let inside = self.past_layout(rest, self.flags);
+                match after(inside, '?') {
+                    Some(head) => self.head(head),
+                    None => self.open(inside),
+                }
+            }
+            ')' => {
+                self.close(rest);
+                Ok(())
+            }
+            _ => {
+                self.rest = rest;
+                Ok(())
+            }
+        }
+    }
+}
+
+/// The flags that the pattern sets where they are set already; the leaves are in the order of the text.
+pub(crate) fn useless_flags(
+    alloc: Global,
+    pattern: &str,
+    leaves: &[Span],
+    flags: u32,
+) -> Result<Vec<Found<'static>>, AllocError> {
+    let mut reading = Reading {
+        pattern,
+        rest: pattern,
+        leaves,
+        flags: Flags::from_bits(flags),
+        outer: Vec::new(alloc),
+        opens_condition: false,
+        found: Vec::new(alloc),
+    };
+    for _ in 0..pattern.len().saturating_add(leaves.len()) {
+        reading.turn()?;
+    }
+    Ok(reading.found)
+}

@@ -1,0 +1,17 @@
+//! The rules of `patterns lint`: what may be wrong with a pattern that is accepted.
+#![tactic(auto)]
+
+mod branches;
+pub mod chosen;
+mod classes;
+mod empty;
+pub mod find;
+mod fingerprint;
+mod flags;
+pub mod problem;
+mod quantifiers;
+mod references;
+pub mod rule;
+mod scan;
+mod targets;
+mod walk;

@@ -1,0 +1,135 @@
+//! What `lint` finds in a pattern.
+use crate::rule::Rule;
+use fancy_syntax::span::Span;
+use patterns_text::names::Named;
+use std::fmt;
+
+/// What is wrong with a part of a pattern.
+#[derive(Clone, Copy)]
+pub enum Problem<'a> {
+    /// A reference to a group above the number of groups.
+    MissingGroup { group: usize, total: usize },
+    /// A back reference to a group that cannot have matched.
+    UselessBackreference { group: Named<'a> },
+    /// A call that refers to no group.
+    UnresolvedCall,
+    /// A group with the name of another.
+    DuplicateGroupName { group: Named<'a> },
+    /// A group without a name that nothing refers to.
+    UnusedCapturingGroup { group: usize },
+    /// A branch that is equal to an earlier one, counted from 1.
+    DuplicateBranch { earlier: usize },
+    /// A branch that an earlier one leaves nothing to match.
+    UnreachableBranch { earlier: usize },
+    EmptyBranch,
+    QuantifiedAssertion,
+    EmptyLoop,
+    UselessQuantifier,
+    ZeroQuantifier,
+    /// A flag that is set already.
+    UselessFlag { letter: char },
+    SingleCharacterClass,
+}
+
+/// A problem, and the part of the pattern that has it.
+#[derive(Clone, Copy)]
+pub struct Found<'a> {
+    pub span: Span,
+    pub problem: Problem<'a>,
+}
+
+impl Found<'_> {
+    /// Whether it is wrong with the number of a back reference that is a backslash and digits.
+    pub fn is_of_digits(&self, pattern: &str) -> bool {
+        match self.problem {
+            Problem::MissingGroup { .. } | Problem::UselessBackreference { .. } => {
+                let text = self.span.text(pattern).unwrap_or("");
+                matches!(text.as_bytes(), [b'\\', b'0'..=b'9', ..])
+            }
+            _ => false,
+        }
+    }
+}
+
+impl Problem<'_> {
+    /// The rule that reports it.
+    pub fn rule(self) -> Rule {
+        match self {
+            Problem::MissingGroup { .. } => Rule::MissingGroup,
+            Problem::UselessBackreference { .. } => Rule::UselessBackreference,
+            Problem::UnresolvedCall => Rule::UnresolvedCall,
+            Problem::DuplicateGroupName { .. } => Rule::DuplicateGroupName,
+            Problem::UnusedCapturingGroup { .. } => Rule::UnusedCapturingGroup,
+            Problem::DuplicateBranch { .. } => Rule::DuplicateBranch,
+            Problem::UnreachableBranch { .. } => Rule::UnreachableBranch,
+            Problem::EmptyBranch => Rule::EmptyBranch,
+            Problem::QuantifiedAssertion => Rule::QuantifiedAssertion,
+            Problem::EmptyLoop => Rule::EmptyLoop,
+            Problem::UselessQuantifier => Rule::UselessQuantifier,
+            Problem::ZeroQuantifier => Rule::ZeroQuantifier,
+            Problem::UselessFlag { .. } => Rule::UselessFlag,
+            Problem::SingleCharacterClass => Rule::SingleCharacterClass,
+        }
+    }
+}
+
+/// How many groups there are, in words.
+#[derive(Clone, Copy)]
+struct Total(usize);
+
+impl fmt::Display for Total {
+    fn fmt<W: fmt::Write>(&self, f: &mut fmt::Formatter<W>) -> fmt::Result {
+        match self.0 {
+            0 => f.write_str("no numbered group"),
+            1 => f.write_str("1 numbered group"),
+            total => write!(f, "{total} numbered groups"),
+        }
+    }
+}
+
+/// The message of a report.
+impl fmt::Display for Problem<'_> {
+    fn fmt<W: fmt::Write>(&self, f: &mut fmt::Formatter<W>) -> fmt::Result {
+        match self {
+            Problem::MissingGroup { group, total } => {
+                write!(
+                    f,
+                    "reference to group {group}, but the pattern has {}",
+                    Total(*total)
+                )
+            }
+            Problem::UselessBackreference { group } => {
+                write!(
+                    f,
+                    "back reference to {group}, which cannot have matched here"
+                )
+            }
+            Problem::UnresolvedCall => f.write_str("subroutine call that refers to no group"),
+            Problem::DuplicateGroupName { group } => {
+                write!(f, "{group}, has the name of an earlier group")
+            }
+            Problem::UnusedCapturingGroup { group } => write!(
+                f,
+                "group {group} has no name, and nothing refers to it"
+            ),
+            Problem::DuplicateBranch { earlier } => {
+                write!(f, "branch that is equal to branch {earlier}")
+            }
+            Problem::UnreachableBranch { earlier } => write!(
+                f,
+                "branch that is never reached: whenever it would match, branch {earlier} matches first"
+            ),
+            Problem::EmptyBranch => f.write_str("empty branch before another branch"),
+            Problem::QuantifiedAssertion => {
+                f.write_str("quantifier on what matches only the empty text")
+            }
+            Problem::EmptyLoop => {
+                f.write_str("unlimited quantifier on what can match the empty text")
+            }
+            Problem::UselessQuantifier => f.write_str("quantifier that repeats exactly once"),
+            Problem::ZeroQuantifier => f.write_str("quantifier that repeats zero times"),
+            Problem::UselessFlag { letter } => write!(f, "flag {letter} is set already"),
+            Problem::SingleCharacterClass => f.write_str("class of one character"),
+        }
+    }
+}

@@ -1,0 +1,72 @@
+//! Quantifiers that are likely mistakes.
+ghost use Rattle.std.specs.Prelude.{◌≡◌};
+ghost use Rattle.fancy_syntax.specs.View.{view};
+ghost use Rattle.patterns_lint.specs.Quantifiers as spec;
+
+use crate::empty::{can_match_empty, has_group, matches_only_empty};
+use crate::problem::Problem;
+use fancy_syntax::expr::Expr;
+
+/// Whether what is repeated matches nothing but the empty text. An optional one that holds a group is none: whether the
+/// group matched may be asked later.
+fn is_quantified_assertion(tree: &Expr) -> bool
+    ensures { result ≡ spec.is_quantified_assertion (view tree.now) }
+{
+    match tree {
+        Expr::Repeat { child, hi, .. } => {
+            matches_only_empty(child) && !(*hi == 1 && has_group(child))
+        }
+        _ => false,
+    }
+}
+
+/// Whether it repeats without a limit what can match the empty text, and more.
+fn is_empty_loop(tree: &Expr) -> bool
+    ensures { result ≡ spec.is_empty_loop (view tree.now) }
+{
+    match tree {
+        Expr::Repeat { child, hi, .. } => {
+            *hi == usize::MAX && can_match_empty(child) && !matches_only_empty(child)
+        }
+        _ => false,
+    }
+}
+
+/// Whether it repeats exactly once.
+fn is_useless_quantifier(tree: &Expr) -> bool
+    ensures { result ≡ spec.is_useless_quantifier (view tree.now) }
+{
+    matches!(tree, Expr::Repeat { lo: 1, hi: 1, .. })
+}
+
+/// Whether it repeats zero times. Where there are calls, one on a group is none: it may define the group for them.
+fn is_zero_quantifier(tree: &Expr, has_calls: bool) -> bool
+    ensures { result ≡ spec.is_zero_quantifier has_calls (view tree.now) }
+{
+    match tree {
+        Expr::Repeat {
+            child,
+            lo: 0,
+            hi: 0,
+            ..
+        } => !(has_calls && has_group(child)),
+        _ => false,
+    }
+}
+
+/// What is wrong with the node's quantifier.
+pub(crate) fn quantifier_problem(tree: &Expr, has_calls: bool) -> Option<Problem<'static>>
+    ensures { result ≡ spec.quantifier_problem has_calls (view tree.now) }
+{
+    if is_zero_quantifier(tree, has_calls) {
+        Some(Problem::ZeroQuantifier)
+    } else if is_useless_quantifier(tree) {
+        Some(Problem::UselessQuantifier)
+    } else if is_quantified_assertion(tree) {
+        Some(Problem::QuantifiedAssertion)
+    } else if is_empty_loop(tree) {
+        Some(Problem::EmptyLoop)
+    } else {
+        None
+    }
+}

@@ -1,0 +1,203 @@
+//! The rules of `lint`.
+ghost use Rattle.std.specs.Prelude.{◌≡◌, IfSome};
+ghost use Rattle.patterns_lint.specs.Rules.{rule_name};
+
+use patterns_text::fault::Fault;
+use std::io::Write;
+
+/// A rule: what may be wrong with a pattern that is accepted.
+#[derive(Debug, Clone, Copy, PartialEq, Eq)]
+pub enum Rule {
+    /// A back reference or a condition on a group that the pattern does not have.
+    MissingGroup,
+    /// A back reference to a group that cannot have matched yet.
+    UselessBackreference,
+    /// A subroutine call that refers to no group.
+    UnresolvedCall,
+    /// A name of several groups that can take part in the same match.
+    DuplicateGroupName,
+    /// A group without a name that nothing refers to, beside groups with a name. The rule is off by default.
+    UnusedCapturingGroup,
+    /// A branch that is equal to an earlier one.
+    DuplicateBranch,
+    /// A branch that begins with the whole of an earlier one, if nothing follows the alternation.
+    UnreachableBranch,
+    /// An empty branch that is not the last one.
+    EmptyBranch,
+    /// A quantifier on what matches only the empty text.
+    QuantifiedAssertion,
+    /// An unlimited quantifier on what can match the empty text.
+    EmptyLoop,
+    /// A quantifier that repeats exactly once.
+    UselessQuantifier,
+    /// A quantifier that repeats zero times.
+    ZeroQuantifier,
+    /// A flag that is set although it is set already.
+    UselessFlag,
+    /// A class of one letter or digit.
+    SingleCharacterClass,
+}
+
+/// All rules, in the order in which they are listed.
+pub static RULES: [Rule; 14] = [
+    Rule::MissingGroup,
+    Rule::UselessBackreference,
+    Rule::UnresolvedCall,
+    Rule::DuplicateGroupName,
+    Rule::UnusedCapturingGroup,
+    Rule::DuplicateBranch,
+    Rule::UnreachableBranch,
+    Rule::EmptyBranch,
+    Rule::QuantifiedAssertion,
+    Rule::EmptyLoop,
+    Rule::UselessQuantifier,
+    Rule::ZeroQuantifier,
+    Rule::UselessFlag,
+    Rule::SingleCharacterClass,
+];
+
+/// What is said of a rule.
+#[derive(Clone, Copy)]
+struct About {
+    name: &'static str,
+    what: &'static str,
+    example: &'static str,
+    help: &'static str,
+}
+
+impl Rule {
+    /// What is said of the rule.
+    fn about(self) -> About
+        ensures name { result.name.now ≡ rule_name self }
+    {
+        match self {
+            Rule::MissingGroup => About {
+                name: "missing-group",
+                what: "a back reference or a condition on a group that the pattern does not have",
+                example: r"(a)\2",
+                help: "it never matches: correct the number, or remove it",
+            },
+            Rule::UselessBackreference => About {
+                name: "useless-backreference",
+                what: "a back reference to a group that cannot have matched yet",
+                example: r"\1(a)",
+                help: "move it after the group, or make it a subroutine call",
+            },
+            Rule::UnresolvedCall => About {
+                name: "unresolved-call",
+                what: "a subroutine call that refers to no group, or is by a name that several groups have",
+                example: r"(?<a>x)\g<b>",
+                help: "call a group by its number, or by a name that one group has",
+            },
+            Rule::DuplicateGroupName => About {
+                name: "duplicate-group-name",
+                what: "a name of several groups that can take part in the same match",
+                example: r"(?<a>x)(?<a>y)",
+                help: "give each group a name of its own; a reference by the name means the last group",
+            },
+            Rule::UnusedCapturingGroup => About {
+                name: "unused-capturing-group",
+                what: "a group without a name that nothing refers to, beside groups with a name (off by default)",
+                example: r"(?<a>x)(y)",
+                help: "give it a name, or write it as (?:...)",
+            },
+            Rule::DuplicateBranch => About {
+                name: "duplicate-branch",
+                what: "a branch that is equal to an earlier one",
+                example: r"a|b|a",
+                help: "remove it",
+            },
+            Rule::UnreachableBranch => About {
+                name: "unreachable-branch",
+                what: "a branch that begins with the whole of an earlier one, if nothing follows the alternation",
+                example: r"get|getter",
+                help: "put it before the earlier branch, or remove it",
+            },
+            Rule::EmptyBranch => About {
+                name: "empty-branch",
+                what: "an empty branch before another",
+                example: r"a||b",
+                help: "remove a bar, or put the empty branch last",
+            },
+            Rule::QuantifiedAssertion => About {
+                name: "quantified-assertion",
+                what: "a quantifier on what matches only the empty text",
+                example: r"(?:^|\b)*a",
+                help: "remove the quantifier",
+            },
+            Rule::EmptyLoop => About {
+                name: "empty-loop",
+                what: "an unlimited quantifier on what can match the empty text",
+                example: r"(?:a*)*",
+                help: "let each repetition match at least one character",
+            },
+            Rule::UselessQuantifier => About {
+                name: "useless-quantifier",
+                what: "a quantifier that repeats exactly once",
+                example: r"a{1}",
+                help: "remove the quantifier",
+            },
+            Rule::ZeroQuantifier => About {
+                name: "zero-quantifier",
+                what: "a quantifier that repeats zero times",
+                example: r"ab{0}",
+                help: "remove the quantifier with its operand",
+            },
+            Rule::UselessFlag => About {
+                name: "useless-flag",
+                what: "a flag that is set although it is set already",
+                example: r"(?i)a(?i:b)",
+                help: "remove the flag",
+            },
+            Rule::SingleCharacterClass => About {
+                name: "single-character-class",
+                what: "a class of one letter or digit",
+                example: r"[a]b",
+                help: "write the character without brackets",
+            },
+        }
+    }
+
+    /// The rule's name, as options and reports have it: words in lower case with hyphens.
+    pub fn name(self) -> &'static str
+        ensures { result.now ≡ rule_name self }
+    {
+        self.about().name
+    }
+
+    /// A pattern that the rule reports.
+    pub fn example(self) -> &'static str {
+        self.about().example
+    }
+
+    /// What to do about a report of the rule.
+    pub fn help(self) -> &'static str {
+        self.about().help
+    }
+
+    /// The rule of this name; none if no rule has it.
+    pub fn named(name: &str) -> Option<Rule>
+        ensures { IfSome result (λ rule. rule_name rule ≡ name.now) }
+    {
+        for rule in RULES.iter() {
+            if rule.name() == name {
+                return Some(*rule);
+            }
+        }
+        None
+    }
+}
+
+/// Writes the rules to `out`, a line each: the name, what the rule reports, and an example.
+pub fn write_rules<O: Write>(out: &mut O) -> Result<(), Fault> {
+    for rule in RULES.iter() {
+        let About {
+            name,
+            what,
+            example,
+            ..
+        } = rule.about();
+        writeln!(out, "{name}: {what}, as in {example}")?;
+    }
+    Ok(())
+}

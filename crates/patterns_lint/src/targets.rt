@@ -1,0 +1,37 @@
+//! References to groups that are not there.
+ghost use Rattle.std.specs.Prelude.{◌≡◌, if◌then◌else◌, nat_lt, Some, None};
+ghost use Rattle.fancy_syntax.specs.View.{view};
+ghost use Rattle.patterns_lint.specs.Targets as spec;
+
+use fancy_syntax::expr::Expr;
+
+/// The number, if it is above the number of groups.
+fn above(total: usize, group: usize) -> Option<usize>
+    ensures { result ≡ spec.above total group }
+{
+    if total < group { Some(group) } else { None }
+}
+
+/// The group of the back reference or the condition, if the pattern does not have it.
+pub(crate) fn missing_group(tree: &Expr, total: usize) -> Option<usize>
+    ensures { result ≡ spec.missing_group total (view tree.now) }
+{
+    match tree {
+        Expr::Backref { group, .. } => above(total, *group),
+        Expr::BackrefWithRelativeRecursionLevel { group, .. } => above(total, *group),
+        Expr::BackrefExistsCondition { group, .. } => above(total, *group),
+        _ => None,
+    }
+}
+
+/// Whether the node is a call that refers to no group. No other node of a returned tree is an `AstNode`.
+#[tactic(auto, using(crate::proofs::NodeLemmas::node_steps))]
+pub(crate) fn is_unresolved_call(tree: &Expr, total: usize) -> bool
+    ensures { result ≡ spec.is_unresolved_call total (view tree.now) }
+{
+    match tree {
+        Expr::SubroutineCall(group) => total < *group,
+        Expr::AstNode(..) => true,
+        _ => false,
+    }
+}

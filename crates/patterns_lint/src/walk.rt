@@ -1,0 +1,28 @@
+//! What a walk over the nodes of a pattern's tree finds.
+use crate::problem::{Found, Problem};
+use fancy_syntax::span::Span;
+use std::alloc::{AllocError, Global};
+
+/// What a walk has found so far.
+#[derive(Drop)]
+pub(crate) struct Walk<'a> {
+    pub(crate) found: Vec<Found<'a>>,
+    /// The spans of the leaves that take text.
+    pub(crate) leaves: Vec<Span>,
+}
+
+impl<'a> Walk<'a> {
+    /// The walk that begins at the root.
+    pub(crate) fn new(alloc: Global) -> Walk<'a> {
+        Walk {
+            found: Vec::new(alloc),
+            leaves: Vec::new(alloc),
+        }
+    }
+
+    /// Adds what is wrong there.
+    pub(crate) fn report(&mut self, span: Span, problem: Problem<'a>) -> Result<(), AllocError> {
+        self.found.push(Found { span, problem })?;
+        Ok(())
+    }
+}

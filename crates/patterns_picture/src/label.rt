@@ -1,0 +1,98 @@
+//! The words on the boxes.
+use fancy_syntax::expr::Expr;
+use patterns_text::names::Names;
+use patterns_text::words::{Held, is_reference, write_reference};
+use std::alloc::Global;
+use std::io::Write;
+use std::{io, str};
+
+/// What the nodes of a pattern are, in words.
+#[derive(Drop)]
+pub(crate) struct Words<'a> {
+    names: Names<'a>,
+    pattern: &'a str,
+    /// Those of one node.
+    buffer: Vec<u8>,
+}
+
+/// What characters a class has.
+fn class_words(class: &str) -> &'static str {
+    match class {
+        r"\d" => "digit",
+        r"\D" => "not a digit",
+        r"\s" => "whitespace",
+        r"\S" => "not whitespace",
+        r"\w" => "word character",
+        r"\W" => "not a word character",
+        "[0-9A-Fa-f]" => "hexadecimal digit",
+        "[^0-9A-Fa-f]" => "not a hexadecimal digit",
+        _ if class.starts_with("[^") => "none of these",
+        _ if class.starts_with('[') => "one of these",
+        _ => "property",
+    }
+}
+
+/// What characters `.` has.
+fn any_words(newline: bool, crlf: bool) -> &'static str {
+    match (newline, crlf) {
+        (true, _) => "any character",
+        (false, false) => "any but LF",
+        (false, true) => "any but CR, LF",
+    }
+}
+
+/// The words of a leaf without what stands before a colon, and from a comma on.
+fn shortened(words: &str) -> &str {
+    let words = words.split_once(": ").map_or(words, |parts| parts.1);
+    words.split_once(", ").map_or(words, |parts| parts.0)
+}
+
+/// How often a node is repeated. That it is greedy is not told, nor what the rail past an optional one tells.
+fn of_repeat(words: &str) -> &str {
+    let words = words.strip_prefix("repeat ").unwrap_or(words);
+    let words = words.strip_suffix(", greedy").unwrap_or(words);
+    match words.strip_prefix("0 to 1 times") {
+        Some(mode) => mode.strip_prefix(", ").unwrap_or(mode),
+        None => words,
+    }
+}
+
+impl<'a> Words<'a> {
+    pub(crate) fn new(alloc: Global, names: Names<'a>, pattern: &'a str) -> Words<'a> {
+        Words {
+            names,
+            pattern,
+            buffer: Vec::new(alloc),
+        }
+    }
+
+    /// Writes what the node is. The number is that of the last group that has begun.
+    fn write(&mut self, node: &Expr, groups: usize) -> io::Result<()> {
+        self.buffer.clear();
+        if is_reference(node) {
+            return write_reference(&mut self.buffer, node, &self.names, self.pattern);
+        }
+        match node {
+            Expr::Group(_) => write!(self.buffer, "{}", self.names.group(groups)),
+            _ => write!(self.buffer, "{}", Held(node)),
+        }
+    }
+
+    /// What the node is. The number is that of the last group that has begun, the node itself counted.
+    pub(crate) fn of(&mut self, node: &Expr, groups: usize) -> io::Result<&str> {
+        self.write(node, groups)?;
+        Ok(str::from_utf8(&self.buffer).unwrap_or("").trim_end())
+    }
+
+    /// What is written on the node's box; nothing for a node without a box.
+    pub(crate) fn on_box(&mut self, node: &Expr, groups: usize) -> io::Result<&str> {
+        match node {
+            Expr::Empty | Expr::Literal { .. } | Expr::Concat(_) | Expr::Alt(_) => Ok(""),
+            Expr::Any { newline, crlf } => Ok(any_words(*newline, *crlf)),
+            Expr::Delegate { inner, .. } => Ok(class_words(inner.as_str())),
+            Expr::Repeat { .. } => Ok(of_repeat(self.of(node, groups)?)),
+            _ if node.is_leaf_node() => Ok(shortened(self.of(node, groups)?)),
+            _ => self.of(node, groups),
+        }
+    }
+}

@@ -1,0 +1,278 @@
+//! Where each node is drawn in the picture.
+use crate::label::Words;
+use crate::shape::Shape;
+use crate::size::{GAP, ROLE, Size, WORD_LINE};
+use crate::text::columns;
+use fancy_spans::{SpannedNode, SpannedTree};
+use fancy_syntax::expr::Expr;
+use fancy_syntax::span::Span;
+use patterns_text::fault::Fault;
+use patterns_text::subject::Subject;
+use std::alloc::AllocError;
+
+/// A node, and where it is drawn.
+#[derive(Clone, Copy)]
+pub(crate) struct Drawn<'a> {
+    pub(crate) node: &'a Expr,
+    pub(crate) span: Span,
+    pub(crate) shape: Shape,
+    /// How many groups have begun, the node itself counted.
+    pub(crate) groups: usize,
+    children: usize,
+    /// How many nodes it has, itself counted.
+    nodes: usize,
+    pub(crate) size: Size,
+    pub(crate) left: usize,
+    pub(crate) top: usize,
+}
+
+impl Drawn<'_> {
+    /// The height of the rail that runs through it.
+    pub(crate) fn rail(&self) -> usize {
+        self.top.saturating_add(self.size.rail)
+    }
+
+    pub(crate) fn right(&self) -> usize {
+        self.left.saturating_add(self.size.width)
+    }
+
+    pub(crate) fn bottom(&self) -> usize {
+        self.top.saturating_add(self.size.height)
+    }
+
+    pub(crate) fn middle(&self) -> usize {
+        self.left.saturating_add(self.size.width / 2)
+    }
+
+    /// The text that stands in its box, where it has one.
+    pub(crate) fn text<'t>(&'t self, pattern: &'t str) -> &'t str {
+        match self.node {
+            Expr::Literal { val, .. } if val.as_str() == " " => "\u{2423}",
+            Expr::Literal { val, .. } => val.as_str(),
+            _ => pattern.get(self.span.start..self.span.end).unwrap_or(""),
+        }
+    }
+
+    /// The size of its text, where its shape has one.
+    fn text_size(&self, pattern: &str) -> Size {
+        match self.shape {
+            Shape::Character => Size::of_text(columns(self.text(pattern)), 2),
+            Shape::Leaf => Size::of_text(columns(self.text(pattern)), 0),
+            _ => Size::EMPTY,
+        }
+    }
+}
+
+/// The nodes of a tree in preorder.
+#[derive(Drop)]
+pub(crate) struct Layout<'a> {
+    pub(crate) nodes: Vec<Drawn<'a>>,
+    pattern: &'a str,
+    groups: usize,
+}
+
+/// The nodes after the first ones, of which there are so many.
+fn past<'l, 'a>(nodes: &'l [Drawn<'a>], count: usize) -> &'l [Drawn<'a>] {
+    nodes.split_at(count.min(nodes.len())).1
+}
+
+/// The children of a node.
+#[derive(Drop)]
+pub(crate) struct Children<'l, 'a> {
+    /// The nodes after those that came.
+    nodes: &'l [Drawn<'a>],
+    left: usize,
+}
+
+impl<'l, 'a> Iterator for Children<'l, 'a> {
+    type Item = &'l Drawn<'a>;
+
+    ghost use Rattle.std.specs.Iterator.{at_most};
+
+    ghost remaining = { λ s. at_most s.left };
+
+    fn next(&mut self) -> Option<&'l Drawn<'a>> {
+        self.left = self.left.checked_sub(1)?;
+        let child = self.nodes.first()?;
+        self.nodes = past(self.nodes, child.nodes);
+        Some(child)
+    }
+}
+
+/// Where the next child of a node is drawn.
+#[derive(Clone, Copy)]
+struct Cursor {
+    left: usize,
+    top: usize,
+    last: Option<Shape>,
+}
+
+impl Cursor {
+    /// That of the first child.
+    fn of(parent: &Drawn<'_>) -> Cursor {
+        let is_parts = parent.shape == Shape::Parts;
+        let role = if is_parts { GAP + ROLE } else { 0 };
+        let words = if is_parts { WORD_LINE } else { 0 };
+        Cursor {
+            left: parent.left.saturating_add(role),
+            top: parent.top.saturating_add(words),
+            last: None,
+        }
+    }
+
+    /// Puts a child where the cursor is, and moves on.
+    fn put(&mut self, parent: &Drawn<'_>, child: &mut Drawn<'_>) {
+        let gap = self.last.map_or(0, |last| last.gap(child.shape));
+        let free = parent.size.width.saturating_sub(child.size.width);
+        child.left = match parent.shape {
+            Shape::Row => self.left.saturating_add(gap),
+            Shape::Parts => self.left,
+            _ => parent.left.saturating_add(free / 2),
+        };
+        child.top = match parent.shape {
+            Shape::Fork | Shape::Parts => self.top,
+            _ => parent.rail().saturating_sub(child.size.rail),
+        };
+        if parent.shape == Shape::Row {
+            self.left = child.right();
+        }
+        self.top = child.bottom().saturating_add(GAP);
+        self.last = Some(child.shape);
+    }
+}
+
+impl<'a> Layout<'a> {
+    /// The nodes of the tree of the pattern, each where it is drawn if the tree is drawn there.
+    pub(crate) fn of(
+        subject: Subject<'a>,
+        words: &mut Words<'_>,
+        parsed: &'a SpannedTree,
+        left: usize,
+        top: usize,
+    ) -> Result<Layout<'a>, Fault> {
+        let mut layout = Layout {
+            nodes: Vec::with_capacity(subject.alloc, parsed.spans.len())?,
+            pattern: subject.pattern,
+            groups: 0,
+        };
+        measure(&mut layout, words, parsed.root())?;
+        layout.put_root(left, top);
+        layout.put_nodes();
+        Ok(layout)
+    }
+
+    /// How far the picture goes to the right, and down.
+    pub(crate) fn corner(&self) -> (usize, usize) {
+        match self.nodes.first() {
+            Some(root) => (root.right(), root.bottom()),
+            None => (0, 0),
+        }
+    }
+
+    /// The children of the node at the index.
+    pub(crate) fn children(&self, index: usize) -> Children<'_, 'a> {
+        let nodes = past(&self.nodes, index);
+        Children {
+            nodes: past(nodes, 1),
+            left: nodes.first().map_or(0, |node| node.children),
+        }
+    }
+
+    /// Whether the node is a possessive quantifier: no group, and begins where its child does.
+    pub(crate) fn is_possessive(&self, index: usize) -> bool {
+        let Some([node, child, ..]) = self.nodes.get(index..) else {
+            return false;
+        };
+        matches!(node.node, Expr::AtomicGroup(_)) && node.span.start == child.span.start
+    }
+
+    /// Adds a node whose size is not known yet, and returns its index.
+    fn begin(&mut self, node: SpannedNode<'a>) -> Result<usize, AllocError> {
+        let index = self.nodes.len();
+        if let Expr::Group(_) = node.expr() {
+            self.groups = self.groups.saturating_add(1);
+        }
+        self.nodes.push(Drawn {
+            node: node.expr(),
+            span: node.span(),
+            shape: Shape::of(node.expr()),
+            groups: self.groups,
+            children: 0,
+            nodes: 1,
+            size: Size::EMPTY,
+            left: 0,
+            top: 0,
+        })?;
+        Ok(index)
+    }
+
+    /// Sets the size of the node, whose children take so much together.
+    fn end(
+        &mut self,
+        index: usize,
+        words: &mut Words<'_>,
+        children: usize,
+        content: Size,
+    ) -> Result<Size, Fault> {
+        let len = self.nodes.len();
+        let Some(drawn) = self.nodes.get_mut(index) else {
+            return Ok(content);
+        };
+        let text = drawn.text_size(self.pattern);
+        let on_box = columns(words.on_box(drawn.node, drawn.groups)?);
+        drawn.size = drawn.shape.round(content.beside(0, text), on_box);
+        drawn.children = children;
+        drawn.nodes = len.saturating_sub(index);
+        Ok(drawn.size)
+    }
+
+    /// Puts the whole tree.
+    fn put_root(&mut self, left: usize, top: usize) {
+        if let Some(root) = self.nodes.first_mut() {
+            root.left = left;
+            root.top = top;
+        }
+    }
+
+    /// Puts the children of the node, which is put.
+    fn put_children(&mut self, parent: Drawn<'a>, index: usize) {
+        let mut cursor = Cursor::of(&parent);
+        let mut next = index.saturating_add(1);
+        for _ in 0..parent.children {
+            let Some(child) = self.nodes.get_mut(next) else {
+                return;
+            };
+            cursor.put(&parent, child);
+            next = next.saturating_add(child.nodes);
+        }
+    }
+
+    /// Puts all nodes below the tree's.
+    fn put_nodes(&mut self) {
+        for index in 0..self.nodes.len() {
+            if let Some(parent) = self.nodes.get(index).copied() {
+                self.put_children(parent, index);
+            }
+        }
+    }
+}
+
+/// Adds the node and those below it, and returns its shape and its size.
+fn measure<'a>(
+    layout: &mut Layout<'a>,
+    words: &mut Words<'_>,
+    node: SpannedNode<'a>,
+) -> Result<(Shape, Size), Fault> {
+    let index = layout.begin(node)?;
+    let shape = Shape::of(node.expr());
+    let mut content = Size::EMPTY;
+    let mut last = None;
+    let mut children: usize = 0;
+    for child in node.children() {
+        let next = measure(layout, words, child)?;
+        content = shape.joined(content, last, next);
+        last = Some(next.0);
+        children = children.saturating_add(1);
+    }
+    Ok((shape, layout.end(index, words, children, content)?))
+}

@@ -1,0 +1,14 @@
+//! A pattern's tree as a railroad diagram.
+#![tactic(auto)]
+
+mod grid;
+mod label;
+mod layout;
+mod page;
+pub mod picture;
+mod rails;
+mod shape;
+mod size;
+mod style;
+mod svg;
+mod text;

@@ -1,0 +1,82 @@
+//! The subcommand `picture`: a pattern's tree as a railroad diagram.
+ghost use Rattle.std.specs.Prelude.{◌≡◌, ◌≤◌, ◌⊎◌, chars, Ok, IfOk};
+ghost use Rattle.fancy_lex.specs.Flags.{flags_of};
+ghost use Rattle.fre_program.specs.Words.{HasTree, HasFault};
+ghost use Rattle.patterns_text.specs.Subject.{IsAccepted, IsRefused};
+
+use crate::page::write_page;
+use crate::svg::write_picture;
+use fancy_spans::SpannedTree;
+use patterns_text::fault::{Fault, give_up};
+use patterns_text::subject::Subject;
+use std::alloc::Global;
+use std::io::Write;
+
+/// What a picture is written as.
+#[derive(Clone, Copy)]
+pub enum Canvas {
+    /// As SVG.
+    Svg,
+    /// As a page of HTML, with the drawn tree and the group information.
+    Page,
+}
+
+/// Writes the picture, and sees that it is written.
+fn write<O: Write>(
+    subject: Subject<'_>,
+    canvas: Canvas,
+    parsed: &SpannedTree,
+    out: &mut O,
+) -> Result<(), Fault> {
+    match canvas {
+        Canvas::Svg => write_picture(subject, parsed, out)?,
+        Canvas::Page => write_page(subject, parsed, out)?,
+    }
+    out.flush()?;
+    Ok(())
+}
+
+/// Writes the picture of the pattern on `out`, or on `err` where and why it is refused.
+fn answer<O: Write, E: Write>(
+    subject: Subject<'_>,
+    canvas: Canvas,
+    out: &mut O,
+    err: &mut E,
+) -> Result<u8, Fault>
+    ensures read { result ≡ Ok 0 → IsAccepted subject.entry }
+    ensures refused { result ≡ Ok 1 → IsRefused subject.entry }
+    ensures status { IfOk result (λ n. n ≤ 1) }
+{
+    match subject.parse()? {
+        Ok(parsed) => {
+            write(subject, canvas, &parsed, out)?;
+            Ok(0)
+        }
+        Err(refusal) => {
+            refusal.write(err, subject)?;
+            Ok(1)
+        }
+    }
+}
+
+/// Draws the tree of a pattern as a railroad diagram, and returns the exit status: 0 if the pattern is accepted, with the
+/// picture on `out`; 1 if it is refused, with the position and the reason on `err`; 3 if memory ran out or a write failed,
+/// which is reported on `err` if that is possible, and `out` may then have part of the output.
+pub fn draw_picture<O: Write, E: Write>(
+    alloc: Global,
+    flags: u32,
+    canvas: Canvas,
+    pattern: &str,
+    out: &mut O,
+    err: &mut E,
+) -> u8
+    ensures read { result ≡ 0 → HasTree (flags_of flags) (chars pattern.now) }
+    ensures refused { result ≡ 1 → HasFault (flags_of flags) (chars pattern.now) }
+    ensures status { (result ≡ 0) ⊎ ((result ≡ 1) ⊎ (result ≡ 3)) }
+{
+    let subject = Subject::of_argument(alloc, flags, pattern);
+    match answer(subject, canvas, out, err) {
+        Ok(status) => status,
+        Err(fault) => give_up(err, fault),
+    }
+}

@@ -1,0 +1,97 @@
+//! How each kind of node is drawn.
+use crate::size::{GAP, LINE, PASS, ROLE, SIDE, Size, WORD_LINE};
+use fancy_syntax::expr::{Absent, Expr};
+
+/// How a node is drawn.
+#[derive(Clone, Copy, PartialEq, Eq)]
+pub(crate) enum Shape {
+    /// As a rail alone.
+    Nothing,
+    /// As a text without a border, so that characters in a row look as one.
+    Character,
+    /// As a box with its text and some words.
+    Leaf,
+    /// As its children from left to right.
+    Row,
+    /// As its children one below another, with rails that fork to them.
+    Fork,
+    /// As its child with rails round it.
+    Loop {
+        /// Whether a rail leads back.
+        repeats: bool,
+        /// Whether a rail passes it.
+        skips: bool,
+    },
+    /// As a box with words round its child.
+    Frame,
+    /// As a box with words round its children one below another, each with its own rail.
+    Parts,
+}
+
+impl Shape {
+    /// That of the node.
+    pub(crate) fn of(node: &Expr) -> Shape {
+        match node {
+            Expr::Empty => Shape::Nothing,
+            Expr::Literal { .. } => Shape::Character,
+            Expr::Concat(_) => Shape::Row,
+            Expr::Alt(_) => Shape::Fork,
+            Expr::Repeat { lo, hi, .. } => Shape::Loop {
+                repeats: *hi > 1,
+                skips: *lo == 0,
+            },
+            Expr::Group(_) | Expr::LookAround(..) | Expr::AtomicGroup(_) => Shape::Frame,
+            Expr::Absent(Absent::Repeater(_) | Absent::Stopper(_)) => Shape::Frame,
+            Expr::Absent(Absent::Expression { .. }) => Shape::Parts,
+            Expr::Conditional { .. } | Expr::DefineGroup { .. } => Shape::Parts,
+            _ => Shape::Leaf,
+        }
+    }
+
+    /// What is left between two neighbours of these shapes in a row.
+    pub(crate) fn gap(self, next: Shape) -> usize {
+        match (self, next) {
+            (Shape::Character, Shape::Character) => 0,
+            _ => GAP,
+        }
+    }
+
+    /// What the children take together, where the first ones take so much and the next is so large. The last one has the
+    /// shape `last`.
+    pub(crate) fn joined(self, so_far: Size, last: Option<Shape>, next: (Shape, Size)) -> Size {
+        let Some(last) = last else {
+            return next.1;
+        };
+        match self {
+            Shape::Fork | Shape::Parts => so_far.above(GAP, next.1),
+            _ => so_far.beside(last.gap(next.0), next.1),
+        }
+    }
+
+    /// The size of a node of this shape, whose content is so large, and which has words of so many columns.
+    pub(crate) fn round(self, content: Size, words: usize) -> Size {
+        match self {
+            Shape::Nothing => Size {
+                width: 2 * GAP,
+                height: LINE,
+                rail: LINE / 2,
+            },
+            Shape::Character | Shape::Row => content,
+            Shape::Leaf => content.within(GAP / 2, 0, 0).captioned(words),
+            Shape::Fork => content.within(SIDE, 0, 0),
+            Shape::Loop { repeats, skips } => {
+                let label = if words > 0 { WORD_LINE } else { 0 };
+                let above = if repeats { WORD_LINE + PASS } else { label };
+                let below = if skips { PASS } else { 0 };
+                content.within(SIDE, above, below).widened(words)
+            }
+            Shape::Frame => content.within(GAP, WORD_LINE, PASS).widened(words),
+            Shape::Parts => Size {
+                width: content.width.saturating_add(ROLE),
+                ..content
+            }
+            .within(GAP, WORD_LINE, PASS)
+            .widened(words),
+        }
+    }
+}

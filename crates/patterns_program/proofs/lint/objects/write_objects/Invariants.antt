@@ -1,7 +1,0 @@
-use Rattle.std.proofs.Common.{Contains}
-use Rattle.std.specs.Bool.{OnTrue}
-use Rattle.patterns_program.specs.declared.lint.chosen.Level.{Level}
-use Rattle.patterns_program.proofs.lint.objects.write_objects.Given as goal
-
-abbrev pub invariant-loop-one : goal.invariant-loop-one
-invariant-loop-one g l = OnTrue l.is_denied (Contains l.chosen.levels Level.Deny)

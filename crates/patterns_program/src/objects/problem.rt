@@ -1,0 +1,53 @@
+//! Likely mistakes, as JSON.
+use crate::objects::line::{begin, finish, write_number, write_span, write_text};
+use crate::objects::places::Places;
+use patterns_lint::chosen::Level;
+use patterns_lint::problem::Found;
+use patterns_text::fault::Fault;
+use patterns_text::subject::Subject;
+use std::io::Write;
+
+/// What a report is called.
+fn type_name(level: Level) -> &'static str {
+    if level == Level::Deny {
+        "error"
+    } else {
+        "warning"
+    }
+}
+
+/// Writes a likely mistake.
+pub(super) fn write_problem<O: Write>(
+    subject: Subject<'_>,
+    places: &Places,
+    level: Level,
+    found: Found<'_>,
+    out: &mut O,
+) -> Result<(), Fault> {
+    let Found { span, problem } = found;
+    let rule = problem.rule();
+    let mut writer = begin(subject, type_name(level))?;
+    write_span(&mut writer, places, span)?;
+    write_text(&mut writer, "code", rule.name())?;
+    write_text(
+        &mut writer,
+        "message",
+        format!(in subject.alloc; "{problem}")?.as_str(),
+    )?;
+    write_text(&mut writer, "help", rule.help())?;
+    finish(writer, out)
+}
+
+/// Writes how many likely mistakes are not written, if there are some.
+pub(super) fn write_omitted<O: Write>(
+    subject: Subject<'_>,
+    more: usize,
+    out: &mut O,
+) -> Result<(), Fault> {
+    if more == 0 {
+        return Ok(());
+    }
+    let mut writer = begin(subject, "omitted")?;
+    write_number(&mut writer, "count", more as u64)?;
+    finish(writer, out)
+}

@@ -1,0 +1,111 @@
+//! Reports as lines of text.
+mod problem;
+
+use crate::reporter::{MAX_REPORTS, Reporter};
+use crate::text::problem::{write_more, write_report};
+use fancy_spans::SpannedTree;
+use patterns_lint::chosen::Chosen;
+use patterns_lint::problem::Found;
+use patterns_text::drawing::{Look, Style, write_tree};
+use patterns_text::fault::Fault;
+use patterns_text::listing::{Lead, write_at, write_numbered, write_references};
+use patterns_text::names::Names;
+use patterns_text::nodes::nodes_of;
+use patterns_text::subject::{Refusal, Subject};
+use std::io::Write;
+
+/// One of the two outputs.
+#[derive(Clone, Copy)]
+pub(crate) enum Stream {
+    Out,
+    Err,
+}
+
+/// Reports as lines of text on `out`, and errors on `out` or `err`.
+#[derive(Drop)]
+pub(crate) struct Text<'a, O, E> {
+    pub(crate) out: &'a mut O,
+    pub(crate) err: &'a mut E,
+    /// Where errors are written.
+    errors: Stream,
+    /// How trees are drawn.
+    look: Look,
+}
+
+impl<'a, O: Write, E: Write> Text<'a, O, E> {
+    /// Trees are drawn with the characters of Unicode, and without spans.
+    pub(crate) fn new(out: &'a mut O, err: &'a mut E, errors: Stream) -> Text<'a, O, E> {
+        Text {
+            out,
+            err,
+            errors,
+            look: Look {
+                style: Style::Lines,
+                has_spans: false,
+            },
+        }
+    }
+
+    /// Trees are drawn so, and errors are written to `err`.
+    pub(crate) fn drawn(out: &'a mut O, err: &'a mut E, look: Look) -> Text<'a, O, E> {
+        Text {
+            out,
+            err,
+            errors: Stream::Err,
+            look,
+        }
+    }
+}
+
+impl<O: Write, E: Write> Reporter for Text<'_, O, E> {
+    fn error(&mut self, subject: Subject<'_>, refusal: &Refusal) -> Result<(), Fault> {
+        match self.errors {
+            Stream::Out => refusal.write(self.out, subject)?,
+            Stream::Err => refusal.write(self.err, subject)?,
+        }
+        Ok(())
+    }
+
+    fn problems(
+        &mut self,
+        subject: Subject<'_>,
+        chosen: &Chosen,
+        found: &[Found<'_>],
+    ) -> Result<(), Fault> {
+        for one in found.iter().take(MAX_REPORTS) {
+            let level = chosen.level(one.problem.rule());
+            write_report(self.out, subject, level, *one)?;
+        }
+        write_more(self.out, subject, found.len().saturating_sub(MAX_REPORTS))?;
+        Ok(())
+    }
+
+    fn groups(&mut self, subject: Subject<'_>, parsed: &SpannedTree) -> Result<(), Fault> {
+        let Subject {
+            alloc,
+            at,
+            pattern,
+            ..
+        } = subject;
+        write_at(self.out, at)?;
+        writeln!(self.out, "{pattern}")?;
+        let names = Names::of(alloc, &parsed.tree)?;
+        let nodes = nodes_of(alloc, parsed)?;
+        write_numbered(self.out, Lead::At(at), pattern, &nodes, &names)?;
+        write_references(self.out, Lead::At(at), pattern, &nodes, &names)?;
+        if parsed.tree.self_recursive {
+            write_at(self.out, at)?;
+            self.out.write_all(b"the pattern calls itself\n")?;
+        }
+        Ok(())
+    }
+
+    fn tree(&mut self, subject: Subject<'_>, parsed: &SpannedTree) -> Result<(), Fault> {
+        write_tree(subject, self.look, parsed, self.out)
+    }
+
+    fn flush(&mut self) -> Result<(), Fault> {
+        self.out.flush()?;
+        Ok(())
+    }
+}

@@ -1,0 +1,14 @@
+//! What is written of a pattern as text: where it is, why it is refused, its nodes in words, its tree drawn, its groups.
+#![tactic(auto)]
+
+pub mod drawing;
+pub mod fault;
+pub mod listing;
+pub mod marks;
+pub mod names;
+pub mod nodes;
+pub mod paint;
+pub mod path;
+pub mod place;
+pub mod subject;
+pub mod words;

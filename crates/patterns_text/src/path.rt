@@ -1,0 +1,58 @@
+//! The way from the root of JSON to a value.
+use std::fmt;
+
+/// A step from a value of JSON to one that it holds.
+#[derive(Clone, Copy)]
+pub enum Step<'a> {
+    /// From an object to what it has under this key.
+    Member(&'a str),
+    /// From an array to its item at this index, counted from 0.
+    Item(u64),
+}
+
+/// The steps from the root of JSON to a value.
+#[derive(Clone, Copy)]
+pub struct Path<'a> {
+    pub steps: &'a [Step<'a>],
+}
+
+/// Whether the key is written without quotes: it consists of letters and digits of ASCII, `_` and `-`.
+fn is_plain(key: &str) -> bool {
+    !key.is_empty()
+        && key.bytes().all(|byte| byte.is_ascii_alphanumeric() || byte == b'_' || byte == b'-')
+}
+
+/// A key in quotes, as JSON has it. Each control character is written as its code.
+#[derive(Clone, Copy)]
+struct Quoted<'a>(&'a str);
+
+impl fmt::Display for Quoted<'_> {
+    fn fmt<W: fmt::Write>(&self, f: &mut fmt::Formatter<W>) -> fmt::Result {
+        f.write_char('"')?;
+        for c in self.0.chars() {
+            if c == '"' || c == '\\' {
+                write!(f, "\\{c}")?;
+            } else if c.is_control() {
+                write!(f, "\\u{:04x}", u32::from(c))?;
+            } else {
+                f.write_char(c)?;
+            }
+        }
+        f.write_char('"')
+    }
+}
+
+/// The keys with dots between, and indexes, and keys that are not plain, in brackets.
+impl fmt::Display for Path<'_> {
+    fn fmt<W: fmt::Write>(&self, f: &mut fmt::Formatter<W>) -> fmt::Result {
+        for (i, step) in self.steps.iter().enumerate() {
+            match step {
+                Step::Item(index) => write!(f, "[{index}]")?,
+                Step::Member(key) if !is_plain(key) => write!(f, "[{}]", Quoted(key))?,
+                Step::Member(key) if i == 0 => f.write_str(key)?,
+                Step::Member(key) => write!(f, ".{key}")?,
+            }
+        }
+        Ok(())
+    }
+}

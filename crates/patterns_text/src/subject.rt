@@ -1,0 +1,66 @@
+//! Patterns that are reported on.
+ghost use Rattle.std.specs.Prelude.{IfOk, OnOk, OnErr};
+ghost use Rattle.patterns_text.specs.Subject.{IsAccepted, IsRefused, IsParsedAs};
+
+use crate::fault::Fault;
+use crate::place::{Location, write_refusal};
+use fancy_lex::error::ParseError;
+use fancy_spans::SpannedTree;
+use fancy_syntax::error::Error;
+use std::alloc::{AllocError, Global};
+use std::io;
+use std::io::Write;
+
+/// A pattern, where it is, and what is needed to parse it and to report on it.
+#[derive(Clone, Copy)]
+pub struct Subject<'a> {
+    pub alloc: Global,
+    /// The flags that it is parsed under.
+    pub flags: u32,
+    pub at: Location<'a>,
+    pub pattern: &'a str,
+}
+
+/// Why a pattern is refused.
+#[derive(Drop)]
+pub struct Refusal {
+    /// The position of the error, as a byte offset.
+    pub position: usize,
+    pub kind: ParseError,
+}
+
+impl Refusal {
+    /// Writes where and why the pattern is refused, its line at the position, and a caret under the position.
+    pub fn write<O: Write>(&self, out: &mut O, subject: Subject<'_>) -> io::Result<()> {
+        write_refusal(out, subject.at, subject.pattern, self.position, &self.kind)
+    }
+}
+
+impl<'a> Subject<'a> {
+    /// The pattern that is an argument of the program.
+    pub fn of_argument(alloc: Global, flags: u32, pattern: &'a str) -> Subject<'a>
+        ensures flags { result.flags ≡ flags }
+        ensures pattern { result.pattern ≡ pattern.entry }
+    {
+        Subject {
+            alloc,
+            flags,
+            at: Location::plain("PATTERN", 1),
+            pattern,
+        }
+    }
+
+    /// The tree of the pattern with its group information and its spans, or why the pattern is refused. Any other error is
+    /// that memory ran out.
+    pub fn parse(self) -> Result<Result<SpannedTree, Refusal>, Fault>
+        ensures read { IfOk result (λ parsed. OnOk parsed (IsAccepted self.entry)) }
+        ensures tree { IfOk result (λ parsed. IfOk parsed (λ t. IsParsedAs self.entry t.tree)) }
+        ensures refused { IfOk result (λ parsed. OnErr parsed (IsRefused self.entry)) }
+    {
+        match SpannedTree::parse(self.alloc, self.pattern, self.flags) {
+            Ok(parsed) => Ok(Ok(parsed)),
+            Err(Error::ParseError(position, kind)) => Ok(Err(Refusal { position, kind })),
+            Err(Error::OutOfMemory) => Err(Fault::Memory(AllocError)),
+        }
+    }
+}
