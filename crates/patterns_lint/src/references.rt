@@ -227,11 +227,11 @@ impl<'a> Ways<'a> {
     fn enter(&mut self, node: SpannedNode<'_>) -> Result<Entry, AllocError> {
         let mut entry = Entry {
             closed: self.closed.len(),
-            group: 0,
+            group: None,
             is_outermost_loop: false,
         };
         match node.expr() {
-            Expr::Group(_) => entry.group = self.open(node.span())?,
+            Expr::Group(_) => entry.group = Some(self.open(node.span())?),
             Expr::Repeat { hi, .. } => {
                 if *hi > 1 && self.before_loop.is_none() {
                     self.before_loop = Some(self.opened);
@@ -242,38 +242,68 @@ impl<'a> Ways<'a> {
             Expr::BackrefWithRelativeRecursionLevel { group, .. }
             | Expr::BackrefExistsCondition { group, .. }
             | Expr::SubroutineCall(group) => self.refer(*group),
-            _ => {}
+            Expr::Empty
+            | Expr::Any { .. }
+            | Expr::Assertion(_)
+            | Expr::GeneralNewline { .. }
+            | Expr::Literal { .. }
+            | Expr::LiteralBytes { .. }
+            | Expr::Concat(_)
+            | Expr::Alt(_)
+            | Expr::LookAround(..)
+            | Expr::Delegate { .. }
+            | Expr::AtomicGroup(_)
+            | Expr::KeepOut
+            | Expr::ContinueFromPreviousMatchEnd
+            | Expr::Conditional { .. }
+            | Expr::BacktrackingControlVerb(_)
+            | Expr::DefineGroup { .. }
+            | Expr::Absent(_)
+            | Expr::AstNode(..) => {}
         }
         Ok(entry)
     }
 
-    /// Goes on past a child, in which the groups were closed from the index `from` on. A branch is one of several ways, and
+    /// Goes on past a child, in which the groups were closed from the index `from` on. Each branch is a way of its own, and
     /// so are the two after a condition.
     fn pass_child(&mut self, parent: &Expr, index: usize, from: usize, entry: &mut Entry) {
-        match parent {
-            Expr::Conditional { .. } if index == 0 => entry.closed = self.closed.len(),
-            Expr::Alt(_) | Expr::Conditional { .. } => self.leave(from),
-            _ => {}
+        if index == 0 && matches!(parent, Expr::Conditional { .. }) {
+            entry.closed = self.closed.len();
+        } else if is_fork(parent) {
+            self.leave(from);
         }
     }
 
     /// Goes on past the node, whose children were passed.
     fn pass(&mut self, node: &Expr, entry: Entry) -> Result<(), AllocError> {
-        match node {
-            Expr::Group(_) => self.close(entry.group),
-            Expr::LookAround(_, LookAround::LookAheadNeg | LookAround::LookBehindNeg) => {
-                self.leave(entry.closed);
-                self.closed.truncate(entry.closed);
-                Ok(())
-            }
-            Expr::Repeat { .. } if entry.is_outermost_loop => self.leave_loop(),
-            Expr::Alt(_) | Expr::Conditional { .. } => {
-                self.join(entry.closed);
-                Ok(())
-            }
-            _ => Ok(()),
+        if is_fork(node) {
+            self.join(entry.closed);
         }
+        if is_negative(node) {
+            self.leave(entry.closed);
+            self.closed.truncate(entry.closed);
+        }
+        if let Some(group) = entry.group {
+            self.close(group)?;
+        }
+        if entry.is_outermost_loop {
+            self.leave_loop()?;
+        }
+        Ok(())
     }
+}
+
+/// Whether several ways go through the node.
+fn is_fork(node: &Expr) -> bool {
+    matches!(node, Expr::Alt(_) | Expr::Conditional { .. })
+}
+
+/// Whether the node is a negative look-around.
+fn is_negative(node: &Expr) -> bool {
+    matches!(
+        node,
+        Expr::LookAround(_, LookAround::LookAheadNeg | LookAround::LookBehindNeg)
+    )
 }
 
 /// What is known of a node since it was entered.
@@ -281,8 +311,8 @@ impl<'a> Ways<'a> {
 struct Entry {
     /// How many groups were closed before it, or before the ways after a condition.
     closed: usize,
-    /// The number of the group that it is; 0 if it is none.
-    group: usize,
+    /// The number of the group that it is.
+    group: Option<usize>,
     /// Whether it is a loop, and in no other.
     is_outermost_loop: bool,
 }

@@ -1,5 +1,7 @@
 //! Patterns that are reported on.
-ghost use Rattle.std.specs.Prelude.{IfOk, OnOk, OnErr};
+ghost use Rattle.std.specs.Prelude.{◌≡◌, chars, IfOk, OnOk, OnErr};
+ghost use Rattle.fancy_lex.specs.Flags.{flags_of};
+ghost use Rattle.fre_program.specs.Words.{HasTree, HasFault};
 ghost use Rattle.patterns_text.specs.Subject.{IsAccepted, IsRefused, IsParsedAs};
 
 use crate::fault::Fault;
@@ -41,6 +43,8 @@ impl<'a> Subject<'a> {
     pub fn of_argument(alloc: Global, flags: u32, pattern: &'a str) -> Subject<'a>
         ensures flags { result.flags ≡ flags }
         ensures pattern { result.pattern ≡ pattern.entry }
+        ensures accepted { IsAccepted result → HasTree (flags_of flags) (chars pattern.now) }
+        ensures refused { IsRefused result → HasFault (flags_of flags) (chars pattern.now) }
     {
         Subject {
             alloc,
