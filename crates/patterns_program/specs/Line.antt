@@ -34,10 +34,9 @@ pub record IsLineOf (f : Flags) (pattern : List ℕ) (t : Tree) (m : Marks) (w :
   pub reads : IsReadAs f (chars w) t m
   pub unbroken : breaks_line w pattern ≡ false
 
--- the tree's text is not read so, or cannot stand in the line of the pattern
+-- the tree's text would break the line of the pattern
 abbrev pub HasNoLine : Flags → List ℕ → Tree → Marks → Type 0
-HasNoLine f pattern t m =
-    (IsReadAs f (pattern_text f t m) t m → ⊥) ⊎ (breaks_line (encode_utf8_all (pattern_text f t m)) pattern ≡ true)
+HasNoLine f pattern t m = breaks_line (encode_utf8_all (pattern_text f t m)) pattern ≡ true
 
 -- the pattern is the line of its tree, or its tree has none: it is written as it is
 abbrev pub Stays : Flags → List ℕ → Type 0

@@ -1,8 +1,8 @@
 //! The subcommand `format`: each pattern as the text of its tree.
 ghost use Rattle.std.specs.Bool.{OnTrue};
-ghost use Rattle.std.specs.Prelude.{◌≡◌, ◌⊎◌, string_bytes, Ok, IfOk, IfSome, IfNone};
+ghost use Rattle.std.specs.Prelude.{◌≡◌, ◌⊎◌, chars, string_bytes, Ok, IfOk, IfSome, IfNone};
 ghost use Rattle.fancy_lex.specs.Flags.{flags_of};
-ghost use Rattle.fancy_syntax.specs.Answer.{marks_of};
+ghost use Rattle.fancy_syntax.specs.Answer.{IsTreeOf, marks_of};
 ghost use Rattle.fancy_syntax.specs.View.{view};
 ghost use Rattle.patterns_program.specs.Line as spec;
 ghost use Rattle.patterns_program.specs.Line.{IsLineOf, HasNoLine, MayKeep, Stays, Changes};
@@ -56,12 +56,13 @@ fn breaks_line(text: &str, pattern: &str) -> bool
         || text.as_bytes().ends_with(b"\r")
 }
 
-/// The text of the pattern's tree, for the pattern's line. None where it is not read as the tree, or cannot stand in the
-/// line: the pattern itself is written then.
+/// The text of the pattern's tree, for the pattern's line. None if it would break the line: the pattern itself is written
+/// then.
 fn text_of(subject: Subject<'_>, tree: &ExprTree) -> Result<Option<String>, Fault>
     ensures some { IfOk result (λ text. IfSome text (λ s. let given = subject.entry in
         IsLineOf (flags_of given.flags) given.pattern.now (view tree.now.expr) (marks_of tree.now) (string_bytes s))) }
     ensures none { IfOk result (λ text. IfNone text (let given = subject.entry in
+        IsTreeOf (flags_of given.flags) (chars given.pattern.now) (view tree.now.expr) (marks_of tree.now) →
         HasNoLine (flags_of given.flags) given.pattern.now (view tree.now.expr) (marks_of tree.now))) }
 {
     let Some(text) = to_pattern(subject.alloc, tree, subject.flags)? else {

@@ -10,7 +10,7 @@ returns-in_default-2-clause-good g c =
     let tree = c.in-Some.parsed.tree in
     let parsed = rw c.in-Some.is at c.in_ok-parsed.ensures.tree in
     let none = rw c.in_default-2.is at c.in_ok-line.ensures.none in
-    λ is. (view tree.expr, marks_of tree, parsed, inr none)
+    λ is. (view tree.expr, marks_of tree, parsed, inr (none parsed))
 
 pub returns-clause-good : goal.returns-clause-good
 returns-clause-good g c =

@@ -1,4 +1,4 @@
-use Rattle.std.proofs.Common.{◌≡◌, ◌∙◌, ap, sym, inr, ℕ, List, true, String, Global, string_bytes}
+use Rattle.std.proofs.Common.{◌≡◌, ◌∙◌, ap, sym, ℕ, List, true, String, Global, string_bytes}
 use Rattle.std.specs.Prelude.{encode_utf8_all}
 use Rattle.std.proofs.lemmas.Str.{encodes-chars, IsUtf8-string_bytes}
 use Rattle.fancy_lex.specs.Text.{Text, text_of}
@@ -15,5 +15,5 @@ breaks s t w pattern text bytes is =
 pub returns-then-breaks_line-clause-none : goal.returns-then-breaks_line-clause-none
 returns-then-breaks_line-clause-none c =
     let text = rw c.in-Some.is at c.in_ok-text.ensures.text in
-    inr (breaks c.in-Some.text _ c.as_str.result.now c.args.subject.pattern.now text c.as_str.ensures.value
+    λ parsed. (breaks c.in-Some.text _ c.as_str.result.now c.args.subject.pattern.now text c.as_str.ensures.value
     (sym c.breaks_line.ensures ∙ c.if-breaks_line.true))
