@@ -93,7 +93,7 @@ pub enum ParseError {
 }
 
 impl ParseError {
-    /// What the kind says: its words, and after them the text that it carries, or none.
+    /// The words of the kind, and the text after them that the kind carries, which is empty if it carries none.
     fn words(&self) -> (&'static str, &str)
         ensures { kind_text (kind_of self.now) ≡ result.0.now ++ result.1.now }
     {

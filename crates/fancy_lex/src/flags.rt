@@ -28,7 +28,7 @@ pub const FLAG_ONIGURUMA_MODE: u32 = 128;
 /// tree has no `Group` for `(a)`.
 pub const FLAG_IGNORE_NUMBERED_GROUPS_WHEN_NAMED_GROUPS_EXIST: u32 = 256;
 
-// Callers hand the flags in under these very numbers, by which `flags_of` tells them too.
+// Callers pass the flags as these numbers, and the definition `flags_of` has the same numbers.
 const _: () = prove!(FLAG_CASEI == 1 && FLAG_MULTI == 2 && FLAG_DOTNL == 4);
 
 const _: () = prove!(FLAG_SWAP_GREED == 8 && FLAG_IGNORE_SPACE == 16 && FLAG_UNICODE == 32);

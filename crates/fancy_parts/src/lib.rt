@@ -1,4 +1,4 @@
-//! What knows no tree: quantifiers at the front of a text, the numbers of groups, and the text of a character.
+//! What needs no tree: quantifiers at the front of a text, the numbers of groups, and the text of a character.
 #![tactic(auto)]
 
 pub mod counts;
