@@ -122,7 +122,7 @@ module _ (f : Flags) (k depth : ℕ) (b : Bool) (out t : Text) where
       class_from f k depth b out (c ∷ t) ≡ class_from f (pred k) depth b (out ++ c ∷ []) t
   plain_item c p m = let (x, y, z) = not_special c p in items_plain f depth b out (c ∷ t) c t refl k m x y z
 
-  -- the number of steps left is greater than the length of the rest
+  -- the number of steps left is greater than the length of the rest in bytes
   step_left : (c : ℕ) → bytes (c ∷ t) < k → bytes t < pred k
   step_left c l = pred_lt (bytes t) (bytes (c ∷ t)) k (bytes_cons c t) l
 

@@ -1,5 +1,5 @@
--- What holds of every escape: the rest of the text is a suffix of it, and the error is at a cut of the text or one past
--- its end.
+-- What holds of every escape: the rest of the text is a suffix of it, and the error is at a character boundary of the
+-- text or one past its end.
 use Rattle.std.proofs.Common.{length, codes, ◌≡◌, ℕ, zero, suc, ◌+◌, ◌*◌, ◌≤◌, Bool, true, false, ◌==◌, nat_lt}
 use Rattle.std.proofs.Common.{if◌then◌else◌, [], ◌∷◌, ◌++◌, Option, Some, None, option_map, refl, subst, arith}
 use Rattle.std.specs.Char.{digit_value}

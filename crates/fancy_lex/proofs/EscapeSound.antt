@@ -1,4 +1,4 @@
--- What an escape stands for is sound: a reference or call is inside the escape, and a byte is not an ASCII one.
+-- The leaf of an escape is sound: a reference or call is inside the escape, and a byte is not an ASCII one.
 use Rattle.std.proofs.Common.{◌≡◌, ℕ, ◌≤◌, Bool, true, false, ◌==◌, ◌&&◌, nat_le, not, [], ◌∷◌, arith}
 use Rattle.std.proofs.Common.{◌+◌, Some, rules}
 use Rattle.std.proofs.lemmas.Bool.{cond_both}
@@ -34,8 +34,8 @@ pub record StandsBefore (t u : Text) (p : ℕ) : Type 0 where
   pub takes : Takes 1 mark u
   pub reach : p ≡ reach_of mark
 
--- what an escape of t with u after it stands for: a byte that is not an ASCII one, a reference or call inside the
--- escape, or another leaf
+-- the leaf of an escape of t with u after it: a byte that is not an ASCII one, a reference or call inside the escape,
+-- or another leaf
 abbrev pub IsSound : Text → Text → Escape → Type 0
 IsSound t u (literal_bytes b) = (0x80 ≤ b) × (b ≤ 0xFF)
 IsSound t u (backref r casei) = StandsBefore t u r.reach

@@ -27,7 +27,7 @@ by_either : (P : Escape → Type 0) (o q : Option Escape) → IfSome o P → IfS
 by_either P (Some e) q h k = h
 by_either P None q h k = k
 
--- what holds for the character as a literal and for each row holds for what the character stands for
+-- what holds for the character as a literal and for each row holds for the leaf of the character
 pub of_lone : (P : Escape → Type 0) (f : Flags) (inside : Bool) (c : ℕ) →
     (is_itself inside c ≡ true → P (literal c false)) → AtRows P c (lone_anywhere f c) →
     AtRows P c (if inside then lone_in_class c else lone_outside f c) →

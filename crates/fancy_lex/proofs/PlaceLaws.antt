@@ -1,5 +1,5 @@
--- What holds of every class: the rest of the text is a suffix of it, and the error is at a cut of the text or one past
--- its end.
+-- What holds of every class: the rest of the text is a suffix of it, and the error is at a character boundary of the
+-- text or one past its end.
 use Rattle.std.proofs.Common.{◌≡◌, ℕ, zero, suc, ◌+◌, ◌-◌, Bool, true, false, ◌||◌, ◌==◌, [], ◌∷◌, ◌++◌, Option, Some}
 use Rattle.std.proofs.Common.{None, refl, ◌<◌, arith}
 use Rattle.std.proofs.lemmas.Bool.{cond_both}
@@ -49,7 +49,7 @@ module _ (f : Flags) where
       (leaves_if (depth == 0) (whole_next t) (leaves_past past (leaves_items k (depth - 1) seen (out ++ c ∷ []) t)))
       (leaves_past past (leaves_items k depth seen (out ++ c ∷ []) t))))
 
-  -- the rest of the text is a suffix of it, or the error is at a cut of the text or one past its end
+  -- the rest of the text is a suffix of it, or the error is at a character boundary of the text or one past its end
   pub leaves_class : (t : Text) → Leaves 0 t (class f t)
   unfolding class
   leaves_class t = leaves_past (ends_class_head [] t)

@@ -76,7 +76,7 @@ pub takes_name_reading : {A : Type 0} (k : ℕ) (t u : Text) (o : Option (A × T
 takes_name_reading k t u None h = fails_at refl
 takes_name_reading k t u (Some p) h = takes h
 
--- the reference or call that a name stands for
+-- the reference or call by a name
 pub takes_by_name : {A : Type 0} (k : ℕ) (t u : Text) (f : Text → Option A) (o : Option (Text × Text)) →
     TakesSome k t o → TakesOrFails (reach_of u) k t (name_reading (reach_of u) (of_name f o))
 takes_by_name k t u f o h = takes_name_reading k t u (of_name f o) (takes_of_name k t f o h)

@@ -1,4 +1,4 @@
--- What is read at the front of a text: a word of at least so many characters.
+-- What is read at the front of a text: a word of at least k characters.
 use Rattle.std.proofs.Common.{◌≡◌, ℕ, Bool, true, false, if◌then◌else◌, ◌+◌, ◌≤◌, [], ◌∷◌, ◌++◌, length, length-append}
 use Rattle.std.proofs.Common.{append_assoc, ap, sym, ◌∙◌, refl, subst, arith, IfSome, Option, Some, None}
 use Rattle.std.proofs.lemmas.Str.{len_utf8_bounds}

@@ -59,9 +59,9 @@ class_head out t = with_mark close_bracket (with_mark caret (out ++ open_bracket
 
 -- a class under these flags
 module _ (f : Flags) where
-  -- The rest of a class inside so many outer ones, with `out` as the text that is written so far. The first number is
-  -- the number of steps left: each reads a byte or more, so it is never used up. `seen` says whether a negated set was
-  -- written before.
+  -- The rest of a class inside `outer` other classes, with `out` as the text that is written so far. The first number
+  -- is the number of steps left: each reads a byte or more, so it is never used up. `seen` says whether a negated set
+  -- was written before.
   unfoldable pub class_from : ℕ → ℕ → Bool → Text → Text → Reading Text
   class_from zero outer seen out t = fails class_not_closed
   class_from (suc k) outer seen out [] = fails class_not_closed

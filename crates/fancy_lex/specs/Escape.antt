@@ -47,7 +47,7 @@ property f inside p c (d ∷ t) =
     (λ q. gives (delegate (property_text f.unicode inside q.0) f.casei) q.1)
     (fails (property_not_closed p))
 
--- whether the character stands for itself: neither a letter nor a digit, nor `<` or `>` outside a class
+-- whether the character is a literal after a backslash: neither a letter nor a digit, nor `<` or `>` outside a class
 abbrev pub is_itself : Bool → ℕ → Bool
 is_itself inside c = not (is_ascii_alphanumeric c) && (inside || not (c ∈ "<>"))
 

@@ -1,4 +1,4 @@
--- What an escape stands for, in code.
+-- The leaves of escapes, in code.
 use Rattle.std.specs.Prelude.{[], ◌∷◌}
 use Rattle.fancy_lex.specs.Characters.{backslash}
 use Rattle.fancy_lex.specs.Escaped.{Escape, literal, literal_bytes, any, assertion, general_newline, keep_out}

@@ -1,4 +1,4 @@
--- What an escape stands for.
+-- The leaves of escapes.
 use Rattle.std.specs.Prelude.{ℕ, Bool, codes}
 use Rattle.fancy_lex.specs.Referred.{Reference, Call}
 use Rattle.fancy_lex.specs.Text.{Text}

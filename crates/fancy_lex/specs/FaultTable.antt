@@ -9,7 +9,7 @@ use Rattle.fancy_lex.specs.Fault.{changing_unicode_mode_unsupported, invalid_bac
 use Rattle.fancy_lex.specs.Fault.{invalid_group_name, invalid_group_name_backref}
 use Rattle.fancy_lex.specs.Text.{Text, reach_of, at_end}
 
--- ---- the texts of the general faults
+-- ---- the texts of the general errors
 
 abbrev pub close_paren_expected : Text
 close_paren_expected = codes "expected close paren"

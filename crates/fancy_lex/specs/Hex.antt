@@ -44,7 +44,7 @@ module _ (x : Bool) (h : ℕ) where
   unfoldable pub braced_value : Text → Reading ℕ
   braced_value t = layout_reading (layout x t) >=> (λ _ u. hex_digits 8 false 0 u)
 
-  -- a code is exactly so many digits, or one in braces if there are fewer digits: its value
+  -- a code is exactly `width` digits, or one in braces if there are fewer digits: its value
   unfoldable pub value : ℕ → Text → Reading ℕ
   value width t =
       choose (fixed_digits width 0 t) (λ p. gives p.0 p.1)

@@ -37,7 +37,7 @@ abbrev pub layout_reading : Skipped → Reading (Unit {0})
 layout_reading (rest t) = gives tt t
 layout_reading (fault p) = fails (comment_not_closed p)
 
--- the failure is the error of the reading
+-- the code's error is that of the reading
 abbrev pub Says : {A : Type 0} → Failure → Reading A → Type 0
 Says e o = MatchFailure e ⊥ (λ k p. o ≡ fault_at p k)
 
@@ -54,7 +54,7 @@ abbrev pub CarriesText : {A : Type 0} → Reading A → Type 0
 CarriesText (gives a t) = ⊥
 CarriesText (fails e) = carries_text e.kind ≡ true
 
--- the failure is the error of the reading, or memory ran out for the text that this error carries
+-- the code's error is that of the reading, or memory ran out for the text that this error carries
 abbrev pub Reports : {A : Type 0} → Failure → Reading A → Type 0
 Reports e o = MatchFailure e (CarriesText o) (λ k p. o ≡ fault_at p k)
 

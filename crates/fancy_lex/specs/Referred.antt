@@ -36,8 +36,7 @@ number_or_name w None = by_name w
 unfoldable pub target_of_name : Text → Target
 target_of_name w = number_or_name w (number_text w)
 
--- the reference at the reach p that an id reference stands for; an amount without an id is relative, and one after an
--- id is a level
+-- the reference at the reach p by an id reference; an amount without an id is relative, and one after an id is a level
 unfoldable pub reference_of : ℕ → IdReference → Reference
 reference_of p (id_alone w) = reference_to p (target_of_name w) None
 reference_of p (id_and_amount w z) = reference_to p (target_of_name w) (Some z)

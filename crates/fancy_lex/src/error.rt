@@ -8,7 +8,7 @@ use std::alloc::{AllocError, AllocFailed, Global};
 use std::fmt;
 
 /// A byte offset from the start of the pattern, at most one past its end. It is one past the end only if the pattern
-/// ends with a backslash in an unclosed comment, as `(?#a\`.
+/// ends with a backslash in an unclosed comment, such as `(?#a\`.
 pub type ParseErrorPosition = usize;
 
 /// The result of a function that parses a pattern.

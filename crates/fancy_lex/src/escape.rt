@@ -54,7 +54,7 @@ pub enum Assertion {
     NotWordBoundary,
 }
 
-/// What an escape stands for: a leaf of the tree, in fields of the same names.
+/// What an escape is parsed as: a leaf of the tree, in fields of the same names.
 #[derive(Clone, Copy)]
 pub enum Escaped<'a> {
     Literal {
@@ -140,7 +140,7 @@ fn delegate(inner: DelegateText<'static>) -> Escaped<'static>
     }
 }
 
-/// Whether the character stands for itself after a backslash. Letters and digits do not, nor do `<` and `>` outside a
+/// Whether the character is a literal after a backslash. Letters and digits are not, nor are `<` and `>` outside a
 /// class.
 fn is_itself(c: char, inside: bool) -> bool
     ensures { result ≡ spec.is_itself inside c }
@@ -282,7 +282,7 @@ fn word_boundary(c: char, boundary: Assertion, flags: Flags) -> Escaped<'static>
     }
 }
 
-/// What the letter stands for after a backslash, in a class and outside, if it is the whole escape.
+/// The leaf of the letter after a backslash, in a class and outside, if it is the whole escape.
 #[inline(always)]
 fn lone_anywhere(c: char, flags: Flags) -> Option<Escaped<'static>>
     ensures { spec.row_of c (spec.lone_anywhere flags c) ≡ option_map escape_of result }
@@ -305,7 +305,7 @@ fn lone_anywhere(c: char, flags: Flags) -> Option<Escaped<'static>>
     }
 }
 
-/// What the letter stands for after a backslash in a class, if it is the whole escape, and an escape only there.
+/// The leaf of the letter after a backslash in a class, if it is the whole escape, and an escape only there.
 fn lone_in_class(c: char) -> Option<Escaped<'static>>
     ensures { spec.row_of c (spec.lone_in_class c) ≡ option_map escape_of result }
 {
@@ -316,8 +316,7 @@ fn lone_in_class(c: char) -> Option<Escaped<'static>>
     }
 }
 
-/// What the character stands for after a backslash outside a class, if it is the whole escape, and an escape only
-/// there.
+/// The leaf of the character after a backslash outside a class, if it is the whole escape, and an escape only there.
 #[inline(always)]
 fn lone_outside(c: char, flags: Flags) -> Option<Escaped<'static>>
     ensures { spec.row_of c (spec.lone_outside flags c) ≡ option_map escape_of result }
@@ -339,8 +338,8 @@ fn lone_outside(c: char, flags: Flags) -> Option<Escaped<'static>>
     }
 }
 
-/// What the character stands for after a backslash, if it is the whole escape. None if more belongs to the escape, and
-/// for a letter that is no escape.
+/// The leaf of the character after a backslash, if it is the whole escape. None if more belongs to the escape, and for
+/// a letter that is no escape.
 #[inline(always)]
 #[tactic(auto, unfolding(crate::specs::Escape::lone_escape))]
 fn lone_escape(c: char, flags: Flags, inside: bool) -> Option<Escaped<'static>>

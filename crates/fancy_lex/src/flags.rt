@@ -1,5 +1,5 @@
 //! The flags under which a pattern is parsed, as bits of a `u32`: combine them with `|`. 0 is no flag, and other bits
-//! are ignored. The letters are those of flag groups, as `(?i)`.
+//! are ignored. The letters are those of flag groups, such as `(?i)`.
 ghost use Rattle.std.specs.Prelude.{◌≡◌};
 ghost use Rattle.fancy_lex.specs.Bits.{has_bit};
 
@@ -16,7 +16,7 @@ pub const FLAG_SWAP_GREED: u32 = 8;
 /// parsed as `ab`.
 pub const FLAG_IGNORE_SPACE: u32 = 16;
 /// Unicode: `\x80` is the character U+0080, and a byte without the flag; properties are rewritten as Unicode's. A
-/// pattern cannot change it. `parse_tree` parses under this flag alone.
+/// pattern cannot change it. `parse_tree` parses under this flag only.
 pub const FLAG_UNICODE: u32 = 32;
 /// CR is a line terminator too, and CR LF a single one (`R`): `.`, `\Z`, and under `FLAG_MULTI` `^` and `$`,
 /// have `crlf`.

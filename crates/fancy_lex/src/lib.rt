@@ -1,4 +1,4 @@
-//! The lowest layer: flags, errors, and what is read from the text without knowing a tree.
+//! The lowest layer: flags, errors, and the readers that need no tree.
 #![tactic(auto)]
 
 pub mod class;

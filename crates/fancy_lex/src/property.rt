@@ -149,7 +149,7 @@ fn turn(negated: bool, name: &str) -> (bool, &str)
     }
 }
 
-/// Whether what is written is a negated set that names properties or other classes.
+/// Whether the text that is written is a negated set that names properties or other classes.
 fn is_negated_form(known: KnownName, negated: bool, unicode: bool) -> bool
     ensures { (inside : Bool) (name : Text) →
         result ≡ spec.is_negated_set (spec.form_text inside negated (spec.form unicode known name)) }
@@ -163,7 +163,7 @@ fn is_negated_form(known: KnownName, negated: bool, unicode: bool) -> bool
     }
 }
 
-/// Whether what is written for the property is a negated set that names properties or other classes.
+/// Whether the text that is written for the property is a negated set that names properties or other classes.
 #[tactic(auto, unfolding(crate::specs::Property::property_text))]
 pub(crate) fn is_negated(property: Property, unicode: bool) -> bool
     ensures { (inside : Bool) →

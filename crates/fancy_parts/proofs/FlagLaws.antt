@@ -1,5 +1,5 @@
--- The letters of a flag group: the rest of the text is a suffix of it, and the error is at a cut of the text or one
--- past its end.
+-- The letters of a flag group: the rest of the text is a suffix of it, and the error is at a character boundary of the
+-- text or one past its end.
 use Rattle.std.proofs.Common.{ℕ, zero, suc, Bool, false, [], ◌∷◌, Option, Some, None}
 use Rattle.fancy_lex.proofs.EscapeLaws.{leaves_layout}
 use Rattle.fancy_lex.proofs.LeaveLaws.{ends_whole, stands_here, stands_end, Leaves, leaves, whole_next, leaves_none}

@@ -21,7 +21,7 @@ front_read t w u e =
     let n : length t - length u ≡ length w = omega (arith, ap length e, length-append w u) in
     rw n (ap (take (length w)) e ∙ take-append_seam w u)
 
--- one character more is read
+-- one more character is read
 pub behind_next : (t h : Text) (c : ℕ) (u : Text) → (w : Text) × (t ≡ w ++ h) → h ≡ c ∷ u → (w : Text) × (t ≡ w ++ u)
 behind_next t h c u (w, e) f = (w ++ c ∷ [], e ∙ ap (λ x. w ++ x) f ∙ sym (append_assoc w (c ∷ []) u))
 

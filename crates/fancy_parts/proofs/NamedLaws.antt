@@ -70,7 +70,7 @@ or_false : (a b : Bool) → (a || b) ≡ false → (a ≡ false) × (b ≡ false
 or_false true b h = absurd cc
 or_false false b h = (refl, h)
 
--- f, with one number more for the name
+-- f, with one more number for the name
 abbrev with_one : Text → ℕ → (Text → List ℕ) → Text → List ℕ
 with_one t n f u = if bytes_eq u t then f u ++ (n ∷ []) else f u
 
@@ -259,6 +259,6 @@ groups_in_more s l reach name e =
     ∙ sym (fold-append (λ g (x : Opening). with_group g x.name) no_groups l (o ∷ []))
     ∙ groups_in_all (openings_with l reach name)
 
--- so numbers_under gives the numbers of each name
+-- so `numbers_under` gives the numbers of each name
 pub groups_in_under : (s : Groups) (l : List Opening) → s ≡ groups_in l → numbers_under s.names ≡ (λ t. numbers t l)
 groups_in_under s l e = ap (λ (g : Groups). numbers_under g.names) e ∙ (λ i t. under_named l t i)

@@ -106,7 +106,7 @@ fn add_number(
     Ok(())
 }
 
-/// What a target refers to after the openings of so many groups. Memory is allocated only for the text of an error.
+/// What a target refers to after the openings of `passed` groups. Memory is allocated only for the text of an error.
 pub fn meaning_behind(
     groups: &Groups,
     passed: usize,
@@ -133,7 +133,7 @@ pub fn meaning_behind(
     }
 }
 
-/// What a name refers to after the openings of so many groups, if its groups have these numbers.
+/// What a name refers to after the openings of `passed` groups, if its groups have these numbers.
 fn by_name(
     role: Role,
     passed: usize,

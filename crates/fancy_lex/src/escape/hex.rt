@@ -26,7 +26,7 @@ fn hex_digit(text: &str) -> Option<(u32, &str)>
     Some((digit, rest))
 }
 
-/// Reads so many digits, if they are at the front.
+/// Reads `width` digits, if they are at the front.
 fn fixed_digits(text: &str, width: u32) -> Option<(u32, &str)>
     requires { width ≤ 8 }
     ensures value { spec.fixed_digits width 0 (chars text.now) ≡ option_map (λ p. (p.0, chars p.1.now)) result }
@@ -83,7 +83,7 @@ fn braced_value(text: &str, ignore_space: bool, reach: usize) -> Result<(u32, &s
     hex_digits(rest, ignore_space, reach)
 }
 
-/// Reads a code of so many digits, or one in braces; its error is at `reach`.
+/// Reads a code of `width` digits, or one in braces; its error is at `reach`.
 #[tactic(auto, unfolding(crate::specs::Hex::value))]
 fn value(text: &str, width: u32, ignore_space: bool, reach: usize) -> Result<(u32, &str), Failure>
     requires width { width ≤ 8 }
@@ -99,8 +99,8 @@ fn value(text: &str, width: u32, ignore_space: bool, reach: usize) -> Result<(u3
     }
 }
 
-/// What a value stands for: after `\x` without UNICODE, a byte if it is from 80 to FF; otherwise a character. None for
-/// a value that is no scalar value.
+/// The leaf of a value: after `\x` without UNICODE, a byte if it is from 80 to FF; otherwise a character. None for a
+/// value that is no scalar value.
 #[inline(always)]
 #[tactic(auto, unfolding(crate::specs::Hex::leaf_of_value))]
 fn leaf_of_value(value: u32, width: u32, flags: Flags) -> Option<Escaped<'static>>
@@ -131,7 +131,7 @@ fn read_hex<'a>(text: &'a str, width: u32, flags: Flags) -> Result<(Escaped<'a>,
     }
 }
 
-/// The code at the front with so many digits and no layout before them, if its value is a byte or a character.
+/// The code at the front with `width` digits and no layout before them, if its value is a byte or a character.
 #[inline(always)]
 #[tactic(auto, unfolding(crate::specs::Hex::hex, crate::specs::Hex::value))]
 pub(crate) fn short_hex(text: &str, width: u32, flags: Flags) -> Option<(Escaped<'static>, &str)>

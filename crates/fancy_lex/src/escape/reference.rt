@@ -76,7 +76,7 @@ pub fn is_relative(name: &str) -> bool
     next(rest).is_none() || number_text(rest).is_some()
 }
 
-/// What a call by this name calls; None if the name is relative and no id reference.
+/// The group that a call by this name calls; None if the name is relative and no id reference.
 #[tactic(auto, unfolding(crate::specs::EscapeReference::call_target))]
 fn call_target(name: &str) -> Option<Target<'_>>
     ensures value { spec.call_target (chars name.now) ≡ option_map view_borrowed result }

@@ -103,9 +103,9 @@ fn amount_alone(text: &str) -> Option<IdReference<'_>>
     }
 }
 
-/// What the whole text stands for as an id reference: an id, and if `relative` allows it, an amount after it or instead
-/// of it, which is a sign and the ASCII digits of a number of at most `isize::MAX`; 0 only after an id. None for any
-/// other text.
+/// Parses the whole text as an id reference: an id, and if `relative` allows it, an amount after it or instead of it,
+/// which is a sign and the ASCII digits of a number of at most `isize::MAX`; 0 only after an id. None for any other
+/// text.
 #[tactic(auto, unfolding(crate::specs::IdReference::id_reference))]
 pub fn id_reference(text: &str, relative: bool) -> Option<IdReference<'_>>
     ensures value { reference.id_reference relative (chars text.now) ≡ option_map view_id_reference result }

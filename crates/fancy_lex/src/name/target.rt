@@ -22,7 +22,7 @@ pub enum Target<'a> {
     ByNumber(usize),
     /// The last group of this name.
     ByName(&'a str),
-    /// So many groups before or after the reference.
+    /// Relative to the reference: -1 is the last group that opens before it, and 1 the first that opens after it.
     Relative(isize),
 }
 
@@ -124,9 +124,8 @@ fn written_reference(text: &str, amounts: bool, reach: usize) -> Option<Referenc
     }
 }
 
-/// The reference that the name stands for, whose position has the reach, and the text after it, if a name was found;
-/// `amounts` allows amounts. The error is InvalidGroupName at the reach, if no name was found, or one that is no id
-/// reference.
+/// The reference by this name at the reach, and the text after it, if a name was found; `amounts` allows amounts. The
+/// error is InvalidGroupName at the reach, if no name was found, or one that is no id reference.
 #[inline(always)]
 #[tactic(auto, unfolding(crate::specs::Referred::reference_by_name))]
 pub fn reference_by_name<'a>(
