@@ -1,4 +1,4 @@
--- Of ASCII letters, digits and `_` are id characters, and no others.
+-- The id characters of ASCII are the letters, the digits and `_`.
 use Rattle.std.proofs.Common.{◌≡◌, ℕ, ◌<◌, Bool, true, false, not, ◌&&◌, ◌||◌, ◌==◌, zero, suc, refl, ◌∙◌, subst, arith}
 use Rattle.std.proofs.lemmas.Bool.{and_parts}
 use Rattle.std.proofs.lemmas.Bool.Decides.{nat_tests}
@@ -26,7 +26,7 @@ agrees_same false false h = refl
 agrees_same true false h = absurd cc
 agrees_same false true h = absurd cc
 
--- the first n characters are told so
+-- the two tests agree on the first n characters
 are_told : ℕ → Bool
 are_told zero = true
 are_told (suc n) = agrees (is_id_char n) (is_ascii_id_char n) && are_told n

@@ -1,4 +1,4 @@
--- A boundary's name, and the words that are spelled.
+-- A boundary's name, and the known names at the front of a text.
 use Rattle.std.proofs.Common.{◌≡◌, ℕ, zero, suc, ◌<◌, Bool, true, false, not, ◌&&◌, ◌==◌, [], ◌∷◌, length, codes}
 use Rattle.std.proofs.Common.{Option, Some, None, refl, ap, sym, ◌∙◌, arith}
 use Rattle.std.proofs.lemmas.Bool.{false≢true}
@@ -21,12 +21,12 @@ use Rattle.fancy_lex.proofs.BoundaryLemmas.{name_start, name_end, name_start_hal
 use Rattle.fancy_lex.proofs.LayoutLaws.{layout_length}
 use Rattle.fancy_lex.proofs.TextLemmas.{strip_is, strip_same}
 
--- no closing brace stands in the word
+-- whether the word has no closing brace
 abbrev pub no_brace : Text → Bool
 no_brace [] = true
 no_brace (c ∷ w) = not (c == close_brace) && no_brace w
 
--- the tests of two words, from those of their characters
+-- the tests of a word, from the tests of its characters
 plain_head : (c : ℕ) (w : Text) → no_brace (c ∷ w) ≡ true → ((c == close_brace) ≡ false) × (no_brace w ≡ true)
 plain_head c w b = by (c == close_brace) refl b where
   by : (h : Bool) → (c == close_brace) ≡ h → (not h && no_brace w) ≡ true → (h ≡ false) × (no_brace w ≡ true)
@@ -53,7 +53,7 @@ module _ (x : Bool) (p k : ℕ) (t : Text) where
   unfolding name
   name_step c r e h = rw (e, h) refl
 
--- a spelled word is the name: one step, where it is so for the steps left
+-- if the text begins with a word and a closing brace, the word is the name: one step, given the same for the steps left
 module _ (x : Bool) (p k : ℕ) (v : Text)
     (more : (w r : Text) → no_brace w ≡ true → length r < k → after_name x w r ≡ Some v → name x p k r ≡ gives w v)
     (t : Text) (few : length t < suc k) where
@@ -82,14 +82,14 @@ module _ (x : Bool) (p k : ℕ) (v : Text)
   gives_at (rest u) q w b e = gives_rest u q w b e
   gives_at (fault m) q w b e = let none = sym (after_name_open x w t (ap rest_of q)) ∙ e in absurd (cc)
 
--- a spelled word is the name
+-- if the text begins with a word and a closing brace, the word is the name
 pub after_name_gives : (x : Bool) (p k : ℕ) (v w t : Text) → no_brace w ≡ true → length t < k →
     after_name x w t ≡ Some v → name x p k t ≡ gives w v
 after_name_gives x p zero v w t b l e = absurd (omega arith)
 after_name_gives x p (suc k) v w t b l e =
     gives_at x p k v (after_name_gives x p k v) t l (layout x t) refl w b e
 
--- and the name is spelled: one step
+-- conversely, the text begins with the name and a closing brace: one step, given the same for the steps left
 module _ (x : Bool) (p k : ℕ) (more : (w r v : Text) → name x p k r ≡ gives w v → after_name x w r ≡ Some v)
     (t w v : Text) (e : name x p (suc k) t ≡ gives w v) where
   spells_step : (c : ℕ) (r : Text) → layout x t ≡ rest (c ∷ r) → (c == close_brace) ≡ false → (o : Reading Text) →
@@ -142,7 +142,7 @@ module _ (x : Bool) (p : ℕ) (t v : Text) where
       let pair : ◌≡◌ {A = Assertion × Text} (b, r) (a, v) = cc in
       h ∙ ap (λ (q : Assertion × Text). gives (assertion q.0) q.1) pair
 
--- which of the words is spelled
+-- which of the known names is at the front
 data Word (x : Bool) (t : Text) : Type 0 where
   word : (w v : Text) (a : Assertion) → no_brace w ≡ true → boundary_of_name false w ≡ Some a →
       after_name x w t ≡ Some v → known_boundary x t ≡ Some (a, v) → Word x t
@@ -180,7 +180,7 @@ braced_named x p t v a e =
       | no_word _ _ _ _ s ↦ let none = sym s ∙ e in absurd (cc)
     ]
 
--- no name is a word that is not spelled
+-- the name is different from a word that is not at the front
 not_word : (x : Bool) (p k : ℕ) (t w v known : Text) → name x p k t ≡ gives w v →
     after_name x known t ≡ None → bytes_eq w known ≡ false
 not_word x p k t w v known e h = by (bytes_eq w known) refl where
@@ -191,7 +191,7 @@ not_word x p k t w v known e h = by (bytes_eq w known) refl where
       let some = sym h ∙ gives_after_name x p k known t v (e ∙ ap (λ u. gives u v) same) in
       absurd (cc)
 
--- so it is refused
+-- so the name is unknown
 module _ (x : Bool) (p : ℕ) (t : Text) (a : after_name x (codes "start") t ≡ None)
     (b : after_name x (codes "end") t ≡ None) (d : after_name x (codes "start-half") t ≡ None)
     (e : after_name x (codes "end-half") t ≡ None) where

@@ -16,7 +16,7 @@ use Rattle.fancy_lex.specs.BoundaryName.{after_name, known_boundary, name_fault_
 use Rattle.fancy_lex.specs.declared.escape.Assertion.TheVariants.{LeftWordBoundary, RightWordBoundary}
 use Rattle.fancy_lex.specs.declared.escape.Assertion.TheVariants.{LeftWordHalfBoundary, RightWordHalfBoundary}
 
--- no word is spelled where a comment is open
+-- if a comment is not closed, the text begins with no name
 pub after_name_open : (x : Bool) (word t : Text) → past_layout x t ≡ None → after_name x word t ≡ None
 unfolding after_name
 after_name_open x [] t e = rw e refl
@@ -39,7 +39,7 @@ module _ (x : Bool) (word t : Text) where
 
 pub ruleset after_name_steps = (after_name_open, after_name_end, after_name_step, after_name_other)
 
--- the names, by the words that are spelled
+-- the known names, by the names that are at the front
 module _ (x : Bool) (t : Text) where
   pub name_start : (v : Text) → after_name x (codes "start") t ≡ Some v →
       known_boundary x t ≡ Some (LeftWordBoundary, v)
@@ -62,12 +62,12 @@ module _ (x : Bool) (t : Text) where
   unfolding known_boundary
   name_end_half o a b d e = rw (a, b, d, e) refl
 
--- layout that reads as a rest is that rest
+-- layout whose reading gives a rest has that rest
 pub rest_from_reading : (o : Skipped) (u : Text) → layout_reading o ≡ gives tt u → o ≡ rest u
 rest_from_reading (rest v) u e = cc
 rest_from_reading (fault p) u e = cc
 
--- the name behind one more character
+-- a name with one more character
 longer : {B : Type 0} (o : Reading Text) (f : Text → Reading B) (c : ℕ) →
     (o >=> (λ w v. gives (c ∷ w) v) >=> (λ w v. f w)) ≡ (o >=> (λ w v. f (c ∷ w)))
 longer (gives w v) f c = refl
@@ -78,7 +78,7 @@ same_after : {B : Type 0} (o : Reading Text) (f g : Text → Reading B) → ((w 
 same_after (gives w v) f g h = h w
 same_after (fails e) f g h = refl
 
--- one step of the name that a fault tells
+-- one step of the name that an error reports
 module _ (x : Bool) (p : ℕ) (out t : Text) where
   pub name_fault_open : (k : ℕ) (b : Failure) → 0 < k → Says b (layout_reading (layout x t)) →
       Reports b (name_fault_behind x p out k t)
@@ -116,7 +116,7 @@ pub name_fault_from : (x : Bool) (p : ℕ) (negated : Bool) (out t : Text) → o
 unfolding name_fault
 name_fault_from x p negated out t e = ap (λ o. name_fault_behind x p o (suc (length t)) t) (sym e)
 
--- a step leaves less of the text
+-- the rest of the text is shorter after a step
 pub step_length : (x : Bool) (t u r : Text) (c k : ℕ) → layout_reading (layout x t) ≡ gives tt u → u ≡ c ∷ r →
     length t < k → length r < pred k
 step_length x t u r c k e q m = let short = layout_length x t u (rest_from_reading _ u e) in

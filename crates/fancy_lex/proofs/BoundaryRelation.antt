@@ -1,4 +1,4 @@
--- A boundary's relation holds of exactly what the function answers.
+-- The relation of a boundary holds exactly of the function's result.
 use Rattle.std.proofs.Common.{◌≡◌, ◌≢◌, ℕ, zero, suc, ◌<◌, Bool, true, false, ◌==◌, [], ◌∷◌, length, List, Result}
 use Rattle.std.proofs.Common.{Option, Some, None, refl, ap, ◌∙◌, subst, arith}
 use Rattle.std.proofs.lemmas.Bool.Decides.{nat_tests}
@@ -37,7 +37,7 @@ brace_is_not c e = grind (arith, nat_tests)
 -- ---- the name in braces
 
 module _ (x : Bool) (p : ℕ) where
-  -- what the function answers, with more steps left than characters
+  -- the function's result, with more steps left than there are characters
   named_more : (c : ℕ) (t u : Text) → c ≢ close_brace → Before x t (c ∷ u) → (o : Reading Text) → BracedName x p u o →
       BracedName x p t (o >=> (λ w v. gives (c ∷ w) v))
   named_more c t u d b (gives w v) h = character d b h
@@ -64,7 +64,7 @@ module _ (x : Bool) (p : ℕ) where
   named zero t l = absurd (omega arith)
   named (suc k) t l = named_at k (named k) t l (layout x t) refl
 
-  -- whatever the relation gives is the function's answer: by induction on the derivation
+  -- each result in the relation is the function's: by induction on the derivation
   name_is : (k : ℕ) {t : Text} {o : Reading Text} → BracedName x p t o → length t < k → name x p k t ≡ o
   name_is zero h l = absurd (omega arith)
   name_is (suc k) {t} (close {v} b) l = name_close x p k t close_brace v (layout_complete x t _ b) refl
@@ -81,7 +81,7 @@ module _ (x : Bool) (p : ℕ) where
       name_step x p k t c u i (brace_is_not c d)
       ∙ ap (λ o. o >=> (λ w v. gives (c ∷ w) v)) (name_is k h (omega arith))
 
--- ---- the boundary behind its letter
+-- ---- the boundary after its letter
 
 module _ (x : Bool) (p : ℕ) (negated : Bool) where
   answer_open : (t : Text) (q : ℕ) → layout x t ≡ fault q → boundary x p negated t ≡ fails (comment_not_closed q)
@@ -125,7 +125,7 @@ module _ (x : Bool) (p : ℕ) (negated : Bool) where
   unfolding named_boundary
   answer_not_read i f e = rw e refl
 
-  -- the relation holds of what the function answers
+  -- the relation holds of the function's result
   by_name : (t i : Text) → Braces x t i false → (o : Reading Text) → name x p (suc (length i)) i ≡ o →
       BracedName x p i o →
       Boundary x p negated t (named_boundary x p negated i)
@@ -161,7 +161,7 @@ module _ (x : Bool) (p : ℕ) (negated : Bool) where
   by_layout t (fault q) e = rw (answer_open t q e) (comment_open_before (unclosed_sound x t q e))
   by_layout t (rest u) e = by_brace t u e (strip open_brace u) refl
 
-  -- whatever the relation gives is the function's answer
+  -- each result in the relation is the function's
   name_answer : {i : Text} {o : Reading Text} → BracedName x p i o → name x p (suc (length i)) i ≡ o
   name_answer {i} h = name_is x p (suc (length i)) h (omega arith)
 

@@ -1,4 +1,4 @@
--- The reading function and the relation are one.
+-- The relation of a class holds exactly of the function's result.
 use Rattle.std.proofs.Common.{◌≡◌, ◌≢◌, Result, Ok, Err, String, IfOk, chars, ℕ, zero, suc, pred, ◌+◌, ◌-◌}
 use Rattle.std.proofs.Common.{◌<◌, ◌≤◌, Bool, true, false, ◌==◌, ◌||◌, if◌then◌else◌, List, [], ◌∷◌, ◌++◌, Option, Some}
 use Rattle.std.proofs.Common.{None, refl, ap, sym, ◌∙◌, arith, append_assoc, subst, ◌⊎◌, inl, inr}
@@ -31,7 +31,7 @@ bytes_cons : (c : ℕ) (t : Text) → bytes t < bytes (c ∷ t)
 unfolding bytes
 bytes_cons c t = omega (arith, len_utf8_bounds c)
 
--- What begins a class.
+-- The opening of a class.
 
 strip_bytes : (m : ℕ) (t u : Text) → strip m t ≡ Some u → bytes u < bytes t
 strip_bytes m [] u e = cc
@@ -69,7 +69,7 @@ class_head_bytes t =
     let start : Text × Text = (open_bracket ∷ [], t) in
     omega (arith, mark_bytes close_bracket (with_mark caret start), mark_bytes caret start)
 
--- What the relation says, the function answers: by induction on the derivation.
+-- Each result in the relation is the function's: by induction on the derivation.
 
 module _ (f : Flags) where
   abbrev ended : ℕ → ℕ → Bool → Text → Text → Reading Text
@@ -87,7 +87,7 @@ module _ (f : Flags) where
   items_closing zero depth b out v m = absurd (omega arith)
   items_closing (suc k) depth b out v m = refl
 
--- what the function does with k steps left, where the relation says o
+-- what the function returns with k steps left, if the relation has the result o
 abbrev Runs : Flags → Reading Text → Text → ℕ → Text → Written → Type 0
 Runs f here t depth out (written w a v) =
     (j : ℕ) × (bytes v < j) × (bytes v < bytes t) × (here ≡ ended f j depth a (out ++ w) v)
@@ -96,7 +96,7 @@ Runs f here t depth out (fault e) = here ≡ fails e
 abbrev at_class : Flags → ℕ → ℕ → Bool → Text → Text → Reading Text
 at_class f k depth b out t = class_from f k depth b (class_head out t).0 (class_head out t).1
 
--- one step, for which x is written, and what comes of the rest
+-- one step, for which x is written, and the result of the rest
 after : (f : Flags) (here there : Reading Text) (t s : Text) (depth : ℕ) (out x : Text) → here ≡ there →
     bytes s ≤ bytes t → (w : Text) (a : Bool) (v : Text) → Runs f there s depth (out ++ x) (written w a v) →
     Runs f here t depth out (written (x ++ w) a v)
@@ -122,7 +122,7 @@ module _ (f : Flags) (k depth : ℕ) (b : Bool) (out t : Text) where
       class_from f k depth b out (c ∷ t) ≡ class_from f (pred k) depth b (out ++ c ∷ []) t
   plain_item c p m = let (x, y, z) = not_special c p in items_plain f depth b out (c ∷ t) c t refl k m x y z
 
-  -- what is left of t is less than the steps
+  -- the number of steps left is greater than the length of the rest in bytes
   step_left : (c : ℕ) → bytes (c ∷ t) < k → bytes t < pred k
   step_left c l = pred_lt (bytes t) (bytes (c ∷ t)) k (bytes_cons c t) l
 
@@ -184,7 +184,7 @@ mutual
       items_open f depth b out (open_bracket ∷ t) open_bracket t refl k (positive _ k l) refl ∙ q
       ∙ ended_inside f j depth m (out ++ x) u ∙ run_items h j depth (out ++ x) more
 
--- the function's answer, as the relation puts it
+-- the function's result for a result of the relation
 abbrev answer : Written → Reading Text
 answer (written w a v) = gives w v
 answer (fault e) = fails e
@@ -198,7 +198,7 @@ pub class_is : (f : Flags) (t : Text) (o : Reading Text) → OuterClass f t o �
 class_is f t (gives out v) (a, h) = class_complete f t _ h
 class_is f t (fails e) h = class_complete f t _ h
 
--- Every text reads, or has a fault.
+-- Each text has a result in the relation: a class or an error.
 
 abbrev Less : Text → Written → Type 0
 Less t (written w a v) = bytes v < bytes t
@@ -285,7 +285,7 @@ class_reads f t =
     (items_read f (suc (bytes p.1)) false p.1 (omega arith)) in
     subst (OuterClass f t) (sym (class_complete f t o h)) (outer f t o h)
 
--- What follows does not matter: by induction on the derivation.
+-- The result does not depend on the text after the class: by induction on the derivation.
 
 items_some : {f : Flags} {b a : Bool} {t w v : Text} → ClassItems f b t (written w a v) →
     (c : ℕ) × (u : Text) × (t ≡ c ∷ u)
@@ -294,7 +294,7 @@ items_some (plain {c} {t} p h) = (c, t, refl)
 items_some (escaped {t} q h) = (backslash, t, refl)
 items_some (nested {t} g h) = (open_bracket, t, refl)
 
--- with s behind what is left
+-- the same with s after the rest of the text
 abbrev pub before : Text → Text × Text → Text × Text
 before s p = (p.0, p.1 ++ s)
 

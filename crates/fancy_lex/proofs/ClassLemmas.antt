@@ -1,4 +1,4 @@
--- One step of a class, where k steps are left.
+-- One step of a class, with k steps left.
 use Rattle.std.proofs.Common.{◌≡◌, ◌≢◌, ℕ, zero, suc, pred, ◌+◌, ◌-◌, ◌<◌, Bool, true, false, ◌||◌, ◌==◌, [], ◌∷◌, ◌++◌}
 use Rattle.std.proofs.Common.{refl, ap, sym, ◌∙◌, arith}
 use Rattle.std.proofs.lemmas.Bool.Decides.{nat_tests}
@@ -72,7 +72,7 @@ module _ (f : Flags) where
   class_init t o out rest z e = ap (λ (p : Text × Text). class_from f (suc (bytes t)) 0 false p.0 p.1)
       (ap (λ u. class_head u t) (sym z) ∙ e)
 
--- the same, where the code holds the parts
+-- the same for the parts that the code has
 module _ (f : Flags) (depth : ℕ) (seen : Bool) (out t : Text) (c : ℕ) (r : Text) (e : t ≡ c ∷ r) (k : ℕ)
     (some : 0 < k) where
   pub open_step : (o u : Text) → c ≡ open_bracket → ◌≡◌ {A = Text × Text} (class_head out r) (o, u) →

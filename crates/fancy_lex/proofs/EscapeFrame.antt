@@ -1,4 +1,4 @@
--- In a class an escape reads the same whatever follows it.
+-- In a class the result of an escape does not depend on the text after it.
 use Rattle.std.proofs.Common.{◌≡◌, ◌≢◌, ℕ, zero, suc, ◌+◌, ◌*◌, Bool, true, false, ◌&&◌, ◌==◌, nat_lt, if◌then◌else◌}
 use Rattle.std.proofs.Common.{is_some, not, nat_le, option_and_then, [], ◌∷◌, ◌++◌, Option, Some, None, option_map}
 use Rattle.std.proofs.Common.{refl, ap, sym, ◌∙◌, arith, subst, ◌⊎◌, inl, inr}
@@ -24,14 +24,14 @@ use Rattle.fancy_lex.specs.Text.{Text, reach_of, strip, cut_at}
 use Rattle.fancy_lex.specs.declared.flags.Flags.{Flags}
 use Rattle.fancy_lex.proofs.LayoutLemmas.{between_step}
 
--- Layout that a character other than `(` follows is the same whatever follows that.
+-- Layout before a character other than `(` does not depend on the text after that character.
 
 from_if : (b : Bool) (p q p' q' a z : Skipped) → (p ≡ a → p' ≡ z) → (q ≡ a → q' ≡ z) → (if b then p else q) ≡ a →
     (if b then p' else q') ≡ z
 from_if true p q p' q' a z f g e = f e
 from_if false p q p' q' a z f g e = g e
 
--- with s behind a text, a comment that is open in it stays open
+-- an open comment stays open with s after the text
 opened_more : (d : ℕ) (t s : Text) → is_some (after_comment_head (d ∷ t)) ≡ true →
     is_some (after_comment_head (d ∷ (t ++ s))) ≡ true
 opened_more d [] s e = grind (arith, nat_tests)
@@ -51,7 +51,7 @@ rest_same v w e = cc
 first_same : (c d : ℕ) (t u : Text) → ◌≡◌ {A = Text} (c ∷ t) (d ∷ u) → c ≡ d
 first_same c d t u e = cc
 
--- a step between units, where b says whether a comment opens
+-- a step between units; b says whether a comment opens
 abbrev step_on : Bool → Bool → ℕ → Text → Skipped
 step_on x b d t =
     if b then layout_from x two t
@@ -104,22 +104,22 @@ module _ (x : Bool) (s : Text) (c : ℕ) (r : Text) (paren : c ≢ open_paren) w
   layout_from_frame [] line e = absurd cc
   layout_from_frame (d ∷ t) st e = from_next d t (layout_from_frame t) st e
 
--- layout stays the same where it ends before another character than `(`
+-- layout before a character other than `(` stays the same with s after the text
 pub layout_frame : (x : Bool) (t s : Text) (c : ℕ) (r : Text) → c ≢ open_paren → layout x t ≡ rest (c ∷ r) →
     layout x (t ++ s) ≡ rest ((c ∷ r) ++ s)
 layout_frame x t s c r h e = layout_from_frame x s c r h t between e
 
--- A reading whose text may have s behind it, and then has s behind what is left, and nothing else is changed.
+-- With s after its text, a reading returns the same value, and s after the rest of the text.
 
 abbrev Stays : {A : Type 0} → Reading A → (Text → Reading A) → Type 0
 Stays (gives a u) there = (s : Text) → there s ≡ gives a (u ++ s)
 Stays (fails e) there = Unit {0}
 
--- the text begins with another character than `(`
+-- the text begins with a character other than `(`
 abbrev Begins : Text → Type 0
 Begins t = (c : ℕ) × (r : Text) × (t ≡ c ∷ r) × (c ≢ open_paren)
 
--- the same of a reading that gives nothing where its text begins otherwise
+-- the same for a reading that returns a value only if its text begins like this
 abbrev Firm : {A : Type 0} → Text → Reading A → (Text → Reading A) → Type 0
 Firm t (gives a u) there = Begins t × ((s : Text) → there s ≡ gives a (u ++ s))
 Firm t (fails e) there = Unit {0}
@@ -134,7 +134,7 @@ firm_from : {A : Type 0} (c : ℕ) (t : Text) (o : Reading A) (there : Text → 
 firm_from c t (gives a u) there h same = ((c, t, refl, h), same)
 firm_from c t (fails e) there h k = tt
 
--- behind layout
+-- after layout
 behind_layout : {A : Type 0} (x : Bool) (t : Text) (R : Text → Reading A) (S : Text → Text → Reading A) →
     ((v : Text) → Firm v (R v) (λ s. S s (v ++ s))) →
     Stays (layout_reading (layout x t) >=> (λ _ v. R v))
@@ -152,7 +152,7 @@ behind_layout {A = A} x t R S firm = by_layout (layout x t) refl where
   by_layout (rest v) e = by_reading v e (R v) (firm v)
   by_layout (fault p) e = tt
 
--- Hex codes, whose reaches h and h' serve for faults alone.
+-- Hex codes, whose reaches h and h' are used only for errors.
 
 is_hex : (c : ℕ) → nat_lt (digit_value c) 16 ≡ true → c ≢ open_paren
 is_hex c h = grind (arith, nat_tests)
@@ -177,7 +177,7 @@ module _ (x : Bool) (h : ℕ) (h' : Text → ℕ) where
   abbrev DigitsFirm : ℕ → Bool → ℕ → Type 0
   DigitsFirm k some v = (t : Text) → Firm t (hex_digits x h k some v t) (λ s. hex_digits x (h' s) k some v (t ++ s))
 
-  -- behind a digit come layout and more digits, else the closing brace
+  -- after a digit there are layout and more digits, or otherwise the closing brace
   digits_on : (k : ℕ) (some : Bool) (v d c : ℕ) (t : Text) → ((v : ℕ) → DigitsFirm k true v) → (b : Bool) →
       (b ≡ true → c ≢ open_paren)
       → Firm (c ∷ t)
@@ -208,7 +208,7 @@ module _ (x : Bool) (h : ℕ) (h' : Text → ℕ) where
       (behind_layout x t (hex_digits x h 8 false 0) (λ s v. hex_digits x (h' s) 8 false 0 v)
       (digits_firm 8 false 0))
 
--- the same of what reads a value or nothing
+-- the same for a reader of an optional value
 abbrev pub StaysSome : {A : Type 0} → Option (A × Text) → (Text → Option (A × Text)) → Type 0
 StaysSome (Some p) there = (s : Text) → there s ≡ Some (p.0, p.1 ++ s)
 StaysSome None there = Unit {0}
@@ -240,7 +240,7 @@ fixed_stays zero v t = λ s. refl
 fixed_stays (suc k) v [] = tt
 fixed_stays (suc k) v (c ∷ t) = fixed_on k v (digit_value c) t (λ v. fixed_stays k v t) (nat_lt (digit_value c) 16)
 
--- a run of digits begins with a digit
+-- a run of digits does not begin with `(`
 fixed_paren : (k v c : ℕ) (t : Text) → c ≡ open_paren → fixed_digits (suc k) v (c ∷ t) ≡ None
 unfolding fixed_digits hex_digit
 fixed_paren k v c t e = rw e refl
@@ -371,7 +371,7 @@ escape_stays f p q (c ∷ t) =
     (stays_if (c ∈ "U") _ _ _ _ (hex_stays f 7 t)
     (stays_if (c ∈ "pP") _ _ _ _ (property_stays f p q c t) (lone_stays p q c t (lone_escape f true c))))))
 
--- what the escape stands for and what is left stay the same
+-- the value of the escape and the rest of the text stay the same
 pub escape_frame : (f : Flags) (t u s : Text) (e : Escape) → escape f true t ≡ gives e u →
     escape f true (t ++ s) ≡ gives e (u ++ s)
 escape_frame f t u s e h =

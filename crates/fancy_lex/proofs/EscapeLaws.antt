@@ -1,5 +1,5 @@
--- What holds of every escape: it leaves the end of the text, and its fault stands at a cut of the text or one past its
--- end.
+-- What holds of every escape: the rest of the text is a suffix of it, and the error is at a character boundary of the
+-- text or one past its end.
 use Rattle.std.proofs.Common.{length, codes, ◌≡◌, ℕ, zero, suc, ◌+◌, ◌*◌, ◌≤◌, Bool, true, false, ◌==◌, nat_lt}
 use Rattle.std.proofs.Common.{if◌then◌else◌, [], ◌∷◌, ◌++◌, Option, Some, None, option_map, refl, subst, arith}
 use Rattle.std.specs.Char.{digit_value}
@@ -72,7 +72,7 @@ leaves_read : (negated : Bool) (t : Text) → LeavesSome t (read_property negate
 unfolding read_property
 leaves_read negated t = some_map t (name_at t) _ (leaves_name_at t)
 
--- readers that are told the reach p
+-- readers that get the reach p
 module _ (p : ℕ) where
   pub leaves_layout : (x : Bool) (t : Text) → Leaves p t (layout_reading (layout x t))
   leaves_layout x t = at (layout x t) refl where
@@ -80,7 +80,7 @@ module _ (p : ℕ) where
     at (rest u) e = leaves (layout_cut x t u e)
     at (fault q) e = leaves_none (layout_stands p x t q e)
 
--- hex codes, where the reach h is told
+-- hex codes, which get the reach h
 module _ (h : ℕ) where
   module _ (x : Bool) where
     leaves_closed : (some : Bool) (v : ℕ) (t : Text) → Leaves h t (hexes.closing_brace h some v (strip close_brace t))
@@ -214,7 +214,7 @@ module _ (f : Flags) (inside : Bool) (p : ℕ) where
   unfolding outside
   leaves_outside c t = search (leaves_if, none_here, boundary_here, leaves_named_reference, leaves_call)
 
-  -- the same behind the letter
+  -- the same after the letter
   module _ (c d : ℕ) (t : Text) where
     past : Ends (d ∷ t) t
     past = ends_past d t t (ends_whole t)
@@ -238,11 +238,11 @@ module _ (f : Flags) (inside : Bool) (p : ℕ) where
   leaves_escape_at (c ∷ t) =
       search (leaves_if, none_here, leaves_number_escape, hex_next, property_next, lone_next, outside_next) depth 10
 
--- the end of the text is left, or the fault stands there, or at the backslash
+-- the rest of the text is a suffix of it, or the error is at a suffix or at the backslash
 pub leaves_escape : (f : Flags) (inside : Bool) (t : Text) → Leaves (reach_of t + 1) t (escape f inside t)
 leaves_escape f inside t = leaves_escape_at f inside (reach_of t + 1) t
 
--- what is left is the end of the text
+-- the rest of the text is a suffix of it
 pub escape_cut : (f : Flags) (b : Bool) (t u : Text) (e : Escape) → escape f b t ≡ gives e u →
     (w : Text) × (t ≡ w ++ u)
 escape_cut f b t u e q = at (escape f b t) (leaves_escape f b t) q where

@@ -1,4 +1,4 @@
--- The cases of a property behind its letter.
+-- The cases of a property after its letter.
 use Rattle.std.proofs.Common.{◌≡◌, ℕ, Bool, [], ◌∷◌, Option, Some, None, refl, ap, sym, ◌∙◌}
 use Rattle.fancy_lex.specs.declared.flags.Flags.{Flags}
 use Rattle.fancy_lex.specs.Characters.{◌∈◌}
@@ -34,7 +34,7 @@ property_read f inside p c [] q v h = absurd (nothing h) where
   nothing h = cc
 property_read f inside p c (d ∷ r) q v h = rw h refl
 
--- a call behind its letter
+-- a call after its letter
 pub call_is : (p c : ℕ) (t : Text) (k : Call) (v : Text) → subroutine_call t ≡ gives k v →
     call_escape p c t ≡ gives (leaf.subroutine_call k) v
 unfolding call_escape subroutine_call marked_call marked_name

@@ -1,4 +1,4 @@
--- What an escape stands for is sound: a reference or call stands in the escape, and a byte is none of ASCII.
+-- The leaf of an escape is sound: a reference or call is inside the escape, and a byte is not an ASCII one.
 use Rattle.std.proofs.Common.{◌≡◌, ℕ, ◌≤◌, Bool, true, false, ◌==◌, ◌&&◌, nat_le, not, [], ◌∷◌, arith}
 use Rattle.std.proofs.Common.{◌+◌, Some, rules}
 use Rattle.std.proofs.lemmas.Bool.{cond_both}
@@ -27,22 +27,22 @@ use Rattle.fancy_lex.proofs.ReferencePlaces.{IfGives, ReferenceAt, CallAt, numbe
 use Rattle.fancy_lex.proofs.ReferencePlaces.{subroutine_call_at}
 use Rattle.fancy_lex.proofs.TakeLaws.{Takes, TakesOrFails, takes, takes_less}
 
--- the reach p is that of an end of t, of which a character or more stands before u
+-- p is the reach of a suffix of t that has a character or more before u
 pub record StandsBefore (t u : Text) (p : ℕ) : Type 0 where
   pub mark : Text
   pub ends : Ends t mark
   pub takes : Takes 1 mark u
   pub reach : p ≡ reach_of mark
 
--- what an escape of t, behind which u is left, stands for: a byte above the ASCII ones, a reference or call that stands
--- in the escape, or another leaf
+-- the leaf of an escape of t with u after it: a byte that is not an ASCII one, a reference or call inside the escape,
+-- or another leaf
 abbrev pub IsSound : Text → Text → Escape → Type 0
 IsSound t u (literal_bytes b) = (0x80 ≤ b) × (b ≤ 0xFF)
 IsSound t u (backref r casei) = StandsBefore t u r.reach
 IsSound t u (called c) = StandsBefore t u c.reach
 IsSound t u _ = Unit {0}
 
--- the same of what was read of t
+-- the same for a reading of t
 abbrev pub Sound : Text → Reading Escape → Type 0
 Sound t (gives e u) = IsSound t u e
 Sound t (fails e) = Unit {0}
@@ -155,7 +155,7 @@ module _ (f : Flags) where
       outside_rows : AtRows (IsSound t u) c (lone_outside f c)
       outside_rows = search rules
 
-  -- of all that an escape stands for
+  -- each escape is sound
   pub sound_escape : (inside : Bool) (t : Text) → Sound t (escape f inside t)
   unfolding escape_at
   sound_escape inside [] = tt

@@ -1,4 +1,4 @@
--- One step of a run of digits, where a number counts those to come.
+-- One step of a run of digits, with the number of digits to come.
 use Rattle.std.proofs.Common.{◌≡◌, ◌≢◌, add-one, ℕ, suc, ◌+◌, ◌*◌, ◌-◌, ◌<◌, ◌≤◌, ◌^◌, Bool, true, false, Some, None}
 use Rattle.std.proofs.Common.{refl, ap, ◌∙◌, arith, nat_lt}
 use Rattle.std.proofs.Math.Nat.{pow-suc, pow-le-pow_right}
@@ -12,7 +12,7 @@ use Rattle.fancy_lex.specs.declared.error.Failure.{Failure}
 use Rattle.fancy_lex.proofs.ReadingLemmas.{says_first}
 use Rattle.fancy_lex.specs.Hex.{fixed_digits, hex_digit, hex_digits, closing_brace}
 
--- how many are still to come
+-- the number of digits still to come
 one_more : (w i : ℕ) → i < w → w - i ≡ suc (w - (i + 1))
 one_more w i h = omega arith
 
@@ -66,7 +66,7 @@ module _ (x : Bool) (h i v : ℕ) (t : Text) where
       let some : nat_lt 0 i ≡ true = grind (arith, nat_tests) in
       rw (none, hex_digits, some) refl
 
--- a digit more keeps a value of eight digits in a word
+-- one more digit keeps a value of up to eight digits in a word
 pub push_small : (v d i : ℕ) → v < 16 ^ i → d < 16 → i < 8 → v * 16 + d < 16 ^ (i + 1)
 push_small v d i a b l = rw (add-one, pow-suc) (omega arith)
 

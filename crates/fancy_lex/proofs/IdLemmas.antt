@@ -22,13 +22,13 @@ pub run_ends : (t : Text) → t ≡ [] → (id_run t).1 ≡ t
 unfolding id_run
 run_ends t e = rw e refl
 
--- ---- the run, and what follows it
+-- ---- the run, and the text after it
 
--- the run where c is a character more, which is an id character or not
+-- the run after one more character c, which is an id character or not
 abbrev run_behind : ℕ → Text → Bool → Text × Text → Text × Text
 run_behind c t b p = if b then (c ∷ p.0, p.1) else ([], c ∷ t)
 
--- they are the text
+-- the run and the text after it are the whole text
 pub run_cut : (t : Text) → t ≡ (id_run t).0 ++ (id_run t).1
 unfolding id_run
 run_cut [] = refl
@@ -46,7 +46,7 @@ pub front_some : (p : Text × Text) (w v : Text) → p.0 ≡ w → p.1 ≡ v →
 front_some ([], u) w v e h l = absurd (omega (arith, ap length e))
 front_some (c ∷ x, u) w v e h l = rw (← e, ← h) refl
 
--- the id and what follows it are the text
+-- the id and the text after it are the whole text
 pub id_cut : (t w v : Text) → ◌≡◌ {A = Option (Text × Text)} (id t) (Some (w, v)) → t ≡ w ++ v
 unfolding id
 id_cut t w v e = run_cut t ∙ at (id_run t) e where
@@ -56,7 +56,7 @@ id_cut t w v e = run_cut t ∙ at (id_run t) e where
 
 -- ---- the clause of the reader
 
--- a reader of id characters stands at `r` in the text `s`
+-- a reader of id characters is at `r` in the text `s`
 module _ (s r : List ℕ) (u : IsUtf8 s) (v : IsUtf8 r) (left : (id_run (chars s)).1 ≡ chars r) where
   pub read_cut : chars s ≡ (id_run (chars s)).0 ++ chars r
   read_cut = run_cut (chars s) ∙ ap (λ x. (id_run (chars s)).0 ++ x) left
@@ -68,12 +68,12 @@ module _ (s r : List ℕ) (u : IsUtf8 s) (v : IsUtf8 r) (left : (id_run (chars s
   some_read [] e q = absurd (q (sym (cut_lengths s r [] u v e ∙ zero-add (length r))))
   some_read (c ∷ w) e q = omega arith
 
-  -- no answer where nothing was read
+  -- no id if no character was read
   pub id_nothing : length r ≡ length s → ◌≡◌ {A = Option (Text × Text)} (id (chars s)) None
   unfolding id
   id_nothing q = front_none (id_run (chars s)) (nothing_read (id_run (chars s)).0 read_cut q)
 
-  -- what was read is the id
+  -- the text that was read is the id
   pub id_read : (f : List ℕ) → (length r ≡ length s → ⊥) → chars s ≡ chars f ++ chars r →
       ◌≡◌ {A = Option (Text × Text)} (id (chars s)) (Some (chars f, chars r))
   unfolding id

@@ -1,4 +1,4 @@
--- The reading function and the relation are one.
+-- The relation of layout holds exactly of the function's result.
 use Rattle.std.proofs.Common.{◌≡◌, ◌≢◌, Result, Ok, Err, MatchResult, chars, ℕ, zero, suc, Bool, true, false, List}
 use Rattle.std.proofs.Common.{[], ◌∷◌, ◌++◌, length, Some, None, ap, sym, ◌∙◌, refl, arith, ◌⊎◌, inl, inr, append_assoc}
 use Rattle.std.proofs.Common.{append-nil, length-append, ◌<◌, ◌≤◌, Option, subst}
@@ -23,7 +23,7 @@ snoc : (i r : Text) (c : ℕ) → (i ++ c ∷ []) ++ r ≡ i ++ c ∷ r
 snoc i r c = append_assoc i (c ∷ []) r
 
 module _ (x : Bool) where
-  -- what the relation says, the function answers
+  -- each result in the relation is the function's
   past_inside : {i : Text} → InComment i → (r : Text) → layout_from x comment (i ++ r) ≡ layout_from x comment r
   past_inside nothing r = refl
   past_inside (plain {c} {t} a b h) r =
@@ -90,7 +90,7 @@ split_line (c ∷ t) =
       ]
     ]
 
--- the comment's inside that ends, or one that does not
+-- the inside of a comment that is closed, or of one that is not
 abbrev Ends : Text → Type 0
 Ends t = (i : Text) × (r : Text) × InComment i × (t ≡ i ++ close_paren ∷ r)
 
@@ -139,7 +139,7 @@ open_fault x t p (to_end h) = rw (← append-nil t) (past_inside x h [] ∙ comm
 open_fault x t p (after_backslash i e q h) =
     rw (e, q) (past_inside x h (backslash ∷ []) ∙ comment_step x _ backslash [] refl ∙ escaped_end x [] refl)
 
--- `(?#`, told from the text
+-- a text with a text after its `(?#` is `(?#` and that text
 opened_is : (t i : Text) → after_comment_head t ≡ Some i → t ≡ comment_head ++ i
 opened_is [] i e = cc
 opened_is (c ∷ []) i e = grind (arith, nat_tests)
@@ -153,7 +153,7 @@ opened_cases t = opened_by t (after_comment_head t) refl where
   opened_by t (Some i) e = inl (i, opened_is t i e)
   opened_by t None e = inr e
 
--- what stands at the front of a text: nothing more of layout, or a unit, or an open comment
+-- what is at the front of a text: no layout, or a unit, or an unclosed comment
 data Front (x : Bool) (t : Text) : Type 0 where
   stop : Stops x t → layout_from x between t ≡ rest t → Front x t
   unit : (u r : Text) → t ≡ u ++ r → IsUnit x u r → 0 < length u → Front x t
@@ -229,7 +229,7 @@ stop_rest x v s =
       | open_comment r p e h ↦ absurd (s.no_comment_head r e)
     ]
 
--- whatever the relation gives is the function's answer
+-- each result in the relation is the function's
 pub layout_complete : (x : Bool) (t v : Text) → Before x t v → layout_from x between t ≡ rest v
 layout_complete x t v b = rw b.cut (past_units x b.layout.units ∙ stop_rest x v b.layout.stops)
 
@@ -283,7 +283,7 @@ rest_same v w e = cc
 apart : (v : Text) (p : ℕ) → rest v ≡ fault p → ⊥
 apart v p e = cc
 
--- so the function's answer is the relation's
+-- so the function's result is in the relation
 pub layout_sound : (x : Bool) (t v : Text) → layout_from x between t ≡ rest v → Before x t v
 layout_sound x t v e =
     elim (layout_total x (suc (length t)) t (omega arith)) [
@@ -308,14 +308,14 @@ pub derives_from : (x : Bool) (t : Text) (r : Result (Bor (List ℕ)) ℕ) →
 derives_from x t (Ok v) e = layout_sound x t (chars v.now) e
 derives_from x t (Err p) e = unclosed_sound x t p e
 
--- what is left is the end of the text
+-- the rest of the text is a suffix of it
 pub layout_cut : (x : Bool) (t v : Text) → layout x t ≡ rest v → (w : Text) × (t ≡ w ++ v)
 layout_cut x t v e = let b = layout_sound x t v e in (b.w, b.cut)
 
 pub layout_length : (x : Bool) (t v : Text) → layout x t ≡ rest v → length v ≤ length t
 layout_length x t v e = let (w, cut) = layout_cut x t v e in omega (arith, simp length-append at (ap length cut))
 
--- the fault stands at the end, or one past it
+-- the error is at the end of the text, or one past it
 pub layout_stands : (p : ℕ) (x : Bool) (t : Text) (q : ℕ) → layout x t ≡ fault q → Stands p t q
 layout_stands p x t q e = place (unclosed_sound x t q e).inside where
   place : {r : Text} {q : ℕ} → OpenComment r q → Stands p t q

@@ -1,4 +1,4 @@
--- One step of the layout's definition, where the text is known by an equation.
+-- One step of the layout's definition, for a text that an equation describes.
 use Rattle.std.proofs.Common.{◌≡◌, ◌≢◌, ℕ, Bool, true, [], ◌∷◌, Some, None, false, arith, ◌==◌, ◌&&◌}
 use Rattle.std.proofs.Common.{if◌then◌else◌, is_some, ap, refl, ◌∙◌}
 use Rattle.std.proofs.lemmas.Bool.Decides.{nat_tests}
@@ -56,15 +56,15 @@ between_opened x (c ∷ []) i e = grind (arith, nat_tests)
 between_opened x (c ∷ d ∷ []) i e = grind (arith, nat_tests)
 between_opened x (c ∷ d ∷ f ∷ r) i e = grind (arith, nat_tests)
 
--- ---- what code has tested
+-- ---- the tests of the code
 
--- nothing that the flag lets pass
+-- without the flag, only comments are layout
 pub between_plain : (t : Text) → after_comment_head t ≡ None → layout_from false between t ≡ rest t
 unfolding layout_from
 between_plain [] e = refl
 between_plain (c ∷ r) e = grind (arith, nat_tests)
 
--- the cases of a step, by what the code has tested
+-- the cases of a step, by the tests of the code
 module _ (x : Bool) (t : Text) (c : ℕ) (r : Text) (e : t ≡ c ∷ r) (none : after_comment_head t ≡ None)
     (ignore_space : x ≡ true) where
   pub between_line : c ≡ hash → layout_from x between t ≡ layout_from x line r
@@ -76,7 +76,7 @@ module _ (x : Bool) (t : Text) (c : ℕ) (r : Text) (e : t ≡ c ∷ r) (none : 
   pub between_other : c ≢ hash → is_blank c ≡ false → layout_from x between t ≡ rest t
   between_other h b = let step = between_step x t c r e in grind (arith, nat_tests)
 
--- nothing, by the first character
+-- no layout, by the first character
 module _ (x : Bool) (t : Text) (c : ℕ) (r : Text) (e : t ≡ c ∷ r) (paren : c ≢ open_paren) where
   no_comment_head : is_some (after_comment_head (c ∷ r)) ≡ false
   no_comment_head = grind (arith, nat_tests)

@@ -1,4 +1,4 @@
--- What a reader leaves: the end of the text; or its fault, and where that stands.
+-- The results of a reader: the rest of the text is a suffix of it, and an error is at a known position.
 use Rattle.std.proofs.Common.{◌≡◌, ℕ, ◌+◌, ◌<◌, ◌≤◌, Bool, true, false, if◌then◌else◌, [], ◌∷◌, ◌++◌, Option, Some}
 use Rattle.std.proofs.Common.{None, refl, ap, sym, ◌∙◌, subst, append_assoc, append-nil, arith, chars, List, Bor}
 use Rattle.std.proofs.Common.{Result, Ok, Err, IfOk, IfErr}
@@ -22,14 +22,14 @@ ends_past c t v (w, e) = (c ∷ w, ap (λ s. c ∷ s) e)
 pub ends_twice : (t u v : Text) → Ends t u → Ends u v → Ends t v
 ends_twice t u v (w, e) (z, h) = (w ++ z, e ∙ ap (λ s. w ++ s) h ∙ sym (append_assoc w z v))
 
--- ---- where a fault stands
+-- ---- positions of errors
 
 module _ {p : ℕ} where
-  -- where the text begins, and at its end
+  -- at the start of the text, and at its end
   pub stands_here : (t : Text) → Stands p t (reach_of t)
   stands_here t = begins t (ends_whole t) refl
 
-  -- a byte before an end of the text
+  -- a byte before a suffix of the text
   pub stands_before : {t u : Text} {c : ℕ} → c < 128 → Ends t (c ∷ u) → Stands p t (reach_of u + 1)
   unfolding bytes
   stands_before {u} {c} l e = begins (c ∷ u) e (omega (arith, len_utf8_ascii c l))
@@ -38,19 +38,19 @@ module _ {p : ℕ} where
   unfolding bytes
   stands_end t = begins [] (t, sym (append-nil t)) (omega arith)
 
-  -- what stands in an end of the text stands in the text
+  -- a position in a suffix of the text is a position in the text
   pub stands_past : {t u : Text} {q : ℕ} → Ends t u → Stands p u q → Stands p t q
   stands_past e (as_told h) = as_told h
   stands_past {t} {u} e (begins v h i) = begins v (ends_twice t u v e h) i
   stands_past e (beyond h) = beyond h
 
-  -- another reach may be told that stands there
+  -- the reach that is given can be another one that is in the text
   pub stands_retold : {t : Text} {h q : ℕ} → Stands p t h → Stands h t q → Stands p t q
   stands_retold {t} told (as_told e) = subst (Stands p t) (sym e) told
   stands_retold told (begins v h i) = begins v h i
   stands_retold told (beyond h) = beyond h
 
-  -- the reach is at most as great as that told, or as that of the text
+  -- the reach is at most m, if the reach that is given and that of the text are
   pub stands_within : {t : Text} {m q : ℕ} → p ≤ m → reach_of t ≤ m → Stands p t q → q ≤ m
   stands_within told up (as_told e) = omega arith
   stands_within told up (begins v (w, cut) e) = omega (arith, ap bytes cut, bytes-append w v)
@@ -58,7 +58,7 @@ module _ {p : ℕ} where
 
 -- ---- readings
 
--- a reading of the text leaves its end, or finds a fault that stands there; it is an answer
+-- in a reading of the text, the rest is a suffix of the text, or the error is at a position in it
 pub data Leaves {A : Type 0} (p : ℕ) : Text → Reading A → Type 0 where
   leaves : {t u : Text} {a : A} → Ends t u → Leaves p t (gives a u)
   faults : {t : Text} {e : Fault} → Stands p t e.reach → Leaves p t (fails e)
@@ -97,7 +97,7 @@ leaves_both (faults l) k = faults l
 pub ends_strip : (m : ℕ) (t u : Text) → strip m t ≡ Some u → Ends t u
 ends_strip m t u e = (m ∷ [], strip_is m t u e)
 
--- the same of what reads a value or nothing
+-- the same for a reader of an optional value
 abbrev pub LeavesSome : {A : Type 0} → Text → Option (A × Text) → Type 0
 LeavesSome t (Some p) = Ends t p.1
 LeavesSome t None = Unit {0}
@@ -122,7 +122,7 @@ some_both t None f l m = tt
 -- ---- the clauses of a reader
 
 module _ {A B : Type 0} {place : ℕ} {t : Text} {o : Reading B} (f : A → B) (r : Result (A × Bor (List ℕ)) Failure) where
-  -- what the code leaves ends the text
+  -- the rest of the text in the code's result is a suffix of the text
   pub given_cut : Leaves place t o → IsReadingOrNoMemory f r o → IfOk r (λ p. Ends t (chars p.1.now))
   given_cut l g = by_answer r l g
     where
@@ -133,7 +133,7 @@ module _ {A B : Type 0} {place : ℕ} {t : Text} {o : Reading B} (f : A → B) (
       by_answer (Ok p) (faults l) g = absurd cc
       by_answer (Err e) l g = tt
 
-  -- and its fault stands in the bound
+  -- and the reach of its error is in the bound
   pub given_place : {m : ℕ} → place ≤ m → reach_of t ≤ m → Leaves place t o → IsReadingOrNoMemory f r o →
       IfErr r (λ e. StandsWithin m e)
   given_place {m} told up l g = by_answer r l g

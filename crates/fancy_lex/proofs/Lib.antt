@@ -1,4 +1,4 @@
--- ---- texts, and what is taken off their front
+-- ---- texts, and what is read at their front
 pub mod TextLemmas
 pub mod LeaveLaws
 pub mod TakeLaws

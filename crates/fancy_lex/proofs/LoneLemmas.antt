@@ -1,4 +1,4 @@
--- Characters that are all of their escape.
+-- Characters that are the whole escape.
 use Rattle.std.proofs.Common.{◌≡◌, ℕ, Bool, true, false, not, ◌||◌, ◌&&◌, if◌then◌else◌, List, [], ◌∷◌, Option, Some}
 use Rattle.std.proofs.Common.{None, IfSome, refl, ap, ◌∙◌, subst, arith}
 use Rattle.std.proofs.lemmas.Bool.{cond_both}
@@ -15,7 +15,7 @@ use Rattle.fancy_lex.specs.Reading.{gives, choose}
 use Rattle.fancy_lex.specs.Text.{Text}
 use Rattle.fancy_lex.specs.declared.flags.Flags.{Flags}
 
--- P holds at each row that has c among its letters
+-- P holds for each row that has c among its letters
 abbrev pub AtRows : (Escape → Type 0) → ℕ → List (String × Escape) → Type 0
 AtRows P c rows = AllByRecursion (λ r. c ∈ r.0 ≡ true → P r.1) rows
 
@@ -27,7 +27,7 @@ by_either : (P : Escape → Type 0) (o q : Option Escape) → IfSome o P → IfS
 by_either P (Some e) q h k = h
 by_either P None q h k = k
 
--- what holds of the character and at each row holds of what the character stands for
+-- what holds for the character as a literal and for each row holds for the leaf of the character
 pub of_lone : (P : Escape → Type 0) (f : Flags) (inside : Bool) (c : ℕ) →
     (is_itself inside c ≡ true → P (literal c false)) → AtRows P c (lone_anywhere f c) →
     AtRows P c (if inside then lone_in_class c else lone_outside f c) →
@@ -38,7 +38,7 @@ of_lone P f inside c itself anywhere there e same =
     (cond_both (is_itself inside c) _ _ (λ o. IfSome o P) itself
     (λ _. by_either P _ _ (by_row P c (lone_anywhere f c) anywhere) (by_row P c _ there)))
 
--- more than the character belongs to its escape
+-- whether more than the character belongs to its escape
 abbrev pub reads_on : Bool → ℕ → Bool
 reads_on inside c = is_ascii_digit c || (c ∈ "xuUpP" || (not inside && c ∈ "kgbB"))
 
@@ -62,7 +62,7 @@ module _ (f : Flags) (p c : ℕ) (t : Text) where
       let boundary : (c ∈ "bB") ≡ false = grind (arith, nat_tests) in
       rw (name, call, boundary) refl
 
-  -- where no more belongs to it, the character is all of its escape, or none
+  -- if nothing more belongs to it, the character is the whole escape, or is no escape
   pub alone : (inside : Bool) → reads_on inside c ≡ false →
       escape_at f inside p (c ∷ t) ≡ choose (lone_escape f inside c) (λ e. gives e t) (unknown_escape p c)
   alone true on = by_place true (grind (arith, nat_tests)) (grind (arith, nat_tests))

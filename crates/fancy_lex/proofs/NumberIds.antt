@@ -1,5 +1,5 @@
--- A number is an id, and what an id reference writes with it, alone or before a level, is the group of that number;
--- with any other id alone it is the group of that name.
+-- A number is an id. An id reference with a number refers to the group of that number, with or without a level; an id
+-- reference of any other id without a level refers to the group of that name.
 use Rattle.std.proofs.Common.{◌≡◌, ℕ, ◌+◌, ◌*◌, ◌-◌, ◌^◌, ◌<◌, ℤ, pos, Bool, true, false, [], ◌∷◌, Option, Some, None}
 use Rattle.std.proofs.Common.{◌==◌, if◌then◌else◌, option_map, refl, sym, ap, ◌∙◌, subst, append-nil, arith, nat_lt}
 use Rattle.std.specs.Option.{option_and_then}
@@ -21,7 +21,7 @@ use Rattle.fancy_lex.proofs.AsciiLemmas.{alphanumeric_told, other_told}
 use Rattle.fancy_lex.proofs.IdLemmas.{front_some, id_cut}
 use Rattle.fancy_lex.proofs.NumberLemmas.{Taken, digits_of, number_taken}
 
--- ---- what is an id character
+-- ---- which characters are id characters
 
 id_of_digit : (c : ℕ) → is_ascii_digit c ≡ true → is_id_char c ≡ true
 id_of_digit c h = alphanumeric_told c (rw h refl)
@@ -32,7 +32,7 @@ sign_no_id c h =
     let ascii : is_ascii c ≡ true = grind (arith, nat_tests) in
     other_told c alone ascii ∙ grind (arith, nat_tests)
 
--- no id stands at the front
+-- there is no id at the front
 abbrev NoId : Text → Type 0
 NoId v = ◌≡◌ {A = Text × Text} (id_run v) ([], v)
 
@@ -53,7 +53,7 @@ nothing_no_amount : (z : ℤ) → amount [] ≡ Some z → ⊥
 unfolding amount
 nothing_no_amount z e = cc
 
--- an amount behind an id
+-- an amount after an id
 amount_behind : (i v : Text) (z : ℤ) → amount v ≡ Some z → with_id true i v ≡ Some (id_and_amount i z)
 amount_behind i [] z h = absurd (nothing_no_amount z h)
 amount_behind i (c ∷ v) z h = rw h refl
@@ -107,13 +107,13 @@ module _ (p : ℕ) (t v : Text) (n : ℕ) (found : number t ≡ Some (n, v)) (wo
       let small : nat_lt n (2 ^ 64) ≡ true = grind (arith, nat_tests, word) in
       rw (digits_no_plus t, taken.alone, small) refl
 
-  -- a number alone is the group of that number
+  -- a number by itself refers to the group of that number
   pub number_written : (amounts : Bool) → v ≡ [] →
       written_reference p amounts t ≡ Some (reference_to p (by_number n) None)
   unfolding written_reference reference_of id_reference
   number_written amounts h = rw (digits_id (subst NoId (sym h) no_id_nothing), h, number_named) refl
 
-  -- with an amount behind it, it is that group at a level
+  -- with an amount after it, it refers to that group at a level
   pub level_written : (z : ℤ) → amount v ≡ Some z →
       written_reference p true t ≡ Some (reference_to p (by_number n) (Some z))
   unfolding written_reference reference_of id_reference
@@ -122,9 +122,9 @@ module _ (p : ℕ) (t v : Text) (n : ℕ) (found : number t ≡ Some (n, v)) (wo
 
 pub ruleset numbers_written = (number_written, level_written)
 
--- ---- an id alone that is no number
+-- ---- an id by itself that is no number
 
--- what says an id alone is that id
+-- an id reference without an amount is that id
 alone_is : (relative : Bool) (t w : Text) → id_reference relative t ≡ Some (id_alone w) →
     ◌≡◌ {A = Option (Text × Text)} (id t) (Some (w, []))
 unfolding id_reference
@@ -156,7 +156,7 @@ no_number_text : (t w v : Text) → ◌≡◌ {A = Option (Text × Text)} (id t)
 unfolding number_text
 no_number_text t w v i h = rw (no_plus t w v i, h) refl
 
--- an id alone that is no number is the group of that name
+-- an id by itself that is no number refers to the group of that name
 pub name_written : (p : ℕ) (amounts : Bool) (t w : Text) → whole_number t ≡ None →
     id_reference amounts t ≡ Some (id_alone w) →
     written_reference p amounts t ≡ Some (reference_to p (by_name w) None)

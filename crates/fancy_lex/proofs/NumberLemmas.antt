@@ -1,4 +1,4 @@
--- One step of a number, and what a number takes of the text.
+-- One step of a number, and the part of the text that a number is.
 use Rattle.std.proofs.Common.{◌≡◌, ℕ, ◌+◌, ◌*◌, ◌-◌, ◌^◌, ◌<◌, ◌≤◌, if◌then◌else◌, Bool, true, false, []}
 use Rattle.std.proofs.Common.{◌∷◌, ◌++◌, length, Some, None, ap, sym, ◌∙◌, refl, arith}
 use Rattle.std.proofs.lemmas.Bool.Decides.{nat_tests}
@@ -27,7 +27,7 @@ run_stop n (c ∷ r) e = rw e refl
 pub at_digit_is : (t : Text) (d : ℕ) (r : Text) → t ≡ digit_code d ∷ r → d < 10 → at_digit t ≡ true
 at_digit_is t d r e h = rw e (digit_is d h)
 
--- what is left is the same, whatever was read before
+-- the text after the digits does not depend on the digits before
 run_behind : (n m : ℕ) (t : Text) → (run n t).1 ≡ (run m t).1
 unfolding run
 run_behind n m [] = refl
@@ -54,7 +54,7 @@ run_grows n (c ∷ t) =
     at a true h = h
     at a false h = omega arith
 
--- a number that no word holds stays so with more digits
+-- a number that does not fit in a word does not fit with more digits either
 pub run_beyond : (n : ℕ) (t : Text) (d : ℕ) (r v : Text) → t ≡ digit_code d ∷ r → d < 10 → 2 ^ 64 ≤ n * 10 + d →
     (run 0 r).1 ≡ v → (m : ℕ) × (run n t ≡ (m, v)) × (2 ^ 64 ≤ m)
 run_beyond n t d r v e h beyond left =
@@ -84,7 +84,7 @@ number_of_more_digits t d r e s p h q k =
 
 pub ruleset number_steps = (run_step, run_first, run_stop, at_digit_is, number_none, number_some)
 
--- ---- what a number takes of the text
+-- ---- the part of the text that a number is
 
 -- the digits at the front
 abbrev pub digits_of : Text → Text
@@ -100,7 +100,7 @@ digits_cut n (c ∷ t) = at (is_ascii_digit c) _ (digits_cut (n * 10 + (c - code
   at true p e = ap (λ u. c ∷ u) e
   at false p e = refl
 
--- alone they write the same number
+-- by themselves they write the same number
 digits_alone : (n : ℕ) (t : Text) → run n (digits_of t) ≡ ((run n t).0, [])
 unfolding run
 digits_alone n [] = refl
@@ -122,7 +122,7 @@ digits_some : (t : Text) → at_digit t ≡ true → 0 < length (digits_of t)
 digits_some [] e = absurd cc
 digits_some (c ∷ t) e = rw e (omega arith)
 
--- a number takes the digits at the front, one or more, which alone are the same number
+-- a number is the digits at the front, one or more, which by themselves write the same number
 pub record Taken (t v : Text) (k : ℕ) : Type 0 where
   pub cut : t ≡ digits_of t ++ v
   pub some : 0 < length (digits_of t)

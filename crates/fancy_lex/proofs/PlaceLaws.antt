@@ -1,5 +1,5 @@
--- What holds of every class: it leaves the end of the text, its fault stands at a cut of it or one past its end, and it
--- answers.
+-- What holds of every class: the rest of the text is a suffix of it, and the error is at a character boundary of the
+-- text or one past its end.
 use Rattle.std.proofs.Common.{◌≡◌, ℕ, zero, suc, ◌+◌, ◌-◌, Bool, true, false, ◌||◌, ◌==◌, [], ◌∷◌, ◌++◌, Option, Some}
 use Rattle.std.proofs.Common.{None, refl, ◌<◌, arith}
 use Rattle.std.proofs.lemmas.Bool.{cond_both}
@@ -13,7 +13,7 @@ use Rattle.fancy_lex.proofs.EscapeLaws.{leaves_escape}
 use Rattle.fancy_lex.proofs.LeaveLaws.{ends_whole, ends_past, ends_twice, ends_strip, stands_before, stands_end, Leaves}
 use Rattle.fancy_lex.proofs.LeaveLaws.{whole_next, leaves_none, leaves_past, leaves_retold, leaves_if, leaves_both}
 
--- what stands behind the front of a class ends the text
+-- the text after the opening of a class is a suffix of the text
 ends_mark : (m : ℕ) (p : Text × Text) → Ends p.1 (with_mark m p).1
 ends_mark m p = at (strip m p.1) refl where
   at : (o : Option Text) → strip m p.1 ≡ o → Ends p.1 (choose {B = Text × Text} o (λ u. (p.0 ++ m ∷ [], u)) p).1
@@ -29,7 +29,7 @@ ends_class_head out t =
 is_ascii : (c : ℕ) → (c == backslash) ≡ true → c < 128
 is_ascii c e = grind (arith, nat_tests)
 
--- the reach that is told is that of one past the end
+-- the reach that is given is that of one past the end
 module _ (f : Flags) where
   leaves_items : (k depth : ℕ) (seen : Bool) (out t : Text) → Leaves 0 t (class_from f k depth seen out t)
   unfolding class_from
@@ -49,7 +49,7 @@ module _ (f : Flags) where
       (leaves_if (depth == 0) (whole_next t) (leaves_past past (leaves_items k (depth - 1) seen (out ++ c ∷ []) t)))
       (leaves_past past (leaves_items k depth seen (out ++ c ∷ []) t))))
 
-  -- the end of the text is left, or the fault stands at a cut of it or one past its end
+  -- the rest of the text is a suffix of it, or the error is at a character boundary of the text or one past its end
   pub leaves_class : (t : Text) → Leaves 0 t (class f t)
   unfolding class
   leaves_class t = leaves_past (ends_class_head [] t)

@@ -1,4 +1,4 @@
--- A name in lower case, and the text before a mark.
+-- A name in lower case, and the text before a delimiter.
 use Rattle.std.proofs.Common.{◌≡◌, ◌↔◌, IsTrue, suc, ◌⊎◌, inl, inr, ⊎_elim, append-nil, ℕ, ◌<◌, ◌≤◌, Bool, ◌==◌, List}
 use Rattle.std.proofs.Common.{[], ◌∷◌, ◌++◌, length, take, drop, get_or, map, chars, Option, Some, None, option_map}
 use Rattle.std.proofs.Common.{Bor, refl, ap, sym, ◌∙◌, subst, arith, length-append}
@@ -16,7 +16,7 @@ use Rattle.std.proofs.lemmas.Str.Pattern.{IsSplitOnceResult, split_parts, drop_a
 use Rattle.fancy_lex.specs.Property.{lowercase}
 use Rattle.fancy_lex.specs.Text.{Text, cut_at}
 
--- the text before a mark
+-- the text before a delimiter
 cut_first : (mark : ℕ) (w v : Text) → NonePass (λ d. d == mark) w → cut_at mark (w ++ (mark ∷ v)) ≡ Some (w, v)
 cut_first mark [] v h = grind (arith, nat_tests)
 cut_first mark (c ∷ w) v h = rw (h.0, cut_first mark w v h.1) refl
@@ -48,7 +48,7 @@ cut_split mark bs (Some x) u low h =
     ap (cut_at mark) split ∙ cut_first mark (chars x.0.now) (chars x.1.now)
     (subst (NonePass (λ d. d == mark)) same none)
 
--- a byte of a character past ASCII stays
+-- a byte of a character that is not in ASCII stays the same
 stays : (bs : List ℕ) → ((k : ℕ) → k < length bs → 128 ≤ get_or bs k 0) → map to_ascii_lowercase bs ≡ bs
 stays [] h = refl
 stays (b ∷ bs) h =

@@ -1,4 +1,4 @@
--- How one step follows another.
+-- One reading after another, and the code's results.
 use Rattle.std.proofs.Common.{◌≡◌, ℕ, List, Option, Some, None, Result, Ok, Err, refl, subst}
 use Rattle.std.specs.Borrow.{Bor}
 use Rattle.fancy_lex.specs.Text.{Text}
@@ -8,14 +8,14 @@ use Rattle.fancy_lex.specs.Reading.{IsReadingOrNoMemory, Derives, choose, ◌>=>
 use Rattle.fancy_lex.specs.declared.error.Failure.{Failure}
 use Rattle.fancy_lex.specs.declared.error.Failure.TheVariants.{At, OutOfMemory}
 
--- what holds of either is so of the one that is chosen
+-- what holds in both cases holds for `choose`
 pub choose_both : {A B : Type 0} (P : B → Type 0) (o : Option A) (f : A → B) (b : B) →
     ((a : A) → o ≡ Some a → P (f a)) → P b → P (choose o f b)
 choose_both P (Some a) f b g h = g a refl
 choose_both P None f b g h = h
 
 module _ {A B : Type 0} (o : Reading A) (f : A → Text → Reading B) where
-  -- the fault of the first step is that of both
+  -- the error of the first step is the error of both
   pub says_first : (b : Failure) → Says b o → Says b (o >=> f)
   says_first (At p k) e = rw e refl
   says_first OutOfMemory e = absurd e
@@ -27,23 +27,23 @@ module _ {A B : Type 0} (o : Reading A) (f : A → Text → Reading B) where
     carried (gives a t) h = absurd h
     carried (fails d) h = h
 
--- where memory may run out at any time
+-- the error is that of the reading, unless memory ran out
 pub report_fails : {A : Type 0} (b : Failure) (o : Reading A) → Reports b o → IfFailed b (λ k p. o ≡ fault_at p k)
 report_fails (At p k) o e = e
 report_fails OutOfMemory o e = tt
 
--- what is the function's answer is the code's
+-- a reading that equals the function's result is the code's result
 pub only_answer : {A B : Type 0} (f : A → B) (r : Result (A × Bor (List ℕ)) Failure) (o q : Reading B) → o ≡ q →
     Answers f r o → Answers f r q
 only_answer f r o q e g = subst (Answers f r) e g
 
--- the code's answer is the reading, however seldom memory runs out
+-- the code's result is the reading, unless memory ran out
 pub answers_gives : {A B : Type 0} (f : A → B) (r : Result (A × Bor (List ℕ)) Failure) (o : Reading B) → Answers f r o →
     IsReadingOrNoMemory f r o
 answers_gives f (Ok p) o g = g
 answers_gives f (Err e) o g = report_fails e o g
 
--- the answer of a function for which the relation holds is one that the relation gives
+-- if the relation holds of the function's result, it holds of the code's result
 pub derives_given : {A B : Type 0} (f : A → B) (r : Result (A × Bor (List ℕ)) Failure) (R : Reading B → Type 0)
     (o : Reading B) → R o → IsReadingOrNoMemory f r o → Derives f r R
 derives_given f (Ok p) R o h g = subst R g h

@@ -1,5 +1,5 @@
--- What holds of every name and reference: it leaves the end of the text behind some characters, and its fault stands
--- where it begins.
+-- What holds of every name and reference: the rest of the text is a suffix after some characters, and the error is at
+-- the start of the text.
 use Rattle.std.proofs.Common.{Bool, ◌≡◌, ℕ, ◌^◌, nat_lt, true, ◌==◌, [], ◌∷◌, ◌++◌, length-append}
 use Rattle.std.proofs.Common.{append_assoc, Option, Some, None, IfSome, option_map, refl, ap, sym, ◌∙◌, arith, false}
 use Rattle.std.proofs.Common.{if◌then◌else◌}
@@ -21,7 +21,7 @@ use Rattle.fancy_lex.proofs.NumberLemmas.{digits_of, number_taken}
 use Rattle.fancy_lex.proofs.TakeLaws.{Takes, TakesSome, TakesOrFails, takes, fails_at, takes_on, takes_one, takes_if}
 use Rattle.fancy_lex.proofs.TakeLaws.{takes_as, takes_less}
 
--- the text is what stands before the mark, the mark, and what follows it
+-- the text is the text before the delimiter, the delimiter, and the text after it
 abbrev pub IsCut : ℕ → Text → Option (Text × Text) → Type 0
 IsCut mark t o = IfSome o (λ p. t ≡ p.0 ++ mark ∷ p.1)
 
@@ -34,7 +34,7 @@ cut_is mark (c ∷ t) = at (c == mark) refl (cut_at mark t) (cut_is mark t) wher
   at false s None h = tt
   at false s (Some p) h = ap (λ u. c ∷ u) h
 
--- a name and its closing mark
+-- a name and its closing delimiter
 pub takes_name : (mark : ℕ) (t : Text) → TakesSome 2 t (name_before mark t)
 unfolding name_before
 takes_name mark t = at (cut_at mark t) (cut_is mark t) where
@@ -47,7 +47,7 @@ takes_name mark t = at (cut_at mark t) (cut_is mark t) where
     long = omega (arith, length-append w (mark ∷ []));
   }
 
--- the same behind an opening mark
+-- the same after an opening delimiter
 past_mark : (c mark : ℕ) (t : Text) → TakesSome 3 (c ∷ t) (name_before mark t)
 past_mark c mark t = at (name_before mark t) (takes_name mark t) where
   at : (o : Option (Text × Text)) → TakesSome 2 t o → TakesSome 3 (c ∷ t) o
@@ -61,7 +61,7 @@ takes_marked_name (c ∷ t) =
     cond_both (c == code "<") _ _ (TakesSome 3 (c ∷ t)) (λ _. past_mark c (code ">") t)
     (λ _. cond_both (c == code "'") _ _ (TakesSome 3 (c ∷ t)) (λ _. past_mark c (code "'") t) (λ _. tt))
 
--- what a name writes takes what the name takes
+-- the value of a name is read from as many characters as the name
 module _ {A : Type 0} (k : ℕ) (t : Text) (f : Text → Option A) where
   takes_written : (u : Text) (a : Option A) → Takes k t u → TakesSome k t (option_map (λ a. (a, u)) a)
   takes_written u None h = tt
@@ -76,7 +76,7 @@ pub takes_name_reading : {A : Type 0} (k : ℕ) (t u : Text) (o : Option (A × T
 takes_name_reading k t u None h = fails_at refl
 takes_name_reading k t u (Some p) h = takes h
 
--- the reference or call that a name writes
+-- the reference or call by a name
 pub takes_by_name : {A : Type 0} (k : ℕ) (t u : Text) (f : Text → Option A) (o : Option (Text × Text)) →
     TakesSome k t o → TakesOrFails (reach_of u) k t (name_reading (reach_of u) (of_name f o))
 takes_by_name k t u f o h = takes_name_reading k t u (of_name f o) (takes_of_name k t f o h)

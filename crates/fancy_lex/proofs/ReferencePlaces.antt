@@ -1,4 +1,4 @@
--- Where references and calls stand: at the beginning of what their readers take.
+-- The positions of references and calls: at the start of what their readers read.
 use Rattle.std.proofs.Common.{◌≡◌, ℕ, Bool, Option, Some, None, option_map, refl}
 use Rattle.std.proofs.lemmas.Bool.{cond_both}
 use Rattle.fancy_lex.specs.Delimited.{marked_name, of_name}
@@ -12,12 +12,12 @@ use Rattle.fancy_lex.specs.Referred.{name_reading, reference_by_name}
 use Rattle.fancy_lex.specs.Target.{Target, by_number}
 use Rattle.fancy_lex.specs.Text.{Text, reach_of}
 
--- what a reading gives is so
+-- P holds of the value of the reading
 abbrev pub IfGives : {A : Type 0} → (A → Type 0) → Reading A → Type 0
 IfGives P (gives a u) = P a
 IfGives P (fails e) = Unit {0}
 
--- every value is so
+-- P holds of the value, since it holds of each value
 if_gives : {A B : Type 0} (P : B → Type 0) (f : A → B) (o : Reading A) → ((a : A) → P (f a)) →
     IfGives P (o >=> (λ a u. gives (f a) u))
 if_gives P f (gives a u) h = h a
@@ -36,7 +36,7 @@ module _ (p : ℕ) where
   reference_of_at (id_and_amount w z) = refl
   reference_of_at (amount_alone z) = refl
 
-  -- the same of what a name writes
+  -- the same for the value of a name
   pub named_at : {A : Type 0} (P : A → Type 0) (f : Text → Option A) (o : Option (Text × Text)) →
       ((w : Text) (a : A) → f w ≡ Some a → P a) → IfGives P (name_reading p (of_name f o))
   named_at P f None h = tt

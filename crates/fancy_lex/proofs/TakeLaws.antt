@@ -1,4 +1,4 @@
--- What is taken off the front of a text: a word of at least so many characters.
+-- What is read at the front of a text: a word of at least k characters.
 use Rattle.std.proofs.Common.{◌≡◌, ℕ, Bool, true, false, if◌then◌else◌, ◌+◌, ◌≤◌, [], ◌∷◌, ◌++◌, length, length-append}
 use Rattle.std.proofs.Common.{append_assoc, ap, sym, ◌∙◌, refl, subst, arith, IfSome, Option, Some, None}
 use Rattle.std.proofs.lemmas.Str.{len_utf8_bounds}
@@ -8,7 +8,7 @@ use Rattle.fancy_lex.specs.Text.{Text, Stands, bytes}
 use Rattle.fancy_lex.proofs.TextLemmas.{bytes-append}
 use Rattle.fancy_lex.proofs.LeaveLaws.{Leaves, leaves, faults}
 
--- `u` is left of the text behind a word of at least k characters
+-- `u` is the rest of the text after a word of at least k characters
 pub record Takes (k : ℕ) (t u : Text) : Type 0 where
   pub word : Text
   pub cut : t ≡ word ++ u
@@ -33,7 +33,7 @@ long_bytes (c ∷ w) = omega (arith, long_bytes w, (len_utf8_bounds c).0)
 pub takes_bytes : {k : ℕ} {t u : Text} → Takes k t u → bytes u + k ≤ bytes t
 takes_bytes {u} a = omega (arith, ap bytes a.cut, bytes-append a.word u, long_bytes a.word, a.long)
 
--- a reader of a value or nothing takes at least k characters for a value
+-- a reader of an optional value reads at least k characters for a value
 abbrev pub TakesSome : {A : Type 0} → ℕ → Text → Option (A × Text) → Type 0
 TakesSome k t o = IfSome o (λ p. Takes k t p.1)
 
@@ -42,7 +42,7 @@ pub takes_less_some : {A : Type 0} (j k : ℕ) (t : Text) (o : Option (A × Text
 takes_less_some j k t None e h = tt
 takes_less_some j k t (Some p) e h = record { word = h.word; cut = h.cut; long = omega (arith, e, h.long) }
 
--- a reading takes at least k characters, or its fault stands at the reach p
+-- a reading reads at least k characters, or its error is at the reach p
 pub data TakesOrFails {A : Type 0} (p k : ℕ) : Text → Reading A → Type 0 where
   takes : {t u : Text} {a : A} → Takes k t u → TakesOrFails p k t (gives a u)
   fails_at : {t : Text} {e : Fault} → e.reach ≡ p → TakesOrFails p k t (fails e)
@@ -53,7 +53,7 @@ module _ {A : Type 0} (p k : ℕ) (t : Text) where
   takes_if true l r = l
   takes_if false l r = r
 
-  -- a step that takes nothing more
+  -- a step that reads nothing more
   pub takes_as : {B : Type 0} {o : Reading A} (f : A → B) → TakesOrFails p k t o →
       TakesOrFails p k t (o >=> (λ a u. gives (f a) u))
   takes_as f (takes a) = takes a
@@ -63,11 +63,11 @@ module _ {A : Type 0} (p k : ℕ) (t : Text) where
   takes_less e (takes a) = takes (record { word = a.word; cut = a.cut; long = omega (arith, e, a.long) })
   takes_less e (fails_at l) = fails_at l
 
-  -- the end of the text is left
+  -- the rest of the text is a suffix of it
   pub takes_leaves : {h : ℕ} {o : Reading A} → Stands h t p → TakesOrFails p k t o → Leaves h t o
   takes_leaves stands (takes a) = leaves (a.word, a.cut)
   takes_leaves {h} stands (fails_at e) = faults (subst (Stands h t) (sym e) stands)
 
-  -- where a value is given, at least k bytes were taken
+  -- for a value, at least k bytes were read
   pub takes_or_fails_bytes : {u : Text} {a : A} → TakesOrFails p k t (gives a u) → bytes u + k ≤ bytes t
   takes_or_fails_bytes (takes a) = takes_bytes a

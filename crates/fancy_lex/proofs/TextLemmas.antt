@@ -38,7 +38,7 @@ pub appended : (b : Bool) (bs ts : List ℕ) → IsUtf8 bs →
 appended true bs ts u = chars-append bs ts u
 appended false bs ts u = refl
 
--- what holds of every answer holds where it is Ok
+-- what holds of every result holds if the result is Ok
 pub on_ok : {A E : Type 0} (r : Result A E) (s t u : Text) → s ≡ (if is_ok r then t else u) → OnOk r (s ≡ t)
 on_ok (Ok a) s t u e = e
 on_ok (Err b) s t u e = tt
@@ -57,7 +57,7 @@ bytes-append (c ∷ t) u = omega (arith, bytes-append t u)
 pub bytes_chars : (bs : List ℕ) → IsUtf8 bs → bytes (chars bs) ≡ length bs
 bytes_chars bs u = length_encodes (chars bs) ∙ ap length (encodes-chars bs u)
 
--- two texts have the same bytes where they have the same characters
+-- two texts have the same bytes if and only if they have the same characters
 pub same_text : (a b : List ℕ) → IsUtf8 a → IsUtf8 b → bytes_eq a b ≡ bytes_eq (chars a) (chars b)
 same_text a b u v =
     same_from_decides _ _ (bytes_eq-Decides a b) (
@@ -66,7 +66,7 @@ same_text a b u v =
       λ e. (bytes_eq-Decides (chars a) (chars b)).1 (ap chars e),
     )
 
--- a text that ends with another's characters ends with its bytes
+-- a text that ends with the characters of another text ends with its bytes
 pub cut_bytes : (s r : List ℕ) (w : Text) → IsUtf8 s → IsUtf8 r → chars s ≡ w ++ chars r → s ≡ encodes w ++ r
 cut_bytes s r w u v e =
     sym (encodes-chars s u) ∙ ap encodes e ∙ encodes-append w (chars r) ∙ ap (λ b. encodes w ++ b) (encodes-chars r v)
@@ -78,7 +78,7 @@ cut_lengths s r w u v e = ap length (cut_bytes s r w u v e) ∙ length-append (e
 pub cut_le : (s r : List ℕ) (w : Text) → IsUtf8 s → IsUtf8 r → chars s ≡ w ++ chars r → length r ≤ length s
 cut_le s r w u v e = omega (arith, cut_lengths s r w u v e)
 
--- where no byte was cut off, the text is the same
+-- if no byte was cut off, the text is the same
 pub cut_nothing : (s r : List ℕ) (w : Text) → IsUtf8 s → IsUtf8 r → chars s ≡ w ++ chars r → length r ≡ length s →
     chars r ≡ chars s
 cut_nothing s r w u v e q =
@@ -125,7 +125,7 @@ strip_word_is (c ∷ w) t u e = by_first (λ v. strip_word_is w v u) (strip c t)
     by_first more None i h = absurd cc
     by_first more (Some v) i h = strip_is c t v i ∙ ap (λ x. c ∷ x) (more v h)
 
--- std's answer for a prefix is the word's
+-- std's result for a prefix is the word's
 pub word_stripped : (s w : List ℕ) → IsUtf8 s → IsUtf8 w → (r : Option (Bor (List ℕ))) →
     MatchOption r (FindsTextPrefix w s None) (λ x. StripsPrefix (FindsTextPrefix w) s x.now) →
     strip_word (chars w) (chars s) ≡ option_map (λ x. chars x.now) r

@@ -1,6 +1,6 @@
--- Which flags a word holds.
+-- Which flags are set in a word.
 use Rattle.std.specs.Prelude.{ℕ, Bool, not, ◌==◌, bit_and}
 
--- the bits have one of the flag's in common
+-- whether the flag's bit is set
 abbrev pub has_bit : ℕ → ℕ → Bool
 has_bit bits flag = not (bit_and bits flag == 0)

@@ -1,4 +1,4 @@
--- Word boundaries behind `\b` and `\B`.
+-- Word boundaries after `\b` and `\B`.
 use Rattle.std.specs.Prelude.{◌≡◌, ◌≢◌, ℕ, Bool, true, false, ◌||◌, ◌==◌, if◌then◌else◌, [], ◌∷◌, codes, Option, Some}
 use Rattle.std.specs.Prelude.{None}
 use Rattle.std.specs.Str.{bytes_eq}
@@ -29,12 +29,12 @@ boundary_of_name negated name =
 abbrev pub unnamed_boundary : Bool → Escape
 unnamed_boundary negated = assertion (if negated then NotWordBoundary else WordBoundary)
 
--- behind a brace and layout, what begins the count of a repeat
+-- whether the count of a repeat begins here, after a brace and layout
 abbrev pub at_count : Text → Bool
 at_count [] = false
 at_count (c ∷ t) = is_ascii_digit c || c == comma
 
--- the name behind the opening brace: up to the first closing one outside layout, with layout taken out
+-- the name after the opening brace: up to the first closing brace outside layout, with layout taken out
 pub data BracedName (x : Bool) (p : ℕ) : Text → Reading Text → Type 0 where
   close : {t v : Text} → Before x t (close_brace ∷ v) → BracedName x p t (gives [] v)
   character : {c : ℕ} {t u v w : Text} → c ≢ close_brace → Before x t (c ∷ u) → BracedName x p u (gives w v) →
@@ -44,11 +44,12 @@ pub data BracedName (x : Bool) (p : ℕ) : Text → Reading Text → Type 0 wher
   fault_behind : {c : ℕ} {t u : Text} {e : Fault} → c ≢ close_brace → Before x t (c ∷ u) →
       BracedName x p u (fails e) → BracedName x p t (fails e)
 
--- a brace stands behind layout, with `u` behind it, where the count of a repeat does or does not begin behind layout
+-- after layout there is a brace with `u` after it; `counts` says whether `u`, after layout, begins the count of a
+-- repeat
 abbrev pub Braces : Bool → Text → Text → Bool → Type 0
 Braces x t u counts = Before x t (open_brace ∷ u) × (v : Text) × Before x u v × (at_count v ≡ counts)
 
--- a boundary behind its letter: braces belong to it where they do not begin the count of a repeat
+-- a boundary after its letter: braces belong to it unless they begin the count of a repeat
 pub data Boundary (x : Bool) (p : ℕ) (negated : Bool) : Text → Reading Escape → Type 0 where
   no_brace : {t u : Text} → Before x t u → strip open_brace u ≡ None →
       Boundary x p negated t (gives (unnamed_boundary negated) t)

@@ -1,4 +1,4 @@
--- A boundary's name, as a word that stands there and as a fault tells it.
+-- The name of a boundary, as it is matched against the known names and as an error reports it.
 use Rattle.std.specs.Prelude.{ℕ, suc, Bool, [], ◌∷◌, ◌++◌, length, codes, Option, Some, option_map, option_and_then}
 use Rattle.fancy_lex.specs.declared.escape.Assertion.{Assertion}
 use Rattle.fancy_lex.specs.declared.escape.Assertion.TheVariants.{LeftWordBoundary, RightWordBoundary}
@@ -12,12 +12,12 @@ use Rattle.fancy_lex.specs.LayoutSteps.{past_layout}
 use Rattle.fancy_lex.specs.Reading.{Reading, fault_at, ◌>=>◌, choose}
 use Rattle.fancy_lex.specs.Text.{Text, strip}
 
--- what follows the word and a closing brace, with layout before each character
+-- the text after the word and a closing brace, with layout before each character, if the text begins with them
 unfoldable pub after_name : Bool → Text → Text → Option Text
 after_name x [] t = option_and_then (strip close_brace) (past_layout x t)
 after_name x (c ∷ word) t = option_and_then (after_name x word) (option_and_then (strip c) (past_layout x t))
 
--- the boundary whose name and closing brace stand there, and what follows
+-- the boundary whose name and closing brace are at the front, and the text after them
 unfoldable pub known_boundary : Bool → Text → Option (Assertion × Text)
 known_boundary x t =
     choose (after_name x (codes "start") t) (λ v. Some (LeftWordBoundary, v))
@@ -25,10 +25,10 @@ known_boundary x t =
     (choose (after_name x (codes "start-half") t) (λ v. Some (LeftWordHalfBoundary, v))
     (option_map (λ v. (RightWordHalfBoundary, v)) (after_name x (codes "end-half") t))))
 
--- the fault of a name, behind what the fault tells before it
+-- the error of a name that is unknown; `out` is the text that the error carries before the name
 unfoldable pub name_fault_behind : Bool → ℕ → Text → ℕ → Text → Reading Escape
 name_fault_behind x p out k t = name x p k t >=> (λ w v. fault_at p (invalid_escape (out ++ (w ++ codes "}"))))
 
--- the fault of a name, with what stands before it
+-- the same with the opening of the boundary before the name
 unfoldable pub name_fault : Bool → ℕ → Bool → Text → Reading Escape
 name_fault x p negated t = name_fault_behind x p (boundary_head negated) (suc (length t)) t

@@ -8,15 +8,15 @@ use Rattle.fancy_lex.specs.LayoutSteps.{layout}
 use Rattle.fancy_lex.specs.Reading.{Reading, gives, fails, ◌>=>◌, choose, layout_reading}
 use Rattle.fancy_lex.specs.Text.{Text, strip}
 
--- a closing brace and what follows it, or a step more, or the end
+-- the text after a closing brace, or one more step, or the end of the text
 abbrev pub up_to_brace : {A : Type 0} → A → (Text → A) → (ℕ → Text → A) → Text → A
 up_to_brace end closed more [] = end
 up_to_brace end closed more (c ∷ t) = if c == close_brace then closed t else more c t
 
--- the backslash stands at the reach p, and x says that blanks are layout
+-- the backslash is at the reach p; if x is true, blanks are layout
 module _ (x : Bool) (p : ℕ) where
-  -- the name up to the first closing brace outside layout, with layout taken out; k steps are left, each of which takes
-  -- a character, so that they never run out
+  -- the name up to the first closing brace outside layout, with layout taken out; k is the number of steps left: each
+  -- reads a character, so it is never used up
   unfoldable pub name : ℕ → Text → Reading Text
   name zero t = fails (boundary_not_closed p)
   name (suc k) t =
@@ -27,14 +27,14 @@ module _ (x : Bool) (p : ℕ) where
       (λ c v. name k v >=> (λ w v. gives (c ∷ w) v))
       u)
 
-  -- behind the opening brace
+  -- after the opening brace
   unfoldable pub named_boundary : Bool → Text → Reading Escape
   named_boundary negated t =
       name (suc (length t)) t >=> (λ w v.
       choose (boundary_of_name negated w) (λ a. gives (assertion a) v)
       (fails (name_of_no_boundary p negated w)))
 
-  -- behind the letter: where no braces belong to the boundary, it ends right there
+  -- after the letter: if no braces belong to the boundary, it ends right there
   unfoldable pub boundary : Bool → Text → Reading Escape
   boundary negated t =
       layout_reading (layout x t) >=> (λ _ u.

@@ -42,13 +42,13 @@ backslash = code "\\"
 abbrev pub caret : ℕ
 caret = code "^"
 
--- the character is in the list
+-- whether the character is in the list
 abbrev pub is_among : ℕ → List ℕ → Bool
 is_among c [] = false
 is_among c (d ∷ []) = c == d
 is_among c (d ∷ e ∷ rest) = c == d || is_among c (e ∷ rest)
 
--- the character is one of the text's
+-- whether the character occurs in the text
 infix 60 ◌∈◌
 abbrev pub ◌∈◌ : ℕ → String → Bool
 c ∈ s = is_among c (codes s)

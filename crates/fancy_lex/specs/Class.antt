@@ -1,4 +1,4 @@
--- Classes: what stands behind an opening bracket, and the text that is written for it.
+-- Classes: the text after an opening bracket, and the text that is written for the class.
 use Rattle.std.specs.Prelude.{◌≡◌, ℕ, zero, suc, ◌+◌, ◌-◌, ◌/◌, ◌%◌, Bool, true, false, not, ◌&&◌, ◌||◌, ◌==◌, nat_lt}
 use Rattle.std.specs.Prelude.{if◌then◌else◌, [], ◌∷◌, ◌++◌, codes}
 use Prim.Native.Char.{code}
@@ -12,7 +12,7 @@ use Rattle.fancy_lex.specs.Reading.{Reading, gives, fails, choose, ◌>=>◌}
 use Rattle.fancy_lex.specs.Text.{Text, bytes, strip}
 use Rattle.fancy_lex.specs.declared.flags.Flags.{Flags}
 
--- the characters that stand behind a backslash in a class
+-- the characters that need a backslash in a class
 abbrev pub needs_backslash_in_class : ℕ → Bool
 needs_backslash_in_class c = c ∈ "\\.+*?()|[]{}^$#&-~"
 
@@ -20,7 +20,7 @@ needs_backslash_in_class c = c ∈ "\\.+*?()|[]{}^$#&-~"
 abbrev pub upper_hex_digit : ℕ → ℕ
 upper_hex_digit d = if nat_lt d 10 then code "0" + d else code "A" + (d - 10)
 
--- a character, behind a backslash where it is a mark
+-- the character, with a backslash before it if it is a metacharacter
 abbrev pub char_text : ℕ → Text
 char_text c = if needs_backslash_in_class c then backslash ∷ c ∷ [] else c ∷ []
 
@@ -28,40 +28,40 @@ char_text c = if needs_backslash_in_class c then backslash ∷ c ∷ [] else c �
 abbrev pub byte_text : ℕ → Text
 byte_text b = codes "\\x" ++ (upper_hex_digit (b / 16) ∷ upper_hex_digit (b % 16) ∷ [])
 
--- what is written for an escape; in a class it is a character, a byte or a text
+-- the text that is written for an escape; in a class it is a character, a byte or a delegate
 abbrev pub escape_text : Escape → Text
 escape_text (literal c casei) = char_text c
 escape_text (literal_bytes b) = byte_text b
 escape_text (delegate t casei) = t
 escape_text _ = []
 
--- whether it is a negated set that names properties or other classes
+-- whether the escape is a negated set that names properties or other classes
 abbrev pub is_negated : Escape → Bool
 is_negated (delegate t casei) = is_negated_set t
 is_negated _ = false
 
--- what stands before the next negated set
+-- the text before the next negated set
 abbrev pub joint : Bool → Text
 joint needed = if needed then codes "&&" else []
 
--- the text of an escape where `seen` says whether a negated set is written already
+-- the text of an escape; `seen` says whether a negated set was written before it
 abbrev pub escape_in_class : Bool → Escape → Text
 escape_in_class seen e = joint (seen && is_negated e) ++ escape_text e
 
--- the mark is written too, where it stands at the front
+-- adds the delimiter to the text that is written, if the rest begins with it
 abbrev pub with_mark : ℕ → Text × Text → Text × Text
 with_mark mark p = choose {B = Text × Text} (strip mark p.1) (λ u. (p.0 ++ mark ∷ [], u)) p
 
--- what begins a class, behind what is written so far: the bracket, a caret, and a closing bracket that is plain; and
--- what is left
+-- adds the opening of a class to the text that is written: the bracket, a caret, and a closing bracket that is a plain
+-- character; returns the rest of the text too
 unfoldable pub class_head : Text → Text → Text × Text
 class_head out t = with_mark close_bracket (with_mark caret (out ++ open_bracket ∷ [], t))
 
 -- a class under these flags
 module _ (f : Flags) where
-  -- What is left of a class that stands in so many outer ones, behind what is written so far. The first number is how
-  -- many steps are left: each takes a byte or more, so that they never run out. `seen` says whether a negated set is
-  -- written already.
+  -- The rest of a class inside `outer` other classes, with `out` as the text that is written so far. The first number
+  -- is the number of steps left: each reads a byte or more, so it is never used up. `seen` says whether a negated set
+  -- was written before.
   unfoldable pub class_from : ℕ → ℕ → Bool → Text → Text → Reading Text
   class_from zero outer seen out t = fails class_not_closed
   class_from (suc k) outer seen out [] = fails class_not_closed
@@ -73,21 +73,22 @@ module _ (f : Flags) where
       if outer == 0 then gives (out ++ c ∷ []) t else class_from k (outer - 1) seen (out ++ c ∷ []) t)
       else class_from k outer seen (out ++ c ∷ []) t
 
-  -- the class behind the bracket
+  -- the class after the bracket
   unfoldable pub class : Text → Reading Text
   class t = class_from (suc (bytes t)) 0 false (class_head [] t).0 (class_head [] t).1
 
--- what a class comes to: what is written, whether a negated set is among it or was before, and what is left; or a fault
+-- the result of a class: the text that is written, whether a negated set was written by then, and the rest of the text;
+-- or an error
 pub data Written : Type 0 where
   written : Text → Bool → Text → Written
   fault : Fault → Written
 
--- a character that stands for itself there
+-- a character that is a literal in a class
 abbrev pub is_plain_in_class : ℕ → Bool
 is_plain_in_class c = not (c ∈ "\\[]")
 
 mutual
-  -- a class behind its bracket; the flag says whether a negated set was written before it
+  -- a class after its bracket; the flag says whether a negated set was written before it
   pub data Class : Flags → Bool → Text → Written → Type 0 where
     class_items : {f : Flags} {b a : Bool} {t u v head w : Text} →
         ◌≡◌ {A = Text × Text} (class_head [] t) (head, u) →
@@ -122,7 +123,7 @@ mutual
     nested_fault : {f : Flags} {b m : Bool} {t u x : Text} {e : Fault} → Class f b t (written x m u) →
         ClassItems f m u (fault e) → ClassItems f b (open_bracket ∷ t) (fault e)
 
--- the outermost class behind its bracket, before which no negated set was written
+-- the outermost class after its bracket; no negated set was written before it
 abbrev pub OuterClass : Flags → Text → Reading Text → Type 0
 OuterClass f t (gives out v) = (a : Bool) × Class f false t (written out a v)
 OuterClass f t (fails e) = Class f false t (fault e)

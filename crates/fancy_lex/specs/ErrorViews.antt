@@ -1,4 +1,4 @@
--- Errors, as the code holds them: what they stand for, and what they print.
+-- Errors in code: their kinds, and how they are displayed.
 use Rattle.std.specs.Prelude.{◌≡◌, ◌≤◌, ℕ, Bool, false, List, ◌++◌, codes, string_bytes, chars, ⊤}
 use Rattle.std.specs.Fmt.{decimal}
 use Rattle.fancy_lex.specs.Fault.{Kind, general_parse_error, unclosed_open_paren, invalid_repeat, recursion_exceeded}
@@ -14,7 +14,7 @@ use Rattle.fancy_lex.specs.declared.error.ParseError as declared
 use Rattle.fancy_lex.specs.declared.error.ParseError.TheVariants as code
 use Rattle.fancy_lex.specs.Text.{Text, bytes, place_at}
 
--- the kind that the code's value stands for
+-- the kind of the code's value
 abbrev pub kind_of : declared.ParseError → Kind
 kind_of (code.GeneralParseError s) = general_parse_error (chars (string_bytes s))
 kind_of code.UnclosedOpenParen = unclosed_open_paren
@@ -33,28 +33,28 @@ kind_of code.TargetNotRepeatable = target_not_repeatable
 kind_of code.InvalidGroupName = invalid_group_name
 kind_of (code.InvalidGroupNameBackref s) = invalid_group_name_backref (chars (string_bytes s))
 
--- the bytes that an error prints
+-- the bytes that an error is displayed as
 abbrev pub error_text : Error → List ℕ
 error_text (ParseError place kind) =
     codes "Parsing error at position " ++ (decimal place ++ (codes ": " ++ kind_text (kind_of kind)))
 error_text OutOfMemory = codes "out of memory"
 
--- the same kind at the same place, or both that memory ran out
+-- both are the same kind at the same position, or both are out of memory
 abbrev pub SameError : Error → Error → Type 0
 SameError (ParseError p k) (ParseError q l) = (p ≡ q) × (kind_of k ≡ kind_of l)
 SameError OutOfMemory OutOfMemory = Unit {0}
 SameError _ _ = ⊥
 
--- P holds of the failure's kind and reach, or M does where memory ran out
+-- P holds of the error's kind and reach, or M holds if memory ran out
 abbrev pub MatchFailure : Failure → Type 0 → (Kind → ℕ → Type 0) → Type 0
 MatchFailure inside.OutOfMemory M P = M
 MatchFailure (inside.At p k) M P = P (kind_of k) p
 
--- memory ran out, or P holds of the failure's kind and reach
+-- memory ran out, or P holds of the error's kind and reach
 abbrev pub IfFailed : Failure → (Kind → ℕ → Type 0) → Type 0
 IfFailed e P = MatchFailure e ⊤ P
 
--- memory ran out, or the fault stands at a reach of at most m
+-- memory ran out, or the reach of the error is at most m
 abbrev pub StandsWithin : ℕ → Failure → Type 0
 StandsWithin m e = IfFailed e (λ k p. p ≤ m)
 
@@ -63,7 +63,7 @@ abbrev pub error_in : Text → Failure → Error
 error_in t (inside.At p k) = ParseError (place_at (bytes t) p) k
 error_in t inside.OutOfMemory = OutOfMemory
 
--- whether its kind carries a text, whose clone takes memory
+-- whether the error's kind carries a text; only the clone of such an error allocates
 abbrev pub error_carries_text : Error → Bool
 error_carries_text (ParseError place kind) = carries_text (kind_of kind)
 error_carries_text OutOfMemory = false

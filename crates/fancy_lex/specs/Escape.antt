@@ -1,4 +1,4 @@
--- Escapes: what stands behind a backslash.
+-- Escapes: the text after a backslash.
 use Rattle.std.specs.Prelude.{ℕ, ◌+◌, Bool, true, false, not, ◌&&◌, ◌||◌, if◌then◌else◌, List, [], ◌∷◌, Option, Some}
 use Prim.Native.Char.{code}
 use Prim.Native.String.{String}
@@ -20,7 +20,7 @@ use Rattle.fancy_lex.specs.Reading.{Reading, gives, fails, ◌>=>◌, choose}
 use Rattle.fancy_lex.specs.Referred.{Reference}
 use Rattle.fancy_lex.specs.Text.{Text, reach_of}
 
--- the fault of a letter that is no escape; in all that follows the backslash stands at the reach p
+-- the error of a letter that is no escape; here and below the backslash is at the reach p
 abbrev pub unknown_escape : ℕ → ℕ → Reading Escape
 unknown_escape p c = fails (letter_of_no_escape p c)
 
@@ -28,18 +28,18 @@ unknown_escape p c = fails (letter_of_no_escape p c)
 abbrev pub backref_leaf : Flags → Reading Reference → Reading Escape
 backref_leaf f o = o >=> (λ r u. gives (backref r f.casei) u)
 
--- digits are a back reference, which no class holds
+-- digits are a back reference, which is an error in a class
 unfoldable pub number_escape : Flags → Bool → ℕ → Text → Reading Escape
 number_escape f inside p t =
     if inside then reference.group_number t >=> (λ k u. fails (number_in_class p))
     else backref_leaf f (reference.numbered_reference t)
 
--- a call behind its letter
+-- a call after its letter
 unfoldable pub call_escape : ℕ → ℕ → Text → Reading Escape
 call_escape p c [] = unknown_escape p c
 call_escape p c (d ∷ t) = reference.subroutine_call (d ∷ t) >=> (λ r u. gives (subroutine_call r) u)
 
--- a property behind its letter
+-- a property after its letter
 unfoldable pub property : Flags → Bool → ℕ → ℕ → Text → Reading Escape
 property f inside p c [] = unknown_escape p c
 property f inside p c (d ∷ t) =
@@ -47,11 +47,11 @@ property f inside p c (d ∷ t) =
     (λ q. gives (delegate (property_text f.unicode inside q.0) f.casei) q.1)
     (fails (property_not_closed p))
 
--- neither a letter nor a digit; outside a class `<` and `>` are boundaries
+-- whether the character is a literal after a backslash: neither a letter nor a digit, nor `<` or `>` outside a class
 abbrev pub is_itself : Bool → ℕ → Bool
 is_itself inside c = not (is_ascii_alphanumeric c) && (inside || not (c ∈ "<>"))
 
--- letters that are all of their escape, in a class and outside, and what c stands for as one of them
+-- letters that are the whole escape, in a class and outside, and the leaf of c as one of them
 abbrev pub lone_anywhere : Flags → ℕ → List (String × Escape)
 lone_anywhere f c =
     ("dDsSwW", delegate (backslash ∷ c ∷ []) f.casei)
@@ -65,11 +65,11 @@ lone_anywhere f c =
     ∷ ("v", literal (code "\u{b}") false)
     ∷ ("e", literal (code "\u{1b}") false) ∷ []
 
--- the same of those in a class only
+-- the same for letters that are escapes only in a class
 abbrev pub lone_in_class : ℕ → List (String × Escape)
 lone_in_class c = ("b", literal (code "\u{8}") false) ∷ ("kAzBKGR", literal c false) ∷ []
 
--- the same of those outside only
+-- the same for characters that are escapes only outside a class
 abbrev pub lone_outside : Flags → ℕ → List (String × Escape)
 lone_outside f c =
     ("A", assertion StartText)
@@ -83,17 +83,17 @@ lone_outside f c =
     ∷ ("<", if f.oniguruma_mode then literal c false else assertion LeftWordBoundary)
     ∷ (">", if f.oniguruma_mode then literal c false else assertion RightWordBoundary) ∷ []
 
--- what c stands for by the row that has it among its letters
+-- the leaf of c in the row that has it among its letters
 abbrev pub row_of : ℕ → List (String × Escape) → Option Escape
 row_of c rows = lookup (λ letters. c ∈ letters) rows
 
--- what a character stands for that is all of its escape
+-- the leaf of a character that is the whole escape
 unfoldable pub lone_escape : Flags → Bool → ℕ → Option Escape
 lone_escape f inside c =
     if is_itself inside c then Some (literal c false)
     else option_or (row_of c (lone_anywhere f c)) (row_of c (if inside then lone_in_class c else lone_outside f c))
 
--- references, calls and boundaries, behind their letters
+-- references, calls and boundaries after their letters
 unfoldable pub outside : Flags → ℕ → ℕ → Text → Reading Escape
 outside f p c t =
     if c ∈ "k" then backref_leaf f (reference.back_reference t)
@@ -101,7 +101,7 @@ outside f p c t =
     else if c ∈ "bB" then boundary f.ignore_space p (c ∈ "B") t
     else unknown_escape p c
 
--- what stands behind the backslash, in a class or outside
+-- the escape after the backslash, in a class or outside
 unfoldable pub escape_at : Flags → Bool → ℕ → Text → Reading Escape
 escape_at f inside p [] = fails (backslash_at_end p)
 escape_at f inside p (c ∷ t) =
@@ -112,6 +112,6 @@ escape_at f inside p (c ∷ t) =
     else if c ∈ "pP" then property f inside p c t
     else choose (lone_escape f inside c) (λ e. gives e t) (if inside then unknown_escape p c else outside f p c t)
 
--- what stands behind a backslash, which comes right before t, in a class or outside
+-- the escape after a backslash that is right before t, in a class or outside
 abbrev pub escape : Flags → Bool → Text → Reading Escape
 escape f inside t = escape_at f inside (reach_of t + 1) t

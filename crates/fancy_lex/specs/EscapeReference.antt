@@ -1,4 +1,4 @@
--- References in escapes: what stands behind `\k`, behind `\g`, or behind a backslash in digits.
+-- References in escapes: after `\k`, after `\g`, or in digits after a backslash.
 use Rattle.std.specs.Prelude.{ℕ, ◌^◌, Bool, true, false, ◌&&◌, ◌||◌, nat_lt, if◌then◌else◌, [], ◌∷◌, Option, Some, None}
 use Rattle.std.specs.Prelude.{option_map, is_some}
 use Rattle.std.specs.Option.{option_and_then}
@@ -15,11 +15,11 @@ use Rattle.fancy_lex.specs.Referred.{reference_by_name}
 use Rattle.fancy_lex.specs.Target.{Target, by_number, relative}
 use Rattle.fancy_lex.specs.Text.{Text, reach_of}
 
--- a number that a word holds, or else the fault
+-- the number if it fits in a word, and otherwise the error
 abbrev pub number_reading : Fault → ℕ × Text → Reading ℕ
 number_reading e q = if nat_lt q.0 (2 ^ 64) then gives q.0 q.1 else fails e
 
--- all the digits at the front, which number a group; a text that begins with none has the same fault
+-- all the digits at the front, which are the number of a group; without a digit the error is the same
 unfoldable pub group_number : Text → Reading ℕ
 group_number t = choose (number t) (number_reading (number_too_great t)) (fails (number_too_great t))
 
@@ -27,11 +27,11 @@ group_number t = choose (number t) (number_reading (number_too_great t)) (fails 
 unfoldable pub numbered_reference : Text → Reading Reference
 numbered_reference t = group_number t >=> (λ k u. gives (reference_to (reach_of t) (by_number k) None) u)
 
--- a back reference behind `\k`
+-- a back reference after `\k`
 unfoldable pub back_reference : Text → Reading Reference
 back_reference t = reference_by_name (reach_of t) true (marked_name t)
 
--- the name of a call is relative: a sign alone, or a sign and a number text
+-- whether the name of a call is relative: only a sign, or a sign and a number text
 unfoldable pub is_relative : Text → Bool
 is_relative [] = false
 is_relative (c ∷ t) = (c ∈ "+-") && (is_nothing t || is_some (number_text t))
@@ -49,7 +49,7 @@ call_target w = if is_relative w then option_and_then relative_target (id_refere
 unfoldable pub written_call : ℕ → Text → Option Call
 written_call p w = option_map (call_to p) (call_target w)
 
--- the call between marks, at the reach p
+-- the call in delimiters at the reach p
 unfoldable pub marked_call : ℕ → Text → Option (Call × Text)
 marked_call p t = of_name (written_call p) (marked_name t)
 
@@ -57,7 +57,7 @@ marked_call p t = of_name (written_call p) (marked_name t)
 unfoldable pub numbered_call : Text → Reading Call
 numbered_call t = group_number t >=> (λ k u. gives (call_to (reach_of t) (by_number k)) u)
 
--- a call behind `\g`: all the digits there, or a name between marks
+-- a call after `\g`: all the digits there, or a name in delimiters
 unfoldable pub subroutine_call : Text → Reading Call
 subroutine_call t =
     if at_digit t then numbered_call t else name_reading (reach_of t) (marked_call (reach_of t) t)

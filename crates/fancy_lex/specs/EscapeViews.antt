@@ -1,4 +1,4 @@
--- What an escape stands for, as the code holds it.
+-- The leaves of escapes, in code.
 use Rattle.std.specs.Prelude.{[], ◌∷◌}
 use Rattle.fancy_lex.specs.Characters.{backslash}
 use Rattle.fancy_lex.specs.Escaped.{Escape, literal, literal_bytes, any, assertion, general_newline, keep_out}
@@ -20,7 +20,7 @@ delegate_text text.HexDigit = hex_class
 delegate_text text.NotHexDigit = negated_hex_class
 delegate_text (text.Property property unicode inside) = property_text unicode inside (view_property property)
 
--- what the code's value stands for
+-- the leaf of the code's value
 abbrev pub escape_of : declared.Escaped → Escape
 escape_of (code.Literal val casei) = literal val casei
 escape_of (code.LiteralBytes byte) = literal_bytes byte

@@ -1,8 +1,8 @@
--- Faults: a kind and a reach, apart from how the code holds them.
+-- Errors: a kind and a reach, independent of the code.
 use Rattle.std.specs.Prelude.{ℕ, Bool, true, false, List, ◌++◌, codes, encode_utf8_all}
 use Rattle.fancy_lex.specs.Text.{Text}
 
--- the kinds, with their texts as lists of characters
+-- the kinds of errors, with their texts as lists of characters
 pub data Kind : Type 0 where
   general_parse_error : Text → Kind
   unclosed_open_paren : Kind
@@ -21,12 +21,12 @@ pub data Kind : Type 0 where
   invalid_group_name : Kind
   invalid_group_name_backref : Text → Kind
 
--- a kind, and the reach of the place where it stands
+-- the reach of the error's position, and its kind
 pub record Fault : Type 0 where
   pub reach : ℕ
   pub kind : Kind
 
--- the bytes that a kind prints
+-- the bytes that a kind is displayed as
 abbrev pub kind_text : Kind → List ℕ
 kind_text (general_parse_error s) = codes "General parsing error: " ++ encode_utf8_all s
 kind_text unclosed_open_paren = codes "Opening parenthesis without closing parenthesis"
@@ -45,7 +45,7 @@ kind_text target_not_repeatable = codes "Target of repeat operator is invalid"
 kind_text invalid_group_name = codes "Could not parse group name"
 kind_text (invalid_group_name_backref s) = codes "Invalid group name in back reference: " ++ encode_utf8_all s
 
--- whether the kind carries a text, whose clone takes memory
+-- whether the kind carries a text; only the clone of such a kind allocates
 abbrev pub carries_text : Kind → Bool
 carries_text (general_parse_error s) = true
 carries_text (invalid_escape s) = true

@@ -1,5 +1,5 @@
--- The faults of a pattern, a row for each: what went wrong, the kind with its text, and the reach. A row that takes a
--- reach p is told it by the reader; one that takes a text t measures it where that is left to be read.
+-- The errors of a pattern, a definition for each: its kind, with the text of the kind, and its reach. A parameter p is
+-- the reach of the error, and a parameter t is the rest of the text, from which the reach is computed.
 use Rattle.std.specs.Prelude.{ℕ, ◌+◌, Bool, [], ◌∷◌, ◌++◌, codes, if◌then◌else◌}
 use Rattle.fancy_lex.specs.Characters.{backslash}
 use Rattle.fancy_lex.specs.Fault.{Kind, Fault, general_parse_error, unclosed_open_paren, recursion_exceeded}
@@ -9,7 +9,7 @@ use Rattle.fancy_lex.specs.Fault.{changing_unicode_mode_unsupported, invalid_bac
 use Rattle.fancy_lex.specs.Fault.{invalid_group_name, invalid_group_name_backref}
 use Rattle.fancy_lex.specs.Text.{Text, reach_of, at_end}
 
--- ---- the texts of the general faults
+-- ---- the texts of the general errors
 
 abbrev pub close_paren_expected : Text
 close_paren_expected = codes "expected close paren"
@@ -23,55 +23,56 @@ body_expected =
 
 -- ---- layout, groups and quantifiers
 
--- a comment without its `)`: at the end of the text, or one past it where the text ends right behind an unpaired
+-- a comment without its `)`: at the end of the text, or one past it if the text ends right after an unpaired
 -- backslash
 abbrev pub comment_not_closed : ℕ → Fault
 comment_not_closed p = record { reach = p; kind = unclosed_open_paren }
 
--- a group whose inside would be too deep: at its `(`, where t begins
+-- a group nested too deeply: at its `(`, where t begins
 abbrev pub group_too_deep : Text → Fault
 group_too_deep t = record { reach = reach_of t; kind = recursion_exceeded }
 
--- an adjacent quantifier too many, or too deep: behind its reading, where t begins
+-- too many adjacent quantifiers, or quantifiers nested too deeply: after the last one, where t begins
 abbrev pub quantifier_too_deep : Text → Fault
 quantifier_too_deep t = record { reach = reach_of t; kind = recursion_exceeded }
 
--- a quantifier on what is not repeatable: at its mark or closing brace, one byte before t
+-- a quantifier on what is not repeatable: at its operator or closing brace, one byte before t
 abbrev pub not_repeatable : Text → Fault
 not_repeatable t = record { reach = reach_of t + 1; kind = target_not_repeatable }
 
--- the end of the text where a group's `)`, a flag letter, or the text behind `(?(` or `(?~` is due
+-- the end of the text instead of a group's `)`, a flag letter, or the text after `(?(` or `(?~`
 abbrev pub group_not_closed : Fault
 group_not_closed = record { reach = at_end; kind = unclosed_open_paren }
 
--- a bar behind the second branch of an absent expression: at that bar, where t begins
+-- a bar after the second branch of an absent expression: at that bar, where t begins
 abbrev pub bar_for_close_paren : Text → Fault
 bar_for_close_paren t = record { reach = reach_of t; kind = general_parse_error close_paren_expected }
 
--- a `)` that closes nothing: there, where t begins
+-- a `)` without an open group: at that `)`, where t begins
 abbrev pub close_paren_left_over : Text → Fault
 close_paren_left_over t = record { reach = reach_of t; kind = general_parse_error end_expected }
 
--- a conditional whose body takes no byte, and whose condition is none on a group: behind the condition's `)`, where t
+-- a conditional with an empty body, whose condition does not refer to a group: after the condition's `)`, where t
 -- begins
 abbrev pub body_wanting : Text → Fault
 body_wanting t = record { reach = reach_of t; kind = general_parse_error body_expected }
 
--- ---- heads of groups
+-- ---- openings of groups
 
--- a character that is no letter of flags: right behind the `?`, where t begins with `w` through that character
+-- a character that is no flag letter: right after the `?`, where t begins; `w` is the text from there through that
+-- character
 abbrev pub no_flag_letter : Text → Text → Fault
 no_flag_letter t w = record { reach = reach_of t; kind = unknown_flag (codes "(?" ++ w) }
 
--- `u` set or cleared against the mode: at the `u`, where t begins
+-- a `u` that changes the mode: at the `u`, where t begins
 abbrev pub mode_changed : Text → Fault
 mode_changed t = record { reach = reach_of t; kind = changing_unicode_mode_unsupported }
 
--- a named group without its name or closing mark: at the `?`, one byte before t
+-- a named group without a name or without its closing delimiter: at the `?`, one byte before t
 abbrev pub group_not_named : Text → Fault
 group_not_named t = record { reach = reach_of t + 1; kind = invalid_group_name }
 
--- a reference, call or condition's target that does not read: at the reference
+-- a reference, call or condition whose target cannot be parsed: at the reference
 abbrev pub reference_not_read : ℕ → Fault
 reference_not_read p = record { reach = p; kind = invalid_group_name }
 
@@ -79,13 +80,13 @@ reference_not_read p = record { reach = p; kind = invalid_group_name }
 abbrev pub unknown_verb : Text → Fault
 unknown_verb t = record { reach = reach_of t; kind = target_not_repeatable }
 
--- ---- escapes, whose backslash stands at the reach p
+-- ---- escapes, whose backslash is at the reach p
 
 -- a backslash at the end
 abbrev pub backslash_at_end : ℕ → Fault
 backslash_at_end p = record { reach = p; kind = trailing_backslash }
 
--- a number that no word holds, behind a backslash or `\g`: at its first digit, where t begins
+-- a number after a backslash or `\g` that fits in no word: at its first digit, where t begins
 abbrev pub number_too_great : Text → Fault
 number_too_great t = record { reach = reach_of t; kind = invalid_backref }
 
@@ -93,11 +94,11 @@ number_too_great t = record { reach = reach_of t; kind = invalid_backref }
 abbrev pub letter_of_no_escape : ℕ → ℕ → Fault
 letter_of_no_escape p c = record { reach = p; kind = invalid_escape (backslash ∷ c ∷ []) }
 
--- the braces of a boundary without their end; the text is the same for `\B`
+-- a boundary whose braces are not closed; the text is the same for `\B`
 abbrev pub boundary_not_closed : ℕ → Fault
 boundary_not_closed p = record { reach = p; kind = invalid_escape (codes "\\b{...}") }
 
--- what stands before a boundary's name; `\B` is negated
+-- the text before a boundary's name; `\B` is negated
 abbrev pub boundary_head : Bool → Text
 boundary_head negated = if negated then codes "\\B{" else codes "\\b{"
 
@@ -108,19 +109,19 @@ name_of_no_boundary p negated w = record {
   kind = invalid_escape (boundary_head negated ++ (w ++ codes "}"));
 }
 
--- the name of a property in braces that do not end
+-- a property whose braces are not closed
 abbrev pub property_not_closed : ℕ → Fault
 property_not_closed p = record { reach = p; kind = unclosed_unicode_name }
 
--- a code that does not read: where its digits or its brace should stand, at the reach h
+-- a code that cannot be parsed: at the reach h, where its digits or its brace should begin
 abbrev pub code_not_read : ℕ → Fault
 code_not_read h = record { reach = h; kind = invalid_hex }
 
--- a code of no character: there too
+-- a code that is no character: at the same reach
 abbrev pub code_of_no_character : ℕ → Fault
 code_of_no_character h = record { reach = h; kind = invalid_codepoint_value }
 
--- the end of the text in a class
+-- a class that is not closed: at the end of the text
 abbrev pub class_not_closed : Fault
 class_not_closed = record { reach = at_end; kind = invalid_class }
 
@@ -128,16 +129,16 @@ class_not_closed = record { reach = at_end; kind = invalid_class }
 abbrev pub number_in_class : ℕ → Fault
 number_in_class p = record { reach = p; kind = invalid_class }
 
--- ---- references, once the whole text was read: each at its reference
+-- ---- references that cannot be resolved, found after the whole text was read: each at its reference
 
--- a back reference by a name whose last group opens at it or behind it
+-- a back reference by a name whose last group opens at it or after it
 abbrev pub name_of_later_group : Text → Kind
 name_of_later_group w = invalid_group_name_backref w
 
--- an unknown name, or a number below 0, in a back reference or condition
+-- an unknown name, or a relative number that leads below group 0, in a back reference or condition
 abbrev pub no_such_group : Kind
 no_such_group = invalid_backref
 
--- the fault of this kind of the reference at the reach p
+-- the error of this kind at the reach p of the reference
 abbrev pub of_reference : ℕ → Kind → Fault
 of_reference p k = record { reach = p; kind = k }

@@ -3,7 +3,7 @@ use Rattle.std.specs.Prelude.{ℕ, true, false}
 use Rattle.fancy_lex.specs.Bits.{has_bit}
 use Rattle.fancy_lex.specs.declared.flags.Flags.{Flags}
 
--- those of the nine flags whose bit a word holds; the flags are handed in under these numbers
+-- the flags whose bits are set in the word; callers pass the nine flags as these numbers
 abbrev pub flags_of : ℕ → Flags
 flags_of bits = record {
   casei = has_bit bits 1;
@@ -31,6 +31,6 @@ no_flag = record {
   ignore_numbered_groups = false;
 }
 
--- FLAG_UNICODE alone
+-- only FLAG_UNICODE
 abbrev pub unicode_alone : Flags
 unicode_alone = record no_flag { unicode = true }

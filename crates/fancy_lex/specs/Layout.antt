@@ -1,4 +1,4 @@
--- Layout: comments, and under IGNORE_SPACE blanks and line comments.
+-- Layout: comments, and under IGNORE_SPACE also blanks and line comments.
 use Rattle.std.specs.Prelude.{◌≡◌, ◌≢◌, ℕ, Bool, true, ◌||◌, ◌==◌, [], ◌∷◌, ◌++◌, ◌⊎◌, codes}
 use Prim.Native.Char.{code}
 use Rattle.fancy_lex.specs.Characters.{line_feed, hash, close_paren, backslash}
@@ -14,16 +14,16 @@ pub data InComment : Text → Type 0 where
   plain : {c : ℕ} {t : Text} → c ≢ backslash → c ≢ close_paren → InComment t → InComment (c ∷ t)
   pair : {b c : ℕ} {t : Text} → b ≡ backslash → InComment t → InComment (b ∷ c ∷ t)
 
--- no line feed
+-- a text without a line feed
 pub data InLine : Text → Type 0 where
   end_line : InLine []
   on_line : {c : ℕ} {t : Text} → c ≢ line_feed → InLine t → InLine (c ∷ t)
 
--- what a comment begins with
+-- the opening of a comment
 abbrev pub comment_head : Text
 comment_head = codes "(?#"
 
--- `(?#`, a comment's inside, and `)`
+-- `(?#`, the inside of a comment, and `)`
 abbrev pub IsComment : Text → Type 0
 IsComment u = (t : Text) × InComment t × (u ≡ comment_head ++ (t ++ (close_paren ∷ [])))
 
@@ -31,15 +31,15 @@ IsComment u = (t : Text) × InComment t × (u ≡ comment_head ++ (t ++ (close_p
 abbrev pub IsBlank : Text → Type 0
 IsBlank u = (c : ℕ) × (is_blank c ≡ true) × (u ≡ c ∷ [])
 
--- `#` through the next line feed, or through the end of the text, where nothing follows
+-- `#` through the next line feed, or through the end of the text if there is no line feed
 abbrev pub IsLineComment : Text → Text → Type 0
 IsLineComment u v = (t : Text) × InLine t × ((u ≡ hash ∷ (t ++ (line_feed ∷ []))) ⊎ ((u ≡ hash ∷ t) × (v ≡ [])))
 
--- `u` is a unit of layout where `v` follows; the flag says that blanks and line comments are layout
+-- `u` is a unit of layout with `v` after it; if x is true, blanks and line comments are layout
 abbrev pub IsUnit : Bool → Text → Text → Type 0
 IsUnit x u v = IsComment u ⊎ (x ≡ true) × (IsBlank u ⊎ IsLineComment u v)
 
--- `w` is a concatenation of units where `v` follows
+-- `w` is a sequence of units with `v` after it
 pub data Units : Bool → Text → Text → Type 0 where
   none : {x : Bool} {v : Text} → Units x [] v
   more : {x : Bool} {w v : Text} (u t : Text) → w ≡ u ++ t → IsUnit x u (t ++ v) → Units x t v → Units x w v
@@ -49,24 +49,24 @@ pub record Stops (x : Bool) (v : Text) : Type 0 where
   pub no_unit : (u t : Text) → v ≡ u ++ t → IsUnit x u t → ⊥
   pub no_comment_head : (t : Text) → v ≡ comment_head ++ t → ⊥
 
--- `w` is the layout at its place, where `v` follows
+-- `w` is all the layout at its position, with `v` after it
 pub record Layout (x : Bool) (w v : Text) : Type 0 where
   pub units : Units x w v
   pub stops : Stops x v
 
--- the text begins with layout that `v` follows
+-- `t` is layout followed by `v`
 pub record Before (x : Bool) (t v : Text) : Type 0 where
   pub w : Text
   pub cut : t ≡ w ++ v
   pub layout : Layout x w v
 
--- a comment's inside that does not end: all of the text, or all but an unpaired backslash
+-- the inside of a comment that is not closed: all of the text, or all of it but an unpaired backslash at the end
 pub data OpenComment : Text → ℕ → Type 0 where
   to_end : {t : Text} → InComment t → OpenComment t at_end
   after_backslash : {p : ℕ} {t : Text} (i : Text) → t ≡ i ++ (backslash ∷ []) → p ≡ past_end →
       InComment i → OpenComment t p
 
--- the layout at `t` holds an unclosed comment, with its fault at the reach p
+-- the layout at the start of `t` has an unclosed comment, whose error is at the reach p
 pub record Unclosed (x : Bool) (t : Text) (p : ℕ) : Type 0 where
   pub w : Text
   pub r : Text

@@ -1,21 +1,22 @@
--- Layout as it is read, one character after another: what is left behind it.
+-- Layout as it is read, one character after another, and the text after it.
 use Rattle.std.specs.Prelude.{ℕ, Bool, ◌&&◌, ◌||◌, ◌==◌, if◌then◌else◌, [], ◌∷◌, option_and_then, Option, Some, None}
 use Rattle.std.specs.Prelude.{is_some}
 use Rattle.fancy_lex.specs.Characters.{line_feed, hash, open_paren, close_paren, question_mark, backslash}
 use Rattle.fancy_lex.specs.Layout.{is_blank}
 use Rattle.fancy_lex.specs.Text.{Text, strip, at_end, past_end}
 
--- what a reader of layout answers: the rest of the text, or the reach of the fault
+-- what a reader of layout returns: the rest of the text, or the reach of the error
 pub data Skipped : Type 0 where
   rest : Text → Skipped
   fault : ℕ → Skipped
 
--- what is left, where no comment is open
+-- the rest of the text, if no comment is unclosed
 abbrev pub rest_of : Skipped → Option Text
 rest_of (rest t) = Some t
 rest_of (fault p) = None
 
--- what a reader of layout is in: nothing, `(?#` with two characters or one left, a comment, its backslash, or a line
+-- what the reader is inside: nothing, `(?#` with two characters or one left, a comment, a pair in a comment after its
+-- backslash, or a line comment
 pub data Phase : Type 0 where
   between : Phase
   two : Phase
@@ -24,16 +25,16 @@ pub data Phase : Type 0 where
   escaped : Phase
   line : Phase
 
--- with these a blank or a line comment begins, where they are layout
+-- whether the character is a blank or begins a line comment, and both are layout
 abbrev pub is_layout : Bool → ℕ → Bool
 is_layout x c = x && (c == hash || is_blank c)
 
--- what follows `(?#` at the front
+-- the text after `(?#`, if the text begins with it
 abbrev pub after_comment_head : Text → Option Text
 after_comment_head t = option_and_then (strip hash) (option_and_then (strip question_mark) (strip open_paren t))
 
--- what is left behind the rest of the layout, or the reach of an unclosed comment's fault; no text ends inside `(?#`,
--- since all of that was seen before the first of it was taken
+-- the text after the rest of the layout, or the reach of the error if a comment is not closed; no text ends inside
+-- `(?#`, since all three characters are seen before the first is read
 unfoldable pub layout_from : Bool → Phase → Text → Skipped
 layout_from x between [] = rest []
 layout_from x between (c ∷ t) =
@@ -55,10 +56,10 @@ layout_from x escaped (c ∷ t) = layout_from x comment t
 layout_from x line [] = rest []
 layout_from x line (c ∷ t) = if c == line_feed then layout_from x between t else layout_from x line t
 
--- the same, where no layout was read yet
+-- the same from the start of the layout
 abbrev pub layout : Bool → Text → Skipped
 layout x t = layout_from x between t
 
--- what follows the layout, where every comment in it is closed
+-- the text after the layout, if every comment in it is closed
 abbrev pub past_layout : Bool → Text → Option Text
 past_layout x t = rest_of (layout x t)

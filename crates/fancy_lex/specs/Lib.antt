@@ -1,13 +1,13 @@
--- What the readers promise that know no tree.
+-- Definitions of the readers that need no tree.
 
--- ---- texts and places, flags, faults
+-- ---- texts and positions, flags, errors
 pub mod Characters
 pub mod Text
 pub mod Flags
 pub mod Fault
 pub mod FaultTable
 pub mod Reading
--- ---- layout, numbers, names, and what they refer to
+-- ---- layout, numbers, names, and what the names refer to
 pub mod Layout
 pub mod LayoutSteps
 pub mod Number
@@ -27,7 +27,7 @@ pub mod EscapeReference
 pub mod Property
 pub mod Escape
 pub mod Class
--- How values of the code stand to the definitions.
+-- How values of the code correspond to the definitions.
 
 pub mod Bits
 pub mod Views

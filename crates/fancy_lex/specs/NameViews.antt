@@ -1,4 +1,4 @@
--- What names a group, as the code holds it: with owned names in trees, and with borrowed ones where it is read.
+-- Targets and references in code: with owned names in trees, and with borrowed names in the readers.
 use Rattle.std.specs.Prelude.{chars}
 use Rattle.fancy_lex.specs.IdReference.{IdReference, id_alone, id_and_amount, amount_alone}
 use Rattle.fancy_lex.specs.Referred.{Reference, Call, reference_to, call_to}
@@ -19,13 +19,13 @@ view_id_reference (id_form.Id i) = id_alone (chars i.now)
 view_id_reference (id_form.IdAndAmount i z) = id_and_amount (chars i.now) z
 view_id_reference (id_form.Amount z) = amount_alone z
 
--- the target that the code's value stands for
+-- a target in code with an owned name, with the name as characters
 abbrev pub view_target : CaptureGroupTarget → Target
 view_target (owned.ByNumber n) = by_number n
 view_target (owned.ByName s) = by_name (text_of s)
 view_target (owned.Relative z) = relative z
 
--- a target in code, with its name as characters
+-- a target in code with a borrowed name, with the name as characters
 abbrev pub view_borrowed : declared_target.Target → Target
 view_borrowed (borrowed.ByNumber n) = by_number n
 view_borrowed (borrowed.ByName s) = by_name (chars s.now)

@@ -1,4 +1,4 @@
--- Properties: what stands behind `\p` or `\P`, and the text that is written for it.
+-- Properties: the text after `\p` or `\P`, and the text that is written for the property.
 use Rattle.std.specs.Prelude.{ℕ, Bool, true, false, not, ◌==◌, ◌&&◌, ◌||◌, nat_eq, if◌then◌else◌, [], ◌∷◌, ◌++◌}
 use Rattle.std.specs.Prelude.{codes, map, Option, Some, None, option_map}
 use Rattle.std.specs.Char.{to_ascii_lowercase}
@@ -9,24 +9,24 @@ use Rattle.fancy_lex.specs.Text.{Text, cut_at}
 use Rattle.fancy_lex.specs.declared.property.KnownName.{KnownName}
 use Rattle.fancy_lex.specs.declared.property.KnownName.TheVariants.{Alnum, Blank, Cntrl, Word, Graph, Print, Cs, Other}
 
--- a property's name: one character, or what stands in braces
+-- a property's name: one character, or the text in braces
 pub data PropertyName : Type 0 where
   single : ℕ → PropertyName
   braced : Text → PropertyName
 
--- the property behind `\p`, or behind `\P`, which negates it
+-- a property after `\p`, or after `\P`, which negates it
 pub record Property : Type 0 where
   pub negated : Bool
   pub name : PropertyName
 
--- the name behind the letter, and the text left; none where no text is left, or the brace is not closed
+-- the name after the letter, and the rest of the text; None if the text is empty, or the brace is not closed
 unfoldable pub name_at : Text → Option (PropertyName × Text)
 name_at [] = None
 name_at (c ∷ t) =
     if c == open_brace then option_map (λ p. (braced p.0, p.1)) (cut_at close_brace t)
     else Some (single c, t)
 
--- the same with the letter
+-- the property with this name, and the rest of the text
 unfoldable pub read_property : Bool → Text → Option (Property × Text)
 read_property negated t = option_map (λ p. (record { negated = negated; name = p.0 }, p.1)) (name_at t)
 
@@ -34,10 +34,10 @@ read_property negated t = option_map (λ p. (record { negated = negated; name = 
 pub data Form : Type 0 where
   -- as a set with these items
   set : Text → Form
-  -- as this text, or the other where the property is negated
+  -- as the first text, or as the second if the property is negated
   pair : Text → Text → Form
 
--- which name of the table this is
+-- the row of the table for this name
 abbrev pub look_up : Text → KnownName
 look_up name =
     if bytes_eq name (codes "alnum") then Alnum
@@ -49,7 +49,7 @@ look_up name =
     else if bytes_eq name (codes "cs") then Cs
     else Other
 
--- one with UNICODE, and the other without
+-- the first form with UNICODE, and the second without
 abbrev pub form_by : Bool → Form → Form → Form
 form_by unicode with without = if unicode then with else without
 
@@ -76,16 +76,16 @@ form_text false false (set items) = codes "[" ++ items ++ codes "]"
 form_text inside true (pair plain turned) = turned
 form_text inside false (pair plain turned) = plain
 
--- one caret in front of a name turns the negation
+-- the name without a caret in front, which inverts the negation
 abbrev pub turn : Bool → Text → Bool × Text
 turn negated [] = (negated, [])
 turn negated (c ∷ t) = if c == caret then (not negated, t) else (negated, c ∷ t)
 
--- ASCII letters in lower case, all else as it is
+-- the text with its ASCII letters in lower case
 abbrev pub lowercase : Text → Text
 lowercase = map to_ascii_lowercase
 
--- the text that is written for a name in braces, behind its caret
+-- the text that is written for a name in braces, without its caret
 abbrev pub braced_text : Bool → Bool → Bool × Text → Text
 braced_text unicode inside p = form_text inside p.0 (form unicode (look_up (lowercase p.1)) (lowercase p.1))
 
@@ -98,7 +98,7 @@ unfoldable pub property_text : Bool → Bool → Property → Text
 property_text unicode inside p =
     elim p.name [ single c ↦ letter p.negated ++ c ∷ [] | braced s ↦ braced_text unicode inside (turn p.negated s) ]
 
--- whether the other text stands somewhere in the first
+-- whether the second text occurs in the first
 abbrev pub contains_text : Text → Text → Bool
 contains_text [] w = starts_with nat_eq [] w
 contains_text (c ∷ t) w = starts_with nat_eq (c ∷ t) w || contains_text t w

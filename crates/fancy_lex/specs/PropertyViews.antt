@@ -1,4 +1,4 @@
--- Properties, their names and the forms of these, as the code holds them.
+-- Properties, their names and the forms of the names in code.
 use Rattle.std.specs.Prelude.{◌++◌, chars, codes}
 use Rattle.fancy_lex.specs.Property.{Property, PropertyName, single, braced, Form, set, pair, lowercase}
 use Rattle.fancy_lex.specs.Text.{Text}
@@ -17,11 +17,11 @@ view_name (written_name.Braced s) = braced (chars s.now)
 abbrev pub view_property : declared_property.Property → Property
 view_property p = record { negated = p.negated; name = view_name p.name }
 
--- how a name that is not known is written
+-- how a name that is not in the table is written
 abbrev pub other_form : Text → Form
 other_form name = pair (codes "\\p{" ++ lowercase name ++ codes "}") (codes "\\P{" ++ lowercase name ++ codes "}")
 
--- the form that the code's value stands for
+-- the form of the code's value
 abbrev pub view_form : declared_form.Form → Form
 view_form (written_form.Set items) = set (chars items.now)
 view_form (written_form.Pair plain turned) = pair (chars plain.now) (chars turned.now)

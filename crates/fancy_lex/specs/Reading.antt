@@ -1,4 +1,4 @@
--- What a reader comes to that can find a fault.
+-- The results of readers that can return an error.
 use Rattle.std.specs.Prelude.{◌≡◌, ℕ, true, List, chars, Option, Some, None, Result, MatchResult}
 use Rattle.std.specs.Borrow.{Bor}
 use Rattle.fancy_lex.specs.Text.{Text}
@@ -8,12 +8,12 @@ use Rattle.fancy_lex.specs.FaultTable.{comment_not_closed}
 use Rattle.fancy_lex.specs.LayoutSteps.{Skipped, rest, fault}
 use Rattle.fancy_lex.specs.declared.error.Failure.{Failure}
 
--- a value and what is left of the text, or a fault
+-- a value and the rest of the text, or an error
 pub data Reading (A : Type 0) : Type 0 where
   gives : A → Text → Reading A
   fails : Fault → Reading A
 
--- the fault of this kind at this reach
+-- the error of this kind at this reach
 abbrev pub fault_at : {A : Type 0} → ℕ → Kind → Reading A
 fault_at p k = fails (record { reach = p; kind = k })
 
@@ -23,49 +23,49 @@ abbrev pub ◌>=>◌ : {A B : Type 0} → Reading A → (A → Text → Reading 
 gives a t >=> f = f a t
 fails e >=> f = fails e
 
--- one reading if there is something to read from, else the other
+-- f of the value if there is one, and otherwise b
 abbrev pub choose : {A B : Type 0} → Option A → (A → B) → B → B
 choose (Some a) f b = f a
 choose None f b = b
 
--- what was read and what follows it, or else the fault
+-- the value and the rest of the text, or the error if there is no value
 abbrev pub read_or : {A : Type 0} → Fault → Option (A × Text) → Reading A
 read_or e o = choose o (λ q. gives q.0 q.1) (fails e)
 
--- an unclosed comment in layout is a fault of the pattern
+-- the result of reading layout: an unclosed comment is an error of the pattern
 abbrev pub layout_reading : Skipped → Reading (Unit {0})
 layout_reading (rest t) = gives tt t
 layout_reading (fault p) = fails (comment_not_closed p)
 
--- the error says the reading's fault
+-- the code's error is that of the reading
 abbrev pub Says : {A : Type 0} → Failure → Reading A → Type 0
 Says e o = MatchFailure e ⊥ (λ k p. o ≡ fault_at p k)
 
--- the code's answer is the reading, with its value seen through f
+-- the code's result is the reading, with its value mapped by f
 abbrev pub Reads : {A B : Type 0} → (A → B) → Result (A × Bor (List ℕ)) Failure → Reading B → Type 0
 Reads f r o = MatchResult r (λ p. o ≡ gives (f p.0) (chars p.1.now)) (λ e. Says e o)
 
--- the same of an answer with no value
+-- the same for a result without a value
 abbrev pub ReadsRest : Result (Bor (List ℕ)) Failure → Reading (Unit {0}) → Type 0
 ReadsRest r o = MatchResult r (λ t. o ≡ gives tt (chars t.now)) (λ e. Says e o)
 
--- the reading fails with a fault that carries a text
+-- the reading is an error that carries a text
 abbrev pub CarriesText : {A : Type 0} → Reading A → Type 0
 CarriesText (gives a t) = ⊥
 CarriesText (fails e) = carries_text e.kind ≡ true
 
--- the error says the reading's fault, or that memory ran out for the text that this fault carries
+-- the code's error is that of the reading, or memory ran out for the text that this error carries
 abbrev pub Reports : {A : Type 0} → Failure → Reading A → Type 0
 Reports e o = MatchFailure e (CarriesText o) (λ k p. o ≡ fault_at p k)
 
--- the code's answer is the reading, with its value seen through f; memory is wanted for the text of a fault alone
+-- the code's result is the reading, with its value mapped by f; memory can only run out for the text of an error
 abbrev pub Answers : {A B : Type 0} → (A → B) → Result (A × Bor (List ℕ)) Failure → Reading B → Type 0
 Answers f r o = MatchResult r (λ p. o ≡ gives (f p.0) (chars p.1.now)) (λ e. Reports e o)
 
--- the relation gives the code's answer, with its value seen through f, unless memory ran out
+-- the relation holds of the code's result, with its value mapped by f, unless memory ran out
 abbrev pub Derives : {A B : Type 0} → (A → B) → Result (A × Bor (List ℕ)) Failure → (Reading B → Type 0) → Type 0
 Derives f r R = MatchResult r (λ p. R (gives (f p.0) (chars p.1.now))) (λ e. IfFailed e (λ k p. R (fault_at p k)))
 
--- the code's answer is the reading, with its value seen through f, unless memory ran out
+-- the code's result is the reading, with its value mapped by f, unless memory ran out
 abbrev pub IsReadingOrNoMemory : {A B : Type 0} → (A → B) → Result (A × Bor (List ℕ)) Failure → Reading B → Type 0
 IsReadingOrNoMemory f r o = Derives f r (λ q. o ≡ q)

@@ -1,4 +1,4 @@
--- References: what a name or an id reference names, and where it stands.
+-- References: what a name or an id reference refers to, and the position of the reference.
 use Rattle.std.specs.Prelude.{ℕ, ℤ, Bool, Option, Some, None, option_map}
 use Rattle.fancy_lex.specs.Delimited.{of_name}
 use Rattle.fancy_lex.specs.FaultTable.{reference_not_read}
@@ -8,48 +8,48 @@ use Rattle.fancy_lex.specs.Reading.{Reading, read_or}
 use Rattle.fancy_lex.specs.Target.{Target, by_number, by_name, relative}
 use Rattle.fancy_lex.specs.Text.{Text}
 
--- what asks for a group's match: the group, the level of recursion where one is written, and the reach
+-- a back reference or condition: the group, the level of recursion if one is written, and the reach
 pub record Reference : Type 0 where
   pub target : Target
   pub level : Option ℤ
   pub reach : ℕ
 
--- what calls a group: the group, and the reach
+-- a subroutine call: the group, and the reach
 pub record Call : Type 0 where
   pub target : Target
   pub reach : ℕ
 
--- the reference at the reach p to this group, at this level
+-- the reference at the reach p to this group at this level
 abbrev pub reference_to : ℕ → Target → Option ℤ → Reference
 reference_to p g l = record { target = g; level = l; reach = p }
 
--- the call at the reach p of this group
+-- the call of this group at the reach p
 abbrev pub call_to : ℕ → Target → Call
 call_to p g = record { target = g; reach = p }
 
--- the group of the number, or else of the name
+-- the group of the number if there is one, and otherwise of the name
 abbrev pub number_or_name : Text → Option ℕ → Target
 number_or_name w (Some n) = by_number n
 number_or_name w None = by_name w
 
--- a number text names a group by its number, and any other name by itself
+-- a number text refers to a group by number; any other name refers to it by name
 unfoldable pub target_of_name : Text → Target
 target_of_name w = number_or_name w (number_text w)
 
--- the reference at the reach p that an id reference says: relative without an id; an amount behind an id is a level
+-- the reference at the reach p by an id reference; an amount without an id is relative, and one after an id is a level
 unfoldable pub reference_of : ℕ → IdReference → Reference
 reference_of p (id_alone w) = reference_to p (target_of_name w) None
 reference_of p (id_and_amount w z) = reference_to p (target_of_name w) (Some z)
 reference_of p (amount_alone z) = reference_to p (relative z) None
 
--- the reference that all of the text writes; the flag allows amounts
+-- the reference at the reach p that the whole text writes; the flag allows amounts
 unfoldable pub written_reference : ℕ → Bool → Text → Option Reference
 written_reference p amounts w = option_map (reference_of p) (id_reference amounts w)
 
--- what was read, or else the fault of the reference at the reach p
+-- the value and the rest of the text, or the error of the reference at the reach p
 abbrev pub name_reading : {A : Type 0} → ℕ → Option (A × Text) → Reading A
 name_reading p o = read_or (reference_not_read p) o
 
--- the reference at the reach p that the name found there writes
+-- the reference at the reach p, written by the name that was found there
 unfoldable pub reference_by_name : ℕ → Bool → Option (Text × Text) → Reading Reference
 reference_by_name p amounts o = name_reading p (of_name (written_reference p amounts) o)

@@ -1,4 +1,4 @@
--- What a reference names, with texts as lists of characters.
+-- What a reference refers to, with texts as lists of characters.
 use Rattle.std.specs.Prelude.{◌≡◌, ℕ, ℤ, Bool, true, false, nat_eq, refl}
 use Rattle.std.specs.Ordering.{int_eq}
 use Rattle.std.specs.Bool.{Decides}
@@ -9,13 +9,13 @@ use mathlib.Core.Bool.{false≢true}
 use mathlib.Core.Path.{subst}
 use Rattle.fancy_lex.specs.Text.{Text}
 
--- a group by its number, by its name, or so many groups away
+-- a group by its number, by its name, or by its distance in groups
 pub data Target : Type 0 where
   by_number : ℕ → Target
   by_name : Text → Target
   relative : ℤ → Target
 
--- whether the target is a name, whose clone takes memory
+-- whether the target is a name; only the clone of a name allocates
 abbrev pub is_by_name : Target → Bool
 is_by_name (by_name s) = true
 is_by_name _ = false

@@ -1,4 +1,4 @@
--- Texts as lists of characters, and places in them.
+-- Texts as lists of characters, and positions in them.
 use Rattle.std.specs.Prelude.{◌≡◌, ℕ, ◌+◌, ◌-◌, List, [], ◌∷◌, ◌++◌, chars, string_bytes, String, Option, Some, None}
 use Rattle.std.specs.Prelude.{option_and_then, option_map, if◌then◌else◌, ◌==◌}
 use Rattle.std.specs.Char.{len_utf8}
@@ -17,8 +17,8 @@ unfoldable pub bytes : Text → ℕ
 bytes [] = 0
 bytes (c ∷ t) = len_utf8 c + bytes t
 
--- the reach of the place where `t` begins: how many bytes lie from there to one past the end of the pattern, which
--- `t` ends
+-- the reach of the position where `t` begins: the number of bytes from there to one past the end of the pattern; `t` is
+-- a suffix of the pattern
 abbrev pub reach_of : Text → ℕ
 reach_of t = bytes t + 1
 
@@ -30,25 +30,25 @@ at_end = 1
 abbrev pub past_end : ℕ
 past_end = 0
 
--- the place of this reach in a pattern of n bytes
+-- the position with this reach in a pattern of n bytes
 abbrev pub place_at : ℕ → ℕ → ℕ
 place_at n reach = n + 1 - reach
 
--- p is the position of this reach in a pattern of n bytes: the bytes before p and the reach are all of them, and one
+-- p is the position of this reach in a pattern of n bytes: the reach and the bytes before p add up to n + 1
 abbrev pub IsPositionOf : ℕ → ℕ → ℕ → Type 0
 IsPositionOf n reach p = p + reach ≡ n + 1
 
--- what follows the character, if the text begins with it
+-- the text after the character, if the text begins with it
 abbrev pub strip : ℕ → Text → Option Text
 strip mark [] = None
 strip mark (c ∷ t) = if c == mark then Some t else None
 
--- what follows the word, if the text begins with it
+-- the text after the word, if the text begins with it
 abbrev pub strip_word : Text → Text → Option Text
 strip_word [] t = Some t
 strip_word (c ∷ w) t = option_and_then (strip_word w) (strip c t)
 
--- what stands before the first such character, and what follows it
+-- the text before the first occurrence of the character, and the text after it
 abbrev pub cut_at : ℕ → Text → Option (Text × Text)
 cut_at mark [] = None
 cut_at mark (c ∷ t) = if c == mark then Some ([], t) else option_map (λ p. (c ∷ p.0, p.1)) (cut_at mark t)
@@ -61,8 +61,8 @@ EndsWith t end = (w : Text) × (t ≡ w ++ end)
 abbrev pub BeginsWith : Text → Text → Type 0
 BeginsWith t front = (w : Text) × (t ≡ front ++ w)
 
--- the reach of a fault in a pattern that ends with t: the one that is told, that of an end of t, or that of one past
--- the end
+-- the reach of an error in a pattern that ends with t: the reach `told`, that of a suffix of t, or that of one past the
+-- end
 pub data Stands (told : ℕ) (t : Text) (reach : ℕ) : Type 0 where
   as_told : reach ≡ told → Stands told t reach
   begins : (u : Text) → EndsWith t u → reach ≡ reach_of u → Stands told t reach

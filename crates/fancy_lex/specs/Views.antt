@@ -1,4 +1,4 @@
--- What readers answer in code, seen as the definitions answer it.
+-- The results of readers in code, as the definitions have them.
 use Rattle.std.specs.Prelude.{◌≡◌, ℕ, List, Option, Some, None, option_map, MatchOption, Result, Ok, Err, chars}
 use Rattle.std.specs.Prelude.{MatchResult}
 use Rattle.std.specs.Borrow.{Bor}
@@ -9,12 +9,12 @@ use Rattle.fancy_lex.specs.declared.error.Failure.{Failure}
 use Rattle.fancy_lex.specs.declared.error.Failure.TheVariants.{At}
 use Rattle.fancy_lex.specs.declared.error.ParseError.TheVariants.{UnclosedOpenParen}
 
--- the text behind layout, or the reach of the fault
+-- the text after layout, or the reach of the error
 abbrev pub skipped_of : Result (Bor (List ℕ)) ℕ → Skipped
 skipped_of (Ok r) = rest (chars r.now)
 skipped_of (Err p) = fault p
 
--- the text behind layout, or the error of an open comment in it
+-- the text after layout, or the error of an unclosed comment in it
 abbrev pub Skips : Result (Bor (List ℕ)) Failure → Skipped → Type 0
 Skips r s =
     MatchResult r (λ t. s ≡ rest (chars t.now))
@@ -24,10 +24,10 @@ Skips r s =
 abbrev pub parts : Option (Bor (List ℕ) × Bor (List ℕ)) → Option (Text × Text)
 parts = option_map (λ p. (chars p.0.now, chars p.1.now))
 
--- a value seen through f, and what is left
+-- a value mapped by f, and the rest of the text
 abbrev pub view_read : {A B : Type 0} → (A → B) → A × Bor (List ℕ) → B × Text
 view_read f p = (f p.0, chars p.1.now)
 
--- the number at the front of the text t, where a word holds it, and what is left
+-- the number at the front of the text t, if it fits in a word, and the rest of the text
 abbrev pub GivesNumber : Text → Option (Option ℕ × Bor (List ℕ)) → Type 0
 GivesNumber t r = MatchOption r (number t ≡ None) (λ p. (n : ℕ) × (number t ≡ Some (n, chars p.1.now)) × IsWord p.0 n)

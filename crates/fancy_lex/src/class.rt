@@ -1,4 +1,4 @@
-//! Classes: what stands behind an opening bracket, and the text that is written for it.
+//! Classes: the text after an opening bracket, and the text that is written for the class.
 ghost use Rattle.std.specs.Prelude.{◌≡◌, ◌+◌, ◌/◌, ◌%◌, ◌^◌, ◌<◌, ◌≤◌, ◌||◌, ◌++◌, length, chars, IfErr, IfOk, OnOk};
 ghost use Rattle.fancy_lex.specs.Class as spec;
 ghost use Rattle.fancy_lex.specs.EscapeViews.{escape_of, delegate_text};
@@ -14,7 +14,7 @@ use crate::property::{is_negated, push_property};
 use crate::text::{AT_END, after, append, next, push};
 use std::alloc::{AllocError, Global};
 
-/// Whether the character stands behind a backslash in a class.
+/// Whether the character needs a backslash in a class.
 fn needs_backslash_in_class(c: char) -> bool
     ensures { result ≡ spec.needs_backslash_in_class c }
 {
@@ -40,7 +40,7 @@ fn needs_backslash_in_class(c: char) -> bool
     )
 }
 
-/// Adds the character, behind a backslash where it is a mark.
+/// Adds the character, with a backslash before it if it is a metacharacter.
 fn push_quoted(out: &mut String, c: char) -> Result<(), AllocError>
     ensures { OnOk result (text_of out.new ≡ text_of out.old ++ spec.char_text c) }
 {
@@ -72,7 +72,7 @@ fn push_byte(out: &mut String, byte: u8) -> Result<(), AllocError>
     push(out, upper_hex_digit(byte % 16))
 }
 
-/// Adds the delegate's text. Where memory runs out, a beginning of it may have been added.
+/// Adds the delegate's text. If memory runs out, the beginning of it may have been added.
 pub fn push_delegate(out: &mut String, text: DelegateText) -> Result<(), AllocError>
     ensures grown { OnOk result (text_of out.new ≡ text_of out.old ++ delegate_text text.entry) }
     ensures kept { BeginsWith (text_of out.new) (text_of out.old) }
@@ -106,15 +106,15 @@ fn is_negated_text(text: DelegateText) -> bool
     }
 }
 
-/// Adds the `&&` before the next negated set, where one is needed.
+/// Adds the `&&` before the next negated set, if one is needed.
 fn push_joint(out: &mut String, needed: bool) -> Result<(), AllocError>
     ensures { OnOk result (text_of out.new ≡ text_of out.old ++ spec.joint needed) }
 {
     if needed { append(out, "&&") } else { Ok(()) }
 }
 
-/// Adds what is written for an escape in a class, where `seen` says whether a negated set was added before. Gives
-/// whether one was added by then.
+/// Adds the text that is written for an escape in a class. `seen` says whether a negated set was added before. Returns
+/// whether one was added by now.
 fn push_escape(out: &mut String, escaped: Escaped, seen: bool) -> Result<bool, AllocError>
     ensures grown { OnOk result
         (text_of out.new ≡ text_of out.old ++ spec.escape_in_class seen (escape_of escaped.entry)) }
@@ -139,7 +139,7 @@ fn push_escape(out: &mut String, escaped: Escaped, seen: bool) -> Result<bool, A
     }
 }
 
-/// Adds the mark where the text begins with it, and gives what follows.
+/// Adds the delimiter if the text begins with it, and returns the text after it.
 fn push_mark<'a>(out: &mut String, text: &'a str, mark: char) -> Result<&'a str, AllocError>
     ensures value { IfOk result
         (λ r. spec.with_mark mark (text_of out.old, chars text.now) ≡ (text_of out.new, chars r.now)) }
@@ -152,7 +152,7 @@ fn push_mark<'a>(out: &mut String, text: &'a str, mark: char) -> Result<&'a str,
     Ok(rest)
 }
 
-/// Adds what begins a class behind its bracket: the bracket, a caret, and a closing bracket, which is plain there.
+/// Adds the opening of a class: the bracket, a caret, and a closing bracket, which is a plain character there.
 #[tactic(auto, unfolding(crate::specs::Class::class_head))]
 fn push_head<'a>(out: &mut String, text: &'a str) -> Result<&'a str, AllocError>
     ensures value { IfOk result
@@ -164,7 +164,7 @@ fn push_head<'a>(out: &mut String, text: &'a str) -> Result<&'a str, AllocError>
     push_mark(out, text, ']')
 }
 
-/// Reads a class and those that nest in it through its last bracket: what is written, and the text left.
+/// Reads a class and those nested in it through its last bracket: the text that is written, and the rest of the text.
 fn read_class(alloc: Global, text: &str, flags: Flags) -> Result<(String, &str), Failure>
     ensures value { IsReadingOrNoMemory text_of result (spec.class flags (chars text.now)) }
     ensures shorter { IfOk result (λ p. length p.1.now < length text.now) }
@@ -198,8 +198,8 @@ fn read_class(alloc: Global, text: &str, flags: Flags) -> Result<(String, &str),
 }
 
 /// Parses a class after its opening bracket, in `text`, a suffix of the pattern: the text that is written for it, and
-/// the text left. If the pattern ends in the class, the error is `InvalidClass` at its end; otherwise it is the error
-/// of the first escape that cannot be parsed. It does not depend on what follows the class.
+/// the rest of the text. If the pattern ends in the class, the error is `InvalidClass` at its end; otherwise it is the
+/// error of the first escape that cannot be parsed. It does not depend on the text after the class.
 pub fn class(alloc: Global, text: &str, flags: Flags) -> Result<(String, &str), Failure>
     ensures value { IsReadingOrNoMemory text_of result (spec.class flags (chars text.now)) }
     ensures derives { Derives text_of result (spec.OuterClass flags (chars text.now)) }

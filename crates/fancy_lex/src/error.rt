@@ -8,7 +8,7 @@ use std::alloc::{AllocError, AllocFailed, Global};
 use std::fmt;
 
 /// A byte offset from the start of the pattern, at most one past its end. It is one past the end only if the pattern
-/// ends with a backslash in an unclosed comment, as `(?#a\`.
+/// ends with a backslash in an unclosed comment, such as `(?#a\`.
 pub type ParseErrorPosition = usize;
 
 /// The result of a function that parses a pattern.
@@ -93,7 +93,7 @@ pub enum ParseError {
 }
 
 impl ParseError {
-    /// What the kind says: its words, and after them the text that it carries, or none.
+    /// The words of the kind, and the text after them that the kind carries, which is empty if it carries none.
     fn words(&self) -> (&'static str, &str)
         ensures { kind_text (kind_of self.now) ≡ result.0.now ++ result.1.now }
     {

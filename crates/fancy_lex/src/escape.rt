@@ -1,4 +1,4 @@
-//! Escapes: what stands behind a backslash.
+//! Escapes: the text after a backslash.
 ghost use Rattle.std.specs.Prelude.{◌≡◌, ◌==◌, ℕ, Bool, true, ◌+◌, ◌^◌, ◌<◌, ◌≤◌, [], ◌∷◌, if◌then◌else◌, false, length, chars, IfErr, IfOk, IfSome, option_map};
 ghost use Rattle.fancy_lex.specs.Characters.{backslash};
 ghost use Rattle.fancy_lex.specs.Escape as spec;
@@ -54,7 +54,7 @@ pub enum Assertion {
     NotWordBoundary,
 }
 
-/// What an escape means: a leaf of the tree, in fields of the same names.
+/// What an escape is parsed as: a leaf of the tree, in fields of the same names.
 #[derive(Clone, Copy)]
 pub enum Escaped<'a> {
     Literal {
@@ -94,7 +94,7 @@ pub enum DelegateText<'a> {
     HexDigit,
     /// `[^0-9A-Fa-f]`.
     NotHexDigit,
-    /// What is written for the property, with UNICODE or without, in a class or outside.
+    /// The text that is written for the property, with UNICODE or without, in a class or outside.
     Property {
         property: Property<'a>,
         unicode: bool,
@@ -112,7 +112,7 @@ fn letter_name(alloc: Global, c: char) -> Result<String, AllocError>
     Ok(name)
 }
 
-/// The fault of a letter that is no escape.
+/// The error of a letter that is no escape.
 #[cold]
 fn unknown_escape(alloc: Global, c: char, reach: usize) -> Failure
     ensures { Reports result (spec.unknown_escape reach c) }
@@ -123,14 +123,14 @@ fn unknown_escape(alloc: Global, c: char, reach: usize) -> Failure
     }
 }
 
-/// A literal in which case counts.
+/// A case-sensitive literal.
 fn literal(val: char) -> Escaped<'static>
     ensures { escape_of result ≡ leaf.literal val false }
 {
     Escaped::Literal { val, casei: false }
 }
 
-/// A delegate in which case counts.
+/// A case-sensitive delegate.
 fn delegate(inner: DelegateText<'static>) -> Escaped<'static>
     ensures { escape_of result ≡ leaf.delegate (delegate_text inner.entry) false }
 {
@@ -140,16 +140,16 @@ fn delegate(inner: DelegateText<'static>) -> Escaped<'static>
     }
 }
 
-/// Whether the character stands for itself behind a backslash: any but a letter, a digit, and outside a class `<`
-/// and `>`.
+/// Whether the character is a literal after a backslash. Letters and digits are not, nor are `<` and `>` outside a
+/// class.
 fn is_itself(c: char, inside: bool) -> bool
     ensures { result ≡ spec.is_itself inside c }
 {
     !c.is_ascii_alphanumeric() && (inside || !matches!(c, '<' | '>'))
 }
 
-/// Reads digits, which are a back reference. In a class the fault is InvalidClass at `reach`, unless no word holds
-/// their number.
+/// Reads digits, which are a back reference. In a class the error is InvalidClass at `reach`, unless their number does
+/// not fit in a word.
 #[tactic(auto, unfolding(crate::specs::Escape::number_escape))]
 fn number_escape(
     text: &str,
@@ -179,7 +179,7 @@ fn numbered_backref(text: &str, flags: Flags) -> Result<(Escaped<'_>, &str), Fai
     Ok((Escaped::Backref { reference, casei }, rest))
 }
 
-/// Reads a named back reference, behind its letter.
+/// Reads a named back reference after its letter.
 #[inline(always)]
 fn backref_escape(text: &str, flags: Flags) -> Result<(Escaped<'_>, &str), Failure>
     ensures value { Reads escape_of result (spec.backref_leaf flags (references.back_reference (chars text.now))) }
@@ -190,7 +190,7 @@ fn backref_escape(text: &str, flags: Flags) -> Result<(Escaped<'_>, &str), Failu
     Ok((Escaped::Backref { reference, casei }, rest))
 }
 
-/// Reads a call behind its letter. InvalidEscape at `reach` where the text ends.
+/// Reads a call after its letter. InvalidEscape at `reach` if the text ends there.
 #[tactic(auto, unfolding(crate::specs::Escape::call_escape))]
 fn call_escape<'a>(
     alloc: Global,
@@ -208,7 +208,7 @@ fn call_escape<'a>(
     Ok((Escaped::SubroutineCall(call), rest))
 }
 
-/// Reads a property behind its letter.
+/// Reads a property after its letter.
 #[tactic(auto, using(crate::proofs::EscapeLemmas::property_steps))]
 fn property<'a>(
     alloc: Global,
@@ -261,7 +261,7 @@ fn short_property(text: &str, letter: char, flags: Flags) -> Option<(Escaped<'st
     Some((Escaped::Delegate { inner, casei }, rest))
 }
 
-/// Any character, a line terminator too where `newline` says so; `crlf` is set then.
+/// Any character. `newline` says whether it can be a line terminator, and `crlf` has the same value.
 fn any(newline: bool) -> Escaped<'static>
     ensures { escape_of result ≡ leaf.any newline newline }
 {
@@ -271,7 +271,7 @@ fn any(newline: bool) -> Escaped<'static>
     }
 }
 
-/// The boundary, or in Oniguruma mode its mark as it stands.
+/// The boundary, or in Oniguruma mode the character as a literal.
 fn word_boundary(c: char, boundary: Assertion, flags: Flags) -> Escaped<'static>
     ensures { escape_of result ≡ (if flags.oniguruma_mode then leaf.literal c false else leaf.assertion boundary) }
 {
@@ -282,7 +282,7 @@ fn word_boundary(c: char, boundary: Assertion, flags: Flags) -> Escaped<'static>
     }
 }
 
-/// What the letter stands for behind a backslash, in a class and outside, where it is all of the escape.
+/// The leaf of the letter after a backslash, in a class and outside, if it is the whole escape.
 #[inline(always)]
 fn lone_anywhere(c: char, flags: Flags) -> Option<Escaped<'static>>
     ensures { spec.row_of c (spec.lone_anywhere flags c) ≡ option_map escape_of result }
@@ -305,7 +305,7 @@ fn lone_anywhere(c: char, flags: Flags) -> Option<Escaped<'static>>
     }
 }
 
-/// What the letter stands for behind a backslash in a class, where it is all of an escape that is one there only.
+/// The leaf of the letter after a backslash in a class, if it is the whole escape, and an escape only there.
 fn lone_in_class(c: char) -> Option<Escaped<'static>>
     ensures { spec.row_of c (spec.lone_in_class c) ≡ option_map escape_of result }
 {
@@ -316,8 +316,7 @@ fn lone_in_class(c: char) -> Option<Escaped<'static>>
     }
 }
 
-/// What the character stands for behind a backslash outside a class, where it is all of an escape that is one there
-/// only.
+/// The leaf of the character after a backslash outside a class, if it is the whole escape, and an escape only there.
 #[inline(always)]
 fn lone_outside(c: char, flags: Flags) -> Option<Escaped<'static>>
     ensures { spec.row_of c (spec.lone_outside flags c) ≡ option_map escape_of result }
@@ -339,8 +338,8 @@ fn lone_outside(c: char, flags: Flags) -> Option<Escaped<'static>>
     }
 }
 
-/// What the character stands for behind a backslash, where it is all of the escape. None where more belongs to it, and
-/// for a letter that is no escape.
+/// The leaf of the character after a backslash, if it is the whole escape. None if more belongs to the escape, and for
+/// a letter that is no escape.
 #[inline(always)]
 #[tactic(auto, unfolding(crate::specs::Escape::lone_escape))]
 fn lone_escape(c: char, flags: Flags, inside: bool) -> Option<Escaped<'static>>
@@ -356,7 +355,7 @@ fn lone_escape(c: char, flags: Flags, inside: bool) -> Option<Escaped<'static>>
     }
 }
 
-/// Reads what stands behind the backslash at this reach.
+/// Reads the escape after the backslash at this reach.
 #[inline(never)]
 #[tactic(auto, unfolding(crate::specs::Escape::escape_at, crate::specs::Escape::lone_escape, crate::specs::Escape::outside))]
 fn read_escape<'a>(
@@ -388,7 +387,7 @@ fn read_escape<'a>(
     }
 }
 
-/// The call at the front, behind its letter, where it reads.
+/// The call at the front, after its letter, if it can be parsed.
 #[inline(always)]
 #[tactic(auto, using(crate::proofs::EscapeLemmas::call_is))]
 fn short_call(text: &str) -> Option<(Escaped<'_>, &str)>
@@ -400,7 +399,7 @@ fn short_call(text: &str) -> Option<(Escaped<'_>, &str)>
     Some((Escaped::SubroutineCall(call), rest))
 }
 
-/// How many digits a code has behind this letter, without braces.
+/// How many digits a code without braces has after this letter.
 #[inline(always)]
 fn code_width(letter: char) -> u32
     ensures value { result ≡ (if letter == 120 then 2 else if letter == 117 then 4 else 8) }
@@ -413,9 +412,9 @@ fn code_width(letter: char) -> u32
     }
 }
 
-/// The escape at the front, after a backslash outside a class, if a look-ahead parses all of it, and what follows it: a
-/// character alone, a code of a fixed number of digits without whitespace and comments before them, a property of one
-/// character, a reference or a call.
+/// The escape at the front, after a backslash outside a class, if a look-ahead parses all of it, and the text after it:
+/// a single character, a code of a fixed number of digits without whitespace and comments before them, a property of
+/// one character, a reference or a call.
 #[inline(always)]
 #[tactic(auto, unfolding(crate::specs::Escape::escape_at, crate::specs::Escape::lone_escape, crate::specs::Escape::outside, crate::specs::Escape::number_escape))]
 pub fn short_escape(text: &str, flags: Flags) -> Option<(Escaped<'_>, &str)>

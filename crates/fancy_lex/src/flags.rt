@@ -1,5 +1,5 @@
 //! The flags under which a pattern is parsed, as bits of a `u32`: combine them with `|`. 0 is no flag, and other bits
-//! are ignored. The letters are those of flag groups, as `(?i)`.
+//! are ignored. The letters are those of flag groups, such as `(?i)`.
 ghost use Rattle.std.specs.Prelude.{◌≡◌};
 ghost use Rattle.fancy_lex.specs.Bits.{has_bit};
 
@@ -16,7 +16,7 @@ pub const FLAG_SWAP_GREED: u32 = 8;
 /// parsed as `ab`.
 pub const FLAG_IGNORE_SPACE: u32 = 16;
 /// Unicode: `\x80` is the character U+0080, and a byte without the flag; properties are rewritten as Unicode's. A
-/// pattern cannot change it. `parse_tree` parses under this flag alone.
+/// pattern cannot change it. `parse_tree` parses under this flag only.
 pub const FLAG_UNICODE: u32 = 32;
 /// CR is a line terminator too, and CR LF a single one (`R`): `.`, `\Z`, and under `FLAG_MULTI` `^` and `$`,
 /// have `crlf`.
@@ -28,7 +28,7 @@ pub const FLAG_ONIGURUMA_MODE: u32 = 128;
 /// tree has no `Group` for `(a)`.
 pub const FLAG_IGNORE_NUMBERED_GROUPS_WHEN_NAMED_GROUPS_EXIST: u32 = 256;
 
-// Callers hand the flags in under these very numbers, by which `flags_of` tells them too.
+// Callers pass the flags as these numbers, and the definition `flags_of` has the same numbers.
 const _: () = prove!(FLAG_CASEI == 1 && FLAG_MULTI == 2 && FLAG_DOTNL == 4);
 
 const _: () = prove!(FLAG_SWAP_GREED == 8 && FLAG_IGNORE_SPACE == 16 && FLAG_UNICODE == 32);

@@ -10,7 +10,7 @@ ghost use Rattle.fancy_lex.specs.Reading.{layout_reading, ReadsRest};
 use crate::error::{Failure, ParseError};
 use crate::text::{AT_END, PAST_END, after, next};
 
-/// Reads a comment behind its `(?#`: the text behind it, or the reach of its fault.
+/// Reads a comment after its `(?#`: the text after it, or the reach of its error.
 #[tactic(auto, using(crate::proofs::LayoutLemmas::layout_steps))]
 fn comment(text: &str) -> Result<&str, usize>
     ensures value { (x : Bool) →
@@ -36,7 +36,7 @@ fn comment(text: &str) -> Result<&str, usize>
     Err(AT_END)
 }
 
-/// Reads a line comment behind its `#`: the text behind it.
+/// Reads a line comment after its `#`: the text after it.
 #[tactic(auto, using(crate::proofs::LayoutLemmas::layout_steps))]
 fn line(text: &str) -> &str
     ensures value { (x : Bool) →
@@ -69,7 +69,7 @@ pub fn is_layout(ignore_space: bool, c: char) -> bool
     ignore_space && (c == '#' || is_blank(c))
 }
 
-/// What follows the `(?#` at the front.
+/// The text after `(?#`, if the text begins with it.
 #[inline]
 fn after_comment_head(text: &str) -> Option<&str>
     ensures value { spec.after_comment_head (chars text.now) ≡ option_map (λ r. chars r.now) result }
@@ -110,7 +110,7 @@ fn read_units(text: &str, ignore_space: bool) -> Result<&str, usize>
     }
 }
 
-/// Whether layout may begin here, as its first character shows.
+/// Whether layout may begin here, judging by the first character.
 #[inline]
 pub(crate) fn begins_layout(text: &str, ignore_space: bool) -> bool
     ensures { result ≡ false → spec.layout ignore_space (chars text.now) ≡ rest (chars text.now) }
@@ -121,7 +121,7 @@ pub(crate) fn begins_layout(text: &str, ignore_space: bool) -> bool
     c == '(' || is_layout(ignore_space, c)
 }
 
-/// Reads the layout at the front, where any begins there.
+/// Reads the layout at the front, if any begins there.
 #[inline]
 fn read_layout(text: &str, ignore_space: bool) -> Result<&str, usize>
     ensures value { spec.layout ignore_space (chars text.now) ≡ skipped_of result }
@@ -152,7 +152,7 @@ pub fn layout(text: &str, ignore_space: bool) -> Result<&str, usize>
     read_layout(text, ignore_space)
 }
 
-/// What follows the layout at the front, if every comment in it is closed.
+/// The text after the layout at the front, if every comment in the layout is closed.
 #[inline]
 pub fn past_layout(text: &str, ignore_space: bool) -> Option<&str>
     ensures value { spec.past_layout ignore_space (chars text.now) ≡ option_map (λ r. chars r.now) result }

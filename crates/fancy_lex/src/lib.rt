@@ -1,5 +1,5 @@
-//! The lowest layer: flags, errors, and what is read from the text without knowing a tree. The tests of this crate are
-//! in `library_tests`, and the recorded results of its readers in `replay`.
+//! The lowest layer: flags, errors, and the readers that need no tree. The tests of this crate are in `library_tests`,
+//! and the recorded results of its readers in `replay`.
 #![tactic(auto)]
 
 pub mod class;

@@ -1,4 +1,4 @@
-//! What a reference names, and how it is written: numbers, ids, and names between marks.
+//! What a reference refers to, and how it is written: numbers, ids, and names in delimiters.
 ghost use Rattle.std.specs.Prelude.{◌↔◌, IsTrue, ◌≡◌, IfOk, false, IsOk};
 ghost use Rattle.std.specs.Cmp.{on_per, on_equiv, partial_equiv_from_equiv};
 ghost use Rattle.fancy_lex.specs.Target.{is_by_name, same_target, same_target-equiv};
@@ -13,7 +13,7 @@ pub mod target;
 use crate::text::is_same_text;
 use std::alloc::{AllocError, Global};
 
-/// The group that a reference names, before it is resolved.
+/// The group that a reference refers to, before it is resolved.
 #[derive(Debug, Drop)]
 pub enum CaptureGroupTarget {
     /// By number: `\1`. 0 is the whole pattern.

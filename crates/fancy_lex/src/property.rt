@@ -1,4 +1,4 @@
-//! Properties: what stands behind `\p` or `\P`, and the text that is written for it.
+//! Properties: the text after `\p` or `\P`, and the text that is written for the property.
 ghost use Rattle.std.specs.Prelude.{◌≡◌, Bool, true, false, ◌<◌, ◌++◌, length, chars, IfSome, OnOk, Some, None, option_map, if◌then◌else◌};
 ghost use Rattle.std.specs.Str.{bytes_eq};
 ghost use Rattle.fancy_lex.specs.Property as spec;
@@ -26,8 +26,8 @@ pub struct Property<'a> {
     pub name: PropertyName<'a>,
 }
 
-/// Reads what stands behind the letter of `\p` or `\P`: one character, or a name in braces. None where no text is
-/// left, or the brace is not closed.
+/// Reads the text after the letter of `\p` or `\P`: one character, or a name in braces. None if the text is empty, or
+/// the brace is not closed.
 #[tactic(auto, unfolding(crate::specs::Property::read_property, crate::specs::Property::name_at))]
 pub(crate) fn read_property(text: &str, negated: bool) -> Option<(Property<'_>, &str)>
     ensures value { spec.read_property negated (chars text.now) ≡
@@ -44,7 +44,7 @@ pub(crate) fn read_property(text: &str, negated: bool) -> Option<(Property<'_>, 
     Some((Property { negated, name }, rest))
 }
 
-/// The names that are written in a way of their own, and any other.
+/// The names that are written in a special form, and any other.
 #[derive(Clone, Copy)]
 enum KnownName {
     Alnum,
@@ -62,13 +62,13 @@ enum KnownName {
 enum Form<'a> {
     /// As a set with these items.
     Set(&'static str),
-    /// As this text, or the other where the property is negated.
+    /// As the first text, or as the second if the property is negated.
     Pair(&'static str, &'static str),
     /// As the name itself in lower case.
     Name(&'a str),
 }
 
-/// Whether the name is the word, which has small letters alone.
+/// Whether the name is the word in letters of either case; the word has only small letters.
 fn is_word(name: &str, word: &str) -> bool
     requires small { spec.lowercase (chars word.now) ≡ chars word.now }
     ensures { result ≡ bytes_eq (spec.lowercase (chars name.now)) (chars word.now) }
@@ -99,7 +99,7 @@ fn look_up(name: &str) -> KnownName
     }
 }
 
-/// One with UNICODE, and the other without.
+/// The first form with UNICODE, and the second without.
 #[inline]
 fn form_by<'a>(unicode: bool, with: Form<'a>, without: Form<'a>) -> Form<'a>
     ensures { view_form result ≡ spec.form_by unicode (view_form with.entry) (view_form without.entry) }
@@ -139,7 +139,7 @@ fn form_of(known: KnownName, name: &str, unicode: bool) -> Form<'_>
     }
 }
 
-/// The name without a caret in front, and whether it is negated then.
+/// Whether the name is negated, which a caret in front inverts, and the name without that caret.
 fn turn(negated: bool, name: &str) -> (bool, &str)
     ensures { view_read (λ b. b) result ≡ spec.turn negated (chars name.now) }
 {
@@ -149,7 +149,7 @@ fn turn(negated: bool, name: &str) -> (bool, &str)
     }
 }
 
-/// Whether what is written is a negated set that names properties or other classes.
+/// Whether the text that is written is a negated set that names properties or other classes.
 fn is_negated_form(known: KnownName, negated: bool, unicode: bool) -> bool
     ensures { (inside : Bool) (name : Text) →
         result ≡ spec.is_negated_set (spec.form_text inside negated (spec.form unicode known name)) }
@@ -163,7 +163,7 @@ fn is_negated_form(known: KnownName, negated: bool, unicode: bool) -> bool
     }
 }
 
-/// Whether what is written for the property is a negated set that names properties or other classes.
+/// Whether the text that is written for the property is a negated set that names properties or other classes.
 #[tactic(auto, unfolding(crate::specs::Property::property_text))]
 pub(crate) fn is_negated(property: Property, unicode: bool) -> bool
     ensures { (inside : Bool) →
@@ -191,7 +191,7 @@ fn push_lowercase(out: &mut String, name: &str) -> Result<(), AllocError>
     Ok(())
 }
 
-/// Adds a set with these items; in a class the items alone, where it is not negated.
+/// Adds a set with these items; in a class only the items, if it is not negated.
 fn push_set(out: &mut String, items: &str, negated: bool, inside: bool) -> Result<(), AllocError>
     ensures grown { OnOk result
         (text_of out.new ≡ text_of out.old ++ spec.form_text inside negated (spec.set (chars items.now))) }
@@ -208,7 +208,7 @@ fn push_set(out: &mut String, items: &str, negated: bool, inside: bool) -> Resul
     push(out, ']')
 }
 
-/// Adds the name in braces behind its letter.
+/// Adds the name in braces after its letter.
 fn push_name(out: &mut String, name: &str, negated: bool) -> Result<(), AllocError>
     ensures grown { OnOk result
         (text_of out.new ≡ text_of out.old ++ spec.form_text true negated (other_form (chars name.now))) }
@@ -240,8 +240,8 @@ fn push_form(out: &mut String, form: Form, negated: bool, inside: bool) -> Resul
     }
 }
 
-/// Adds the text that is written for the property, in a class or outside. Where memory runs out, a beginning of it
-/// may have been added.
+/// Adds the text that is written for the property, in a class or outside. If memory runs out, the beginning of it may
+/// have been added.
 #[tactic(auto, unfolding(crate::specs::Property::property_text))]
 pub(crate) fn push_property(
     out: &mut String,

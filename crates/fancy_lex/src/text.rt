@@ -6,7 +6,7 @@ ghost use Rattle.fancy_lex.specs.Views.{parts};
 
 use std::alloc::AllocError;
 
-/// The first character, and what follows it.
+/// The first character, and the text after it.
 #[inline(always)]
 pub fn next(text: &str) -> Option<(char, &str)>
     ensures value { MatchOption result (chars text.now ≡ []) (λ p. chars text.now ≡ p.0 ∷ chars p.1.now) }
@@ -17,7 +17,7 @@ pub fn next(text: &str) -> Option<(char, &str)>
     Some((c, chars.as_str()))
 }
 
-/// What follows the character, if the text begins with it.
+/// The text after the character, if the text begins with it.
 #[inline(always)]
 pub fn after(text: &str, mark: char) -> Option<&str>
     ensures value { strip mark (chars text.now) ≡ option_map (λ r. chars r.now) result }
@@ -27,7 +27,7 @@ pub fn after(text: &str, mark: char) -> Option<&str>
     if c == mark { Some(rest) } else { None }
 }
 
-/// What follows `word`, if the text begins with it.
+/// The text after `word`, if the text begins with it.
 pub fn after_word<'a>(text: &'a str, word: &str) -> Option<&'a str>
     ensures value { strip_word (chars word.now) (chars text.now) ≡ option_map (λ r. chars r.now) result }
     ensures within { IfSome result (λ r. length r.now ≤ length text.now) }
@@ -44,7 +44,7 @@ pub fn split_at(text: &str, mark: char) -> Option<(&str, &str)>
     text.split_once(mark)
 }
 
-/// How many bytes the text has.
+/// The length of the text in bytes.
 #[inline]
 pub fn byte_len(text: &str) -> usize
     ensures { result ≡ bytes (chars text.now) }
@@ -91,7 +91,7 @@ pub fn place_at(pattern: &str, reach: usize) -> usize
     (pattern.len() + 1).saturating_sub(reach)
 }
 
-/// The slice of `text` before `rest`, with which it ends.
+/// The slice of `text` before `rest`, which is a suffix of it.
 #[inline]
 pub fn front<'a>(text: &'a str, rest: &str) -> &'a str
     requires { (w : Text) × (chars text.now ≡ w ++ chars rest.now) }

@@ -1,4 +1,4 @@
--- The byte before a place.
+-- The byte before a position.
 use Rattle.std.proofs.Common.{◌≡◌, ℕ, ◌-◌, ◌<◌, ◌≤◌, List, false, nat_eq, chars, length, arith, get_or}
 use Rattle.std.specs.Str.{IsUtf8}
 use Rattle.std.proofs.lemmas.List.{get_or_past}

@@ -1,5 +1,5 @@
--- What holds of the counts of a quantifier: they leave the end of the text behind a character or more, of which the
--- last is an ASCII one.
+-- What holds of the counts of a quantifier: the rest of the text is a suffix after one or more characters, the last of
+-- which is an ASCII one.
 use Rattle.std.proofs.Common.{◌≡◌, ℕ, ◌<◌, ◌^◌, nat_lt, ◌==◌, true, [], ◌∷◌, ◌++◌, List, chars, ap, sym, ◌∙◌}
 use Rattle.std.proofs.Common.{append_assoc, length-append, Bor, Option, Some, None, IfSome, option_map, unwrap_or, refl}
 use Rattle.std.proofs.Common.{subst, arith, Bool}
@@ -65,9 +65,9 @@ takes_spaced x t = by_first (past_layout x t) (takes_layout x t)
     by_first None h = tt
     by_first (Some u) h = by_count (count u) (takes_count u) h
 
--- ---- the mark or closing brace
+-- ---- the operator or the closing brace
 
--- the text ends with this one behind an ASCII character
+-- the text ends with an ASCII character and u
 pub record Closed (t u : Text) : Type 0 where
   pub mark : ℕ
   pub ascii : mark < 128
@@ -131,11 +131,11 @@ closes_braces x t = by_count (spaced_count x t) (takes_spaced x t)
     by_count None h = tt
     by_count (Some p) h = closed p.0 p.1 (strip (code "}") p.1) refl h
 
--- a mark alone
+-- only an operator
 by_mark : (c m : ℕ) (t : Text) → m < 128 → (c == m) ≡ true → Closed (c ∷ t) t
 by_mark c m t l e = record { mark = c; ascii = grind (arith, nat_tests); ends = ([], refl) }
 
--- what follows the counts stands behind their mark or closing brace
+-- the text after the counts is directly after their operator or closing brace
 pub closes_counts : (x : Bool) (t : Text) → ClosesSome t (counts x t)
 unfolding counts
 closes_counts x [] = tt

@@ -1,5 +1,5 @@
--- The letters of a flag group leave the end of the text, or their fault stands at a cut of the text or one past its
--- end.
+-- The letters of a flag group: the rest of the text is a suffix of it, and the error is at a character boundary of the
+-- text or one past its end.
 use Rattle.std.proofs.Common.{ℕ, zero, suc, Bool, false, [], ◌∷◌, Option, Some, None}
 use Rattle.fancy_lex.proofs.EscapeLaws.{leaves_layout}
 use Rattle.fancy_lex.proofs.LeaveLaws.{ends_whole, stands_here, stands_end, Leaves, leaves, whole_next, leaves_none}
@@ -11,7 +11,7 @@ use Rattle.fancy_lex.specs.declared.flags.Flags.{Flags}
 use Rattle.fancy_parts.specs.FlagLetters.{Letters, LetterStep, flags_end, flags_go_on}
 use Rattle.fancy_parts.specs.LetterSteps.{step, unknown_letter, flag_or_fault, behind_step, letters_in, letters}
 
--- where the letters begin is told
+-- t is the text that begins with the letters; its reach is given
 module _ (t : Text) where
   abbrev told : ℕ
   told = reach_of t

@@ -15,13 +15,13 @@ use Rattle.fancy_lex.specs.declared.error.Failure.TheVariants.{At, OutOfMemory}
 use Rattle.fancy_parts.specs.FlagLetters.{Letters, flags_end, flags_go_on}
 use Rattle.fancy_parts.specs.LetterSteps.{step, letters_in, letters}
 
--- what was read of a text is its front
+-- the text that was read is the front of the whole text
 pub front_read : (t w u : Text) → t ≡ w ++ u → take (length t - length u) t ≡ w
 front_read t w u e =
     let n : length t - length u ≡ length w = omega (arith, ap length e, length-append w u) in
     rw n (ap (take (length w)) e ∙ take-append_seam w u)
 
--- one character more is read
+-- one more character is read
 pub behind_next : (t h : Text) (c : ℕ) (u : Text) → (w : Text) × (t ≡ w ++ h) → h ≡ c ∷ u → (w : Text) × (t ≡ w ++ u)
 behind_next t h c u (w, e) f = (w ++ c ∷ [], e ∙ ap (λ x. w ++ x) f ∙ sym (append_assoc w (c ∷ []) u))
 
@@ -62,7 +62,7 @@ module _ (t : Text) (clears : Bool) (f : Flags) (u : Text) where
   unfolding letters_in
   letters_go k v c g w e h = rw (e, h) refl
 
-  -- the same where more steps are left than m
+  -- the same if more than m steps are left
   module _ (k m : ℕ) (some : m < k) where
     pub in_layout_fault : (b : Failure) → Says b before → Reports b (letters_in t k clears f u)
     in_layout_fault b e = by_steps k some

@@ -1,5 +1,5 @@
--- What holds of every name and reference in a head: it leaves the end of the text behind some characters, and its fault
--- stands where it begins, or one byte before.
+-- What holds of every name and reference in the opening of a group: the rest of the text is a suffix after some
+-- characters, and the error is at the start of the text, or one byte before it.
 use Rattle.std.proofs.Common.{◌≡◌, ℕ, ◌+◌, true, false, [], ◌∷◌, Option, Some, None, option_map, refl, arith}
 use Rattle.std.proofs.lemmas.Bool.{cond_both}
 use Rattle.fancy_lex.specs.Characters.{close_paren, ◌∈◌}
@@ -18,7 +18,7 @@ use Rattle.fancy_parts.specs.HeadReference.{condition_target}
 pub takes_strip : (c : ℕ) (t u : Text) → strip c t ≡ Some u → Takes 1 t u
 takes_strip c t u e = record { word = c ∷ []; cut = strip_is c t u e; long = omega arith }
 
--- the closing parenthesis behind a name
+-- the closing parenthesis after a name
 takes_close_paren : (t : Text) (o : Option (Text × Text)) → TakesSome 3 t o → TakesSome 4 t (with_close_paren o)
 takes_close_paren t None h = tt
 takes_close_paren t (Some (w, u)) h = at (strip close_paren u) refl where

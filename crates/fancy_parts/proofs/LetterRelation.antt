@@ -1,4 +1,4 @@
--- The relation of a flag group's letters holds of exactly what the function answers.
+-- The relation of a flag group's letters holds exactly of the function's result.
 use Rattle.std.proofs.Common.{◌≡◌, ◌≢◌, ◌⊎◌, inl, inr, ℕ, zero, suc, ◌+◌, ◌<◌, ◌≤◌, ◌==◌, ◌&&◌, ◌||◌, Bool, true, false}
 use Rattle.std.proofs.Common.{not, if◌then◌else◌, List, [], ◌∷◌, ◌++◌, Result, Option, Some, None, refl, ap, sym, ◌∙◌}
 use Rattle.std.proofs.Common.{subst, arith, append_assoc}
@@ -34,13 +34,13 @@ use Rattle.fancy_parts.proofs.FlagLemmas.{front_read}
 abbrev one_minus : Text
 one_minus = code "-" ∷ []
 
--- ---- a minus alone, told from lengths
+-- ---- a minus and nothing else, known from lengths
 
 bytes_some : (c : ℕ) (t : Text) → 1 + bytes t ≤ bytes (c ∷ t)
 unfolding bytes
 bytes_some c t = omega (arith, len_utf8_bounds c)
 
--- nothing was read, a minus alone, or something else
+-- nothing was read, only a minus, or something else
 data Front (w : Text) : Type 0 where
   nothing : w ≡ [] → Front w
   dash : w ≡ one_minus → Front w
@@ -62,7 +62,7 @@ front (c ∷ d ∷ w) = other (not_nil c (d ∷ w)) two where
   two : c ∷ d ∷ w ≢ one_minus
   two e = cc
 
--- what was read, as `clears` tells of it
+-- the text that was read, and what `clears` says about it
 record Told (w : Text) (clears : Bool) : Type 0 where
   pub is : w ≡ one_minus → clears ≡ true
   pub one : clears ≡ true → bytes w ≡ 1 → w ≡ one_minus
@@ -84,7 +84,7 @@ head_same a b s t e = cc
 blank_no_minus : (c : ℕ) → is_blank c ≡ true → c ≢ code "-"
 blank_no_minus c b e = grind (arith, nat_tests)
 
--- no layout is a minus
+-- layout is never a minus
 not_layout : (x : Bool) (l v : Text) → Units x l v → l ≢ one_minus
 not_layout x l v none e = absurd cc
 not_layout x l v (unit_more u t cut unit h) e = by_unit unit where
@@ -133,7 +133,7 @@ at_least : (w : Text) → w ≢ [] → 1 ≤ bytes w
 at_least [] d = absurd (d refl)
 at_least (c ∷ w) d = omega (arith, bytes_some c w)
 
--- layout behind what was read
+-- layout after the text that was read
 told_layout : (x clears : Bool) (w l v : Text) → Told w clears → Units x l v → Told (w ++ l) clears
 told_layout x clears w l v h units = record { is = is; one = one; some = λ c e. h.some c (prefix_nil w l e) } where
   is : w ++ l ≡ one_minus → clears ≡ true
@@ -151,7 +151,7 @@ told_layout x clears w l v h units = record { is = is; one = one; some = λ c e.
       let alone = h.one c (omega (arith, some, sum, e)) in
       rw (none, alone) refl
 
--- a character behind it
+-- one more character after it
 told_more : (clears : Bool) (w : Text) (c : ℕ) → Told w clears → c ≢ code "-" → Told (w ++ c ∷ []) clears
 told_more clears w c h d = record {
   is = λ e. absurd (d (last_same w c (code "-") e));
@@ -159,7 +159,7 @@ told_more clears w c h d = record {
   some = λ on e. h.some on (prefix_nil w (c ∷ []) e);
 }
 
--- a minus behind it, the first
+-- a minus after it, the first
 told_minus : (w : Text) (c : ℕ) → c ≡ code "-" → Told (w ++ c ∷ []) true
 told_minus w c d = record { is = λ e. refl; one = one; some = some } where
   some : true ≡ true → w ++ c ∷ [] ≢ []
@@ -312,7 +312,7 @@ module _ (t w : Text) (clears : Bool) (f : Flags) (c : ℕ) (u : Text) (told : T
             rw (at_other a b d e, h) (bad (names_no_flag among h))
         on_other a b d e (Some g) h = rw (at_other a b d e, h) (flag h)
 
-  -- and of nothing else
+  -- and of no other result
   letter_is : {q : Reading LetterStep} → Letter t w clears f c u q → step t clears f (c ∷ u) ≡ q
   letter_is (flag {g} e) =
       at_other (not_at (code ")") (λ a. none_at (code ")") refl a)) (not_at (code ":") (λ a. none_at (code ":") refl a))
@@ -343,7 +343,7 @@ module _ (t w : Text) (clears : Bool) (f : Flags) (c : ℕ) (u : Text) (told : T
         at_other (grind (arith, nat_tests)) (grind (arith, nat_tests)) (grind (arith, nat_tests))
         (grind (arith, nat_tests)) ∙ rw e refl
 
-  -- what is known of `clears` behind it
+  -- what `clears` says after the letter
   told_behind : {b : Bool} {g : Flags} {r : Text} → Letter t w clears f c u (gives (flags_go_on b g) r) →
       Told (w ++ c ∷ []) b
   told_behind (flag e) = told_more clears w c told no_minus_flag where
@@ -356,7 +356,7 @@ module _ (t w : Text) (clears : Bool) (f : Flags) (c : ℕ) (u : Text) (told : T
 
 -- ---- the letters, one after another
 
--- a letter leaves what follows it
+-- the rest of the text is the text after the letter
 letter_rest : {t w : Text} {clears : Bool} {f : Flags} {c : ℕ} {u r : Text} {s : LetterStep} →
     Letter t w clears f c u (gives s r) → r ≡ u
 letter_rest (flag e) = refl
@@ -365,7 +365,7 @@ letter_rest (minus a e) = refl
 letter_rest (parenthesis a d e) = refl
 letter_rest (colon a d) = refl
 
--- what was read of the letters before `u`
+-- the text that was read of the letters before `u`
 abbrev Reached : Text → Bool → Text → Type 0
 Reached t clears u = (w : Text) × (t ≡ w ++ u) × Told w clears
 
@@ -386,7 +386,7 @@ module _ (t : Text) where
   unfolding letters_in
   read_step k clears f u v e = rw e refl
 
-  -- the text behind layout and a letter is shorter
+  -- the text after layout and a letter is shorter
   shorter : (w u : Text) (c : ℕ) (v : Text) (k : ℕ) → u ≡ w ++ (c ∷ v) → bytes u < suc k → bytes v < k
   shorter w u c v k cut l = omega (arith, ap bytes cut, bytes-append w (c ∷ v), bytes_some c v, l)
 
@@ -402,7 +402,7 @@ module _ (t : Text) where
     told_as : (w : Text) → t ≡ w ++ (c ∷ v) → Told w clears
     told_as w e = subst (λ s. Told s clears) (append_cancel_right (at.0 ++ b.w) w (c ∷ v) (sym cut_at ∙ e)) told_at
 
-  -- and behind it
+  -- and after it
   reach_on : {clears b : Bool} {f g : Flags} {u v : Text} → Reached t clears u →
       Next t clears f u v (gives (flags_go_on b g) v) →
       Reached t b v
@@ -417,7 +417,7 @@ module _ (t : Text) where
       (clears : Bool) (f : Flags) (u : Text) → Reached t clears u → bytes u < k →
       LettersFrom t clears f u (letters_in t k clears f u)
 
-  -- what the function answers, the relation gives
+  -- the function's result is in the relation
   module _ (k : ℕ) (reads : ReadShort k) (clears : Bool) (f : Flags) (u : Text) (at : Reached t clears u)
       (l : bytes u < suc k) where
     read_behind : (c : ℕ) (v : Text) (b : Before f.ignore_space u (c ∷ v)) (q : Reading LetterStep) →
@@ -451,7 +451,7 @@ module _ (t : Text) where
   letters_read zero clears f u at l = absurd (omega arith)
   letters_read (suc k) clears f u at l = read_layout k (letters_read k) clears f u at l (layout f.ignore_space u) refl
 
-  -- whatever the relation gives is the function's answer: by induction on the derivation
+  -- each result in the relation is the function's: by induction on the derivation
   step_is : {clears : Bool} {f : Flags} {u v : Text} {q : Reading LetterStep} (k : ℕ) → Reached t clears u →
       (x : Next t clears f u v q) →
       letters_in t (suc k) clears f u ≡ (q >=> behind_step (letters_in t k))

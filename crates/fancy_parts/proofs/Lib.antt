@@ -1,4 +1,4 @@
--- ---- quantifiers, and the heads of groups
+-- ---- quantifiers, and the openings of groups
 pub mod HeadLaws
 pub mod CountLaws
 pub mod FlagLemmas
@@ -8,6 +8,6 @@ pub mod FlagLaws
 mod NameLemmas
 pub mod NamedLaws
 mod BackslashLemmas
--- ---- what is printed
+-- ---- the texts that are printed
 pub mod RoomLemmas
 pub mod QuoteLemmas

@@ -22,11 +22,11 @@ use Rattle.fancy_parts.specs.Ranks.{name_cmp}
 abbrev Entries : Type 0
 Entries = List (String Global × Vec ℕ Global)
 
--- how the bytes of a name stand to a key
+-- the order of a name, by its bytes, and a key
 abbrev pub key_cmp : List ℕ → String Global → Ordering
 key_cmp a k = slice_cmp nat_cmp a (string_bytes k)
 
--- they stand to it as their characters do
+-- it is the order by characters
 key_name_cmp : (a : List ℕ) (k : String Global) → IsUtf8 a → key_cmp a k ≡ name_cmp (chars a) (text_of k)
 key_name_cmp a k h =
     let x : encode_utf8_all (chars a) ≡ a = encodes-chars _ h in
@@ -40,7 +40,7 @@ string_name_cmp a k = key_name_cmp (string_bytes a) k (IsUtf8-string_bytes a)
 key_test : (a : List ℕ) (k : String Global) → IsUtf8 a → is_eq (key_cmp a k) ≡ bytes_eq (chars a) (text_of k)
 key_test a k h = is_eq-slice_cmp a (string_bytes k) ∙ same_text a (string_bytes k) h (IsUtf8-string_bytes k)
 
--- no key is this one where it stands before the first
+-- no key is this name, if the name comes before the first key
 none_above : (a : List ℕ) (k : String Global) (es : Entries) → key_cmp a k ≡ Less →
     IsStrictlySortedBy string_cmp (k ∷ keys_of es) → lookup (λ k. is_eq (key_cmp a k)) es ≡ None
 none_above a k [] less s = refl
@@ -63,7 +63,7 @@ found a (e ∷ es) u = by_test (is_eq (key_cmp a e.0)) refl (found a es u)
     by_test true h i = let t : bytes_eq (chars a) (text_of e.0) ≡ true = sym (key_test a e.0 u) ∙ h in rw (h, t) refl
     by_test false h i = let t : bytes_eq (chars a) (text_of e.0) ≡ false = sym (key_test a e.0 u) ∙ h in rw (h, t) i
 
--- a name that has no entry gets one at its place
+-- a name without an entry gets one at its position
 pub put_new : (a : String Global) (es : Entries) (w : Vec ℕ Global) (n : ℕ) → w.items ≡ n ∷ [] →
     lookup (λ k. is_eq (string_cmp a k)) es ≡ None →
     map entry_of (insert_entry string_cmp es a w) ≡ with_number (text_of a) n (map entry_of es)
@@ -83,7 +83,7 @@ put_new a (e ∷ es) w n h k = by_order (string_cmp a e.0) refl (put_new a es w 
         = rw q refl in
         rw (q, t) (ap (λ l. entry_of e ∷ l) (i (sym none ∙ k)))
 
--- a name that has one keeps it, with the number behind the others
+-- a name with an entry keeps it, with the number added after the others
 pub put_more : (a : List ℕ) (es : Entries) (v w : Vec ℕ Global) (n : ℕ) → IsUtf8 a → w.items ≡ v.items ++ (n ∷ []) →
     IsStrictlySortedBy string_cmp (keys_of es) → lookup (λ k. is_eq (key_cmp a k)) es ≡ Some v →
     map entry_of (set_value (λ k. is_eq (key_cmp a k)) es w) ≡ with_number (chars a) n (map entry_of es)
@@ -111,7 +111,7 @@ put_more a (e ∷ es) v w n u h s k =
         = rw q refl in
         rw (q, t) (ap (λ l. entry_of e ∷ l) (i (sym other ∙ k)))
 
--- where its numbers stay, so do all
+-- if the numbers of an entry are the same, so are all entries
 pub put_same : (a : List ℕ) (es : Entries) (v w : Vec ℕ Global) → w.items ≡ v.items →
     lookup (λ k. is_eq (key_cmp a k)) es ≡ Some v →
     map entry_of (set_value (λ k. is_eq (key_cmp a k)) es w) ≡ map entry_of es

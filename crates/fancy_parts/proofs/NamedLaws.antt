@@ -58,26 +58,26 @@ above_all : (t x : Text) (ts : List Text) → name_cmp t x ≡ Less → Above x 
 above_all t x [] h a = tt
 above_all t x (u ∷ ts) h a = (name_total.trans t x u h a.0, above_all t x ts h a.1)
 
--- none is t
+-- none of the names is t
 not_among : (t : Text) (ts : List Text) → Above t ts → list_any (λ u. bytes_eq u t) ts ≡ false
 not_among t [] a = refl
 not_among t (u ∷ ts) a =
     let apart : bytes_eq u t ≡ false = sym (equal_name t u) ∙ ap is_eq a.0 in rw apart (not_among t ts a.1)
 
--- ---- a name more
+-- ---- one more name
 
 or_false : (a b : Bool) → (a || b) ≡ false → (a ≡ false) × (b ≡ false)
 or_false true b h = absurd cc
 or_false false b h = (refl, h)
 
--- f, with one number more for the name
+-- f, with one more number for the name
 abbrev with_one : Text → ℕ → (Text → List ℕ) → Text → List ℕ
 with_one t n f u = if bytes_eq u t then f u ++ (n ∷ []) else f u
 
 abbrev entries : (Text → List ℕ) → List Text → List (Text × List ℕ)
 entries f ts = map (λ u. (u, f u)) ts
 
--- names that have no other numbers keep their entries
+-- the entries of names other than t stay the same
 others : (t : Text) (n : ℕ) (f : Text → List ℕ) (ts : List Text) → list_any (λ u. bytes_eq u t) ts ≡ false →
     entries (with_one t n f) ts ≡ entries f ts
 others t n f [] h = refl
@@ -142,7 +142,7 @@ sorted_inserted t (u ∷ ts) s = by_order (name_cmp t u) refl (sorted_inserted t
     by_order Equal q i = rw q s
     by_order Greater q i = rw q (all_inserted u t ts s.0 (name_total.antisymm u t ∙ ap ordering_reverse q), i)
 
--- a name that is not among those with one more is another one, and was not among them
+-- a name that is not among the names with t added is not t, and was not among them before
 not_inserted : (x t : Text) (ts : List Text) → list_any (λ u. bytes_eq u x) (insert_key name_cmp ts t) ≡ false →
     (bytes_eq x t ≡ false) × (list_any (λ u. bytes_eq u x) ts ≡ false)
 not_inserted x t [] h = (nat_list_eq_equiv.symm x t ∙ (or_false (bytes_eq t x) false h).0, refl)
@@ -163,7 +163,7 @@ not_inserted x t (u ∷ ts) h = by_order (name_cmp t u) refl (not_inserted x t t
 
 -- ---- all groups, one after another
 
--- the entries are those of the names, by the function, which has no number for another name
+-- the entries are the names, in order, with their values under f, which has no numbers for any other name
 record Lists (es : List (Text × List ℕ)) (ts : List Text) (f : Text → List ℕ) : Type 0 where
   is : es ≡ entries f ts
   sorted : IsStrictlySortedBy name_cmp ts
@@ -180,7 +180,7 @@ lists_more es ts f t n h = record {
   absent = λ u a. let k = not_inserted u t ts a in with_one_other t n f u k.0 ∙ h.absent u k.1;
 }
 
--- the groups, with those of the openings added
+-- the groups, with the groups of the openings added
 abbrev pub with_all : Groups → List Opening → Groups
 with_all s l = fold (λ g o. with_group g o.name) s l
 
@@ -192,7 +192,7 @@ one_more ns ms n false = refl
 abbrev all_names : List Text → List Opening → List Text
 all_names ts l = fold (insert_key name_cmp) ts (filter_map (λ o. o.name) l)
 
--- one group more, and then the others
+-- one more group, and then the others
 lists_next : (s : Groups) (ts : List Text) (f : Text → List ℕ) (m : Option Text) (l : List Opening) →
     ((us : List Text) (g : Text → List ℕ) → Lists (with_group s m).names us g →
     Lists (with_all (with_group s m) l).names (all_names us l) (λ u. g u ++ numbers_from (s.total + 1) u l)) →
@@ -219,7 +219,7 @@ none_listed = record { is = refl; sorted = tt; absent = λ u a. refl }
 lists_named : (l : List Opening) → Lists (with_all no_groups l).names (names l) (λ u. numbers u l)
 lists_named l = lists_all no_groups [] (λ u. []) l none_listed
 
--- all groups added to none
+-- all groups, added to no groups
 pub all_named : (l : List Opening) → (with_all no_groups l).names ≡ named_groups l
 all_named l = (lists_named l).is
 
@@ -250,7 +250,7 @@ all_total l = omega (arith, total_all no_groups l)
 groups_in_all : (l : List Opening) → with_all no_groups l ≡ groups_in l
 groups_in_all l = λ i. record { total = all_total l i; names = all_named l i }
 
--- with a group more the groups are numbered as with its opening
+-- with one more group, the groups are numbered as with its opening
 pub groups_in_more : (s : Groups) (l : List Opening) (reach : ℕ) (name : Option Text) → s ≡ groups_in l →
     with_group s name ≡ groups_in (openings_with l reach name)
 groups_in_more s l reach name e =
@@ -259,6 +259,6 @@ groups_in_more s l reach name e =
     ∙ sym (fold-append (λ g (x : Opening). with_group g x.name) no_groups l (o ∷ []))
     ∙ groups_in_all (openings_with l reach name)
 
--- so a name has its numbers
+-- so `numbers_under` gives the numbers of each name
 pub groups_in_under : (s : Groups) (l : List Opening) → s ≡ groups_in l → numbers_under s.names ≡ (λ t. numbers t l)
 groups_in_under s l e = ap (λ (g : Groups). numbers_under g.names) e ∙ (λ i t. under_named l t i)

@@ -1,4 +1,4 @@
--- Steps of numbers in digits, and of texts that are quote.
+-- Steps of numbers in digits, and of texts that are quoted.
 use Rattle.std.proofs.Common.{◌≡◌, ◌≢◌, ℕ, ◌+◌, ◌/◌, ◌%◌, ◌^◌, ◌<◌, ◌≤◌, suc, Bool, true, false, List, [], ◌∷◌, ◌++◌}
 use Rattle.std.proofs.Common.{length, get_or, String, Global, decimal, codes, Some, None, is_some, refl, sym, ap, ap₂}
 use Rattle.std.proofs.Common.{◌∙◌, append-nil, append_assoc, length-append, chars, if◌then◌else◌, nat_lt, Option}
@@ -42,7 +42,7 @@ number_more n h k =
 pub number_within : (n : ℕ) → n < 2 ^ 64 → bytes (decimal n) ≤ 20
 number_within n h = rw (bytes_ascii (decimal n) (IsAscii-decimal n h)) (search (rules, length-decimal-le))
 
--- a front of a number
+-- the front of a number
 pub number_front : (n : ℕ) → 10 ≤ n → n < 2 ^ 64 → bytes (decimal (n / 10)) + 1 ≤ 20
 number_front n h k = omega (arith, number_within n k, number_more n h k)
 
@@ -101,7 +101,7 @@ pub ruleset counts_steps = (one_byte, counts_braced_len, counts_marked, counts_b
 
 -- ---- a text by its bytes
 
--- a backslash stands before the character of the byte
+-- whether the character of the byte is printed with a backslash
 abbrev pub marked : ℕ → Bool
 marked b = is_some (behind_backslash b)
 
@@ -111,12 +111,12 @@ not_behind c h = grind (arith, nat_tests)
 behind_ascii : (c b : ℕ) → c < 128 → behind_backslash c ≡ Some b → b < 128
 behind_ascii c b h e = grind (arith, nat_tests)
 
--- no byte of a longer character is a mark
+-- no byte of a character that is not in ASCII is printed with a backslash
 none_marked : (bs : List ℕ) → ((k : ℕ) → k < length bs → 128 ≤ get_or bs k 0) → count_by marked bs ≡ 0
 none_marked [] h = refl
 none_marked (b ∷ bs) h = rw (not_behind b (h 0 (omega arith))) (none_marked bs (λ k l. h (suc k) (omega arith)))
 
--- a character past ASCII has no byte of ASCII
+-- a character that is not in ASCII has no ASCII byte
 pub bytes_high : (c k : ℕ) → 128 ≤ c → k < length (encode c) → 128 ≤ get_or (encode c) k 0
 bytes_high c k h l =
     let whole : encode c ≡ encode c ++ [] = sym (append-nil (encode c)) in
@@ -150,7 +150,7 @@ encoded_bytes (c ∷ t) =
     let here = quoted_bytes c (nat_lt c 128) refl in
     omega (arith, length-append (encode c) (encodes t), marks, bytes-append (quote c) (quotes t), here, encoded_bytes t)
 
--- a text is printed as its bytes, and a backslash for each that is marked
+-- a text is printed as its bytes, and one more byte for each that needs a backslash
 pub quotes_bytes : (bs : List ℕ) → IsUtf8 bs → length bs + count_by marked bs ≡ bytes (quotes (chars bs))
 quotes_bytes bs u = rw (encodes-chars bs u) at (encoded_bytes (chars bs))
 
@@ -189,7 +189,7 @@ one_or_none : (b : Bool) → from_bool b ≡ (if b then 1 else 0)
 one_or_none true = refl
 one_or_none false = refl
 
--- it is printed as its byte, and a backslash where that is marked
+-- it is printed as its byte, and one more byte if that needs a backslash
 pub one_counted : (bs : List ℕ) (b : ℕ) → IsUtf8 bs → 1 ≤ length bs → length bs < 2 → b ≡ get_or bs 0 0
     → 1 + from_bool (marked b) ≡ bytes (quotes (chars bs))
 one_counted [] b u l m e = absurd (omega arith)
@@ -197,7 +197,7 @@ one_counted (d ∷ []) b u l m e =
     omega (arith, quotes_bytes (d ∷ []) u, ap (λ n. from_bool (marked n)) e, one_or_none (marked d))
 one_counted (d ∷ f ∷ bs) b u l m e = absurd (omega arith)
 
--- ---- characters that are printed as they stand
+-- ---- characters that are printed as themselves
 
 pub run_starts : (t : Text) → AreAsTheyStand t t
 run_starts t = ([], refl, refl)
@@ -223,7 +223,7 @@ run_before t f r (w, cut, plain) e =
     let same : w ≡ f = append_cancel_right w f r (sym cut ∙ e) in
     ap quotes cut ∙ flat_map-append quote w r ∙ ap (λ v. v ++ quotes r) (plain ∙ same)
 
--- ---- a text that is quoted, as it is written
+-- ---- writing a text that is quoted
 
 pub run_room : (a b : String Global) (t f r whole : Text) → AreAsTheyStand t r → t ≡ f ++ r
     → Writing a b (quotes t) whole → HasRoom b f

@@ -1,4 +1,4 @@
--- Steps of a text that is counted, or written into room.
+-- Steps of a text whose length is computed, or that is written into enough capacity.
 use Rattle.std.proofs.Common.{◌≡◌, ℕ, ◌+◌, ◌≤◌, Bool, true, false, nat_lt, if◌then◌else◌, List, [], ◌∷◌, ◌++◌, length}
 use Rattle.std.proofs.Common.{String, Global, string_bytes, chars, refl, sym, ap, ◌∙◌, append_assoc, append-nil}
 use Rattle.std.proofs.Common.{arith, subst}
@@ -38,9 +38,9 @@ ascii bs h = IsAscii-from_all bs (λ k d l. ltb-true _ _ (AllPass-from_list_all 
 pub bytes_ascii : (bs : List ℕ) → IsAscii bs → bytes bs ≡ length bs
 bytes_ascii bs h = ap bytes (sym (chars-IsAscii bs h)) ∙ bytes_chars bs (IsUtf8-from_ascii bs h)
 
--- ---- what is written
+-- ---- writing
 
--- a push that was not refused
+-- a push that did not fail
 pub pushed : (ok : Bool) (a b : String Global) (bs : List ℕ) (text : Text) → ok ≡ true → IsUtf8 bs → chars bs ≡ text →
     string_bytes b ≡ (if ok then string_bytes a ++ bs else string_bytes a)
     → string_len b ≡ (if ok then string_len a + length bs else string_len a) → string_capacity a ≤ string_capacity b →
@@ -71,7 +71,8 @@ room_front a xs ys h = omega (arith, bytes-append xs ys)
 pub room_behind : (a b : String Global) (xs ys : Text) → Appended a b xs → HasRoom a (xs ++ ys) → HasRoom b ys
 room_behind a b xs ys p h = omega (arith, bytes-append xs ys, p.len, p.capacity)
 
--- a writing that began at a and stands at b: b has room for the rest, and with it the whole stands behind a
+-- a writing that began with the string a and has reached b: b has the capacity for the rest, and with the rest written
+-- the whole text is appended to a
 pub record Writing (a b : String Global) (rest whole : Text) : Type 0 where
   pub room : HasRoom b rest
   pub ends : (z : String Global) → Appended b z rest → Appended a z whole
@@ -94,7 +95,7 @@ writing_later a b c xs ys whole w p =
 pub writing_ends : (a b : String Global) (whole : Text) → Writing a b [] whole → Appended a b whole
 writing_ends a b whole w = w.ends b (nothing_written b)
 
--- a count of all but the rest
+-- a length that counts all but the rest
 pub record Counting (len : ℕ) (rest whole : Text) : Type 0 where
   pub so_far : ℕ
   pub len_is : len ≡ in_word so_far
@@ -117,12 +118,12 @@ pub counting_ends : (len : ℕ) (whole : Text) → Counting len [] whole → len
 unfolding bytes
 counting_ends len whole c = omega (arith, c.len_is, c.sum)
 
--- room for a count is room for the text, since no string has room for the greatest word
+-- capacity for the length is capacity for the text, since no string has capacity for the greatest word
 pub room_counted : (s : String Global) (t : Text) (len : ℕ) → len ≡ in_word (bytes t)
     → string_len s + len ≤ string_capacity s → HasRoom s t
 room_counted s t len e h = omega (arith, s.bytes.small)
 
--- ---- several texts, one behind the other
+-- ---- several texts, one after the other
 
 pub written_as : (a b : String Global) (xs all : Text) → Appended a b xs → xs ≡ all → Appended a b all
 written_as a b xs all p e = subst (λ t. Appended a b t) e p

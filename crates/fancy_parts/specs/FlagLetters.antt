@@ -1,4 +1,4 @@
--- The letters behind the `(?` of a flag group.
+-- The letters after the `(?` of a flag group.
 use Rattle.std.specs.Prelude.{◌≡◌, ◌≢◌, ◌⊎◌, ℕ, ◌==◌, Bool, true, false, not, [], ◌∷◌, ◌++◌, codes, Option, Some, None}
 use Rattle.std.specs.Prelude.{if◌then◌else◌}
 use Prim.Native.Char.{code}
@@ -9,12 +9,12 @@ use Rattle.fancy_lex.specs.Reading.{Reading, gives, fails}
 use Rattle.fancy_lex.specs.Text.{Text}
 use Rattle.fancy_lex.specs.declared.flags.Flags.{Flags}
 
--- what the letters come to
+-- the result of the letters
 pub data Letters : Type 0 where
   setting : Flags → Letters  -- closed by a parenthesis: these flags hold from there on
   scope : Flags → Letters  -- closed by a colon: these flags hold inside the group
 
--- the flag of this letter set or cleared; none where it names no flag
+-- the flags with the flag of this letter set or cleared; None if the letter is no flag
 abbrev pub with_letter : Flags → Bool → ℕ → Option Flags
 with_letter f on c =
     if c == code "i" then Some (record f { casei = on })
@@ -25,21 +25,22 @@ with_letter f on c =
     else if c == code "x" then Some (record f { ignore_space = on })
     else None
 
--- one letter read: the letters end there, or go on under these flags, and set or clear theirs
+-- the result of one letter: the letters end there, or go on under these flags; then `clears` says whether the next ones
+-- clear their flags or set them
 pub data LetterStep : Type 0 where
   flags_end : Letters → LetterStep
   flags_go_on : (clears : Bool) → Flags → LetterStep
 
--- the character is no letter of flags, where `w` was read before it, and `clears` says whether a minus was
+-- the character is no flag letter; `w` is the text of the letters before it, and `clears` says whether a minus was read
 pub data NoLetter (w : Text) (clears : Bool) (f : Flags) (c : ℕ) : Type 0 where
   nothing_closed : c ≡ code ")" → (w ≡ []) ⊎ (w ≡ codes "-") → NoLetter w clears f c
   nothing_scoped : c ≡ code ":" → w ≡ codes "-" → NoLetter w clears f c
   second_minus : c ≡ code "-" → clears ≡ true → NoLetter w clears f c
   names_no_flag : (c ∈ ")-:u") ≡ false → with_letter f (not clears) c ≡ None → NoLetter w clears f c
 
--- the letters `t`
+-- `t` is the text that begins with the letters
 module _ (t : Text) where
-  -- one letter, mark or fault, before `u`
+  -- one letter, delimiter or error, before `u`
   pub data Letter (w : Text) (clears : Bool) (f : Flags) (c : ℕ) (u : Text) : Reading LetterStep → Type 0 where
     flag : {g : _} → with_letter f (not clears) c ≡ Some g → Letter w clears f c u (gives (flags_go_on clears g) u)
     same_mode : c ≡ code "u" → f.unicode ≡ not clears → Letter w clears f c u (gives (flags_go_on clears f) u)
@@ -49,7 +50,7 @@ module _ (t : Text) where
     no_letter : NoLetter w clears f c → Letter w clears f c u (fails (no_flag_letter t (w ++ c ∷ [])))
     other_mode : c ≡ code "u" → f.unicode ≡ clears → Letter w clears f c u (fails (mode_changed (c ∷ u)))
 
-  -- layout, and behind it one letter, mark or fault, before `v`; `w` is what was read of the letters before it
+  -- layout, and after it one letter, delimiter or error, before `v`; `w` is the text of the letters before it
   pub record Next (clears : Bool) (f : Flags) (u v : Text) (q : Reading LetterStep) : Type 0 where
     pub c : ℕ
     pub w : Text
@@ -57,7 +58,7 @@ module _ (t : Text) where
     pub read : t ≡ w ++ (c ∷ v)
     pub letter : Letter w clears f c v q
 
-  -- what is left of the letters under these flags, where `clears` says whether a minus was read
+  -- the rest of the letters under these flags; `clears` says whether a minus was read
   pub data LettersFrom : Bool → Flags → Text → Reading Letters → Type 0 where
     last : {clears f u v l : _} → Next clears f u v (gives (flags_end l) v) → LettersFrom clears f u (gives l v)
     more : {clears b f g u v o : _} → Next clears f u v (gives (flags_go_on b g) v) → LettersFrom b g v o →
@@ -67,6 +68,6 @@ module _ (t : Text) where
     open_layout : {clears u q : _} {f : Flags} → Unclosed f.ignore_space u q →
         LettersFrom clears f u (fails (comment_not_closed q))
 
--- the letters of a flag group, from behind the `(?`
+-- the letters of a flag group, starting after the `(?`
 abbrev pub FlagGroup : Flags → Text → Reading Letters → Type 0
 FlagGroup f t o = LettersFrom t false f t o

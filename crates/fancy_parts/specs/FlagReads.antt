@@ -1,16 +1,16 @@
--- What the letters of a flag group come to, as the code holds it.
+-- The results of reading flag letters, in code.
 use Rattle.fancy_parts.specs.FlagLetters as spec
 use Rattle.fancy_parts.specs.declared.heads.letters.Letters as code
 use Rattle.fancy_parts.specs.declared.heads.letters.Letters.TheVariants.{Setting, Scope}
 use Rattle.fancy_parts.specs.declared.heads.letters.LetterStep as code_step
 use Rattle.fancy_parts.specs.declared.heads.letters.LetterStep.TheVariants.{Ends, GoesOn}
 
--- what the code's letters come to
+-- the letters of the code's value
 abbrev pub letters_of : code.Letters → spec.Letters
 letters_of (Setting f) = spec.setting f
 letters_of (Scope f) = spec.scope f
 
--- what the code's step stands for
+-- the step of the code's value
 abbrev pub step_of : code_step.LetterStep → spec.LetterStep
 step_of (Ends l) = spec.flags_end (letters_of l)
 step_of (GoesOn clears f) = spec.flags_go_on clears f

@@ -1,10 +1,11 @@
--- The name of a group, in its head.
+-- The name in the opening of a group.
 use Rattle.std.specs.Prelude.{ℕ}
 use Rattle.fancy_lex.specs.Delimited.{name_before}
 use Rattle.fancy_lex.specs.FaultTable.{group_not_named}
 use Rattle.fancy_lex.specs.Reading.{Reading, read_or}
 use Rattle.fancy_lex.specs.Text.{Text}
 
--- the name before the closing mark, where u stands behind the opening one, and t behind the question mark of the head
+-- the name before the closing delimiter; u is the text after the opening delimiter, and t is the text after the
+-- question mark of the group
 unfoldable pub group_name : ℕ → Text → Text → Reading Text
 group_name mark t u = read_or (group_not_named t) (name_before mark u)

@@ -1,4 +1,4 @@
--- How the code's groups, roles and meanings stand to the definitions.
+-- How the code's groups, roles and meanings correspond to the definitions.
 use Rattle.std.specs.Prelude.{ℕ, ◌+◌, Bool, List, [], ◌∷◌, ◌++◌, Option, Some, None, length, map, unwrap_or, bytes_eq}
 use Rattle.std.specs.Prelude.{String, Vec, if◌then◌else◌}
 use Rattle.std.specs.Map.{lookup}
@@ -14,7 +14,7 @@ use Rattle.fancy_parts.specs.declared.ranks.Meaning.TheVariants as means
 use Rattle.fancy_parts.specs.declared.ranks.Role as role
 use Rattle.fancy_parts.specs.declared.ranks.Role.TheVariants as does
 
--- how many groups were found, and for each name, in order, its numbers
+-- the number of groups found, and for each name, in order, its numbers
 pub record Groups : Type 0 where
   pub total : ℕ
   pub names : List (Text × List ℕ)
@@ -23,15 +23,15 @@ pub record Groups : Type 0 where
 abbrev pub groups_in : List Opening → Groups
 groups_in l = record { total = length l; names = named_groups l }
 
--- one opening more, behind the others
+-- the openings with one more after them
 abbrev pub openings_with : List Opening → ℕ → Option Text → List Opening
 openings_with l reach name = l ++ record { reach = reach; name = name } ∷ []
 
--- none, as where nothing opens
+-- no groups
 abbrev pub no_groups : Groups
 no_groups = record { total = 0; names = [] }
 
--- the entries with the number behind those of the name, or alone where the name is new
+-- the entries with the number added after those of the name, or as its only number if the name is new
 abbrev pub with_number : Text → ℕ → List (Text × List ℕ) → List (Text × List ℕ)
 with_number t n [] = (t, n ∷ []) ∷ []
 with_number t n (e ∷ es) =
@@ -41,15 +41,15 @@ abbrev pub with_named : Option Text → ℕ → List (Text × List ℕ) → List
 with_named None n es = es
 with_named (Some t) n es = with_number t n es
 
--- with one group more, which has the next number
+-- the groups with one more, which has the next number
 abbrev pub with_group : Groups → Option Text → Groups
 with_group s name = record { total = s.total + 1; names = with_named name (s.total + 1) s.names }
 
--- the opening is passed: its group has the next number, if it has one
+-- the groups after one more opening: its group has the next number, if it has one
 abbrev pub with_opening : Bool → Groups → Opening → Groups
 with_opening named s o = if is_counted named o.name then with_group s o.name else s
 
--- the numbers of a name, or none
+-- the numbers of a name, which are none if no group has the name
 abbrev pub numbers_under : List (Text × List ℕ) → Text → List ℕ
 numbers_under es t = unwrap_or (lookup (λ u. bytes_eq t u) es) []
 

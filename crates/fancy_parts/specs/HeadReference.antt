@@ -1,4 +1,4 @@
--- References in heads of groups: `(?P=id)`, `(?P>name)`, and what a condition asks for.
+-- References in the openings of groups: `(?P=id)`, `(?P>name)`, and the group that a condition refers to.
 use Rattle.std.specs.Prelude.{ℕ, Bool, true, false, ◌||◌, if◌then◌else◌, [], ◌∷◌, Option, Some, None, option_map}
 use Rattle.std.specs.Char.{is_ascii_digit}
 use Rattle.std.specs.Option.{option_and_then}
@@ -8,7 +8,7 @@ use Rattle.fancy_lex.specs.Reading.{Reading}
 use Rattle.fancy_lex.specs.Referred.{Reference, Call, call_to, target_of_name, name_reading, reference_by_name}
 use Rattle.fancy_lex.specs.Text.{Text, strip, reach_of}
 
--- behind `(?P=`: an id and a closing parenthesis
+-- after `(?P=`: an id and a closing parenthesis
 unfoldable pub named_reference : Text → Reading Reference
 named_reference t = reference_by_name (reach_of t) false (name_before close_paren t)
 
@@ -16,24 +16,24 @@ named_reference t = reference_by_name (reach_of t) false (name_before close_pare
 abbrev pub call_of : ℕ → Text → Option Call
 call_of p w = Some (call_to p (target_of_name w))
 
--- behind `(?P>`: a name and a closing parenthesis
+-- after `(?P>`: a name and a closing parenthesis
 unfoldable pub named_call : Text → Reading Call
 named_call t = name_reading (reach_of t) (of_name (call_of (reach_of t)) (name_before close_paren t))
 
--- a condition that begins so asks for a group
+-- whether a condition that begins like this refers to a group
 unfoldable pub begins_target : Text → Bool
 begins_target [] = false
 begins_target (c ∷ t) = (c ∈ "'<+-") || is_ascii_digit c
 
--- the same with a closing parenthesis behind the name
+-- the name with a closing parenthesis after it
 abbrev pub with_close_paren : Option (Text × Text) → Option (Text × Text)
 with_close_paren o = option_and_then (λ (w, u). option_map (λ v. (w, v)) (strip close_paren u)) o
 
--- `'name')`, `<name>)` or `name)`, and what follows
+-- the name in `'name')`, `<name>)` or `name)`, and the text after it
 unfoldable pub condition_name : Text → Option (Text × Text)
 condition_name [] = None
 condition_name (c ∷ t) = if c ∈ "'<" then with_close_paren (marked_name (c ∷ t)) else name_before close_paren (c ∷ t)
 
--- right behind `(?(`: an id reference as the condition's target
+-- directly after `(?(`: an id reference as the condition's target
 unfoldable pub condition_target : Text → Reading Reference
 condition_target t = reference_by_name (reach_of t) true (condition_name t)

@@ -10,30 +10,30 @@ use Rattle.fancy_lex.specs.Text.{Text, bytes}
 use Rattle.fancy_lex.specs.declared.flags.Flags.{Flags}
 use Rattle.fancy_parts.specs.FlagLetters.{Letters, setting, scope, with_letter, LetterStep, flags_end, flags_go_on}
 
--- of the letters `t` what stands before `u`
+-- the letters of `t` before `u`
 abbrev pub letters_before : Text → Text → Text
 letters_before t u = take (length t - length u) t
 
--- of the letters `t` nothing was read before `u`
+-- whether none of the letters of `t` was read before `u`
 abbrev pub is_first : Text → Text → Bool
 is_first t u = bytes u == bytes t
 
--- of the letters `t` a minus sign alone was read before `u`
+-- whether only a minus sign was read of the letters of `t` before `u`
 abbrev pub is_behind_minus : Text → Bool → Text → Bool
 is_behind_minus t clears u = clears && bytes u + 1 == bytes t
 
--- behind one letter: the end, or more letters
+-- after one letter: the end, or more letters
 abbrev pub behind_step : (Bool → Flags → Text → Reading Letters) → LetterStep → Text → Reading Letters
 behind_step more (flags_end l) u = gives l u
 behind_step more (flags_go_on clears f) u = more clears f u
 
--- the letters `t`
+-- `t` is the text that begins with the letters
 module _ (t : Text) where
-  -- the fault of the character before `u`
+  -- the error of the character before `u`
   abbrev pub unknown_letter : Text → Reading LetterStep
   unknown_letter u = fails (no_flag_letter t (letters_before t u))
 
-  -- the letters go on under these flags, if the letter before `u` names one
+  -- the letters go on under these flags, if the letter before `u` is a flag
   abbrev pub flag_or_fault : Bool → Text → Option Flags → Reading LetterStep
   flag_or_fault clears u (Some f) = gives (flags_go_on clears f) u
   flag_or_fault clears u None = unknown_letter u
@@ -49,18 +49,19 @@ module _ (t : Text) where
       if is_behind_minus t clears (c ∷ u) then unknown_letter u else gives (flags_end (scope f)) u)
       else if c == code "-" then (
       if clears then unknown_letter u else gives (flags_go_on true f) u)
-      -- the Unicode mode may be said again, and not changed
+      -- the Unicode mode can be repeated, but not changed
       else if c == code "u" then (
       if beq clears f.unicode then fails (mode_changed (c ∷ u))
       else gives (flags_go_on clears f) u)
       else flag_or_fault clears u (with_letter f (not clears) c)
 
-  -- at most k letters, each with layout before it; each takes a byte or more, so that `letters` never runs out of steps
+  -- at most k letters, each with layout before it; each step reads a byte or more, so in `letters` the steps are never
+  -- used up
   unfoldable pub letters_in : ℕ → Bool → Flags → Text → Reading Letters
   letters_in zero clears f u = fails group_not_closed
   letters_in (suc k) clears f u =
       layout_reading (layout f.ignore_space u) >=> (λ _ v. step clears f v >=> behind_step (letters_in k))
 
--- the letters of a flag group, whose text begins behind the `(?`
+-- the letters of a flag group, whose text begins after the `(?`
 unfoldable pub letters : Flags → Text → Reading Letters
 letters f t = letters_in t (suc (bytes t)) false f t

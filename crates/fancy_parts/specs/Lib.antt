@@ -1,19 +1,19 @@
--- What the readers and printers promise that know no tree.
+-- Definitions of the readers and printers that need no tree.
 
--- ---- quantifiers, and the heads of groups
+-- ---- quantifiers, and the openings of groups
 pub mod Quantifier
 pub mod FlagLetters
 pub mod LetterSteps
 pub mod GroupName
 pub mod NameMark
 pub mod HeadReference
--- ---- the numbers of groups, and what references mean by them
+-- ---- the numbers of groups, and what references refer to
 pub mod Ranks
 pub mod Meaning
 pub mod Written
--- ---- what is printed
+-- ---- the texts that are printed
 pub mod Quote
--- How values of the code stand to the definitions.
+-- How values of the code correspond to the definitions.
 
 pub mod FlagReads
 pub mod Groups

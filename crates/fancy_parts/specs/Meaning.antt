@@ -1,4 +1,4 @@
--- What a reference means, by the groups that have a number.
+-- What a reference refers to, given the groups that have a number.
 use Rattle.std.specs.Prelude.{ℕ, ◌+◌, ◌-◌, ℤ, pos, negsuc, nat_le, Bool, false, List, [], ◌∷◌, length, slice_get}
 use Rattle.std.specs.Prelude.{Option, Some, None}
 use Rattle.std.specs.Prelude.{if◌then◌else◌}
@@ -7,34 +7,35 @@ use Rattle.fancy_lex.specs.FaultTable.{name_of_later_group, no_such_group, of_re
 use Rattle.fancy_lex.specs.Target.{Target, by_number, by_name, relative}
 use Rattle.fancy_lex.specs.Text.{Text}
 
--- what a reference does with the group that it means
+-- what a reference does with its group
 pub data Role : Type 0 where
-  back_reference : Role  -- it stands for what the group matched
+  back_reference : Role  -- it matches what the group matched
   call : Role  -- it calls the group
-  condition : Role  -- it asks whether the group has matched
+  condition : Role  -- it tests whether the group has matched
 
--- a group's number, nothing yet, or a fault
+-- what a reference refers to: the number of a group, no group yet, or an error
 pub data Meaning : Type 0 where
   number : ℕ → Meaning
   unresolved : Meaning
   faulty : Kind → Meaning
 
--- it is a fault whose kind carries a text, which takes memory
+-- whether it is an error whose kind carries a text, which has to be allocated
 abbrev pub is_fault_with_text : Meaning → Bool
 is_fault_with_text (faulty k) = carries_text k
 is_fault_with_text _ = false
 
--- where there is no such group, a call is left as it is, and the others are faults
+-- if there is no such group, a call stays unresolved, and any other reference is an error
 abbrev pub no_group : Role → Meaning
 no_group call = unresolved
 no_group _ = faulty no_such_group
 
--- the group, or none
+-- the group if there is one, and otherwise the meaning of no group
 abbrev pub group_or_none : Role → Option ℕ → Meaning
 group_or_none role None = no_group role
 group_or_none role (Some n) = number n
 
--- a back reference behind the openings of c groups means one of these; before its group's opening it is a fault
+-- a back reference after the openings of c groups refers to one of these; it is an error before the opening of its
+-- group
 abbrev pub back_to : ℕ → Text → Option ℕ → Meaning
 back_to c name None = faulty no_such_group
 back_to c name (Some n) = if nat_le n c then number n else faulty (name_of_later_group name)
@@ -43,29 +44,31 @@ back_to c name (Some n) = if nat_le n c then number n else faulty (name_of_later
 abbrev pub last_of : List ℕ → Option ℕ
 last_of ns = slice_get ns (length ns - 1)
 
--- a call means the only group of a name
+-- a call refers to the only group of the name; if there is no such group or more than one, it stays unresolved
 abbrev pub only_one : List ℕ → Meaning
 only_one (n ∷ []) = number n
 only_one _ = unresolved
 
--- what a name means behind the openings of c groups, where the groups of the name have these numbers: the last of them
+-- what a name refers to after the openings of c groups, if the groups of the name have these numbers: the last of them,
+-- but for a call the only one
 abbrev pub means_name : Role → ℕ → Text → List ℕ → Meaning
 means_name back_reference c name ns = back_to c name (last_of ns)
 means_name call c name ns = only_one ns
 means_name condition c name ns = group_or_none condition (last_of ns)
 
--- +k is the k-th group to open behind c groups, and -k the k-th last of these, where -(c + 1) is 0; none is below 0
+-- +k is the k-th group that opens after the first c groups, and -k is the k-th last of those c; -(c + 1) is 0, and
+-- there is no group below 0
 abbrev pub at_distance : ℕ → ℤ → Option ℕ
 at_distance c (pos k) = Some (c + k)
 at_distance c (negsuc k) = if nat_le k c then Some (c - k) else None
 
--- what a target means behind the openings of c groups, where each name has these numbers
+-- what a target refers to after the openings of c groups, with these numbers for each name
 abbrev pub means : (Text → List ℕ) → ℕ → Role → Target → Meaning
 means numbers_of c role (by_number n) = number n
 means numbers_of c role (by_name name) = means_name role c name (numbers_of name)
 means numbers_of c role (relative z) = group_or_none role (at_distance c z)
 
--- the fault of a meaning at the reach, or else the other
+-- the error of a meaning at the reach, or otherwise the other error
 abbrev pub fault_or : Meaning → ℕ → Option Fault → Option Fault
 fault_or (faulty k) reach other = Some (of_reference reach k)
 fault_or _ reach other = other

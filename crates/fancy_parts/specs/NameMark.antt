@@ -1,4 +1,4 @@
--- How the code's closing marks of names stand to the definitions.
+-- How the code's closing delimiters of names correspond to the definitions.
 use Rattle.std.specs.Prelude.{ℕ}
 use Prim.Native.Char.{code}
 use Rattle.fancy_parts.specs.declared.heads.names.ClosingMark.{ClosingMark}

@@ -6,15 +6,15 @@ use Prim.Native.Char.{code}
 use Rattle.fancy_lex.specs.Text.{Text}
 use Rattle.fancy_parts.specs.Quantifier.{most}
 
--- the characters that stand for themselves only behind a backslash
+-- the characters that are literals only after a backslash
 abbrev pub marks_with_backslash : Text
 marks_with_backslash = codes "\\.+*?()|[]{}^$#"
 
--- the character is one of them
+-- whether the character is one of them
 abbrev pub needs_backslash : ℕ → Bool
 needs_backslash c = list_any (λ m. c == m) marks_with_backslash
 
--- what is written behind a backslash for a character, if it is not written as itself
+-- what is written after a backslash for a character, if it is not written as itself
 abbrev pub behind_backslash : ℕ → Option ℕ
 behind_backslash c =
     if c == code "\n" then Some (code "n")
@@ -23,7 +23,7 @@ behind_backslash c =
     else if needs_backslash c then Some c
     else None
 
--- with what is written behind a backslash, or as itself
+-- with a backslash before it, or as itself
 abbrev pub quote_as : ℕ → Option ℕ → Text
 quote_as c None = c ∷ []
 quote_as c (Some b) = code "\\" ∷ b ∷ []
@@ -36,18 +36,18 @@ quote c = quote_as c (behind_backslash c)
 abbrev pub quotes : Text → Text
 quotes = flat_map quote
 
--- what stands before the rest of a text is written as it is
+-- the text before the rest is printed unchanged
 abbrev pub AreAsTheyStand : Text → Text → Type 0
 AreAsTheyStand t rest = (front : Text) × (t ≡ front ++ rest) × (quotes front ≡ front)
 
--- what stands in the braces of a quantifier
+-- the text in the braces of a quantifier
 unfoldable pub range : ℕ → ℕ → Text
 range lo hi =
     if lo == hi then decimal lo
     else if hi == most then decimal lo ++ codes ","
     else decimal lo ++ (codes "," ++ decimal hi)
 
--- the mark that stands for a least and a greatest count
+-- the operator for a least and a greatest count
 unfoldable pub mark : ℕ → ℕ → Option ℕ
 mark lo hi =
     if (lo == 0) && (hi == 1) then Some (code "?")
@@ -55,7 +55,7 @@ mark lo hi =
     else if (lo == 1) && (hi == most) then Some (code "+")
     else None
 
--- the mark, or the counts in braces
+-- the operator, or the counts in braces
 abbrev pub counts_as : ℕ → ℕ → Option ℕ → Text
 counts_as lo hi (Some m) = m ∷ []
 counts_as lo hi None = codes "{" ++ (range lo hi ++ codes "}")

@@ -18,11 +18,11 @@ pub record Opening : Type 0 where
 abbrev pub is_named : Opening → Bool
 is_named o = is_some o.name
 
--- whether the groups without a name have no number: the flag asks for it, and some group has a name
+-- whether groups without a name have no number: the flag is set, and some group has a name
 abbrev pub only_named : Flags → List Opening → Bool
 only_named f l = f.ignore_numbered_groups && list_any is_named l
 
--- whether a group with that name, or with none, has a number, where `named` says that only those with a name have one
+-- whether a group with that name, or without one, has a number; `named` says that only groups with a name have one
 abbrev pub is_counted : Bool → Option Text → Bool
 is_counted named name = not named || is_some name
 
@@ -39,7 +39,7 @@ abbrev pub is_name : Text → Option Text → Bool
 is_name t None = false
 is_name t (Some u) = bytes_eq t u
 
--- the numbers of the groups of that name, ascending, where n groups come before them all
+-- the numbers of the groups of that name, ascending, if there are n groups before all of these
 abbrev pub numbers_from : ℕ → Text → List Opening → List ℕ
 numbers_from n name [] = []
 numbers_from n name (o ∷ l) =
@@ -49,7 +49,7 @@ numbers_from n name (o ∷ l) =
 abbrev pub numbers : Text → List Opening → List ℕ
 numbers name groups = numbers_from 0 name groups
 
--- names are in the order of their bytes
+-- the order of names, which is the order of their bytes
 abbrev pub name_cmp : Text → Text → Ordering
 name_cmp t u = slice_cmp nat_cmp (encode_utf8_all t) (encode_utf8_all u)
 

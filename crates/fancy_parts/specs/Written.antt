@@ -5,11 +5,11 @@ use Rattle.fancy_lex.specs.Target.{Target, by_number}
 use Rattle.fancy_lex.specs.Text.{Text}
 use Rattle.fancy_parts.specs.Meaning.{Role, back_reference, call, condition}
 
--- whether the text has a backslash right before the place
+-- whether there is a backslash directly before the position
 abbrev pub is_behind_backslash : Text → ℕ → Bool
 is_behind_backslash text place = nat_lt 0 place && slice_index (encode_utf8_all text) (place - 1) == code "\\"
 
--- whether a reference by number counts as numeric: each call, and a back reference right behind its backslash
+-- whether a reference by number counts as numeric: each call, and a back reference directly after its backslash
 abbrev pub is_numeric_role : Text → ℕ → Role → Bool
 is_numeric_role text place call = true
 is_numeric_role text place back_reference = is_behind_backslash text place

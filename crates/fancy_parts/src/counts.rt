@@ -5,8 +5,8 @@
 pub struct Counts {
     /// The least count.
     pub low: usize,
-    /// The greatest count; `usize::MAX` stands for no limit.
+    /// The greatest count; `usize::MAX` means no limit.
     pub high: usize,
-    /// Whether the counts stand in braces, and not as a mark.
+    /// Whether the counts are in braces, and not written as an operator.
     pub braces: bool,
 }

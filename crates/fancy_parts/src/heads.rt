@@ -1,4 +1,4 @@
-//! What stands at the head of a piece or of a group: quantifiers, the letters of flag groups, names and references.
+//! Parts of pieces and of the openings of groups: quantifiers, the letters of flag groups, names and references.
 mod letters;
 pub mod names;
 mod quantifier;

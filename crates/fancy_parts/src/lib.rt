@@ -1,4 +1,4 @@
-//! What knows no tree: quantifiers at the front of a text, the numbers of groups, and the text of a character. The tests
+//! What needs no tree: quantifiers at the front of a text, the numbers of groups, and the text of a character. The tests
 //! of this crate are in `library_tests`, and the recorded results of its readers in `replay`.
 #![tactic(auto)]
 

@@ -1,4 +1,4 @@
-//! The text that a character, a number or a quantifier is printed as: how many bytes it has, and its writing.
+//! The text that a character, a number or a quantifier is printed as: its length in bytes, and writing it.
 ghost use Rattle.std.specs.Prelude.{◌≡◌, ◌+◌, ◌<◌, ◌≤◌, ◌∷◌, [], ◌++◌, chars, codes, decimal, is_some};
 ghost use Rattle.fancy_lex.specs.Number.{digit_code};
 ghost use Rattle.fancy_lex.specs.Text.{bytes};
@@ -9,12 +9,12 @@ ghost use Rattle.fancy_parts.specs.Room.{HasRoom, Appended};
 use crate::room::{put, put_text};
 use fancy_lex::text::{front, next};
 
-/// Whether a backslash stands before the character.
+/// Whether the character is printed with a backslash.
 #[inline]
 fn is_marked(c: char) -> bool
     ensures { result ≡ is_some (spec.behind_backslash c) }
 {
-    // Most characters are letters, which this test tells at once.
+    // Most characters are letters, for which this test is enough.
     if c.is_ascii_alphabetic() {
         return false;
     }
@@ -26,7 +26,7 @@ fn is_marked(c: char) -> bool
     }
 }
 
-/// What is written behind a backslash for a character, if it is not written as itself.
+/// What is written after a backslash for a character, if it is not written as itself.
 #[inline]
 pub(crate) fn behind_backslash(c: char) -> Option<char>
     ensures { spec.behind_backslash c ≡ result }
@@ -42,7 +42,7 @@ pub(crate) fn behind_backslash(c: char) -> Option<char>
     }
 }
 
-/// Whether a backslash stands before the character of the byte, as before none that has several bytes.
+/// Whether the character of the byte is printed with a backslash; no character of several bytes is.
 #[inline]
 fn is_quoted(byte: u8) -> bool
     ensures { result ≡ is_some (spec.behind_backslash byte) }
@@ -50,7 +50,7 @@ fn is_quoted(byte: u8) -> bool
     is_marked(char::from(byte))
 }
 
-/// Writes a character, behind a backslash where it needs one.
+/// Writes a character, with a backslash if it needs one.
 #[inline]
 #[tactic(auto, using(crate::proofs::RoomLemmas::room_steps), unfolding(crate::specs::Quote::quote))]
 fn put_quote(buf: &mut String, c: char)
@@ -63,7 +63,7 @@ fn put_quote(buf: &mut String, c: char)
     }
 }
 
-/// Writes a backslash, and what is written behind it.
+/// Writes a backslash, and what is written after it.
 #[inline(never)]
 #[tactic(auto, using(crate::proofs::RoomLemmas::room_steps))]
 fn put_behind_backslash(buf: &mut String, letter: char)
@@ -74,7 +74,7 @@ fn put_behind_backslash(buf: &mut String, letter: char)
     put(buf, letter);
 }
 
-/// How many bytes a text is printed as.
+/// The length in bytes of the text as it is printed.
 #[inline]
 pub fn quotes_len(text: &str) -> usize
     ensures { result ≡ bytes (spec.quotes (chars text.now)) }
@@ -87,7 +87,7 @@ pub fn quotes_len(text: &str) -> usize
     }
 }
 
-/// How many bytes a text of any length is printed as.
+/// The same for a text of any length.
 #[inline(never)]
 fn runs_len(text: &str) -> usize
     ensures { result ≡ bytes (spec.quotes (chars text.now)) }
@@ -101,7 +101,7 @@ fn runs_len(text: &str) -> usize
     len
 }
 
-/// Writes a text, with each character quoted that needs it.
+/// Writes a text, with a backslash before each character that needs one.
 #[inline]
 pub fn put_quotes(buf: &mut String, text: &str)
     requires { HasRoom buf.old (spec.quotes (chars text.now)) }
@@ -115,7 +115,7 @@ pub fn put_quotes(buf: &mut String, text: &str)
     }
 }
 
-/// What follows the characters at the front that are printed as themselves.
+/// The text after the characters at the front that are printed as themselves.
 #[inline]
 fn after_run(text: &str) -> &str
     ensures { AreAsTheyStand (chars text.now) (chars result.now) }
@@ -180,7 +180,7 @@ pub fn put_number(buf: &mut String, n: usize)
     }
 }
 
-/// How many bytes a quantifier is printed as.
+/// The length in bytes of a quantifier as it is printed.
 #[tactic(auto, using(crate::proofs::RoomLemmas::room_steps))]
 pub fn quantifier_len(lo: usize, hi: usize, greedy: bool) -> usize
     ensures value { result ≡ bytes (spec.quantifier lo hi greedy) }
@@ -189,7 +189,7 @@ pub fn quantifier_len(lo: usize, hi: usize, greedy: bool) -> usize
     counts_len(lo, hi) + usize::from(!greedy)
 }
 
-/// The quantifier character that means a least and a greatest count.
+/// The quantifier's operator for a least and a greatest count.
 #[tactic(auto, unfolding(crate::specs::Quote::mark))]
 pub fn mark(lo: usize, hi: usize) -> Option<char>
     ensures { spec.mark lo hi ≡ result }
@@ -205,7 +205,7 @@ pub fn mark(lo: usize, hi: usize) -> Option<char>
     }
 }
 
-/// The bytes of the counts of a quantifier: a mark, or a range in braces.
+/// The length in bytes of the counts of a quantifier: an operator, or a range in braces.
 #[tactic(auto, using(crate::proofs::RoomLemmas::room_steps, crate::proofs::QuoteLemmas::counts_steps))]
 fn counts_len(lo: usize, hi: usize) -> usize
     ensures value { result ≡ bytes (spec.counts_text lo hi) }
@@ -217,7 +217,7 @@ fn counts_len(lo: usize, hi: usize) -> usize
     }
 }
 
-/// The bytes of what stands in the braces of a range.
+/// The length in bytes of the text in the braces of a range.
 #[tactic(auto, using(crate::proofs::RoomLemmas::room_steps, crate::proofs::QuoteLemmas::range_steps))]
 fn range_len(lo: usize, hi: usize) -> usize
     ensures value { result ≡ bytes (spec.range lo hi) }
@@ -244,7 +244,7 @@ pub fn put_quantifier(buf: &mut String, lo: usize, hi: usize, greedy: bool)
     }
 }
 
-/// Writes the counts of a quantifier: a mark, or a range in braces.
+/// Writes the counts of a quantifier: an operator, or a range in braces.
 #[tactic(auto, using(crate::proofs::RoomLemmas::room_steps, crate::proofs::QuoteLemmas::counts_steps))]
 fn put_counts(buf: &mut String, lo: usize, hi: usize)
     requires { HasRoom buf.old (spec.counts_text lo hi) }
@@ -260,7 +260,7 @@ fn put_counts(buf: &mut String, lo: usize, hi: usize)
     }
 }
 
-/// Writes what stands in the braces of a range.
+/// Writes the text in the braces of a range.
 #[tactic(auto, using(crate::proofs::RoomLemmas::room_steps, crate::proofs::QuoteLemmas::range_steps))]
 fn put_range(buf: &mut String, lo: usize, hi: usize)
     requires { HasRoom buf.old (spec.range lo hi) }

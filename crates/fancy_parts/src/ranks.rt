@@ -1,4 +1,4 @@
-//! The numbers of capturing groups, and what a reference means by them.
+//! The numbers of capturing groups, and what a reference refers to.
 ghost use Rattle.std.specs.Prelude.{◌≡◌, ℕ, ◌+◌, ◌<◌, ◌^◌, List, false, nat_le, IfOk, IsOk, OnErr, chars, is_some, map, option_map};
 ghost use Rattle.fancy_lex.specs.IdReference.{amount_bound};
 ghost use Rattle.fancy_lex.specs.NameViews.{view_target};
@@ -14,34 +14,34 @@ use fancy_lex::name::CaptureGroupTarget;
 use std::alloc::{AllocError, Global};
 use std::collections::BTreeMap;
 
-/// What a reference does with the group that it means.
+/// What a reference does with its group.
 #[derive(Clone, Copy, PartialEq, Eq, Debug, Drop)]
 pub enum Role {
     /// It matches what the group matched.
     BackReference,
     /// It calls the group.
     Call,
-    /// It asks whether the group has matched.
+    /// It tests whether the group has matched.
     Condition,
 }
 
-/// What a reference means.
+/// What a reference refers to.
 #[derive(Debug, Drop)]
 pub enum Meaning {
     /// The group of this number.
     Number(usize),
-    /// No group: the call is left as it is.
+    /// No group: the call stays unresolved.
     Unresolved,
     /// No group, which is an error.
     Faulty(ParseError),
 }
 
-/// The groups that have a number, as far as they are found.
+/// The groups with a number that have been found so far.
 #[derive(Debug, Drop)]
 pub struct Groups {
-    /// How many there are.
+    /// The number of groups.
     pub total: usize,
-    /// For each name the numbers of its groups, ascending.
+    /// For each name, the numbers of its groups, ascending.
     pub names: BTreeMap<String, Vec<usize>>,
 }
 
@@ -76,7 +76,7 @@ impl Groups {
         Ok(())
     }
 
-    /// Whether the number is that of a group, or 0, which is the whole pattern.
+    /// Whether it is the number of a group, or 0, which is the whole pattern.
     pub fn is_in_range(&self, number: usize) -> bool
         ensures { result ≡ nat_le number (groups_of self.now).total }
     {
@@ -84,7 +84,7 @@ impl Groups {
     }
 }
 
-/// Adds the number behind those that the name has. Where memory runs out, the names keep the numbers that they had.
+/// Adds the number after those of the name. If memory runs out, the names keep their numbers.
 fn add_number(
     alloc: Global,
     names: &mut BTreeMap<String, Vec<usize>>,
@@ -106,7 +106,7 @@ fn add_number(
     Ok(())
 }
 
-/// What a target refers to after the openings of so many groups. Memory is allocated only for the text of an error.
+/// What a target refers to after the openings of `passed` groups. Memory is allocated only for the text of an error.
 pub fn meaning_behind(
     groups: &Groups,
     passed: usize,
@@ -133,7 +133,7 @@ pub fn meaning_behind(
     }
 }
 
-/// What a name means behind the openings of so many groups, where its groups have these numbers.
+/// What a name refers to after the openings of `passed` groups, if its groups have these numbers.
 fn by_name(
     role: Role,
     passed: usize,
@@ -156,7 +156,7 @@ fn by_name(
     }
 }
 
-/// The only number.
+/// The only number, if there is exactly one.
 fn only(numbers: &[usize]) -> Meaning
     ensures { meaning_of result ≡ only_one numbers.now }
 {
@@ -173,7 +173,7 @@ fn last(numbers: &[usize]) -> Option<usize>
     numbers.last().copied()
 }
 
-/// The group of the number, or what it means that there is none.
+/// The group of the number, or the meaning of no group.
 fn group_or_none(role: Role, number: Option<usize>) -> Meaning
     ensures { meaning_of result ≡ spec.group_or_none (role_of role) number }
 {
@@ -184,7 +184,7 @@ fn group_or_none(role: Role, number: Option<usize>) -> Meaning
     }
 }
 
-/// The number so many groups behind those that opened, or before the next.
+/// The number of the group at this distance: positive after the groups that opened, negative before the next.
 fn at(passed: usize, amount: isize) -> Option<usize>
     requires { passed < amount_bound }
     ensures { result ≡ at_distance passed amount }

@@ -1,10 +1,10 @@
-//! Writing into a string that has room, which cannot fail, and the counts that make the room.
+//! Writing into a string with enough capacity, which cannot fail, and the lengths that give the capacity.
 ghost use Rattle.std.specs.Prelude.{◌≡◌, ◌∷◌, [], true, nat_lt, chars};
 ghost use Rattle.std.specs.List.{list_all};
 ghost use Rattle.fancy_lex.specs.Text.{bytes};
 ghost use Rattle.fancy_parts.specs.Room.{HasRoom, Appended};
 
-/// How many bytes a text of ASCII characters has.
+/// The length in bytes of a text of ASCII characters.
 #[inline]
 pub fn ascii_len(text: &str) -> usize
     requires { list_all (λ b. nat_lt b 128) text.now ≡ true }

@@ -22,7 +22,7 @@ pub fn is_numeric(pattern: &str, place: usize, role: Role, target: &CaptureGroup
     }
 }
 
-/// Whether a backslash stands right before the place.
+/// Whether there is a backslash directly before the position.
 fn is_behind_backslash(pattern: &str, place: usize) -> bool
     ensures { result ≡ spec.is_behind_backslash (chars pattern.now) place }
 {

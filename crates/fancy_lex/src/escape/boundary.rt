@@ -1,4 +1,4 @@
-//! Word boundaries behind `\b` and `\B`.
+//! Word boundaries after `\b` and `\B`.
 ghost use Rattle.std.specs.Prelude.{◌≡◌, ℕ, ◌+◌, ◌<◌, ◌≤◌, Bool, ◌∷◌, length, chars, IfSome, IfErr, IfOk, MatchResult, option_map};
 ghost use Rattle.fancy_lex.specs.Boundary as spec;
 ghost use Rattle.fancy_lex.specs.BoundarySteps as steps;
@@ -19,7 +19,7 @@ use crate::layout::{begins_layout, past_layout, skip};
 use crate::text::{after, next, push};
 use std::alloc::Global;
 
-/// The boundary that has no name.
+/// The boundary without a name.
 fn unnamed_boundary(negated: bool) -> Escaped<'static>
     ensures { escape_of result ≡ spec.unnamed_boundary negated }
 {
@@ -30,7 +30,7 @@ fn unnamed_boundary(negated: bool) -> Escaped<'static>
     }
 }
 
-/// The boundary that has no name, where the next character shows that no braces belong to it.
+/// The boundary without a name, if the next character shows that no braces belong to it.
 #[inline]
 pub(crate) fn bare_boundary(
     text: &str,
@@ -59,7 +59,7 @@ fn at_count(text: &str) -> bool
     }
 }
 
-/// What follows the word and a closing brace, if they stand at the front with layout before each character.
+/// The text after the word and a closing brace, if they are at the front with layout before each character.
 #[tactic(auto, using(crate::proofs::BoundaryLemmas::after_name_steps))]
 fn after_name<'a>(text: &'a str, word: &str, ignore_space: bool) -> Option<&'a str>
     ensures value { name_spec.after_name ignore_space (chars word.now) (chars text.now) ≡
@@ -78,7 +78,7 @@ fn after_name<'a>(text: &'a str, word: &str, ignore_space: bool) -> Option<&'a s
     }
 }
 
-/// The boundary whose name and closing brace stand at the front, and what follows them.
+/// The boundary whose name and closing brace are at the front, and the text after them.
 #[tactic(auto, unfolding(crate::specs::BoundaryName::known_boundary))]
 fn known_boundary(text: &str, ignore_space: bool) -> Option<(Assertion, &str)>
     ensures value { name_spec.known_boundary ignore_space (chars text.now) ≡
@@ -98,7 +98,7 @@ fn known_boundary(text: &str, ignore_space: bool) -> Option<(Assertion, &str)>
     Some((Assertion::RightWordHalfBoundary, rest))
 }
 
-/// The fault of braces that are not closed.
+/// The error of braces that are not closed.
 fn unclosed_fault(alloc: Global, reach: usize) -> Failure
     ensures { Reports {A = Escape} result (fails (boundary_not_closed reach)) }
 {
@@ -108,7 +108,7 @@ fn unclosed_fault(alloc: Global, reach: usize) -> Failure
     }
 }
 
-/// What stands before the name, with its backslash.
+/// The text before the name, with its backslash.
 fn boundary_head(negated: bool) -> &'static str
     ensures { chars result.now ≡ boundary_head negated }
 {
@@ -182,7 +182,7 @@ fn bare_escape(
     }
 }
 
-/// Reads a name in braces behind the opening one.
+/// Reads a name in braces after the opening brace.
 #[tactic(auto, using(crate::proofs::BoundaryLaws::braced_steps))]
 fn named_boundary<'a>(
     alloc: Global,
@@ -203,7 +203,7 @@ fn named_boundary<'a>(
     Err(Failure::At(reach, ParseError::InvalidEscape(text)))
 }
 
-/// Reads a word boundary behind its letter, with the braces that belong to it.
+/// Reads a word boundary after its letter, with the braces that belong to it.
 #[tactic(auto, unfolding(crate::specs::BoundarySteps::boundary))]
 fn read_boundary<'a>(
     alloc: Global,

@@ -1,4 +1,4 @@
-//! Hex codes behind `\x`, `\u` and `\U`.
+//! Hex codes after `\x`, `\u` and `\U`.
 ghost use Rattle.std.specs.Prelude.{◌≡◌, ℕ, ◌+◌, ◌*◌, ◌-◌, ◌<◌, ◌≤◌, length, chars, IfSome, IfErr, IfOk, option_map, false, true};
 ghost use Rattle.fancy_lex.specs.Characters.{close_brace};
 ghost use Rattle.fancy_lex.specs.EscapeViews.{escape_of};
@@ -14,7 +14,7 @@ use crate::flags::Flags;
 use crate::layout::{begins_layout, skip};
 use crate::text::{after, next, reach};
 
-/// The value of the digit at the front.
+/// The value of the digit at the front, and the text after it.
 #[tactic(auto, unfolding(crate::specs::Hex::hex_digit))]
 fn hex_digit(text: &str) -> Option<(u32, &str)>
     ensures value { spec.hex_digit (chars text.now) ≡ option_map (λ p. (p.0, chars p.1.now)) result }
@@ -26,7 +26,7 @@ fn hex_digit(text: &str) -> Option<(u32, &str)>
     Some((digit, rest))
 }
 
-/// Reads so many digits, if they stand at the front.
+/// Reads `width` digits, if they are at the front.
 fn fixed_digits(text: &str, width: u32) -> Option<(u32, &str)>
     requires { width ≤ 8 }
     ensures value { spec.fixed_digits width 0 (chars text.now) ≡ option_map (λ p. (p.0, chars p.1.now)) result }
@@ -42,7 +42,7 @@ fn fixed_digits(text: &str, width: u32) -> Option<(u32, &str)>
     Some((value, rest))
 }
 
-/// Reads the closing brace behind some digits.
+/// Reads the closing brace after some digits.
 fn closing_brace(text: &str, value: u32, reach: usize) -> Result<(u32, &str), Failure>
     ensures value { Reads (λ v. v) result (spec.closing_brace reach true value (strip close_brace (chars text.now))) }
     ensures shorter { IfOk result (λ p. length p.1.now < length text.now) }
@@ -53,7 +53,7 @@ fn closing_brace(text: &str, value: u32, reach: usize) -> Result<(u32, &str), Fa
     Err(Failure::At(reach, ParseError::InvalidHex))
 }
 
-/// Reads up to eight digits, each with layout behind it, and the closing brace.
+/// Reads up to eight digits, each with layout after it, and the closing brace.
 fn hex_digits(text: &str, ignore_space: bool, reach: usize) -> Result<(u32, &str), Failure>
     ensures value { Reads (λ v. v) result (spec.hex_digits ignore_space reach 8 false 0 (chars text.now)) }
     ensures shorter { IfOk result (λ p. length p.1.now < length text.now) }
@@ -73,7 +73,7 @@ fn hex_digits(text: &str, ignore_space: bool, reach: usize) -> Result<(u32, &str
     closing_brace(rest, value, reach)
 }
 
-/// Reads what stands behind the opening brace.
+/// Reads the code after the opening brace.
 #[tactic(auto, unfolding(crate::specs::Hex::braced_value))]
 fn braced_value(text: &str, ignore_space: bool, reach: usize) -> Result<(u32, &str), Failure>
     ensures value { Reads (λ v. v) result (spec.braced_value ignore_space reach (chars text.now)) }
@@ -83,7 +83,7 @@ fn braced_value(text: &str, ignore_space: bool, reach: usize) -> Result<(u32, &s
     hex_digits(rest, ignore_space, reach)
 }
 
-/// Reads a code of so many digits, or one in braces; its fault is at `reach`.
+/// Reads a code of `width` digits, or one in braces; its error is at `reach`.
 #[tactic(auto, unfolding(crate::specs::Hex::value))]
 fn value(text: &str, width: u32, ignore_space: bool, reach: usize) -> Result<(u32, &str), Failure>
     requires width { width ≤ 8 }
@@ -99,8 +99,8 @@ fn value(text: &str, width: u32, ignore_space: bool, reach: usize) -> Result<(u3
     }
 }
 
-/// What a value stands for: behind `\x`, where UNICODE is off, a byte from 80 to FF; else a character. None for a value
-/// that is no scalar value.
+/// The leaf of a value: after `\x` without UNICODE, a byte if it is from 80 to FF; otherwise a character. None for a
+/// value that is no scalar value.
 #[inline(always)]
 #[tactic(auto, unfolding(crate::specs::Hex::leaf_of_value))]
 fn leaf_of_value(value: u32, width: u32, flags: Flags) -> Option<Escaped<'static>>
@@ -131,7 +131,7 @@ fn read_hex<'a>(text: &'a str, width: u32, flags: Flags) -> Result<(Escaped<'a>,
     }
 }
 
-/// The code at the front that has so many digits, with no layout before them, and stands for something.
+/// The code at the front with `width` digits and no layout before them, if its value is a byte or a character.
 #[inline(always)]
 #[tactic(auto, unfolding(crate::specs::Hex::hex, crate::specs::Hex::value))]
 pub(crate) fn short_hex(text: &str, width: u32, flags: Flags) -> Option<(Escaped<'static>, &str)>

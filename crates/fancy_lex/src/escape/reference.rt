@@ -1,4 +1,4 @@
-//! References in escapes: what stands behind `\k`, behind `\g`, or behind a backslash in digits.
+//! References in escapes: after `\k`, after `\g`, or in digits after a backslash.
 ghost use Rattle.std.specs.Prelude.{◌≡◌, ◌<◌, false, length, chars, IfOk, IfSome, option_map};
 ghost use Rattle.fancy_lex.specs.EscapeReference as spec;
 ghost use Rattle.fancy_lex.specs.Number.{at_digit};
@@ -15,8 +15,8 @@ use crate::name::number_text::number_text;
 use crate::name::target::{Call, Reference, Target, reference_by_name, target_of_name};
 use crate::text::{next, reach};
 
-/// Reads all the digits at the front, which number a group. The fault is InvalidBackref at the text's reach, where no
-/// digit stands there, or no word holds the number.
+/// Reads all the digits at the front, which are the number of a group. The error is InvalidBackref at the text's reach,
+/// if there is no digit, or the number does not fit in a word.
 #[inline(always)]
 #[tactic(auto, unfolding(crate::specs::EscapeReference::group_number))]
 pub(crate) fn group_number(text: &str) -> Result<(usize, &str), Failure>
@@ -62,7 +62,7 @@ pub fn back_reference(text: &str) -> Result<(Reference<'_>, &str), Failure>
     reference_by_name(marked_name(text), true, reach(text))
 }
 
-/// Whether the name of a call is relative: a sign alone, or a sign and a number text.
+/// Whether the name of a call is relative: only a sign, or a sign and a number text.
 #[tactic(auto, unfolding(crate::specs::EscapeReference::is_relative))]
 pub fn is_relative(name: &str) -> bool
     ensures { result ≡ spec.is_relative (chars name.now) }
@@ -76,7 +76,7 @@ pub fn is_relative(name: &str) -> bool
     next(rest).is_none() || number_text(rest).is_some()
 }
 
-/// What a call by this name calls; none where the name is relative and no id reference.
+/// The group that a call by this name calls; None if the name is relative and no id reference.
 #[tactic(auto, unfolding(crate::specs::EscapeReference::call_target))]
 fn call_target(name: &str) -> Option<Target<'_>>
     ensures value { spec.call_target (chars name.now) ≡ option_map view_borrowed result }
@@ -103,7 +103,7 @@ fn numbered_call(text: &str) -> Result<(Call<'_>, &str), Failure>
     Ok((Call { target, reach }, rest))
 }
 
-/// The call by this name at the reach; none where the name is relative and no id reference.
+/// The call by this name at the reach; None if the name is relative and no id reference.
 #[inline(always)]
 #[tactic(auto, unfolding(crate::specs::EscapeReference::written_call))]
 fn written_call(name: &str, reach: usize) -> Option<Call<'_>>
@@ -113,7 +113,7 @@ fn written_call(name: &str, reach: usize) -> Option<Call<'_>>
     Some(Call { target, reach })
 }
 
-/// Reads a call between marks.
+/// Reads a call in delimiters.
 #[inline(always)]
 #[tactic(auto, unfolding(crate::specs::EscapeReference::marked_call))]
 fn marked_call(text: &str, reach: usize) -> Option<(Call<'_>, &str)>
@@ -124,7 +124,7 @@ fn marked_call(text: &str, reach: usize) -> Option<(Call<'_>, &str)>
     Some((written_call(name, reach)?, rest))
 }
 
-/// Whether a digit stands at the front.
+/// Whether there is a digit at the front.
 fn is_at_digit(text: &str) -> bool
     ensures { result ≡ at_digit (chars text.now) }
 {

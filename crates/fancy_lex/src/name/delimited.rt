@@ -1,4 +1,4 @@
-//! Names: what stands before the first closing mark.
+//! Names: the text before the first closing delimiter.
 ghost use Rattle.std.specs.Prelude.{◌≡◌, ◌<◌, length, chars, IfSome};
 ghost use Rattle.fancy_lex.specs.Delimited as spec;
 ghost use Rattle.fancy_lex.specs.Views.{parts};

@@ -1,4 +1,4 @@
-//! Ids: the names that a reference may be written with.
+//! Ids: the names that can be used in references.
 ghost use Rattle.std.specs.Prelude.{◌≡◌, ◌<◌, ◌≤◌, length, chars, IfSome, option_map, option_and_then};
 ghost use Rattle.fancy_lex.specs.Id as spec;
 ghost use Rattle.fancy_lex.specs.IdReference as reference;
@@ -21,12 +21,12 @@ fn is_number_category(category: GeneralCategory) -> bool
     )
 }
 
-/// Whether the character may stand in an id: a letter or a number in any script, or `_`.
+/// Whether the character can be part of an id: a letter or a number in any script, or `_`.
 #[tactic(auto, unfolding(crate::specs::Id::is_id_char), using(crate::proofs::AsciiLemmas::ascii_told))]
 fn is_id_char(c: char) -> bool
     ensures { result ≡ spec.is_id_char c }
 {
-    // Most are ASCII, which no table is needed for.
+    // Most are ASCII, for which no table is needed.
     if c.is_ascii_alphanumeric() {
         return true;
     }
@@ -36,7 +36,7 @@ fn is_id_char(c: char) -> bool
     is_alphabetic(c) || is_number_category(GeneralCategory::for_char(c))
 }
 
-/// What stands behind all the id characters at the front.
+/// The text after all the id characters at the front.
 #[tactic(auto, using(crate::proofs::IdLemmas::run_ends))]
 fn behind_id(text: &str) -> &str
     ensures value { (spec.id_run (chars text.now)).1 ≡ chars result.now }
@@ -70,13 +70,13 @@ pub fn id(text: &str) -> Option<(&str, &str)>
 pub enum IdReference<'a> {
     /// An id.
     Id(&'a str),
-    /// An id, and the number behind a sign.
+    /// An id, and the number after a sign.
     IdAndAmount(&'a str, isize),
-    /// The number behind a sign.
+    /// The number after a sign.
     Amount(isize),
 }
 
-/// The amount that all of the text writes: a sign, and ASCII digits of a number of at most `isize::MAX`.
+/// The amount that the whole text writes: a sign, and the ASCII digits of a number of at most `isize::MAX`.
 #[tactic(auto, unfolding(crate::specs::IdReference::amount))]
 pub(crate) fn amount(text: &str) -> Option<isize>
     ensures value { reference.amount (chars text.now) ≡ result }
@@ -89,7 +89,7 @@ pub(crate) fn amount(text: &str) -> Option<isize>
     Some(if sign == '-' { -amount } else { amount })
 }
 
-/// The amount that all of the text writes, where it is not 0.
+/// The amount that the whole text writes, if it is not 0.
 #[tactic(auto)]
 fn amount_alone(text: &str) -> Option<IdReference<'_>>
     ensures { option_and_then reference.without_id (reference.amount (chars text.now))
@@ -103,8 +103,8 @@ fn amount_alone(text: &str) -> Option<IdReference<'_>>
     }
 }
 
-/// What the whole text means as an id reference: an id, and if `relative` allows it, an amount after it or instead of
-/// it, which is a sign and the ASCII digits of a number of at most `isize::MAX`; 0 only after an id. None for any other
+/// Parses the whole text as an id reference: an id, and if `relative` allows it, an amount after it or instead of it,
+/// which is a sign and the ASCII digits of a number of at most `isize::MAX`; 0 only after an id. None for any other
 /// text.
 #[tactic(auto, unfolding(crate::specs::IdReference::id_reference))]
 pub fn id_reference(text: &str, relative: bool) -> Option<IdReference<'_>>

@@ -5,7 +5,7 @@ ghost use Rattle.fancy_lex.specs.Views.{GivesNumber};
 
 use crate::text::next;
 
-/// The value of the digit at the front, and what follows it.
+/// The value of the digit at the front, and the text after it.
 #[inline(always)]
 fn digit(text: &str) -> Option<(usize, &str)>
     ensures value { MatchOption result (spec.at_digit (chars text.now) ≡ false)
@@ -20,20 +20,20 @@ fn digit(text: &str) -> Option<(usize, &str)>
     }
 }
 
-/// The number with one digit more, where a word holds it.
+/// The number with one more digit, if it fits in a word.
 #[inline(always)]
 fn with_digit(number: usize, digit: usize) -> Option<usize>
     requires { digit < 10 }
     ensures { spec.IsWord result (number * 10 + digit) }
 {
-    // Most are small, and one test tells that there is room.
+    // Most numbers are small, and one comparison shows that the result fits.
     if number < 1 << 60 {
         return Some(number * 10 + digit);
     }
     number.checked_mul(10)?.checked_add(digit)
 }
 
-/// What stands behind all the digits at the front.
+/// The text after all the digits at the front.
 #[tactic(auto, using(crate::proofs::NumberLemmas::number_steps))]
 fn behind_digits(text: &str) -> &str
     ensures value { (spec.run 0 (chars text.now)).1 ≡ chars result.now }
@@ -46,7 +46,8 @@ fn behind_digits(text: &str) -> &str
     rest
 }
 
-/// The number that the digits at the front write behind those of `number`, where a word holds it, and the text after them.
+/// The number written by the digits of `number` and then those at the front, if it fits in a word, and the text after
+/// them.
 #[tactic(auto, using(crate::proofs::NumberLemmas::number_steps))]
 fn more_digits(number: usize, text: &str) -> (Option<usize>, &str)
     ensures value { (n : ℕ) × (spec.run number (chars text.now) ≡ (n, chars result.1.now)) × spec.IsWord result.0 n }

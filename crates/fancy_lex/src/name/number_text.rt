@@ -5,7 +5,7 @@ ghost use Rattle.fancy_lex.specs.NumberText as spec;
 use crate::name::number::number;
 use crate::text::{after, next};
 
-/// The number that all of the text writes in ASCII digits, where a word holds it.
+/// The number that the whole text writes in ASCII digits, if it fits in a word.
 #[inline(always)]
 #[tactic(auto, unfolding(crate::specs::NumberText::whole_number))]
 pub(crate) fn whole_number(text: &str) -> Option<usize>

@@ -1,4 +1,4 @@
-//! What references name, as it is written in the pattern.
+//! What references refer to, as it is written in the pattern.
 ghost use Rattle.std.specs.Prelude.{◌≡◌, chars, false, IfOk, IsOk, IfSome, IsSome, MatchOption, Some, None, option_map};
 ghost use Rattle.fancy_lex.specs.NumberText.{whole_number};
 ghost use Rattle.fancy_lex.specs.NameViews.{view_borrowed, view_reference, view_target};
@@ -15,19 +15,19 @@ use crate::name::number_text::number_text;
 use crate::text::next;
 use std::alloc::{AllocError, Global};
 
-/// The group that a reference names, whose name is a part of the pattern.
+/// The group that a reference refers to; its name is a slice of the pattern.
 #[derive(Clone, Copy, Debug)]
 pub enum Target<'a> {
     /// The group of this number.
     ByNumber(usize),
     /// The last group of this name.
     ByName(&'a str),
-    /// So many groups before or after the reference.
+    /// Relative to the reference: -1 is the last group that opens before it, and 1 the first that opens after it.
     Relative(isize),
 }
 
 impl Target<'_> {
-    /// The same target, in memory of its own. One that is no name takes none.
+    /// The same target, with an owned name. Only a name allocates.
     pub fn to_owned(self, alloc: Global) -> Result<CaptureGroupTarget, AllocError>
         ensures same { IfOk result (λ target. view_target target ≡ view_borrowed self.entry) }
         ensures without_memory { is_by_name (view_borrowed self.entry) ≡ false → IsOk result }
@@ -40,11 +40,11 @@ impl Target<'_> {
     }
 }
 
-/// What asks for a group's match.
+/// A reference to what a group matched: a back reference or a condition.
 #[derive(Clone, Copy, Debug)]
 pub struct Reference<'a> {
     pub target: Target<'a>,
-    /// The level of recursion, where one is written.
+    /// The level of recursion, if one is written.
     pub level: Option<isize>,
     /// The number of bytes from the reference to one past the end of the pattern.
     pub reach: usize,
@@ -58,7 +58,7 @@ pub struct Call<'a> {
     pub reach: usize,
 }
 
-/// The group that a name means: that of the number where it is a number text, or else the one of that name.
+/// The group that a name refers to: by number if the name is a number text, and otherwise by name.
 #[inline(never)]
 #[tactic(auto, unfolding(crate::specs::Referred::target_of_name))]
 pub fn target_of_name(name: &str) -> Target<'_>
@@ -70,7 +70,7 @@ pub fn target_of_name(name: &str) -> Target<'_>
     }
 }
 
-/// The reference at the reach to this group, at this level.
+/// The reference at the reach to this group at this level.
 #[inline(always)]
 fn reference_to(reach: usize, target: Target<'_>, level: Option<isize>) -> Reference<'_>
     ensures { view_reference result ≡ spec.reference_to reach (view_borrowed target.entry) level }
@@ -82,9 +82,9 @@ fn reference_to(reach: usize, target: Target<'_>, level: Option<isize>) -> Refer
     }
 }
 
-/// The reference at the reach that all of the text writes by a number, alone or with a level behind it; `amounts`
-/// allows the level. None where no number stands at the front, where no word holds it, and where what follows it is no
-/// level.
+/// The reference at the reach that the whole text writes by a number, with or without a level after it; `amounts`
+/// allows the level. None if there is no number at the front, if the number does not fit in a word, or if the text
+/// after it is no level.
 #[inline(always)]
 #[tactic(auto, unfolding(crate::specs::NumberText::whole_number), using(crate::proofs::NumberIds::numbers_written))]
 fn reference_by_number(text: &str, amounts: bool, reach: usize) -> Option<Reference<'_>>
@@ -102,14 +102,14 @@ fn reference_by_number(text: &str, amounts: bool, reach: usize) -> Option<Refere
     Some(reference_to(reach, target, Some(amount(rest)?)))
 }
 
-/// The reference at the reach that all of the text writes, where it is an id reference; `amounts` allows amounts. An
-/// amount alone is relative, and one behind an id is a level.
+/// The reference at the reach that the whole text writes, if it is an id reference; `amounts` allows amounts. An amount
+/// without an id is relative, and one after an id is a level.
 #[inline(always)]
 #[tactic(auto, unfolding(crate::specs::Referred::written_reference, crate::specs::Referred::reference_of))]
 fn written_reference(text: &str, amounts: bool, reach: usize) -> Option<Reference<'_>>
     ensures value { spec.written_reference reach amounts (chars text.now) ≡ option_map view_reference result }
 {
-    // A number is an id too, and is told sooner.
+    // A number is an id too, and reading it is faster.
     if let Some(reference) = reference_by_number(text, amounts, reach) {
         return Some(reference);
     }
@@ -124,9 +124,8 @@ fn written_reference(text: &str, amounts: bool, reach: usize) -> Option<Referenc
     }
 }
 
-/// The reference that the name means, whose position has the reach, and the text after it, if a name was found;
-/// `amounts` allows amounts. The error is InvalidGroupName at the reach, if no name was found, or one that is no id
-/// reference.
+/// The reference by this name at the reach, and the text after it, if a name was found; `amounts` allows amounts. The
+/// error is InvalidGroupName at the reach, if no name was found, or one that is no id reference.
 #[inline(always)]
 #[tactic(auto, unfolding(crate::specs::Referred::reference_by_name))]
 pub fn reference_by_name<'a>(

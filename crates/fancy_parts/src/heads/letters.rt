@@ -13,7 +13,7 @@ use fancy_lex::layout::skip;
 use fancy_lex::text::{AT_END, front, next, reach};
 use std::alloc::{AllocError, Global};
 
-/// What the letters of a flag group come to.
+/// The result of the letters of a flag group.
 #[derive(Clone, Copy)]
 pub enum Letters {
     /// Closed by a parenthesis: these flags hold from there on.
@@ -22,14 +22,14 @@ pub enum Letters {
     Scope(Flags),
 }
 
-/// One letter: the letters end there, or go on, and then clear their flags or set them.
+/// The result of one letter: the letters end there, or go on and then clear their flags or set them.
 #[derive(Clone, Copy)]
 enum LetterStep {
     Ends(Letters),
     GoesOn { clears: bool, flags: Flags },
 }
 
-/// The flags with the letter's flag set or cleared; none where the letter names no flag.
+/// The flags with the letter's flag set or cleared; None if the letter is no flag.
 fn with_letter(flags: Flags, on: bool, letter: char) -> Option<Flags>
     ensures { spec.with_letter flags on letter ≡ result }
 {
@@ -67,7 +67,7 @@ fn flag_text(alloc: Global, letters: &str, rest: &str) -> Result<String, AllocEr
     Ok(text)
 }
 
-/// The fault of the letter before `rest`.
+/// The error of the letter before `rest`.
 fn unknown_flag(alloc: Global, letters: &str, rest: &str) -> Failure
     requires { (w : Text) × (chars letters.now ≡ w ++ chars rest.now) }
     ensures { Reports result (steps.unknown_letter (chars letters.now) (chars rest.now)) }
@@ -78,7 +78,7 @@ fn unknown_flag(alloc: Global, letters: &str, rest: &str) -> Failure
     }
 }
 
-/// Whether nothing was read of the letters before `here`.
+/// Whether none of the letters before `here` was read.
 #[tactic(auto, using(fancy_lex::proofs::TextLemmas::bytes_chars))]
 fn is_first(letters: &str, here: &str) -> bool
     ensures { result ≡ steps.is_first (chars letters.now) (chars here.now) }
@@ -86,7 +86,7 @@ fn is_first(letters: &str, here: &str) -> bool
     here.len() == letters.len()
 }
 
-/// Whether a minus sign alone was read of the letters before `here`.
+/// Whether only a minus sign was read of the letters before `here`.
 #[tactic(auto, using(fancy_lex::proofs::TextLemmas::bytes_chars))]
 fn is_behind_minus(letters: &str, clears: bool, here: &str) -> bool
     ensures { result ≡ steps.is_behind_minus (chars letters.now) clears (chars here.now) }
@@ -94,7 +94,7 @@ fn is_behind_minus(letters: &str, clears: bool, here: &str) -> bool
     clears && here.len() + 1 == letters.len()
 }
 
-/// Whether a parenthesis at `here` closes no letter at all.
+/// Whether a parenthesis at `here` has no letter before it.
 fn closes_nothing(letters: &str, clears: bool, here: &str) -> bool
     ensures { let first = steps.is_first (chars letters.now) (chars here.now) in
         result ≡ (first || steps.is_behind_minus (chars letters.now) clears (chars here.now)) }
@@ -179,8 +179,8 @@ fn read_letters(alloc: Global, text: &str, flags: Flags) -> Result<(Letters, &st
     }
 }
 
-/// Parses the letters of a flag group, which begin after the `(?`: what they mean, and the text after the parenthesis
-/// or the colon. UnknownFlag at the first letter for a letter that is no flag, for a second minus, and if there is no
+/// Parses the letters of a flag group, which begin after the `(?`: what they set, and the text after the parenthesis or
+/// the colon. UnknownFlag at the first letter for a letter that is no flag, for a second minus, and if there is no
 /// letter before the end; ChangingUnicodeModeUnsupported at a `u` that is not the mode; UnclosedOpenParen if the text
 /// ends, or a comment is not closed.
 pub fn flag_letters(alloc: Global, text: &str, flags: Flags) -> Result<(Letters, &str), Failure>

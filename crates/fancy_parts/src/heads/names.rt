@@ -1,4 +1,4 @@
-//! The name of a group, in its head.
+//! The name in the opening of a group.
 ghost use Rattle.std.specs.Prelude.{◌≡◌, ◌<◌, length, chars, IfOk};
 ghost use Rattle.fancy_lex.specs.Reading.{Reads};
 ghost use Rattle.fancy_parts.specs.GroupName as spec;
@@ -8,12 +8,12 @@ use fancy_lex::error::{Failure, ParseError};
 use fancy_lex::name::delimited::name_before;
 use fancy_lex::text::reach_before;
 
-/// What closes the name of a group.
+/// The closing delimiter of a group's name.
 #[derive(Clone, Copy)]
 pub enum ClosingMark {
-    /// `>`, behind a name that `<` opens.
+    /// `>`, after a name that `<` opens.
     Angle,
-    /// `'`, behind a name that `'` opens.
+    /// `'`, after a name that `'` opens.
     Quote,
 }
 

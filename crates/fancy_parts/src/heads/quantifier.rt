@@ -1,4 +1,4 @@
-//! Quantifiers: the counts of a repeat, and what they are written with.
+//! Quantifiers: the counts of a repeat, and how they are written.
 ghost use Rattle.std.specs.Prelude.{◌≡◌, ◌<◌, ◌≤◌, length, chars, IfSome, option_map, Some};
 ghost use Rattle.fancy_lex.specs.Text.{EndsWith};
 ghost use Rattle.fancy_parts.specs.Quantifier as spec;
@@ -8,7 +8,7 @@ use fancy_lex::layout::past_layout;
 use fancy_lex::name::number::number;
 use fancy_lex::text::{after, next};
 
-/// Reads a count of a repeat: none where no digit stands. A count that no word holds is refused.
+/// Reads a count of a repeat, which is None if there is no digit. It fails if the count does not fit in a word.
 #[tactic(auto, unfolding(crate::specs::Quantifier::count))]
 fn count(text: &str) -> Option<(Option<usize>, &str)>
     ensures value { spec.count (chars text.now) ≡ option_map (λ p. (p.0, chars p.1.now)) result }
@@ -21,7 +21,7 @@ fn count(text: &str) -> Option<(Option<usize>, &str)>
     }
 }
 
-/// Reads a count with layout round it.
+/// Reads a count with layout around it.
 #[tactic(auto, unfolding(crate::specs::Quantifier::spaced_count))]
 fn spaced_count(text: &str, ignore_space: bool) -> Option<(Option<usize>, &str)>
     ensures value { spec.spaced_count ignore_space (chars text.now) ≡ option_map (λ p. (p.0, chars p.1.now)) result }
@@ -33,7 +33,7 @@ fn spaced_count(text: &str, ignore_space: bool) -> Option<(Option<usize>, &str)>
     Some((n, rest))
 }
 
-/// Reads the greatest count and the closing brace, behind the comma that follows the least one.
+/// Reads the greatest count and the closing brace, after the comma that follows the least count.
 #[tactic(auto, unfolding(crate::specs::Quantifier::counts_from))]
 fn counts_from(text: &str, ignore_space: bool, low: usize) -> Option<(Counts, &str)>
     ensures value { spec.counts_from ignore_space low (chars text.now) ≡ option_map (λ p. (p.0, chars p.1.now)) result }
@@ -44,7 +44,7 @@ fn counts_from(text: &str, ignore_space: bool, low: usize) -> Option<(Counts, &s
     Some((in_braces(low, high.unwrap_or(usize::MAX)), rest))
 }
 
-/// Reads the braces of a repeat, behind the opening one.
+/// Reads the braces of a repeat, after the opening brace.
 #[tactic(auto, unfolding(crate::specs::Quantifier::braced_counts))]
 fn braced_counts(text: &str, ignore_space: bool) -> Option<(Counts, &str)>
     ensures value { spec.braced_counts ignore_space (chars text.now) ≡ option_map (λ p. (p.0, chars p.1.now)) result }
@@ -70,7 +70,7 @@ fn in_braces(low: usize, high: usize) -> Counts
     }
 }
 
-/// The counts of a mark.
+/// The counts of a quantifier's operator.
 fn as_mark(low: usize, high: usize) -> Counts
     ensures { result ≡ spec.as_mark low high }
 {
@@ -81,7 +81,7 @@ fn as_mark(low: usize, high: usize) -> Counts
     }
 }
 
-/// Reads a quantifier: a mark, or counts in braces.
+/// Reads a quantifier: an operator, or counts in braces.
 #[inline(always)]
 #[tactic(auto, unfolding(crate::specs::Quantifier::counts))]
 fn read_counts(text: &str, ignore_space: bool) -> Option<(Counts, &str)>

@@ -1,4 +1,4 @@
-//! References in heads of groups: `(?P=id)`, `(?P>name)`, and what a condition asks for.
+//! References in the openings of groups: `(?P=id)`, `(?P>name)`, and the group that a condition refers to.
 ghost use Rattle.std.specs.Prelude.{◌≡◌, ◌<◌, length, chars, IfOk, IfSome};
 ghost use Rattle.fancy_lex.specs.Reading.{Reads};
 ghost use Rattle.fancy_lex.specs.NameViews.{view_reference, view_call};
@@ -35,7 +35,7 @@ pub fn named_call(text: &str) -> Result<(Call<'_>, &str), Failure>
     Ok((Call { target, reach }, rest))
 }
 
-/// Whether a condition that begins so asks for a group: by a quote, a `<`, a sign or an ASCII digit.
+/// Whether a condition that begins like this refers to a group: with a quote, a `<`, a sign or an ASCII digit.
 #[tactic(auto, unfolding(crate::specs::HeadReference::begins_target))]
 pub fn begins_target(condition: &str) -> bool
     ensures { result ≡ spec.begins_target (chars condition.now) }
@@ -46,7 +46,7 @@ pub fn begins_target(condition: &str) -> bool
     c == '\'' || c == '<' || c == '+' || c == '-' || c.is_ascii_digit()
 }
 
-/// Reads a name between marks and a closing parenthesis, or a name up to the parenthesis.
+/// Reads a name in delimiters and a closing parenthesis, or a name up to the parenthesis.
 #[tactic(auto, unfolding(crate::specs::HeadReference::condition_name))]
 fn condition_name(text: &str) -> Option<(&str, &str)>
     ensures value { spec.condition_name (chars text.now) ≡ parts result }
@@ -60,9 +60,9 @@ fn condition_name(text: &str) -> Option<(&str, &str)>
     Some((name, after(rest, ')')?))
 }
 
-/// Parses what a condition refers to, directly after its `(?(`: an id reference as `'ref')`, `<ref>)` or `ref)`. Its
-/// reach is that of the text directly after the `(?(`, and so is that of the error: InvalidGroupName if it cannot be
-/// parsed.
+/// Parses what a condition refers to, directly after its `(?(`: an id reference in the form `'ref')`, `<ref>)` or
+/// `ref)`. Its reach is that of the text directly after the `(?(`, and so is that of the error: InvalidGroupName if it
+/// cannot be parsed.
 #[tactic(auto, unfolding(crate::specs::HeadReference::condition_target))]
 pub fn condition_target(text: &str) -> Result<(Reference<'_>, &str), Failure>
     ensures value { Reads view_reference result (spec.condition_target (chars text.now)) }
