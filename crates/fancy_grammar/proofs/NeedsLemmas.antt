@@ -118,7 +118,7 @@ module _ (join : Need → Need → Need) (j : IsJoin join) where
   needs_node o (over w t) = sym (joined-before (joined join (needs join o t) no_needs) ∙ joined-behind (needs join o t))
   needs_node o (row r ts) = sym (joined-before _ ∙ ap (needs_all join o) (listed ts))
 
-  -- one child more is joined to what stands before it
+  -- one more child is joined to the children before it
   pub needs_next : (o : Bool) (n : Needs) (t : Tree) (ts : Trees) →
       joined join n (needs_all join o (more_trees t ts))
       ≡ joined join (joined join n (needs join o t)) (needs_all join o ts)

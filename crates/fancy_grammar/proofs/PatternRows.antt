@@ -49,7 +49,7 @@ texts = map (λ r. pattern_text r.flags r.tree r.marks)
 abbrev wanted : List Row → List Text
 wanted = map (λ r. r.text)
 
--- ---- flags, marks and trees in short
+-- ---- short forms for flags, group information and trees
 
 abbrev oniguruma : Flags
 oniguruma = record unicode_alone { oniguruma_mode = true }

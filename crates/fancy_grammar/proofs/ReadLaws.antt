@@ -246,7 +246,7 @@ IsAlternation d s = Part (Fills max_levels d s) s
 abbrev IsInside : ℕ → State → Tree → State → Type 0
 IsInside d s = Part (InsideFits d s) s
 
--- ---- what a part gives after its last piece
+-- ---- the end of a part, and its outcome
 
 closed_reads : (P : Tree → State → Type 0) (s t : State) (r : Tree) → Slice s.rest t.rest →
     ((u : State) → Slice t.rest u.rest → bytes u.rest + 1 ≤ bytes t.rest → P r u) → Reads P s (closed r t)

@@ -82,8 +82,7 @@ items_clear_or_stopper a = cond_both (is_empty a) _ _ (λ x. items a ≡ items x
 
 -- ---- nodes
 
--- what holds of a node of a raw tree: it is none of those that resolving makes, and what holds of parsed nodes holds of
--- it
+-- a node of a raw tree: as in a parsed tree, but without the nodes that only resolving makes
 abbrev pub IsReadNode : Tree → Type 0
 IsReadNode (leaf (label.literal w casei)) = length w ≡ 1
 IsReadNode (leaf (label.literal_bytes w)) = (length w ≡ 1) × AllByRecursion (λ b. (0x80 ≤ b) × (b ≤ 0xFF)) w

@@ -39,7 +39,7 @@ pub data Ahead : Type 0 where
   body : Tree → State → Ahead  -- a conditional whose condition is this tree; its body begins at the state
   absent_branch : State → Ahead  -- `(?~|` of an absent expression, stopper or clear; a branch begins at the state
 
--- the start of the atom is this error
+-- no atom can begin here: this error
 abbrev pub refused : Fault → Ahead
 refused e = read (faulted e)
 
@@ -123,7 +123,7 @@ abbrev pub verb_condition : State → Text → Ahead
 verb_condition s t =
     choose (verb_at t) (λ p. body (verb p.0) (at s p.1)) (refused (unknown_verb (code "*" ∷ t)))
 
--- after `(?(`, where the text may not end: a condition, which is a target, a verb, or an alternation
+-- after `(?(`, which may not end the text: a condition, which is a target, a verb, or an alternation
 abbrev pub condition_ahead : State → Text → Ahead
 condition_ahead s [] = refused group_not_closed
 condition_ahead s (c ∷ t) =
@@ -131,7 +131,7 @@ condition_ahead s (c ∷ t) =
     else if c == code "*" then verb_condition s t
     else condition (at s (c ∷ t))
 
--- after `(?~`, where the text may not end: an alternation
+-- after `(?~`, which may not end the text: an alternation
 abbrev pub repeater_ahead : State → Text → Ahead
 repeater_ahead s [] = refused group_not_closed
 repeater_ahead s (c ∷ t) = with_head repeater (at s (c ∷ t))

@@ -94,7 +94,7 @@ abbrev pub numbered_groups : Flags → Tree → List (ℕ × Opening × Tree)
 numbered_groups f r = numbered_in (only_named f (openings r)) 0 (preorder r)
 
 -- the openings of these groups are the ones that have a number, in text order; the k-th Group of the parsed tree t
--- holds the contents of the k-th of them, resolved with the count k of groups that open before them
+-- holds the contents of the k-th of them, resolved with k groups opened before them
 pub record HasGroupsOf (f : Flags) (text : Text) (r t : Tree) : Type 0 where
   pub in_order : map (λ g. g.1) (numbered_groups f r) ≡ numbered_openings f (openings r)
   pub insides : groups t ≡

@@ -22,10 +22,10 @@ use Rattle.fancy_grammar.specs.State.{ends, skipped, State, at, Outcome, done, f
 use Rattle.fancy_grammar.specs.Tree.{Tree, more_trees, list_of, empty, alt, conditional, clear, stopper}
 use Rattle.fancy_grammar.specs.Tree.{expression, ast_node}
 
--- ---- what a part gives after its last piece
+-- ---- the end of a part, and its outcome
 
--- the tree, if the closing parenthesis follows; only a bar after the second branch of an absent expression may follow
--- instead, since an alternation continues after any other bar
+-- the tree, if the closing parenthesis follows. Otherwise it is an error, at the end of the text or at a bar; the bar
+-- can only follow the second branch of an absent expression, since an alternation continues after a bar.
 abbrev pub closed_at : Tree → State → Text → Outcome Tree
 closed_at r s [] = faulted group_not_closed
 closed_at r s (c ∷ t) =

@@ -54,7 +54,7 @@ takes_pieces Whole = true
 takes_pieces Branch = true
 takes_pieces _ = false
 
--- alternatives may be written here
+-- branches, with bars between them, may be written here
 abbrev pub takes_branches : Precedence → Bool
 takes_branches Whole = true
 takes_branches _ = false

@@ -110,11 +110,11 @@ with_needs f n = record f {
   crlf = fixed_or f.crlf n.crlf;
 }
 
--- before a tree: each flag as the first leaf requires it that requires something
+-- before a tree: for each flag, the first requirement of a leaf
 abbrev pub settled : Flags → Tree → Flags
 settled f t = with_needs f (needs first f.oniguruma_mode t)
 
--- before the whole: each flag as all leaves require it that require something, if they agree
+-- before the whole: for each flag, the requirement of all leaves that have one, if they agree
 abbrev pub agreed : Flags → Tree → Flags
 agreed f t = with_needs f (needs both f.oniguruma_mode t)
 

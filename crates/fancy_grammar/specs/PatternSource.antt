@@ -13,7 +13,7 @@ use Rattle.fancy_lex.specs.Text.{Text, strip, strip_word, cut_at}
 use Rattle.fancy_lex.specs.declared.flags.Flags.{Flags}
 use Rattle.fancy_grammar.specs.PatternLetters.{by_letter_or, plain}
 
--- what the reader writes for an escape, if it writes it for no other source
+-- what the reader writes for an escape, and for no other source
 pub record Replaced : Type 0 where
   pub written : Text
   pub escape : Text

@@ -13,8 +13,7 @@ needs_alone o (leaf l) = leaf_needs o l
 needs_alone o _ = no_needs
 
 abbrev mutual
-  -- for each node, each flag as its first leaf requires it that requires something; the contents of a capturing group
-  -- are skipped
+  -- for each node and each flag, the first requirement of a leaf; the contents of a capturing group are skipped
   pub needs_listed : Bool → Tree → List Needs
   needs_listed o (leaf l) = leaf_needs o l ∷ []
   needs_listed o (over (ast_group name place) t) = no_needs ∷ []

@@ -38,7 +38,7 @@ is_greedy f lazy = if f.swap_greed then lazy else not lazy
 abbrev pub is_swapped : Flags → Counts → Bool
 is_swapped f c = f.oniguruma_mode && nat_lt c.high c.low
 
--- in Oniguruma mode a quantifier in braces is never possessive
+-- in Oniguruma mode no possessive operator follows counts in braces
 abbrev pub may_be_possessive : Flags → Counts → Bool
 may_be_possessive f c = not (f.oniguruma_mode && c.braces)
 
@@ -79,7 +79,7 @@ with_counts left a s (Some (c, t)) =
     else if is_dropped s.flags left a t then seen_through (λ m. a) (suffix (at s t) c)
     else faulted (not_repeatable t)
 
--- the quantifier after the layout before it
+-- after the layout that precedes a quantifier
 abbrev pub quant_at : ℕ → Tree → State → Skipped → Outcome Tree
 quant_at left a s (rest t) = with_counts left a (at s t) (counts s.flags.ignore_space t)
 quant_at left a s (open_comment p) = faulted (comment_not_closed p)

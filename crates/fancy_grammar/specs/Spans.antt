@@ -90,7 +90,8 @@ alone p = node p no_spans
 abbrev pub around : Span → Spans → Spans
 around p x = node p (more_spans x no_spans)
 
--- the node of the pieces or branches that span p: with none an Empty there, with one that one itself, with more a node
+-- the node of the pieces or branches that span p: if there is none, an Empty; if there is one, that one; otherwise a
+-- node around them
 abbrev pub one_or_node : Span → Forest → Spans
 one_or_node p no_spans = alone p
 one_or_node p (more_spans x no_spans) = x

@@ -81,7 +81,7 @@ IsLevelWritable (negsuc n) = n + 1 < amount_bound
 abbrev pub is_called_by_number : Marks → ℕ → Bool
 is_called_by_number m n = m.numeric_capture_group_references && (nat_lt 0 n || m.self_recursive)
 
--- a call of a group that can be written: with a number, one that fits; with a distance, a distance that fits
+-- a call of group n can be written: by number, if that fits in a word; by distance, if that is below `amount_bound`
 abbrev pub IsCallWritable : Bool → ℕ → ℕ → Type 0
 IsCallWritable true c n = n < 2 ^ 64
 IsCallWritable false c n = (n - c < amount_bound) × (c + 1 - n < amount_bound)

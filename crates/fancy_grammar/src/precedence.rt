@@ -9,6 +9,6 @@ pub enum Precedence {
     Branch,
     /// A piece of a branch.
     Piece,
-    /// The operand of a quantifier, and how many quantifiers may still come between them.
+    /// The operand of a quantifier, and how many more quantifiers may come before that one.
     Operand(usize),
 }

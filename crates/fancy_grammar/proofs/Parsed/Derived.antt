@@ -164,7 +164,7 @@ module _ (f : Flags) (text : Text) where
       then_holds (IsPart f text) (IsPart f text) (quant left a t) _ (quant_part left a t h)
       (λ b v i. cond_both v.flags.oniguruma_mode _ _ P (λ _. adjacent_part max_adjacent d b v i) (λ _. i))
 
-  -- ---- what a part gives after its last piece
+  -- ---- the end of a part, and its outcome
 
   closed_part : (r : Tree) (t : State) → IsPart f text r t → P (closed r t)
   closed_part r t h = by_text t.rest

@@ -63,7 +63,7 @@ comment_whole μ h s v g x w =
 
 -- ---- a repeater
 
--- no bar comes first, or an empty comment comes before it
+-- the text begins with no bar; an empty comment comes first if one is needed
 record Parted (μ : Marks) (h : Here) (t v : Text) (g : Flags) (x : Tree) : Type 0 where
   first : ℕ
   others : Text

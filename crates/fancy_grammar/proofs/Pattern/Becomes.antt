@@ -163,7 +163,7 @@ one_becomes μ s w (r ∷ l) [] c h = absurd h
 
 -- ---- Empties
 
--- a raw tree that becomes no Empty is none
+-- a raw tree that does not become an Empty is not Empty
 pub stays_solid : (μ : Marks) (s : Text) (c : ℕ) (r x : Tree) → Becomes μ s c r x → is_empty x ≡ false →
     is_empty r ≡ false
 stays_solid μ s c empty x b e =

@@ -163,7 +163,7 @@ closed_body k r left g v a b e is =
     cond-false _ _ _ (ap (λ y. y && not (is_condition k)) e)
     ∙ ap (λ (p : Tree × Tree). closed (conditional_of k p.0 p.1) (st g (code ")" ∷ v))) is
 
--- inside this many groups and one more
+-- inside a group at depth d, after n groups with a number
 abbrev within : ℕ → Flags → ℕ → Here
 within d f n = record { flags = f; opened = n; depth = d + 1 }
 

@@ -49,7 +49,7 @@ Ready t h = MayOpen h ⊎ Suits h.flags t
 abbrev pub AllReady : Trees → Here → Type 0
 AllReady ts h = MayOpen h ⊎ SuitAll h.flags ts
 
--- no more groups are open than that, the mode is this one, and the tree is ready
+-- the tree fits if at most d groups are open, in this mode, and it is ready
 abbrev pub Fit : Bool → ℕ → Precedence → Tree → Type 0
 Fit in_mode d p t = (h : Here) → h.flags.oniguruma_mode ≡ in_mode → h.depth ≤ d → Ready t h → Fits t p h
 
@@ -136,7 +136,7 @@ enclosed (row label.conditional (more_trees c (more_trees t (more_trees e no_tre
 enclosed (row label.conditional (more_trees c (more_trees t (more_trees e (more_trees v ts))))) p u h d x y = x
 enclosed t p u h d x y = x
 
--- fewer groups are open, another may open, and the tree is ready in it
+-- the tree fits if fewer than d groups are open, another may open, and the tree is ready in it
 abbrev pub FitAlone : Bool → ℕ → Precedence → Tree → Type 0
 FitAlone in_mode d p t =
     (h : Here) → h.flags.oniguruma_mode ≡ in_mode → h.depth < d → MayOpen h →

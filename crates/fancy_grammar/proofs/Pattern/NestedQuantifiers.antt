@@ -82,7 +82,7 @@ marks_in_order x (c ∷ t) =
     cond_both (c == code "+") _ _ IfMark (λ _ _. refl) (λ _.
     cond_both (c == code "{") _ _ IfMark (λ _. braces_both x t) (λ _. tt))))
 
--- what may be possessive is written with an operator
+-- what may be possessive can be written as a possessive quantifier
 marked : (in_mode : Bool) (c : Counts) → (c.braces ≡ false → nat_lt c.low c.high ≡ true) →
     not (in_mode && c.braces) ≡ true → IsMarked in_mode c.low c.high
 marked false c h e = refl
@@ -92,7 +92,7 @@ marked true c h e = h (by (c.braces) e)
     by true k = absurd (false≢true k)
     by false k = refl
 
--- so is what has exchanged counts
+-- so can exchanged counts
 swapped_marked : (in_mode : Bool) (lo hi : ℕ) → nat_lt lo hi ≡ true → IsMarked in_mode lo hi
 swapped_marked true lo hi e = e
 swapped_marked false lo hi e = refl
@@ -123,7 +123,7 @@ suffix_read w c = by_layout (skipped w)
         choose_both W (strip (code "?") t) _ _ (λ u e. behind_mark true u) (behind_mark false t)
     by_layout (open_comment p) = tt
 
--- they add no bytes to the rest
+-- reading them does not make the rest longer
 record SuffixTaken (w : State) (c : Counts) (m : Suffix) (v : State) : Type 0 where
   pub told : SuffixRead w c m v
   pub fewer : bytes v.rest ≤ bytes w.rest

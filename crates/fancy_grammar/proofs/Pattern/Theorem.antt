@@ -231,7 +231,7 @@ unreached_named f l = ap (λ b. f.ignore_numbered_groups && b) (each l)
     each [] = refl
     each (o ∷ l) = ap (λ b. is_some o.name || b) (each l)
 
--- each of those that have a number has one in this list too
+-- each opening in the list of those with a number is counted
 pub counted_filtered : (named : Bool) (l : List Opening) →
     AreCounted named (map unreached (numbered_openings_in named l))
 counted_filtered named [] = tt

@@ -118,7 +118,7 @@ escape_text t h =
       begins = λ v. begins_by refl refl refl;
     }
 
--- what is no Delegate is still none, whatever is left
+-- what is no Delegate is still no Delegate if text is left
 pub other_left : (r : Tree) (v : Text) → false ≡ is_some (whole_of [] r) → false ≡ is_some (whole_of v r)
 other_left r [] other = other
 other_left r (c ∷ v) other = refl

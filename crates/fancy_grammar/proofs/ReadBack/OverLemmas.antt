@@ -207,7 +207,7 @@ mutual
       (place t BRANCH)
       (barred_places ts) (parens_find t BRANCH) (barred_find ts))
 
--- the first that is too deep is there, and if fewer groups nest, there is none
+-- the first that is too deep is there; if fewer groups nest, no group is too deep
 pub over_place : (t : Tree) (p : ℕ) → max_depth ≤ nest t p →
     too_deep t p ≡ Some (record { place = place t p 0; round = most_open })
 over_place t p h = (parens_find t p).deep 0 0 (omega arith) (omega arith) ∙ at_same _ _ (omega arith)

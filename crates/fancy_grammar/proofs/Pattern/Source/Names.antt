@@ -69,7 +69,7 @@ rowless_text u inside negated w h =
     by_sign true = refl
     by_sign false = refl
 
--- the source of a property after its backslash; the caret that begins its name, if there is one, was removed
+-- the source of a property after its backslash; the option is the rest of its name after a caret, if it begins with one
 abbrev pub named_behind : Bool → Option Text → Text → Text
 named_behind negated (Some t) w =
     negated_letter (not negated) ∷ code "{" ∷ ((code "^" ∷ code "^" ∷ t) ++ codes "}")
