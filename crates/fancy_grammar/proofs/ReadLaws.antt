@@ -450,7 +450,7 @@ whole_read (whole {f} {text} {q} a) =
 pub derived_read : {f : Flags} {text : Text} {r : Tree} {t : State} → Whole f text (done r t) → IsRead r
 derived_read a = (whole_read a).read
 
--- an error is where the rest of a text begins, or one past the end
+-- an error is where a suffix of the text begins, or one past the end
 pub fault_stands : {f : Flags} {text : Text} {k : Kind} {p : ℕ} → Whole f text (fault k p) →
     MayStand text p
 fault_stands a = whole_read a

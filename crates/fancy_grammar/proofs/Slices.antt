@@ -15,7 +15,7 @@ use Rattle.fancy_grammar.specs.Ordered.{DescendingReaches, reach_of_item}
 use Rattle.fancy_grammar.specs.Slices.{Slice}
 use Rattle.fancy_grammar.specs.State.{skipped, State, Outcome, done, fault, and_then}
 
--- in a pattern that ends with t: the reach at which the rest of a text begins, or of one past the end
+-- in a pattern that ends with t: the reach at which a suffix of t begins, or of one past the end
 abbrev pub MayStand : Text → ℕ → Type 0
 MayStand t p = Stands past_end t p
 
@@ -25,7 +25,7 @@ pub record ItemSpan (l : List Item) (t u : Text) : Type 0 where
   pub descends : DescendingReaches (reach_of t + 1) (reach_of u + 1) l
   pub stand : AllByRecursion (λ i. MayStand t (reach_of_item i)) l
 
--- P holds of what was read, or the error is at a rest of the text that begins at s, or one past it
+-- P holds of what was read, or the error is where a suffix of the text that begins at s begins, or one past its end
 abbrev pub Reads : {A : Type 0} → (A → State → Type 0) → State → Outcome A → Type 0
 Reads P s (done a t) = P a t
 Reads P s (fault k p) = MayStand s.rest p
@@ -145,7 +145,7 @@ referred {t} {m} {u} r p a k e =
 
 -- ---- layout
 
--- the text after the layout is a rest of the text, and the error of an open comment is at the end or one past it
+-- the text after the layout is a suffix of the text, and the error of an open comment is at the end or one past it
 abbrev pub SkippedSlice : Text → Skipped → Type 0
 SkippedSlice t (rest u) = Slice t u
 SkippedSlice t (open_comment p) = MayStand t p

@@ -26,7 +26,7 @@ use Rattle.fancy_grammar.proofs.ReadLaws.{suffix_reads}
 use Rattle.fancy_grammar.proofs.Slices.{Reads, here, on, layout_slice, SkippedSlice}
 use Rattle.fancy_grammar.proofs.SpansLemmas.{Stands, StandsFrom, reaches, over_at, wider}
 
--- what is read after t begins at a rest of it
+-- the rest after what is read is a suffix of t
 abbrev Behind : {A : Type 0} → Text → Outcome A → Type 0
 Behind t o = Holds (λ a (v : State). Slice t v.rest) o
 

@@ -147,7 +147,7 @@ module _ (d : ℕ) (f : Flags) (c : ℕ) (w v : Text) (l : d + 1 < max_depth) wh
 abbrev pub inner : Flags → Here → Here
 inner g h = deeper (under g h)
 
--- the text continues after the opening of a group
+-- the text after the opening of a group is a suffix of the text
 head_ends : (d : ℕ) (f g : Flags) (s t : Text) (k : Head) → ahead d (st f s) ≡ with_head k (st g t) → EndsWith s t
 head_ends d f g s t k e = to_ends (subst (AheadReads (st f s)) e (ahead_reads d (st f s))).0
 

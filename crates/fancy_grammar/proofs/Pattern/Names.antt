@@ -51,7 +51,7 @@ pub record PlainName (w : Text) : Type 0 where
   pub not_relative : is_relative w ≡ false
   pub ids : AllByRecursion (λ c. is_id_char c ≡ true) w
 
--- the id at the front is of id characters
+-- the id at the front consists of id characters
 run_of_ids : (t : Text) → AllByRecursion (λ c. is_id_char c ≡ true) (id_run t).0
 unfolding id_run
 run_of_ids [] = tt
