@@ -24,8 +24,8 @@ use Rattle.fancy_grammar.specs.Tree.{expression, ast_node}
 
 -- ---- the end of a part, and its outcome
 
--- The tree, if the closing parenthesis follows. Otherwise there is an error, at the end of the text or at a bar; the bar
--- can only follow the second branch of an absent expression, since an alternation continues after a bar.
+-- The tree, if the closing parenthesis follows. Otherwise there is an error, at the end of the text or at a bar; the
+-- bar can only follow the second branch of an absent expression, since an alternation continues after a bar.
 abbrev pub closed_at : Tree → State → Text → Outcome Tree
 closed_at r s [] = faulted group_not_closed
 closed_at r s (c ∷ t) =
