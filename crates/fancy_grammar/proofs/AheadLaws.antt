@@ -1,4 +1,5 @@
--- What stands before an atom: the slice that it takes, what a leaf is, and that a group opens below the greatest depth.
+-- What begins an atom: the slice that it reads, which leaves there are, and that a group opens only below the greatest
+-- depth.
 use Rattle.std.proofs.Common.{◌≡◌, ℕ, ◌+◌, ◌<◌, ◌≤◌, ◌∷◌, [], refl, sym, ap, subst, arith, Bool, true, false, Option}
 use Rattle.std.proofs.Common.{Some}
 use Rattle.std.specs.Prelude.{◌==◌, nat_le, IfSome, codes}
@@ -43,24 +44,24 @@ use Rattle.fancy_grammar.proofs.Slices.{MayStand, ItemSpan, Reads, here, on, fit
 use Rattle.fancy_grammar.proofs.Slices.{stands_at, stands_in, bare, listed, taken, referred, SkippedSlice, layout_slice}
 use Rattle.fancy_grammar.proofs.TreeLaws.{IsReadLeaf}
 
--- a slice, of a byte at least
+-- a slice of at least one byte
 abbrev pub Past : State → Text → Type 0
 Past s t = Slice s.rest t × (bytes t + 1 ≤ bytes s.rest)
 
 further : (s : State) {t u : Text} → Past s t → Slice t u → Past s u
 further s (a, h) b = (on a b, omega (arith, h, fits b))
 
--- a leaf takes a byte or more, and is a node alone
+-- a leaf reads at least one byte, and is a single node
 pub record IsLeaf (s : State) (r : Tree) (t : State) : Type 0 where
   pub span : ItemSpan (items r) s.rest t.rest
   pub past : bytes t.rest + 1 ≤ bytes s.rest
   pub alone : IsReadLeaf r
 
--- what the leaf is, or where its fault stands
+-- what the leaf is, or where its error is
 abbrev LeafReads : State → Outcome Tree → Type 0
 LeafReads s o = Reads (IsLeaf s) s o
 
--- what an atom takes by what stands ahead
+-- what an atom reads, by its start
 abbrev pub AheadReads : State → Ahead → Type 0
 AheadReads s nothing = Unit {0}
 AheadReads s (read o) = LeafReads s o
@@ -79,7 +80,7 @@ leaf_past s e i h = record { span = listed (sym e) (bare h.0); past = h.1; alone
 word_slice : (w t u : Text) → strip_word w t ≡ Some u → Slice t u
 word_slice w t u e = record { word = w; cut = strip_word_is w t u e }
 
--- a verb, where there is one, ends before a slice
+-- a verb, if there is one, ends before a slice
 abbrev VerbSlice : Text → Option (BacktrackingControlVerb × Text) → Type 0
 VerbSlice t o = IfSome o (λ p. Slice t p.1)
 
@@ -112,7 +113,7 @@ letters_ahead_reads s z t h = flags_reads s t (letters z.flags t) h (leaves_lett
 at_least_one : {t u : Text} → Takes 2 t u → Takes 1 t u
 at_least_one a = record { word = a.word; cut = a.cut; long = omega (arith, a.long) }
 
--- a `?` stands before the text
+-- a `?` comes before the text
 abbrev BehindMark : State → Text → Type 0
 BehindMark s t = Past s t × MayStand s.rest (reach_of t + 1)
 
@@ -223,7 +224,7 @@ behind_reads : (s z : State) (t : Text) (k : Skipped) → Past s t → SkippedSl
 behind_reads s z t (rest u) h i = group_reads s z u (further s h i)
 behind_reads s z t (open_comment p) h i = stands_in h.0 i
 
--- what an escape stands for, behind a first character
+-- what an escape is read as, after the first character
 escape_reads : (s z : State) (t : Text) → Past s t → MayStand s.rest (reach_of t + 1) → (o : Reading Escape) →
     Leaves (reach_of t + 1) t o → Sound t o → LeafReads s (leaf_outcome leaf_node z o)
 escape_reads s z t h m (gives e u) (leaves l) p =
@@ -247,7 +248,7 @@ escape_reads s z t h m (gives e u) (leaves l) p =
         (referred _ _ (on h.0 (cut_slice p.ends)) p.takes p.reach, (tt, refl, refl))
 escape_reads s z t h m (fails e) (faults l) p = stands_retold m (stands_past (to_ends h.0) l)
 
--- a class, behind its bracket
+-- a class, after its bracket
 class_reads : (s z : State) (casei : Bool) (t : Text) → Past s t → (o : Reading Text) → Leaves 0 t o →
     LeafReads s (leaf_outcome (λ w. delegate w casei) z o)
 class_reads s z casei t h (gives a u) (leaves e) = leaf_past s refl (tt, refl, refl) (further s h (cut_slice e))

@@ -1,4 +1,4 @@
--- A piece that starts where a branch does not end reads a character.
+-- A piece reads a character if a branch does not end at its start.
 use Rattle.std.proofs.Common.{◌≡◌, ◌≢◌, ℕ, ◌+◌, Bool, true, false, ◌||◌, ◌&&◌, if◌then◌else◌, ◌⊎◌, inl, inr, []}
 use Rattle.std.proofs.Common.{◌∷◌, ◌==◌, Option, Some, None, nat_le, nat_lt, codes, refl, sym, ◌∙◌, true≢false, tests}
 use Rattle.std.proofs.Common.{rules, ap, arith}
@@ -29,7 +29,7 @@ use Rattle.fancy_grammar.specs.Verb.{verb_at}
 
 -- ---- a parenthesis opens something
 
--- something stands ahead
+-- the start of an atom is not nothing
 abbrev IsThere : Ahead → Type 0
 IsThere k = k ≡ nothing → ⊥
 
@@ -145,7 +145,7 @@ no_condition_ahead s c t e h i j =
     ∙ cond-false (begins_target (c ∷ t)) _ _ (ap begins_target (sym e) ∙ i)
     ∙ cond-false (c == code "*") _ _ (search (tests, rules)) ∙ ap (λ x. condition (at s x)) (sym e)
 
--- ---- a mark begins a quantifier, before which no layout stands
+-- ---- an operator begins a quantifier, and no layout comes before it
 
 abbrev IsMark : ℕ → Type 0
 IsMark c = (c ≡ code "+") ⊎ ((c ≡ code "*") ⊎ (c ≡ code "?"))
@@ -177,7 +177,7 @@ mark_counts x c t (inl e) = (as_mark 1 most, rw e refl)
 mark_counts x c t (inr (inl e)) = (as_mark 0 most, rw e refl)
 mark_counts x c t (inr (inr e)) = (as_mark 0 1, rw e refl)
 
--- a mark takes one byte
+-- an operator has one byte
 mark_bytes : (c : ℕ) (t : Text) → IsMark c → nat_lt (bytes t + 1) (bytes (c ∷ t)) ≡ false
 unfolding bytes
 mark_bytes c t (inl e) = rw e (grind (arith, nat_tests))
@@ -188,7 +188,7 @@ and_false : (b c : Bool) → c ≡ false → (b && (true && c)) ≡ false
 and_false true c e = e
 and_false false c e = refl
 
--- Empty under a mark with which the piece begins is a fault
+-- an Empty under an operator at the start of a piece is an error
 mark_fault : (s : State) (c : ℕ) (t : Text) → IsMark c →
     quant (bytes (c ∷ t)) empty (at s (c ∷ t)) ≡ fault target_not_repeatable (reach_of t + 1)
 unfolding quant

@@ -1,4 +1,4 @@
--- What the second walk comes to from the start, over a raw tree in text order.
+-- What the second walk computes from its start, over a raw tree in text order.
 use Rattle.std.proofs.Common.{◌≡◌, ℕ, Bool, List, nat_le, nat_lt, length, filter, ap, ◌∙◌}
 use Rattle.std.specs.List.{list_any}
 use Rattle.std.specs.Prelude.{find}
@@ -19,7 +19,7 @@ use Rattle.fancy_grammar.specs.Walk.{Known, Progress, nothing_noted, progress_af
 use Rattle.fancy_grammar.proofs.NoteLaws.{noted_numeric, noted_calls, noted_self, noted_fault, noted_backrefs}
 use Rattle.fancy_grammar.proofs.NoteLaws.{noted_outside}
 
--- what is known is so of the tree
+-- what the walk knows agrees with the tree
 pub record Suits (f : Flags) (r : Tree) (k : Known) : Type 0 where
   pub named : k.named ≡ only_named f (openings r)
   pub total : k.groups.total ≡ length (numbered_openings_in k.named (openings r))
@@ -30,7 +30,7 @@ pub known_suits : (f : Flags) (r : Tree) (k : Known) → k.named ≡ only_named 
     k.groups.names ≡ named_groups (numbered_openings_in k.named (openings r)) → Suits f r k
 known_suits f r k a b c = record { named = a; total = b; names = c }
 
--- the marks that are known and noted
+-- the group information that is known and recorded
 abbrev pub marks_noted : Known → Progress → Marks
 marks_noted k s = record {
   backrefs = s.backrefs;
@@ -43,7 +43,7 @@ marks_noted k s = record {
   numbered_groups_ignored = k.named;
 }
 
--- the marks of references with these meanings, where so many groups have a number
+-- the group information of references with these meanings, if this many groups have a number
 abbrev pub marks_from : Text → Bool → ℕ → List (Text × List ℕ) → List (AstReference × ℕ × Meaning) → Marks
 marks_from text named total names l = record {
   backrefs = ascending (filter (λ n. nat_le n total) (back_numbers l));
@@ -82,7 +82,7 @@ module _ (f : Flags) (r : Tree) (k : Known) (h : Suits f r k) where
   total : k.groups.total ≡ length (numbered_openings_in (only_named f (openings r)) (openings r))
   total = h.total ∙ ap (λ x. length (numbered_openings_in x (openings r))) h.named
 
-  -- the numbers of each name that are known are those of the groups
+  -- the known numbers of each name are those of its groups
   numbers : numbers_under k.groups.names ≡ numbers_in f r
   numbers =
       ap numbers_under names
@@ -91,7 +91,7 @@ module _ (f : Flags) (r : Tree) (k : Known) (h : Suits f r k) where
   pub law_tree : resolved_by k 0 r ≡ resolved f (bytes k.text) r
   law_tree = λ i. resolved_in (bytes k.text) (h.named i) (numbers i) 0 r
 
-  -- and so is what the references mean
+  -- and the meanings of the references are the same
   same_meanings : meanings_in k.named (numbers_under k.groups.names) 0 (items r) ≡ meanings f r
   same_meanings = λ i. meanings_in (h.named i) (numbers i) 0 (items r)
 

@@ -1,4 +1,4 @@
--- What is true of every answered tree, by the nodes of the raw tree that it was resolved from.
+-- What is true of every parsed tree, by the nodes of the raw tree that it was resolved from.
 use Rattle.std.proofs.Common.{◌≡◌, ℕ, suc, ◌+◌, ◌≤◌, ◌==◌, Bool, true, false, ◌||◌, if◌then◌else◌, List, [], ◌∷◌}
 use Rattle.std.proofs.Common.{length, Option, Some, None, filter, filter_map, map, nat_le, nat_lt, refl, sym, ap}
 use Rattle.std.proofs.Common.{◌∙◌, subst}
@@ -35,15 +35,15 @@ use Rattle.fancy_grammar.proofs.Verdict.{same_tree}
 use Rattle.fancy_grammar.proofs.ReadLaws.{derived_read}
 use Rattle.fancy_grammar.proofs.TreeLaws.{IsReadNode, IsRead}
 
--- ---- what a reference comes to
+-- ---- what a reference means
 
--- where there is no fault, one behind has none
+-- if a list of references has no error, the rest of the list has none
 none_behind : (m : Meaning) (p : ℕ) (o : Option Fault) → fault_or m p o ≡ None → o ≡ None
 none_behind (number n) p o e = e
 none_behind unresolved p o e = e
 none_behind (faulty k) p o e = absurd cc
 
--- a back reference and a condition mean a number, or are faults
+-- a back reference or a condition refers to a number, or is an error
 back_to_resolved : (c : ℕ) (name : Text) (o : Option ℕ) → back_to c name o ≡ unresolved → ⊥
 back_to_resolved c name None e = cc
 back_to_resolved c name (Some n) e = by_test (nat_le n c) e
@@ -67,7 +67,7 @@ condition_resolved u c (by_number n) e = cc
 condition_resolved u c (by_name w) e = group_or_fault condition _ (last_of (u w)) refl e
 condition_resolved u c (relative z) e = group_or_fault condition _ (at_distance c z) refl e
 
--- so that only a call is left without a number
+-- so only a call can be left without a number
 call_unresolved : (u : Text → List ℕ) (c : ℕ) (r : AstReference) → means u c (role_of r) (target_of r) ≡ unresolved →
     is_call (role_of r) ≡ true
 call_unresolved u c (ast_backref t casei level) e = absurd (back_reference_resolved u c t e)
@@ -87,7 +87,7 @@ reference_answered z (faulty k) r place o u e = absurd cc
 -- ---- the nodes that resolving keeps
 
 module _ (z : ℕ) (named : Bool) (numbers_of : Text → List ℕ) where
-  -- what a reference means behind c groups
+  -- the meaning of a reference after c groups
   abbrev means_here : ℕ → AstReference → Meaning
   means_here c r = means numbers_of c (role_of r) (target_of r)
 
@@ -103,7 +103,7 @@ module _ (z : ℕ) (named : Bool) (numbers_of : Text → List ℕ) where
   abbrev numbered_if : Bool → ℕ → Opening × Tree → List Tree → List (ℕ × Opening × Tree)
   numbered_if b c g l = if b then (c + 1, g.0, g.1) ∷ numbered_in named (c + 1) l else numbered_in named c l
 
-  -- their openings are those that have a number
+  -- their openings are the ones that have a number
   openings_counted : (c : ℕ) (l : List Tree) →
       map (λ q. q.1) (numbered_in named c l) ≡ numbered_openings_in named (openings_in (items_of_all l))
   openings_counted c [] = refl
@@ -121,7 +121,7 @@ module _ (z : ℕ) (named : Bool) (numbers_of : Text → List ℕ) where
   if_false : {A : Type 0} (x y : A) (b : Bool) → b ≡ false → (if b then x else y) ≡ y
   if_false x y b e = ap (λ b. if b then x else y) e
 
-  -- the Groups are these with their insides resolved
+  -- the Groups are these, with their contents resolved
   abbrev insides : List (ℕ × Opening × Tree) → List Tree
   insides l = map (λ q. group (resolved_in z named numbers_of q.0 q.2)) l
 
@@ -155,7 +155,7 @@ module _ (z : ℕ) (named : Bool) (numbers_of : Text → List ℕ) where
   calls_kept c (leaf (label.subroutine_call n) ∷ l) h = absurd h.0
   calls_kept c (_ ∷ l) h = calls_kept c l h.1
 
-  -- one number more, if there is one
+  -- one more number, if there is one
   abbrev in_front : Option ℕ → List ℕ → List ℕ
   in_front (Some n) l = n ∷ l
   in_front None l = l
@@ -198,7 +198,7 @@ module _ (z : ℕ) (named : Bool) (numbers_of : Text → List ℕ) where
   list_length no_trees c = refl
   list_length (more_trees t ts) c = ap suc (list_length ts _)
 
-  -- where no reference has a fault, each node is one of an answered tree
+  -- if no reference is an error, each node is one of a parsed tree
   answered_kept : (c : ℕ) (l : List Tree) → AllByRecursion IsReadNode l → first_fault (meant c l) ≡ None →
       AllByRecursion IsAnsweredNode (kept_here c l)
   answered_kept c [] h n = tt
@@ -219,7 +219,7 @@ module _ (z : ℕ) (named : Bool) (numbers_of : Text → List ℕ) where
       (subst (λ k. 2 ≤ k) (sym (list_length ts c)) h.0, answered_kept c l h.1 n)
   answered_kept c (_ ∷ l) h n = (tt, answered_kept c l h.1 n)
 
--- ---- answered trees
+-- ---- parsed trees
 
 module _ {f : Flags} {text : Text} {t : Tree} {m : Marks} (a : IsTreeOf f text t m) where
   abbrev raw : Tree
@@ -246,7 +246,7 @@ module _ {f : Flags} {text : Text} {t : Tree} {m : Marks} (a : IsTreeOf f text t
   is_marks : m ≡ marks f text raw
   is_marks = a.4
 
-  -- each node is one of an answered tree
+  -- each node is one of a parsed tree
   answered : IsAnswered t
   answered =
       let no_fault = ap first_fault (sym meanings_of_nodes) ∙ a.2 in
@@ -263,14 +263,14 @@ module _ {f : Flags} {text : Text} {t : Tree} {m : Marks} (a : IsTreeOf f text t
       openings_counted (bytes text) named numbers_of 0 (preorder raw)
       ∙ ap (λ l. numbered_openings_in named (openings_in l)) (sym (items_of_nodes raw))
 
-  -- as many as are said
+  -- their number is the recorded total
   pub groups_total : length (groups t) ≡ m.total_groups
   groups_total =
       let groups_of = numbered_groups f raw in
       ap length groups_in_order ∙ length-map groups_of (λ q. group (resolved_in (bytes text) named numbers_of q.0 q.2))
       ∙ sym (length-map groups_of (λ q. q.1)) ∙ ap length openings_in_order ∙ ap (λ k. k.total_groups) (sym is_marks)
 
-  -- of each name they are the numbers, and of the groups that carry it
+  -- the numbers of each name are those of the groups with that name
   names_marked : AreNamed m.total_groups m.named_groups
   names_marked = subst (λ k. AreNamed k.total_groups k.named_groups) (sym is_marks) (named_ascend numbered)
 
@@ -280,7 +280,7 @@ module _ {f : Flags} {text : Text} {t : Tree} {m : Marks} (a : IsTreeOf f text t
       ap (λ q. list_any (λ j. j == suc k) (numbers_under q.named_groups w)) is_marks
       ∙ ap (list_any (λ j. j == suc k)) (under_named numbered w) ∙ number_carried w k numbered
 
-  -- a call is said where one stands
+  -- a call is recorded if the tree has one
   calls_marked : has_call t ≡ m.contains_subroutines
   calls_marked =
       ap (list_any is_call_node) nodes ∙ calls_kept (bytes text) named numbers_of 0 (preorder raw) nodes_read
@@ -292,13 +292,13 @@ module _ {f : Flags} {text : Text} {t : Tree} {m : Marks} (a : IsTreeOf f text t
       ap (filter_map group_referred) nodes ∙ numbers_kept (bytes text) named numbers_of 0 (preorder raw) nodes_read
       ∙ ap back_numbers (sym meanings_of_nodes)
 
-  -- the numbers up to the total, each once, are said
+  -- the numbers up to the total are recorded, each once
   backrefs_marked : m.backrefs ≡ ascending (filter (λ n. nat_le n m.total_groups) (groups_referred t))
   backrefs_marked =
       subst (λ k. k.backrefs ≡ ascending (filter (λ n. nat_le n k.total_groups) (groups_referred t))) (sym is_marks)
       (ap (λ l. ascending (filter (λ n. nat_le n (length numbered)) l)) (sym numbers_referred))
 
-  -- and the first above it
+  -- and the first number above the total
   out_of_range_marked : m.out_of_range_backref ≡ find (λ n. nat_lt m.total_groups n) (groups_referred t)
   out_of_range_marked =
       subst (λ k. k.out_of_range_backref ≡ find (λ n. nat_lt k.total_groups n) (groups_referred t)) (sym is_marks)

@@ -1,4 +1,5 @@
--- A tree is small beside its text: so is the raw tree, and resolving adds neither a node nor a level.
+-- The size of a tree is bounded by that of its text: this holds for the raw tree, and resolving adds neither a node nor
+-- a level.
 use Rattle.std.proofs.Common.{ℕ, List, ap, arith, length, chars}
 use Rattle.std.specs.Str.{IsUtf8}
 use Rattle.fancy_lex.proofs.TextLemmas.{bytes_chars}
@@ -13,7 +14,7 @@ use Rattle.fancy_grammar.specs.Marks.{Marks}
 use Rattle.fancy_grammar.proofs.LevelLaws.{resolved_size, resolved_levels}
 use Rattle.fancy_grammar.proofs.ReadLaws.{whole_read}
 
--- an answered tree is small beside its text
+-- the size of a parsed tree is bounded by that of its text
 pub bounded : {f : Flags} {re : List ℕ} {t : Tree} {m : Marks} → IsUtf8 re → IsTreeOf f (chars re) t m →
     IsSmall t (length re)
 bounded {f} {re} {t} u (r, a, none, e, d) =

@@ -27,7 +27,7 @@ use Rattle.fancy_grammar.specs.Tree.{Tree, empty, assertion, literal, concat, al
 use Rattle.fancy_grammar.proofs.ReadBack.DelegateTexts.{other_left, no_other}
 use Rattle.fancy_grammar.proofs.ReadBack.PrintableLaws.{normal_empty}
 
--- whether something is left behind a Delegate, as the code asks it
+-- whether text is left after a Delegate, as the code tests it
 whole_left : (o : Option (ℕ × Bor (List ℕ))) (b : Bool) (r : Tree) (v : Text) → true ≡ is_some (whole_of [] r) →
     is_some o ≡ not b →
     MatchOption o (v ≡ []) (λ p. v ≡ p.0 ∷ chars p.1.now) → b ≡ is_some (whole_of v r)
@@ -88,7 +88,7 @@ module _ (bs : List ℕ) (f : Flags) (is : f ≡ flags_of 0) where
       false ≡ is_some (class_of (unicode_flags false) (backslash ∷ chars bs))
   escape_faulty e h = sym (escape_is _ h)
 
--- the answer where a reading failed, unless memory ran out
+-- the result if a reading failed, unless memory ran out
 pub failed : {A : Type 0} (r : Result Bool AllocError) (error : Failure) (o : Reading A) (x : Bool) →
     IfOk r (λ b. b ≡ false) →
     IfOk r (λ _. error ≡ OutOfMemory → ⊥) → IfFailed error (λ k p. o ≡ fault_at p k) →
@@ -98,7 +98,7 @@ failed (Ok b) (At p k) o x is in_memory f faulty = is ∙ faulty (record { reach
 failed (Ok b) OutOfMemory o x is in_memory f faulty = absurd (in_memory refl)
 failed (Err m) error o x is in_memory f faulty = tt
 
--- a text that begins with neither mark is no class
+-- a text that begins with neither a bracket nor a backslash is no class
 pub none_of_nothing : (bs : List ℕ) → chars bs ≡ [] → false ≡ is_some (class_of (unicode_flags false) (chars bs))
 unfolding class_of
 none_of_nothing bs is = rw is refl
@@ -109,9 +109,9 @@ none_of_others bs r c is other =
     let (a, b) = or_parts _ _ other in
     no_other c (chars r) a b ∙ sym (ap (λ t. is_some (class_of (unicode_flags false) t)) is)
 
--- ---- what the code tells of a variant
+-- ---- what the code returns for a variant
 
--- the printable Delegates, as the code tells them
+-- the printable Delegates, as the code determines them
 pub delegate_told : (r : Result Bool AllocError) (s : Text) (casei : Bool) (e : Tree) → all_scalars s ≡ true →
     IfOk r (λ b. b ≡ is_some (class_of (unicode_flags false) s)) → e ≡ delegate s casei → IfOk r (λ b. b ≡ printable e)
 delegate_told (Ok b) s casei e scalars is seen = is ∙ rw (seen, scalars) refl

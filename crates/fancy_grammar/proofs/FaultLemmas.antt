@@ -1,4 +1,4 @@
--- The messages of faults, as lists of characters.
+-- The messages of errors, as lists of characters.
 use Rattle.std.proofs.Common.{ℕ}
 use Rattle.std.specs.Str.{chars}
 use Rattle.fancy_lex.specs.Fault.{general_parse_error}

@@ -22,7 +22,7 @@ found_all named s (opening o ∷ l) =
     found_all named (with_opening named s o) l ∙ found_step named s o l (is_counted named o.name) refl
 found_all named s (reference r p ∷ l) = found_all named s l
 
--- what a walk from nothing finds
+-- what a walk over all items finds
 pub start_total : (named : Bool) (s f : Groups) (l : List Item) → s ≡ no_groups → f ≡ groups_after named s l →
     f.total ≡ length (numbered_openings_in named (openings_in l))
 start_total named s f l z e =
@@ -41,7 +41,7 @@ any_step : (o : Opening) (l : List Opening) (b : Bool) → is_some o.name ≡ b 
 any_step o l true e h = rw e (grind arith)
 any_step o l false e h = rw e h
 
--- some group has a name where one is counted by its name
+-- some group has a name if a group is counted by its name
 pub any_named : (l : List Opening) → list_any is_named l ≡ nat_lt 0 (length (numbered_openings_in true l))
 any_named [] = refl
 any_named (o ∷ l) = any_step o l (is_some o.name) refl (any_named l)

@@ -1,4 +1,4 @@
--- Where the walk that writes a tree's text comes to.
+-- Where a tree is written, in the walk that writes its text.
 use Rattle.std.proofs.Common.{◌≡◌, ◌+◌, Bool, true, false, if◌then◌else◌, arith}
 use Rattle.fancy_lex.specs.declared.flags.Flags.{Flags}
 use Rattle.fancy_grammar.specs.Label.{concat, alt}
@@ -9,7 +9,7 @@ use Rattle.fancy_grammar.specs.Tree.{Tree, leaf, over, row, Trees, no_trees, mor
 use Rattle.fancy_grammar.specs.declared.precedence.Precedence.{Precedence}
 use Rattle.fancy_grammar.specs.declared.precedence.Precedence.TheVariants.{Piece, Branch}
 
--- ---- behind trees, one after another
+-- ---- after trees, one after another
 
 pub behind_none : (p : Precedence) (h : Here) → behind_all no_trees p h ≡ h
 behind_none p h =
@@ -23,7 +23,7 @@ behind_next t ts p h =
     = omega arith in
     λ i. record { flags = flags_behind_all ts p (flags_behind t p h.flags); opened = same i; depth = h.depth }
 
--- ---- the mode stays
+-- ---- the mode does not change
 
 abbrev IsMode : Bool → Flags → Type 0
 IsMode o f = f.oniguruma_mode ≡ o

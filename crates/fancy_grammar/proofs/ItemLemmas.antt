@@ -1,4 +1,4 @@
--- The openings among items, one part behind another, and how many of them have a number.
+-- The openings among items, one part after another, and how many of them have a number.
 use Rattle.std.proofs.Common.{◌≡◌, ℕ, ◌+◌, Bool, true, false, if◌then◌else◌, List, [], ◌∷◌, ◌++◌, length, length-append}
 use Rattle.std.proofs.Common.{refl, ap, ◌∙◌, arith}
 use Rattle.fancy_parts.specs.Ranks.{Opening, is_counted, numbered_openings_in}

@@ -1,4 +1,4 @@
--- Resolving takes nodes away, and adds neither a node nor a level.
+-- Resolving removes nodes, and adds neither a node nor a level.
 use Rattle.std.proofs.Common.{◌≡◌, ℕ, suc, ◌+◌, ◌≤◌, Bool, List, [], ◌∷◌, length, length-append, Some, None}
 use Rattle.std.proofs.Common.{refl, ap, arith}
 use Rattle.std.proofs.lemmas.Bool.{cond_both}

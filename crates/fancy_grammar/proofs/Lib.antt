@@ -18,7 +18,7 @@ pub mod TreeLaws
 pub mod AheadLaws
 pub mod ReadLaws
 pub mod BoundLaws
--- ---- where the nodes stand
+-- ---- the spans of nodes
 pub mod SpansLemmas
 pub mod SpansQuant
 pub mod SpansCondition
@@ -30,11 +30,11 @@ pub mod NamedNumbers
 pub mod FoundLaws
 pub mod NoteLaws
 pub mod AnswerLaws
--- ---- printing, and what a printed text reads as
+-- ---- printing, and how a printed text reads
 pub mod PrintableLemmas
 pub mod ReadBack
 pub mod DelegateLemmas
--- ---- the one answer of a text, and what is true of it
+-- ---- the one result of a text, and what is true of it
 pub mod Verdict
 pub mod SpansAnswer
 pub mod AnsweredLaws

@@ -1,4 +1,4 @@
--- The numbers of a name ascend, and they are those of the groups that carry it.
+-- The numbers of a name ascend, and they are those of the groups with that name.
 use Rattle.std.proofs.Common.{◌≡◌, ℕ, zero, suc, ◌+◌, ◌<◌, ◌≤◌, ◌==◌, Bool, true, false, if◌then◌else◌, List, [], ◌∷◌}
 use Rattle.std.proofs.Common.{length, Option, Some, None, map, filter_map, refl, subst, arith}
 use Rattle.std.proofs.lemmas.Bool.Decides.{nat_tests}
@@ -32,7 +32,7 @@ ascend_from n w (o ∷ l) = by_test (is_name w o.name)
       by_test true h = (omega arith, omega arith, h)
       by_test false h = ascend_below n (n + 1) (n + suc (length l)) (numbers_from (n + 1) w l) (omega arith) h
 
--- ---- a name has some
+-- ---- each name has a number
 
 -- the name of one of the groups
 abbrev Carried : List Opening → Text → Type 0
@@ -85,9 +85,9 @@ named_ascend l = each (names l) (fold_all (Carried l) [] (filter_map (λ o. o.na
     ascend w = let same : 0 + length l ≡ length l = omega arith in
         subst (λ m. AscendingNumbers 0 m (numbers w l)) same (ascend_from 0 w l)
 
--- ---- and are those of its groups
+-- ---- they are those of its groups
 
--- whether the group carries the name
+-- whether the group has the name
 abbrev pub carries : Text → Option Opening → Bool
 carries w None = false
 carries w (Some o) = is_name w o.name
@@ -124,7 +124,7 @@ number_from n (suc k) w (o ∷ l) = by_test (is_name w o.name) (number_from (n +
       by true e = let other : (n + 1 == n + suc (suc k)) ≡ false = grind (arith, nat_tests) in rw (other, e) refl
       by false e = e
 
--- k + 1 is a number of the name where the group behind the first k carries it
+-- k + 1 is a number of the name exactly if the group after the first k has the name
 pub number_carried : (w : Text) (k : ℕ) (l : List Opening) →
     list_any (λ j. j == suc k) (numbers w l) ≡ carries w (slice_get l k)
 number_carried w k l =

@@ -1,4 +1,4 @@
--- What several trees need of the flags, one after another.
+-- Which flags several trees require, one after another.
 use Rattle.std.proofs.Common.{◌≡◌, Bool, true, false, ◌∷◌, ◌++◌}
 use Rattle.std.proofs.Common.{refl, ap, sym, ◌∙◌, append-nil}
 use Rattle.std.specs.List.{flat_map}
@@ -12,7 +12,7 @@ use Rattle.fancy_grammar.specs.declared.needs.Needs.{Needs}
 
 -- ---- needs, one after another
 
--- needs are joined from either side, and nothing changes none
+-- joining is associative, and `Free` is its identity
 pub record IsJoin (join : Need → Need → Need) : Type 0 where
   pub assoc : (a b c : Need) → join (join a b) c ≡ join a (join b c)
   pub before : (a : Need) → join Free a ≡ a
@@ -110,7 +110,7 @@ module _ (join : Need → Need → Need) (j : IsJoin join) where
     crlf = j.behind n.crlf i;
   }
 
-  -- a node needs what it needs itself, and what its children need
+  -- a node requires what it requires itself, and what its children require
   pub needs_node : (o : Bool) (t : Tree) →
       needs join o t ≡ joined join (needs_alone o t) (needs_all join o (trees_of (children t)))
   needs_node o (leaf l) = sym (joined-behind (leaf_needs o l))
@@ -118,7 +118,7 @@ module _ (join : Need → Need → Need) (j : IsJoin join) where
   needs_node o (over w t) = sym (joined-before (joined join (needs join o t) no_needs) ∙ joined-behind (needs join o t))
   needs_node o (row r ts) = sym (joined-before _ ∙ ap (needs_all join o) (listed ts))
 
-  -- one child more is joined to what stands before it
+  -- one more child is joined to the children before it
   pub needs_next : (o : Bool) (n : Needs) (t : Tree) (ts : Trees) →
       joined join n (needs_all join o (more_trees t ts))
       ≡ joined join (joined join n (needs join o t)) (needs_all join o ts)
@@ -130,7 +130,7 @@ tables_listed : (o : Bool) (ts : Trees) → all_listed o ts ≡ flat_map (needs_
 tables_listed o no_trees = refl
 tables_listed o (more_trees t ts) = ap (λ l. needs_listed o t ++ l) (tables_listed o ts)
 
--- a node's row, and behind it those of its children
+-- the row of a node, followed by those of its children
 pub table_node : (o : Bool) (t : Tree) →
     needs_listed o t ≡ needs first o t ∷ flat_map (needs_listed o) (children t)
 table_node o (leaf l) = refl

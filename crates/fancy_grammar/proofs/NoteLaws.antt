@@ -1,4 +1,4 @@
--- What the walk notes is what the marks say of the references.
+-- What the walk records is the group information of the references.
 use Rattle.std.proofs.Common.{◌≡◌, ℕ, Bool, true, false, ◌||◌, nat_le, nat_lt, List, [], ◌∷◌, Option, Some, None, refl}
 use Rattle.std.proofs.Common.{sym, ap, ◌∙◌, arith, if◌then◌else◌}
 use Rattle.std.specs.Prelude.{fold, find, filter}
@@ -19,7 +19,7 @@ use Rattle.fancy_grammar.specs.Walk.{Known, Progress, progress_after, note_item,
 abbrev numbers_of : Known → Text → List ℕ
 numbers_of k = numbers_under k.groups.names
 
--- the references among the items, each with what it means to the walk
+-- the references among the items, each with its meaning to the walk
 abbrev meant : Known → Progress → List Item → List (AstReference × ℕ × Meaning)
 meant k s l = meanings_in k.named (numbers_of k) s.passed l
 

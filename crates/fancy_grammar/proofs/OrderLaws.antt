@@ -1,4 +1,4 @@
--- What follows where the reaches of items descend, and where the first fault stands.
+-- What follows if the reaches of items descend, and where the first error is.
 use Rattle.std.proofs.Common.{◌≡◌, ℕ, ◌+◌, ◌≤◌, Option, Some, Bool, List, [], ◌∷◌, length, subst, arith, if◌then◌else◌}
 use Rattle.std.specs.List.{AllByRecursion}
 use Rattle.fancy_lex.specs.Fault.{Fault}
@@ -19,7 +19,7 @@ openings_fit high low [] a = omega (arith, a)
 openings_fit high low (opening o ∷ l) a = omega (arith, a.0, openings_fit o.reach low l a.1)
 openings_fit high low (reference r reach ∷ l) a = omega (arith, a.0, openings_fit reach low l a.1)
 
--- the first fault stands at a reference
+-- the first error is at a reference
 fault_here : (P : ℕ → Type 0) (m : Meaning) (reach : ℕ) (other : Option Fault) (x : Fault) → P reach →
     (other ≡ Some x → P x.reach) → fault_or m reach other ≡ Some x → P x.reach
 fault_here P (number n) reach other x h i e = i e

@@ -1,4 +1,4 @@
--- How what a part comes to is what the whole comes to.
+-- How facts about the outcome of a part carry over to the whole.
 use Rattle.std.proofs.Common.{◌≡◌, ℕ, Bool, true, false, if◌then◌else◌, List, [], ◌∷◌, ◌++◌, Some, refl, ap, subst}
 use Rattle.std.proofs.Common.{append_assoc}
 use Rattle.std.specs.List.{AllByRecursion}
@@ -24,18 +24,18 @@ then_keeps : (P : Outcome Tree → Type 0) →
 then_keeps P g f (done r t) h = g r t f h
 then_keeps P g f (fault k p) h = h
 
--- what was read is so, where it ends
+-- P holds of what was read and of the state after it
 abbrev pub Holds : {A : Type 0} → (A → State → Type 0) → Outcome A → Type 0
 Holds P (done a s) = P a s
 Holds P (fault k p) = Unit {0}
 
--- one part behind another
+-- one part after another
 pub then_holds : {A B : Type 0} (P : A → State → Type 0) (Q : B → State → Type 0) (q : Outcome A)
     (f : A → State → Outcome B) → Holds P q → ((a : A) (s : State) → P a s → Holds Q (f a s)) → Holds Q (and_then q f)
 then_holds P Q (done a s) f h g = g a s h
 then_holds P Q (fault k p) f h g = tt
 
--- what says nothing of the flags behind an atom holds whatever they are
+-- what does not depend on the flags after an atom holds whatever they are
 pub behind_keeps : (P : Outcome Tree → Type 0) →
     ((r : Tree) (t : State) (f : Flags) → P (done r t) → P (done r (record t { flags = f }))) →
     (k : Ahead) (f : Flags) (q : Outcome Tree) → P q → P (behind_atom k f q)
@@ -61,7 +61,7 @@ pub at_done : {A : Type 0} (P : Outcome A → Type 0) {a b : A} {s t : State} �
     P (done b t)
 at_done P e f h = rw (e, f) h
 
--- the trees so far, before those that follow
+-- the trees so far, before the ones that follow
 abbrev pub trees_before : List Tree → Outcome (List Tree) → Outcome (List Tree)
 trees_before l = seen_through (l ++◌)
 
@@ -83,13 +83,13 @@ solid-append (r ∷ l) m = by_test (is_empty r) (solid-append l m)
     by_test true h = h
     by_test false h = ap (λ x. r ∷ x) h
 
--- what holds of each in two lists holds of each in both
+-- what holds of each element of two lists holds of each element of both together
 pub each_append : {A : Type 0} (P : A → Type 0) (l m : List A) → AllByRecursion P l → AllByRecursion P m →
     AllByRecursion P (l ++ m)
 each_append P [] m h k = k
 each_append P (t ∷ l) m h k = (h.0, each_append P l m h.1 k)
 
--- what holds of each of some trees holds of each that is not Empty
+-- what holds of each of some trees holds of each of those that are not Empty
 module _ (P : Tree → Type 0) where
   each_if : (b : Bool) (t : Tree) (l : List Tree) → P t → AllByRecursion P l →
       AllByRecursion P (if b then l else t ∷ l)
@@ -110,7 +110,7 @@ pub next_any : {d : ℕ} {s t : State} {r : Tree} (o : Outcome (List Tree)) → 
     Pieces d s (trees_before (r ∷ []) o)
 next_any o e a m = next e a m
 
--- a piece that comes to this under its quantifiers
+-- a piece with this outcome under its quantifiers
 pub piece_as : {d : ℕ} {s : State} {u : Text} {q o : Outcome Tree} → skipped s ≡ rest u → Atom d (at s u) q →
     and_then q (quants d (bytes s.rest)) ≡ o → Piece d s o
 piece_as {d} {s} l a e = subst (Piece d s) e (piece l a)

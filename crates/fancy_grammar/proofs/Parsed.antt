@@ -1,6 +1,7 @@
--- What is true of each tree that is parsed, by the clauses of `IsWritable`; in reading order, the join stands last.
+-- What is true of each parsed tree, by the clauses of `IsWritable`; the modules are in reading order, and `Join` is
+-- last.
 
--- ---- the marks
+-- ---- the group information
 pub mod Lists
 pub mod Told
 pub mod Marks

@@ -1,6 +1,6 @@
--- The text of a tree reads back, in reading order: the theorem stands last.
+-- The text of a tree reads back; the modules are in reading order, and the theorem is last.
 
--- ---- what a raw tree becomes where references are resolved
+-- ---- what a raw tree becomes when its references are resolved
 pub mod Unplaced
 pub mod Becomes
 -- ---- what the rules read, under flags that change along the text

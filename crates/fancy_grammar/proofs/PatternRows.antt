@@ -33,7 +33,7 @@ use Rattle.ucd_derived.specs.AlphabeticRanges.{alphabetic_ranges}
 use Rattle.ucd_derived.specs.Binary.{is_alphabetic}
 use Rattle.ucd_table.specs.Rows.{in_ranges, value_in}
 
--- the text of a tree that was read under these flags and has these marks
+-- the text of a tree that was parsed under these flags and has this group information
 record Row : Type 0 where
   text : Text
   flags : Flags
@@ -49,7 +49,7 @@ texts = map (λ r. pattern_text r.flags r.tree r.marks)
 abbrev wanted : List Row → List Text
 wanted = map (λ r. r.text)
 
--- ---- flags, marks and trees in short
+-- ---- short forms for flags, group information and trees
 
 abbrev oniguruma : Flags
 oniguruma = record unicode_alone { oniguruma_mode = true }
@@ -57,8 +57,8 @@ oniguruma = record unicode_alone { oniguruma_mode = true }
 abbrev names_alone : Flags
 names_alone = record unicode_alone { ignore_numbered_groups = true }
 
--- what the text asks of the marks: the names, whether some reference is written as a number, and whether one is a call
--- of 0
+-- what the text needs of the group information: the names, whether some reference is written with a number, and whether
+-- one is a call of 0
 abbrev told : List (Text × List ℕ) → Bool → Bool → Marks
 told names numeric self_recursive = record {
   backrefs = [];
@@ -95,7 +95,7 @@ caseless_class s = delegate (codes s) true
 abbrev seq : List Tree → Tree
 seq ts = concat (trees_of ts)
 
--- a character for each of the text
+-- one character for each in the text
 abbrev word : String → Tree
 word s = seq (map (λ c. literal (c ∷ []) false) (codes s))
 
@@ -235,7 +235,7 @@ unfolding pattern_text source_from digits range mark begins_target is_relative n
     general_category_rows
 references_written = refl
 
--- ---- groups, conditionals, and what a group without a number leaves
+-- ---- groups, conditionals, and what remains of a group without a number
 
 abbrev heads : List Row
 heads =

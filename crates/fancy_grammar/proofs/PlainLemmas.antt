@@ -1,4 +1,4 @@
--- Behind a plain character stands no quantifier, and before it no layout.
+-- No quantifier comes after a plain character, and no layout before it.
 use Rattle.std.proofs.Common.{◌≡◌, if◌then◌else◌, zero, suc, ℕ, Bool, true, false, ◌==◌, [], ◌∷◌, None, refl, sym}
 use Rattle.std.proofs.Common.{subst, ◌∙◌, ap, arith, tests, rules}
 use Rattle.std.proofs.lemmas.Bool.Decides.{nat_tests}
@@ -17,7 +17,7 @@ use Rattle.fancy_grammar.specs.Quantified.{quant, quants, adjacent, max_adjacent
 use Rattle.fancy_grammar.specs.State.{ends, State, at, Outcome, done, and_then}
 use Rattle.fancy_grammar.specs.Tree.{Tree, literal}
 
--- a state is where it is
+-- a state is unmoved from itself
 pub unmoved : (s : State) → is_unmoved s s ≡ true
 unmoved s = search (tests, rules)
 
@@ -74,7 +74,7 @@ unfolding adjacent
 no_adjacent zero d a s e = rw (e (bytes s.rest), unmoved s) refl
 no_adjacent (suc k) d a s e = rw (e (bytes s.rest), unmoved s) refl
 
--- where one quantifier does not follow, none does
+-- if the first quantifier does not follow, none does
 no_quants : (d left : ℕ) (a : Tree) (s : State) → ((l : ℕ) → quant l a s ≡ done a s) →
     quants d left a s ≡ done a s
 no_quants d left a s e =

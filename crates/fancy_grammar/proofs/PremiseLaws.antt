@@ -1,4 +1,4 @@
--- The functions that go round in the grammar's premises are the relations.
+-- The functions that loop in the grammar's premises agree with the relations.
 use Rattle.std.proofs.Common.{subst}
 use Rattle.fancy_lex.proofs.BoundaryRelation.{boundary_reads, boundary_is}
 use Rattle.fancy_lex.proofs.ClassLaws.{class_is, class_reads}

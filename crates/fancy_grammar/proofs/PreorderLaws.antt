@@ -22,7 +22,7 @@ items_at (leaf l) = referred_by l
 items_at (over w t) = opened_by w
 items_at (row r ts) = []
 
--- those of each, one after another
+-- the items of each, one after another
 abbrev pub items_of_all : List Tree → List Item
 items_of_all [] = []
 items_of_all (t ∷ l) = items_at t ++ items_of_all l
@@ -44,8 +44,8 @@ mutual
 
 -- ---- the nodes that resolving keeps
 
--- the node of a reference stands alone, is no group, is a call where the reference is one, and refers to a group where
--- that is a back reference
+-- the node of a reference has no children and is no group; it is a call if the reference is one, and refers to a group
+-- if the reference is a back reference
 pub record IsNodeOf (role : Role) (m : Meaning) (node : Tree) : Type 0 where
   pub alone : preorder node ≡ node ∷ []
   pub no_group : is_group node ≡ false
@@ -70,14 +70,14 @@ module _ (z : ℕ) (named : Bool) (numbers_of : Text → List ℕ) where
   abbrev there : ℕ → Tree → Tree
   there = resolved_in z named numbers_of
 
-  -- what is left of nodes, resolved, where c groups with a number open before them
+  -- the nodes that remain, resolved, if c groups with a number open before them
   abbrev pub kept : ℕ → List Tree → List Tree
   kept c [] = []
   kept c (ast_group name place t ∷ l) =
       if is_counted named name then group (there (c + 1) t) ∷ kept (c + 1) l else kept c l
   kept c (t ∷ l) = there c t ∷ kept c l
 
-  -- behind a capturing group with this inside, which stays where it has a number
+  -- after a capturing group with these contents, which remains if it has a number
   abbrev pub kept_if : Bool → ℕ → Tree → List Tree → List Tree
   kept_if b c t l = if b then group (there (c + 1) t) ∷ kept (c + 1) l else kept c l
 

@@ -72,7 +72,7 @@ one_solid : (b : Bool) (n : Tree) → is_empty n ≡ b → list_all is_empty (if
 one_solid true n e = refl
 one_solid false n e = rw e refl
 
--- what a tree is among the pieces of a sequence is all Empty where the tree is
+-- the pieces that come from a tree in a sequence are all Empty exactly if its normal form is
 pub pieces_empty : (u : Bool) (t : Tree) → list_all is_empty (pieces_of t (normal u t)) ≡ is_empty (normal u t)
 pieces_empty u (literal s false) = sym (join_empty (map (normal_character false) s))
 pieces_empty u t = one_solid (is_empty (normal u t)) (normal u t) refl

@@ -1,4 +1,4 @@
--- One reading of an adjacent quantifier.
+-- How one adjacent quantifier is read.
 use Rattle.std.proofs.Common.{◌≡◌, ◌≢◌, ◌<◌, ℕ, zero, suc, ◌+◌, true, false, true≢false, ◌==◌, refl, sym, subst, arith}
 use Rattle.std.proofs.Common.{tests, rules}
 use Rattle.std.proofs.lemmas.Bool.Decides.{nat_tests}
@@ -9,14 +9,14 @@ use Rattle.fancy_grammar.specs.Quantified.{quant, adjacent, may_count, is_unmove
 use Rattle.fancy_grammar.specs.State.{State, Outcome, done, fault}
 use Rattle.fancy_grammar.specs.Tree.{Tree}
 
--- a fault
+-- an error
 pub adjacent_fault : (k d : ℕ) (a : Tree) (s : State) {j : Kind} {p : ℕ} → quant (bytes s.rest) a s ≡ fault j p →
     adjacent k d a s ≡ fault j p
 unfolding adjacent
 adjacent_fault zero d a s e = rw e refl
 adjacent_fault (suc k) d a s e = rw e refl
 
--- no byte more
+-- no byte was read
 pub adjacent_ends : (k d : ℕ) (a : Tree) (s : State) {b : Tree} {t : State} → quant (bytes s.rest) a s ≡ done b t →
     is_unmoved s t ≡ true →
     adjacent k d a s ≡ done b t
@@ -24,7 +24,7 @@ unfolding adjacent
 adjacent_ends zero d a s e u = rw (e, u) refl
 adjacent_ends (suc k) d a s e u = rw (e, u) refl
 
--- one too many
+-- one quantifier too many
 pub adjacent_stops : (k d : ℕ) (a : Tree) (s : State) {b : Tree} {t : State} → quant (bytes s.rest) a s ≡ done b t →
     is_unmoved s t ≡ false →
     may_count k d ≡ false → adjacent k d a s ≡ fault recursion_exceeded (reach_of t.rest)
@@ -32,7 +32,7 @@ unfolding adjacent
 adjacent_stops zero d a s e u c = rw (e, u) refl
 adjacent_stops (suc k) d a s e u c = rw (e, u, c) refl
 
--- one more
+-- one more quantifier
 pub adjacent_counts : (k j d : ℕ) (a : Tree) (s : State) {b : Tree} {t : State} →
     quant (bytes s.rest) a s ≡ done b t → is_unmoved s t ≡ false →
     may_count k d ≡ true → k ≡ j + 1 → adjacent k d a s ≡ adjacent j (d + 1) b t
@@ -50,7 +50,7 @@ unmoved_is m l k e i = search (tests, rules)
 pub moved_is : (m l k j : ℕ) → m ≡ k → l ≡ j → k ≢ j → (m == l) ≡ false
 moved_is m l k j e i h = search (tests, rules)
 
--- the same reading, where the number of bytes left is known otherwise
+-- the same reading, if the number of bytes left is known
 pub from_start : (left : ℕ) (a : Tree) (s : State) (o : Outcome Tree) → left ≡ bytes s.rest → quant left a s ≡ o →
     quant (bytes s.rest) a s ≡ o
 from_start left a s o i e = subst (λ m. quant m a s ≡ o) i e

@@ -1,4 +1,4 @@
--- Whether a text is read as a tree hangs on one reading of it.
+-- Whether a text is read as a tree is decided by one reading of it.
 use Rattle.std.proofs.Common.{◌≡◌, ℕ, true, false, refl, ap, ◌∙◌}
 use Rattle.fancy_lex.specs.Fault.{Kind}
 use Rattle.fancy_lex.specs.Text.{Text}
@@ -18,20 +18,20 @@ pub read_as : (f : Flags) (text : Text) (u t : Tree) (m : Marks) → IsTreeOf f 
     IsReadAs f text t m
 read_as f text u t m a same = (u, only_read f text u m a, same)
 
--- where the text is read as this tree, the tree that it has differs from it in no more than places, and the marks are
--- the same
+-- if the text is read as this tree, the tree that it has differs from it only in positions, and the group information
+-- is the same
 pub read_as_only : (f : Flags) (text : Text) (u t : Tree) (k m : Marks) → IsTreeOf f text u k →
     IsReadAs f text t m → (unplaced u ≡ unplaced t) × (k ≡ m)
 read_as_only f text u t k m a (v, is, same) =
     let (e, d) = only_tree f text v u m k is.is a in (ap unplaced e ∙ same, d)
 
--- ---- a text that has a fault
+-- ---- a text that has an error
 
 pub faulty_not_read : (f : Flags) (text : Text) (t : Tree) (m : Marks) (k : Kind) (p : ℕ) → IsFaultOf f text k p →
     IsReadAs f text t m → ⊥
 faulty_not_read f text t m k p b (u, is, same) = no_fault f text u m k p is.is b
 
--- ---- a tree with its places, and without
+-- ---- a tree with its positions, and without them
 
 leaf_kept : (l : Leaf) → leaf_placed true l ≡ l
 leaf_kept (label.ast_node r place) = refl

@@ -1,6 +1,6 @@
--- What is printed reads back, in reading order: the theorem stands last.
+-- What is printed reads back; the modules are in reading order, and the theorem is last.
 
--- ---- what is printed, in front of a text
+-- ---- what is printed, before a text
 pub mod InFront
 pub mod ScalarLemmas
 -- ---- what the rules read there
@@ -9,7 +9,7 @@ pub mod CountTexts
 pub mod RuleLemmas
 pub mod LeafLemmas
 pub mod ShapeLemmas
--- ---- Delegates: classes and escapes as they are rewritten
+-- ---- Delegates: classes and escapes as the reader rewrites them
 pub mod ClassChunks
 pub mod ChunkLemmas
 pub mod CarriedLaws

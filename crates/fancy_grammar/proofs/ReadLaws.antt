@@ -1,5 +1,5 @@
--- What is true of all that is read: where it stands, what its nodes are, and how large it is. By one induction on the
--- derivation; what stands ahead decides the rule of an atom.
+-- What is true of everything that is read: where it is, which nodes it has, and how large it is. By one induction on
+-- the derivation; the start of an atom decides which rule applies.
 use Rattle.std.proofs.Common.{◌≡◌, ℕ, zero, suc, ◌+◌, ◌<◌, ◌≤◌, ◌∷◌, [], ◌++◌, List, refl, sym, ap, ◌∙◌, subst, arith}
 use Rattle.std.proofs.Common.{Bool, true, false, Option, Some, None, append-nil, length, ◌*◌, ◌-◌}
 use Rattle.std.specs.Prelude.{◌==◌, not, nat_lt, IfSome, ◌&&◌}
@@ -86,18 +86,18 @@ suffix_reads w c = by_layout (skipped w) (layout_slice w.flags.ignore_space w.re
         (behind_mark false t i)
     by_layout (open_comment p) i = i
 
--- a quantifier has a byte at least for each level that it adds, and for each two nodes; it adds two levels at most
+-- a quantifier has at least one byte for each level that it adds, and for each two nodes; it adds at most two levels
 abbrev Grows : Tree → State → Tree → State → Type 0
 Grows a s b t =
     (weight b + 2 * bytes t.rest ≤ weight a + 2 * bytes s.rest)
     × (levels b + 2 * bytes t.rest ≤ levels a + 2 * bytes s.rest)
     × (levels b ≤ levels a + 2)
 
--- so many of them
+-- the same for this many quantifiers
 abbrev GrowsBy : ℕ → Tree → State → Tree → State → Type 0
 GrowsBy k a s b t = (weight b + 2 * bytes t.rest ≤ weight a + 2 * bytes s.rest) × (levels b ≤ levels a + 2 * k)
 
--- of a tree that is read from s up to t
+-- for a tree that is read from s up to t
 quant_read : (left : ℕ) (a : Tree) (s t : State) → ItemSpan (items a) s.rest t.rest → IsRead a →
     Reads (Part (Grows a t) s) s (quant left a t)
 unfolding quant
@@ -165,7 +165,7 @@ adjacent_read (suc k) d a s t h n =
     (omega (arith, i.size.0, j.0), omega (arith, i.size.2, j.1))) (more b s v i.span i.read))
     (λ _. stands_at i.span.slice)))
 
--- one, and four adjacent to it
+-- one quantifier, and four adjacent to it
 quants_read : (d left : ℕ) (a : Tree) (s t : State) → ItemSpan (items a) s.rest t.rest → IsRead a →
     Reads (Part (GrowsBy 5 a t) s) s (quants d left a t)
 quants_read d left a s t h n =
@@ -177,8 +177,9 @@ quants_read d left a s t h n =
     (adjacent_read max_adjacent d b s v i.span i.read))
     (λ _. record { span = i.span; read = i.read; size = (i.size.0, omega (arith, i.size.2)) }))
 
--- ---- the bounds of each part, which is read from s at depth d and ends at t; its levels are max_levels, less those of
--- each depth: of these an Alt takes one and a Concat one, the quantifiers of a piece ten, and a group one
+-- ---- the bounds of each part, which is read from s at depth d and ends at t; its levels are at most max_levels
+-- without those of each depth: of these an Alt takes one and a Concat one, the quantifiers of a piece ten, and a group
+-- one
 
 abbrev branch_levels : ℕ
 branch_levels = max_levels - 1
@@ -192,33 +193,33 @@ atom_levels = piece_levels - 10
 abbrev inside_levels : ℕ
 inside_levels = atom_levels - 1
 
--- of an atom, and of one with its quantifiers: an Empty may take no byte
+-- for an atom, with and without its quantifiers; an Empty may read no byte
 abbrev Fits : ℕ → ℕ → State → Tree → State → Type 0
 Fits high d s r t =
     d < max_depth → (weight r + 2 * bytes t.rest ≤ 2 * bytes s.rest) × (levels r + levels_at_depth * d ≤ high)
 
--- of pieces
+-- for pieces
 abbrev PiecesFit : ℕ → State → List Tree → State → Type 0
 PiecesFit d s l t =
     d < max_depth → (weights l + 2 * bytes t.rest ≤ 2 * bytes s.rest) × (widest l + levels_at_depth * d ≤ piece_levels)
 
--- of a branch, and of an alternation
+-- for a branch, and for an alternation
 abbrev Fills : ℕ → ℕ → State → Tree → State → Type 0
 Fills high d s r t =
     d < max_depth → (nodes r + 2 * bytes t.rest ≤ 2 * bytes s.rest + 1) × (levels r + levels_at_depth * d ≤ high)
 
--- of branches: each may have a node more than twice its bytes, and the bars make up for all but one of them
+-- for branches: each may have one node more than twice its bytes, and the bars make up for all but one of these
 abbrev BranchesFit : ℕ → State → List Tree → State → Type 0
 BranchesFit d s l t =
     d < max_depth →
     (sizes l + length l + 2 * bytes t.rest ≤ 2 * bytes s.rest + 2) × (widest l + levels_at_depth * d ≤ branch_levels) × (1 ≤ length l)
 
--- of the inside of a group
+-- for the contents of a group
 abbrev InsideFits : ℕ → State → Tree → State → Type 0
 InsideFits d s r t =
     d + 1 < max_depth → (nodes r + 1 + 2 * bytes t.rest ≤ 2 * bytes s.rest) × (levels r + levels_at_depth * d ≤ inside_levels)
 
--- of a condition, behind which its body begins
+-- for a condition, after which its body begins
 abbrev ConditionFits : ℕ → State → Tree → State → Type 0
 ConditionFits d s c t =
     d + 1 < max_depth → (nodes c + 2 + 2 * bytes t.rest ≤ 2 * bytes s.rest) × (levels c + levels_at_depth * d ≤ inside_levels)
@@ -245,7 +246,7 @@ IsAlternation d s = Part (Fills max_levels d s) s
 abbrev IsInside : ℕ → State → Tree → State → Type 0
 IsInside d s = Part (InsideFits d s) s
 
--- ---- what a part comes to behind its last one
+-- ---- the end of a part, and its outcome
 
 closed_reads : (P : Tree → State → Type 0) (s t : State) (r : Tree) → Slice s.rest t.rest →
     ((u : State) → Slice t.rest u.rest → bytes u.rest + 1 ≤ bytes t.rest → P r u) → Reads P s (closed r t)
@@ -258,7 +259,7 @@ closed_reads P s t r h k = by_text t.rest refl
         (λ _. k (at t u) (record { word = c ∷ []; cut = e }) (omega (arith, ap bytes e, one_bytes c u)))
         (λ _. stands_at h)
 
--- a capturing group's opening stands before its inside
+-- the opening of a capturing group comes before its contents
 node_span : (h : Head) (s t : State) (r : Tree) (v : Text) → Past s t.rest → ItemSpan (items r) t.rest v →
     ItemSpan (items (group_node h (reach_of s.rest) r)) s.rest v
 node_span (capture name) s t r v a b = opened name a b
@@ -449,17 +450,17 @@ whole_read (whole {f} {text} {q} a) =
 pub derived_read : {f : Flags} {text : Text} {r : Tree} {t : State} → Whole f text (done r t) → IsRead r
 derived_read a = (whole_read a).read
 
--- a fault stands where an end of the text begins, or one past its end
+-- an error is where a suffix of the text begins, or one past the end
 pub fault_stands : {f : Flags} {text : Text} {k : Kind} {p : ℕ} → Whole f text (fault k p) →
     MayStand text p
 fault_stands a = whole_read a
 
--- so do the groups and references
+-- so are the groups and references
 pub items_stand : {f : Flags} {text : Text} {r : Tree} {t : State} → Whole f text (done r t) →
     AllByRecursion (λ i. MayStand text (reach_of_item i)) (items r)
 items_stand a = (whole_read a).span.stand
 
--- the groups and references of a text stand in text order, before its end
+-- the groups and references of a text are in text order, before its end
 pub ordered_within : {f : Flags} {text : Text} {r : Tree} {t : State} → Whole f text (done r t) →
     DescendingReaches (bytes text + 2) 2 (items r)
 ordered_within {text} {r} {t} a =

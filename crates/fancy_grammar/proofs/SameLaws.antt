@@ -1,4 +1,4 @@
--- Two trees are the same exactly where they are equal.
+-- Two trees are the same exactly if they are equal.
 use Rattle.std.proofs.Common.{◌≡◌, ℤ, Bool, true, false, ◌&&◌, Option, Some, None, refl}
 use Rattle.std.specs.Bool.{Decides}
 use Rattle.std.specs.Cmp.{IsEquivalence, decided, booleans_Decides, unsigned_Decides, signed_Decides}
@@ -27,7 +27,7 @@ use Rattle.fancy_grammar.specs.Label.{repeat, atomic_group, define_group, repeat
 use Rattle.fancy_grammar.specs.Label.{concat, alt, AstReference, ast_backref, ast_call, ast_condition}
 use Rattle.fancy_grammar.specs.Tree.{Tree, leaf, over, row, Trees, no_trees, more_trees}
 
--- ---- rows: what is the same alone, what never is, one field, and two
+-- ---- rows: nodes that are always the same, that never are, with one field, and with two
 
 always : {A : Type 0} {x : A} → Decides true (x ≡ x)
 always = (λ h. refl, λ h. refl)

@@ -1,4 +1,4 @@
--- What is read is a slice of the text, in which groups and references stand one behind another.
+-- What is read is a slice of the text, and the groups and references in it are in text order.
 use Rattle.std.proofs.Common.{◌≡◌, ℕ, ◌+◌, ◌≤◌, ◌∷◌, [], ◌++◌, List, refl, sym, ap, ◌∙◌, subst, arith, Bool, Option}
 use Rattle.std.proofs.Common.{Some, append_assoc, append-nil}
 use Rattle.std.proofs.lemmas.Str.{len_utf8_bounds}
@@ -15,17 +15,17 @@ use Rattle.fancy_grammar.specs.Ordered.{DescendingReaches, reach_of_item}
 use Rattle.fancy_grammar.specs.Slices.{Slice}
 use Rattle.fancy_grammar.specs.State.{skipped, State, Outcome, done, fault, and_then}
 
--- in a pattern that ends with t: the reach of where an end of t begins, or of one past the end
+-- in a pattern that ends with t: the reach at which a suffix of t begins, or of one past the end
 abbrev pub MayStand : Text → ℕ → Type 0
 MayStand t p = Stands past_end t p
 
--- a slice lies between the beginnings of t and u, and the items stand in it one behind another
+-- a slice lies between the start of t and the start of u, and the items in it are in text order
 pub record ItemSpan (l : List Item) (t u : Text) : Type 0 where
   pub slice : Slice t u
   pub descends : DescendingReaches (reach_of t + 1) (reach_of u + 1) l
   pub stand : AllByRecursion (λ i. MayStand t (reach_of_item i)) l
 
--- what was read is so, or the fault stands at an end of the text that begins at s or one past it
+-- P holds of what was read, or the error is where a suffix of the text that begins at s begins, or one past its end
 abbrev pub Reads : {A : Type 0} → (A → State → Type 0) → State → Outcome A → Type 0
 Reads P s (done a t) = P a t
 Reads P s (fault k p) = MayStand s.rest p
@@ -63,7 +63,7 @@ cut_slice (w, e) = record { word = w; cut = e }
 pub to_ends : {t u : Text} → Slice t u → EndsWith t u
 to_ends a = (a.word, a.cut)
 
--- ---- where a fault stands
+-- ---- where an error is
 
 pub stands_at : {t u : Text} → Slice t u → MayStand t (reach_of u)
 stands_at {u} a = begins u (to_ends a) refl
@@ -97,7 +97,7 @@ joined_stand (x ∷ l) m a h k = (h.0, joined_stand l m a h.1 k)
 pub bare : {t u : Text} → Slice t u → ItemSpan [] t u
 bare a = record { slice = a; descends = omega (arith, fits a); stand = tt }
 
--- one part behind another
+-- one part after another
 pub then : {l m : List Item} {t u v : Text} → ItemSpan l t u → ItemSpan m u v → ItemSpan (l ++ m) t v
 then {l} {m} {t} {u} {v} a b = record {
   slice = on a.slice b.slice;
@@ -105,7 +105,7 @@ then {l} {m} {t} {u} {v} a b = record {
   stand = joined_stand l m a.slice a.stand b.stand;
 }
 
--- the slice goes on, or began before
+-- the slice extends further, or began earlier
 pub before : {l : List Item} {t u v : Text} → Slice t u → ItemSpan l u v → ItemSpan l t v
 before a b = then (bare a) b
 
@@ -116,7 +116,7 @@ behind {l} {t} {v} a b = subst (λ m. ItemSpan m t v) (append-nil l) (then a (ba
 pub listed : {l m : List Item} {t u : Text} → l ≡ m → ItemSpan l t u → ItemSpan m t u
 listed {t} {u} e h = subst (λ x. ItemSpan x t u) e h
 
--- an opening stands before what is read behind it
+-- an opening comes before what is read after it
 pub opened : {l : List Item} {t u v : Text} (name : Option Text) → Slice t u × (bytes u + 1 ≤ bytes t) →
     ItemSpan l u v →
     ItemSpan (opening (record { reach = reach_of t; name = name }) ∷ l) t v
@@ -132,7 +132,7 @@ opened {l} {t} {u} {v} name a b = record {
 pub taken : {k : ℕ} {t u : Text} → Takes k t u → Slice t u
 taken a = record { word = a.word; cut = a.cut }
 
--- a reference alone, whose reach is that of a mark in the slice
+-- a single reference, whose reach is that of a character in the slice
 pub referred : {t m u : Text} (r : AstReference) (p : ℕ) → Slice t m → Takes 1 m u → p ≡ reach_of m →
     ItemSpan (reference r p ∷ []) t u
 referred {t} {m} {u} r p a k e =
@@ -145,7 +145,7 @@ referred {t} {m} {u} r p a k e =
 
 -- ---- layout
 
--- the text behind the layout ends the text, and an open comment's fault stands at the end or one past it
+-- the text after the layout is a suffix of the text, and the error of an open comment is at the end or one past it
 abbrev pub SkippedSlice : Text → Skipped → Type 0
 SkippedSlice t (rest u) = Slice t u
 SkippedSlice t (open_comment p) = MayStand t p
@@ -160,9 +160,9 @@ layout_slice x t = by_layout (layout x t) refl
 pub skipped_slice : (s : State) (u : Text) → skipped s ≡ rest u → Slice s.rest u
 skipped_slice s u l = subst (SkippedSlice s.rest) l (layout_slice s.flags.ignore_space s.rest)
 
--- ---- one part behind another
+-- ---- one part after another
 
--- where q was read from t, and f goes on from what it left
+-- if q was read from t, and f continues after it
 pub then_reads : {A B : Type 0} (P : A → State → Type 0) (Q : B → State → Type 0) (s t : State) (q : Outcome A)
     (f : A → State → Outcome B) → Slice s.rest t.rest → Reads P t q →
     ((a : A) (v : State) → P a v → Reads Q s (f a v)) → Reads Q s (and_then q f)

@@ -1,4 +1,4 @@
--- How the source of a Delegate goes on behind a part of it.
+-- How the source of a Delegate continues after one of its parts.
 use Rattle.std.proofs.Common.{◌≡◌, ℕ, ◌-◌, ◌+◌, ◌==◌, Bool, true, false, not, ◌||◌, List, [], ◌∷◌, ◌++◌, Option}
 use Rattle.std.proofs.Common.{Some, None, refl, ap, ◌∙◌, length, length-append, arith, if◌then◌else◌}
 use Rattle.std.specs.List.{AllByRecursion}
@@ -13,7 +13,7 @@ use Rattle.fancy_grammar.specs.PatternLetters.{by_letter_or, plain}
 use Rattle.fancy_grammar.specs.PatternSource.{Replaced, Part, part, written_after, replaced, replaced_part, part_at}
 use Rattle.fancy_grammar.specs.PatternSource.{named_property, property_part, single_part, source_from}
 
--- what is left of the text, where a word was taken from it
+-- the rest of the text, if a word was removed from it
 abbrev Stripped : Text → Option Text → Type 0
 Stripped t (Some u) = EndsWith t u
 Stripped t None = Unit {0}
@@ -45,7 +45,7 @@ word_takes (d ∷ w) c t h = at (c == d)
     at true = word_left w t
     at false = tt
 
--- what is left behind a part
+-- the rest after a part
 abbrev LeavesPart : Text → Option Part → Type 0
 LeavesPart t (Some p) = EndsWith t p.rest
 LeavesPart t None = Unit {0}
@@ -133,7 +133,7 @@ pub source_ends : (unicode seen : Bool) → source_from unicode seen 0 [] ≡ []
 unfolding source_from
 source_ends unicode seen = refl
 
--- the source goes on behind its first part
+-- the source continues after its first part
 pub source_goes_on : (unicode seen : Bool) (c : ℕ) (t : Text) → source_from unicode seen 0 (c ∷ t)
     ≡ (part_at unicode seen c t).source
     ++ source_from unicode (seen || (part_at unicode seen c t).negated) 0 (part_at unicode seen c t).rest

@@ -1,5 +1,5 @@
--- A text has one list of spans, with one for each node of its tree. They stand in the text, those of children in that
--- of their parent, one behind another, and the text may be cut at each of their places.
+-- A text has one list of spans, with one span for each node of its tree. They lie in the text, and those of children in
+-- that of their parent, one after another. Each begins and ends at a character boundary.
 use Rattle.std.proofs.Common.{◌≡◌, ℕ, suc, ◌-◌, ◌≤◌, Bool, true, List, [], ◌∷◌, length, map, chars, Some}
 use Rattle.std.proofs.Common.{None, ◌+◌, if◌then◌else◌, refl, sym, ap, ◌∙◌, subst, arith, append-nil, length-append}
 use Rattle.std.proofs.lemmas.List.{map-append}
@@ -92,7 +92,7 @@ nests_in f g (of_row h i k) = of_row (omega arith) (omega arith) k
 -- ---- the spans of a raw tree are those of the resolved one, in a pattern of n bytes
 
 module _ (n : ℕ) (named : Bool) (numbers_of : Text → List ℕ) where
-  -- where c groups that have a number open before it
+  -- if c groups that have a number open before it
   abbrev after : ℕ → Tree → Tree
   after c r = resolved_in n named numbers_of c r
 
@@ -160,7 +160,7 @@ module _ (n : ℕ) (named : Bool) (numbers_of : Text → List ℕ) where
         of_more (nests_in (omega arith) (earlier g) (nests c h)) (branches_nest (behind c r) i)
         (map-append (placed n) (in_preorder x) (all_in_preorder xs))
 
--- ---- where the pattern may be cut
+-- ---- where character boundaries are
 
 module _ (re : List ℕ) (valid : IsUtf8 re) where
   abbrev IsPlace : ℕ → Type 0
@@ -221,7 +221,7 @@ pub some_spans : {f : Flags} {text : Text} (t : Tree) (m : Marks) → IsTreeOf f
     (l : List Span) × AreSpansOf f text l
 some_spans t m (r, (v, a), no_fault, is, marked) = (_, (r, v, a, refl))
 
--- and no others
+-- and it has no others
 pub only_spans : {f : Flags} {text : Text} (l m : List Span) → AreSpansOf f text l → AreSpansOf f text m → m ≡ l
 only_spans {f} {text} l m (r, t, a, e) (q, v, b, h) =
     let same : r ≡ q = value_of (whole_unique a b) in
@@ -230,7 +230,7 @@ only_spans {f} {text} l m (r, t, a, e) (q, v, b, h) =
     ∙ sym (whole_same (only_named f (openings r)) a b))
     ∙ sym e
 
--- the spans of its nodes stand in the text, those of children in that of their parent, one behind another
+-- the spans of its nodes lie in the text, those of children in that of their parent, one after another
 pub spans_nest : {f : Flags} {text : Text} (l : List Span) (t : Tree) (m : Marks) → AreSpansOf f text l →
     IsTreeOf f text t m → Nests 0 (bytes text) t l
 spans_nest {f} {text} l t m (r, v, a, e) (q, (w, b), no_fault, is, marked) =
@@ -247,7 +247,7 @@ pub spans_of_nodes : {f : Flags} {text : Text} (l : List Span) (t : Tree) (m : M
     IsTreeOf f text t m → length l ≡ length (preorder t)
 spans_of_nodes l t m a b = as_many (spans_nest l t m a b)
 
--- the text may be cut at each place
+-- each position is a character boundary
 pub spans_cut : {f : Flags} {re : List ℕ} (l : List Span) → IsUtf8 re → AreSpansOf f (chars re) l →
     AllByRecursion (IsCutOut re) l
 spans_cut {f} {re} l valid (r, v, a, e) =

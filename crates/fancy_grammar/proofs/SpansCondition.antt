@@ -1,4 +1,4 @@
--- A condition that is no alternation stands behind `(?(`, before its closing parenthesis.
+-- A condition that is no alternation comes after `(?(`, before its closing parenthesis.
 use Rattle.std.proofs.Common.{◌≡◌, ℕ, ◌+◌, Bool, ◌==◌, nat_le, true, [], ◌∷◌, ◌++◌, Option, Some, None, IfSome}
 use Rattle.std.proofs.Common.{option_map, refl, sym, ap, ◌∙◌, subst, arith, codes, append_assoc}
 use Rattle.std.specs.Option.{option_and_then}
@@ -101,7 +101,7 @@ closes_verb t =
     (closes_word t Fail (codes "F") _ (closes_word t Accept (codes "ACCEPT") _ (closes_word t Commit (codes "COMMIT") _
     (closes_word t Skip (codes "SKIP") _ (closes_word t Prune (codes "PRUNE") None tt)))))
 
--- ---- what stands ahead
+-- ---- the start of an atom
 
 -- a condition that is no alternation is a leaf, and o is its text, which ends with its parenthesis
 abbrev Told : Option Text → Ahead → Type 0
@@ -168,7 +168,7 @@ told_group s u =
     both t w e i = ap (strip_word (codes "?("))
         (strip_word_is (codes "?") u t e ∙ ap (λ z. code "?" ∷ z) (strip_word_is (codes "(") t w i))
 
--- ---- where it stands
+-- ---- where it is
 
 module _ (named : Bool) where
   abbrev pub ConditionStands : State → Ahead → Type 0

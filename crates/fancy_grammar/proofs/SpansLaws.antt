@@ -1,5 +1,5 @@
--- The spans of a derivation are those of the nodes of its tree, and stand in its text: each node in the slice that its
--- rule reads, and its children in its own span, one behind another.
+-- The spans of a derivation are those of the nodes of its tree, and lie in its text: each node in the slice that its
+-- rule reads, and its children in its own span, one after another.
 use Rattle.std.proofs.Common.{◌≡◌, ℕ, Bool, List, [], ◌∷◌, refl, subst, ◌==◌, ◌&&◌, not}
 use Rattle.std.proofs.lemmas.Bool.{cond_both}
 use Prim.Native.Char.{code}
@@ -33,7 +33,7 @@ use Rattle.fancy_grammar.proofs.SpansLemmas.{group_stands, parts_stand, conditio
 use Rattle.fancy_grammar.proofs.SpansQuant.{quants_stand}
 
 module _ (named : Bool) where
-  -- one part behind another; x says the spans by the outcome
+  -- one part after another; x gives the spans by the outcome
   then_stands : {A : Type 0} (P : A → State → Type 0) (t : Text) (x : Outcome Tree → Spans) (q : Outcome A)
       (f : A → State → Outcome Tree) → Holds P q →
       ((a : A) (v : State) → P a v → StandsFrom named t (x (f a v)) (f a v)) →
@@ -41,7 +41,7 @@ module _ (named : Bool) where
   then_stands P t x (done a v) f h g = g a v h
   then_stands P t x (fault k p) f h g = tt
 
-  -- behind a closing parenthesis
+  -- after a closing parenthesis
   closed_stands : {t : Text} (x : Outcome Tree → Spans) (r : Tree) (s : State) →
       ((u : State) → Slice s.rest u.rest → Stands named t u.rest r (x (done r u))) →
       StandsFrom named t (x (closed r s)) (closed r s)
@@ -162,7 +162,7 @@ module _ (named : Bool) where
     body_stands {t} w (the_body {q} a) h =
         body_stood (bytes t.rest) w t q (alternation_spans named a) h (alternation_stands a)
 
-  -- the spans of a whole text stand in it
+  -- the spans of a whole text lie in it
   pub whole_stands : {f : Flags} {text : Text} {r : Tree} {t : State} (a : Whole f text (done r t)) →
       Stands named text t.rest r (whole_spans named a)
   whole_stands a = by_whole a

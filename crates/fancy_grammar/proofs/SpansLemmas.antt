@@ -1,4 +1,4 @@
--- How the spans of a tree stand in its text, and how trees are put together with their spans.
+-- How the spans of a tree lie in its text, and how trees are built with their spans.
 use Rattle.std.proofs.Common.{◌≡◌, ℕ, ◌≤◌, Bool, true, false, ◌&&◌, List, [], ◌∷◌, refl, sym, ap}
 use Rattle.std.proofs.Common.{if◌then◌else◌, subst, arith}
 use Rattle.fancy_lex.specs.Text.{Text, reach_of}
@@ -18,11 +18,11 @@ use Rattle.fancy_grammar.proofs.OutcomeLemmas.{Holds}
 use Rattle.fancy_grammar.proofs.Slices.{here, on}
 use Rattle.fancy_grammar.proofs.TreeLaws.{IsReadLeaf, trees_back, list_back}
 
--- the span between the beginnings of two texts
+-- the span between the starts of two texts
 abbrev pub reaches : Text → Text → Span
 reaches a b = record { start = reach_of a; end = reach_of b }
 
--- all but a capturing group without a number leave a node
+-- all but a capturing group without a number make a node
 abbrev pub stays : Bool → Wrap → Bool
 stays named (label.ast_group name place) = is_counted named name
 stays named _ = true
@@ -36,12 +36,12 @@ some_levels (leaf l) = omega arith
 some_levels (over w r) = omega arith
 some_levels (row l rs) = omega arith
 
--- ---- how the spans of a raw tree stand
+-- ---- how the spans of a raw tree lie in its text
 
 module _ (named : Bool) where
   mutual
-    -- those of the tree that stay stand between the beginnings of t and u, those of its children in its own, one behind
-    -- another
+    -- the spans of the tree's remaining nodes lie between the starts of t and u, those of a node's children in its own,
+    -- one after another
     pub data Stands : Text → Text → Tree → Spans → Type 0 where
       leaf_at : {t a b u l : _} → Slice t a → Slice a b → Slice b u → Stands t u (leaf l) (alone (reaches a b))
       over_at : {t a b u r x : _} (w : _) → stays named w ≡ true → Slice t a → Stands a b r x →
@@ -65,7 +65,7 @@ module _ (named : Bool) where
       barred : {t m c u r rs x xs : _} → Stands t m r x → Slice m c → InBranches c u rs xs →
           InBranches t u (more_trees r rs) (more_spans x (behind_bar (reach_of c) xs))
 
-  -- what is read stands from t to where it ends
+  -- what is read spans from t to where it ends
   abbrev pub StandsFrom : Text → Spans → Outcome Tree → Type 0
   StandsFrom t x o = Holds (λ r (v : State). Stands t v.rest r x) o
 
@@ -85,7 +85,7 @@ module _ (named : Bool) where
     branches_slice (one h) = stands_slice h
     branches_slice (barred h c i) = on (stands_slice h) (on c (branches_slice i))
 
-  -- between texts that begin earlier and later
+  -- between texts that begin earlier and end later
   pub wider : {v t u z : Text} {r : Tree} {x : Spans} → Slice v t → Slice u z → Stands t u r x → Stands v z r x
   wider a b (leaf_at f h g) = leaf_at (on a f) h (on g b)
   wider a b (over_at w k f h g) = over_at w k (on a f) h (on g b)
@@ -101,9 +101,9 @@ module _ (named : Bool) where
   later b (none h) = none (on h b)
   later b (beside h i) = beside h (later b i)
 
-  -- ---- trees that are put together
+  -- ---- trees that are built from parts
 
-  -- a leaf that is read takes all of its text
+  -- a leaf that is read spans all of its text
   pub leaf_stands : {t u : Text} (a : Tree) → IsReadLeaf a → Slice t u → Stands t u a (alone (reaches t u))
   leaf_stands {t} {u} (leaf l) h k = leaf_at (here t) k (here u)
   leaf_stands (over w r) h k = absurd (omega (arith, h.2, some_levels r))
@@ -178,7 +178,7 @@ module _ (named : Bool) where
       by_test true = wider (here t) (on (stands_slice i) (on (stands_slice j) g)) h
       by_test false = row_at label.conditional refl (here t) (beside h (beside i (beside j (none g)))) (here z)
 
-  -- a branch behind `(?~|`
+  -- a branch after `(?~|`
   pub stopper_stands : {t v z : Text} {a : Tree} {x : Spans} → Stands t v a x → Slice v z →
       Stands t z (clear_or_stopper a) (node (reaches t z) (solid_spans a x no_spans))
   stopper_stands {t} {z} {a} {x} h g = by_test (is_empty a)

@@ -1,4 +1,4 @@
--- How an atom under its quantifiers stands in its text.
+-- How an atom under its quantifiers lies in its text.
 use Rattle.std.proofs.Common.{ℕ, zero, suc, ◌+◌, Bool, true, false, ◌||◌, nat_lt, Option, Some, None}
 use Rattle.std.proofs.Common.{if◌then◌else◌, refl}
 use Rattle.std.specs.Option.{option_and_then}
@@ -26,7 +26,7 @@ use Rattle.fancy_grammar.proofs.ReadLaws.{suffix_reads}
 use Rattle.fancy_grammar.proofs.Slices.{Reads, here, on, layout_slice, SkippedSlice}
 use Rattle.fancy_grammar.proofs.SpansLemmas.{Stands, StandsFrom, reaches, over_at, wider}
 
--- what is read behind t begins at an end of it
+-- the rest after what is read is a suffix of t
 abbrev Behind : {A : Type 0} → Text → Outcome A → Type 0
 Behind t o = Holds (λ a (v : State). Slice t v.rest) o
 
@@ -59,7 +59,7 @@ module _ (named : Bool) where
       by_test false true = twice c.low c.high
       by_test false false = once c.low c.high k
 
-  -- the atom a stands from t to the state s
+  -- the atom a spans from t to the state s
   module _ (t : Text) where
     quant_stands : (left : ℕ) (a : Tree) (s : State) (x : Spans) → Stands named t s.rest a x →
         StandsFrom named t (quant_spans (reach_of t) a s x) (quant left a s)

@@ -19,7 +19,7 @@ use Rattle.fancy_grammar.proofs.Unique.{alternation_unique, branch_unique, piece
 use Rattle.fancy_grammar.proofs.Unique.{inside_unique, body_unique}
 
 module _ (named : Bool) where
-  -- what stands ahead is told in two ways
+  -- the start of an atom, under two equal descriptions
   retold : {k l : Ahead} {d : ℕ} {s : State} {o : Outcome Tree} (i : l ≡ k) (b : AtomOf l d s o) →
       atom_of_spans named (subst (λ (x : Ahead). AtomOf x d s o) i b) ≡ atom_of_spans named b
   retold {l} {d} {s} {o} i b =
@@ -27,7 +27,7 @@ module _ (named : Bool) where
       atom_of_spans named (subst (λ (y : Ahead). AtomOf y d s o) p b) ≡ atom_of_spans named b)
       (ap (λ (c : AtomOf l d s o). atom_of_spans named c) (subst_refl (λ (y : Ahead). AtomOf y d s o) b)) i
 
-  -- as in `Unique`: an earlier part has one outcome, which says which rule reads on
+  -- as in `Unique`: an earlier part has one outcome, which decides the rule that reads on
   mutual
     alternation_same : {d : ℕ} {s z : State} {o q : Outcome Tree} (a : Alternation d s o) (b : Alternation d z q) →
         s ≡ z → alternation_spans named a ≡ alternation_spans named b

@@ -1,4 +1,4 @@
--- What is true of trees that are put together: their groups and references, their nodes, and how large they are.
+-- What is true of trees that are built from parts: their groups and references, their nodes, and how large they are.
 use Rattle.std.proofs.Common.{◌≡◌, ℕ, ◌+◌, ◌≤◌, ◌∷◌, [], ◌++◌, List, refl, sym, ap, ◌∙◌, subst, arith, Bool, true}
 use Rattle.std.proofs.Common.{false, append-nil, length, max, if◌then◌else◌}
 use Rattle.std.specs.Prelude.{◌&&◌}
@@ -82,7 +82,7 @@ items_clear_or_stopper a = cond_both (is_empty a) _ _ (λ x. items a ≡ items x
 
 -- ---- nodes
 
--- what holds of a node of a raw tree: it is none that resolving makes, and what holds of an answered one
+-- a node of a raw tree: as in a parsed tree, but without the nodes that only resolving makes
 abbrev pub IsReadNode : Tree → Type 0
 IsReadNode (leaf (label.literal w casei)) = length w ≡ 1
 IsReadNode (leaf (label.literal_bytes w)) = (length w ≡ 1) × AllByRecursion (λ b. (0x80 ≤ b) × (b ≤ 0xFF)) w
@@ -105,7 +105,7 @@ both_read : (a b : List Tree) → AllByRecursion IsReadNode a → AllByRecursion
 both_read [] b h i = i
 both_read (t ∷ a) b h i = (h.0, both_read a b h.1 i)
 
--- so is a node that stands alone
+-- this holds for a node without children
 abbrev pub IsReadLeaf : Tree → Type 0
 IsReadLeaf t = IsReadNode t × (preorder t ≡ t ∷ []) × (levels t ≡ 1)
 
@@ -178,7 +178,7 @@ abbrev pub sizes : List Tree → ℕ
 sizes [] = 0
 sizes (t ∷ ts) = nodes t + sizes ts
 
--- in a row a tree counts one more than its nodes, and an Empty nothing
+-- in a row a tree counts one more than its nodes, and an Empty counts nothing
 abbrev pub weight : Tree → ℕ
 weight t = if is_empty t then 0 else nodes t + 1
 
@@ -272,7 +272,7 @@ conditional_levels c t f =
     (λ x. levels x ≤ max (levels c) (max (levels t) (levels f)) + 1)
     (λ _. omega arith) (λ _. omega arith)
 
--- a group, and a branch behind `(?~|`
+-- a group, and a branch after `(?~|`
 abbrev IsNodeOver : Tree → Tree → Type 0
 IsNodeOver t u = (nodes u ≤ nodes t + 1) × (levels u ≤ levels t + 1)
 

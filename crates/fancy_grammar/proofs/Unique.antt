@@ -15,7 +15,7 @@ use Rattle.fancy_grammar.specs.Quantified.{quants}
 use Rattle.fancy_grammar.specs.State.{skipped, State, at, Outcome, done, fault, and_then, seen_through}
 use Rattle.fancy_grammar.specs.Tree.{Tree, expression}
 
--- ---- what one outcome says of another
+-- ---- what one outcome implies for another
 
 pub value_of : {A : Type 0} {a b : A} {s t : State} → ◌≡◌ {A = Outcome A} (done a s) (done b t) → a ≡ b
 value_of e = cc
@@ -30,7 +30,7 @@ same_fault : {A B : Type 0} {k j : Kind} {p q : ℕ} → ◌≡◌ {A = Outcome 
     ◌≡◌ {A = Outcome B} (fault k p) (fault j q)
 same_fault e = cc
 
--- the same part behind the same outcome
+-- the same part after the same outcome
 then_same : {A B : Type 0} (f : A → State → Outcome B) {q r : Outcome A} → q ≡ r → and_then q f ≡ and_then r f
 then_same f h = ap (λ x. and_then x f) h
 
@@ -59,7 +59,7 @@ layout_or_fault {u} {p} l m e = rest_or_fault u p (sym l ∙ same_skipped e ∙ 
 pub ap_at : {s z : State} {u v : Text} → s ≡ z → u ≡ v → at s u ≡ at z v
 ap_at e i = cc
 
--- by induction on both derivations: an earlier part has one outcome, which says which rule reads on
+-- by induction on both derivations: an earlier part has one outcome, which decides the rule that reads on
 mutual
   pub alternation_unique : {d : ℕ} {s z : State} {o q : Outcome Tree} → Alternation d s o → Alternation d z q →
       s ≡ z → o ≡ q

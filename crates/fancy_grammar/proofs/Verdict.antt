@@ -1,4 +1,4 @@
--- What one reading of a whole text says of every other.
+-- What one reading of a whole text implies for every other.
 use Rattle.std.proofs.Common.{◌≡◌, ℕ, ◌+◌, ◌-◌, inl, inr, List, ◌++◌, Option, Some, None, refl, sym, ap, ap₂, ◌∙◌}
 use Rattle.std.proofs.Common.{subst, chars, length, arith}
 use Rattle.std.specs.Str.{IsUtf8, IsCharBoundary, all_scalars}
@@ -67,7 +67,7 @@ no_fault f text t m k p (r, a, none, e, d) (of_resolving {q} b some i) =
     let both : ◌≡◌ {A = Option Fault} None (Some (record { reach = q; kind = k })) = sym none ∙ sym same ∙ some in
     absurd cc
 
--- a tree of the text is all that is answered for it
+-- a tree of the text is its only result
 pub only_read : (f : Flags) (text : Text) (t : Tree) (m : Marks) → IsTreeOf f text t m → IsOnlyAnswer f text (read t m)
 only_read f text t m a = record { is = a; only = λ b h. other b h }
   where
@@ -75,11 +75,11 @@ only_read f text t m a = record { is = a; only = λ b h. other b h }
     other (read s k) h = let (e, d) = only_tree f text t s m k a h in ap₂ read e d
     other (refused k p) h = absurd (no_fault f text t m k p a h)
 
--- a reach where the pattern may be cut, or one past its end, is that of a position
+-- the reach of a character boundary of the pattern, or of one past its end, is that of a position
 at_position : (text : Text) (q : ℕ) → MayStand text q → IsPositionOf (bytes text) q (place_at (bytes text) q)
 at_position text q h = let small = stands_within {m = bytes text + 1} (omega arith) (omega arith) h in omega arith
 
--- the one fault of a text that cannot be read
+-- the one error of a text that cannot be read
 pub only_reading : (e : Failure) (f : Flags) (text : Text) → IsErrorAmong e (Whole f text) →
     IsOnlyFault (error_in text e) f text
 only_reading (At p k) f text a =
@@ -94,14 +94,14 @@ only_reading (At p k) f text a =
     other j q (of_resolving b some i) = absurd (apart _ b here)
 only_reading OutOfMemory f text a = tt
 
--- where the fault of a reference may stand
+-- where the error of a reference may be
 resolving_stands : (f : Flags) (text : Text) (r : Tree) (k : Kind) (p : ℕ) → DerivesTree f text r →
     fault_of f r ≡ Some (record { reach = p; kind = k }) → MayStand text p
 resolving_stands f text r k p a h =
     fault_place (MayStand text) (only_named f (openings r)) (numbers_in f r) 0 (items r) (record { reach = p; kind = k })
     (items_stand a.1) h
 
--- the one fault of a text that is read, and cannot be resolved
+-- the one error of a text that is read and cannot be resolved
 pub only_resolving : (e : Failure) (f : Flags) (text : Text) (r : Tree) → DerivesTree f text r →
     IsErrorIn e (fault_of f r) → IsOnlyFault (error_in text e) f text
 only_resolving (At p k) f text r a h =
@@ -117,9 +117,9 @@ only_resolving (At p k) f text r a h =
         (same.0, omega (arith, i, same.1))
 only_resolving OutOfMemory f text r a h = tt
 
--- ---- places
+-- ---- positions
 
--- where the pattern may be cut
+-- a character boundary of the pattern
 pub cut_at : (re : List ℕ) (u : Text) → IsUtf8 re → EndsWith (chars re) u →
     IsCharBoundary re (bytes (chars re) - bytes u)
 cut_at re u valid (w, cut) =
@@ -146,7 +146,7 @@ pub reading_placed : (e : Failure) (f : Flags) (re : List ℕ) → IsUtf8 re →
 reading_placed (At p k) f re u a = placed k re p u (fault_stands a)
 reading_placed OutOfMemory f re u a = tt
 
--- the groups and references of a text that is read stand in text order
+-- the groups and references of a text that is read are in text order
 pub text_order : (f : Flags) (re : List ℕ) (r : Tree) → IsUtf8 re → DerivesTree f (chars re) r →
     DescendingReaches (length re + 2) 2 (items r)
 text_order f re r u a = subst (λ n. DescendingReaches (n + 2) 2 (items r)) (bytes_chars re u) (ordered_within a.1)

@@ -1,4 +1,4 @@
--- What stands before an atom.
+-- The start of an atom.
 use Rattle.std.specs.Prelude.{ℕ, ◌+◌, Bool, false, ◌==◌, nat_le, [], ◌∷◌, if◌then◌else◌, Some, None, codes}
 use Prim.Native.Char.{code}
 use Rattle.fancy_lex.specs.Characters.{◌∈◌}
@@ -30,16 +30,16 @@ use Rattle.fancy_grammar.specs.Verb.{verb_at}
 use Rattle.fancy_grammar.specs.declared.kinds.LookAround.TheVariants.{LookAhead, LookAheadNeg, LookBehind}
 use Rattle.fancy_grammar.specs.declared.kinds.LookAround.TheVariants.{LookBehindNeg}
 
--- what stands before an atom decides its rule
+-- the start of an atom, which decides its rule
 pub data Ahead : Type 0 where
   nothing : Ahead  -- no atom: it is Empty, and takes no character
-  read : Outcome Tree → Ahead  -- an atom without branches, which is read here at once, or a fault: its outcome
+  read : Outcome Tree → Ahead  -- an atom without branches, read at once, or an error: its outcome
   with_head : Head → State → Ahead  -- a group of one alternation, which begins at the state
   condition : State → Ahead  -- a conditional whose condition is an alternation, which begins at the state
   body : Tree → State → Ahead  -- a conditional whose condition is this tree; its body begins at the state
   absent_branch : State → Ahead  -- `(?~|` of an absent expression, stopper or clear; a branch begins at the state
 
--- what stands there is refused, with this fault
+-- no atom can begin here: this error
 abbrev pub refused : Fault → Ahead
 refused e = read (faulted e)
 
@@ -47,11 +47,11 @@ refused e = read (faulted e)
 abbrev pub start_of_line : Flags → Assertion
 start_of_line f = if f.oniguruma_mode then StartLineOniguruma f.crlf else StartLine f.crlf
 
--- what `^` stands for: under MULTI the start of each line
+-- what `^` means: under MULTI the start of each line
 abbrev pub start_anchor : Flags → Assertion
 start_anchor f = if f.multi then start_of_line f else StartText
 
--- what `$` stands for: under MULTI the end of each line
+-- what `$` means: under MULTI the end of each line
 abbrev pub end_anchor : Flags → Assertion
 end_anchor f = if f.multi then EndLine f.crlf else EndText
 
@@ -78,7 +78,7 @@ leaf_node (escaped.delegate t casei) = delegate t casei
 leaf_node (escaped.backref r casei) = backref_node casei r
 leaf_node (escaped.subroutine_call c) = call_node c
 
--- what a reader comes to, as the outcome of a leaf
+-- what a reader returns, as the outcome of a leaf
 abbrev pub leaf_outcome : {A : Type 0} → (A → Tree) → State → Reading A → Outcome Tree
 leaf_outcome node s (gives a t) = done (node a) (at s t)
 leaf_outcome node s (fails e) = faulted e
@@ -93,7 +93,7 @@ leaf_of s c t =
     else if c == code "[" then leaf_outcome (λ w. delegate w s.flags.casei) s (class s.flags t)
     else done (literal (c ∷ []) s.flags.casei) (at s t)
 
--- before these the atom is Empty; the end is another such place
+-- before these characters the atom is Empty; it is Empty at the end of the text too
 abbrev pub is_before_nothing : ℕ → Bool
 is_before_nothing c = c ∈ "+*?|)"
 
@@ -113,17 +113,17 @@ flags_ahead (gives (setting f) u) = read (done empty (record { flags = f; rest =
 flags_ahead (gives (scoped f) u) = with_head scope (record { flags = f; rest = u })
 flags_ahead (fails e) = refused e
 
--- a verb, whose name and closing parenthesis stand behind its asterisk
+-- a verb; its name and closing parenthesis follow its asterisk
 abbrev pub verb_ahead : State → Text → Ahead
 verb_ahead s t =
     choose (verb_at t) (λ p. read (done (verb p.0) (at s p.1))) (refused (unknown_verb (code "*" ∷ t)))
 
--- a verb as the condition of a conditional, behind its asterisk
+-- a verb as the condition of a conditional, after its asterisk
 abbrev pub verb_condition : State → Text → Ahead
 verb_condition s t =
     choose (verb_at t) (λ p. body (verb p.0) (at s p.1)) (refused (unknown_verb (code "*" ∷ t)))
 
--- behind `(?(`, where more text is due: a condition, which is a target, a verb, or an alternation
+-- after `(?(`, which may not end the text: a condition, which is a target, a verb, or an alternation
 abbrev pub condition_ahead : State → Text → Ahead
 condition_ahead s [] = refused group_not_closed
 condition_ahead s (c ∷ t) =
@@ -131,12 +131,12 @@ condition_ahead s (c ∷ t) =
     else if c == code "*" then verb_condition s t
     else condition (at s (c ∷ t))
 
--- behind `(?~`, where more text is due: an alternation
+-- after `(?~`, which may not end the text: an alternation
 abbrev pub repeater_ahead : State → Text → Ahead
 repeater_ahead s [] = refused group_not_closed
 repeater_ahead s (c ∷ t) = with_head repeater (at s (c ∷ t))
 
--- behind the question mark of a group's head: the first row whose word stands there, or else letters of flags
+-- after the question mark that opens a group: the first row whose word is next, or else the letters of flags
 abbrev pub behind_question : State → Text → Ahead
 behind_question s t =
     choose (strip_word (codes "=") t) (λ u. with_head (look LookAhead) (at s u)) (
@@ -155,19 +155,20 @@ behind_question s t =
     choose (strip_word (codes "(") t) (λ u. condition_ahead s u)
     (flags_ahead (letters s.flags t)))))))))))))))
 
--- behind the parenthesis and layout: a head, a verb, or a capturing group without a name
+-- after the parenthesis and layout: a question mark with the kind of the group, a verb, or a capturing group without a
+-- name
 abbrev pub group_ahead : State → Text → Ahead
 group_ahead s t =
     choose (strip_word (codes "?") t) (λ u. behind_question s u) (
     choose (strip_word (codes "*") t) (λ u. verb_ahead s u)
     (with_head (capture None) (at s t)))
 
--- behind the parenthesis, with the layout that follows it passed over
+-- after the parenthesis, and after the layout that follows it
 abbrev pub behind_layout : State → Skipped → Ahead
 behind_layout s (rest u) = group_ahead s u
 behind_layout s (open_comment p) = refused (comment_not_closed p)
 
--- what stands before an atom, inside d groups
+-- the start of an atom, inside d groups
 abbrev pub ahead_of : ℕ → State → Text → Ahead
 ahead_of d s [] = nothing
 ahead_of d s (c ∷ t) =

@@ -1,4 +1,4 @@
--- What is true of every tree that is answered, and how its marks speak of it.
+-- What is true of every parsed tree, and how its group information describes it.
 use Rattle.std.specs.Prelude.{◌≡◌, ℕ, ◌+◌, ◌*◌, ◌<◌, ◌≤◌, Bool, true, false, List, [], ◌∷◌, length, filter, filter_map}
 use Rattle.std.specs.Prelude.{map}
 use Rattle.std.specs.Prelude.{Option, Some, None, find, nat_le, nat_lt, if◌then◌else◌}
@@ -14,8 +14,8 @@ use Rattle.fancy_grammar.specs.Preorder.{preorder}
 use Rattle.fancy_grammar.specs.Resolved.{resolved_in}
 use Rattle.fancy_grammar.specs.Tree.{Tree, leaf, over, row, group, ast_group, list_of, nodes, levels}
 
--- a Literal holds one character, a LiteralBytes one byte above the ASCII ones, an Alt two children or more, and an
--- AstNode a call
+-- a Literal holds one character, a LiteralBytes one byte above ASCII, an Alt two children or more, and an AstNode a
+-- call
 abbrev pub IsAnsweredNode : Tree → Type 0
 IsAnsweredNode (leaf (label.literal w casei)) = length w ≡ 1
 IsAnsweredNode (leaf (label.literal_bytes w)) = (length w ≡ 1) × AllByRecursion (λ b. (0x80 ≤ b) × (b ≤ 0xFF)) w
@@ -28,7 +28,7 @@ IsAnsweredNode _ = Unit {0}
 abbrev pub IsAnswered : Tree → Type 0
 IsAnswered t = AllByRecursion IsAnsweredNode (preorder t)
 
--- a tree of n bytes has at most 2 n + 1 nodes, and at most so many levels
+-- a tree parsed from n bytes has at most 2 n + 1 nodes, and at most `max_levels` levels
 abbrev pub IsSmall : Tree → ℕ → Type 0
 IsSmall t n = (nodes t ≤ 2 * n + 1) × (levels t ≤ max_levels)
 
@@ -36,7 +36,7 @@ abbrev pub is_group : Tree → Bool
 is_group (over label.group t) = true
 is_group _ = false
 
--- the Groups in preorder: the k-th has the number k
+-- the Groups in preorder; the k-th has the number k
 abbrev pub groups : Tree → List Tree
 groups t = filter is_group (preorder t)
 
@@ -45,7 +45,7 @@ abbrev pub AscendingNumbers : ℕ → ℕ → List ℕ → Type 0
 AscendingNumbers k n [] = Unit {0}
 AscendingNumbers k n (m ∷ l) = (k < m) × (m ≤ n) × AscendingNumbers m n l
 
--- each name has numbers, and they ascend from 1 up to the total
+-- each name has at least one number, and its numbers ascend from 1 to at most the total
 abbrev pub AreNamed : ℕ → List (Text × List ℕ) → Type 0
 AreNamed total l = AllByRecursion (λ e. (0 < length e.1) × AscendingNumbers 0 total e.1) l
 
@@ -59,17 +59,17 @@ is_call_node _ = false
 abbrev pub has_call : Tree → Bool
 has_call t = list_any is_call_node (preorder t)
 
--- the group of a back reference
+-- the group that a back reference refers to
 abbrev pub group_referred : Tree → Option ℕ
 group_referred (leaf (label.backref n casei)) = Some n
 group_referred (leaf (label.backref_at_level n level casei)) = Some n
 group_referred _ = None
 
--- the groups of the back references, in text order
+-- the groups that the back references refer to, in text order
 abbrev pub groups_referred : Tree → List ℕ
 groups_referred t = filter_map group_referred (preorder t)
 
--- what the marks of an answered tree say of it
+-- how the group information of a parsed tree describes it
 pub record IsAnsweredWith (t : Tree) (m : Marks) : Type 0 where
   pub nodes : IsAnswered t
   pub groups : length (groups t) ≡ m.total_groups
@@ -78,9 +78,9 @@ pub record IsAnsweredWith (t : Tree) (m : Marks) : Type 0 where
   pub backrefs : m.backrefs ≡ ascending (filter (λ n. nat_le n m.total_groups) (groups_referred t))
   pub out_of_range : m.out_of_range_backref ≡ find (λ n. nat_lt m.total_groups n) (groups_referred t)
 
--- ---- the groups of the raw tree, which is read before they have their numbers
+-- ---- the groups of the raw tree, before they have numbers
 
--- the capturing groups among the nodes that have a number: their numbers, from c + 1 on, their openings and insides
+-- the capturing groups among the nodes that have a number: their numbers, from c + 1 on, their openings and contents
 abbrev pub numbered_in : Bool → ℕ → List Tree → List (ℕ × Opening × Tree)
 numbered_in named c [] = []
 numbered_in named c (ast_group name reach t ∷ l) =
@@ -93,8 +93,8 @@ numbered_in named c (_ ∷ l) = numbered_in named c l
 abbrev pub numbered_groups : Flags → Tree → List (ℕ × Opening × Tree)
 numbered_groups f r = numbered_in (only_named f (openings r)) 0 (preorder r)
 
--- their openings are those that have a number, in text order; and the k-th Group of the answered tree t holds the
--- inside of the k-th of them, resolved where k groups open before it
+-- the openings of these groups are the ones that have a number, in text order; the k-th Group of the parsed tree t
+-- holds the contents of the k-th of them, resolved with k groups opened before them
 pub record HasGroupsOf (f : Flags) (text : Text) (r t : Tree) : Type 0 where
   pub in_order : map (λ g. g.1) (numbered_groups f r) ≡ numbered_openings f (openings r)
   pub insides : groups t ≡

@@ -1,7 +1,8 @@
 -- The grammar: what each production reads from a state, at a depth of open groups.
--- A part that comes first has a rule for its fault; where a part is the last, its outcome decides the whole.
--- Layout, classes, the letters of flag groups, boundaries, hex codes, numbers, names and id references stand in the
--- premises as functions; that these are the relations in the same files is said in `Premises`.
+-- A part that another part follows has a rule of its own for its error. If a part is the last one, its outcome decides
+-- the outcome of the whole.
+-- Layout, classes, the letters of flag groups, boundaries, hex codes, numbers, names and id references are read by
+-- functions in the premises. `Premises` states that these agree with the relations in the same files.
 use Rattle.std.specs.Prelude.{◌≡◌, ℕ, ◌+◌, ◌==◌, Bool, true, false, not, ◌&&◌, List, [], ◌∷◌, Some, None}
 use Rattle.std.specs.Prelude.{if◌then◌else◌}
 use Prim.Native.Char.{code}
@@ -21,10 +22,10 @@ use Rattle.fancy_grammar.specs.State.{ends, skipped, State, at, Outcome, done, f
 use Rattle.fancy_grammar.specs.Tree.{Tree, more_trees, list_of, empty, alt, conditional, clear, stopper}
 use Rattle.fancy_grammar.specs.Tree.{expression, ast_node}
 
--- ---- what a part comes to behind its last one
+-- ---- the end of a part, and its outcome
 
--- the tree, where the closing parenthesis follows; the only other character that may stand there is a bar behind the
--- second branch of an absent expression, since an alternation goes on behind a bar
+-- The tree, if the closing parenthesis follows. Otherwise there is an error, at the end of the text or at a bar; the
+-- bar can only follow the second branch of an absent expression, since an alternation continues after a bar.
 abbrev pub closed_at : Tree → State → Text → Outcome Tree
 closed_at r s [] = faulted group_not_closed
 closed_at r s (c ∷ t) =
@@ -42,33 +43,34 @@ abbrev pub is_condition : Tree → Bool
 is_condition (ast_node node place) = is_condition_node node
 is_condition _ = false
 
--- a conditional of its branches; where both are Empty, the condition alone
+-- a conditional of these branches; if both are Empty, only the condition
 abbrev pub conditional_of : Tree → Tree → Tree → Tree
 conditional_of c t f = if is_empty t && is_empty f then c else conditional c t f
 
--- the branches of a conditional's body: of an Alt, which has two or more, the first, and the choice among the others
+-- the branches of a conditional's body: the first branch of an Alt, which has two or more, and the choice among the
+-- others
 abbrev pub branches_of : Tree → Tree × Tree
 branches_of (alt (more_trees t ts)) = (t, choice (list_of ts))
 branches_of r = (r, empty)
 
--- the conditional of the condition c, whose body began where so many bytes were left;
--- a condition on a group alone may do without a body
+-- the conditional of the condition c, whose body began when this many bytes were left; only a condition on a group may
+-- have no body
 abbrev pub conditional_behind : Tree → ℕ → Tree → State → Outcome Tree
 conditional_behind c left r s =
     if bytes s.rest == left && not (is_condition c) then faulted (body_wanting s.rest)
     else closed (conditional_of c (branches_of r).0 (branches_of r).1) s
 
--- a branch behind `(?~|`, where no other follows
+-- the branch after `(?~|`, if no other branch follows
 abbrev pub clear_or_stopper : Tree → Tree
 clear_or_stopper a = if is_empty a then clear else stopper a
 
--- ---- the flags behind an atom
+-- ---- the flags after an atom
 
--- what is read, with these flags behind it
+-- what is read, with these flags after it
 abbrev pub restored : Flags → Outcome Tree → Outcome Tree
 restored f q = and_then q (λ r t. done r (record t { flags = f }))
 
--- behind a group the flags f from before it hold again; what is read at once, as `(?flags)`, leaves its own
+-- after a group, the flags f from before it hold again; what is read at once, such as `(?flags)`, leaves its own flags
 abbrev pub behind_atom : Ahead → Flags → Outcome Tree → Outcome Tree
 behind_atom nothing f q = q
 behind_atom (read o) f q = q
@@ -76,9 +78,9 @@ behind_atom _ f q = restored f q
 
 -- ---- the productions
 
--- The letters of a rule stand in braces before it: d is how many groups are open; s is the state where it begins, t and v
--- are later states, in text order, and u is a later text; r, a and c are trees, of which c is a condition; o and q are
--- outcomes, k and p the kind and the reach of a fault; e is what stands ahead, and h the head of a group.
+-- The variables of a rule are in braces before it: d is how many groups are open; s is the state at its start, t and v
+-- are later states, in text order, and u is a later text; r, a and c are trees, and c is a condition; o and q are
+-- outcomes, k and p the kind and the reach of an error; e is the start of an atom, and h the kind of a group.
 
 mutual
   -- branches with bars between
@@ -106,7 +108,7 @@ mutual
     piece : {d s u q : _} → skipped s ≡ rest u → Atom d (at s u) q → Piece d s (and_then q (quants d (bytes s.rest)))
     layout_fault : {d s p : _} → skipped s ≡ open_comment p → Piece d s (faulted (comment_not_closed p))
 
-  -- what stands ahead decides which rule of an atom applies
+  -- the start of an atom decides which of its rules applies
   pub data Atom : ℕ → State → Outcome Tree → Type 0 where
     atom : {d s e q : _} → ahead d s ≡ e → AtomOf e d s q → Atom d s (behind_atom e s.flags q)
 
@@ -119,28 +121,28 @@ mutual
     a_condition : {d s t v c o : _} → Inside d t (done c v) → Body d c v o → AtomOf (condition t) d s o
     condition_fault : {d s t k p : _} → Inside d t (fault k p) → AtomOf (condition t) d s (fault k p)
     a_body : {d s t c o : _} → Body d c t o → AtomOf (body c t) d s o
-    -- an absent expression's two branches; a stopper's or a clear's one
+    -- the two branches of an absent expression; the one branch of a stopper or a clear
     two_branches : {d s t v u a q : _} → Branch (d + 1) t (done a v) → strip bar v.rest ≡ Some u →
         Branch (d + 1) (at v u) q → AtomOf (absent_branch t) d s (and_then q (λ r. closed (expression a r)))
     one_branch : {d s t v a : _} → Branch (d + 1) t (done a v) → strip bar v.rest ≡ None →
         AtomOf (absent_branch t) d s (closed (clear_or_stopper a) v)
     absent_fault : {d s t k p : _} → Branch (d + 1) t (fault k p) → AtomOf (absent_branch t) d s (fault k p)
 
-  -- the inside of a group, one level deeper, through its closing parenthesis
+  -- the contents of a group, one level deeper, with its closing parenthesis
   pub data Inside : ℕ → State → Outcome Tree → Type 0 where
     inside : {d s q : _} → Alternation (d + 1) s q → Inside d s (and_then q closed)
 
-  -- the body of a conditional whose condition is the tree, through its closing parenthesis
+  -- the body of a conditional whose condition is the tree, with its closing parenthesis
   pub data Body : ℕ → Tree → State → Outcome Tree → Type 0 where
     the_body : {d c s q : _} → Alternation (d + 1) s q → Body d c s (and_then q (conditional_behind c (bytes s.rest)))
 
 -- ---- a whole text
 
--- the state before a whole text
+-- the state at the start of a whole text
 abbrev pub start : Flags → Text → State
 start f text = record { flags = f; rest = text }
 
--- the tree, where nothing is left over; what is left can only begin with a closing parenthesis
+-- the tree, if nothing is left; what is left can only begin with a closing parenthesis
 abbrev pub ended_at : Tree → State → Text → Outcome Tree
 ended_at r s [] = done r s
 ended_at r s (c ∷ t) = faulted (close_paren_left_over s.rest)
@@ -148,14 +150,14 @@ ended_at r s (c ∷ t) = faulted (close_paren_left_over s.rest)
 abbrev pub ended : Tree → State → Outcome Tree
 ended r s = ended_at r s s.rest
 
--- a whole text under the flags handed in
+-- a whole text, under the flags that the caller gives
 pub data Whole : Flags → Text → Outcome Tree → Type 0 where
   whole : {f text q : _} → Alternation 0 (start f text) q → Whole f text (and_then q ended)
 
--- the grammar derives all of the text, with this raw tree
+-- the grammar derives the whole text, with this raw tree
 abbrev pub DerivesTree : Flags → Text → Tree → Type 0
 DerivesTree f text r = (t : State) × Whole f text (done r t)
 
--- the reading of the text ends with this fault, at this position
+-- reading the text ends with an error of this kind, at this position
 abbrev pub Faults : Flags → Text → Kind → ℕ → Type 0
 Faults f text k p = (q : ℕ) × Whole f text (fault k q) × IsPositionOf (bytes text) q p

@@ -3,7 +3,7 @@ use Rattle.std.specs.Prelude.{Bool, true, false, ◌||◌}
 use Rattle.fancy_grammar.specs.Tree.{Tree, Trees, no_trees, more_trees, concat, alt, group, repeat, delegate}
 
 abbrev mutual
-  -- among the nodes that have a text; what a DefineGroup holds is not looked at
+  -- only nodes that have a text are searched; the contents of a DefineGroup are not
   pub has_delegate : Tree → Bool
   has_delegate (delegate s casei) = true
   has_delegate (concat ts) = any_has_delegate ts

@@ -1,4 +1,4 @@
--- What opens a group that holds one alternation, and what the group comes to.
+-- The kinds of groups that hold one alternation, and the node of each.
 use Rattle.std.specs.Prelude.{ℕ, Option}
 use Rattle.fancy_lex.specs.Text.{Text}
 use Rattle.fancy_grammar.specs.Tree.{Tree, look_around, atomic_group, define_group, repeater as repeater_of}
@@ -7,13 +7,13 @@ use Rattle.fancy_grammar.specs.declared.kinds.LookAround.{LookAround}
 
 pub data Head : Type 0 where
   capture : Option Text → Head  -- a capturing group, with its name if it has one
-  scope : Head  -- a group of flags
+  scope : Head  -- a group that sets flags
   look : LookAround → Head
   atomic : Head
   define : Head
   repeater : Head  -- an absent repeater
 
--- the node round the inside of a group that opens at the reach p
+-- the node around the contents of a group that opens at the reach p
 abbrev pub group_node : Head → ℕ → Tree → Tree
 group_node (capture name) p t = ast_group name p t
 group_node scope p t = t

@@ -9,12 +9,12 @@ use Rattle.fancy_grammar.specs.Label.{Leaf, Wrap, AstReference, ast_group, ast_n
 use Rattle.fancy_grammar.specs.Label.{ast_condition}
 use Rattle.fancy_grammar.specs.Tree.{Tree, leaf, over, row, Trees, no_trees, more_trees}
 
--- a capturing group opens, or a reference stands at a reach
+-- a capturing group opens, or there is a reference at a reach
 pub data Item : Type 0 where
   opening : Opening → Item
   reference : AstReference → ℕ → Item
 
--- how a reference refers, and to what
+-- how a reference refers, and to which target
 abbrev pub role_of : AstReference → Role
 role_of (ast_backref target casei level) = back_reference
 role_of (ast_call target) = call
@@ -25,7 +25,7 @@ target_of (ast_backref target casei level) = target
 target_of (ast_call target) = target
 target_of (ast_condition target level) = target
 
--- what a node opens, or refers to
+-- what a node opens or refers to
 abbrev pub opened_by : Wrap → List Item
 opened_by (ast_group name reach) = opening (record { reach = reach; name = name }) ∷ []
 opened_by _ = []
@@ -57,8 +57,8 @@ openings r = openings_in (items r)
 
 -- ---- what the references mean
 
--- the references among the items, each with its reach and what it means, where each name has these numbers, and c
--- groups that have a number open before the items
+-- the references among the items, each with its reach and its meaning; `numbers_of` gives the numbers of each name, and
+-- c groups that have a number open before the items
 abbrev pub meanings_in : Bool → (Text → List ℕ) → ℕ → List Item → List (AstReference × ℕ × Meaning)
 meanings_in named numbers_of c [] = []
 meanings_in named numbers_of c (opening o ∷ l) =
@@ -66,10 +66,10 @@ meanings_in named numbers_of c (opening o ∷ l) =
 meanings_in named numbers_of c (reference r reach ∷ l) =
     (r, reach, means numbers_of c (role_of r) (target_of r)) ∷ meanings_in named numbers_of c l
 
--- the numbers of each name in a raw tree, under the flags that are handed in
+-- the numbers of each name in a raw tree, under the flags that the caller gives
 abbrev pub numbers_in : Flags → Tree → Text → List ℕ
 numbers_in f r name = numbers name (numbered_openings f (openings r))
 
--- the references of a raw tree in text order, each with its reach and what it means
+-- the references of a raw tree in text order, each with its reach and its meaning
 abbrev pub meanings : Flags → Tree → List (AstReference × ℕ × Meaning)
 meanings f r = meanings_in (only_named f (openings r)) (numbers_in f r) 0 (items r)

@@ -11,16 +11,16 @@ abbrev pub solid : List Tree → List Tree
 solid [] = []
 solid (t ∷ ts) = if is_empty t then solid ts else t ∷ solid ts
 
--- Empty for no tree, the tree itself for one, and else the trees as one node
+-- Empty for no tree, the tree itself for one, and otherwise the trees in one node
 abbrev pub one_or : (Trees → Tree) → List Tree → Tree
 one_or node [] = empty
 one_or node (t ∷ []) = t
 one_or node (t ∷ u ∷ ts) = node (trees_of (t ∷ u ∷ ts))
 
--- a branch of these pieces: the Empties are left out
+-- a branch of these pieces; the Empties are left out
 abbrev pub join : List Tree → Tree
 join ts = one_or concat (solid ts)
 
--- a choice among these branches: the Empties stay
+-- a choice among these branches; the Empties stay
 abbrev pub choice : List Tree → Tree
 choice ts = one_or alt ts

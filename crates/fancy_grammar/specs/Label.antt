@@ -1,12 +1,12 @@
--- What the nodes of a tree are: all that they hold but the trees below them. Texts are lists of characters. A node as
--- it is read says its reach, and one that stays where references are resolved its place.
+-- The labels of a tree's nodes: everything that a node holds except the trees below it. Texts are lists of characters.
+-- An unresolved node holds its reach, and one that remains after references are resolved holds its position.
 use Rattle.std.specs.Prelude.{ℕ, ℤ, Bool, List, Option}
 use Rattle.fancy_lex.specs.declared.escape.Assertion.{Assertion}
 use Rattle.fancy_lex.specs.Target.{Target}
 use Rattle.fancy_grammar.specs.declared.kinds.LookAround.{LookAround}
 use Rattle.fancy_grammar.specs.declared.kinds.BacktrackingControlVerb.{BacktrackingControlVerb}
 
--- a reference as it is read
+-- a reference before it is resolved
 pub data AstReference : Type 0 where
   ast_backref : Target → Bool → Option ℤ → AstReference
   ast_call : Target → AstReference
@@ -42,7 +42,7 @@ pub data Wrap : Type 0 where
   stopper : Wrap
   ast_group : Option (List ℕ) → ℕ → Wrap
 
--- a node over several: of an expression there are two, and of a conditional three
+-- a node over several trees: an expression has two, a conditional three
 pub data Row : Type 0 where
   concat : Row
   alt : Row

@@ -1,10 +1,10 @@
--- What a pattern means: what the public contracts of its parser and its printer speak of.
+-- What a pattern means: the definitions that the public contracts of the parser and the printer use.
 
 -- ---- trees, and when two are the same
 pub mod Label
 pub mod Tree
 pub mod Same
--- ---- reading: the grammar, and the faults that it comes to
+-- ---- reading: the grammar and its errors
 pub mod Depth
 pub mod State
 pub mod Head
@@ -15,16 +15,16 @@ pub mod Quantified
 pub mod Grammar
 pub mod Premises
 pub mod Errors
--- ---- what references mean, and what is answered
+-- ---- what references mean, and what is returned
 pub mod Items
 pub mod Resolved
 pub mod Marks
 pub mod Answer
 pub mod Preorder
 pub mod Answered
--- ---- where the nodes stand
+-- ---- the spans of nodes
 pub mod Spans
--- ---- printing, and what a printed text reads as
+-- ---- printing, and how a printed text reads
 pub mod Printed
 pub mod HasDelegate
 pub mod Normal
@@ -42,7 +42,7 @@ pub mod PatternDepth
 pub mod ReadAs
 pub mod OfPattern
 pub mod Writable
--- What no public contract speaks of, but private ones of the parser and the resolver do.
+-- These are used by private contracts of the parser and the resolver, and by no public contract.
 
 -- ---- reading
 pub mod Plain

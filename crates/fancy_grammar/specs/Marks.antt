@@ -1,4 +1,4 @@
--- What is said of a tree beside it.
+-- The group information of a tree.
 use Rattle.std.specs.Prelude.{ℕ, Bool, true, false, ◌==◌, nat_le, nat_lt, List, [], length, Option, Some, None}
 use Rattle.std.specs.Prelude.{filter, filter_map, find, fold}
 use Rattle.std.specs.BTreeSet.{insert_key}
@@ -17,14 +17,14 @@ use Rattle.fancy_grammar.specs.Tree.{Tree}
 pub record Marks : Type 0 where
   pub backrefs : List ℕ  -- the numbers of the back references
   pub named_groups : List (Text × List ℕ)  -- for each name, in order, the numbers of its groups
-  pub numeric_capture_group_references : Bool  -- some reference is written as a number
+  pub numeric_capture_group_references : Bool  -- some reference is written with a number
   pub contains_subroutines : Bool  -- some call is written
   pub self_recursive : Bool  -- some call by the number 0 is written
   pub total_groups : ℕ  -- how many groups have a number
-  pub out_of_range_backref : Option ℕ  -- the first back reference to no group
+  pub out_of_range_backref : Option ℕ  -- the first back reference to a group that does not exist
   pub numbered_groups_ignored : Bool  -- some group has a name, and those without one have no number
 
--- the number of a back reference that has one
+-- the number of a back reference, if it has one
 abbrev pub back_number : Role → Meaning → Option ℕ
 back_number back_reference (number n) = Some n
 back_number _ _ = None
@@ -46,7 +46,7 @@ abbrev pub is_call_of_all : Role → Target → Bool
 is_call_of_all call (by_number n) = n == 0
 is_call_of_all _ _ = false
 
--- the marks of a raw tree that was read from the text, under the flags that are handed in
+-- the group information of a raw tree that was read from the text, under the flags that the caller gives
 abbrev pub marks : Flags → Text → Tree → Marks
 marks f text r =
     let groups = numbered_openings f (openings r) in

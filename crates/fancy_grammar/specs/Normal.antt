@@ -1,4 +1,4 @@
--- The normal form of a tree, under a Unicode setting: what its printed text is read as.
+-- The normal form of a tree, with UNICODE or without: what its printed text is read as.
 use Rattle.std.specs.Prelude.{ℕ, Bool, false, not, ◌&&◌, List, [], ◌∷◌, ◌++◌, map, is_none, Option, Some}
 use Rattle.std.specs.Prelude.{None, unwrap_or}
 use Rattle.fancy_lex.specs.Flags.{no_flag}
@@ -15,17 +15,17 @@ use Rattle.fancy_grammar.specs.Tree.{group, repeat, delegate, define_group}
 
 -- ---- the flags that a printed text is read under
 
--- no flag, or UNICODE alone
+-- no flag, or only UNICODE
 abbrev pub unicode_flags : Bool → Flags
 unicode_flags unicode = record no_flag { unicode = unicode }
 
--- these, and CASEI where that is asked
+-- these, and CASEI if asked for
 abbrev pub case_flags : Bool → Bool → Flags
 case_flags unicode casei = record (unicode_flags unicode) { casei = casei }
 
 -- ---- the text of a Delegate, read again
 
--- the leaf, where it is a Delegate and nothing is left behind it
+-- the leaf, if it is a Delegate and no text is left
 abbrev pub whole_of : Text → Tree → Option Tree
 whole_of [] (delegate s casei) = Some (delegate s casei)
 whole_of _ _ = None
@@ -34,18 +34,18 @@ abbrev pub whole_leaf : Outcome Tree → Option Tree
 whole_leaf (done r s) = whole_of s.rest r
 whole_leaf (fault k p) = None
 
--- the Delegate that the text alone is read as, which is one whole class or one whole class escape
+-- the Delegate that this text is read as, if it is one whole class or one whole class escape
 unfoldable pub class_of : Flags → Text → Option Tree
 class_of f [] = None
 class_of f (c ∷ t) = whole_leaf (leaf_of (start f (c ∷ t)) c t)
 
 -- ---- the normal form
 
--- one character, which keeps its case flag only where it is printed without a backslash
+-- one character; it keeps its case flag only if it is printed without a backslash
 abbrev pub normal_character : Bool → ℕ → Tree
 normal_character casei c = literal (c ∷ []) (casei && is_none (behind_backslash c))
 
--- what a tree of this normal form is among the pieces of a sequence
+-- the pieces in a sequence that come from a tree with this normal form
 abbrev pub pieces_of : Tree → Tree → List Tree
 pieces_of (literal s false) n = map (normal_character false) s
 pieces_of _ n = solid (n ∷ [])

@@ -6,6 +6,6 @@ use Rattle.fancy_grammar.specs.Answer.{IsTreeOf}
 use Rattle.fancy_grammar.specs.Marks.{Marks}
 use Rattle.fancy_grammar.specs.Tree.{Tree}
 
--- some pattern of fewer than 2 ^ 63 bytes is read as the tree, with the marks
+-- some pattern of fewer than 2 ^ 63 bytes is parsed as this tree, with this group information
 abbrev pub IsOfPattern : Flags → Tree → Marks → Type 0
 IsOfPattern f t m = (text : Text) × IsTreeOf f text t m × (bytes text < 2 ^ 63)

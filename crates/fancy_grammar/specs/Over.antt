@@ -1,4 +1,4 @@
--- The parentheses that open printed groups, and the first that stands too deep.
+-- The parentheses that open printed groups, and the first one that is too deep.
 use Rattle.std.specs.Prelude.{ℕ, ◌+◌, ◌==◌, Bool, true, false, ◌||◌, nat_lt, List, [], ◌∷◌, ◌++◌, codes, find, Option}
 use Rattle.fancy_lex.specs.Text.{Text, bytes}
 use Rattle.fancy_lex.specs.declared.escape.Assertion.{Assertion}
@@ -9,25 +9,25 @@ use Rattle.fancy_grammar.specs.Printed.{WHOLE, BRANCH, PIECE, OPERAND}
 use Rattle.fancy_grammar.specs.Tree.{Tree, Trees, no_trees, more_trees, any, assertion, literal, concat, alt, group}
 use Rattle.fancy_grammar.specs.Tree.{repeat, delegate}
 
--- the opening parenthesis of a printed group: its place in bytes, and how many groups are open round it
+-- the opening parenthesis of a printed group: its position in bytes, and how many groups are open around it
 pub record Paren : Type 0 where
   pub place : ℕ
   pub round : ℕ
 
--- the parentheses from a place on, inside so many groups
+-- the parentheses from a position on, inside this many groups
 abbrev pub Parens : Type 0
 Parens = ℕ → ℕ → List Paren
 
 abbrev pub no_parens : Parens
 no_parens place round = []
 
--- a group of this head round these, where it is printed
+-- a group with this opening around these parentheses, if it is printed
 abbrev pub in_group : Bool → Text → Parens → Parens
 in_group true head inside place round =
     record { place = place; round = round } ∷ inside (place + bytes head) (round + 1)
 in_group false head inside place round = inside place round
 
--- the start or the end of each line, which is printed with its flags in a group
+-- the start or the end of each line, which is printed in a group with its flags
 abbrev pub is_at_line : Assertion → Bool
 is_at_line (StartLine crlf) = true
 is_at_line (StartLineOniguruma crlf) = true
@@ -35,7 +35,7 @@ is_at_line (EndLine crlf) = true
 is_at_line _ = false
 
 abbrev mutual
-  -- those of the tree's text at a precedence, in text order
+  -- the parentheses in the tree's text at a precedence, in text order
   pub parens : Tree → ℕ → Parens
   parens (any newline crlf) p = in_group (newline || crlf) [] no_parens
   parens (assertion a) p = in_group (is_at_line a) [] no_parens
@@ -63,10 +63,10 @@ abbrev mutual
   parens_barred (more_trees t ts) place round =
       parens t BRANCH (place + 1) round ++ parens_barred ts (place + 1 + bytes (printed t BRANCH)) round
 
--- a group that opens there is too deep, and none before it
+-- a group that opens here is too deep, and the groups around it are not
 abbrev pub is_too_deep : Paren → Bool
 is_too_deep q = q.round + 1 == max_depth
 
--- the first of the tree's text at a precedence that is too deep
+-- the first parenthesis in the tree's text at a precedence that is too deep
 abbrev pub too_deep : Tree → ℕ → Option Paren
 too_deep t p = find is_too_deep (parens t p 0 0)

@@ -1,5 +1,5 @@
--- A text for every tree, for the flags that its pattern was read under, made so that it reads under them as the same tree,
--- but for the places of calls that mean no group, and has the same marks.
+-- A text for every tree, for the flags that its pattern was parsed under. It is made so that under these flags it is
+-- parsed as the same tree, up to the positions of calls that refer to no group, with the same group information.
 use Rattle.std.specs.Prelude.{ℕ, zero, suc, ◌+◌, ◌-◌, nat_lt, Bool, true, false, not, ◌&&◌, ◌||◌, [], ◌∷◌, ◌++◌}
 use Rattle.std.specs.Prelude.{nat_eq, codes, if◌then◌else◌}
 use Rattle.std.specs.List.{flat_map, starts_with}
@@ -32,11 +32,11 @@ use Rattle.fancy_grammar.specs.declared.kinds.BacktrackingControlVerb.TheVariant
 use Rattle.fancy_grammar.specs.declared.precedence.Precedence.{Precedence}
 use Rattle.fancy_grammar.specs.declared.precedence.Precedence.TheVariants.{Whole, Branch, Piece, Operand}
 
--- ---- where a text stands
+-- ---- where a text is written
 
 pub record Here : Type 0 where
-  pub flags : Flags  -- those that hold there
-  pub opened : ℕ  -- how many groups with a number open before
+  pub flags : Flags  -- the flags that hold here
+  pub opened : ℕ  -- how many groups with a number opened before
   pub depth : ℕ  -- how many groups are open
 
 abbrev pub under : Flags → Here → Here
@@ -48,13 +48,13 @@ past_groups n h = record h { opened = h.opened + n }
 abbrev pub deeper : Here → Here
 deeper h = record h { depth = h.depth + 1 }
 
--- pieces may stand there one behind another
+-- pieces may follow one another here
 abbrev pub takes_pieces : Precedence → Bool
 takes_pieces Whole = true
 takes_pieces Branch = true
 takes_pieces _ = false
 
--- branches may stand there side by side
+-- branches, with bars between them, may be written here
 abbrev pub takes_branches : Precedence → Bool
 takes_branches Whole = true
 takes_branches _ = false
@@ -64,38 +64,38 @@ abbrev pub is_operand : Precedence → Bool
 is_operand (Operand k) = true
 is_operand _ = false
 
--- a quantifier follows, and no other may stand before it
+-- a quantifier follows, and no other may come before it
 abbrev pub is_last_operand : Precedence → Bool
 is_last_operand (Operand zero) = true
 is_last_operand _ = false
 
 -- ---- groups
 
--- in the parentheses of a group, behind its head
+-- in the parentheses of a group, after its opening
 abbrev pub in_parens : Text → (Here → Text) → Here → Text
 in_parens head text h = codes "(" ++ (head ++ (text (deeper h) ++ codes ")"))
 
--- the whole of a group with this head where that is asked, and else at its precedence
+-- in a group of its own with this opening if asked for, and otherwise at its precedence
 abbrev pub in_parens_if : Bool → Text → (Precedence → Here → Text) → Precedence → Here → Text
 in_parens_if true head text p h = in_parens head (text Whole) h
 in_parens_if false head text p h = text p h
 
--- behind the flags that are set before the tree
+-- after the flags that are set before the tree
 abbrev pub after_setting : Tree → (Here → Text) → Here → Text
 after_setting t text h = setting h.flags (settled h.flags t) ++ text (under (settled h.flags t) h)
 
--- in a group of flags that sets them for itself, unless the tree may stand there as it is
+-- in a group that sets the flags for its contents, unless the tree may be written here directly
 abbrev pub in_scope_unless : Bool → Tree → (Here → Text) → Here → Text
 in_scope_unless true t text h = text h
 in_scope_unless false t text h =
     in_parens (codes "?" ++ (letters_between h.flags (settled h.flags t) ++ codes ":")) text
     (under (settled h.flags t) h)
 
--- a tree that no quantifier may follow, in a group where one does: it was read in one that has no number
+-- a tree that cannot be repeated is in a group if a quantifier follows; it was parsed from a group that has no number
 abbrev pub as_atom : Tree → Precedence → (Here → Text) → Here → Text
 as_atom t p text h = if is_operand p && not (is_repeatable h.flags t) then in_parens [] text h else text h
 
--- behind an empty comment, where it would be read together with what stands before it
+-- after an empty comment, if it would otherwise be read together with the text before it
 abbrev pub parted_if : Bool → Text → Text
 parted_if is t = if is then codes "(?#)" ++ t else t
 
@@ -129,19 +129,19 @@ leaf_text m clear h = codes "(?~|)"
 leaf_text m (ast_node r place) h = unresolved_text r
 leaf_text m empty h = []
 
--- a reference in digits, to which a digit behind it would belong
+-- a reference in digits: a digit after it would be read as part of it
 abbrev pub is_in_digits : Marks → Tree → Bool
 is_in_digits m (leaf (backref n casei)) = m.numeric_capture_group_references
 is_in_digits m _ = false
 
 -- ---- quantifiers
 
--- how many may stand before that of a tree at this precedence
+-- how many quantifiers may come before that of a tree at this precedence
 abbrev pub room : Precedence → Here → ℕ
 room (Operand (suc k)) h = k
 room _ h = most_quantifiers h.flags h.depth - 1
 
--- a tree, whose text at each precedence this is, under its quantifier
+-- a tree under its quantifier; `text` gives the text of the tree at each precedence
 abbrev pub repeated : Bool → Tree → ℕ → ℕ → Bool → (Precedence → Here → Text) → Precedence → Here → Text
 repeated possessive t lo hi greedy text p h =
     text (Operand (room p h)) h
@@ -155,7 +155,7 @@ look_head LookAheadNeg = codes "?!"
 look_head LookBehind = codes "?<="
 look_head LookBehindNeg = codes "?<!"
 
--- a condition whose text as an alternation is this one, which is to be read neither as a target nor as `DEFINE`
+-- a condition, with its text as an alternation, which must not be read as a target or as `DEFINE`
 abbrev pub condition_text : Marks → Tree → Text → Text
 condition_text m (leaf (backref_exists n level)) t = target_text m n level
 condition_text m (leaf (verb v)) t = verb_name v
@@ -165,22 +165,22 @@ abbrev pub is_alt : Tree → Bool
 is_alt (row alt ts) = true
 is_alt _ = false
 
--- the branches of a conditional, whose texts are v and w; an Alt without a bar behind it would be read as both
+-- the branches of a conditional, with the texts v and w; an Alt without a bar after it would be read as both branches
 abbrev pub branches_text : Tree → Tree → Text → Text → Text
 branches_text t e v w =
     if is_empty t && is_empty e then codes "()"
     else v ++ (if not (is_empty e) || is_alt t then codes "|" ++ w else [])
 
--- an absent repeater: with a bar in front it would be another absent form
+-- an absent repeater; a bar at its start would make it another absent form
 abbrev pub repeater_text : Text → Text
 repeater_text t = parted_if (starts_with nat_eq t (codes "|")) t
 
--- a stopper: without a text it would be a clear
+-- a stopper; without a text it would be a clear
 abbrev pub stopper_text : Text → Text
 stopper_text [] = codes "()"
 stopper_text (c ∷ t) = c ∷ t
 
--- ---- behind a tree
+-- ---- after a tree
 
 abbrev mutual
   -- how many groups with a number
@@ -196,7 +196,7 @@ abbrev mutual
   group_count_all (more_trees t ts) = group_count t + group_count_all ts
 
 abbrev mutual
-  -- the flags that hold behind the text of a tree at a precedence: behind a group those from before it
+  -- the flags that hold after the text of a tree at a precedence: after a group, those from before it
   pub flags_behind : Tree → Precedence → Flags → Flags
   flags_behind (row concat ts) p f = if takes_pieces p then flags_behind_all ts Piece f else f
   flags_behind (row alt ts) p f = if takes_branches p then flags_behind_all ts Branch f else f
@@ -245,7 +245,7 @@ module _ (m : Marks) where
         ++ branches_text t e (written t Branch j) (written e Whole (behind t Branch j)))) h
     written _ p h = []
 
-    -- one behind the other; the flag says that a reference in digits stands before them
+    -- one after another; the flag says that a reference in digits comes just before
     pub written_all : Bool → Trees → Here → Text
     written_all after_digits no_trees h = []
     written_all after_digits (more_trees t ts) h =
@@ -262,7 +262,7 @@ module _ (m : Marks) where
     written_barred no_trees h = []
     written_barred (more_trees t ts) h = codes "|" ++ (written t Branch h ++ written_barred ts (behind t Branch h))
 
--- the text of a whole tree that was answered under the flags f with the marks m
+-- the text of a whole tree that was parsed under the flags f with the group information m
 unfoldable pub pattern_text : Flags → Tree → Marks → Text
 pattern_text f t m =
     setting f (agreed f t) ++ written m t Whole (record { flags = agreed f t; opened = 0; depth = 0 })

@@ -1,5 +1,5 @@
--- Where a tree fits: each group that its text opens, opens where fewer than 63 are open. These follow the texts of the
--- same names in `Pattern`, parenthesis by parenthesis.
+-- Where the text of a tree fits: each group that it opens, opens while fewer than 63 are open. These definitions follow
+-- the texts of the same names in `Pattern`, parenthesis by parenthesis.
 use Rattle.std.specs.Prelude.{◌≡◌, ◌+◌, ◌<◌, Bool, true, false, not, ◌&&◌, ◌||◌, nat_eq, codes}
 use Rattle.std.specs.List.{starts_with}
 use Rattle.fancy_lex.specs.declared.flags.Flags.{Flags}
@@ -20,15 +20,15 @@ use Rattle.fancy_grammar.specs.declared.precedence.Precedence.TheVariants.{Whole
 
 -- ---- groups
 
--- another group may open there
+-- another group may open here
 abbrev pub MayOpen : Here → Type 0
 MayOpen h = h.depth + 1 < max_depth
 
--- where one is asked for
+-- if the condition holds, another group may open here
 abbrev pub MayOpenIf : Bool → Here → Type 0
 MayOpenIf b h = b ≡ true → MayOpen h
 
--- the flags may be set there: that is a group, where they are not the same
+-- the flags may be set here; that takes a group if they change
 abbrev pub MaySet : Flags → Here → Type 0
 MaySet g h = MayOpenIf (turns_on h.flags g || turns_on g h.flags) h
 
@@ -52,7 +52,7 @@ FitsAsAtom t p inside h = FitsInParensIf (is_operand p && not (is_repeatable h.f
 
 -- ---- leaves, and conditions
 
--- the leaf's text is a group
+-- the leaf's text is in parentheses
 abbrev pub is_in_parens : Leaf → Bool
 is_in_parens (backref_exists n level) = true
 is_in_parens (verb v) = true
@@ -60,7 +60,8 @@ is_in_parens clear = true
 is_in_parens (ast_node r place) = starts_with nat_eq (unresolved_text r) (codes "(")
 is_in_parens _ = false
 
--- a condition that fits as an alternation where it says so; a target and a verb stand in the conditional's parentheses
+-- what a condition requires to fit, if `fits` is what its alternation requires; a target and a verb are in the
+-- parentheses of the conditional
 abbrev pub FitsAsCondition : Tree → Type 0 → Type 0
 FitsAsCondition (leaf (backref_exists n level)) fits = Unit {0}
 FitsAsCondition (leaf (verb v)) fits = Unit {0}
@@ -98,7 +99,7 @@ abbrev mutual
       × MayOpenIf (is_empty t && is_empty e) i × Fits t Branch j × Fits e Whole (behind t Branch j))) h
   Fits _ p h = Unit {0}
 
-  -- each at this precedence, one behind the other
+  -- each at this precedence, one after another
   pub FitAll : Trees → Precedence → Here → Type 0
   FitAll no_trees p h = Unit {0}
   FitAll (more_trees t ts) p h = Fits t p h × FitAll ts p (behind t p h)

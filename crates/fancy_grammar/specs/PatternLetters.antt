@@ -18,7 +18,7 @@ use Rattle.fancy_lex.specs.declared.flags.Flags.{Flags}
 
 -- ---- characters
 
--- control characters, and those that show nothing, from a first one to a last
+-- control characters and invisible ones, as ranges
 abbrev pub unseen : List (ℕ × ℕ)
 unseen =
     (0, 0x1F) ∷ (0x7F, 0xA0) ∷ (0xAD, 0xAD) ∷ (0x2000, 0x200F) ∷ (0x2028, 0x202F) ∷ (0x205F, 0x206F)
@@ -27,14 +27,14 @@ unseen =
 abbrev pub is_unseen : ℕ → Bool
 is_unseen c = list_any (λ r. nat_le r.0 c && nat_le c r.1) unseen
 
--- a character of at most four digits by its code: it reads so with UNICODE and without, and takes the case flag that
--- holds
+-- a character of at most four hex digits by its code; it is read the same with UNICODE and without, and has the case
+-- flag that holds
 abbrev pub coded : ℕ → Text
 coded c =
     if nat_lt c 0x80 then byte_text c
     else codes "\\u" ++ map upper_hex_digit (c / 4096 ∷ c / 256 % 16 ∷ c / 16 % 16 ∷ c % 16 ∷ [])
 
--- the letter that stands for the character behind a backslash
+-- the letter that denotes the character after a backslash
 abbrev pub letter_of : ℕ → Option ℕ
 letter_of c =
     if c == code "\n" then Some (code "n")
@@ -46,19 +46,19 @@ letter_of c =
     else if c == code "\u{1b}" then Some (code "e")
     else None
 
--- what a character is written as that no mark or flag concerns
+-- what a character is written as if it is no metacharacter and no flag applies to it
 abbrev pub plain : ℕ → Text
 plain c = if is_unseen c then coded c else c ∷ []
 
--- by its letter, or else the other text
+-- with its letter, or else the other text
 abbrev pub by_letter_or : ℕ → Text → Text
 by_letter_or c other = choose (letter_of c) (λ d. backslash ∷ d ∷ []) other
 
--- where blanks are layout, these are too
+-- if blanks are layout, these characters are layout too
 abbrev pub is_layout : Flags → ℕ → Bool
 is_layout f c = f.ignore_space && c ∈ " #"
 
--- a character of a Literal under these flags, with its case ignored, or kept
+-- a character of a Literal under these flags, with its case ignored or kept
 abbrev pub character : Flags → Bool → ℕ → Text
 character f true c = if c ∈ "\\.+*?()|[{^$" || is_layout f c then coded c else plain c
 character f false c =
@@ -66,7 +66,7 @@ character f false c =
 
 -- ---- escapes
 
--- any character: a dot where the flags say as its fields do
+-- any character: a dot if the flags agree with its fields
 abbrev pub any_text : Flags → Bool → Bool → Text
 any_text f newline crlf =
     if beq f.dotnl newline && beq f.crlf crlf then codes "."

@@ -1,5 +1,5 @@
--- What a tree needs of the flags, and the flags that are set before it. A text sets CASEI, MULTI, DOTNL and CRLF alone;
--- the others stay as they are handed in.
+-- Which flags a tree requires, and the flags that are set before it. A text sets only CASEI, MULTI, DOTNL and CRLF; the
+-- others stay as the caller gives them.
 use Rattle.std.specs.Prelude.{ℕ, Bool, true, false, not, ◌&&◌, ◌||◌, [], ◌∷◌, ◌++◌, codes, if◌then◌else◌}
 use Rattle.std.specs.Char.{is_ascii_alphanumeric}
 use Rattle.std.specs.List.{list_all}
@@ -19,7 +19,7 @@ use Rattle.fancy_grammar.specs.declared.needs.Need.{Need}
 use Rattle.fancy_grammar.specs.declared.needs.Need.TheVariants.{Free, Fixed, Torn}
 use Rattle.fancy_grammar.specs.declared.needs.Needs.{Needs}
 
--- ---- what a leaf needs
+-- ---- what a leaf requires
 
 abbrev pub no_needs : Needs
 no_needs = record { casei = Free; multi = Free; dotnl = Free; crlf = Free }
@@ -27,15 +27,15 @@ no_needs = record { casei = Free; multi = Free; dotnl = Free; crlf = Free }
 abbrev pub needs_case : Bool → Needs
 needs_case casei = record no_needs { casei = Fixed casei }
 
--- of `^` and `$` at lines
+-- for `^` and `$` at lines
 abbrev pub needs_line : Bool → Needs
 needs_line crlf = record no_needs { multi = Fixed true; crlf = Fixed crlf }
 
--- of a dot
+-- for a dot
 abbrev pub needs_dot : Bool → Bool → Needs
 needs_dot newline crlf = record no_needs { dotnl = Fixed newline; crlf = Fixed crlf }
 
--- behind a backslash the character stands for itself with its case kept, whatever the flags
+-- after a backslash the character is itself with its case kept, whatever the flags
 abbrev pub is_kept_by_backslash : Bool → ℕ → Bool
 is_kept_by_backslash oniguruma c = not (is_ascii_alphanumeric c) && (oniguruma || not (c ∈ "<>"))
 
@@ -62,14 +62,14 @@ leaf_needs o (any newline crlf) = if beq newline crlf then no_needs else needs_d
 leaf_needs o (assertion a) = assertion_needs a
 leaf_needs o _ = no_needs
 
--- ---- what a tree needs: what its leaves do, joined in text order; what a capturing group holds is none of them
+-- ---- what a tree requires: what its leaves require, in text order; the contents of a capturing group are not counted
 
--- what the one needs, or where that needs nothing the other behind it
+-- what the first requires, or, if that is nothing, what the second requires
 abbrev pub first : Need → Need → Need
 first Free n = n
 first n _ = n
 
--- what both need together
+-- what both require together
 abbrev pub both : Need → Need → Need
 both Free n = n
 both n Free = n
@@ -97,7 +97,7 @@ abbrev mutual
 
 -- ---- the flags that are set
 
--- the flag as it is needed, or else as it is
+-- the flag as it is required, or else unchanged
 abbrev pub fixed_or : Bool → Need → Bool
 fixed_or b (Fixed c) = c
 fixed_or b _ = b
@@ -110,36 +110,36 @@ with_needs f n = record f {
   crlf = fixed_or f.crlf n.crlf;
 }
 
--- before a tree: for each flag what the first leaf needs that needs something
+-- before a tree: for each flag, the first requirement of a leaf
 abbrev pub settled : Flags → Tree → Flags
 settled f t = with_needs f (needs first f.oniguruma_mode t)
 
--- before the whole: for each flag what all leaves need that need something, where they need the same
+-- before the whole: for each flag, the requirement of all leaves that have one, if they agree
 abbrev pub agreed : Flags → Tree → Flags
 agreed f t = with_needs f (needs both f.oniguruma_mode t)
 
 -- ---- how they are set
 
--- the letter, where the flag is on and was not
+-- the letter, if the flag is turned on
 abbrev pub letter_on : ℕ → Bool → Bool → Text
 letter_on c was on = if on && not was then c ∷ [] else []
 
--- the letters of the flags that are on in g, and not in f
+-- the letters of the flags that are on in g and off in f
 abbrev pub letters_on : Flags → Flags → Text
 letters_on f g =
     letter_on (code "i") f.casei g.casei ++ (letter_on (code "m") f.multi g.multi
     ++ (letter_on (code "s") f.dotnl g.dotnl ++ letter_on (code "R") f.crlf g.crlf))
 
--- some flag is on in g, and not in f
+-- some flag is on in g and off in f
 abbrev pub turns_on : Flags → Flags → Bool
 turns_on f g =
     (g.casei && not f.casei) || ((g.multi && not f.multi) || ((g.dotnl && not f.dotnl) || (g.crlf && not f.crlf)))
 
--- the letters that make the flags f the flags g
+-- the letters that change the flags f to the flags g
 abbrev pub letters_between : Flags → Flags → Text
 letters_between f g = letters_on f g ++ ((if turns_on g f then codes "-" else []) ++ letters_on g f)
 
--- a group that makes the flags f the flags g from there on, where they are not the same
+-- a group that changes the flags f to the flags g for what follows, if they differ
 abbrev pub setting : Flags → Flags → Text
 setting f g =
     if turns_on f g || turns_on g f then codes "(?" ++ (letters_between f g ++ codes ")") else []

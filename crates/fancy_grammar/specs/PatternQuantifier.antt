@@ -1,4 +1,4 @@
--- The text of a quantifier, and how many may stand one behind another.
+-- The text of a quantifier, and how many may follow one another.
 use Rattle.std.specs.Prelude.{ℕ, ◌+◌, ◌-◌, ◌==◌, min, nat_lt, Bool, true, false, not, ◌&&◌, ◌||◌, [], ◌++◌, codes}
 use Rattle.std.specs.Prelude.{decimal, Option, Some, None, is_none, if◌then◌else◌}
 use Rattle.std.proofs.Math.Bool.{beq}
@@ -11,31 +11,32 @@ use Rattle.fancy_grammar.specs.Label.{repeat, atomic_group}
 use Rattle.fancy_grammar.specs.Quantified.{max_adjacent}
 use Rattle.fancy_grammar.specs.Tree.{Tree, over}
 
--- an atomic group of a Repeat with these counts is read of a quantifier: of a possessive one, or in Oniguruma mode of
--- one whose counts have changed places
+-- an atomic group of a Repeat with these counts is what a quantifier is parsed as: a possessive one, or in Oniguruma
+-- mode one whose counts are exchanged
 abbrev pub is_possessive : Flags → ℕ → ℕ → Bool
 is_possessive f lo hi = not f.oniguruma_mode || nat_lt lo hi
 
--- the tree's text ends with a quantifier of its own
+-- the tree's text ends with its own quantifier
 abbrev pub is_quantified : Flags → Tree → Bool
 is_quantified f (over (repeat lo hi greedy) t) = true
 is_quantified f (over atomic_group (over (repeat lo hi greedy) t)) = is_possessive f lo hi
 is_quantified f _ = false
 
--- the mark for the counts; directly behind another quantifier `?` and `+` would belong to that
+-- the operator for the counts, if it can be used; directly after another quantifier, `?` and `+` would belong to that
+-- one
 abbrev pub mark_left : Bool → Option ℕ → Option ℕ
 mark_left adjacent None = None
 mark_left adjacent (Some c) = if adjacent && not (c == code "*") then None else Some c
 
--- where the quantifier is not greedy, or under SWAP_GREED where it is
+-- the lazy operator if the quantifier is not greedy, or under SWAP_GREED if it is
 abbrev pub lazy_mark : Flags → Bool → Text
 lazy_mark f greedy = if beq greedy f.swap_greed then codes "?" else []
 
 abbrev pub possessive_mark : Bool → Text
 possessive_mark possessive = if possessive then codes "+" else []
 
--- the mark or the counts in braces, and what stands behind; nothing behind braces is possessive in Oniguruma mode, but
--- counts that have changed places are
+-- the operator or the counts in braces, and what follows; in Oniguruma mode a quantifier in braces is possessive only
+-- by exchanged counts
 abbrev pub quantifier_by : Flags → Bool → ℕ → ℕ → Bool → Option ℕ → Text
 quantifier_by f possessive lo hi greedy m =
     if f.oniguruma_mode && (possessive && is_none m) then
@@ -46,6 +47,6 @@ abbrev pub quantifier_text : Flags → Bool → Bool → ℕ → ℕ → Bool �
 quantifier_text f possessive adjacent lo hi greedy =
     quantifier_by f possessive lo hi greedy (mark_left adjacent (mark lo hi))
 
--- how many may stand one behind another where so many groups are open
+-- how many quantifiers may follow one another if d groups are open
 abbrev pub most_quantifiers : Flags → ℕ → ℕ
 most_quantifiers f d = if f.oniguruma_mode then min (max_adjacent + 1) (max_depth - d) else 1

@@ -1,4 +1,4 @@
--- The texts of references, and of what they refer to: names, numbers, and distances.
+-- The texts of references, and of what they refer to: names, numbers and distances.
 use Rattle.std.specs.Prelude.{ℕ, ◌+◌, ◌-◌, ◌==◌, nat_lt, nat_le, ℤ, pos, negsuc, Bool, false, not, ◌&&◌, ◌||◌, List}
 use Rattle.std.specs.Prelude.{[], ◌∷◌, ◌++◌, codes, decimal, find, Option, Some, None, is_some, is_none}
 use Rattle.std.specs.Prelude.{if◌then◌else◌}
@@ -38,7 +38,8 @@ abbrev pub is_only : ℕ → List ℕ → Bool
 is_only n (k ∷ []) = k == n
 is_only n _ = false
 
--- the name of the group, where it is plain, its groups are such, and no reference is written as a number
+-- the name of the group, if it is plain, the numbers of its groups are as required, and no reference is written with a
+-- number
 abbrev pub fit_name : Marks → (List ℕ → Bool) → ℕ → Option Text
 fit_name m are_such n =
     choose (name_of m n)
@@ -49,7 +50,7 @@ fit_name m are_such n =
 abbrev pub name_or : Marks → (List ℕ → Bool) → ℕ → Text → Text
 name_or m are_such n other = choose (fit_name m are_such n) (λ w. w) other
 
--- ---- between marks
+-- ---- between delimiters
 
 abbrev pub marked : Text → Text → Text
 marked head w = head ++ (codes "<" ++ (w ++ codes ">"))
@@ -62,9 +63,9 @@ abbrev pub level_text : Option ℤ → Text
 level_text None = []
 level_text (Some z) = signed z
 
--- ---- references, behind the openings of c groups
+-- ---- references, after the openings of c groups
 
--- what a back reference names: a name means no group that opens later
+-- what a back reference names; a name does not refer to a group that opens later
 abbrev pub backref_name : Marks → ℕ → ℕ → Text
 backref_name m c n = name_or m (λ l. is_last n l && nat_le n c) n (decimal n)
 
@@ -80,11 +81,11 @@ abbrev pub target_text : Marks → ℕ → Option ℤ → Text
 target_text m n level =
     choose (fit_name m (is_last n) n) (λ w. marked [] (w ++ level_text level)) (decimal n ++ level_text level)
 
--- so many groups on, or back
+-- the distance to a group, counted forwards or backwards
 abbrev pub distance : ℕ → ℕ → Text
 distance c n = if nat_lt c n then code "+" ∷ decimal (n - c) else code "-" ∷ decimal (c + 1 - n)
 
--- what a call names: a number where some reference was one, and 0 where some call of it was
+-- what a call names: a number if some reference was written with one; 0 only if some call of 0 was
 abbrev pub call_name : Marks → ℕ → ℕ → Text
 call_name m c n =
     if m.numeric_capture_group_references && (nat_lt 0 n || m.self_recursive) then decimal n
@@ -93,7 +94,7 @@ call_name m c n =
 abbrev pub call_text : Marks → ℕ → ℕ → Text
 call_text m c n = marked (codes "\\g") (call_name m c n)
 
--- a call by a name that means no group
+-- a call by a name that no group has
 abbrev pub unresolved_call_by_name : Text → Text
 unresolved_call_by_name w =
     if is_relative w then codes "(?P>" ++ (w ++ codes ")")
@@ -101,7 +102,7 @@ unresolved_call_by_name w =
     else if not (is_among (code "'") w) then codes "\\g'" ++ (w ++ codes "'")
     else codes "(?P>" ++ (w ++ codes ")")
 
--- a reference that means no group is a call
+-- only a call may refer to no group
 abbrev pub unresolved_text : AstReference → Text
 unresolved_text (ast_call (by_name w)) = unresolved_call_by_name w
 unresolved_text (ast_call (relative z)) = marked (codes "\\g") (signed z)
@@ -110,13 +111,13 @@ unresolved_text _ = []
 
 -- ---- groups
 
--- what stands behind the parenthesis of a group of this name; before `=` and `!` a `<` would begin a look-behind
+-- what follows the parenthesis of a group with this name; before `=` and `!`, `?<` would open a look-behind
 abbrev pub name_head : Text → Text
 name_head [] = []
 name_head (c ∷ t) =
     if is_among (code ">") (c ∷ t) then codes "?'" ++ ((c ∷ t) ++ codes "'")
     else marked (if c ∈ "=!" then codes "?P" else codes "?") (c ∷ t)
 
--- the same of the group with the number n
+-- the same for the group with the number n
 abbrev pub group_head : Marks → ℕ → Text
 group_head m n = choose (name_of m n) (λ e. name_head e.0) []

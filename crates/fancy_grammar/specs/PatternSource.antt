@@ -1,5 +1,6 @@
--- The source of a Delegate: a text that the reader writes as the Delegate's. Read as it stands that text may change:
--- `\p{Zs}` is lowered, `\x09` becomes a TAB, and `\P{^x}` becomes `\p{x}`.
+-- The source of a Delegate: a text that the reader turns into the text of the Delegate.
+-- Read directly, the text of the Delegate may change: `\p{Zs}` is lowered, `\x09` becomes a TAB, and `\P{^x}` becomes
+-- `\p{x}`.
 use Rattle.std.specs.Prelude.{ℕ, zero, suc, ◌-◌, ◌==◌, Bool, true, false, not, ◌&&◌, ◌||◌, List, [], ◌∷◌}
 use Rattle.std.specs.Prelude.{◌++◌, codes, length, Option, Some, None, if◌then◌else◌}
 use Rattle.std.specs.Str.{bytes_eq}
@@ -12,11 +13,11 @@ use Rattle.fancy_lex.specs.Text.{Text, strip, strip_word, cut_at}
 use Rattle.fancy_lex.specs.declared.flags.Flags.{Flags}
 use Rattle.fancy_grammar.specs.PatternLetters.{by_letter_or, plain}
 
--- what the reader writes for an escape that no other source is written as
+-- what the reader writes for an escape, and for no other source
 pub record Replaced : Type 0 where
   pub written : Text
   pub escape : Text
-  pub negated : Bool  -- a negated set, before which the reader writes `&&` where it wrote another before
+  pub negated : Bool  -- a negated set; the reader writes `&&` before it if it has written another negated set
 
 abbrev pub items : Text → Text → Replaced
 items written escape = record { written = written; escape = escape; negated = false }
@@ -36,7 +37,7 @@ replaced true =
     ∷ []
 replaced false = items (codes "\\t ") (codes "\\p{blank}") ∷ []
 
--- a part of a source: its text, what is left of the Delegate's behind it, and whether it is a negated set
+-- a part of a source: its text, the rest of the Delegate's text after it, and whether it is a negated set
 pub record Part : Type 0 where
   pub source : Text
   pub rest : Text
@@ -47,11 +48,11 @@ part source rest = record { source = source; rest = rest; negated = false }
 
 -- ---- what is replaced
 
--- with `&&` before it where that is due; `seen` says whether a negated set was among the source before
+-- with `&&` before it if needed; `seen` says whether the source so far has a negated set
 abbrev pub written_after : Bool → Replaced → Text
 written_after seen r = joint (seen && r.negated) ++ r.written
 
--- the first of these that stands at the front
+-- the first of these that the text begins with
 abbrev pub replaced_part : Bool → List Replaced → Text → Option Part
 replaced_part seen [] t = None
 replaced_part seen (r ∷ l) t =
@@ -61,8 +62,8 @@ replaced_part seen (r ∷ l) t =
 
 -- ---- what is not
 
--- a property by its name, without the closing brace: the reader takes one caret off and turns the letter, which one
--- more of each makes good
+-- a property by its name, without the closing brace; the reader removes one caret and inverts the letter, so one caret
+-- more and the other letter are written
 abbrev pub named_front : Bool → Text → Text
 named_front upper name =
     choose (strip caret name) (λ t. letter (not upper) ++ (codes "{^^" ++ t)) (letter upper ++ (codes "{" ++ name))
@@ -70,7 +71,7 @@ named_front upper name =
 abbrev pub named_property : Bool → Text → Text
 named_property upper name = named_front upper name ++ codes "}"
 
--- the property whose name or opening brace stands behind its letter; no reader leaves the brace open
+-- the property with this letter, whose name or opening brace is next; no reader leaves the brace open
 abbrev pub property_part : Bool → Text → Part
 property_part upper [] = part (letter upper) []
 property_part upper (c ∷ t) =
@@ -87,11 +88,11 @@ single_part c (d ∷ t) =
 
 -- ---- part by part
 
--- what begins with the character that stands before t
+-- the part that begins with the character c before t
 abbrev pub part_at : Bool → Bool → ℕ → Text → Part
 part_at unicode seen c t = choose (replaced_part seen (replaced unicode) (c ∷ t)) (λ p. p) (single_part c t)
 
--- the number is how many characters at the front were taken already
+-- the number is how many characters at the front are already read
 unfoldable pub source_from : Bool → Bool → ℕ → Text → Text
 source_from unicode seen k [] = []
 source_from unicode seen (suc k) (c ∷ t) = source_from unicode seen k t
@@ -102,7 +103,7 @@ source_from unicode seen zero (c ∷ t) =
 abbrev pub source : Bool → Text → Text
 source unicode t = source_from unicode false 0 t
 
--- the hex classes have escapes that take no case flag, for where it is on
+-- the two hex classes have escapes that no case flag applies to, for when the flag is on
 abbrev pub delegate_text : Flags → Bool → Text → Text
 delegate_text f casei s =
     if f.casei && not casei && bytes_eq s hex_class then codes "\\h"

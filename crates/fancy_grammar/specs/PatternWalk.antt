@@ -1,4 +1,4 @@
--- What the walk that writes a tree's text goes by.
+-- What the walk that writes a tree's text uses.
 use Rattle.std.specs.Prelude.{Bool, List, [], ◌∷◌, ◌++◌}
 use Rattle.fancy_grammar.specs.Label.{ast_group}
 use Rattle.fancy_grammar.specs.Pattern.{Here, under, past_groups, group_count_all, flags_behind_all}
@@ -7,14 +7,13 @@ use Rattle.fancy_grammar.specs.Tree.{Tree, leaf, over, row, Trees, no_trees, mor
 use Rattle.fancy_grammar.specs.declared.needs.Needs.{Needs}
 use Rattle.fancy_grammar.specs.declared.precedence.Precedence.{Precedence}
 
--- what a leaf needs; nothing of a tree that holds others
+-- what the node itself requires: for a leaf what the leaf requires, and for any other node nothing
 abbrev pub needs_alone : Bool → Tree → Needs
 needs_alone o (leaf l) = leaf_needs o l
 needs_alone o _ = no_needs
 
 abbrev mutual
-  -- for each node and each flag what its first leaf needs that needs something; what a capturing group holds is passed
-  -- over
+  -- for each node and each flag, the first requirement of a leaf; the contents of a capturing group are skipped
   pub needs_listed : Bool → Tree → List Needs
   needs_listed o (leaf l) = leaf_needs o l ∷ []
   needs_listed o (over (ast_group name place) t) = no_needs ∷ []
@@ -25,6 +24,6 @@ abbrev mutual
   all_listed o no_trees = []
   all_listed o (more_trees t ts) = needs_listed o t ++ all_listed o ts
 
--- where what follows trees stands, each of which stands at the precedence
+-- where the text after these trees is written, if each of them is written at this precedence
 abbrev pub behind_all : Trees → Precedence → Here → Here
 behind_all ts p h = past_groups (group_count_all ts) (under (flags_behind_all ts p h.flags) h)

@@ -1,9 +1,9 @@
--- A tree with its places, or without.
+-- A tree with its positions, or without them.
 use Rattle.std.specs.Prelude.{ℕ, Bool, if◌then◌else◌}
 use Rattle.fancy_grammar.specs.Label.{Leaf, Wrap, ast_node, ast_group}
 use Rattle.fancy_grammar.specs.Tree.{Tree, leaf, over, row, Trees, no_trees, more_trees}
 
--- the place where it is asked, and else 0
+-- the position if asked for, and otherwise 0
 abbrev pub place_if : Bool → ℕ → ℕ
 place_if asked place = if asked then place else 0
 
@@ -16,7 +16,7 @@ wrap_placed asked (ast_group name place) = ast_group name (place_if asked place)
 wrap_placed asked w = w
 
 abbrev mutual
-  -- the tree with its places where they are asked, and else with each set to 0
+  -- the tree with its positions if asked for, and otherwise with each set to 0
   pub placed : Bool → Tree → Tree
   placed asked (leaf l) = leaf (leaf_placed asked l)
   placed asked (over w t) = over (wrap_placed asked w) (placed asked t)

@@ -2,10 +2,10 @@
 use Rattle.std.specs.Prelude.{ℕ, Bool}
 use Rattle.fancy_lex.specs.Characters.{◌∈◌}
 
--- with these a group, an escape, a class, a quantifier, another leaf or the end of a branch begins
+-- these begin a group, an escape, a class, a quantifier or another leaf, or end a branch
 abbrev pub is_special : ℕ → Bool
 is_special c = c ∈ "()|.^$\\[*+?"
 
--- with these a quantifier begins, or a comment before one
+-- these begin a quantifier, or a comment before one
 abbrev pub is_suffix : ℕ → Bool
 is_suffix c = c ∈ "(*+?{"

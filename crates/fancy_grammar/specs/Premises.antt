@@ -1,5 +1,5 @@
--- What the grammar's premises say by functions that go round, said by relations: what stands in the text, and what that
--- comes to. Each is proved, as a clause of `premises`.
+-- Some premises of the grammar are functions that loop; here they are stated as relations between a text and what it
+-- gives. Each statement is proved, as a clause of `premises`.
 use Rattle.std.specs.Prelude.{◌≡◌, ◌↔◌, ℕ, Bool}
 use Rattle.fancy_lex.specs.Boundary.{Boundary}
 use Rattle.fancy_lex.specs.BoundarySteps.{boundary}
@@ -13,14 +13,14 @@ use Rattle.fancy_lex.specs.declared.flags.Flags.{Flags}
 use Rattle.fancy_parts.specs.FlagLetters.{Letters, FlagGroup}
 use Rattle.fancy_parts.specs.LetterSteps.{letters}
 
--- layout: what stands before the rest of the text, or an open comment
+-- layout: what precedes the rest of the text, or an open comment
 abbrev pub LayoutIsRelated : Type 0
 LayoutIsRelated =
     (x : Bool) (t : Text) →
     ((v : Text) → (layout x t ≡ rest v) ↔ Before x t v)
     × ((p : ℕ) → (layout x t ≡ open_comment p) ↔ Unclosed x t p)
 
--- a class behind its bracket
+-- a class after its bracket
 abbrev pub ClassIsRelated : Type 0
 ClassIsRelated = (f : Flags) (t : Text) (o : Reading Text) → (class f t ≡ o) ↔ OuterClass f t o
 
@@ -28,7 +28,7 @@ ClassIsRelated = (f : Flags) (t : Text) (o : Reading Text) → (class f t ≡ o)
 abbrev pub LettersAreRelated : Type 0
 LettersAreRelated = (f : Flags) (t : Text) (o : Reading Letters) → (letters f t ≡ o) ↔ FlagGroup f t o
 
--- a boundary behind its letter
+-- a boundary after its letter
 abbrev pub BoundaryIsRelated : Type 0
 BoundaryIsRelated =
     (x : Bool) (p : ℕ) (negated : Bool) (t : Text) (o : Reading Escape) →

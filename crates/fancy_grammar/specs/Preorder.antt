@@ -1,4 +1,4 @@
--- The nodes of a tree in preorder: each before those that stand in it, in text order.
+-- The nodes of a tree in preorder: each before the nodes it contains, in text order.
 use Rattle.std.specs.Prelude.{List, [], ◌∷◌, ◌++◌}
 use Rattle.fancy_grammar.specs.Tree.{Tree, leaf, over, row, Trees, no_trees, more_trees}
 

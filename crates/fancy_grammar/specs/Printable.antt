@@ -1,4 +1,4 @@
--- The trees whose text reads back as their normal form, where fewer than 64 printed groups nest.
+-- The trees whose text reads back as their normal form, if fewer than 64 printed groups nest.
 use Rattle.std.specs.Prelude.{ℕ, Bool, true, false, not, ◌&&◌, is_some, nat_le}
 use Rattle.std.specs.Str.{all_scalars}
 use Rattle.fancy_lex.specs.declared.escape.Assertion.TheVariants.{EndTextIgnoreTrailingNewlines}
@@ -8,17 +8,17 @@ use Rattle.fancy_grammar.specs.Normal.{unicode_flags, class_of, normal}
 use Rattle.fancy_grammar.specs.Tree.{Tree, Trees, no_trees, more_trees, empty, any, assertion, literal, concat, alt}
 use Rattle.fancy_grammar.specs.Tree.{group, repeat, delegate, define_group}
 
--- a count that a word holds
+-- a count that fits in a word
 abbrev pub is_count : ℕ → Bool
 is_count n = nat_le n most
 
--- what a quantifier may stand behind; whether a normal form is Empty hangs on no setting
+-- what a quantifier may follow; whether a normal form is Empty does not depend on UNICODE
 abbrev pub takes_quantifier : Tree → Bool
 takes_quantifier t = not (is_empty (normal false t))
 
 abbrev mutual
-  -- every node has a text, that of a Delegate is one whole class or class escape, and under each Repeat stands what
-  -- takes a quantifier; what a DefineGroup holds is not looked at
+  -- every node has a text, the text of a Delegate is one whole class or class escape, and the operand of each Repeat
+  -- takes a quantifier; the contents of a DefineGroup are not checked
   pub printable : Tree → Bool
   printable empty = true
   printable (any newline crlf) = true

@@ -17,7 +17,7 @@ any_text true crlf = codes "(?s:.)"
 any_text false true = codes "(?R-s:.)"
 any_text false false = codes "."
 
--- a condition on the place; nothing for the one that has no text
+-- an assertion; nothing for the one that has no text
 abbrev pub assertion_text : Assertion → Text
 assertion_text StartText = codes "^"
 assertion_text EndText = codes "$"
@@ -35,24 +35,24 @@ assertion_text LeftWordHalfBoundary = codes "\\b{start-half}"
 assertion_text RightWordHalfBoundary = codes "\\b{end-half}"
 assertion_text (EndTextIgnoreTrailingNewlines crlf) = []
 
--- in a group of its own, where that is asked
+-- in a group of its own if asked for
 unfoldable pub grouped : Bool → Text → Text
 grouped true t = codes "(?:" ++ (t ++ codes ")")
 grouped false t = t
 
--- in a group of its own that ignores case, where that is asked
+-- in a group of its own that ignores case, if asked for
 unfoldable pub caseless : Bool → Text → Text
 caseless true t = codes "(?i:" ++ (t ++ codes ")")
 caseless false t = t
 
--- a Literal whose last character alone a quantifier would take
+-- a Literal of which a quantifier would repeat only the last character
 abbrev pub is_long : Tree → Bool
 is_long (literal s true) = false
 is_long (literal (c ∷ d ∷ s) false) = true
 is_long _ = false
 
--- the precedences: of a whole pattern and of the inside of a group, of a branch, of a piece in a row of them, and of
--- what a quantifier stands behind
+-- the precedences: of a whole pattern and of a group's contents, of a branch, of a piece in a sequence, and of the
+-- operand of a quantifier
 abbrev pub WHOLE : ℕ
 WHOLE = 0
 
@@ -66,7 +66,7 @@ abbrev pub OPERAND : ℕ
 OPERAND = 3
 
 abbrev mutual
-  -- the variants that have no text of their own give nothing
+  -- variants that have no text of their own print nothing
   pub printed : Tree → ℕ → Text
   printed (any newline crlf) p = any_text newline crlf
   printed (assertion a) p = assertion_text a
@@ -79,7 +79,7 @@ abbrev mutual
       grouped (nat_lt PIECE p) (grouped (is_long t) (printed t OPERAND) ++ quantifier lo hi greedy)
   printed _ p = []
 
-  -- one behind the other
+  -- one after another
   pub printed_all : Trees → Text
   printed_all no_trees = []
   printed_all (more_trees t ts) = printed t PIECE ++ printed_all ts
@@ -94,12 +94,12 @@ abbrev mutual
   barred no_trees = []
   barred (more_trees t ts) = codes "|" ++ (printed t BRANCH ++ barred ts)
 
--- what a quantifier is put behind
+-- the operand of a quantifier
 abbrev pub operand_text : Tree → Text
 operand_text t = grouped (is_long t) (printed t OPERAND)
 
 abbrev mutual
-  -- every node has a text; what a DefineGroup holds is not looked at
+  -- every node has a text; the contents of a DefineGroup are not checked
   pub has_text : Tree → Bool
   has_text empty = true
   has_text (any newline crlf) = true

@@ -25,36 +25,36 @@ is_repeatable f (leaf (label.verb v)) = false
 is_repeatable f (leaf (label.assertion a)) = not f.oniguruma_mode
 is_repeatable f _ = true
 
--- in Oniguruma mode an Empty stays without the quantifier whose mark or closing brace t follows, where that stands
--- behind the start, at which so many bytes were left
+-- in Oniguruma mode an Empty ignores a quantifier if a byte was read before the quantifier's operator or closing brace;
+-- left is how many bytes were left at the start, and t follows the operator or the brace
 abbrev pub is_dropped : Flags → ℕ → Tree → Text → Bool
 is_dropped f left a t = f.oniguruma_mode && (is_empty a && nat_lt (bytes t + 1) left)
 
--- a quantifier is greedy without the lazy mark; swapped, with it
+-- a quantifier is greedy without the lazy operator; with greed swapped, it is greedy with it
 abbrev pub is_greedy : Flags → Bool → Bool
 is_greedy f lazy = if f.swap_greed then lazy else not lazy
 
--- in Oniguruma mode a greatest count below the least one changes places with it
+-- in Oniguruma mode the two counts are exchanged if the greatest is below the least
 abbrev pub is_swapped : Flags → Counts → Bool
 is_swapped f c = f.oniguruma_mode && nat_lt c.high c.low
 
--- in Oniguruma mode nothing behind braces is possessive
+-- in Oniguruma mode no possessive operator follows counts in braces
 abbrev pub may_be_possessive : Flags → Counts → Bool
 may_be_possessive f c = not (f.oniguruma_mode && c.braces)
 
--- the marks behind the counts of a quantifier: the lazy one, and the possessive one
+-- the operators after the counts of a quantifier: the lazy one, and the possessive one
 pub record Suffix : Type 0 where
   pub lazy : Bool
   pub possessive : Bool
 
--- the tree under a quantifier of these counts and marks
+-- the tree under a quantifier with these counts and operators
 abbrev pub quantified : Flags → Counts → Suffix → Tree → Tree
 quantified f c m a =
     if is_swapped f c then atomic_group (repeat a c.high c.low (is_greedy f m.lazy))
     else if m.possessive then atomic_group (repeat a c.low c.high (is_greedy f m.lazy))
     else repeat a c.low c.high (is_greedy f m.lazy)
 
--- directly behind the lazy mark, or where it could stand: the possessive one
+-- the possessive operator; it follows the lazy one at once, or is where the lazy one could be
 abbrev pub behind_lazy : State → Counts → Bool → Text → Outcome Suffix
 behind_lazy s c lazy t =
     let plain = done (record { lazy = lazy; possessive = false }) (at s t) in
@@ -62,16 +62,16 @@ behind_lazy s c lazy t =
     choose (strip (code "+") t) (λ u. done (record { lazy = lazy; possessive = true }) (at s u)) plain
     else plain
 
--- behind the counts: layout, and then the lazy mark
+-- after the counts: layout, and then the lazy operator
 abbrev pub suffix_at : State → Counts → Skipped → Outcome Suffix
 suffix_at s c (rest t) = choose (strip (code "?") t) (behind_lazy s c true) (behind_lazy s c false t)
 suffix_at s c (open_comment p) = faulted (comment_not_closed p)
 
--- the marks behind the counts
+-- the operators after the counts
 abbrev pub suffix : State → Counts → Outcome Suffix
 suffix s c = suffix_at s c (skipped s)
 
--- the tree under these counts; where it is not repeatable, the fault stands at the mark or the closing brace
+-- the tree under these counts; if it cannot be repeated, the error is at the operator or the closing brace
 abbrev pub with_counts : ℕ → Tree → State → Option (Counts × Text) → Outcome Tree
 with_counts left a s None = done a s
 with_counts left a s (Some (c, t)) =
@@ -79,25 +79,25 @@ with_counts left a s (Some (c, t)) =
     else if is_dropped s.flags left a t then seen_through (λ m. a) (suffix (at s t) c)
     else faulted (not_repeatable t)
 
--- behind the layout before a quantifier
+-- after the layout that precedes a quantifier
 abbrev pub quant_at : ℕ → Tree → State → Skipped → Outcome Tree
 quant_at left a s (rest t) = with_counts left a (at s t) (counts s.flags.ignore_space t)
 quant_at left a s (open_comment p) = faulted (comment_not_closed p)
 
--- layout, and the tree under the quantifier that follows it, or the tree itself where none does
+-- layout, and the tree under the quantifier that follows it, or the tree itself if no quantifier follows
 unfoldable pub quant : ℕ → Tree → State → Outcome Tree
 quant left a s = quant_at left a s (skipped s)
 
--- no byte was taken between the states
+-- no byte was read between the states
 abbrev pub is_unmoved : State → State → Bool
 is_unmoved s t = bytes t.rest == bytes s.rest
 
--- one adjacent quantifier more may count, where so many may, at depth d
+-- whether one more adjacent quantifier is allowed at depth d, if this many still are
 abbrev pub may_count : ℕ → ℕ → Bool
 may_count zero d = false
 may_count (suc k) d = nat_lt (d + 1) max_depth
 
--- adjacent quantifiers at depth d: each that takes a byte counts, and is one level deeper; k may count
+-- adjacent quantifiers at depth d: each that reads a byte counts, and is one level deeper; k of them may count
 unfoldable pub adjacent : ℕ → ℕ → Tree → State → Outcome Tree
 adjacent zero d a s =
     and_then (quant (bytes s.rest) a s) (λ b t.
@@ -113,8 +113,8 @@ adjacent (suc k) d a s =
 abbrev pub max_adjacent : ℕ
 max_adjacent = 4
 
--- the quantifiers of an atom at depth d, before which so many bytes were left: one, and in Oniguruma mode those
--- adjacent to it
+-- the quantifiers of an atom at depth d, before which this many bytes were left: one, and in Oniguruma mode the
+-- adjacent ones after it
 abbrev pub quants : ℕ → ℕ → Tree → State → Outcome Tree
 quants d left a s =
     and_then (quant left a s) (λ b t. if t.flags.oniguruma_mode then adjacent max_adjacent d b t else done b t)

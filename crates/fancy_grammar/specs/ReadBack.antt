@@ -1,4 +1,4 @@
--- What the text that is printed for a tree comes to where it is read again.
+-- What is parsed when the text that was printed for a tree is read again.
 use Rattle.std.specs.Prelude.{◌≡◌, ℕ, Bool, true, false, [], length, Option, Some, None}
 use Rattle.fancy_lex.specs.Fault.{Kind, recursion_exceeded}
 use Rattle.fancy_lex.specs.Flags.{no_flag, unicode_alone}
@@ -11,7 +11,7 @@ use Rattle.fancy_grammar.specs.Tree.{Tree}
 use Rattle.fancy_grammar.specs.Normal.{normal}
 use Rattle.fancy_grammar.specs.Over.{Paren, too_deep}
 
--- the marks of a tree with so many groups, none of which has a name, and with no reference
+-- the group information of a tree with this many groups, without names and without references
 abbrev pub marks_of_groups : ℕ → Marks
 marks_of_groups n = record {
   backrefs = [];
@@ -24,7 +24,7 @@ marks_of_groups n = record {
   numbered_groups_ignored = false;
 }
 
--- what is answered for a text: its tree with its marks, or its fault with the place
+-- what the parser returns for a text: its tree and group information, or its error and the position
 pub data Answer : Type 0 where
   read : Tree → Marks → Answer
   refused : Kind → ℕ → Answer
@@ -33,21 +33,21 @@ abbrev pub IsAnswerOf : Flags → Text → Answer → Type 0
 IsAnswerOf f text (read t m) = IsTreeOf f text t m
 IsAnswerOf f text (refused k p) = IsFaultOf f text k p
 
--- the text has this answer, and no other
+-- the text has this result, and no other
 pub record IsOnlyAnswer (f : Flags) (text : Text) (a : Answer) : Type 0 where
   pub is : IsAnswerOf f text a
   pub only : (b : Answer) → IsAnswerOf f text b → b ≡ a
 
--- a tree that holds no reference, with as many groups as it has; or, where a group is too deep, the fault there
+-- a tree without references, and its number of groups; or, if a group is too deep, the error at that group
 abbrev pub read_or_refused : Tree → Option Paren → Answer
 read_or_refused t None = read t (marks_of_groups (length (groups t)))
 read_or_refused t (Some q) = refused recursion_exceeded q.place
 
--- what is answered for the text of a printable tree: its normal form, or the fault of the first group that is too deep
+-- the result for the text of a printable tree: its normal form, or the error at the first group that is too deep
 abbrev pub read_back : Bool → Tree → ℕ → Answer
 read_back u t p = read_or_refused (normal u t) (too_deep t p)
 
--- the text has that answer and no other, with no flag and with FLAG_UNICODE alone
+-- the text has this result and no other, both with no flag and with only FLAG_UNICODE
 pub record IsReadBack (t : Tree) (p : ℕ) (text : Text) : Type 0 where
   pub plain : IsOnlyAnswer no_flag text (read_back false t p)
   pub unicode : IsOnlyAnswer unicode_alone text (read_back true t p)

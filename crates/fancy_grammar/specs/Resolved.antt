@@ -1,4 +1,4 @@
--- The tree that is answered for a raw one: its groups have numbers, and so have its references.
+-- The tree that is returned for a raw tree: its groups have numbers, and so have its references.
 use Rattle.std.specs.Prelude.{ℕ, ◌+◌, Bool, List, [], ◌∷◌, length, Option, Some, None, if◌then◌else◌}
 use Rattle.fancy_lex.specs.Fault.{Fault}
 use Rattle.fancy_lex.specs.Text.{Text, place_at}
@@ -10,7 +10,8 @@ use Rattle.fancy_grammar.specs.Label.{AstReference, ast_backref, ast_call, ast_c
 use Rattle.fancy_grammar.specs.Tree.{Tree, leaf, over, row, Trees, no_trees, more_trees, group, ast_group, ast_node}
 use Rattle.fancy_grammar.specs.Tree.{backref, backref_at_level, subroutine_call, backref_exists}
 
--- the node of a reference that means this, in a pattern of m bytes; one that means no number stays, with its place
+-- the node of a reference with this meaning, in a pattern of m bytes; if the meaning is no number, the reference stays,
+-- with its position
 abbrev pub reference_node : ℕ → Meaning → AstReference → ℕ → Tree
 reference_node m (number n) (ast_backref t casei None) reach = backref n casei
 reference_node m (number n) (ast_backref t casei (Some level)) reach = backref_at_level n level casei
@@ -18,10 +19,12 @@ reference_node m (number n) (ast_call t) reach = subroutine_call n
 reference_node m (number n) (ast_condition t level) reach = backref_exists n level
 reference_node m _ r reach = ast_node r (place_at m reach)
 
--- in a pattern of n bytes where each name has these numbers, and c groups that have a number open before the tree
+-- in a pattern of n bytes; numbers_of gives the numbers of each name, and c groups that have a number open before the
+-- tree
 module _ (n : ℕ) (named : Bool) (numbers_of : Text → List ℕ) where
   abbrev mutual
-    -- a capturing group that has a number becomes a Group, and another its inside; a reference becomes what it means
+    -- a capturing group that has a number becomes a Group, any other becomes its contents; a reference becomes the node
+    -- of its meaning
     pub resolved_in : ℕ → Tree → Tree
     resolved_in c (ast_group name reach t) =
         if is_counted named name then group (resolved_in (c + 1) t) else resolved_in c t
@@ -35,15 +38,15 @@ module _ (n : ℕ) (named : Bool) (numbers_of : Text → List ℕ) where
     resolved_all c (more_trees t ts) =
         more_trees (resolved_in c t) (resolved_all (c + length (numbered_openings_in named (openings t))) ts)
 
--- the raw tree resolved, under the flags that are handed in, in a pattern of n bytes
+-- the raw tree resolved, under the flags that the caller gives, in a pattern of n bytes
 abbrev pub resolved : Flags → ℕ → Tree → Tree
 resolved f n r = resolved_in n (only_named f (openings r)) (numbers_in f r) 0 r
 
--- the first fault of references with their reaches and meanings
+-- the first error among references with their reaches and meanings
 abbrev pub first_fault : List (AstReference × ℕ × Meaning) → Option Fault
 first_fault [] = None
 first_fault ((r, reach, m) ∷ l) = fault_or m reach (first_fault l)
 
--- the first fault of the references of the raw tree
+-- the first error among the references of the raw tree
 abbrev pub fault_of : Flags → Tree → Option Fault
 fault_of f r = first_fault (meanings f r)

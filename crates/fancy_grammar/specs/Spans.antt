@@ -1,10 +1,9 @@
--- Where the nodes of a tree stand in its pattern, by the derivation that reads them.
--- A node stands where the innermost rule begins and ends that makes it: a leaf through its own text, and what
--- parentheses make through theirs; a Repeat, and an AtomicGroup that a quantifier makes, from where the atom under it
--- begins through the last character of the quantifier; a Concat, and the Empty of a branch without pieces, from where
--- the branch begins to where it ends; an Alt from where its first branch begins to where its last one ends, layout
--- counted. A group that leaves no node adds nothing to the node of its inside; what stands round that counts its
--- parentheses.
+-- The spans of the nodes of a tree in its pattern, given by the derivation that reads them.
+-- The span of a node is that of the innermost rule that makes it. A leaf spans its own text, and a node made by
+-- parentheses spans them. A Repeat, and an AtomicGroup that a quantifier makes, spans from the start of the atom under
+-- it through the last character of the quantifier. A Concat, and the Empty of a branch without pieces, spans the
+-- branch. An Alt spans from the start of its first branch to the end of its last, including layout. A group that makes
+-- no node leaves the span of its contents unchanged; the node around it includes the parentheses.
 use Rattle.std.specs.Prelude.{◌≡◌, ◌≤◌, ℕ, zero, suc, ◌+◌, Bool, ◌||◌, ◌&&◌, List, [], ◌∷◌, ◌++◌, Option, map, codes}
 use Rattle.std.specs.Prelude.{if◌then◌else◌}
 use Rattle.std.specs.Option.{option_and_then}
@@ -30,21 +29,21 @@ use Rattle.fancy_grammar.specs.Quantified.{quant, suffix, Suffix, is_repeatable,
 use Rattle.fancy_grammar.specs.State.{State, at, Outcome, done, fault}
 use Rattle.fancy_grammar.specs.Tree.{Tree, leaf, over, row, Trees, no_trees, more_trees, alt}
 
--- where the text of a node begins and where it ends: their reaches while it is read, and their places in what is
--- answered
+-- where the text of a node begins and where it ends: as reaches while the pattern is read, and as positions in the
+-- result
 pub record Span : Type 0 where
   pub start : ℕ
   pub end : ℕ
 
--- told by places in a pattern of n bytes
+-- with positions in a pattern of n bytes
 abbrev pub placed : ℕ → Span → Span
 placed n p = record { start = place_at n p.start; end = place_at n p.end }
 
--- ---- how the spans of a tree stand
+-- ---- how the spans of a tree nest
 
 mutual
-  -- the list has a span for each node in preorder: between these two places, with those of its children in it, one
-  -- behind another
+  -- the list has a span for each node in preorder: the spans lie between these two positions, those of a node's
+  -- children lie in its own, and siblings follow one another
   pub data Nests : ℕ → ℕ → Tree → List Span → Type 0 where
     of_leaf : {low high a : _} {p : Span} → low ≤ p.start → p.start ≤ p.end → p.end ≤ high →
         Nests low high (leaf a) (p ∷ [])
@@ -58,7 +57,7 @@ mutual
     of_more : {low mid high t ts l m k : _} → Nests low mid t l → AllNest mid high ts m → k ≡ l ++ m →
         AllNest low high (more_trees t ts) k
 
--- the pattern may be cut where the span begins and where it ends
+-- the span begins and ends at character boundaries of the pattern
 abbrev pub IsCutOut : List ℕ → Span → Type 0
 IsCutOut pattern p = IsCharBoundary pattern p.start × IsCharBoundary pattern p.end
 
@@ -69,14 +68,14 @@ mutual
   pub data Spans : Type 0 where
     node : Span → Forest → Spans
 
-  -- those of several nodes; among branches also the reaches right behind the bars
+  -- the spans of several nodes; among branches, also the reaches just after the bars
   pub data Forest : Type 0 where
     no_spans : Forest
     more_spans : Spans → Forest → Forest
     behind_bar : ℕ → Forest → Forest
 
 abbrev mutual
-  -- each before those in it
+  -- each span before those of the node's children
   pub in_preorder : Spans → List Span
   in_preorder (node p xs) = p ∷ all_in_preorder xs
 
@@ -91,7 +90,8 @@ alone p = node p no_spans
 abbrev pub around : Span → Spans → Spans
 around p x = node p (more_spans x no_spans)
 
--- pieces or branches that stand at p: none are an Empty there, one is itself, more are a node there
+-- the node of the pieces or branches that span p: if there is none, an Empty; if there is one, that one; otherwise a
+-- node around them
 abbrev pub one_or_node : Span → Forest → Spans
 one_or_node p no_spans = alone p
 one_or_node p (more_spans x no_spans) = x
@@ -103,37 +103,37 @@ solid_spans r x xs = if is_empty r then xs else more_spans x xs
 
 -- ---- outcomes
 
--- the reach where what is read ends, or that of the fault
+-- the reach at which what is read ends, or the reach of the error
 abbrev pub end_of : {A : Type 0} → Outcome A → ℕ
 end_of (done a t) = reach_of t.rest
 end_of (fault k p) = p
 
--- from a state to where what is read from it ends
+-- from a state to the end of what is read from it
 abbrev pub between : {A : Type 0} → State → Outcome A → Span
 between s o = record { start = reach_of s.rest; end = end_of o }
 
--- what f says of what is read, or x for a fault
+-- f applied to what is read, or x for an error
 abbrev pub if_done : {A B : Type 0} → Outcome A → (A → State → B) → B → B
 if_done (done a t) f x = f a t
 if_done (fault k p) f x = x
 
 -- ---- groups and conditionals
 
--- the node of a group that stands at p, round its inside; where only groups with a name have a number, the others leave
--- no node
+-- the node of a group that spans p, around its contents; if only groups with a name have a number, the other capturing
+-- groups make no node
 abbrev pub group_spans : Bool → Head → Span → Spans → Spans
 group_spans named (capture name) p x = if is_counted named name then around p x else x
 group_spans named scope p x = x
 group_spans named _ p x = around p x
 
--- the branches of a conditional's body, which ends at v: of an Alt the first, and the choice among those behind the
--- first bar; or the body, and an Empty at its end
+-- the branches of a conditional's body, which ends at v: the first branch of an Alt, and the choice among the branches
+-- after its first bar; if the body is no Alt, the body itself and an Empty at its end
 abbrev pub body_parts : Tree → State → Spans → Spans × Spans
 body_parts (alt ts) v (node p (more_spans x (behind_bar b xs))) =
     (x, one_or_node (record { start = b; end = p.end }) xs)
 body_parts r v x = (x, alone (between v (done r v)))
 
--- a conditional that stands at p, of its condition and its body; where both branches are Empty, the condition
+-- a conditional that spans p, with its condition and its body; if both branches are Empty, only the condition
 abbrev pub conditional_spans : Span → Spans → Outcome Tree → Spans → Spans
 conditional_spans p c q x = if_done q (λ r v.
     let b = branches_of r in
@@ -141,28 +141,28 @@ conditional_spans p c q x = if_done q (λ r v.
     if is_empty b.0 && is_empty b.1 then c
     else node p (more_spans c (more_spans y.0 (more_spans y.1 no_spans)))) c
 
--- what follows the parenthesis of a conditional, layout and `?(`
+-- the text after the parenthesis of a conditional, layout and `?(`
 abbrev pub condition_text : State → Option Text
 condition_text s = option_and_then (strip_word (codes "?(")) (option_and_then (past_layout s.flags.ignore_space)
     (strip open_paren s.rest))
 
--- a condition that is no alternation, of the conditional that begins at s: it ends one byte before its body, which
--- begins at t
+-- the span of a condition that is no alternation, in the conditional that begins at s: it ends one byte before the
+-- body, which begins at t
 abbrev pub condition_span : State → State → Span
 condition_span s t =
     record { start = choose (condition_text s) reach_of (reach_of s.rest); end = reach_of t.rest + 1 }
 
 -- ---- quantifiers
 
--- the nodes that a quantifier of these counts and marks makes
+-- the nodes that a quantifier with these counts and operators makes
 abbrev pub under : Flags → Counts → Suffix → Span → Spans → Spans
 under f c m p x = if is_swapped f c || m.possessive then around p (around p x) else around p x
 
--- where a quantifier ends: behind its marks, or where it has none behind its counts, where t begins
+-- where a quantifier ends: after its operators, or, if it has none, after its counts, at t
 abbrev pub quantifier_end : Text → Suffix → State → ℕ
 quantifier_end t m v = if m.lazy || m.possessive then reach_of v.rest else reach_of t
 
--- the atom a, which begins at the reach `from`, under these counts, behind which t begins
+-- the atom a, which begins at the reach `from`, under these counts, which t follows
 abbrev pub counted : ℕ → Tree → State → Spans → Counts × Text → Spans
 counted from a s x (c, t) =
     if is_repeatable s.flags a
@@ -170,20 +170,20 @@ counted from a s x (c, t) =
     (λ m v. under s.flags c m (record { start = from; end = quantifier_end t m v }) x) x
     else x
 
--- under the quantifier that follows layout, if one does
+-- under the quantifier that follows layout, if there is one
 abbrev pub quant_spans : ℕ → Tree → State → Spans → Spans
 quant_spans from a s x =
     let blanks = s.flags.ignore_space in
     choose (option_and_then (counts blanks) (past_layout blanks s.rest)) (counted from a s x) x
 
--- under adjacent ones, of which k may follow
+-- under adjacent quantifiers, of which k more may follow
 abbrev pub adjacent_spans : ℕ → ℕ → Tree → State → Spans → Spans
 adjacent_spans zero from a s x = quant_spans from a s x
 adjacent_spans (suc k) from a s x =
     let y = quant_spans from a s x in
     if_done (quant (bytes s.rest) a s) (λ b t. if is_unmoved s t then y else adjacent_spans k from b t y) y
 
--- under all, in a piece before which so many bytes were left
+-- under all its quantifiers, in a piece before which this many bytes were left
 abbrev pub quants_spans : ℕ → ℕ → Outcome Tree → Spans → Spans
 quants_spans left from q x = if_done q (λ a s.
     let y = quant_spans from a s x in
@@ -192,7 +192,7 @@ quants_spans left from q x = if_done q (λ a s.
 
 -- ---- the productions
 
--- where only groups with a name have a number, or all have one
+-- whether only groups with a name have a number
 module _ (named : Bool) where
   abbrev mutual
     pub alternation_spans : {d : ℕ} {s : State} {o : Outcome Tree} → Alternation d s o → Spans
@@ -233,14 +233,14 @@ module _ (named : Bool) where
     pub inside_spans : {d : ℕ} {s : State} {o : Outcome Tree} → Inside d s o → Spans
     inside_spans (inside a) = alternation_spans a
 
-    -- of a conditional that begins at w, whose condition has the spans y
+    -- for a conditional that begins at w, whose condition has the spans y
     pub body_spans : State → Spans → {d : ℕ} {c : Tree} {s : State} {o : Outcome Tree} → Body d c s o → Spans
     body_spans w y {o} (the_body {q} a) = conditional_spans (between w o) y q (alternation_spans a)
 
   abbrev pub whole_spans : {f : Flags} {text : Text} {o : Outcome Tree} → Whole f text o → Spans
   whole_spans (whole a) = alternation_spans a
 
--- the spans of the nodes of the tree that is answered for a text, in preorder
+-- the spans of the nodes of the tree that is parsed from a text, in preorder
 abbrev pub AreSpansOf : Flags → Text → List Span → Type 0
 AreSpansOf f text l =
     (r : Tree) × (t : State) × (a : Whole f text (done r t)) ×

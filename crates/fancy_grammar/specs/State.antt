@@ -1,4 +1,4 @@
--- Where a reading stands, and what it comes to.
+-- The state of the parser, and the outcome of a part.
 use Rattle.std.specs.Prelude.{ℕ, Bool, true, [], ◌∷◌}
 use Rattle.fancy_lex.specs.Characters.{◌∈◌}
 use Rattle.fancy_lex.specs.Fault.{Kind, Fault}
@@ -6,7 +6,7 @@ use Rattle.fancy_lex.specs.LayoutSteps.{layout, Skipped}
 use Rattle.fancy_lex.specs.Text.{Text}
 use Rattle.fancy_lex.specs.declared.flags.Flags.{Flags}
 
--- the flags that hold, and the text that is still to be read
+-- the flags that hold, and the text that is not read yet
 pub record State : Type 0 where
   pub flags : Flags
   pub rest : Text
@@ -24,20 +24,20 @@ abbrev pub ends : Text → Bool
 ends [] = true
 ends (c ∷ t) = c ∈ "|)"
 
--- what is read, with the state after it; or the fault that ends the reading, with its reach
+-- what is read, with the state after it; or the error that ends the reading, with its reach
 pub data Outcome (A : Type 0) : Type 0 where
   done : A → State → Outcome A
   fault : Kind → ℕ → Outcome A
 
--- this fault, as an outcome
+-- this error, as an outcome
 abbrev pub faulted : {A : Type 0} → Fault → Outcome A
 faulted e = fault e.kind e.reach
 
--- one part behind another: a fault of the first is that of both
+-- one part after another: an error of the first is the error of both
 abbrev pub and_then : {A B : Type 0} → Outcome A → (A → State → Outcome B) → Outcome B
 and_then (done a s) f = f a s
 and_then (fault k p) f = fault k p
 
--- what is read, seen through f
+-- the outcome with f applied to what is read
 abbrev pub seen_through : {A B : Type 0} → (A → B) → Outcome A → Outcome B
 seen_through f o = and_then o (λ a s. done (f a) s)

@@ -24,7 +24,7 @@ abbrev pub list_of : Trees → List Tree
 list_of no_trees = []
 list_of (more_trees t ts) = t ∷ list_of ts
 
--- ---- the nodes by name, each over as many trees as it holds
+-- ---- the nodes by name, each with the trees that it holds
 
 pattern abbrev pub empty : Tree
 empty = leaf label.empty
@@ -112,20 +112,20 @@ alt ts = row label.alt ts
 
 -- ---- the children
 
--- the immediate children in text order; what a capturing group holds is none
+-- the immediate children in text order; the contents of a capturing group are not among them
 abbrev pub children : Tree → List Tree
 children (leaf l) = []
 children (over (label.ast_group name place) t) = []
 children (over w t) = t ∷ []
 children (row r ts) = list_of ts
 
--- whether the node is one that holds no children
+-- whether the node is one that has no children
 abbrev pub is_leaf : Tree → Bool
 is_leaf (leaf l) = true
 is_leaf (over (label.ast_group name place) t) = true
 is_leaf _ = false
 
--- whether the node holds nothing that takes memory: no text, no bytes, no tree, and no target
+-- whether the node itself allocates nothing: it has no text, no bytes, no tree and no target
 abbrev pub holds_nothing : Tree → Bool
 holds_nothing (leaf (label.literal text casei)) = false
 holds_nothing (leaf (label.literal_bytes bytes)) = false
@@ -134,13 +134,13 @@ holds_nothing (leaf (label.ast_node r place)) = false
 holds_nothing (leaf l) = true
 holds_nothing _ = false
 
--- the trees with the one at i set to u, where there is one
+-- the trees with the one at index i set to u, if there is one
 abbrev pub with_tree : Trees → ℕ → Tree → Trees
 with_tree no_trees i u = no_trees
 with_tree (more_trees t ts) zero u = more_trees u ts
 with_tree (more_trees t ts) (suc i) u = more_trees t (with_tree ts i u)
 
--- the tree with its child i set to u, for an i below the number of children
+-- the tree with its child at index i set to u, for an i below the number of children
 abbrev pub with_child : Tree → ℕ → Tree → Tree
 with_child (leaf l) i u = leaf l
 with_child (over w t) i u = over w u
@@ -155,7 +155,7 @@ is_list _ = false
 -- ---- the measures of a tree
 
 abbrev mutual
-  -- how many nodes, those in an ast_group too; a raw tree may have one, and no parsed tree has
+  -- how many nodes, with those in an ast_group; a raw tree may have an ast_group, and no parsed tree has one
   pub nodes : Tree → ℕ
   nodes (leaf l) = 1
   nodes (over w t) = suc (nodes t)
@@ -166,7 +166,7 @@ abbrev mutual
   nodes_all (more_trees t ts) = nodes t + nodes_all ts
 
 abbrev mutual
-  -- how many levels, those in an ast_group too
+  -- how many levels, with those in an ast_group
   pub levels : Tree → ℕ
   levels (leaf l) = 1
   levels (over w t) = suc (levels t)

@@ -5,7 +5,7 @@ use Rattle.fancy_lex.specs.Text.{Text, strip_word}
 use Rattle.fancy_grammar.specs.declared.kinds.BacktrackingControlVerb.{BacktrackingControlVerb}
 use Rattle.fancy_grammar.specs.declared.kinds.BacktrackingControlVerb.TheVariants.{Fail, Accept, Commit, Skip, Prune}
 
--- the verb whose name and closing parenthesis stand at the front, and what follows them
+-- the verb whose name and closing parenthesis are next, and the text after them
 unfoldable pub verb_at : Text → Option (BacktrackingControlVerb × Text)
 verb_at t =
     choose (strip_word (codes "FAIL)") t) (λ u. Some (Fail, u)) (

@@ -1,4 +1,4 @@
--- What the resolver's two walks come to. They count the groups as they pass them.
+-- What the resolver's two walks compute. They count the groups that they pass.
 use Rattle.std.specs.Prelude.{ℕ, ◌+◌, Bool, false, ◌||◌, nat_le, List, [], Option, Some, None, fold, if◌then◌else◌}
 use Rattle.std.specs.BTreeSet.{insert_key}
 use Rattle.std.specs.Ordering.{nat_cmp}
@@ -16,16 +16,16 @@ use Rattle.fancy_grammar.specs.Tree.{Tree, Trees}
 
 -- ---- the first walk finds the groups
 
--- a group is added where it has a number; a reference adds nothing
+-- a group is added if it has a number; a reference adds nothing
 abbrev pub find_item : Bool → Groups → Item → Groups
 find_item named s (opening o) = with_opening named s o
 find_item named s (reference r reach) = s
 
--- the groups behind these items
+-- the groups after these items
 abbrev pub groups_after : Bool → Groups → List Item → Groups
 groups_after named s l = fold (find_item named) s l
 
--- ---- the second walk resolves the references, and notes the marks and the first fault
+-- ---- the second walk resolves the references, and records the group information and the first error
 
 -- what is known when references are resolved
 pub record Known : Type 0 where
@@ -33,9 +33,9 @@ pub record Known : Type 0 where
   pub named : Bool
   pub groups : Groups
 
--- how far the walk has come, and what it noted
+-- how far the walk has come, and what it recorded
 pub record Progress : Type 0 where
-  pub passed : ℕ  -- groups with a number that opened
+  pub passed : ℕ  -- the groups with a number that were opened
   pub backrefs : List ℕ
   pub out_of_range : Option ℕ
   pub numeric : Bool
@@ -55,22 +55,23 @@ nothing_noted = record {
   fault = None;
 }
 
--- the first, or where there is none the other
+-- the first option if it has a value, or else the second
 abbrev pub or_else : {A : Type 0} → Option A → Option A → Option A
 or_else None other = other
 or_else (Some a) other = Some a
 
--- with the number of a back reference, where a group has it
+-- with the number of a back reference, if there is a group with that number
 abbrev pub with_backref : ℕ → List ℕ → Option ℕ → List ℕ
 with_backref total l None = l
 with_backref total l (Some n) = if nat_le n total then insert_key nat_cmp l n else l
 
--- the number of a back reference that no group has
+-- the number of a back reference, if there is no group with that number
 abbrev pub number_above : ℕ → Option ℕ → Option ℕ
 number_above total None = None
 number_above total (Some n) = if nat_le n total then None else Some n
 
--- what is noted of a reference with this meaning: its number, how it is written, whether it calls, and its fault
+-- what is recorded for a reference with this meaning: its number, how it is written, whether it is a call, and its
+-- error
 abbrev pub note_reference_with : Known → Progress → ℕ → Role → Target → Meaning → Progress
 note_reference_with k s reach role target m = record {
   passed = s.passed;
@@ -82,29 +83,29 @@ note_reference_with k s reach role target m = record {
   fault = or_else s.fault (fault_or m reach None);
 }
 
--- what a target means to the walk, by the groups that it has passed
+-- the meaning of a target, given the groups that the walk has passed
 abbrev pub means_here : Known → Progress → Role → Target → Meaning
 means_here k s role target = means (numbers_under k.groups.names) s.passed role target
 
--- the number, where it has one
+-- the number, if the meaning is one
 abbrev pub number_in : Meaning → Option ℕ
 number_in (number n) = Some n
 number_in _ = None
 
--- what is noted of a reference
+-- what is recorded for a reference
 abbrev pub note_reference : Known → Progress → ℕ → Role → Target → Progress
 note_reference k s reach role target = note_reference_with k s reach role target (means_here k s role target)
 
--- what is noted of an item: a group with a number is passed
+-- what is recorded for an item; a group with a number is counted
 abbrev pub note_item : Known → Progress → Item → Progress
 note_item k s (opening o) = record s { passed = if is_counted k.named o.name then s.passed + 1 else s.passed }
 note_item k s (reference r reach) = note_reference k s reach (role_of r) (target_of r)
 
--- what is noted of the items, one after another
+-- what is recorded for the items, one after another
 abbrev pub progress_after : Known → Progress → List Item → Progress
 progress_after k s l = fold (note_item k) s l
 
--- trees resolved by what is known, where c groups with a number open before them
+-- trees resolved with what is known, if c groups with a number open before them
 abbrev pub resolved_by : Known → ℕ → Tree → Tree
 resolved_by k c t = resolved_in (bytes k.text) k.named (numbers_under k.groups.names) c t
 

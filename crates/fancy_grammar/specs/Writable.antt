@@ -37,34 +37,33 @@ use Rattle.fancy_grammar.specs.Quantified.{is_repeatable}
 use Rattle.fancy_grammar.specs.Tree.{Tree, leaf, over, row, Trees, no_trees, more_trees}
 use Rattle.fancy_grammar.specs.declared.precedence.Precedence.TheVariants.{Whole}
 
--- the flags without those that a text sets
+-- the flags, with those that a text can set turned off
 abbrev pub unset : Flags → Flags
 unset f = record f { casei = false; multi = false; dotnl = false; crlf = false }
 
--- the flags differ in no more than those
+-- the flags differ only in those that a text can set
 abbrev pub IsLike : Flags → Flags → Type 0
 IsLike f g = unset g ≡ unset f
 
--- the source is read as the Delegate, whatever follows: as an escape, or as a class
+-- the source is read as the Delegate, whatever follows it: as an escape, or as a class
 pub data IsSource (f : Flags) (s : Text) (casei : Bool) : Text → Type 0 where
   an_escape : {t : Text} → ((v : Text) → escape f false (t ++ v) ≡ gives (escaped.delegate s casei) v) →
       IsSource f s casei (backslash ∷ t)
   a_class : {t : Text} → f.casei ≡ casei → ((v : Text) → class f (t ++ v) ≡ gives s v) →
       IsSource f s casei (open_bracket ∷ t)
 
--- so it is under all flags that the text may set before it
+-- this holds under all flags that the text may set before it
 abbrev pub HasSource : Flags → Text → Bool → Type 0
 HasSource f s casei =
     (g : Flags) → IsLike f g → settled g (leaf (delegate s casei)) ≡ g → IsSource g s casei (delegate_text g casei s)
 
--- ---- groups and references, by the marks
+-- ---- groups and references, by the group information
 
--- the name that the marks give the group of the number
+-- the name of the group with this number, by the group information
 abbrev pub name_at : Marks → ℕ → Option Text
 name_at m n = option_map (λ e. e.0) (name_of m n)
 
--- the openings of the next groups behind c others, so many, with the names that the marks give them; reaches are left
--- out
+-- the openings of the next n groups after c others, with their names by the group information; their reaches are 0
 abbrev pub openings_told : Marks → ℕ → ℕ → List Opening
 openings_told m c zero = []
 openings_told m c (suc n) = record { reach = 0; name = name_at m (c + 1) } ∷ openings_told m (c + 1) n
@@ -78,33 +77,34 @@ abbrev pub IsLevelWritable : ℤ → Type 0
 IsLevelWritable (pos n) = n < amount_bound
 IsLevelWritable (negsuc n) = n + 1 < amount_bound
 
--- a call is written as a number where some reference was one: of a group, or of 0 where some call of 0 was one
+-- a call is written with a number if some reference of the pattern was, except a call of group 0 if no call of 0 was
 abbrev pub is_called_by_number : Marks → ℕ → Bool
 is_called_by_number m n = m.numeric_capture_group_references && (nat_lt 0 n || m.self_recursive)
 
--- a call of a group by its number, where that is written, or else of one that is not too far
+-- a call of group n can be written: by number, if that fits in a word; by distance, if that is below `amount_bound`
 abbrev pub IsCallWritable : Bool → ℕ → ℕ → Type 0
 IsCallWritable true c n = n < 2 ^ 64
 IsCallWritable false c n = (n - c < amount_bound) × (c + 1 - n < amount_bound)
 
--- between marks no call can be written by the name: it would be read as a distance, or holds both closing marks
+-- between delimiters no call can be written with this name: it would be read as a distance, or it holds both closing
+-- delimiters
 abbrev pub is_called_in_parens : Text → Bool
 is_called_in_parens w = is_relative w || (is_among (code ">") w && is_among (code "'") w)
 
--- a name that is no number, and that a call can be written by
+-- a name that is no number, and that a call can be written with
 abbrev pub IsCalledName : Text → Type 0
 IsCalledName [] = ⊥
 IsCalledName (c ∷ w) =
     (number_text (c ∷ w) ≡ None) × (is_called_in_parens (c ∷ w) ≡ true → is_among (code ")") (c ∷ w) ≡ false)
 
--- what a call can be written by that means no group
+-- a target that a call can be written with if it refers to no group
 abbrev pub IsCalledTarget : Target → Type 0
 IsCalledTarget (by_name w) = IsCalledName w
 IsCalledTarget (relative z) = IsLevelWritable z
 IsCalledTarget (by_number n) = ⊥
 
--- a leaf as it is read, behind the openings of c groups: a character, a byte without UNICODE, what has an escape, a
--- back reference, a call, which may mean no group, or a condition on a group alone
+-- a leaf as it is parsed, after the openings of c groups: a character, a byte without UNICODE, a node with an escape, a
+-- back reference, a call, which may refer to no group, or a condition on a group without branches
 abbrev pub IsWritableLeaf : Flags → Marks → ℕ → Leaf → Type 0
 IsWritableLeaf f m c (literal (d ∷ []) casei) = Unit {0}
 IsWritableLeaf f m c (literal_bytes (b ∷ [])) = (f.unicode ≡ false) × (0x80 ≤ b) × (b ≤ 0xFF)
@@ -127,10 +127,11 @@ IsWritableLeaf f m c (ast_node (ast_call t) place) = IsCalledTarget t × (means 
 IsWritableLeaf f m c _ = ⊥
 
 abbrev mutual
-  -- each group has a number, a Concat or an Alt has two parts or more, and in Oniguruma mode the counts of a quantifier
-  -- are in order. Unless groups without a name have no number, of which the insides are left: what stands under a
-  -- quantifier is repeatable, no part of a Concat, nor what a stopper holds, is Empty, and a conditional has a branch
-  -- that is not Empty
+  -- Each group has a number, a Concat or an Alt has two parts or more, and in Oniguruma mode the counts of a quantifier
+  -- are in order.
+  -- The rest is required only if groups without a name have a number, since otherwise such groups are replaced by
+  -- their contents: the operand of a quantifier is repeatable, no part of a Concat and no contents of a stopper are
+  -- Empty, and a conditional has a branch that is not Empty.
   pub AreNodesWritable : Flags → Marks → ℕ → Tree → Type 0
   AreNodesWritable f m c (leaf l) = IsWritableLeaf f m c l
   AreNodesWritable f m c (over (repeat lo hi greedy) t) =
@@ -166,20 +167,20 @@ abbrev mutual
       AreNodesWritable f m c t × (m.numbered_groups_ignored ≡ false → is_empty t ≡ false)
       × ArePieces f m (c + group_count t) ts
 
--- ---- the marks of a tree
+-- ---- the group information of a tree
 
--- the node is a reference that is written as a number, where these are the marks
+-- the node is a reference that is written with a number, given this group information
 abbrev pub is_numbered : Marks → Tree → Bool
 is_numbered m (leaf (backref n casei)) = m.numeric_capture_group_references
 is_numbered m (leaf (subroutine_call n)) = is_called_by_number m n
 is_numbered m _ = false
 
--- the node is a call of 0 that is written as a number
+-- the node is a call of group 0 that is written with a number
 abbrev pub is_numbered_call_of_all : Marks → Tree → Bool
 is_numbered_call_of_all m (leaf (subroutine_call n)) = is_called_by_number m n && n == 0
 is_numbered_call_of_all m _ = false
 
--- the marks of a tree that has these groups, where the second marks say how its references are written
+-- the group information of a tree that has these groups; m determines how its references are written
 abbrev pub marks_of : Flags → List Opening → Tree → Marks → Marks
 marks_of f l t m = record {
   backrefs = ascending (filter (λ n. nat_le n (length l)) (groups_referred t));
@@ -203,7 +204,7 @@ IsNameWritable (c ∷ w) = (is_among (code ">") (c ∷ w) && is_among (code "'")
 
 -- ---- the trees
 
--- a tree whose text nests fewer than 64 groups, with its marks
+-- a tree whose text nests fewer than 64 groups, with its group information
 pub record IsWritable (f : Flags) (m : Marks) (t : Tree) : Type 0 where
   pub marks : m ≡ marks_of f (openings_told m 0 (group_count t)) t m
   pub names : AllByRecursion (λ e. IsNameWritable e.0) m.named_groups

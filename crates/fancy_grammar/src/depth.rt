@@ -1,4 +1,5 @@
 //! How deep groups nest.
 
-/// How many levels of groups a pattern has at most, the whole pattern among them: a group inside 63 others is an error.
+/// How many levels of groups a pattern may have; the whole pattern is one of them. A group inside 63 others is an
+/// error.
 pub const MAX_DEPTH: usize = 64;

@@ -1,6 +1,6 @@
-//! The language of patterns: what a pattern means, and what is true of that. The definitions stand in specs/, and
-//! the laws in proofs/; of code there is only what both the definitions and the trees speak of, and the one law that
-//! joins the grammar's premises with the relations.
+//! The language of patterns: its grammar, what trees print as, and laws about both. The definitions are in `specs/`,
+//! the laws in `proofs/`. The code here is only what the definitions and the trees share, and one law that relates the
+//! grammar's premises to the relations.
 #![tactic(auto)]
 
 pub mod depth;

@@ -1,17 +1,17 @@
-//! What a tree needs of the flags that a pattern's text sets.
+//! Which flags a tree requires, of those that the text of a pattern can set.
 
-/// What is needed of one flag.
+/// What is required of one flag.
 #[derive(Clone, Copy, Debug, Drop)]
 pub enum Need {
-    /// Nothing: on or off, it is all one.
+    /// Nothing: the flag may be on or off.
     Free,
-    /// It is on, or it is off.
+    /// The flag must be on, or must be off.
     Fixed(bool),
-    /// Both: on in one place, and off in another.
+    /// Both: on at one position, and off at another.
     Torn,
 }
 
-/// What is needed of each flag that a pattern's text sets.
+/// What is required of each flag that the text of a pattern can set.
 #[derive(Clone, Copy, Debug, Drop)]
 pub struct Needs {
     /// `FLAG_CASEI`

@@ -1,14 +1,14 @@
-//! Where the text of a tree stands.
+//! Where the text of a tree is used.
 
-/// What a text is where it stands.
+/// The part of a pattern that a text has to be.
 #[derive(Clone, Copy)]
 pub enum Precedence {
-    /// The whole, or all that stands in a group.
+    /// The whole pattern, or the whole contents of a group.
     Whole,
-    /// A branch.
+    /// A branch of an alternation.
     Branch,
-    /// A piece among others.
+    /// A piece of a branch.
     Piece,
-    /// What a quantifier follows, before which so many others may still stand.
+    /// The operand of a quantifier, and how many more quantifiers may come before that one.
     Operand(usize),
 }

@@ -1,8 +1,8 @@
-//! What the grammar's premises say.
+//! What the premises of the grammar mean.
 ghost use Rattle.fancy_grammar.specs.Premises.{LayoutIsRelated, ClassIsRelated, LettersAreRelated, BoundaryIsRelated};
 
-/// Does nothing: its clauses are laws. Each function by which a premise of the grammar reads a part of the text, and
-/// which goes round to do so, comes to what the relation of that part gives, and to nothing else.
+/// Does nothing: its clauses are laws. The grammar's premises read some parts of the text with functions that loop.
+/// Each of these functions gives the result that the relation of that part gives, and no other.
 pub fn premises()
     ensures layout { LayoutIsRelated }
     ensures class { ClassIsRelated }

@@ -1,5 +1,5 @@
--- Each node of a raw tree that a pattern derives is so, and the flags keep their mode. By one induction on the
--- derivation, as of what is read in `ReadLaws`.
+-- Each node of a raw tree that a pattern derives is as `IsParsedNode` says, and the flags keep their mode. By one
+-- induction on the derivation, as in `ReadLaws`.
 use Rattle.std.proofs.Common.{◌≡◌, ℕ, zero, suc, ◌+◌, ◌∷◌, [], List, refl, sym, ap, ◌∙◌, subst, Bool, true, false}
 use Rattle.std.proofs.Common.{Option, Some, None, IfSome}
 use Rattle.std.specs.Prelude.{◌==◌, not, nat_lt, nat_le, ◌&&◌, codes}
@@ -69,7 +69,7 @@ use Rattle.fancy_grammar.proofs.Parsed.Targets.{IsReferenceRead, IsCallRead, con
 use Rattle.fancy_grammar.proofs.Parsed.Targets.{named_reference_read}
 use Rattle.fancy_grammar.proofs.Parsed.Targets.{named_reference_plain, named_call_read}
 
--- a tree that is read, behind which the flags keep the mode
+-- a tree that is read; the flags after it keep the mode
 pub record IsPart (f : Flags) (text : Text) (r : Tree) (t : State) : Type 0 where
   pub mode : IsSameMode f t.flags
   pub parsed : IsParsed f text r
@@ -164,7 +164,7 @@ module _ (f : Flags) (text : Text) where
       then_holds (IsPart f text) (IsPart f text) (quant left a t) _ (quant_part left a t h)
       (λ b v i. cond_both v.flags.oniguruma_mode _ _ P (λ _. adjacent_part max_adjacent d b v i) (λ _. i))
 
-  -- ---- what a part comes to behind its last one
+  -- ---- the end of a part, and its outcome
 
   closed_part : (r : Tree) (t : State) → IsPart f text r t → P (closed r t)
   closed_part r t h = by_text t.rest
@@ -191,7 +191,7 @@ module _ (f : Flags) (text : Text) where
         parsed = conditional_parsed f text c (branches_of r).0 (branches_of r).1 k each.0 each.1;
       }))
 
-  -- ---- what stands before an atom
+  -- ---- the start of an atom
 
   abbrev AheadParsed : Ahead → Type 0
   AheadParsed nothing = Unit {0}
@@ -201,7 +201,7 @@ module _ (f : Flags) (text : Text) where
   AheadParsed (body c t) = IsSameMode f t.flags × IsParsed f text c
   AheadParsed (absent_branch t) = IsSameMode f t.flags
 
-  -- a reference with a level stands behind the letter of its escape
+  -- a reference with a level comes after the letter of its escape
   behind_no_backslash : (t : Text) → Slice text (backslash ∷ t) → (p : ℕ) → IsBehindLetter t p →
       is_behind_backslash text (place_at (bytes text) p) ≡ false
   behind_no_backslash [] i p h = absurd h
@@ -363,7 +363,7 @@ module _ (f : Flags) (text : Text) where
           (λ _. behind_part s (skipped (at s t)) m)) (λ _.
           cond_both (is_before_nothing c) _ _ AheadParsed (λ _. tt) (λ _. leaf_part s c t m i))
 
-  -- behind an atom the flags from before it hold, or those that it sets
+  -- after an atom the flags from before it hold, or those that it sets
   restored_part : (g : Flags) (q : Outcome Tree) → IsSameMode f g → P q → P (restored g q)
   restored_part g (done r t) m h = record { mode = m; parsed = h.parsed }
   restored_part g (fault k p) m h = tt
@@ -460,6 +460,6 @@ module _ (f : Flags) (text : Text) where
   whole_part (whole {q} a) =
       then_holds (IsPart f text) (IsPart f text) q _ (alternation_part a refl (here text)) (λ r t h. ended_part r t h)
 
--- each node of the raw tree of a text is so
+-- each node of the raw tree of a text is such a node
 pub derived_parsed : {f : Flags} {text : Text} {r : Tree} → DerivesTree f text r → IsParsed f text r
 derived_parsed {f} {text} d = (whole_part f text d.1).parsed

@@ -1,4 +1,4 @@
--- What escapes say of the flags, and what they refer to.
+-- What escapes require of the flags, and what they refer to.
 use Rattle.std.proofs.Common.{◌≡◌, ℕ, ◌+◌, Bool, true, false, not, ◌&&◌, ◌==◌, if◌then◌else◌, []}
 use Rattle.std.proofs.Common.{◌∷◌}
 use Rattle.std.proofs.Common.{Option, Some, None, IfSome, nat_le, refl, subst}
@@ -44,7 +44,7 @@ is_start_of_line (StartLine crlf) = true
 is_start_of_line (StartLineOniguruma crlf) = true
 is_start_of_line _ = false
 
--- a reference with a level stands right behind the letter of `\k`, at the front of the text
+-- a reference with a level is just after the letter of `\k`, at the front of the text
 abbrev pub IsBehindLetter : Text → ℕ → Type 0
 IsBehindLetter [] p = ⊥
 IsBehindLetter (c ∷ t) p = (c ≡ code "k") × (p ≡ reach_of t)
@@ -52,8 +52,8 @@ IsBehindLetter (c ∷ t) p = (c ≡ code "k") × (p ≡ reach_of t)
 abbrev pub IsLevelBehind : Text → Reference → Type 0
 IsLevelBehind t r = IfSome r.level (λ z. IsBehindLetter t r.reach)
 
--- what an escape of the text says of the flags: a byte is read without Unicode, a general new line tells it, and no
--- assertion is the start of a line; and what it refers to
+-- what an escape of the text requires of the flags: a byte is read without UNICODE, a general new line records UNICODE,
+-- and no assertion is the start of a line; and what it refers to
 abbrev pub IsOfMode : Flags → Text → Escape → Type 0
 IsOfMode f t (literal_bytes b) = f.unicode ≡ false
 IsOfMode f t (general_newline unicode) = f.unicode ≡ unicode
@@ -62,12 +62,12 @@ IsOfMode f t (backref r casei) = IsReferenceRead r × IsLevelBehind t r
 IsOfMode f t (subroutine_call c) = IsCallRead c.target
 IsOfMode f t _ = Unit {0}
 
--- what an id reference in the digits of an escape says has no level
+-- an id reference in the digits of an escape has no level
 numbered_plain : (t : Text) → IfGives (λ (r : Reference). r.level ≡ None) (numbered_reference t)
 unfolding numbered_reference
 numbered_plain t = gives_after (λ (r : Reference). r.level ≡ None) (group_number t) _ (λ k u. refl)
 
--- of two things that a reading gives, both
+-- if a reading gives what P holds for, and what Q holds for, it gives what both hold for
 both_given : {A : Type 0} (P Q : A → Type 0) (o : Reading A) → IfGives P o → IfGives Q o → IfGives (λ a. P a × Q a) o
 both_given P Q (gives a u) h k = (h, k)
 both_given P Q (fails e) h k = tt
@@ -203,7 +203,7 @@ module _ (f : Flags) (whole : Text) where
             ),
           )
 
--- all that an escape stands for
+-- for everything that an escape may be read as
 pub escape_mode : (f : Flags) (t : Text) → IfGives (IsOfMode f t) (escape f false t)
 unfolding escape_at
 escape_mode f [] = tt

@@ -106,7 +106,7 @@ module _ (f : Flags) (m : Marks) where
   conditional_writable c (more_trees k (more_trees t no_trees)) h b w = absurd h
   conditional_writable c (more_trees k (more_trees t (more_trees e (more_trees x ts)))) h b w = absurd h
 
-  -- so many groups behind c others have a number
+  -- this many groups after c others have a number
   abbrev Counted : ℕ → ℕ → Type 0
   Counted c n = AreCounted m.numbered_groups_ignored (openings_told m c n)
 
@@ -210,7 +210,7 @@ module _ {f : Flags} {text : Text} {t : Tree} {m : Marks} (a : IsTreeOf f text t
   marked =
       marked_nodes f m text (bytes text) named numbers_of 0 (preorder raw) (λ e. numeric_is ∙ e) (λ e. self_is ∙ e)
 
-  -- a reference counts as written as a number exactly if some node is to be
+  -- the group information says that some reference is written with a number exactly if some node is to be
   pub numeric_told : m.numeric_capture_group_references ≡ list_any (is_numbered m) (preorder t)
   numeric_told =
       both_ways m.numeric_capture_group_references (list_any (is_numbered m) (preorder t))
@@ -219,7 +219,7 @@ module _ {f : Flags} {text : Text} {t : Tree} {m : Marks} (a : IsTreeOf f text t
       (sym numeric_is ∙ b))
       (numbered_by m (preorder t))
 
-  -- and one is a call of all by its number exactly if some node is
+  -- and that some call is a call of all exactly if some node is to be
   pub self_told : m.self_recursive ≡ list_any (is_numbered_call_of_all m) (preorder t)
   self_told =
       both_ways m.self_recursive (list_any (is_numbered_call_of_all m) (preorder t))
@@ -227,7 +227,7 @@ module _ {f : Flags} {text : Text} {t : Tree} {m : Marks} (a : IsTreeOf f text t
       ∙ called_some f m text (bytes text) named numbers_of 0 (preorder raw) marked (sym self_is ∙ b))
       (called_by m (preorder t))
 
-  -- what each reference is resolved to can be written, in a text of fewer bytes than 2 ^ 63
+  -- what each reference resolves to can be written, in a text of fewer than 2 ^ 63 bytes
   pub references_writable : bytes text < 2 ^ 63 → AreReferencesWritable f m 0 t
   references_writable small =
       let total = length (numbered_openings f (openings raw)) in
@@ -247,11 +247,11 @@ module _ {f : Flags} {text : Text} {t : Tree} {m : Marks} (a : IsTreeOf f text t
     fits = answered_fits f text t m a;
   }
 
-  -- then its text reads back
+  -- so its text reads back
   pub parsed_reads_back : bytes text < 2 ^ 63 → IsReadAs f (pattern_text f t m) t m
   parsed_reads_back small = reads_back f t m (parsed_is_writable small)
 
--- there is no tree of a pattern whose text does not
+-- no tree of a pattern has a text that does not read back
 pub none_of_pattern : (f : Flags) (t : Tree) (m : Marks) → (IsReadAs f (pattern_text f t m) t m → ⊥) →
     IsOfPattern f t m → ⊥
 none_of_pattern f t m never (text, tree, small) = never (parsed_reads_back tree small)

@@ -1,4 +1,4 @@
--- The marks of a parsed tree are those that the definition of writable trees makes of it.
+-- The group information of a parsed tree is what the definition of writable trees makes of it.
 use Rattle.std.proofs.Common.{◌≡◌, ℕ, List, [], ◌∷◌}
 use Rattle.std.proofs.Common.{length, map, filter, filter_map, Option, Some, None, nat_le, nat_lt, refl, sym}
 use Rattle.std.proofs.Common.{ap}
@@ -46,7 +46,7 @@ mutual
 
 -- ---- names
 
--- what holds of the names of groups holds of those that are told
+-- what holds for the names of all groups holds for those in the list
 each_name : (P : Text → Type 0) (l : List Opening) → AllByRecursion (λ o. IfSome o.name P) l →
     AllByRecursion P (filter_map (λ o. o.name) l)
 each_name P [] h = tt
@@ -84,7 +84,7 @@ module _ {f : Flags} {text : Text} {t : Tree} {m : Marks} (a : IsTreeOf f text t
   total_is : m.total_groups ≡ length numbered
   total_is = ap (λ k. k.total_groups) a.4
 
-  -- as many as have a number
+  -- the tree has as many groups as have a number
   pub count_told : group_count t ≡ m.total_groups
   count_told = count_is t is_so.nodes ∙ is_so.groups
 
@@ -100,7 +100,7 @@ module _ {f : Flags} {text : Text} {t : Tree} {m : Marks} (a : IsTreeOf f text t
       ∙ (sym (only_filtered f (only_named f (openings raw)) (openings raw))
       ∙ (sym (unreached_named f numbered) ∙ ap (only_named f) (sym told)))
 
-  -- they are those of the tree with its names by number, where its references say how they are written
+  -- it is that of the tree with its names by number, if it says how the references are written
   pub marks_told : m.numeric_capture_group_references ≡ list_any (is_numbered m) (preorder t) →
       m.self_recursive ≡ list_any (is_numbered_call_of_all m) (preorder t) →
       m ≡ marks_of f (openings_told m 0 (group_count t)) t m
@@ -123,7 +123,7 @@ module _ {f : Flags} {text : Text} {t : Tree} {m : Marks} (a : IsTreeOf f text t
         numbered_groups_ignored = ignored_is i;
       }
 
-  -- a name has the numbers that the marks tell of
+  -- a name has the numbers in the group information
   pub numbers_are : (w : Text) → numbers_told m w ≡ numbers_in f raw w
   numbers_are w =
       ap (λ n. numbers w (openings_told m 0 n)) (sym count_told)
@@ -136,7 +136,7 @@ module _ {f : Flags} {text : Text} {t : Tree} {m : Marks} (a : IsTreeOf f text t
       (subst (λ b. AreCounted b (map unreached numbered)) (sym (ap (λ k. k.numbered_groups_ignored) a.4))
       (counted_filtered (only_named f (openings raw)) (openings raw)))
 
-  -- what holds of the name of each group in the pattern holds of each that the marks say
+  -- what holds for the name of each group in the pattern holds for each name in the group information
   pub names_told : (P : Text → Type 0) → AllByRecursion (λ o. IfSome o.name P) (openings raw) →
       AllByRecursion (λ (e : Text × List ℕ). P e.0) m.named_groups
   names_told P h =

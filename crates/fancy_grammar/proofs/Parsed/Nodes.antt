@@ -1,5 +1,4 @@
--- What is true of each node of a raw tree under the flags that its pattern is read under, by how trees are put
--- together.
+-- What is true of each node of a raw tree under the flags that its pattern is parsed under, by how trees are built.
 use Rattle.std.proofs.Common.{◌≡◌, ℕ, ◌<◌, ◌≤◌, ◌^◌, ◌∷◌, [], List, refl, sym, subst, arith, Bool, true, false}
 use Rattle.std.proofs.Common.{length, if◌then◌else◌, IfSome, nat_lt, ap, ◌∙◌}
 use Rattle.std.specs.Prelude.{◌&&◌}
@@ -33,7 +32,7 @@ use Rattle.fancy_grammar.proofs.Parsed.Targets.{IsTargetRead, IsCallRead}
 
 -- ---- nodes
 
--- a reader gave the source: of an escape outside of a class, or of a class, under flags of the same mode
+-- a reader gave the text: for an escape outside a class, or for a class, under flags of the same mode
 pub data IsSourceRead (f : Flags) (s : Text) (casei : Bool) : Type 0 where
   by_escape : (g : Flags) (t u : Text) → IsSameMode f g → escape g false t ≡ gives (escaped.delegate s casei) u →
       IsSourceRead f s casei
@@ -43,7 +42,7 @@ pub data IsSourceRead (f : Flags) (s : Text) (casei : Bool) : Type 0 where
 abbrev pub IsSolid : Tree → Type 0
 IsSolid t = is_empty t ≡ false
 
--- two trees, as an absent expression has them
+-- two trees, as in an absent expression
 abbrev pub AreTwo : Trees → Type 0
 AreTwo (more_trees a (more_trees e no_trees)) = Unit {0}
 AreTwo _ = ⊥
@@ -53,7 +52,8 @@ abbrev pub AreBranched : Trees → Type 0
 AreBranched (more_trees c (more_trees t (more_trees e no_trees))) = (is_empty t && is_empty e) ≡ false
 AreBranched _ = ⊥
 
--- a reference at a reach of the text: what it names was read so, and one with a level stands behind no backslash
+-- a reference at a reach of the text: what it names was read there, and if it has a level, it does not follow a
+-- backslash
 abbrev pub IsAstRead : Text → AstReference → ℕ → Type 0
 IsAstRead text (ast_backref t casei level) p =
     IsTargetRead t × IfSome level IsLevelWritable
@@ -61,9 +61,9 @@ IsAstRead text (ast_backref t casei level) p =
 IsAstRead text (ast_call t) p = IsCallRead t
 IsAstRead text (ast_condition t level) p = IsTargetRead t × IfSome level IsLevelWritable
 
--- Under flags with the mode of these: a byte is read without Unicode, a general new line tells it, the start of a line
--- is that of the mode, and a Delegate's source was read. What stands under a quantifier is repeatable, a word holds its
--- counts, and in Oniguruma mode they are in order; a stopper holds no Empty; a name can be written. A Concat has two
+-- Under flags of the same mode: a byte is read without UNICODE, a general new line records UNICODE, the start of a line
+-- is that of the mode, and the text of a Delegate was read. The operand of a quantifier is repeatable, its counts fit
+-- in a word, and in Oniguruma mode they are in order; a stopper holds no Empty; a name can be written. A Concat has two
 -- parts or more, none of them Empty, an absent expression two, and a conditional three, of which a branch is not Empty.
 abbrev pub IsParsedNode : Flags → Text → Tree → Type 0
 IsParsedNode f text (leaf (label.literal_bytes w)) = f.unicode ≡ false
@@ -140,7 +140,7 @@ module _ (f : Flags) (text : Text) where
       cond_both m.possessive _ _ IsParsed (λ _. (tt, ((r, w.0, w.1, ordered), h)))
       (λ _. ((r, w.0, w.1, ordered), h)))
 
-  -- the name in a group's head can be written
+  -- the name in the opening of a group can be written
   abbrev pub IsHeadParsed : Head → Type 0
   IsHeadParsed (capture name) = IfSome name IsNameWritable
   IsHeadParsed _ = Unit {0}

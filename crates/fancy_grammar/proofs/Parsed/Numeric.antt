@@ -1,4 +1,4 @@
--- Whether references of a parsed tree count as written as numbers is seen by its nodes.
+-- Whether references of a parsed tree count as written with numbers can be seen from its nodes.
 use Rattle.std.proofs.Common.{◌≡◌, ℕ, zero, suc, ◌+◌, ◌==◌, Bool, true, false, ◌||◌, ◌&&◌, if◌then◌else◌, List, [], ◌∷◌}
 use Rattle.std.proofs.Common.{Some, None, nat_lt, refl, sym, ◌∙◌, arith}
 use Rattle.std.proofs.lemmas.Bool.Decides.{nat_tests}
@@ -22,7 +22,7 @@ use Rattle.fancy_grammar.proofs.Parsed.Targets.{both_right}
 use Rattle.fancy_grammar.proofs.Parsed.Nodes.{IsParsedNode, IsAstRead}
 use Rattle.fancy_grammar.proofs.Parsed.References.{IsMarkedNode}
 
--- ---- truth values
+-- ---- booleans
 
 or_step : (a n b k : Bool) → (a ≡ true → b ≡ true) → (n ≡ true → k ≡ true) → (a || n) ≡ true → (b || k) ≡ true
 or_step true n b k f g e = rw (f refl) refl
@@ -32,7 +32,7 @@ both_left : (a b : Bool) → (a && b) ≡ true → a ≡ true
 both_left true b e = refl
 both_left false b e = absurd cc
 
--- of one that is so what it gives
+-- what each element that passes implies, if some element passes
 any_gives : (p : Tree → Bool) (P : Type 0) → ((x : Tree) → p x ≡ true → P) → (l : List Tree) → list_any p l ≡ true → P
 any_gives p P f [] e = absurd cc
 any_gives p P f (x ∷ l) e = by_test (p x) refl e (any_gives p P f l)
@@ -41,7 +41,7 @@ any_gives p P f (x ∷ l) e = by_test (p x) refl e (any_gives p P f l)
     by_test true is e g = f x is
     by_test false is e g = g e
 
--- a call of the number is written by it
+-- a call of the number is written with it
 called_so : (numeric self : Bool) (n : ℕ) → numeric ≡ true → ((n == 0) ≡ true → self ≡ true) →
     (numeric && (nat_lt 0 n || self)) ≡ true
 called_so numeric self zero e f = rw (e, f refl) refl
@@ -75,7 +75,7 @@ module _ (m : Marks) where
       node (leaf (label.subroutine_call n)) e = self_so m.numeric_capture_group_references m.self_recursive n e
       node _ e = absurd cc
 
--- ---- nodes and what they come to
+-- ---- nodes and what they resolve to
 
 module _ (f : Flags) (m : Marks) (text : Text) (z : ℕ) (named : Bool) (u : Text → List ℕ) where
   abbrev there : ℕ → Tree → Tree
@@ -84,7 +84,7 @@ module _ (f : Flags) (m : Marks) (text : Text) (z : ℕ) (named : Bool) (u : Tex
   abbrev kept_here : ℕ → List Tree → List Tree
   kept_here = kept z named u
 
-  -- what the references among nodes mean, and which count as written as numbers, and as calls of all
+  -- what the references among nodes mean, which count as written with numbers, and which are calls of all
   abbrev pub meant : ℕ → List Tree → List (AstReference × ℕ × Meaning)
   meant c l = meanings_in named u c (items_of_all l)
 
@@ -100,7 +100,7 @@ module _ (f : Flags) (m : Marks) (text : Text) (z : ℕ) (named : Bool) (u : Tex
   abbrev Marked : List Tree → Type 0
   Marked = AllByRecursion (IsMarkedNode m)
 
-  -- by the marks each call by a number is written by it
+  -- by the group information, each call with a number is written with it
   marked_here : (r : AstReference) (p : ℕ) (k : Meaning) → (is_written (r, p, k) ≡ true →
       m.numeric_capture_group_references ≡ true) → (is_of_all (r, p, k) ≡ true → m.self_recursive ≡ true) →
       IsMarkedNode m (ast_node r p)
@@ -137,7 +137,7 @@ module _ (f : Flags) (m : Marks) (text : Text) (z : ℕ) (named : Bool) (u : Tex
       )
   marked_nodes c (_ ∷ l) f g = (tt, marked_nodes c l f g)
 
-  -- where one counts as written as a number, so is a node
+  -- if a reference counts as written with a number, so does a node
   numbered_here : m.numeric_capture_group_references ≡ true → (c : ℕ) (r : AstReference) (p : ℕ) →
       IsAstRead text r p → IsMarkedNode m (ast_node r p) →
       is_numeric text (place_at (bytes text) p) (role_of r) (target_of r) ≡ true →
@@ -171,7 +171,7 @@ module _ (f : Flags) (m : Marks) (text : Text) (z : ℕ) (named : Bool) (u : Tex
       (numbered_here b c r p h.0 k.0) (numbered_some b c l h.1 k.1) e
   numbered_some b c (x ∷ l) h k e = or_right (is_numbered m (there c x)) _ (numbered_some b c l h.1 k.1 e)
 
-  -- where one calls all, so does a node
+  -- if a reference calls all, so does a node
   called_here : (c : ℕ) (r : AstReference) (p : ℕ) → IsMarkedNode m (ast_node r p) →
       is_call_of_all (role_of r) (target_of r) ≡ true → is_numbered_call_of_all m (there c (ast_node r p)) ≡ true
   called_here c (ast_call (by_number n)) p k e = rw (k, e) refl

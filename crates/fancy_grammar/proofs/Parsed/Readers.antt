@@ -1,5 +1,5 @@
--- What the readers of parts without trees give: flags of the same mode, counts that a word holds, and names that can be
--- written.
+-- What the readers of parts without trees give: flags of the same mode, counts that fit in a word, and names that can
+-- be written.
 use Rattle.std.proofs.Common.{◌≡◌, ℕ, zero, suc, ◌<◌, ◌^◌, Bool, true, false, not, ◌&&◌, ◌==◌, if◌then◌else◌, []}
 use Rattle.std.proofs.Common.{◌∷◌}
 use Rattle.std.proofs.Common.{Option, Some, None, IfSome, option_map, unwrap_or, nat_lt, refl, ◌∙◌}
@@ -52,11 +52,11 @@ unlettered f = record f {
   ignore_space = false;
 }
 
--- the flags differ in no more than those, as a pattern may set them
+-- the flags differ only in those, as a pattern may set them
 abbrev pub IsSameMode : Flags → Flags → Type 0
 IsSameMode f g = unlettered g ≡ unlettered f
 
--- so do those that letters set
+-- so do the flags that letters set
 abbrev pub IsModeOf : Flags → Letters → Type 0
 IsModeOf f (setting g) = IsSameMode f g
 IsModeOf f (scope g) = IsSameMode f g
@@ -109,14 +109,14 @@ module _ (t : Text) where
       behind (flags_end l) w i more = i
       behind (flags_go_on b j) w i more = more b j w i
 
--- the letters of a flag group leave the mode as it is
+-- the letters of a flag group keep the mode
 pub letters_mode : (f : Flags) (t : Text) → IfGives (IsModeOf f) (letters f t)
 unfolding letters
 letters_mode f t = letters_in_mode t (suc (bytes t)) f f refl false t
 
 -- ---- counts
 
--- a word holds both
+-- both counts fit in a word
 abbrev pub AreWords : Counts → Type 0
 AreWords c = (c.low < 2 ^ 64) × (c.high < 2 ^ 64)
 
@@ -197,7 +197,7 @@ braced_words x t = by_count (spaced_count x t) (spaced_word x t)
     by_count None h = tt
     by_count (Some p) h = closed p.0 p.1 h (strip (code "}") p.1)
 
--- a word holds each count of a quantifier
+-- each count of a quantifier fits in a word
 pub counts_words : (x : Bool) (t : Text) → IfWords (counts x t)
 unfolding counts
 counts_words x [] = tt
@@ -209,12 +209,12 @@ counts_words x (c ∷ t) =
 
 -- ---- names
 
--- the text is not empty, and has none of the mark
+-- the text is not empty, and does not contain the delimiter
 abbrev pub IsFreeOf : ℕ → Text → Type 0
 IsFreeOf mark [] = ⊥
 IsFreeOf mark (c ∷ w) = is_among mark (c ∷ w) ≡ false
 
--- what is cut off the front has none of it
+-- what is cut off the front does not contain it
 abbrev IfFree : ℕ → Option (Text × Text) → Type 0
 IfFree mark o = IfSome o (λ p. is_among mark p.0 ≡ false)
 
@@ -232,7 +232,7 @@ none_before mark (c ∷ t) = by_test (c == mark) refl (cut_at mark t) (none_befo
     by_test false e (Some ([], u)) h = other e
     by_test false e (Some (d ∷ w, u)) h = rw (other e) h
 
--- so is a name
+-- neither does a name
 abbrev pub IfNameFree : ℕ → Option (Text × Text) → Type 0
 IfNameFree mark o = IfSome o (λ p. IsFreeOf mark p.0)
 
@@ -245,7 +245,7 @@ before_free mark t = by_cut (cut_at mark t) (none_before mark t)
     by_cut (Some ([], v)) h = tt
     by_cut (Some (c ∷ w, v)) h = h
 
--- and that of a group
+-- nor the name of a group
 pub name_free : (mark : ℕ) (t u : Text) → IfGives (IsFreeOf mark) (group_name mark t u)
 unfolding group_name
 name_free mark t u = by_name (name_before mark u) (before_free mark u)

@@ -1,4 +1,4 @@
--- What references are resolved to can be written, and the marks say how they are written.
+-- What references resolve to can be written, and the group information says how.
 use Rattle.std.proofs.Common.{◌≡◌, ℕ, zero, suc, ◌+◌, ◌-◌, ◌<◌, ◌≤◌, ◌^◌, Bool, true, false, ◌||◌}
 use Rattle.std.proofs.Common.{if◌then◌else◌, List, [], ◌∷◌, ◌++◌, length, Option, Some, None, IfSome, nat_le}
 use Rattle.std.proofs.Common.{ℤ, pos, negsuc, refl, sym, ap, ◌∙◌, subst, arith}
@@ -38,7 +38,7 @@ use Rattle.fancy_grammar.proofs.Parsed.Targets.{IsCallRead, IsTargetRead, IsCall
 
 -- ---- numbers
 
--- so many openings have a number
+-- a number of one of this many openings
 abbrev pub IsNumberOf : ℕ → ℕ → Type 0
 IsNumberOf total n = (0 < n) × (n ≤ total)
 
@@ -63,7 +63,7 @@ got P [] k h = tt
 got P (x ∷ l) zero h = h.0
 got P (x ∷ l) (suc k) h = got P l k h.1
 
--- ---- items are no more than the bytes of the text
+-- ---- there are no more items than bytes of the text
 
 fewer_items : (high low : ℕ) (l : List Item) → DescendingReaches high low l → length l + low ≤ high
 fewer_items high low [] h = omega (arith, h)
@@ -93,9 +93,9 @@ counted_append named a b =
     ap (λ l. length (numbered_openings_in named l)) (openings_append a b)
     ∙ length_filtered (λ (o : Opening). is_counted named o.name) (openings_in a) (openings_in b)
 
--- ---- what a leaf is resolved to
+-- ---- what a leaf resolves to
 
--- it is what a reference is resolved to
+-- a reference may resolve to it
 abbrev pub is_reference : Leaf → Bool
 is_reference (label.backref n casei) = true
 is_reference (label.backref_at_level n level casei) = true
@@ -109,7 +109,7 @@ Where true P = P
 Where false P = Unit {0}
 
 abbrev mutual
-  -- behind the openings of c groups what references are resolved to can be written
+  -- after the openings of c groups, what references resolve to can be written
   pub AreReferencesWritable : Flags → Marks → ℕ → Tree → Type 0
   AreReferencesWritable f m c (leaf l) = Where (is_reference l) (IsWritableLeaf f m c l)
   AreReferencesWritable f m c (over label.group t) = AreReferencesWritable f m (c + 1) t
@@ -121,7 +121,7 @@ abbrev mutual
   AreAllReferencesWritable f m c (more_trees t ts) =
       AreReferencesWritable f m c t × AreAllReferencesWritable f m (c + group_count t) ts
 
--- a call by a number is written by it
+-- a call with a number is written with it
 abbrev pub IsMarkedNode : Marks → Tree → Type 0
 IsMarkedNode m (leaf (label.ast_node (ast_call (by_number n)) p)) = is_called_by_number m n ≡ true
 IsMarkedNode m _ = Unit {0}
@@ -131,7 +131,7 @@ call_by_either : (b : Bool) (c n : ℕ) → n < 2 ^ 64 → n - c < amount_bound 
 call_by_either true c n h i j = h
 call_by_either false c n h i j = (i, j)
 
--- a name that means no group
+-- a name that no group has
 called_name : (w : Text) → number_text w ≡ None → IsCalledBy w → IsCalledName w
 called_name [] e (between r h) = absurd h
 called_name [] e (in_parens h) = absurd h
@@ -154,14 +154,14 @@ module _ (f : Flags) (m : Marks) (text : Text) (z : ℕ) (named : Bool) (u : Tex
   abbrev Answered : Tree → Type 0
   Answered x = AllByRecursion IsAnsweredNode (preorder x)
 
-  -- the node that the reference comes to
+  -- the node that the reference resolves to can be written
   abbrev Comes : ℕ → Meaning → AstReference → ℕ → Type 0
   Comes c k r p =
       Answered (reference_node z k r p) → AreReferencesWritable f m c (reference_node z k r p)
 
   -- ---- back references and conditions
 
-  -- a number that a word holds, with the level
+  -- a number that fits in a word, with the level
   back_comes : (c n p : ℕ) (t : Target) (casei : Bool) (level : Option ℤ) → n < 2 ^ 64 → IfSome level IsLevelWritable →
       Comes c (number n) (ast_backref t casei level) p
   back_comes c n p t casei None h l a = h
@@ -171,7 +171,7 @@ module _ (f : Flags) (m : Marks) (text : Text) (z : ℕ) (named : Bool) (u : Tex
       Comes c (number n) (ast_condition t level) p
   condition_comes c n p t level h l a = (h, l)
 
-  -- the number of a meaning is a word
+  -- the number of a meaning, if it is one
   abbrev IfNumber : (ℕ → Type 0) → Meaning → Type 0
   IfNumber P (number n) = P n
   IfNumber P _ = Unit {0}
@@ -225,7 +225,7 @@ module _ (f : Flags) (m : Marks) (text : Text) (z : ℕ) (named : Bool) (u : Tex
 
   -- ---- calls
 
-  -- a call means a group that is near enough, or none
+  -- a call refers to a group that is near enough, or to none
   abbrev IsNear : ℕ → ℕ → Type 0
   IsNear c n = (n < 2 ^ 64) × (n - c < amount_bound) × (c + 1 - n < amount_bound)
 
@@ -243,7 +243,7 @@ module _ (f : Flags) (m : Marks) (text : Text) (z : ℕ) (named : Bool) (u : Tex
       (λ e. let less : k ≤ c = grind (arith, nat_tests, e) in
       (omega (arith, small, h), omega (arith, less), omega (arith, less, l))) (λ _. tt)
 
-  -- what it means by the marks
+  -- what it means by the group information
   means_so : (c : ℕ) (t : Target) → means (numbers_told m) c call t ≡ means u c call t
   means_so c t = λ i. means (λ w. same w i) c call t
 
@@ -305,7 +305,7 @@ module _ (f : Flags) (m : Marks) (text : Text) (z : ℕ) (named : Bool) (u : Tex
   reference_count unresolved r p = refl
   reference_count (faulty j) r p = refl
 
-  -- as many groups as have a number
+  -- it has as many groups as have a number
   mutual
     count_there : (c : ℕ) (r : Tree) → AllByRecursion IsReadNode (preorder r) →
         group_count (there c r) ≡ counted named (items r)

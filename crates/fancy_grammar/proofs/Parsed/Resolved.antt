@@ -24,13 +24,14 @@ use Rattle.fancy_grammar.proofs.Parsed.Derived.{derived_parsed}
 use Rattle.fancy_grammar.proofs.Parsed.Marks.{names_told}
 use Rattle.fancy_grammar.proofs.Parsed.Nodes.{IsParsedNode, IsSolid, AreTwo, AreBranched}
 
--- three trees, as a conditional has them
+-- three trees, as in a conditional
 abbrev pub AreThree : Trees → Type 0
 AreThree (more_trees c (more_trees t (more_trees e no_trees))) = Unit {0}
 AreThree _ = ⊥
 
--- the same as of raw nodes, but that where groups without a name have no number, which leave their insides, what stands
--- under a quantifier need not be repeatable, and a part of a Concat, a stopper's, and both branches may be Empty
+-- The same as for raw nodes, with one exception: if groups without a name have no number, they are replaced by their
+-- contents, so the operand of a quantifier need not be repeatable, and a part of a Concat, the contents of a stopper,
+-- and both branches may be Empty.
 abbrev pub IsResolvedNode : Flags → Bool → Tree → Type 0
 IsResolvedNode f named (leaf (label.ast_node r place)) = Unit {0}
 IsResolvedNode f named (leaf l) = IsParsedNode f [] (leaf l)
@@ -45,7 +46,7 @@ IsResolvedNode f named _ = Unit {0}
 
 -- ---- what a reference becomes
 
--- it says nothing of the flags, is not Empty, and may stand under a quantifier
+-- it depends on no flag, is not Empty, and may be under a quantifier
 record IsPlain (f : Flags) (t : Tree) : Type 0 where
   fact : (named : Bool) → IsResolvedNode f named t
   solid : IsSolid t
@@ -71,7 +72,7 @@ module _ (f : Flags) (text : Text) (z : ℕ) (named : Bool) (numbers_of : Text �
   reference_there : (c : ℕ) (r : AstReference) (place : ℕ) → IsPlain f (there c (ast_node r place))
   reference_there c r place = reference_plain f z (means numbers_of c (role_of r) (target_of r)) r place
 
-  -- where each group has a number
+  -- if each group has a number
   module _ (e : named ≡ false) where
     empty_kept : (c : ℕ) (t : Tree) → is_empty (there c t) ≡ is_empty t
     empty_kept c (ast_group name place t) = rw e refl
@@ -147,7 +148,7 @@ names_in f text (_ ∷ l) h = names_in f text l h.1
 -- ---- parsed trees
 
 module _ {f : Flags} {text : Text} {t : Tree} {m : Marks} (a : IsTreeOf f text t m) where
-  -- each node is so
+  -- each node is such a node
   pub nodes_told : AllByRecursion (IsResolvedNode f m.numbered_groups_ignored) (preorder t)
   nodes_told =
       let r = a.0 in

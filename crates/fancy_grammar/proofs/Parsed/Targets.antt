@@ -1,5 +1,5 @@
--- What references name as they are read: numbers that a word holds, distances and levels that can be written, and names
--- that a call can be written by.
+-- What references name when they are read: numbers that fit in a word, distances and levels that can be written, and
+-- names that a call can be written with.
 use Rattle.std.proofs.Common.{◌≡◌, ℕ, zero, suc, ◌<◌, ◌^◌, ◌==◌, Bool, true, false, ◌&&◌, [], ◌∷◌}
 use Rattle.std.proofs.Common.{Option, Some, None, IfSome, option_map, nat_lt, ℤ, pos, refl, subst, arith}
 use Rattle.std.specs.Prelude.{neg_ℤ, unwrap_or}
@@ -30,9 +30,9 @@ use Rattle.fancy_grammar.specs.Writable.{IsLevelWritable, IsNameWritable}
 use Rattle.fancy_grammar.proofs.Parsed.Readers.{gives_both, IsFreeOf, IfNameFree, before_free, angled_writable}
 use Rattle.fancy_grammar.proofs.Parsed.Readers.{quoted_writable}
 
--- ---- what is said of them
+-- ---- what holds for targets
 
--- a call by the name stands between marks, where the name is no distance and can be written so, or in `(?P>` and `)`
+-- a call with the name is between delimiters, if the name is no distance and can be written so, or in `(?P>` and `)`
 pub data IsCalledBy (w : Text) : Type 0 where
   between : is_relative w ≡ false → IsNameWritable w → IsCalledBy w
   in_parens : IsFreeOf close_paren w → IsCalledBy w

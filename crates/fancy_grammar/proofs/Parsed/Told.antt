@@ -1,4 +1,4 @@
--- The groups that the marks tell of are those that have a number, each with its name.
+-- The groups in the group information are those that have a number, each with its name.
 use Rattle.std.proofs.Common.{◌≡◌, ℕ, zero, suc, ◌+◌, ◌==◌, Bool, true, false, if◌then◌else◌, List}
 use Rattle.std.proofs.Common.{[], ◌∷◌, length, map, Option, Some, None, option_map, unwrap_or, refl, ap}
 use Rattle.std.proofs.Common.{ap₂, ◌∙◌, subst, arith}
@@ -20,7 +20,7 @@ use Rattle.fancy_grammar.proofs.Pattern.Theorem.{unreached}
 
 -- ---- the name of a number
 
--- the first entry with the number, whose name is that of the group
+-- the first entry with the number has the name of the group
 named_by : (k : ℕ) (l : List Opening) (ws : List Text) →
     option_map (λ e. e.0) (find (λ (e : Named). list_any (λ j. j == suc k) e.1) (map (λ w. (w, numbers w l)) ws))
     ≡ find (λ w. carries w (slice_get l k)) ws
@@ -67,7 +67,7 @@ name_of_opening : Option Opening → Option Text
 name_of_opening None = None
 name_of_opening (Some o) = o.name
 
--- the name of the group behind the first k
+-- the name of the group after the first k
 name_there : (m : Marks) (l : List Opening) (k : ℕ) (o : Opening) → m.named_groups ≡ named_groups l →
     slice_get l k ≡ Some o → name_at m (suc k) ≡ o.name
 name_there m l k o e s =
@@ -84,7 +84,7 @@ name_there m l k o e s =
 
 -- ---- the openings
 
--- those that the marks tell of, behind c others
+-- the openings in the group information, after c others
 told_from : (m : Marks) (l : List Opening) → m.named_groups ≡ named_groups l → (c : ℕ) (n : List Opening) →
     ((k : ℕ) → slice_get l (c + k) ≡ slice_get n k) → openings_told m c (length n) ≡ map unreached n
 told_from m l e c [] h = refl

@@ -1,4 +1,4 @@
--- Absent expressions, stoppers and repeaters read back where the trees below them do.
+-- Absent expressions, stoppers and repeaters read back if the trees below them do.
 use Rattle.std.proofs.lemmas.Bool.{true≢false}
 use Rattle.std.proofs.Common.{◌≡◌, ℕ, ◌+◌, ◌<◌, Bool, true, false, [], ◌∷◌, ◌++◌, codes, nat_eq, refl, sym, ap}
 use Rattle.std.proofs.Common.{◌∙◌, subst, append_assoc, ne_eqb, ⊎_elim, ◌≢◌, ◌==◌, if◌then◌else◌}
@@ -36,13 +36,13 @@ use Rattle.fancy_grammar.proofs.ReadLaws.{branch_read}
 use Rattle.fancy_grammar.proofs.Slices.{to_ends}
 use Rattle.fancy_lex.proofs.LeaveLaws.{ends_twice}
 
--- ---- behind an empty comment
+-- ---- after an empty comment
 
 nothing_at : (d : ℕ) (f : Flags) (s : Text) → ahead d (st f (code "|" ∷ s)) ≡ nothing
 unfolding ahead
 nothing_at d f s = refl
 
--- a text that begins with a bar reads the same behind it
+-- a text that begins with a bar is read the same after the comment
 comment_whole : (μ : Marks) (h : Here) (s v : Text) (g : Flags) (x : Tree) →
     WholeAt μ h (code "|" ∷ s) g v x → WholeAt μ h (codes "(?#)|" ++ s) g v x
 comment_whole μ h s v g x w =
@@ -63,7 +63,7 @@ comment_whole μ h s v g x w =
 
 -- ---- a repeater
 
--- no bar stands there, or an empty comment before it
+-- the text begins with no bar; an empty comment comes first if one is needed
 record Parted (μ : Marks) (h : Here) (t v : Text) (g : Flags) (x : Tree) : Type 0 where
   first : ℕ
   others : Text
@@ -231,7 +231,7 @@ module _ (μ : Marks) (h : Here) where
   stopper_reads empty left r = nothing_stopper (by_left μ.numbered_groups_ignored left)
   stopper_reads t left r = solid_stopper t refl r
 
-  -- the second branch stands behind the first
+  -- the second branch follows the first
   pub expression_reads : (a e : Tree) → let x = row label.expression (more_trees a (more_trees e no_trees)) in
       let i = deeper (under (settled h.flags x) h) in
       (behind a Branch i).flags.ignore_space ≡ h.flags.ignore_space → ReadsTree μ a i →

@@ -1,4 +1,4 @@
--- What stands before an atom: a leaf without parentheses suits the flags, and a group keeps the mode.
+-- The start of an atom: a leaf without parentheses suits the flags, and a group keeps the mode.
 use Rattle.std.proofs.Common.{◌≡◌, ℕ, ◌+◌, ◌<◌, ◌≤◌, Bool, false, [], ◌∷◌, codes, refl, ap}
 use Rattle.std.proofs.Common.{◌∙◌, arith, nat_le, ◌==◌}
 use Rattle.std.proofs.lemmas.Bool.{cond_both}
@@ -36,7 +36,7 @@ use Rattle.fancy_grammar.proofs.Pattern.Suited.{Suits}
 use Rattle.fancy_grammar.proofs.Pattern.Told.{IsBare, IsTold, told_escape, literal_suits, delegate_suits, dot_suits}
 use Rattle.fancy_grammar.proofs.Pattern.Told.{start_suits, end_suits}
 
--- no group may open where so many are open
+-- no group may open if this many are open
 abbrev pub IsLast : ℕ → Type 0
 IsLast d = max_depth ≤ d + 1
 
@@ -55,7 +55,7 @@ abbrev pub IsLeafTree : Tree → Type 0
 IsLeafTree (leaf l) = Unit {0}
 IsLeafTree _ = ⊥
 
--- a leaf that is read from s up to t, where d groups are open, in this mode
+-- a leaf that is read from s up to t, with d groups open, in this mode
 pub record LeafRead (in_mode : Bool) (d : ℕ) (s : State) (r : Tree) (t : State) : Type 0 where
   pub is_leaf : IsLeafTree r
   pub plain : IsLast d → IsPlainTree s.flags r
@@ -77,7 +77,7 @@ AheadTells in_mode d s (body c t) = IsTarget c × (t.flags.oniguruma_mode ≡ in
 AheadTells in_mode d s (absent_branch t) = t.flags.oniguruma_mode ≡ in_mode
 
 module _ (in_mode : Bool) (d : ℕ) (s : State) (o : s.flags.oniguruma_mode ≡ in_mode) where
-  -- ---- behind a parenthesis
+  -- ---- after a parenthesis
 
   module _ (b : d + 1 < max_depth) where
     open_leaf : (l : Leaf) (t : State) → t.flags.oniguruma_mode ≡ in_mode → LeafRead in_mode d s (leaf l) t

@@ -1,4 +1,4 @@
--- Raw trees that resolve to given ones where they stand, whatever stands around them.
+-- Raw trees that resolve to given ones at a given position, whatever is around them.
 use Rattle.std.proofs.Common.{if◌then◌else◌}
 use Rattle.std.proofs.Common.{◌≡◌, ℕ, suc, ◌+◌, Bool, true, false, List, [], ◌∷◌, ◌++◌, length}
 use Rattle.std.proofs.Common.{refl, sym, ap, ap₂, ◌∙◌, subst, arith, ℤ, Some, None, Option}
@@ -23,35 +23,36 @@ use Rattle.fancy_parts.specs.Meaning.{Meaning, number, unresolved, faulty, means
 use Rattle.fancy_parts.specs.Written.{is_numeric}
 use Rattle.fancy_lex.proofs.LeaveLaws.{ends_twice}
 
--- how many groups that have a number open among the items
+-- how many groups among the items have a number
 abbrev pub opened : Bool → List Item → ℕ
 opened named l = length (numbered_openings_in named (openings_in l))
 
--- what a reference means behind the openings of c groups, by the marks
+-- the meaning of a reference after the openings of c groups, by the group information
 abbrev pub meaning_told : Marks → ℕ → AstReference → Meaning
 meaning_told μ c r = means (numbers_told μ) c (role_of r) (target_of r)
 
--- a group, or none, but no fault
+-- a group, or no group, but no error
 abbrev pub MeansGroup : Meaning → Type 0
 MeansGroup (faulty k) = ⊥
 MeansGroup _ = Unit {0}
 
--- in each text that ends so it is written as a number exactly if its node is to be, and so is a call of all
+-- in each text that ends with s, the reference is written with a number exactly if its node is to be, and the same
+-- holds for being a call of all
 pub record IsAsMarked (μ : Marks) (s : Text) (r : AstReference) (m : Meaning) (p : ℕ) : Type 0 where
   pub numeric : (text : Text) → EndsWith text s →
       is_numeric text (place_at (bytes text) p) (role_of r) (target_of r) ≡ is_numbered μ (reference_node 0 m r 0)
   pub of_all : is_call_of_all (role_of r) (target_of r) ≡ is_numbered_call_of_all μ (reference_node 0 m r 0)
 
--- behind the openings of c groups a group that has a number has the name that the marks give it
+-- after the openings of c groups, a group that has a number has the name in the group information
 abbrev pub IsOpening : Bool → Marks → ℕ → Option Text → Type 0
 IsOpening true μ c name = name ≡ name_at μ (c + 1)
 IsOpening false μ c name = Unit {0}
 
--- how many that have a number are open behind another
+-- how many groups with a number are opened after this opening
 abbrev pub count_behind : Marks → ℕ → Opening → ℕ
 count_behind μ c o = if is_counted μ.numbered_groups_ignored o.name then c + 1 else c
 
--- behind the openings of c groups they are such groups, and such references
+-- after the openings of c groups, the openings and references among the items are as above
 abbrev pub AreGroups : Marks → Text → ℕ → List Item → Type 0
 AreGroups μ s c [] = Unit {0}
 AreGroups μ s c (opening o ∷ l) =
@@ -59,21 +60,21 @@ AreGroups μ s c (opening o ∷ l) =
 AreGroups μ s c (reference r p ∷ l) =
     MeansGroup (meaning_told μ c r) × IsAsMarked μ s r (meaning_told μ c r) p × AreGroups μ s c l
 
--- behind the openings of c groups it resolves to x, but for places, where each name has the numbers that the marks say;
--- it has as many groups that have a number, with the names that the marks give them
+-- after the openings of c groups the raw tree resolves to x, up to positions, if each name has the numbers in the group
+-- information; as many of its groups have a number as x has groups, and they have the names in the group information
 pub record Becomes (μ : Marks) (s : Text) (c : ℕ) (r x : Tree) : Type 0 where
   pub is : (n : ℕ) (numbers_of : Text → List ℕ) → ((w : Text) → numbers_of w ≡ numbers_told μ w) →
       unplaced (resolved_in n μ.numbered_groups_ignored numbers_of c r) ≡ unplaced x
   pub count : opened μ.numbered_groups_ignored (items r) ≡ group_count x
   pub groups : AreGroups μ s c (items r)
 
--- each of the trees becomes the one at its place, one behind another
+-- each of the trees becomes the one at its index, one after another
 abbrev pub EachBecomes : Marks → Text → ℕ → List Tree → List Tree → Type 0
 EachBecomes μ s c [] [] = Unit {0}
 EachBecomes μ s c (r ∷ l) (x ∷ m) = Becomes μ s c r x × EachBecomes μ s (c + group_count x) l m
 EachBecomes μ s c _ _ = ⊥
 
--- ---- items, one behind another
+-- ---- items, one after another
 
 -- one group more, if it has a number
 one_more : (b : Bool) (c : ℕ) (o : Opening) (l : List Opening) →
@@ -106,7 +107,7 @@ opened_append named (opening o ∷ l) m = at (is_counted named o.name) (opened_a
     at false e = e
 opened_append named (reference r p ∷ l) m = opened_append named l m
 
--- what it resolves to, but for places
+-- what it resolves to, up to positions
 pub becomes_plain : (μ : Marks) (s : Text) (c : ℕ) (r x : Tree) → Becomes μ s c r x →
     unplaced (resolved_in 0 μ.numbered_groups_ignored (numbers_told μ) c r) ≡ unplaced x
 becomes_plain μ s c r x b = b.is 0 (numbers_told μ) (λ w. refl)
@@ -162,7 +163,7 @@ one_becomes μ s w (r ∷ l) [] c h = absurd h
 
 -- ---- Empties
 
--- what becomes no Empty is none
+-- a raw tree that does not become an Empty is not Empty
 pub stays_solid : (μ : Marks) (s : Text) (c : ℕ) (r x : Tree) → Becomes μ s c r x → is_empty x ≡ false →
     is_empty r ≡ false
 stays_solid μ s c empty x b e =
@@ -178,9 +179,9 @@ pub solid_also : (μ : Marks) (s : Text) (c : ℕ) (r x : Tree) (l m : List Tree
 solid_also μ s c r x l m b e h =
     subst (λ k. EachBecomes μ s c k (x ∷ m)) (sym (cond-false _ _ _ e)) (b, h)
 
--- ---- what may stand under a quantifier
+-- ---- what may be under a quantifier
 
--- what a reference without a fault is resolved to: a leaf of its own, whatever the reference
+-- what a reference without an error resolves to: a leaf of its own, whatever the reference
 pub node_told : {A : Type 0} (P : Tree → A) (a : A) (m : Meaning) (r : AstReference) (p : ℕ) →
     ((n : ℕ) (casei : Bool) → P (backref n casei) ≡ a) →
     ((n : ℕ) (level : ℤ) (casei : Bool) → P (backref_at_level n level casei) ≡ a) →

@@ -1,4 +1,4 @@
--- Each kind of tree reads back where the trees below it do.
+-- Each kind of tree reads back if the trees below it do.
 use Rattle.std.proofs.lemmas.Bool.{true≢false, cond-true}
 use Rattle.fancy_grammar.proofs.Pattern.Groups.{BareAt}
 use Rattle.fancy_grammar.proofs.Pattern.Induction.{bare_by}
@@ -61,14 +61,14 @@ module _ (μ : Marks) where
 
   -- ---- leaves
 
-  -- where a leaf fits, alone and under a quantifier
+  -- where a leaf fits, by itself and under a quantifier
   abbrev FitsAlone : Leaf → Here → Type 0
   FitsAlone l h = FitsAfterSetting (leaf l) (MayOpenIf (is_in_parens l)) h
 
   abbrev FitsUnder : Leaf → Here → Type 0
   FitsUnder l h = FitsAfterSetting (leaf l) (FitsAsAtom (leaf l) (Operand zero) (MayOpenIf (is_in_parens l))) h
 
-  -- the leaf's text reads so in a group, where the leaf is not repeatable
+  -- the leaf's text is read as the leaf in a group, if the leaf cannot be repeated
   abbrev BareLeaf : Leaf → Here → Type 0
   BareLeaf l h =
       let i = deeper (under (settled h.flags (leaf l)) h) in
@@ -182,7 +182,7 @@ module _ (μ : Marks) where
   begins_open x s c = begins_by x (code "(") s (not_asking s (no_question s c.no_mark)) refl refl refl
 
   module _ (t : Tree) (h : Here) where
-    -- a group whose name the marks give it
+    -- a group with the name in the group information
     group_head_read : MayOpen h → (o : Option Named) → IfSome o (λ e. IsNameWritable e.0) → (f : Flags) (u : Text) →
         Clear f.ignore_space u →
         ahead h.depth (st f (code "(" ∷ (choose o (λ e. name_head e.0) [] ++ u)))
@@ -228,7 +228,7 @@ module _ (μ : Marks) where
     begins_look x LookBehind u = begins_by x (code "(") _ refl refl refl refl
     begins_look x LookBehindNeg u = begins_by x (code "(") _ refl refl refl refl
 
-    -- its text, where it may stand
+    -- its text, where a group may open
     look_atom : (l : LookAround) (i : Here) → MayOpen i → (v : Text) →
         WholeAt μ (deeper i) (written μ t Whole (deeper i) ++ code ")" ∷ v) (flags_behind t Whole i.flags)
         (code ")" ∷ v) t →
@@ -279,7 +279,7 @@ module _ (μ : Marks) where
         (r.whole d.1.1 (code ")" ∷ v) (ends_close h.flags.ignore_space v))))
         refl (λ e. ((λ d. d), refl)) (λ _ e. absurd (true≢false e))
 
-    -- where it is none of a quantifier
+    -- an atomic group that does not come from a quantifier
     pub atomic_by : ReadsTree t (deeper (under (settled h.flags t) h)) →
         let fits = FitsAfterSetting t (FitsInParens (Fits t Whole)) h in
         ReadsBy μ (over label.atomic_group t) h fits fits fits fits

@@ -1,4 +1,4 @@
--- The text of a character reads as it, whatever follows.
+-- The text of a character is read as that character, whatever follows.
 use Rattle.std.proofs.Common.{◌≡◌, ℕ, ◌+◌, ◌*◌, ◌/◌, ◌%◌, ◌<◌, ◌≤◌, Bool, true, false, not, ◌&&◌, ◌||◌, ◌==◌, nat_le}
 use Rattle.std.proofs.Common.{nat_lt, [], ◌∷◌, ◌++◌, codes, Option, Some, refl, sym, ap, ◌∙◌, subst, arith, lt-ltb}
 use Rattle.std.proofs.Common.{⊎_elim, ◌⊎◌, inl, inr, eqb-true, if◌then◌else◌}
@@ -81,7 +81,7 @@ hex_four f a b c d n s h k l m e =
       digits_four a b c d s h k l m,
     ) (ap (λ v. leaf_of_value f 4 (reach_of t) v s) same)
 
--- what is read of a code
+-- what a code is read as
 small_literal : (f : Flags) (p c : ℕ) (s : Text) → c < 0x80 →
     leaf_of_value f 2 p c s ≡ gives (escaped.literal c f.casei) s
 unfolding leaf_of_value
@@ -126,9 +126,9 @@ reads_byte inside f b s u l h =
     escape_x f inside _ ∙ (hex_two f (b / 16) (b % 16) b s (omega arith) (omega arith) (omega arith)
     ∙ byte_literal f _ b s u l h)
 
--- ---- what stands behind the backslash of a character
+-- ---- what follows the backslash of a character
 
--- what reads as the character behind a backslash, with this case flag, in a class or outside
+-- the text after a backslash is read as this character, with this case flag, in a class or outside
 abbrev pub EscapesIn : Bool → Flags → Bool → ℕ → Text → Type 0
 EscapesIn inside f casei c t = (s : Text) → escape f inside (t ++ s) ≡ gives (escaped.literal c casei) s
 
@@ -149,7 +149,7 @@ reads_large inside f c h k s =
     escape_u f inside _ ∙ (hex_four f (c / 4096) (c / 256 % 16) (c / 16 % 16) (c % 16) c s (omega arith) (omega arith)
     (omega arith) (omega arith) (omega arith) ∙ large_literal f _ c s k)
 
--- by itself
+-- with the character itself
 reads_kept : (f : Flags) (c : ℕ) → is_kept_by_backslash false c ≡ true → EscapesAs f false c (c ∷ [])
 unfolding escape_at lone_escape
 reads_kept f c h s =
@@ -171,7 +171,7 @@ reads_kept f c h s =
     digit : (c : ℕ) → is_ascii_alphanumeric c ≡ false → is_ascii_digit c ≡ false
     digit c h = grind (arith, nat_tests)
 
--- by a letter
+-- with a letter
 pub escapes_letter : (inside : Bool) (f : Flags) (c d : ℕ) → letter_of c ≡ Some d → EscapesIn inside f false c (d ∷ [])
 unfolding escape_at lone_escape
 escapes_letter inside f c d =
@@ -239,13 +239,13 @@ reads_by_backslash f c h =
 
 -- ---- characters
 
--- the text is a character that stands for itself here, or an escape of it
+-- the text is the character itself, if that denotes itself here, or an escape for it
 pub data Spells (f : Flags) (casei : Bool) (c : ℕ) : Text → Type 0 where
   itself : f.casei ≡ casei → c ∈ "\\.+*?()|[{^$" ≡ false → is_layout f.ignore_space c ≡ false →
       Spells f casei c (c ∷ [])
   by_escape : {t : Text} → EscapesAs f casei c t → Spells f casei c (code "\\" ∷ t)
 
--- what is not seen has a code
+-- an invisible character has a code
 pub unseen_small : (c : ℕ) → is_unseen c ≡ true → (c < 0x10000) × (is_scalar c ≡ true)
 unseen_small c h = grind (arith, nat_tests)
 
@@ -269,7 +269,7 @@ plain_spells f c h k =
     (λ e. let (a, b) = unseen_small c e in coded_spells f c a b)
     (λ e. itself refl h (no_layout f.ignore_space c e k))
 
--- the flags that hold leave the character as it is to be read
+-- the flags that hold give the character its case
 abbrev pub CaseFits : Flags → Bool → ℕ → Type 0
 CaseFits f true c = f.casei ≡ true
 CaseFits f false c = f.casei ≡ true → is_kept_by_backslash f.oniguruma_mode c ≡ true

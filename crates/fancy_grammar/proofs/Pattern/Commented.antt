@@ -1,4 +1,4 @@
--- An empty comment before an alternation leaves what it is read as.
+-- An empty comment before an alternation does not change what it is read as.
 use Rattle.std.proofs.Common.{◌≡◌, ℕ, Bool, true, false, ◌&&◌, ◌==◌, nat_lt, ◌+◌, List, ◌∷◌, ◌++◌, codes, Option}
 use Rattle.std.proofs.Common.{Some, None}
 use Rattle.std.proofs.Common.{refl, sym, ap, ◌∙◌, subst, if◌then◌else◌}
@@ -31,7 +31,7 @@ use Rattle.fancy_grammar.proofs.Pattern.Rules.{Clear, WholeAt, comment_passed, q
 use Rattle.fancy_grammar.proofs.ReadBack.RuleLemmas.{st, leaf_at}
 use Rattle.fancy_grammar.proofs.Unique.{same_layout, layout_or_fault, atom_unique}
 
--- ---- where a piece began counts for an Empty alone
+-- ---- where a piece began matters only for an Empty
 
 same_counts : (l m : ℕ) (a : Tree) (s : State) → is_empty a ≡ false → (o : Option (Counts × Text)) →
     with_counts l a s o ≡ with_counts m a s o
@@ -68,7 +68,7 @@ node_solid (escaped.delegate t casei) = refl
 node_solid (escaped.backref r casei) = refl
 node_solid (escaped.subroutine_call c) = refl
 
--- ---- behind an atom that opens no group, where its piece began does not count
+-- ---- after an atom that opens no group, it does not matter where the piece began
 
 module _ (d : ℕ) (f : Flags) (c : ℕ) (t : Text) (k : Clear f.ignore_space (c ∷ t)) (e : (c == code "(") ≡ false) where
   abbrev FromAnywhere : Outcome Tree → Type 0
@@ -146,7 +146,7 @@ module _ (d : ℕ) (f : Flags) (c : ℕ) (t : Text) (k : Clear f.ignore_space (c
         Alternation d commented q
     alternation_from s same (alternation b) = alternation (branches_from s same b)
 
--- a text that begins with no parenthesis reads the same behind it
+-- a text that begins with no parenthesis is read the same after the comment
 pub commented_whole : (μ : Marks) (h : Here) (c : ℕ) (t v : Text) (g : Flags) (x : Tree) →
     (c == code "(") ≡ false → ends (c ∷ t) ≡ false →
     Clear h.flags.ignore_space (c ∷ t) → WholeAt μ h (c ∷ t) g v x → WholeAt μ h (codes "(?#)" ++ c ∷ t) g v x

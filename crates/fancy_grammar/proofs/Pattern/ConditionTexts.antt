@@ -1,4 +1,4 @@
--- What stands before the body of a conditional: a group that is asked for, a verb, or an alternation.
+-- What comes before the body of a conditional: a condition on a group, a verb, or an alternation.
 use Rattle.std.proofs.Common.{◌≡◌, ℕ, ◌&&◌, ◌||◌, ◌==◌, not, Bool, true, false, [], ◌∷◌, ◌++◌, codes, map, refl, sym}
 use Rattle.std.proofs.Common.{ap, ◌∙◌, subst, IfSome, Option, Some, None, ⊎_elim, ℤ, arith, append_assoc}
 use Rattle.std.proofs.Math.Bool.{and-false}
@@ -82,7 +82,7 @@ module _ (μ : Marks) where
       (letters_clear h.flags.ignore_space w v h.flags refl b s.clear) refl
       (reads_spelled μ h h.flags.casei c (c ∷ []) (w ++ v) spelled) (letters_rest (past_groups 0 h) w v b s)
 
-  -- an alternation that is no such word does not go on behind it
+  -- an alternation that is no such word does not continue such a word
   no_word : (h : Here) (w t z : Text) (g : Flags) (x : Tree) →
       list_all is_letter w ≡ true → (t ≡ w → ⊥) → WholeAt μ h (t ++ code ")" ∷ z) g (code ")" ∷ z) x →
       strip_word (w ++ codes ")") (t ++ code ")" ∷ z) ≡ None
@@ -104,7 +104,7 @@ module _ (μ : Marks) where
           absurd (other (append_cancel_right t w (code ")" ∷ z)
           (is ∙ ap (λ (y : State). w ++ y.rest) same)))
 
--- ---- what is asked
+-- ---- the target of a condition
 
 module _ (μ : Marks) (i : Here) (d : MayOpen i) where
   on_group : (s : Text) (n : ℕ) (level : Option ℤ) → ConditionAt μ i s n level →
@@ -139,7 +139,7 @@ module _ (μ : Marks) (i : Here) (d : MayOpen i) where
       stands Skip z = verb_stands (codes "SKIP)") z Skip (skip_read z)
       stands Prune z = verb_stands (codes "PRUNE)") z Prune (prune_read z)
 
-  -- what begins neither so nor so is an alternation
+  -- what begins neither `DEFINE` nor a target nor a verb is an alternation
   alternation_ahead : (c : ℕ) (t : Text) → strip_word (codes "DEFINE)") (c ∷ t) ≡ None → begins_target (c ∷ t) ≡ false →
       (c == code "*") ≡ false → ahead i.depth (st i.flags (codes "(?(" ++ c ∷ t)) ≡ condition (st i.flags (c ∷ t))
   alternation_ahead c t e b m = question_at i.depth i.flags (code "(" ∷ c ∷ t) d ∙ rw (e, b, m) refl

@@ -1,4 +1,4 @@
--- Conditionals read back where their conditions and branches do.
+-- Conditionals read back if their conditions and branches do.
 use Rattle.std.proofs.Common.{◌≡◌, ℕ, ◌+◌, Bool, true, false, not, ◌&&◌, ◌||◌, ◌==◌, List, [], ◌∷◌}
 use Rattle.std.proofs.Common.{◌++◌, codes, refl, sym, ap, ◌∙◌, subst, arith, append_assoc, append-nil, ne_eqb}
 use Rattle.std.proofs.Common.{if◌then◌else◌}
@@ -70,7 +70,7 @@ state_in : State → Outcome Tree → State
 state_in x (done r s) = s
 state_in x (fault k p) = x
 
--- what becomes of the branches behind the first one
+-- the branches of an alternation that was read
 record Others (d : ℕ) (s : State) (r : Tree) (t : State) : Type 0 where
   first : Tree
   others : List Tree
@@ -94,7 +94,7 @@ others {d} {s} {r} {t} a = let (q, e, b) = alternation_of a in others_of d s r t
 
 -- ---- a raw tree and what it becomes
 
--- of two one is not Empty
+-- one of the two is not Empty
 one_solid : (a b p q : Bool) → (a ≡ false → p ≡ false) → (b ≡ false → q ≡ false) → (a && b) ≡ false → (p && q) ≡ false
 one_solid true true p q x y h = absurd (true≢false h)
 one_solid true false p q x y h = ap (λ q. p && q) (y refl) ∙ and-false p
@@ -146,7 +146,7 @@ bar_left t u v =
     ne_eqb (bytes v) (bytes (t ++ code "|" ∷ (u ++ v)))
     (omega (arith, bytes-append t (code "|" ∷ (u ++ v)), bytes-append u v))
 
--- the body of a conditional with the raw condition k reads as these branches
+-- the body of a conditional with the raw condition k is read as these branches
 record BodyAt (μ : Marks) (d : ℕ) (k : Tree) (j : Here) (s v : Text) (t e : Tree) : Type 0 where
   after : Flags
   one : Tree
@@ -163,7 +163,7 @@ closed_body k r left g v a b e is =
     cond-false _ _ _ (ap (λ y. y && not (is_condition k)) e)
     ∙ ap (λ (p : Tree × Tree). closed (conditional_of k p.0 p.1) (st g (code ")" ∷ v))) is
 
--- a place so deep inside
+-- inside a group at depth d, after n groups with a number
 abbrev within : ℕ → Flags → ℕ → Here
 within d f n = record { flags = f; opened = n; depth = d + 1 }
 
@@ -301,7 +301,7 @@ module _ (μ : Marks) (d : ℕ) (k : Tree) (f : Flags) (c : ℕ) (t e : Tree) (v
 
 -- ---- a condition before a body
 
--- behind `(?(` the text, and a closing parenthesis, are the condition, behind which these flags hold
+-- after `(?(`, the text and a closing parenthesis are read as the condition, and these flags hold after it
 pub record Before (μ : Marks) (i : Here) (s : Text) (g : Flags) (c : Tree) : Type 0 where
   pub node : Text → Tree
   pub becomes : (z : Text) → Becomes μ (s ++ code ")" ∷ z) i.opened (node z) c

@@ -1,4 +1,4 @@
--- Conditions that ask for a group, alone or before branches.
+-- Conditions on a group, without branches or before them.
 use Rattle.std.proofs.Common.{◌≡◌, ℕ, ◌+◌, ◌<◌, ◌^◌, ◌&&◌, ◌==◌, true, false, not, [], ◌∷◌, ◌++◌, codes}
 use Rattle.std.proofs.Common.{Option, Some, None, is_some, decimal, refl, sym, ap, ◌∙◌, subst, append_assoc, append-nil}
 use Rattle.std.proofs.Common.{IfSome, arith, ℤ}
@@ -52,7 +52,7 @@ module _ (level : Option ℤ) (target : Target) (c : ℕ) (u : Text)
   abbrev IsTargetOf : Text → Text → Type 0
   IsTargetOf t v = condition_target t ≡ gives (reference_to (reach_of t) target level) v
 
-  -- between marks
+  -- between delimiters
   marked_target : is_among (code ">") (c ∷ u) ≡ false → (v : Text) →
       IsTargetOf (code "<" ∷ ((c ∷ u) ++ code ">" ∷ code ")" ∷ v)) v
   unfolding condition_target condition_name reference_by_name
@@ -62,7 +62,7 @@ module _ (level : Option ℤ) (target : Target) (c : ℕ) (u : Text)
         written (reach_of (code "<" ∷ ((c ∷ u) ++ code ">" ∷ code ")" ∷ v))),
       ) refl
 
-  -- alone
+  -- without delimiters
   bare_target : is_ascii_digit c ≡ true → is_among (code ")") (c ∷ u) ≡ false → (v : Text) →
       IsTargetOf ((c ∷ u) ++ code ")" ∷ v) v
   unfolding condition_target condition_name reference_by_name name_before
@@ -72,9 +72,9 @@ module _ (level : Option ℤ) (target : Target) (c : ℕ) (u : Text)
       no_quote : (c : ℕ) → is_ascii_digit c ≡ true → (c ∈ "'<") ≡ false
       no_quote c d = grind (arith, nat_tests)
 
--- ---- a condition where it stands
+-- ---- a condition in its conditional
 
--- behind `(?(` the text and a closing parenthesis are a condition on the group
+-- after `(?(`, the text and a closing parenthesis are a condition on the group
 pub record ConditionAt (μ : Marks) (i : Here) (t : Text) (n : ℕ) (level : Option ℤ) : Type 0 where
   pub node : Text → Tree
   pub asks : (v : Text) → is_condition (node v) ≡ true
@@ -190,7 +190,7 @@ module _ (μ : Marks) (i : Here) (n : ℕ) (l : i.depth + 1 < max_depth) where
           (written_as q.name q.plain [] p))
           (subst (λ v. means (numbers_told μ) i.opened condition (by_name v) ≡ number n) is meant))
 
--- ---- a condition alone
+-- ---- a condition without branches
 
 no_body : (k : Tree) (f : Flags) (v : Text) → is_condition k ≡ true →
     conditional_behind k (bytes (code ")" ∷ v)) (leaf label.empty) (st f (code ")" ∷ v)) ≡ done k (st f v)

@@ -41,7 +41,7 @@ pub scope_fits : (b : Bool) (t : Tree) (inside : Here → Type 0) (h : Here) →
 scope_fits true t inside h d x y = x
 scope_fits false t inside h d x y = (d, y)
 
--- ---- where flags suit, or may be set
+-- ---- where flags suit a tree, or may be set
 
 abbrev pub Ready : Tree → Here → Type 0
 Ready t h = MayOpen h ⊎ Suits h.flags t
@@ -49,7 +49,7 @@ Ready t h = MayOpen h ⊎ Suits h.flags t
 abbrev pub AllReady : Trees → Here → Type 0
 AllReady ts h = MayOpen h ⊎ SuitAll h.flags ts
 
--- no more groups are open, in this mode, and the tree is ready
+-- the tree fits if at most d groups are open, in this mode, and it is ready
 abbrev pub Fit : Bool → ℕ → Precedence → Tree → Type 0
 Fit in_mode d p t = (h : Here) → h.flags.oniguruma_mode ≡ in_mode → h.depth ≤ d → Ready t h → Fits t p h
 
@@ -101,8 +101,8 @@ leaf_fit in_mode l d p e s b h o m r =
       atom_fits (leaf l) p (MayOpenIf (is_in_parens l)) i (λ x. s x i.flags o) (λ x. omega (arith, b x, m)),
     )
 
--- ---- in the place of a group: where a tree fits alone, here and in parentheses, it fits in any, unless it is a
--- quantifier's
+-- ---- in a group: a tree that fits by itself, here and in parentheses, fits in any group, unless the tree is one of a
+-- quantifier
 
 abbrev pub IsUnquantified : Tree → Type 0
 IsUnquantified (over (label.repeat lo hi greedy) t) = ⊥
@@ -136,7 +136,7 @@ enclosed (row label.conditional (more_trees c (more_trees t (more_trees e no_tre
 enclosed (row label.conditional (more_trees c (more_trees t (more_trees e (more_trees v ts))))) p u h d x y = x
 enclosed t p u h d x y = x
 
--- fewer groups are open, another may open, and the tree is ready in it
+-- the tree fits if fewer than d groups are open, another may open, and the tree is ready in it
 abbrev pub FitAlone : Bool → ℕ → Precedence → Tree → Type 0
 FitAlone in_mode d p t =
     (h : Here) → h.flags.oniguruma_mode ≡ in_mode → h.depth < d → MayOpen h →
@@ -151,7 +151,7 @@ alone_fit in_mode d p t u k h o l b r =
 pub fit_alone : (in_mode : Bool) (d : ℕ) (p : Precedence) (t : Tree) → Fit in_mode d p t → FitAlone in_mode d p t
 fit_alone in_mode d p t k h o l b r = k h o (omega (arith, l)) (inl b)
 
--- an atomic group of it
+-- an atomic group of the tree
 more_parens : (a b : Bool) (inside : Precedence → Here → Type 0) (p : Precedence) (i : Here) → MayOpen i →
     inside Whole (deeper i) → FitsInParensIf a inside p i → FitsInParensIf (a || b) inside p i
 more_parens true b inside p i d y x = x
@@ -167,7 +167,7 @@ atomic_fits (over (label.repeat lo hi greedy) t) p h d x y =
     (x.0, more_parens (is_last_operand p) _ (λ q j. Fits t (Operand (room q j)) j) p i d again x.1)
 atomic_fits t p h d x y = (λ _. d, (d, y))
 
--- ---- the precedences of what no quantifier follows
+-- ---- the precedences of trees that no quantifier follows
 
 abbrev pub IsLow : Precedence → Type 0
 IsLow (Operand k) = ⊥
@@ -179,7 +179,8 @@ no_operand Branch u e = false≢true e
 no_operand Piece u e = false≢true e
 no_operand (Operand k) u e = u
 
--- ---- the inside of a group, before which d are open at most, where some flags suit it if no more may open in it
+-- ---- the contents of a group, with at most d groups open around it; some flags suit the tree if no group may open in
+-- it
 
 module _ (in_mode : Bool) (d : ℕ) (b : d + 1 < max_depth) (f : Flags) (n : f.oniguruma_mode ≡ in_mode) where
   abbrev pub SuitsLast : Tree → Type 0
@@ -198,7 +199,7 @@ module _ (in_mode : Bool) (d : ℕ) (b : d + 1 < max_depth) (f : Flags) (n : f.o
         Fits t Whole (deeper (under (settled h.flags t) h))
     inner h o l = k (deeper (under (settled h.flags t) h)) o (omega (arith, l)) (inner_ready t s h o l)
 
-    -- in a group that is not written, or only where it must be
+    -- in a group that is not written, or only if needed
     pub enclosed_fit : (p : Precedence) → FitAlone in_mode (d + 1) p t → Fit in_mode d p t
     enclosed_fit p y h o l r = y h o (omega (arith, l)) (omega (arith, l, b)) (inner_ready t s h o l)
 

@@ -55,7 +55,7 @@ pub parens_text : (head : Text) (text : Here → Text) (h : Here) (v : Text) →
 parens_text head text h v =
     ap (λ w. code "(" ∷ w) (append_assoc head _ v ∙ ap (λ w. head ++ w) (append_assoc (text (deeper h)) _ v))
 
--- ---- what stands ahead
+-- ---- the start of an atom
 
 not_deep : (d : ℕ) → d + 1 < max_depth → nat_le max_depth (d + 1) ≡ false
 not_deep d h = grind (arith, nat_tests)
@@ -100,7 +100,7 @@ module _ (d : ℕ) (f : Flags) (c : ℕ) (w v : Text) (l : d + 1 < max_depth) wh
   abbrev Reads : Text → Type 0
   Reads head = ahead d (st f (code "(" ∷ (head ++ v))) ≡ with_head (capture (Some (c ∷ w))) (st f v)
 
-  -- the name in its marks, behind some text
+  -- the name with its delimiter, before some text
   marked_text : (mark : ℕ) → ((c ∷ w) ++ mark ∷ []) ++ v ≡ (c ∷ w) ++ mark ∷ v
   marked_text mark = append_assoc (c ∷ w) (mark ∷ []) v
 
@@ -142,12 +142,12 @@ module _ (d : ℕ) (f : Flags) (c : ℕ) (w v : Text) (l : d + 1 < max_depth) wh
       (λ e. cond_both (c ∈ "=!") _ _ (λ z. Reads (z ++ (codes "<" ++ ((c ∷ w) ++ codes ">"))))
       (λ _. with_letter e) (λ k. without_letter e k))
 
--- ---- what a group reads as
+-- ---- what a group is read as
 
 abbrev pub inner : Flags → Here → Here
 inner g h = deeper (under g h)
 
--- the text goes on behind a head
+-- the text after the opening of a group is a suffix of the text
 head_ends : (d : ℕ) (f g : Flags) (s t : Text) (k : Head) → ahead d (st f s) ≡ with_head k (st g t) → EndsWith s t
 head_ends d f g s t k e = to_ends (subst (AheadReads (st f s)) e (ahead_reads d (st f s))).0
 
@@ -225,7 +225,7 @@ reads_define μ h g s t v x e w = record {
       (in_longer μ t s (head_ends _ _ _ s t _ e) h.opened w.tree x w.becomes);
 }
 
--- a capturing group that has a number, whose name is that which the marks give it
+-- a capturing group that has a number, with the name in the group information
 pub reads_group : (μ : Marks) (h : Here) (name : Option Text) (g : Flags) (s t v : Text) (x : Tree) →
     ahead h.depth (st h.flags s) ≡ with_head (capture name) (st h.flags t) → name ≡ name_at μ (h.opened + 1) →
     is_counted μ.numbered_groups_ignored name ≡ true →
@@ -244,7 +244,7 @@ reads_group μ h name g s t v x e is counted w = record {
   };
 }
 
--- one that has none, since only those with a name have, is its inside
+-- a group that has no number, because only those with a name have one, is replaced by its contents
 pub record BareAt (μ : Marks) (h : Here) (s v : Text) (x : Tree) : Type 0 where
   pub atom : AtomAt μ h s v x
   pub solid : is_empty atom.tree ≡ false
@@ -273,7 +273,7 @@ reads_bare μ h g s t v x e ignored w =
       repeatable = refl;
     }
 
--- with nothing in it
+-- with empty contents
 pub reads_nothing : (μ : Marks) (h : Here) (v : Text) → h.depth + 1 < max_depth → μ.numbered_groups_ignored ≡ true →
     BareAt μ h (codes "()" ++ v) v empty
 reads_nothing μ h v l ignored =
@@ -297,7 +297,7 @@ bare_rest μ h s v w g x ys b c a r =
     (quants_one h.depth (bytes s) h.flags a.atom.tree a.atom.tree v v c
     (quant_none (bytes s) h.flags a.atom.tree v c))) r
 
--- a branch that is one
+-- a branch that is a bare group
 pub record BareBranch (μ : Marks) (h : Here) (s : Text) (g : Flags) (v : Text) (x : Tree) : Type 0 where
   pub branch : BranchAt μ h s g v x
   pub solid : is_empty branch.tree ≡ false
@@ -352,7 +352,7 @@ same_flag true false e h = absurd cc
 same_flag false true e h = absurd cc
 same_flag false false e h = refl
 
--- where none is turned on or off
+-- if none is turned on or off
 same_flags : (f : Flags) (i m s r : Bool) →
     turns_on f (changed f i m s r) || turns_on (changed f i m s r) f ≡ false → changed f i m s r ≡ f
 same_flags f i m s r e =

@@ -1,4 +1,4 @@
--- The text of a writable tree reads back, wherever it stands: by induction on the tree.
+-- The text of a writable tree reads back wherever it is written: by induction on the tree.
 use Rattle.fancy_grammar.specs.Pattern.{deeper}
 use Rattle.fancy_grammar.proofs.Pattern.Groups.{reads_bare, capture_at}
 use Rattle.fancy_grammar.proofs.Pattern.Rules.{no_question}
@@ -32,19 +32,19 @@ use Rattle.fancy_grammar.proofs.Pattern.Rules.{Clear, Begins, Stops, Ends, no_br
 use Rattle.fancy_grammar.proofs.Pattern.Rules.{WholeAt}
 use Rattle.fancy_grammar.proofs.Pattern.Rules.{Rest, no_more, lead, reads_branch, reads_only, Follows, ends_no_digit}
 
--- it is not Empty, unless groups without a number, whose insides are left, may be
+-- the tree is not Empty, unless groups without a number are replaced by their contents
 abbrev pub MayBeLeft : Marks → Tree → Type 0
 MayBeLeft μ t = μ.numbered_groups_ignored ≡ false → is_empty t ≡ false
 
--- where it is not repeatable, the text is a group without a number
+-- if the tree cannot be repeated, its text is a group without a number
 abbrev pub BareHere : Marks → Tree → Here → Type 0 → Text → Type 0
 BareHere μ t h d k =
     d → is_repeatable h.flags t ≡ false → μ.numbered_groups_ignored ≡ true →
     ((v : Text) → Begins h.flags.ignore_space (k ++ v))
     × (settled h.flags t ≡ h.flags → (v : Text) → BareAt μ h (k ++ v) v t)
 
--- What the texts of a tree read as here, whatever follows: the whole of a group, a branch, a piece, and what a
--- quantifier follows; with the flags that hold behind the first two. Each is read so where it fits.
+-- What the texts of a tree are read as here, whatever follows: as the whole of a group, a branch, a piece, and the
+-- operand of a quantifier; with the flags that hold after the first two. Each of these requires that the text fits.
 pub record ReadsBy (μ : Marks) (t : Tree) (h : Here) (d0 d1 d2 d3 : Type 0) (k0 k1 k2 k3 : Text) (g0 g1 : Flags) :
     Type 0 where
   pub whole_clear : d0 → (v : Text) → Clear h.flags.ignore_space v → Clear h.flags.ignore_space (k0 ++ v)
@@ -61,7 +61,7 @@ pub record ReadsBy (μ : Marks) (t : Tree) (h : Here) (d0 d1 d2 d3 : Type 0) (k0
       NoName h.flags.ignore_space v → Follows μ t v → AtomAt μ h (k3 ++ v) v t
   pub bare : BareHere μ t h d3 k3
 
--- where it fits by one condition, it is read so by any that has that
+-- a tree that is read so if one condition holds is read so if any condition that implies it holds
 pub refit : {μ : Marks} {t : Tree} {h : Here} {d e0 e1 e2 d3 : Type 0} {k0 k1 k2 k3 : Text} {g0 g1 : Flags} →
     (e0 → d) → (e1 → d) → (e2 → d) → ReadsBy μ t h d d d d3 k0 k1 k2 k3 g0 g1 →
     ReadsBy μ t h e0 e1 e2 d3 k0 k1 k2 k3 g0 g1
@@ -81,7 +81,7 @@ refit f0 f1 f2 r = record {
 pub clear_name : (x : Bool) (v : Text) → Clear x v → NoName x v
 clear_name x v c = no_name x v c.no_layout (no_brace v c.no_mark)
 
--- from here on the pieces of a text are the tree, and those that follow
+-- from here on, the pieces of a text are the tree and those that follow
 abbrev pub LeadsTo : (μ : Marks) → Tree → Here → Text → Type 0
 LeadsTo μ t h s =
     (v w : Text) (k : Flags) (ys : List Tree) → Clear h.flags.ignore_space v → Follows μ t v →
@@ -107,7 +107,7 @@ module _ (μ : Marks) (t : Tree) (h : Here) (solid : is_empty t ≡ false) where
   atom_leads s b a v w k ys c y q =
       lead μ h (s ++ v) v w k t ys (b v) c solid (a v (clear_name h.flags.ignore_space v c) y) q
 
--- ---- what stands behind flags that are set for it
+-- ---- what follows the flags that are set for it
 
 module _ (μ : Marks) (t : Tree) (h : Here) (solid : is_empty t ≡ false) where
   abbrev pub set_here : Flags
@@ -130,7 +130,7 @@ module _ (μ : Marks) (t : Tree) (h : Here) (solid : is_empty t ≡ false) where
       (setting_rest μ h set_here.casei set_here.multi set_here.dotnl set_here.crlf (s ++ v) w k (t ∷ ys) d (b v)
       (l v w k ys c y q))
 
-  -- a tree that is a piece wherever it stands
+  -- a tree that is a piece wherever it is written
   pub by_piece : (d d3 : Type 0) (s k3 : Text) → (d → MaySet set_here h) → (d → BeginsHere (under set_here h) s) →
       (d → LeadsTo μ t (under set_here h) s) →
       flags_behind t Piece h.flags ≡ set_here → (d3 → is_repeatable h.flags t ≡ true → BeginsHere h k3) →
@@ -159,7 +159,7 @@ module _ (μ : Marks) (t : Tree) (h : Here) (solid : is_empty t ≡ false) where
   set_none s v e =
       ap (λ f. (setting h.flags f ++ s) ++ v) e ∙ ap (λ w. (w ++ s) ++ v) (no_setting h.flags)
 
-  -- a tree that is an atom wherever it stands
+  -- a tree that is an atom wherever it is written
   pub by_atom : (d d3 : Type 0) (s k3 : Text) → (d → MaySet set_here h) → (d → BeginsHere (under set_here h) s) →
       (d → AtomHere μ t (under set_here h) s) →
       flags_behind t Piece h.flags ≡ set_here → (is_repeatable h.flags t ≡ true → (d3 → d) × (k3 ≡ behind_set s)) →
@@ -196,7 +196,7 @@ module _ (μ : Marks) (t : Tree) (h : Here) (solid : is_empty t ≡ false) where
             (subst (λ f. BareAt μ (under f h) (s ++ v) v t) u (here v)),
       )
 
--- ---- what stands in a group of flags where it is a piece
+-- ---- what is in a group of flags when it is a piece
 
 module _ (μ : Marks) (t : Tree) (h : Here) (solid : is_empty t ≡ false)
     (rep : is_repeatable h.flags t ≡ true) where
@@ -222,7 +222,7 @@ module _ (μ : Marks) (t : Tree) (h : Here) (solid : is_empty t ≡ false)
       (scope_at h.depth h.flags set_in.casei set_in.multi set_in.dotnl set_in.crlf u d)
       (w (code ")" ∷ v) (ends_close h.flags.ignore_space v)))
 
-  -- a Concat: pieces as they are in a branch
+  -- a Concat: pieces directly in a branch
   pub by_branch : (d : Type 0) (inside : Here → Type 0) (k s : Text) (g f : Flags) (ys : List Tree) →
       one_or concat ys ≡ t → (d → BeginsHere h k) →
       (d → (v : Text) → Stops h.flags.ignore_space v → Rest μ h (k ++ v) g v ys) →
@@ -249,7 +249,7 @@ module _ (μ : Marks) (t : Tree) (h : Here) (solid : is_empty t ≡ false)
         bare = λ _ e. absurd (true≢false (sym rep ∙ e));
       }
 
-  -- an Alt: branches as they are in a group
+  -- an Alt: branches directly in a group
   pub by_whole : (d : Type 0) (inside : Here → Type 0) (k s : Text) (g f : Flags) →
       (d → (v : Text) → Clear h.flags.ignore_space v → Clear h.flags.ignore_space (k ++ v)) →
       (d → (v : Text) → Ends h.flags.ignore_space v → WholeAt μ h (k ++ v) g v t) →
@@ -276,7 +276,7 @@ module _ (μ : Marks) (t : Tree) (h : Here) (solid : is_empty t ≡ false)
         bare = λ _ e. absurd (true≢false (sym rep ∙ e));
       }
 
--- nothing, where branches or pieces may stand
+-- the empty text, where branches or pieces may be written
 pub by_left : (b : Bool) → (b ≡ false → true ≡ false) → b ≡ true
 by_left true h = refl
 by_left false h = sym (h refl)

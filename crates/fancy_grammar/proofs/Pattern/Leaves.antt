@@ -1,4 +1,4 @@
--- The texts of leaves read as them, whatever follows.
+-- The text of a leaf is read as that leaf, whatever follows.
 use Rattle.std.proofs.Common.{◌≡◌, ℕ, ◌+◌, ◌/◌, ◌%◌, ◌<◌, ◌≤◌, Bool, true, false, ◌&&◌, ◌==◌, [], ◌∷◌, ◌++◌}
 use Rattle.std.proofs.Common.{codes, Option, Some, refl, sym, ap, ◌∙◌, subst, append-nil, if◌then◌else◌}
 use Rattle.std.proofs.Math.Bool.{beq}
@@ -124,9 +124,9 @@ pub begins_spelled : (f : Flags) (casei : Bool) (c : ℕ) (t v : Text) → Spell
 begins_spelled f casei c t v (itself e m k) = begins_plain f.ignore_space c v m k
 begins_spelled f casei c t v (by_escape {t = w} e) = begins_escape f.ignore_space (w ++ v)
 
--- ---- what a leaf's text reads as
+-- ---- what a leaf's text is read as
 
--- in front of anything that no name in braces follows
+-- before any text that is no name in braces
 pub record LeafAt (μ : Marks) (h : Here) (t : Text) (l : Leaf) : Type 0 where
   pub reads : (v : Text) → ((p : ℕ) (negated : Bool) →
       boundary h.flags.ignore_space p negated v ≡ gives (unnamed_boundary negated) v) → Follows μ (leaf l) v →
@@ -155,7 +155,7 @@ byte_at μ h b u l k = record {
 
 -- ---- escapes of one letter
 
--- by a letter that is all of its escape
+-- with a letter that is the whole escape
 letter_at : (μ : Marks) (h : Here) (c : ℕ) (e : Escape) (l : Leaf) → IsNoReference l → leaf_node e ≡ leaf l →
     ((v : Text) → escape h.flags false (c ∷ v) ≡ gives e v) → LeafAt μ h (code "\\" ∷ c ∷ []) l
 letter_at μ h c e l k same q = record {
@@ -265,7 +265,7 @@ beq_is true false e = absurd cc
 beq_is false true e = absurd cc
 beq_is false false e = refl
 
--- a dot, where the flags say as the fields do
+-- a dot, if the flags agree with its fields
 dot_is : (μ : Marks) (h : Here) (a b : Bool) → beq h.flags.dotnl a && beq h.flags.crlf b ≡ true →
     LeafAt μ h (codes ".") (label.any a b)
 dot_is μ h a b e =
@@ -273,7 +273,7 @@ dot_is μ h a b e =
     subst (λ a. LeafAt μ h (codes ".") (label.any a b)) (beq_is h.flags.dotnl a x)
     (subst (λ b. LeafAt μ h (codes ".") (label.any h.flags.dotnl b)) (beq_is h.flags.crlf b y) (dot_at μ h))
 
--- where the fields are unlike, the flags say as they do
+-- if the fields differ, the flags agree with them
 abbrev pub AnyFits : Flags → Bool → Bool → Type 0
 AnyFits f true true = Unit {0}
 AnyFits f false false = Unit {0}
@@ -301,9 +301,9 @@ any_at μ h false false k =
 any_at μ h true false k = unlike_at μ h true false (codes "\\O") k
 any_at μ h false true k = unlike_at μ h false true (codes "\\N") k
 
--- ---- conditions on a place
+-- ---- assertions
 
--- the flags that hold are those that the condition was read under
+-- the flags that hold are those that the assertion was read under
 abbrev pub AssertionFits : Flags → Assertion → Type 0
 AssertionFits f (StartLine crlf) = (f.multi ≡ true) × (f.crlf ≡ crlf) × (f.oniguruma_mode ≡ false)
 AssertionFits f (StartLineOniguruma crlf) = (f.multi ≡ true) × (f.crlf ≡ crlf) × (f.oniguruma_mode ≡ true)
@@ -335,7 +335,7 @@ unfolding boundary named_boundary name layout_from
 word_end true p v = refl
 word_end false p v = refl
 
--- a boundary behind its letter
+-- a boundary after its letter
 boundary_at : (μ : Marks) (h : Here) (t : Text) (a : Assertion) →
     ((v : Text) → ((p : ℕ) (negated : Bool) →
     boundary h.flags.ignore_space p negated v ≡ gives (unnamed_boundary negated) v) →

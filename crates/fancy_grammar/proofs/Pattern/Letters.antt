@@ -1,4 +1,4 @@
--- The letters that make some flags others are read so.
+-- The letters that change some flags to others are read as that change.
 use Rattle.std.proofs.Common.{◌≡◌, ℕ, ◌+◌, ◌<◌, ◌≤◌, suc, Bool, true, false, not, ◌&&◌, ◌||◌, ◌==◌, [], ◌∷◌, ◌++◌}
 use Rattle.std.proofs.Common.{codes, None, refl, sym, ap, ◌∙◌, subst, arith, append_assoc, ne_eqb, ⊎_elim}
 use Rattle.std.proofs.Common.{if◌then◌else◌}
@@ -19,15 +19,15 @@ use Rattle.fancy_grammar.specs.Tree.{empty}
 use Rattle.fancy_grammar.proofs.Pattern.Rules.{not_layout}
 use Rattle.fancy_grammar.proofs.ReadBack.RuleLemmas.{st}
 
--- the flags with these four
+-- the flags with these four values
 abbrev pub changed : Flags → Bool → Bool → Bool → Bool → Flags
 changed f i m s r = record f { casei = i; multi = m; dotnl = s; crlf = r }
 
--- with more steps to spare than bytes
+-- with more steps left than bytes
 abbrev Spelled : Text → Bool → Flags → Text → Letters → Text → Type 0
 Spelled t c f u l w = (j : ℕ) → bytes u < j → letters_in t j c f u ≡ gives l w
 
--- a character that is no layout, nor opens a comment
+-- a character that is no layout, and opens no comment
 record IsLetter (c : ℕ) : Type 0 where
   no_layout : is_layout true c ≡ false
   no_comment : (u : Text) → after_comment_head (c ∷ u) ≡ None
@@ -54,7 +54,7 @@ module _ (t : Text) (l : Letters) (w : Text) where
       in
       same ∙ r i q
 
-  -- the letter a, if the flag is on and was not
+  -- the letter a, if the flag is turned on
   on : (fl : Bool → Flags) (a : ℕ) → IsLetter a →
       ((u : Text) → step t false (fl false) (a ∷ u) ≡ gives (flags_go_on false (fl true)) u) →
       (was is : Bool) (u : Text) → Spelled t false (fl (was || is)) u l w →
@@ -64,7 +64,7 @@ module _ (t : Text) (l : Letters) (w : Text) where
   on fl a h e false true u r = more_letters false false (fl false) (fl true) a u h (e u) r
   on fl a h e false false u r = r
 
-  -- behind the minus, if it is off and was not
+  -- after the minus, if the flag is turned off
   off : (fl : Bool → Flags) (a : ℕ) → IsLetter a →
       ((u : Text) → step t true (fl true) (a ∷ u) ≡ gives (flags_go_on true (fl false)) u) →
       (was is : Bool) (u : Text) → Spelled t true (fl is) u l w →
@@ -233,7 +233,7 @@ module _ (t : Text) (l : Letters) (w : Text) (f : Flags) (a b c d : Bool) (u : T
       (off t l w (λ y. changed f a b y (f.crlf || d)) (code "s") letter_s (λ u. refl) f.dotnl c _
       (off t l w (λ y. changed f a b c y) (code "R") letter_R (λ u. refl) f.crlf d _ h)))
 
-  -- no letter behind a minus
+  -- no letter after a minus
   no_letters_off : turns_on g f ≡ false → Spelled t false g u l w → Spelled t false either (all_on g f u) l w
   no_letters_off e h =
       let (e1, r1) = or_parts (f.casei && not a) _ e in
@@ -257,7 +257,7 @@ module _ (t : Text) (l : Letters) (w : Text) (f : Flags) (a b c d : Bool) (u : T
   pub all_spelled : Spelled t (turns_on g f) g u l w → Spelled t false f (all_between f g u) l w
   all_spelled h = all_letters_on (minus_if (turns_on g f) (all_on g f u)) (minus_spelled (turns_on g f) refl h)
 
--- so many bytes stand before what closes the letters
+-- this many bytes come before what closes the letters
 minus_longer : (x : Bool) (v u : Text) → bytes u ≤ bytes v → (x ≡ true → bytes u < bytes v) →
     (x ≡ true → bytes u + 1 < bytes (minus_if x v)) × (bytes u ≤ bytes (minus_if x v))
 minus_longer true v u h k = let l = byte_minus v in let m = k refl in (λ _. omega arith, omega arith)
@@ -328,7 +328,7 @@ setting_letters f a b c d u some =
     (all_spelled t (setting g) u f a b c d (code ")" ∷ u)
     (last_letter t (setting g) u (turns_on g f) g (code ")") u letter_close (cond-false _ _ _ neither)))
 
--- ---- no other head begins with them
+-- ---- the letters do not begin as another group kind does
 
 abbrev BeginsFlags : Text → Type 0
 BeginsFlags t = (s : State) → behind_question s t ≡ flags_ahead (letters s.flags t)
@@ -370,7 +370,7 @@ pub scope_ahead : (s : State) (a b c d : Bool) (u : Text) →
 scope_ahead s a b c d u =
     begins_flags s.flags a b c d (code ":") u (λ s. refl) s ∙ ap flags_ahead (scope_letters s.flags a b c d u)
 
--- a text of letters begins with none that opens a comment
+-- a text of letters opens no comment
 pub no_hash : (f : Flags) (a b c d : Bool) (z : ℕ) (u : Text) → (z == code "#") ≡ false →
     after_comment_head (codes "(?" ++ text_of_letters f a b c d z u) ≡ None
 no_hash f a b c d z u e =

@@ -18,7 +18,7 @@ use Rattle.fancy_grammar.proofs.Pattern.Fitting.{scope_fits}
 use Rattle.fancy_grammar.proofs.Pattern.Needed.{like_behind}
 use Rattle.fancy_grammar.proofs.Pattern.NestedGroups.{as_condition}
 
--- ---- where a quantifier follows, within parentheses
+-- ---- what a quantifier follows, in parentheses
 
 atom_fits_if : (t : Tree) (p : Precedence) (inside : Here → Type 0) (h : Here) →
     (is_operand p ≡ true → MayOpen h × inside (deeper h)) → inside h → FitsAsAtom t p inside h
@@ -48,7 +48,7 @@ some_level (over w t) = omega arith
 some_level (row w ts) = omega arith
 
 module _ (f : Flags) (μ : Marks) where
-  -- a group more may stand under a quantifier
+  -- under a quantifier, one more group may open
   abbrev Stands : Tree → Precedence → Here → Type 0
   Stands t p h = is_operand p ≡ true → h.depth + levels t + 1 < max_depth
 

@@ -1,4 +1,4 @@
--- The marks of a tree that say how its references are written.
+-- The group information that says how the references of a tree are written.
 use Rattle.std.proofs.Common.{◌≡◌, ℕ, ◌+◌, ◌||◌, Bool, true, false, List, [], ◌∷◌, Option, Some, None, refl, sym}
 use Rattle.std.proofs.Common.{ap, ap₂, ◌∙◌, subst, if◌then◌else◌}
 use Rattle.std.specs.List.{AllByRecursion, list_any}
@@ -24,7 +24,7 @@ use Rattle.fancy_grammar.proofs.PreorderLaws.{kept, kept_if, resolved_nodes, ite
 use Rattle.fancy_grammar.proofs.ReadLaws.{derived_read}
 use Rattle.fancy_grammar.proofs.TreeLaws.{IsReadNode}
 
--- ---- among references that mean groups
+-- ---- among references to groups
 
 no_fault : (m : Meaning) (p : ℕ) (o : Option Fault) → MeansGroup m → fault_or m p o ≡ o
 no_fault (number n) p o h = refl
@@ -46,7 +46,7 @@ module _ (μ : Marks) (s : Text) (numbers_of : Text → List ℕ) (e : (w : Text
       ap (λ m. fault_or m p (first_fault (meanings_here c l))) (meaning_is c r)
       ∙ (no_fault (meaning_told μ c r) p _ h.0 ∙ none_faulty c l h.2)
 
-  -- some is of the one kind where some is of the other
+  -- some reference is of the one kind exactly if some is of the other
   same_such : (a b : AstReference × ℕ × Meaning → Bool) →
       ((r : AstReference) (p : ℕ) (m : Meaning) → IsAsMarked μ s r m p → a (r, p, m) ≡ b (r, p, m)) →
       (c : ℕ) (l : List Item) → AreGroups μ s c l → list_any a (meanings_here c l) ≡ list_any b (meanings_here c l)
@@ -57,12 +57,12 @@ module _ (μ : Marks) (s : Text) (numbers_of : Text → List ℕ) (e : (w : Text
       (subst (λ m. a (r, p, m) ≡ b (r, p, m)) (sym (meaning_is c r)) (same r p (meaning_told μ c r) h.1))
       (same_such a b same c l h.2)
 
--- ---- nodes of a kind that is told where references are resolved
+-- ---- nodes of a kind that resolving references determines
 
 module _ (such : Tree → Bool) (leaves : (l : Leaf) → IsReadNode (leaf l) → such (leaf l) ≡ false)
     (wraps : (w : Wrap) (t : Tree) → such (over w t) ≡ false)
     (rows : (w : Row) (ts : Trees) → such (row w ts) ≡ false) where
-  -- of what kind its node will be
+  -- the kind of the node that the reference becomes
   abbrev kind_of : AstReference × ℕ × Meaning → Bool
   kind_of x = such (reference_node 0 x.2 x.0 0)
 
@@ -117,7 +117,7 @@ of_all_leaf : (μ : Marks) (l : Leaf) → IsReadNode (leaf l) → is_numbered_ca
 of_all_leaf μ (label.subroutine_call n) h = absurd h
 of_all_leaf μ _ h = refl
 
--- ---- the two marks
+-- ---- the two fields of the group information
 
 module _ (μ : Marks) (f : Flags) (text : Text) (r : Tree) (d : DerivesTree f text r)
     (ignored : only_named f (openings r) ≡ μ.numbered_groups_ignored)
@@ -133,7 +133,7 @@ module _ (μ : Marks) (f : Flags) (text : Text) (r : Tree) (d : DerivesTree f te
       ≡ list_any b (meanings_in n (numbers_in f r) 0 (items r))) (sym ignored)
       (same_such μ text (numbers_in f r) e a b same 0 (items r) groups)
 
-  -- some reference is written as a number
+  -- some reference is written with a number
   pub numeric_told :
       list_any (λ x. is_numeric text (place_at (bytes text) x.1) (role_of x.0) (target_of x.0)) (meanings f r)
       ≡ list_any (is_numbered μ) (preorder tree)
@@ -142,7 +142,7 @@ module _ (μ : Marks) (f : Flags) (text : Text) (r : Tree) (d : DerivesTree f te
       (λ x. is_numbered μ (reference_node 0 x.2 x.0 0)) (λ r p m k. k.numeric text (ends_whole text))
       ∙ any_resolved (is_numbered μ) (numbered_leaf μ) (λ w t. refl) (λ w ts. refl) f text r d
 
-  -- some call is one of all
+  -- some call is a call of all
   pub of_all_told :
       list_any (λ x. is_call_of_all (role_of x.0) (target_of x.0)) (meanings f r)
       ≡ list_any (is_numbered_call_of_all μ) (preorder tree)

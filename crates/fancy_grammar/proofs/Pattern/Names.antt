@@ -42,7 +42,7 @@ use Rattle.std.specs.Str.Parse.{AllDigits, IsNumeral}
 
 -- ---- plain names
 
--- an id that is no number text, as a reference names a group by it
+-- an id that is no number text, as the name of a group in a reference
 pub record PlainName (w : Text) : Type 0 where
   pub no_mark : is_among (code ">") w ≡ false
   pub some : (c : ℕ) × (u : Text) × (w ≡ c ∷ u)
@@ -51,7 +51,7 @@ pub record PlainName (w : Text) : Type 0 where
   pub not_relative : is_relative w ≡ false
   pub ids : AllByRecursion (λ c. is_id_char c ≡ true) w
 
--- the id at the front is of id characters
+-- the id at the front consists of id characters
 run_of_ids : (t : Text) → AllByRecursion (λ c. is_id_char c ≡ true) (id_run t).0
 unfolding id_run
 run_of_ids [] = tt
@@ -66,7 +66,7 @@ no_id : (c : ℕ) → c ∈ ">+-" ≡ true → is_id_char c ≡ false
 no_id c h =
     other_told c (grind (arith, nat_tests)) (grind (arith, nat_tests)) ∙ grind (arith, nat_tests)
 
--- so that an id character is none of these
+-- so an id character differs from these
 id_apart : (c d : ℕ) → d ∈ ">+-" ≡ true → is_id_char c ≡ true → (c == d) ≡ false
 id_apart c d h i = ne_eqb c d (λ e. false≢true (sym (no_id d h) ∙ (ap is_id_char (sym e) ∙ i)))
 
@@ -144,7 +144,7 @@ pub marked_read : (c : ℕ) (u v : Text) → is_among (code ">") (c ∷ u) ≡ f
 unfolding marked_name name_before
 marked_read c u v h = rw (cut_before (code ">") (c ∷ u) v h) refl
 
--- a name behind its letter, in its marks
+-- a name after its letter, between its delimiters
 pub call_read_by : (f : Flags) (w v : Text) (target : Target) →
     ◌≡◌ {A = Option (Text × Text)} (marked_name (code "<" ∷ (w ++ code ">" ∷ v))) (Some (w, v)) →
     ((p : ℕ) → written_call p w ≡ Some (call_to p target)) →
@@ -196,7 +196,7 @@ no_sign : (ds : Text) → IsNumeral 10 ds → strip (code "+") ds ≡ None
 no_sign [] h = absurd (omega (arith, h.0))
 no_sign (d ∷ ds) h = rw (digit_apart d (code "+") refl ((digit_is d h.1.0).0)) refl
 
--- what is no digit is not among digits
+-- a character that is no digit is not among digits
 pub digits_without : (mark : ℕ) → is_ascii_digit mark ≡ false → (ds : Text) → AllDigits 10 ds → is_among mark ds ≡ false
 digits_without mark k [] h = refl
 digits_without mark k (c ∷ []) h = ne_eqb mark c (λ e. false≢true (sym k ∙ (ap is_ascii_digit e ∙ (digit_is c h.0).0)))
@@ -269,7 +269,7 @@ amount_of sign n is small =
     let fits : n < 2 ^ 64 = omega (arith, small) in
     rw (is, whole_digits n fits, lt-ltb n amount_bound small) refl
 
--- a level as it is written: a sign, and a number behind it
+-- a level as it is written: a sign, and a number after it
 pub record WrittenLevel (z : ℤ) : Type 0 where
   pub sign : ℕ
   pub digits : Text

@@ -1,4 +1,4 @@
--- What leaves need of the flags, where it holds; and what stays of the flags along a text.
+-- What leaves require of the flags, where it holds; and which flags stay the same along a text.
 use Rattle.std.proofs.Common.{◌≡◌, ℕ, Bool, true, false, not, ◌&&◌, ◌||◌, [], ◌∷◌, refl, sym, ap, ◌∙◌}
 use Rattle.std.proofs.Common.{if◌then◌else◌}
 use Rattle.std.proofs.lemmas.Bool.{cond-false, and_parts, false≢true}
@@ -77,7 +77,7 @@ mutual
   like_behind_all no_trees p f g e = e
   like_behind_all (more_trees t ts) p f g e = like_behind_all ts p f (flags_behind t p g) (like_behind t p f g e)
 
--- the mode alone says what may be repeated
+-- only the mode decides what may be repeated
 pub like_repeatable : (t : Tree) (f g : Flags) → f.oniguruma_mode ≡ g.oniguruma_mode →
     is_repeatable f t ≡ is_repeatable g t
 like_repeatable (leaf (assertion a)) f g e = ap not e
@@ -88,7 +88,7 @@ like_repeatable (leaf (verb v)) f g e = refl
 like_repeatable (over (look_around l) t) f g e = refl
 like_repeatable _ f g e = refl
 
--- ---- leaves whose needs hold
+-- ---- leaves whose requirements hold
 
 pub case_fits : (f : Flags) (casei : Bool) (c : ℕ) →
     settled f (leaf (literal (c ∷ []) casei)) ≡ f → CaseFits f casei c

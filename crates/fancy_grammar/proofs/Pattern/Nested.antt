@@ -1,4 +1,4 @@
--- What is read, once it is resolved, nests in its text no deeper than in the pattern: the parts, and what they come to.
+-- A resolved part nests in its text no deeper than it did in the pattern: definitions for each part.
 use Rattle.std.proofs.Common.{◌≡◌, ℕ, ◌+◌, ◌<◌, ◌≤◌, Bool, true, false, List, [], ◌∷◌, length}
 use Rattle.std.proofs.Common.{Some, None, refl, sym, ◌∙◌, arith, ◌⊎◌, inl, inr, nat_lt, ltb-true}
 use Rattle.std.proofs.lemmas.Bool.{cond_both, false≢true, ltb-false}
@@ -28,7 +28,7 @@ use Rattle.fancy_grammar.proofs.Pattern.Fitting.{IsLow}
 use Rattle.fancy_grammar.proofs.Pattern.Needed.{like_repeatable}
 use Rattle.fancy_grammar.proofs.Pattern.Suited.{none_met, Suits, SuitAll}
 
--- ---- where what is read may stand
+-- ---- where what is read may be written
 
 -- a quantifier may follow it in this mode
 abbrev pub Repeats : Bool → Tree → Type 0
@@ -38,7 +38,8 @@ pub repeats : (in_mode : Bool) (r : Tree) (f : Flags) → f.oniguruma_mode ≡ i
     Repeats in_mode r
 repeats in_mode r f o e g m = like_repeatable r g f (m ∙ sym o) ∙ e
 
--- the precedences at which may stand what is read as an alternation, with the number 0, a branch, a piece or an atom
+-- the precedences at which a tree may be written if it is read as an alternation (0), a branch (1), a piece (2) or an
+-- atom (3)
 abbrev pub StandsAs : Bool → ℕ → Tree → Precedence → Type 0
 StandsAs in_mode k r Whole = Unit {0}
 StandsAs in_mode k r Branch = 1 ≤ k
@@ -65,7 +66,7 @@ operand_repeats in_mode k r Branch u e = absurd (false≢true e)
 operand_repeats in_mode k r Piece u e = absurd (false≢true e)
 operand_repeats in_mode k r (Operand n) u e = u.1
 
--- what does not repeat stands there alone
+-- what cannot be repeated is never an operand there
 pub never_operand : (in_mode : Bool) (k : ℕ) (r : Tree) (p : Precedence) (f : Flags) → f.oniguruma_mode ≡ in_mode →
     is_repeatable f r ≡ false → StandsAs in_mode k r p → IsLow p
 never_operand in_mode k r Whole f o e u = tt
@@ -75,8 +76,8 @@ never_operand in_mode k r (Operand n) f o e u = absurd (false≢true (sym e ∙ 
 
 -- ---- the parts
 
--- where d groups are open at most, the tree fits once it is resolved, wherever it may stand; where fewer are, in the
--- place of a group; and it is resolved to an Empty only where a group may open
+-- with at most d groups open, the resolved tree fits wherever it may be written; with fewer open, it fits in place of a
+-- group; and it resolves to an Empty only where a group may open
 pub record Fitted (in_mode : Bool) (R : ℕ → Tree → Tree) (k d : ℕ) (r : Tree) : Type 0 where
   pub fits : (c : ℕ) (p : Precedence) → StandsAs in_mode k r p → Fit in_mode d p (R c r)
   pub alone : (c : ℕ) (p : Precedence) → FitAlone in_mode d p (R c r)
@@ -86,12 +87,12 @@ abbrev pub EachFitted : Bool → (ℕ → Tree → Tree) → ℕ → ℕ → Tre
 EachFitted in_mode R k d no_trees = Unit {0}
 EachFitted in_mode R k d (more_trees t ts) = Fitted in_mode R k d t × EachFitted in_mode R k d ts
 
--- as the branches of a conditional
+-- the same for the branches of a conditional
 abbrev pub BranchesFitted : Bool → (ℕ → Tree → Tree) → ℕ → Tree → Type 0
 BranchesFitted in_mode R d (row label.alt (more_trees t ts)) = EachFitted in_mode R 1 d (more_trees t ts)
 BranchesFitted in_mode R d r = Fitted in_mode R 1 d r
 
--- a part that is read from s up to t, where d groups are open
+-- a part that is read from s up to t, with d groups open
 pub record Part (in_mode : Bool) (R : ℕ → Tree → Tree) (k d : ℕ) (s : State) (r : Tree) (t : State) : Type 0 where
   pub fitted : Fitted in_mode R k d r
   pub branches : BranchesFitted in_mode R d r
@@ -106,7 +107,7 @@ pub record Parts (in_mode : Bool) (R : ℕ → Tree → Tree) (k d : ℕ) (s : S
   pub stays : IsLast d → t.flags ≡ s.flags
   pub mode : t.flags.oniguruma_mode ≡ in_mode
 
--- what is read of a group at depth d
+-- what is read for a group at depth d
 pub record Grouped (in_mode : Bool) (R : ℕ → Tree → Tree) (d : ℕ) (r : Tree) : Type 0 where
   pub opens : d + 1 < max_depth
   pub fitted : Fitted in_mode R 3 d r
@@ -137,7 +138,7 @@ module _ (in_mode : Bool) (z : ℕ) (named : Bool) (numbers_of : Text → List �
 
   -- ---- leaves
 
-  -- a leaf is no group where none may open
+  -- a leaf is not written as a group if none may open
   bare_here : (d : ℕ) (l : Leaf) → (IsLast d → is_in_parens l ≡ false) → is_in_parens l ≡ true → d + 1 < max_depth
   bare_here d l h e = by_either (or_last d)
     where
@@ -244,7 +245,7 @@ module _ (in_mode : Bool) (z : ℕ) (named : Bool) (numbers_of : Text → List �
       leaf_part d s (leaf label.empty) s
       (record { is_leaf = tt; plain = λ _. (refl, none_met s.flags); stays = λ _. refl; mode = o })
 
-  -- where a group may open any leaf fits
+  -- if a group may open, any leaf fits
   pub open_leaf : (d : ℕ) (l : Leaf) → d + 1 < max_depth → Grouped in_mode R d (leaf l)
   open_leaf d l b =
       let k = leaf_fitted no_flag d l (λ x. absurd (omega (arith, x, b))) in

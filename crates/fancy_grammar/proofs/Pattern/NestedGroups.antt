@@ -1,4 +1,4 @@
--- What a group comes to nests in its text no deeper than in the pattern, if its inside does.
+-- A group nests in its text no deeper than in the pattern, if its contents do.
 use Rattle.std.proofs.Common.{◌≡◌, ℕ, ◌+◌, ◌<◌, Bool, true, false, ◌&&◌, List, Option}
 use Rattle.std.proofs.Common.{refl, sym, ap, ◌∙◌, subst, arith}
 use Rattle.std.proofs.lemmas.Bool.{cond_both, false≢true, and_parts}
@@ -43,7 +43,7 @@ module _ (in_mode : Bool) (z : ℕ) (named : Bool) (numbers_of : Text → List �
   abbrev R : ℕ → Tree → Tree
   R = resolved_in z named numbers_of
 
-  -- ---- at a lesser depth
+  -- ---- at a smaller depth
 
   less : (k d : ℕ) (r : Tree) → d + 1 < max_depth → Fitted in_mode R k (d + 1) r → Fitted in_mode R k d r
   less k d r b h = record {
@@ -63,7 +63,7 @@ module _ (in_mode : Bool) (z : ℕ) (named : Bool) (numbers_of : Text → List �
   less_branches d (row label.alt no_trees) b h = less 1 d _ b h
   less_branches d r b h = less 1 d r b h
 
-  -- what fits wherever it is put
+  -- what fits wherever it is written
   grouped_as : (d : ℕ) → d + 1 < max_depth → (x : Tree) → ((c : ℕ) (p : Precedence) → Fit in_mode d p (R c x)) →
       (Fitted in_mode R 1 d x → BranchesFitted in_mode R d x) → Grouped in_mode R d x
   grouped_as d b x k j =
@@ -74,7 +74,7 @@ module _ (in_mode : Bool) (z : ℕ) (named : Bool) (numbers_of : Text → List �
       } in
       record { opens = b; fitted = all; branches = j (fewer in_mode R 1 3 d x (omega arith) all) }
 
-  -- ---- the inside of a group, which is read from s
+  -- ---- the contents of a group, which are read from s
 
   module _ (d : ℕ) (b : d + 1 < max_depth) (s : State) (o : s.flags.oniguruma_mode ≡ in_mode) (r : Tree) (t : State)
       (h : Part in_mode R 0 (d + 1) s r t) where
@@ -155,7 +155,7 @@ module _ (in_mode : Bool) (z : ℕ) (named : Bool) (numbers_of : Text → List �
     each_listed no_trees h = tt
     each_listed (more_trees t ts) h = (h.0, each_listed ts h.1)
 
-    -- of the body of a conditional
+    -- for the body of a conditional
     branches_are : (r : Tree) → BranchesFitted in_mode R (d + 1) r →
         Fitted in_mode R 1 (d + 1) (branches_of r).0 × Fitted in_mode R 0 (d + 1) (branches_of r).1
     branches_are (row label.alt (more_trees t ts)) h =
@@ -177,7 +177,7 @@ module _ (in_mode : Bool) (z : ℕ) (named : Bool) (numbers_of : Text → List �
     branches_suit (row label.alt no_trees) c h = (h, none_met f)
     branches_suit r c h = (h, none_met f)
 
-    -- where a branch is not Empty, neither is it resolved to one, or a group may open in the conditional
+    -- if a branch is not Empty, it does not resolve to an Empty either, or a group may open in the conditional
     not_hollow : (t e : Tree) (c n : ℕ) → Fitted in_mode R 1 (d + 1) t → Fitted in_mode R 0 (d + 1) e →
         (is_empty t && is_empty e) ≡ false → (is_empty (R c t) && is_empty (R n e)) ≡ true → d + 1 + 1 < max_depth
     not_hollow t e c n h k x y = by_test (is_empty t) refl

@@ -1,4 +1,4 @@
--- What is read under its quantifiers, once it is resolved, nests in its text no deeper than in the pattern.
+-- A resolved tree under its quantifiers nests in its text no deeper than in the pattern.
 use Rattle.std.proofs.Common.{◌≡◌, ℕ, zero, suc, ◌+◌, ◌<◌, ◌≤◌, Bool, true, false, not, ◌&&◌, ◌==◌, List, [], ◌∷◌}
 use Rattle.std.proofs.Common.{Option, Some, None, IfSome, refl, sym, ap, ◌∙◌, subst, arith, nat_lt, ltb-true}
 use Rattle.std.specs.Prelude.{option_map, option_and_then, unwrap_or}
@@ -31,9 +31,9 @@ use Rattle.fancy_grammar.proofs.Pattern.Nested.{Repeats, repeats, low, Fitted, P
 use Rattle.fancy_grammar.proofs.Pattern.Outermost.{MayStand, FitOperands, repeat_operands, repeat_fit, repeat_alone}
 use Rattle.fancy_grammar.proofs.Pattern.Outermost.{IsMarked, as_possessive}
 
--- ---- the counts of a mark are in order
+-- ---- the counts of an operator are in order
 
--- but not those in braces
+-- those in braces may not be
 abbrev IfMark : Option (Counts × Text) → Type 0
 IfMark o = IfSome o (λ p. (p.0).braces ≡ false → nat_lt (p.0).low (p.0).high ≡ true)
 
@@ -82,7 +82,7 @@ marks_in_order x (c ∷ t) =
     cond_both (c == code "+") _ _ IfMark (λ _ _. refl) (λ _.
     cond_both (c == code "{") _ _ IfMark (λ _. braces_both x t) (λ _. tt))))
 
--- what may be possessive is written so
+-- what may be possessive can be written as a possessive quantifier
 marked : (in_mode : Bool) (c : Counts) → (c.braces ≡ false → nat_lt c.low c.high ≡ true) →
     not (in_mode && c.braces) ≡ true → IsMarked in_mode c.low c.high
 marked false c h e = refl
@@ -92,12 +92,12 @@ marked true c h e = h (by (c.braces) e)
     by true k = absurd (false≢true k)
     by false k = refl
 
--- so is what is swapped
+-- so can exchanged counts
 swapped_marked : (in_mode : Bool) (lo hi : ℕ) → nat_lt lo hi ≡ true → IsMarked in_mode lo hi
 swapped_marked true lo hi e = e
 swapped_marked false lo hi e = refl
 
--- ---- the marks behind the counts
+-- ---- the operators after the counts
 
 record SuffixRead (w : State) (c : Counts) (m : Suffix) (v : State) : Type 0 where
   pub stays : v.flags ≡ w.flags
@@ -123,7 +123,7 @@ suffix_read w c = by_layout (skipped w)
         choose_both W (strip (code "?") t) _ _ (λ u e. behind_mark true u) (behind_mark false t)
     by_layout (open_comment p) = tt
 
--- they take no byte back
+-- reading them does not make the rest longer
 record SuffixTaken (w : State) (c : Counts) (m : Suffix) (v : State) : Type 0 where
   pub told : SuffixRead w c m v
   pub fewer : bytes v.rest ≤ bytes w.rest
@@ -143,7 +143,7 @@ module _ (in_mode : Bool) (z : ℕ) (named : Bool) (numbers_of : Text → List �
   abbrev R : ℕ → Tree → Tree
   R = resolved_in z named numbers_of
 
-  -- ---- a tree under so many quantifiers, which is read from s up to t, where d groups are open
+  -- ---- a tree under this many quantifiers, which is read from s up to t, with d groups open
 
   record Quantified (j d : ℕ) (s : State) (r : Tree) (t : State) : Type 0 where
     pub part : Part in_mode R 2 d s r t
@@ -161,7 +161,7 @@ module _ (in_mode : Bool) (z : ℕ) (named : Bool) (numbers_of : Text → List �
     operands = λ e c n l. h.fitted.fits c (Operand n) (omega arith, e);
   }
 
-  -- the same up to another state, and as under more quantifiers
+  -- the same up to another state, and for more quantifiers
   elsewhere : (i j d : ℕ) (s : State) (r : Tree) (t w : State) → i ≤ j → w.flags ≡ t.flags → Quantified i d s r t →
       Quantified j d s r w
   elsewhere i j d s r t w l same h = record {
@@ -175,7 +175,7 @@ module _ (in_mode : Bool) (z : ℕ) (named : Bool) (numbers_of : Text → List �
     operands = λ e c n k. h.operands e c n (omega (arith, l, k));
   }
 
-  -- under one more, whose counts are marked where it is possessive
+  -- under one more quantifier, whose counts can be written as possessive if it is
   module _ (j d : ℕ) (a : Tree) (lo hi : ℕ) (greedy : Bool) (h : (c : ℕ) → FitOperands in_mode d j (R c a))
       (x : (c : ℕ) (p : Precedence) → FitAlone in_mode d p (R c a)) (k : MayStand in_mode d (suc j)) where
     repeat_fitted : Fitted in_mode R 2 d (over (label.repeat lo hi greedy) a)
@@ -250,7 +250,7 @@ module _ (in_mode : Bool) (z : ℕ) (named : Bool) (numbers_of : Text → List �
 
   -- ---- one quantifier, or none
 
-  -- behind it, where one more may stand; and where no byte is taken there is none
+  -- after it, if one more quantifier is allowed; if no byte is read, there is no quantifier
   record QuantRead (j d : ℕ) (s : State) (t : State) (r : Tree) (w : State) : Type 0 where
     pub taken : MayStand in_mode d (suc j) → Quantified (suc j) d s r w
     pub unmoved : is_unmoved t w ≡ true → Quantified j d s r w
@@ -293,9 +293,9 @@ module _ (in_mode : Bool) (z : ℕ) (named : Bool) (numbers_of : Text → List �
           (marks_in_order t.flags.ignore_space v)
       by_layout (open_comment p) l = tt
 
-  -- ---- those adjacent to it
+  -- ---- the quantifiers adjacent to it
 
-  -- in Oniguruma mode: so many more may follow, n levels count so far, and j quantifiers stand there
+  -- in Oniguruma mode: k more may follow, n levels count so far, and j quantifiers were read
   adjacent_part : in_mode ≡ true → (k n j d : ℕ) (s : State) (a : Tree) (t : State) → j + k ≤ max_adjacent + 1 →
       j + d ≤ n + 1 → Quantified j d s a t → Holds (Part in_mode R 2 d s) (adjacent k n a t)
   unfolding adjacent

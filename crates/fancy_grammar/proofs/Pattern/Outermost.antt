@@ -1,5 +1,5 @@
--- Where a tree under quantifiers fits: the outermost stand first, as many as the depth allows, and the others in a
--- group. So its atom stands no deeper than where it was read.
+-- Where a tree under quantifiers fits: as many of the outermost quantifiers as the depth allows are written one after
+-- another, and the others are in a group. So the atom is no deeper than where it was read.
 use Rattle.std.proofs.Common.{◌≡◌, ℕ, zero, suc, ◌+◌, ◌-◌, ◌≤◌, min, Bool, true, false, not, ◌||◌, sym, ap}
 use Rattle.std.proofs.Common.{◌∙◌, subst, arith, inl, nat_lt, if◌then◌else◌}
 use Rattle.std.proofs.Math.Bool.{or-false}
@@ -18,14 +18,14 @@ use Rattle.fancy_grammar.specs.declared.precedence.Precedence.TheVariants.{Whole
 use Rattle.fancy_grammar.proofs.Pattern.Fitting.{Fit, FitAlone, IsLow, Ready, may_set, ready_settled}
 use Rattle.fancy_grammar.proofs.Pattern.Needed.{settled_again}
 
--- ---- how many may stand one behind another
+-- ---- how many may follow one another
 
--- as many may in this mode, where d groups are open
+-- j quantifiers may follow one another in this mode, with d groups open
 abbrev pub MayStand : Bool → ℕ → ℕ → Type 0
 MayStand true d j = (j ≤ max_adjacent + 1) × (j + d ≤ max_depth)
 MayStand false d j = j ≤ 1
 
--- so do they where no more are open: one, and the others before it
+-- the same holds if no more groups are open: one quantifier, and the others before it
 room_left : (in_mode : Bool) (f : Flags) (d e j : ℕ) → f.oniguruma_mode ≡ in_mode → e ≤ d →
     MayStand in_mode d (suc j) → j ≤ most_quantifiers f e - 1
 room_left true f d e j o l k =
@@ -40,11 +40,11 @@ room_left false f d e j o l k = let none : j ≤ 0 = omega (arith, k) in omega (
 
 -- ---- a quantifier
 
--- the tree fits at each operand with room for so many
+-- the tree fits as an operand if at least this many quantifiers are still allowed
 abbrev pub FitOperands : Bool → ℕ → ℕ → Tree → Type 0
 FitOperands in_mode d j t = (n : ℕ) → j ≤ n → Fit in_mode d (Operand n) t
 
--- where its operand fits
+-- its operand fits
 abbrev Under : Tree → Precedence → Here → Type 0
 Under t q j = Fits t (Operand (room q j)) j
 
@@ -91,7 +91,7 @@ module _ (in_mode : Bool) (t : Tree) (lo hi : ℕ) (greedy : Bool) (d j : ℕ) w
 abbrev pub IsMarked : Bool → ℕ → ℕ → Type 0
 IsMarked in_mode lo hi = (not in_mode || nat_lt lo hi) ≡ true
 
--- it fits as what is not possessive does
+-- it fits as a quantifier that is not possessive does
 pub as_possessive : (in_mode : Bool) (t : Tree) (lo hi : ℕ) (greedy : Bool) → IsMarked in_mode lo hi →
     (p : Precedence) (h : Here) → h.flags.oniguruma_mode ≡ in_mode → Fits (over (label.repeat lo hi greedy) t) p h →
     Fits (over label.atomic_group (over (label.repeat lo hi greedy) t)) p h

@@ -1,4 +1,4 @@
--- An empty comment parts a reference in digits from a digit behind it.
+-- An empty comment separates a reference in digits from a digit after it.
 use Rattle.std.proofs.Common.{◌≡◌, ℕ, ◌<◌, ◌^◌, Bool, true, List, ◌∷◌, ◌++◌, codes, decimal, refl, sym}
 use Rattle.std.proofs.Common.{◌∙◌, subst, append_assoc}
 use Rattle.std.proofs.lemmas.Bool.{cond-true, false≢true}
@@ -19,7 +19,7 @@ use Rattle.fancy_grammar.proofs.Pattern.References.{digits_atom, begins_referenc
 use Rattle.fancy_grammar.proofs.Pattern.Rules.{Clear, Rest, lead_piece, quants_one, quant_past, comment_passed}
 
 module _ (μ : Marks) where
-  -- before an empty comment the text of the tree is a piece that ends behind it
+  -- before an empty comment, the text of the tree is a piece that ends after the comment
   abbrev pub LeadsPast : Here → Tree → Type 0
   LeadsPast h t =
       (u w : Text) (k : Flags) (ys : List Tree) → Clear h.flags.ignore_space u → Rest μ (behind t Piece h) u k w ys →

@@ -1,4 +1,4 @@
--- The text of a quantifier is read as it.
+-- The text of a quantifier is read as that quantifier.
 use Rattle.std.proofs.Common.{◌≡◌, ℕ, ◌+◌, ◌*◌, ◌^◌, ◌<◌, Bool, true, false, not, ◌&&◌, ◌==◌, nat_lt, [], ◌∷◌}
 use Rattle.std.proofs.Common.{◌++◌}
 use Rattle.std.proofs.Common.{Option, Some, None, is_none, codes, decimal, refl, sym, ap, ap₂, ◌∙◌, subst, arith}
@@ -120,7 +120,7 @@ module _ (x : Bool) where
         count_read hi (code "}" ∷ s) h refl (at_close s),
       ) refl
 
--- no name in braces stands there
+-- no name in braces is next
 abbrev pub NoName : Bool → Text → Type 0
 NoName x v = (p : ℕ) (negated : Bool) → boundary x p negated v ≡ gives (unnamed_boundary negated) v
 
@@ -128,7 +128,7 @@ pub no_name : (x : Bool) (v : Text) → layout x v ≡ rest v → strip (code "{
 unfolding boundary
 no_name x v e b p negated = rw (e, b) refl
 
--- the counts in front of s, as they are written, in braces or not
+-- the counts before s, as they are written, in braces or not
 pub record Counted (x : Bool) (lo hi : ℕ) (braces : Bool) (s q : Text) : Type 0 where
   pub counted : counts x q ≡ counts_and_rest lo hi braces s
   pub longer : bytes s < bytes q
@@ -193,7 +193,7 @@ module _ (x : Bool) (lo hi : ℕ) (s : Text) (l : lo < 2 ^ 64) (h : hi < 2 ^ 64)
       (ap (λ y. braced_counts x (decimal lo ++ code "," ∷ y)) (append_assoc [] (decimal hi) _)
       ∙ braces_both x lo hi s l h)))
 
-  -- behind another quantifier, or not
+  -- after another quantifier, or not
   module _ (adjacent : Bool) where
     abbrev LeftCounted : Option ℕ → Type 0
     LeftCounted o =
@@ -229,12 +229,12 @@ module _ (x : Bool) (lo hi : ℕ) (s : Text) (l : lo < 2 ^ 64) (h : hi < 2 ^ 64)
       (ap (λ y. braced_counts x (decimal hi ++ code "," ∷ y)) (append_assoc [] (decimal lo) _)
       ∙ braces_both x hi lo s h l)
 
--- ---- the marks behind the counts
+-- ---- the operators after the counts
 
 abbrev lazy : Bool → Text
 lazy b = if b then codes "?" else []
 
--- behind a quantifier: no layout, and no mark of its own
+-- after a quantifier: no layout, and no lazy or possessive operator
 pub record Apart (x : Bool) (v : Text) : Type 0 where
   pub no_layout : layout x v ≡ rest v
   pub no_question : strip (code "?") v ≡ None
@@ -301,7 +301,7 @@ quantified_as f a c true greedy o =
 quantified_as f a c false greedy o =
     cond-false _ _ _ o ∙ ap (λ g. repeat a c.low c.high g) (greed f.swap_greed greedy)
 
--- one whose counts have changed places
+-- a quantifier whose counts are exchanged
 quantified_swapped : (f : Flags) (a : Tree) (c : Counts) (greedy : Bool) → is_swapped f c ≡ true →
     quantified.quantified f c (record { lazy = beq greedy f.swap_greed; possessive = false }) a
     ≡ quantified_tree true a c.high c.low greedy
@@ -326,7 +326,7 @@ quant_by left f a b q v possessive lo hi braces greedy o k r m e =
 
 -- ---- the text
 
--- before q stands this quantifier, and behind it v
+-- q begins with this quantifier, and v follows it
 pub record QuantifierAt (f : Flags) (possessive : Bool) (lo hi : ℕ) (greedy : Bool) (v q : Text) : Type 0 where
   pub reads : (left : ℕ) (a : Tree) → is_repeatable f a ≡ true →
       quant left a (st f q) ≡ done (quantified_tree possessive a lo hi greedy) (st f v)
@@ -334,7 +334,7 @@ pub record QuantifierAt (f : Flags) (possessive : Bool) (lo hi : ℕ) (greedy : 
   pub no_digit : at_digit q ≡ false
   pub no_name : NoName f.ignore_space q
 
--- the counts of a quantifier of this mode: none is read with the greatest below the least
+-- the counts of a quantifier in this mode: no tree has the greatest below the least
 abbrev pub AreOrdered : Flags → ℕ → ℕ → Type 0
 AreOrdered f lo hi = f.oniguruma_mode && nat_lt hi lo ≡ false
 
@@ -373,7 +373,7 @@ module _ (f : Flags) (possessive : Bool) (lo hi : ℕ) (greedy : Bool) (v : Text
         no_name = m.no_name;
       })
 
-  -- a mark, or counts in braces, and the marks behind it
+  -- an operator, or counts in braces, and the operators after it
   by_marks : (o : Option ℕ) → AreOrdered f lo hi → f.oniguruma_mode && (possessive && is_none o) ≡ false →
       Counted f.ignore_space lo hi (is_none o) (lazy_mark f greedy ++ (possessive_mark possessive ++ v))
       (counts_as lo hi o ++ (lazy_mark f greedy ++ (possessive_mark possessive ++ v))) →
@@ -396,7 +396,7 @@ module _ (f : Flags) (possessive : Bool) (lo hi : ℕ) (greedy : Bool) (v : Text
         no_name = m.no_name;
       })
 
--- behind another quantifier, or not
+-- after another quantifier, or not
 pub quantifier_at : (f : Flags) (possessive adjacent : Bool) (lo hi : ℕ) (greedy : Bool) (v : Text) → lo < 2 ^ 64 →
     hi < 2 ^ 64 → Apart f.ignore_space v → AreOrdered f lo hi →
     (possessive ≡ true → possessive_counts f lo hi ≡ true) →
@@ -414,7 +414,7 @@ quantifier_at f possessive adjacent lo hi greedy v l h k ordered possible =
     (λ e. by_marks f possessive lo hi greedy v l h k o ordered e
     (mark_counted f.ignore_space lo hi (lazy_mark f greedy ++ (possessive_mark possessive ++ v)) l h adjacent))
 
--- directly behind another its text is no mark of that
+-- directly after another quantifier, its text is not read as an operator of that one
 pub adjacent_apart : (f : Flags) (possessive : Bool) (lo hi : ℕ) (greedy : Bool) (v : Text) →
     Apart f.ignore_space (quantifier_text f possessive true lo hi greedy ++ v)
 unfolding range
@@ -449,7 +449,7 @@ adjacent_apart f possessive lo hi greedy v =
         (λ e. subst (λ c. Apart f.ignore_space (c ∷ (w ++ v))) (sym (eqb-true c (code "*") (not_not (c == code "*") e)))
         (star_apart (w ++ v)))
 
--- ---- an atom under it, before the pieces that follow
+-- ---- an atom under a quantifier, before the pieces that follow
 
 pub over_quantified : (μ : Marks) (s : Text) (possessive : Bool) (c : ℕ) (r x : Tree) (lo hi : ℕ) (greedy : Bool) →
     Becomes μ s c r x →

@@ -1,5 +1,5 @@
--- What is read nests in its text no deeper than in the pattern, so that the text of every tree that is answered fits.
--- By one induction on the derivation.
+-- What is read nests in its text no deeper than in the pattern, so the text of every parsed tree fits. By one induction
+-- on the derivation.
 use Rattle.std.proofs.Common.{◌≡◌, ℕ, ◌+◌, ◌<◌, Bool, not, ◌&&◌, ◌==◌, List, [], ◌∷◌, refl, sym}
 use Rattle.std.proofs.Common.{◌∙◌, subst, arith, inl}
 use Rattle.std.proofs.lemmas.Bool.{cond_both}
@@ -62,7 +62,7 @@ module _ (in_mode : Bool) (z : ℕ) (named : Bool) (numbers_of : Text → List �
   abbrev R : ℕ → Tree → Tree
   R = resolved_in z named numbers_of
 
-  -- an atom by what stands ahead: behind a group the flags from before it hold again
+  -- an atom, by its start: after a group the flags from before it hold again
   abbrev AtomHolds : Ahead → ℕ → State → Outcome Tree → Type 0
   AtomHolds nothing d s q = Holds (Part in_mode R 3 d s) q
   AtomHolds (read o) d s q = Holds (Part in_mode R 3 d s) q
@@ -125,7 +125,7 @@ module _ (in_mode : Bool) (z : ℕ) (named : Bool) (numbers_of : Text → List �
     mode = h.mode;
   }
 
-  -- one part, and the others behind it, which begin at u
+  -- one part, and the others after it, which begin at u
   more_parts : (k d : ℕ) (s : State) (r : Tree) (t u : State) (l : List Tree) (v : State) → u.flags ≡ t.flags →
       Part in_mode R k d s r t → Parts in_mode R k d u l v → Parts in_mode R k d s (r ∷ l) v
   more_parts k d s r t u l v e h i = record {
@@ -135,7 +135,7 @@ module _ (in_mode : Bool) (z : ℕ) (named : Bool) (numbers_of : Text → List �
     mode = i.mode;
   }
 
-  -- a part that stands where it was read, and closed
+  -- a part that is written where it was read, with its closing parenthesis
   closed_part : (k d : ℕ) (s : State) (r : Tree) (t : State) → Part in_mode R k d s r t →
       Holds (Part in_mode R k d s) (closed r t)
   closed_part k d s r t h =
@@ -233,7 +233,7 @@ module _ (in_mode : Bool) (z : ℕ) (named : Bool) (numbers_of : Text → List �
         then_holds (Part in_mode R 0 (d + 1) s) (Part in_mode R 0 (d + 1) s) q _ (alternation_fits a l o)
         (closed_part 0 (d + 1) s)
 
-    -- the body of a conditional, whose condition suits the flags f where no group may open in it
+    -- the body of a conditional; if no group may open in it, its condition suits the flags f
     body_fits : {d : ℕ} {c : Tree} {s : State} {q : Outcome Tree} → Body d c s q → s.flags.oniguruma_mode ≡ in_mode →
         (b : d + 1 < max_depth) (f : Flags) (g : f.oniguruma_mode ≡ in_mode) → (IsLast (d + 1) → s.flags ≡ f) →
         Grouped in_mode R d c →
@@ -255,7 +255,7 @@ module _ (in_mode : Bool) (z : ℕ) (named : Bool) (numbers_of : Text → List �
       (alternation_fits a (omega arith) o)
       (ended_holds (Part in_mode R 0 0 (start f text)))
 
--- the text of each tree that is answered fits
+-- the text of each parsed tree fits
 pub answered_fits : (f : Flags) (text : Text) (t : Tree) (m : Marks) → IsTreeOf f text t m →
     Fits t AsWhole (record { flags = agreed f t; opened = 0; depth = 0 })
 answered_fits f text t m h =

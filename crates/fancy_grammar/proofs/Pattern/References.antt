@@ -1,4 +1,4 @@
--- Back references and calls: in digits, or between marks by a number, a name or a distance.
+-- Back references and calls: in digits, or between delimiters with a number, a name or a distance.
 use Rattle.std.proofs.Common.{◌≡◌, ℕ, Bool, true, false, not, ◌&&◌, ◌==◌, nat_le, [], ◌∷◌, ◌++◌, List, codes, ◌^◌}
 use Rattle.std.proofs.Common.{Option, Some, None, is_some, refl, sym, ap, ◌∙◌, subst, append_assoc, arith, ◌-◌}
 use Rattle.std.proofs.Common.{if◌then◌else◌, IfSome, decimal, eqb-true, nat_lt, suc}
@@ -60,7 +60,7 @@ use Rattle.fancy_grammar.proofs.Pattern.Names.{called, digits_unmarked, number_c
 use Rattle.fancy_grammar.proofs.Pattern.Names.{number_target, number_written, written_level, level_written}
 use Rattle.fancy_grammar.proofs.Pattern.Names.{level_marked, not_zero, distance_called, distance_marked}
 
--- ---- what it means
+-- ---- what a reference means
 
 pub reference_becomes : (μ : Marks) (s : Text) (c : ℕ) (r : AstReference) (p k : ℕ) (l : Leaf) →
     means (numbers_told μ) c (role_of r) (target_of r) ≡ number k → IsAsMarked μ s r (number k) p →
@@ -78,7 +78,7 @@ abbrev pub is_by_number : Target → Bool
 is_by_number (by_number n) = true
 is_by_number _ = false
 
--- the group of the number has a plain name, whose numbers are such
+-- the group with this number has a plain name, and the numbers of that name are as required
 pub record Fits (μ : Marks) (such : List ℕ → Bool) (n : ℕ) : Type 0 where
   pub name : Text
   pub fit : fit_name μ such n ≡ Some name
@@ -132,7 +132,7 @@ not_numeric text place role (by_number n) h = absurd cc
 not_numeric text place role (by_name w) h = refl
 not_numeric text place role (relative z) h = refl
 
--- whether a backslash stands right before the place of a text
+-- whether a backslash is just before a text
 byte_before : (w t : Text) (c : ℕ) → encodes (c ∷ t) ≡ c ∷ encodes t → bytes (c ∷ t) ≡ bytes t + 1 →
     is_behind_backslash (w ++ c ∷ t) (place_at (bytes (w ++ c ∷ t)) (reach_of t)) ≡ (c == backslash)
 byte_before w t c e k =
@@ -166,7 +166,7 @@ not_of_all call (relative z) h = refl
 not_of_all back_reference t h = refl
 not_of_all condition t h = refl
 
--- what is no number is not written as one
+-- what is no number is not written with one
 pub not_in_digits : (μ : Marks) (s : Text) (r : AstReference) (m : Meaning) (p : ℕ) → is_by_number (target_of r) ≡ false →
     is_numbered μ (reference_node 0 m r 0) ≡ false → is_numbered_call_of_all μ (reference_node 0 m r 0) ≡ false →
     IsAsMarked μ s r m p
@@ -178,11 +178,11 @@ not_in_digits μ s r m p e none never = record {
 pub begins_reference : (x : Bool) (t : Text) → Begins x (code "\\" ∷ t)
 begins_reference x t = begins_by x (code "\\") t refl refl refl refl
 
--- the text of a reference by a name, in front of another
+-- the text of a reference with a name, before another text
 pub reference_text : (w v : Text) → (code "<" ∷ (w ++ codes ">")) ++ v ≡ code "<" ∷ (w ++ code ">" ∷ v)
 reference_text w v = ap (λ z. code "<" ∷ z) (append_assoc w (codes ">") v)
 
--- a back reference by a name of some kind
+-- a back reference with a name of some kind
 backref_by : (μ : Marks) (h : Here) (n : ℕ) (w : Text) (target : Target) (level : Option ℤ) (l : Leaf) →
     ((v : Text) → ◌≡◌ {A = Option (Text × Text)} (marked_name (code "<" ∷ (w ++ code ">" ∷ v))) (Some (w, v))) →
     ((p : ℕ) → written_reference p true w ≡ Some (reference_to p target level)) →
@@ -210,7 +210,7 @@ backref_by μ h n w target level l name written meant node count as_marked = rec
   begins = λ v. begins_reference h.flags.ignore_space _;
 }
 
--- a call by a name of some kind
+-- a call with a name of some kind
 call_by : (μ : Marks) (h : Here) (n : ℕ) (w : Text) (target : Target) →
     ((v : Text) → ◌≡◌ {A = Option (Text × Text)} (marked_name (code "<" ∷ (w ++ code ">" ∷ v))) (Some (w, v))) →
     ((p : ℕ) → written_call p w ≡ Some (call_to p target)) →
@@ -236,7 +236,7 @@ call_by μ h n w target name called meant named = record {
   begins = λ v. begins_reference h.flags.ignore_space _;
 }
 
--- a letter stands before a name in marks
+-- a letter comes before a name between delimiters
 behind_k : (text t : Text) → EndsWith text (codes "\\k" ++ t) →
     is_behind_backslash text (place_at (bytes text) (reach_of t)) ≡ false
 behind_k text t (w, z) =
@@ -245,7 +245,7 @@ behind_k text t (w, z) =
     ∙ behind_letter (w ++ codes "\\") t
 
 module _ (μ : Marks) (h : Here) (numbered : (k : ℕ) → IfSome (name_of μ k) (λ e. e.1 ≡ numbers_told μ e.0)) where
-  -- by the name, where it is fit, and else by the number
+  -- with the name if it can be used, and otherwise with the number
   backref_without : μ.numeric_capture_group_references ≡ false → (n : ℕ) → n < 2 ^ 64 →
       LeafAt μ h (backref_text μ h.opened n) (label.backref n h.flags.casei)
   backref_without none n l =
@@ -316,7 +316,7 @@ module _ (μ : Marks) (h : Here) (numbered : (k : ℕ) → IfSome (name_of μ k)
           (λ t.
           not_in_digits μ _ (ast_backref (by_name q.name) h.flags.casei (Some z)) (number n) (reach_of t) refl refl refl))
 
-  -- by the name, where it is fit, and else by the distance
+  -- with the name if it can be used, and otherwise with the distance
   call_without : (n : ℕ) → is_called_by_number μ n ≡ false → n - h.opened < amount_bound →
       h.opened + 1 - n < amount_bound → LeafAt μ h (call_text μ h.opened n) (label.subroutine_call n)
   call_without n none ahead back =
@@ -384,7 +384,7 @@ unfolding number_escape escapes.numbered_reference escapes.group_number
 digits_read_as f p n v h d = rw (number_read n v h d, lt-ltb n (2 ^ 64) h) refl
 
 module _ (μ : Marks) (h : Here) where
-  -- in front of a text that begins with no digit
+  -- before a text that begins with no digit
   pub digits_atom : (n : ℕ) → μ.numeric_capture_group_references ≡ true → n < 2 ^ 64 → (v : Text) →
       at_digit v ≡ false → AtomAt μ h (backslash ∷ (decimal n ++ v)) v (leaf (label.backref n h.flags.casei))
   digits_atom n e l v y =
@@ -417,7 +417,7 @@ module _ (μ : Marks) (h : Here) where
         begins = λ v. begins_reference h.flags.ignore_space _;
       })
 
-  -- in digits, or by its group's name
+  -- in digits, or with the name of its group
   pub backref_at : ((k : ℕ) → IfSome (name_of μ k) (λ e. e.1 ≡ numbers_told μ e.0)) → (n : ℕ) →
       n < 2 ^ 64 → LeafAt μ h (backref_text μ h.opened n) (label.backref n h.flags.casei)
   backref_at numbered n k = by_mode μ.numeric_capture_group_references refl k
@@ -427,7 +427,7 @@ module _ (μ : Marks) (h : Here) where
       by_mode true e l = backref_in_digits n e l
       by_mode false e l = backref_without μ h numbered e n l
 
-  -- by the number
+  -- with the number
   call_by_number : (n : ℕ) → is_called_by_number μ n ≡ true → n < 2 ^ 64 →
       LeafAt μ h (call_text μ h.opened n) (label.subroutine_call n)
   call_by_number n e l =
@@ -437,7 +437,7 @@ module _ (μ : Marks) (h : Here) where
       (call_by μ h n (decimal n) (by_number n) (digits_marked n l) (number_called n l) refl
       (λ s p. record { numeric = λ w _. sym e; of_all = sym (ap (λ b. b && n == 0) e) }))
 
-  -- by the number, where it is written so, and else by a name or a distance
+  -- with the number if it is written so, and otherwise with a name or a distance
   pub call_at : ((k : ℕ) → IfSome (name_of μ k) (λ e. e.1 ≡ numbers_told μ e.0)) → (n : ℕ) →
       IsCallWritable (is_called_by_number μ n) h.opened n → LeafAt μ h (call_text μ h.opened n) (label.subroutine_call n)
   call_at numbered n k = by_mode (is_called_by_number μ n) refl k

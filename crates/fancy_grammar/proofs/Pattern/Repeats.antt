@@ -1,4 +1,4 @@
--- Quantifiers: a Repeat, and a possessive one, read back where the tree below does.
+-- Quantifiers: a Repeat, and a possessive one, reads back if the tree below it does.
 use Rattle.std.proofs.Common.{◌≡◌, ℕ, zero, ◌+◌, ◌-◌, ◌^◌, ◌<◌, Bool, true, false, not}
 use Rattle.std.proofs.Common.{◌∷◌, ◌++◌, codes, refl, sym, ap, ◌∙◌, subst, append_assoc, min}
 use Rattle.std.proofs.Common.{if◌then◌else◌}
@@ -49,14 +49,14 @@ module _ (μ : Marks) where
       (scope_at d f f.casei f.multi f.dotnl f.crlf u l)
 
   module _ (t : Tree) (lo hi : ℕ) (greedy : Bool) (low : lo < 2 ^ 64) (high : hi < 2 ^ 64) where
-    -- a tree and its quantifier, where no flag is to be set
+    -- a tree and its quantifier, if no flag has to be set
     module _ (possessive : Bool) (i : Here) (ordered : AreOrdered i.flags lo hi)
         (possible : possessive ≡ true → is_possessive i.flags lo hi ≡ true) (rep : MayBeUnder μ i.flags t)
         (none : settled i.flags t ≡ i.flags) where
       abbrev mark_at : ℕ → Text
       mark_at r = quantifier_text i.flags possessive (ends_quantified i.flags r t) lo hi greedy
 
-      -- where so many may stand before its quantifier
+      -- the text, if this many quantifiers may come before its own
       abbrev text_at : ℕ → Text
       text_at r = written μ t (Operand r) i ++ mark_at r
 
@@ -90,7 +90,7 @@ module _ (μ : Marks) where
           (under_begins r a v) c (solid_quantified possessive t lo hi greedy)
           (under_reads r a v (clear_apart i.flags.ignore_space v c)) q
 
-    -- a Repeat is all that stands in a group
+    -- a Repeat is the whole contents of a group
     repeat_whole : (i : Here) → AreOrdered i.flags lo hi → MayBeUnder μ i.flags t →
         settled i.flags t ≡ i.flags → ReadsOperand μ t i (room Whole i) (written μ t (Operand (room Whole i)) i) →
         (v : Text) → Ends i.flags.ignore_space v →
@@ -114,7 +114,7 @@ module _ (μ : Marks) where
       again : settled here.flags t ≡ here.flags
       again = settled_again h.flags t
 
-      -- in parentheses, behind a head
+      -- in parentheses, after the opening of a group
       abbrev in_head : Text → Text
       in_head head = in_parens head (repeated false t lo hi greedy (written μ t) Whole) here
 
@@ -130,7 +130,7 @@ module _ (μ : Marks) where
           repeat_whole (deeper here) ordered repeatable_here again (a1 (room Whole (deeper here)) d.1) (code ")" ∷ v)
           (ends_close h.flags.ignore_space v)
 
-      -- the text of it as an operand, where no flag is to be set
+      -- its text as an operand, if no flag has to be set
       operand : (x : Tree) (s : Text) → settled h.flags x ≡ settled h.flags t → AtomHere μ x here s →
           settled h.flags x ≡ h.flags → AtomHere μ x h (setting h.flags (settled h.flags t) ++ s)
       operand x s same a u v k y =
@@ -139,7 +139,7 @@ module _ (μ : Marks) where
           (sym (ap (λ f. (setting h.flags f ++ s) ++ v) e ∙ ap (λ w. (w ++ s) ++ v) (no_setting h.flags)))
           (subst (λ f. AtomAt μ (under f h) (s ++ v) v x) e (a v k y))
 
-      -- the same, of an atom under quantifiers
+      -- the same for an atom under quantifiers
       stacked_operand : (r : ℕ) (x : Tree) (s v : Text) → settled h.flags x ≡ settled h.flags t →
           settled h.flags x ≡ h.flags → OperandAt μ here r (s ++ v) v x →
           OperandAt μ h r ((setting h.flags (settled h.flags t) ++ s) ++ v) v x
@@ -191,12 +191,12 @@ module _ (μ : Marks) where
       pub repeat_reads : ReadsAll μ (over (label.repeat lo hi greedy) t) h
       repeat_reads = record { tree = repeat_tree; operands = repeat_operands }
 
-      -- ---- a possessive quantifier, or an atomic group of a Repeat where none says it
+      -- ---- a possessive quantifier, or an atomic group of a Repeat that no quantifier can be written for
 
       abbrev atomic : Tree
       atomic = over label.atomic_group (over (label.repeat lo hi greedy) t)
 
-      -- the text where so many quantifiers may stand before its own
+      -- the text, if this many quantifiers may come before its own
       abbrev one_text : Bool → ℕ → Text
       one_text b r =
           if not b then in_head (codes "?>")

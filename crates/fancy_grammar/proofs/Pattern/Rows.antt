@@ -1,4 +1,4 @@
--- A Concat, and an Alt, read back where the trees below them do.
+-- A Concat and an Alt read back if the trees below them do.
 use Rattle.std.proofs.Common.{◌≡◌, ◌+◌, Bool, false, [], ◌∷◌, ◌++◌}
 use Rattle.std.proofs.Common.{refl, sym, ap, ◌∙◌, subst, append_assoc, ℕ, codes, true, ◌&&◌}
 use Rattle.std.proofs.lemmas.Bool.{cond_both, and_parts, false≢true}
@@ -29,12 +29,12 @@ use Rattle.fancy_grammar.proofs.Pattern.Rules.{reads_branch, reads_last, reads_m
 use Rattle.fancy_lex.specs.Number.{at_digit}
 
 module _ (μ : Marks) (f : Flags) where
-  -- behind the openings of c groups the tree reads back wherever it stands
+  -- after the openings of c groups, the tree reads back wherever it is written
   abbrev pub Everywhere : ℕ → Tree → Type 0
   Everywhere c t =
       (h : Here) → h.opened ≡ c → IsLike f h.flags → ReadsTree μ t h
 
-  -- a comment may stand behind it, where it is a reference in digits
+  -- if the tree is a reference in digits, a comment may follow it
   abbrev pub IsParted : Tree → Type 0
   IsParted t =
       is_in_digits μ t ≡ true → (h : Here) → IsLike f h.flags → Fits t Piece h → LeadsPast μ h t
@@ -48,7 +48,7 @@ module _ (μ : Marks) (f : Flags) where
   EachBranch c no_trees = Unit {0}
   EachBranch c (more_trees t ts) = Everywhere c t × EachBranch (c + group_count t) ts
 
-  -- layout stays what it is
+  -- what is layout does not change
   same_space : (g k : Flags) → IsLike f g → IsLike f k → g.ignore_space ≡ k.ignore_space
   same_space g k e d = ap (λ j. j.ignore_space) e ∙ sym (ap (λ j. j.ignore_space) d)
 
@@ -83,7 +83,7 @@ module _ (μ : Marks) (f : Flags) where
   same_digit x [] v b = absurd (false≢true (sym b.goes))
   same_digit x (c ∷ s) v b = refl
 
-  -- behind a reference in digits or not, the pieces stand alone, or a digit is parted from it
+  -- after a reference in digits or not, the pieces are unchanged, or an empty comment comes before a digit
   next_text : (b : Bool) (ts : Trees) (h : Here) → EachPiece h.opened ts → IsLike f h.flags →
       FitAll ts Piece h → (v : Text) → at_digit v ≡ false → (P : Text → Type 0) →
       ((b ≡ true → at_digit (written_all μ false ts h ++ v) ≡ false) → P (written_all μ false ts h ++ v)) →

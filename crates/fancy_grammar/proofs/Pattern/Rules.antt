@@ -48,12 +48,12 @@ pub record Begins (x : Bool) (s : Text) : Type 0 where
   pub clear : Clear x s
   pub goes : states.ends s ≡ false
 
--- where a branch stops
+-- a branch stops here
 pub record Stops (x : Bool) (v : Text) : Type 0 where
   pub clear : Clear x v
   pub ends : states.ends v ≡ true
 
--- where an alternation ends
+-- an alternation ends here
 pub record Ends (x : Bool) (v : Text) : Type 0 where
   pub stops : Stops x v
   pub no_bar : strip bar v ≡ None
@@ -77,7 +77,7 @@ unfolding layout_from
 comment_passed true t = refl
 comment_passed false t = refl
 
--- told from the first characters
+-- decided by the first characters
 pub clear_by : (x : Bool) (c : ℕ) (t : Text) → after_comment_head (c ∷ t) ≡ None → is_layout true c ≡ false →
     begins_mark (c ∷ t) ≡ false → Clear x (c ∷ t)
 clear_by true c t o e m = record { no_layout = not_layout true c t o e; no_mark = m }
@@ -131,7 +131,7 @@ pub no_brace : (s : Text) → begins_mark s ≡ false → strip (code "{") s ≡
 no_brace [] h = refl
 no_brace (c ∷ s) h = rw ((no_mark_is c h).brace) refl
 
--- ---- what the text from s to v reads as here: a tree that becomes x, with the flags g behind it
+-- ---- what the text from s to v is read as here: a tree that becomes x, with the flags g after it
 
 pub record AtomAt (μ : Marks) (h : Here) (s v : Text) (x : Tree) : Type 0 where
   pub tree : Tree
@@ -153,7 +153,7 @@ pub record WholeAt (μ : Marks) (h : Here) (s : Text) (g : Flags) (v : Text) (x 
   pub derives : Alternation h.depth (st h.flags s) (done tree (st g v))
   pub becomes : Becomes μ s h.opened tree x
 
--- the pieces up to where the branch stops; without the Empties they become these
+-- the pieces up to the end of the branch; without the Empties they become these trees
 pub record Rest (μ : Marks) (h : Here) (s : Text) (g : Flags) (v : Text) (ys : List Tree) : Type 0 where
   pub trees : List Tree
   pub derives : Pieces h.depth (st h.flags s) (done trees (st g v))
@@ -164,7 +164,7 @@ no_more μ h v e = record { trees = []; derives = stop e.ends; become = tt }
 
 -- ---- pieces
 
--- behind layout no quantifier follows
+-- after layout, no quantifier follows
 pub quant_past : (left : ℕ) (f : Flags) (a : Tree) (v u : Text) → layout f.ignore_space v ≡ rest u →
     begins_mark u ≡ false → quant left a (st f v) ≡ done a (st f u)
 unfolding quant
@@ -178,7 +178,7 @@ quant_none left f a v c = quant_past left f a v v c.no_layout c.no_mark
 unmoved : (n : ℕ) → (n == n) ≡ true
 unmoved n = grind (arith, nat_tests)
 
--- in Oniguruma mode no other quantifier is adjacent to one that no quantifier follows
+-- in Oniguruma mode, no quantifier is adjacent to one that no quantifier follows
 pub adjacent_none : (k d : ℕ) (f : Flags) (b : Tree) (v : Text) → Clear f.ignore_space v →
     adjacent k d b (st f v) ≡ done b (st f v)
 unfolding adjacent
@@ -192,7 +192,7 @@ adjacent_none (suc k) d f b v c =
     else states.faulted (quantifier_too_deep t.rest))) (quant_none (bytes v) f b v c)
     ∙ cond-true _ _ _ (unmoved (bytes v))
 
--- before such a text one quantifier is all, or none
+-- before such a text, one quantifier at most is read
 pub quants_one : (d left : ℕ) (f : Flags) (a b : Tree) (s v : Text) → Clear f.ignore_space v →
     quant left a (st f s) ≡ done b (st f v) → quants d left a (st f s) ≡ done b (st f v)
 quants_one d left f a b s v c e =
@@ -201,7 +201,7 @@ quants_one d left f a b s v c e =
     ∙ cond_both f.oniguruma_mode _ _ (λ z. z ≡ done b (st f v))
     (λ _. adjacent_none quantified.max_adjacent d f b v c) (λ _. refl)
 
--- a piece that was read, before those that follow
+-- a piece that was read, before the pieces that follow
 pub lead_raw : (μ : Marks) (h : Here) (s v w : Text) (g : Flags) (r x : Tree) (ys : List Tree) →
     Begins h.flags.ignore_space s → is_empty r ≡ false → Becomes μ s h.opened r x →
     Piece h.depth (st h.flags s) (done r (st h.flags v)) → Rest μ (past_groups (group_count x) h) v g w ys →
@@ -228,7 +228,7 @@ lead μ h s v w g x ys b c e a q =
     (piece_as b.clear.no_layout a.derives
     (quants_one h.depth (bytes s) h.flags a.tree a.tree v v c (quant_none (bytes s) h.flags a.tree v c))) q
 
--- an Empty that is read at once, with other flags behind it
+-- an Empty that is read at once, with other flags after it
 pub lead_flags : (μ : Marks) (h : Here) (f g : Flags) (s v w : Text) (ys : List Tree) →
     Begins h.flags.ignore_space s → Clear f.ignore_space v → Atom h.depth (st h.flags s) (done empty (st f v)) →
     Rest μ (under f h) v g w ys → Rest μ h s g w ys

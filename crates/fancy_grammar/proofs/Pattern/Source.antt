@@ -1,4 +1,4 @@
--- The source of every Delegate is read as it, in reading order: the law stands last.
+-- The source of every Delegate is read as that Delegate; the modules are in reading order, and the law is last.
 
 -- ---- one Delegate
 pub mod Alone

@@ -1,4 +1,4 @@
--- Quantifiers that stand one directly behind another, as they may in Oniguruma mode, behind one atom.
+-- Quantifiers that follow one another directly, as Oniguruma mode allows, after one atom.
 use Rattle.std.proofs.Common.{◌≡◌, ℕ, zero, suc, ◌+◌, ◌-◌, ◌<◌, ◌≤◌, Bool, true, false, not, ◌&&◌, ◌==◌, nat_lt}
 use Rattle.std.proofs.Common.{List, ◌∷◌, ◌++◌, refl, sym, ap, ap₂, ◌∙◌, subst, arith, min, lt-ltb, if◌then◌else◌}
 use Rattle.std.proofs.Math.Nat.{min-le_left, min-le_right}
@@ -30,9 +30,9 @@ use Rattle.fancy_grammar.proofs.Pattern.Rules.{Clear, Begins, AtomAt, Rest, Foll
 use Rattle.fancy_grammar.proofs.Pattern.Rules.{quant_none, lead_piece}
 use Rattle.fancy_grammar.proofs.ReadBack.RuleLemmas.{st}
 
--- ---- so many quantifiers from one text to another
+-- ---- this many quantifiers from one text to another
 
--- from the tree a before q, so many quantifiers make the tree c before v
+-- with the tree a before q, this many quantifiers give the tree c before v
 abbrev pub IsStack : Flags → ℕ → Tree → Text → Tree → Text → Type 0
 IsStack f zero a q c v = (a ≡ c) × (q ≡ v)
 IsStack f (suc n) a q c v =
@@ -42,7 +42,7 @@ IsStack f (suc n) a q c v =
 moved : (m n : ℕ) → m < n → (m == n) ≡ false
 moved m n h = grind (arith, nat_tests)
 
--- one more that is adjacent
+-- one more adjacent quantifier
 adjacent_step : (k d : ℕ) (f : Flags) (b c : Tree) (w v : Text) → quant (bytes w) b (st f w) ≡ done c (st f v) →
     bytes v < bytes w → d + 1 < max_depth → adjacent (suc k) d b (st f w) ≡ adjacent k (d + 1) c (st f v)
 unfolding adjacent
@@ -51,7 +51,7 @@ adjacent_step k d f b c w v e less deep =
     else if nat_lt (d + 1) max_depth then adjacent k (d + 1) b t else faulted (quantifier_too_deep t.rest))) e
     ∙ (cond-false _ _ _ (moved (bytes v) (bytes w) less) ∙ cond-true _ _ _ (lt-ltb (d + 1) max_depth deep))
 
--- in Oniguruma mode the first, and those that are adjacent to it
+-- in Oniguruma mode the first quantifier, and the ones adjacent to it
 stacked : (m k d left : ℕ) (f : Flags) (a c : Tree) (q v : Text) → f.oniguruma_mode ≡ true → m + k ≡ max_adjacent →
     (0 < m → d + m < max_depth) → IsStack f (suc m) a q c v →
     quants d left a (st f q) ≡ adjacent k (d + m) c (st f v)
@@ -67,7 +67,7 @@ stacked (suc m) k d left f a c q v o e deep (b, w, before, step, less) =
     ∙ (adjacent_step k (d + m) f b c w v (step (bytes w)) less (omega (arith, deep (omega arith)))
     ∙ ap (λ n. adjacent k n c (st f v)) (omega arith))
 
--- as many as may stand there are all read, where no other follows
+-- as many as are allowed there are all read, if no other follows
 stack_quants : (n d left : ℕ) (f : Flags) (a c : Tree) (q v : Text) → IsStack f n a q c v →
     n ≤ (most_quantifiers f d - 1) + 1 → Clear f.ignore_space v → quants d left a (st f q) ≡ done c (st f v)
 stack_quants zero d left f a c q v (same, here) few k =
@@ -88,9 +88,9 @@ stack_quants (suc m) d left f a c q v s few k = by_mode f.oniguruma_mode refl m 
     by_mode false o (suc m) few s =
         let most : most_quantifiers f d ≡ 1 = cond-false _ _ _ o in absurd (omega (arith, few, most))
 
--- ---- an atom under so many quantifiers
+-- ---- an atom under this many quantifiers
 
--- the text from s to v reads as an atom and at most so many quantifiers behind it, which become x
+-- the text from s to v is read as an atom and at most this many quantifiers after it, which become x
 pub record OperandAt (μ : Marks) (h : Here) (most : ℕ) (s v : Text) (x : Tree) : Type 0 where
   pub first : Tree
   pub behind_first : Text
@@ -114,7 +114,7 @@ operand_atom μ h most s v x a = record {
   becomes = a.becomes;
 }
 
--- and the tree so far may stand under one more
+-- and one more quantifier may follow the tree so far
 abbrev pub UnderAt : (μ : Marks) (h : Here) (most : ℕ) (s v : Text) (x : Tree) → Type 0
 UnderAt μ h most s v x = (a : OperandAt μ h most s v x) × (is_repeatable h.flags a.tree ≡ true)
 
@@ -122,7 +122,7 @@ pub under_repeatable : (μ : Marks) (h : Here) (most : ℕ) (s v : Text) (x : Tr
     OperandAt μ h most s v x → UnderAt μ h most s v x
 under_repeatable μ h most s v x rep a = (a, stays_repeatable μ s h.flags h.opened a.tree x a.becomes rep)
 
--- under one more
+-- under one more quantifier
 pub operand_under : (μ : Marks) (h : Here) (most : ℕ) (s q v : Text) (x : Tree) (possessive : Bool) (lo hi : ℕ)
     (greedy : Bool) → QuantifierAt h.flags possessive lo hi greedy v q → (a : UnderAt μ h most s q x) →
     OperandAt μ h (suc most) s v (quantified_tree possessive x lo hi greedy)
@@ -156,25 +156,25 @@ lead_operand μ h most s v w g x ys room b c solid a k =
 
 -- ---- a tree under a quantifier
 
--- a quantifier stands at the end of the tree's text, behind which so many may stand
+-- the tree's text ends with a quantifier, and more may follow it
 abbrev pub ends_quantified : Flags → ℕ → Tree → Bool
 ends_quantified f r t = nat_lt 0 r && is_quantified f t
 
 pub ends_behind : (f : Flags) (k : ℕ) (t : Tree) → is_quantified f t ≡ true → ends_quantified f (suc k) t ≡ true
 ends_behind f k t e = and_from _ _ (lt-ltb 0 (suc k) (omega arith)) e
 
--- it is repeatable, unless groups without a number, which are left, may stand around it
+-- the tree can be repeated, unless groups without a number, which are replaced by their contents, may be around it
 abbrev pub MayBeUnder : Marks → Flags → Tree → Type 0
 MayBeUnder μ f t = μ.numbered_groups_ignored ≡ false → is_repeatable f t ≡ true
 
--- where so many quantifiers may stand before the one that follows
+-- if this many quantifiers may come before the one that follows
 pub record ReadsOperand (μ : Marks) (t : Tree) (h : Here) (r : ℕ) (k : Text) : Type 0 where
   pub begins : MayBeUnder μ h.flags t → (v : Text) → Begins h.flags.ignore_space (k ++ v)
   pub reads : MayBeUnder μ h.flags t → settled h.flags t ≡ h.flags → (v : Text) → NoName h.flags.ignore_space v →
       Follows μ t v → (ends_quantified h.flags r t ≡ true → Apart h.flags.ignore_space v) →
       UnderAt μ h r (k ++ v) v t
 
--- and so for each number of them, where it fits
+-- and the same for each number of them for which the tree fits
 abbrev pub ReadsOperands : Marks → Tree → Here → Type 0
 ReadsOperands μ t h = (r : ℕ) → Fits t (Operand r) h → ReadsOperand μ t h r (written μ t (Operand r) h)
 
@@ -200,13 +200,13 @@ as_operand μ t h r a d = at (is_repeatable h.flags t) refl
           (operand_atom μ h r (written μ t (Operand zero) h ++ v) v t b.atom, b.repeatable);
     }
 
--- the text of the tree depends on how many may stand before the one that follows
+-- the text of the tree depends on how many quantifiers may come before the one that follows
 abbrev pub is_stacking : Tree → Bool
 is_stacking (over (label.repeat lo hi greedy) t) = true
 is_stacking (over label.atomic_group (over (label.repeat lo hi greedy) t)) = true
 is_stacking _ = false
 
--- the text and where it fits are the same for each number
+-- the text, and where it fits, do not depend on the number
 pub record IsAlike (μ : Marks) (t : Tree) (h : Here) (r : ℕ) : Type 0 where
   pub text : written μ t (Operand r) h ≡ written μ t (Operand zero) h
   pub fits : Fits t (Operand r) h → Fits t (Operand zero) h
@@ -256,7 +256,7 @@ module _ (μ : Marks) (h : Here) (r : ℕ) where
   alike (row label.conditional (more_trees a (more_trees b (more_trees c (more_trees u ts))))) e =
       record { text = refl; fits = λ d. d }
 
--- what the tree reads as wherever it stands, under any number of quantifiers
+-- what the tree is read as wherever it is written, under any number of quantifiers
 pub record ReadsAll (μ : Marks) (t : Tree) (h : Here) : Type 0 where
   pub tree : ReadsTree μ t h
   pub operands : ReadsOperands μ t h

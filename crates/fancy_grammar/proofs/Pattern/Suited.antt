@@ -1,4 +1,4 @@
--- Flags that suit a tree: each leaf's need in their mode holds, so that none is set before it.
+-- Flags that suit a tree: they meet what each leaf requires in their mode, so no flag is set before it.
 use Rattle.std.proofs.Common.{◌≡◌, Bool, true, false, refl, sym, ap, ◌∙◌, subst, if◌then◌else◌}
 use Rattle.fancy_lex.specs.declared.flags.Flags.{Flags}
 use Rattle.fancy_grammar.specs.Label.{concat, alt, ast_group}
@@ -12,7 +12,7 @@ use Rattle.fancy_grammar.specs.declared.needs.Needs.{Needs}
 use Rattle.fancy_grammar.specs.declared.precedence.Precedence.{Precedence}
 use Rattle.fancy_grammar.specs.declared.precedence.Precedence.TheVariants.{Piece, Branch}
 
--- the flag is as it is needed
+-- the flag is as required
 abbrev pub IsMet : Need → Bool → Type 0
 IsMet Free b = Unit {0}
 IsMet (Fixed c) b = c ≡ b
@@ -25,7 +25,7 @@ pub record AreMet (n : Needs) (g : Flags) : Type 0 where
   pub crlf : IsMet n.crlf g.crlf
 
 abbrev mutual
-  -- the flags are as each leaf needs them; what a capturing group holds before it is resolved is left out
+  -- the flags are as each leaf requires them; the contents of a capturing group in a raw tree are left out
   pub Suits : Flags → Tree → Type 0
   Suits g (leaf l) = AreMet (leaf_needs g.oniguruma_mode l) g
   Suits g (over (ast_group name place) t) = Unit {0}
@@ -39,7 +39,7 @@ abbrev mutual
 pub none_met : (g : Flags) → AreMet no_needs g
 none_met g = record { casei = tt; multi = tt; dotnl = tt; crlf = tt }
 
--- ---- what is needed first
+-- ---- what is required first
 
 first_met : (a b : Need) (x : Bool) → IsMet a x → IsMet b x → IsMet (first a b) x
 first_met Free b x h k = k
@@ -85,9 +85,9 @@ suited_settled g t h =
       crlf = met_stays n.crlf g.crlf m.crlf i;
     }
 
--- ---- where some flags suit a tree, so do those that are settled before it
+-- ---- if some flags suit a tree, the flags that are settled before it suit it too
 
--- both are so where the first is, and both are so by some flag
+-- both are met if the first requirement is, and some value meets both
 parts_met : (a b : Need) (x y : Bool) → IsMet a x → IsMet b x → IsMet (first a b) y → IsMet a y × IsMet b y
 parts_met Free b x y h k m = (tt, m)
 parts_met (Fixed c) b x y h k m = (m, subst (IsMet b) (sym h ∙ m) k)
@@ -104,7 +104,7 @@ parts_all_met n m f g h k j =
       record { casei = a.1; multi = b.1; dotnl = c.1; crlf = d.1 },
     )
 
--- needs in the same mode
+-- requirements in the same mode
 needs_in : (join : Need → Need → Need) (f g : Flags) (t : Tree) → f.oniguruma_mode ≡ g.oniguruma_mode → (h : Flags) →
     AreMet (needs join f.oniguruma_mode t) h → AreMet (needs join g.oniguruma_mode t) h
 needs_in join f g t e h = subst (λ o. AreMet (needs join o t) h) e
@@ -147,7 +147,7 @@ settled_suits f g t e h =
       crlf = settles n.crlf f.crlf g.crlf m.crlf;
     })
 
--- ---- behind a tree that they suit they hold as before it
+-- ---- flags that suit a tree also hold after it
 
 if_same : (b : Bool) (f g : Flags) → f ≡ g → (if b then f else g) ≡ g
 if_same true f g e = e

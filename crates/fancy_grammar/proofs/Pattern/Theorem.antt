@@ -1,4 +1,4 @@
--- The text of a writable tree is read as that tree, with its marks, and as nothing else.
+-- The text of a writable tree is read as that tree, with its group information, and as nothing else.
 use Rattle.std.proofs.Common.{◌≡◌, ℕ, zero, ◌+◌, Bool, true, false, ◌&&◌, List, [], ◌∷◌, ◌++◌}
 use Rattle.std.proofs.Common.{length, filter_map, map, None, refl, sym, ap, ◌∙◌, subst, arith, nat_lt}
 use Rattle.std.proofs.Common.{append-nil, ◌||◌, ◌==◌, Option, IfSome, is_some, ap₂, if◌then◌else◌, suc, filter, nat_le}
@@ -58,7 +58,7 @@ use Rattle.fancy_grammar.proofs.Pattern.Rows.{EachPiece, EachBranch, concat_read
 use Rattle.fancy_grammar.proofs.Pattern.Rules.{Clear, ends_nothing, WholeAt}
 use Rattle.fancy_grammar.proofs.ReadBack.RuleLemmas.{st}
 
--- ---- every writable tree, wherever it stands
+-- ---- every writable tree, wherever it is written
 
 -- counts that the mode keeps in order
 ordered : (f g : Flags) (lo hi : ℕ) → g.oniguruma_mode ≡ f.oniguruma_mode → (f.oniguruma_mode ≡ true → lo ≤ hi) →
@@ -73,7 +73,7 @@ ordered f g lo hi e k = by_mode g.oniguruma_mode refl
     by_mode false o = ap (λ b. b && nat_lt hi lo) o
 
 module _ (μ : Marks) where
-  -- an atomic group that is none of a Repeat
+  -- an atomic group whose contents are no Repeat
   atomic_reads : (t : Tree) → is_stacking (over label.atomic_group t) ≡ false → (h : Here) →
       ReadsTree μ t (deeper (under (settled h.flags t) h)) → ReadsAll μ (over label.atomic_group t) h
   atomic_reads (over (label.repeat lo hi greedy) t) e h r = absurd cc
@@ -190,9 +190,9 @@ module _ (μ : Marks) where
       each_branch (more_trees t ts) c k =
           ((λ h o e. (reads t h (subst (λ n. AreNodesWritable f μ n t) (sym o) k.0) e).tree), each_branch ts _ k.1)
 
--- ---- the marks of a tree
+-- ---- the group information of a tree
 
--- an opening without its reach, of which marks say nothing
+-- an opening without its reach, which the group information does not contain
 abbrev pub unreached : Opening → Opening
 unreached o = record { reach = 0; name = o.name }
 
@@ -231,7 +231,7 @@ unreached_named f l = ap (λ b. f.ignore_numbered_groups && b) (each l)
     each [] = refl
     each (o ∷ l) = ap (λ b. is_some o.name || b) (each l)
 
--- each of those that have a number has one
+-- each opening in the list of those with a number is counted
 pub counted_filtered : (named : Bool) (l : List Opening) →
     AreCounted named (map unreached (numbered_openings_in named l))
 counted_filtered named [] = tt
@@ -239,7 +239,7 @@ counted_filtered named (o ∷ l) =
     cond_both (is_counted named o.name) _ _ (λ n. AreCounted named (map unreached n))
     (λ e. (e, counted_filtered named l)) (λ _. counted_filtered named l)
 
--- one that has a name has a number
+-- an opening that has a name has a number
 one_more_named : (named b : Bool) (n : Option Text) (l m : List Opening) (o : Opening) → o.name ≡ n →
     is_counted named n ≡ b → list_any is_named m ≡ list_any is_named l →
     list_any is_named (if b then o ∷ m else m) ≡ (is_some n || list_any is_named l)
@@ -255,7 +255,7 @@ any_filtered named (o ∷ l) =
     one_more_named named (is_counted named o.name) o.name l (numbered_openings_in named l) o refl refl
     (any_filtered named l)
 
--- a name is among them exactly if it is among all
+-- some opening of the list has a name exactly if some of all openings has one
 pub only_filtered : (f : Flags) (named : Bool) (l : List Opening) →
     only_named f (numbered_openings_in named l) ≡ only_named f l
 only_filtered f named l = ap (λ b. f.ignore_numbered_groups && b) (any_filtered named l)
@@ -295,7 +295,7 @@ module _ (μ : Marks) (f : Flags) (text : Text) (r x : Tree) (b : Becomes μ tex
       ap (λ n. first_fault (meanings_in n (numbers_in f r) 0 (items r))) ignored
       ∙ none_faulty μ text (numbers_in f r) same_numbers 0 (items r) b.groups
 
-  -- what is read, which differs from the tree in places alone
+  -- the tree that is read, which differs from the given one only in positions
   abbrev pub tree : Tree
   tree = resolved f (bytes text) r
 
@@ -304,7 +304,7 @@ module _ (μ : Marks) (f : Flags) (text : Text) (r x : Tree) (b : Becomes μ tex
       ap (λ n. unplaced (resolved_in (bytes text) n (numbers_in f r) 0 r)) ignored
       ∙ b.is (bytes text) (numbers_in f r) same_numbers
 
-  -- the marks that the text is read with
+  -- the group information that the text is read with
   marked : DerivesTree f text r → μ ≡ marks f text r
   marked d =
       let m = marks f text r in
@@ -339,7 +339,7 @@ module _ (μ : Marks) (f : Flags) (text : Text) (r x : Tree) (b : Becomes μ tex
 
 -- ---- the theorem
 
--- a whole text that reads as the tree, but for places
+-- a whole text that is read as the tree, up to positions
 from_whole : (μ : Marks) (f g : Flags) (text : Text) (x : Tree) →
     μ ≡ marks_of f (openings_told μ 0 (group_count x)) x μ →
     WholeAt μ (record { flags = f; opened = 0; depth = 0 }) text g [] x → IsReadAs f text x μ
@@ -354,7 +354,7 @@ from_whole μ f g text x told w =
     ) in
     read_as f text (resolved f (bytes text) w.tree) x μ is (resolves μ f text w.tree x w.becomes told)
 
--- what is true of each entry is true of the one that is found
+-- what holds for each entry holds for the one that is found
 found : {A : Type 0} (P : A → Type 0) (p : A → Bool) (l : List A) → AllByRecursion P l → IfSome (find p l) P
 found P p [] h = tt
 found P p (a ∷ l) h = cond_both (p a) _ _ (λ o. IfSome o P) (λ _. h.0) (λ _. found P p l h.1)

@@ -49,7 +49,7 @@ use Rattle.fancy_grammar.proofs.Parsed.Readers.{gives_both, gives_after}
 use Rattle.fancy_grammar.proofs.Parsed.Targets.{IfNamed, marked_writable}
 use Rattle.fancy_grammar.proofs.Pattern.Suited.{AreMet, none_met, Suits}
 
--- ---- leaves with the case of the flags
+-- ---- leaves with the case flag that holds
 
 module _ (f : Flags) where
   pub literal_suits : (s : Text) (b : Bool) → b ≡ f.casei → Suits f (leaf (label.literal s b))
@@ -81,7 +81,7 @@ module _ (f : Flags) where
       cond_both f.multi _ _ (λ a. Suits f (leaf (label.assertion a)))
       (λ e. record { casei = tt; multi = sym e; dotnl = tt; crlf = refl }) (λ _. none_met f)
 
--- ---- calls between marks have a name that is written so
+-- ---- calls between delimiters have a name that is written so
 
 -- the call is not written as a group
 abbrev pub IsBare : Target → Type 0
@@ -154,7 +154,7 @@ bare_call t =
 
 -- ---- escapes
 
--- what stands for itself behind a backslash outside Oniguruma mode does so in it
+-- what denotes itself after a backslash outside Oniguruma mode does so in it
 kept_in : (o : Bool) (c : ℕ) → is_kept_by_backslash false c ≡ true → is_kept_by_backslash o c ≡ true
 kept_in false c e = e
 kept_in true c e = ap (λ b. b && true) (and_parts _ _ e).0
@@ -169,7 +169,7 @@ right_kept c e =
     let same : c ≡ code ">" = grind (arith, nat_tests) in
     subst (λ a. is_kept_by_backslash true a ≡ true) (sym same) refl
 
--- a back reference has the case of the flags, a call is bare, and any other leaf suits them
+-- a back reference has the case flag that holds, a call is not in parentheses, and any other leaf suits the flags
 abbrev pub IsTold : Flags → Escape → Type 0
 IsTold f (escaped.backref r casei) = casei ≡ f.casei
 IsTold f (escaped.subroutine_call c) = IsBare c.target
@@ -327,7 +327,7 @@ module _ (f : Flags) where
       (λ e. kept_suits c (kept_in f.oniguruma_mode c e))
       (anywhere_rows c) (outside_rows c)
 
-  -- of all that an escape stands for
+  -- for everything that an escape may be read as
   pub told_escape : (t : Text) → IfGives (IsTold f) (escape f false t)
   unfolding escape_at
   told_escape [] = tt

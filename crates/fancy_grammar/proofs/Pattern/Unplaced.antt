@@ -1,4 +1,4 @@
--- What does not hang on the places of calls that mean no group.
+-- What does not depend on the positions of calls that refer to no group.
 use Rattle.std.proofs.Common.{◌≡◌, Bool, List, [], ◌∷◌, ◌++◌, refl, sym, ap, ap₂, ◌∙◌, map, ◌||◌}
 use Rattle.std.proofs.Common.{filter_map}
 use Rattle.std.specs.List.{list_any, cons_option}
@@ -15,7 +15,7 @@ use Rattle.fancy_grammar.specs.ReadAs.{unplaced, unplaced_all}
 use Rattle.fancy_grammar.specs.Tree.{Tree, leaf, over, row, Trees, no_trees, more_trees}
 use Rattle.fancy_grammar.specs.Writable.{is_numbered, is_numbered_call_of_all}
 
--- ---- a tree alone
+-- ---- a single tree
 
 pub empty_unplaced : (t : Tree) → is_empty (unplaced t) ≡ is_empty t
 empty_unplaced (leaf (label.ast_node r p)) = refl

@@ -1,4 +1,4 @@
--- Calls that mean no group are read as such again, at other places.
+-- Calls that refer to no group are read as such calls again, at other positions.
 use Rattle.std.proofs.Common.{◌≡◌, ℕ, suc, ◌+◌, ◌<◌, ◌&&◌, ◌||◌, not, true, false, [], ◌∷◌, ◌++◌, codes}
 use Rattle.std.proofs.Common.{Option, Some, None, decimal, refl, sym, ap, ◌∙◌, subst, append_assoc, arith, pos, negsuc}
 use Rattle.std.proofs.Math.Bool.{not-not}
@@ -137,7 +137,7 @@ module _ (μ : Marks) (h : Here) (t : Target) (place : ℕ) (none : is_by_number
     begins = λ v. begins_by h.flags.ignore_space (code "(") _ refl refl refl refl;
   }
 
--- where its text is a group, one may open
+-- if its text is a group, one may open
 abbrev MayOpenFor : Here → Text → Type 0
 MayOpenFor h s = MayOpenIf (starts_with nat_eq s (codes "(")) h
 

@@ -1,4 +1,4 @@
--- A class, and an escape for one, read the same whatever follows them, and under other flags to the same end.
+-- A class, and an escape for one, is read the same whatever follows it, and up to the same end under other flags.
 use Rattle.std.proofs.Common.{◌≡◌, ℕ, zero, suc, ◌+◌, ◌-◌, ◌≤◌, Bool, true, false, not, ◌&&◌, ◌||◌, ◌==◌, nat_le}
 use Rattle.std.proofs.Common.{if◌then◌else◌, [], ◌∷◌, ◌++◌, Option, Some, None, refl, sym, ap, ◌∙◌, subst, arith}
 use Rattle.std.proofs.lemmas.Bool.{false≢true}
@@ -32,7 +32,7 @@ use Rattle.fancy_grammar.specs.Normal.{case_flags, unicode_flags}
 
 -- ---- the same text under other flags
 
--- where the one reading gives something, the other gives something with the same text left
+-- if the first reading gives something, the second gives something with the same rest
 abbrev Too : Reading Escape → Reading Escape → Type 0
 Too (gives a u) other = (b : Escape) × (other ≡ gives b u)
 Too (fails e) other = Unit {0}
@@ -104,13 +104,13 @@ hex_too u i w t =
     too_then (layout_reading (layout false t)) _ _
     (λ _ v. too_then (value false (reach_of v) w v) _ _ (λ a r. coded_too u i w (reach_of v) a r))
 
--- the one is a Delegate where the other is
+-- if the first is a Delegate, the second is one
 abbrev Likewise : Escape → Escape → Type 0
 Likewise (delegate w c) (delegate x b) = Unit {0}
 Likewise (delegate w c) _ = ⊥
 Likewise _ _ = Unit {0}
 
--- both are none, or such escapes
+-- both are `None`, or both are such escapes
 abbrev Alike : Option Escape → Option Escape → Type 0
 Alike (Some e) (Some d) = Likewise e d
 Alike None None = Unit {0}
@@ -132,7 +132,7 @@ mark_alike : (b : Bool) (c : ℕ) (a : Assertion) (e : Escape) →
 mark_alike true c a e = tt
 mark_alike false c a e = tt
 
--- a character stands for the like under any flags
+-- a character is read as such escapes under any flags
 lone_alike : (f g : Flags) (inside : Bool) (c : ℕ) → Alike (lone_escape f inside c) (lone_escape g inside c)
 unfolding lone_escape
 lone_alike f g inside c =
@@ -168,7 +168,8 @@ escape_too u i (c ∷ t) =
 
 -- ---- a class
 
--- where the reading gives something, the others, with k steps or more, give one thing, with what follows it left too
+-- if the reading gives something, the others, with k steps or more, all give one thing, and what follows comes after
+-- the rest
 abbrev Carries : ℕ → Reading Text → (ℕ → Text → Reading Text) → Type 0
 Carries k (gives w v) there = (x : Text) × ((j : ℕ) (s : Text) → k ≤ j → there j s ≡ gives x (v ++ s))
 Carries k (fails e) there = Unit {0}
@@ -184,7 +185,7 @@ carry_same : (k : ℕ) (o : Reading Text) (there here : ℕ → Text → Reading
 carry_same k (gives w v) there here e (x, h) = (x, λ j s l. e j s ∙ h j s l)
 carry_same k (fails z) there here e h = tt
 
--- a step more
+-- one step more
 carry_step : (k : ℕ) (o : Reading Text) (there here : ℕ → Text → Reading Text) →
     ((j : ℕ) (s : Text) → here (suc j) s ≡ there j s) → Carries k o there → Carries (suc k) o here
 carry_step k (gives w v) there here e (x, h) = (x, late) where
@@ -193,7 +194,7 @@ carry_step k (gives w v) there here e (x, h) = (x, late) where
   late (suc j) s l = e j s ∙ h j s (omega arith)
 carry_step k (fails z) there here e h = tt
 
--- what is left hangs not on what is written
+-- what is left does not depend on what was written
 mark_left : (m : ℕ) (out out' t : Text) → (with_mark m (out, t)).1 ≡ (with_mark m (out', t)).1
 mark_left m out out' [] = refl
 mark_left m out out' (d ∷ r) = by_test (d == m) where
@@ -228,7 +229,7 @@ module _ (u i : Bool) where
   end_carries zero depth seen out there = tt
   end_carries (suc k) depth seen out there = tt
 
-  -- behind an opening bracket
+  -- after an opening bracket
   open_carries : (k : ℕ) → ItemsCarry k → (depth : ℕ) (seen seen' : Bool) (out out' t : Text)
       → Carries k (class_from (unicode_flags false) k depth seen (class_head out t).0 (class_head out t).1)
       (λ j s. class_from (case_flags u i) j depth seen' (class_head out' (t ++ s)).0
@@ -319,7 +320,7 @@ module _ (u i : Bool) where
 
 -- ---- a class escape
 
--- where the reading gives a Delegate, the others give one, with what follows behind what is left
+-- if the reading gives a Delegate, the others all give one, and what follows comes after the rest
 abbrev Keeps : Reading Escape → (ℕ → Text → Reading Escape) → Type 0
 Keeps (gives (delegate w c) u) there =
     (x : Text) × (b : Bool) × ((q : ℕ) (s : Text) → there q s ≡ gives (delegate x b) (u ++ s))

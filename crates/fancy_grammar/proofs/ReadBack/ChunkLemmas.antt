@@ -1,4 +1,4 @@
--- Each thing that is written for an escape in a class is read again there.
+-- What is written for each escape in a class is read again there.
 use Rattle.std.proofs.Common.{◌≡◌, ℕ, ◌+◌, ◌*◌, ◌/◌, ◌%◌, ◌<◌, Bool, true, false, not, ◌&&◌, ◌==◌, nat_le}
 use Rattle.std.proofs.Common.{if◌then◌else◌, [], ◌∷◌, ◌++◌, codes, Option, Some, None, option_map, refl, sym, ap, ◌∙◌}
 use Rattle.std.proofs.Common.{subst, arith, rules, append_assoc, lt-ltb}
@@ -175,7 +175,7 @@ turn_ok b (c ∷ w) h = by_test (c == caret)
 abbrev cut_found : Text → Text → Option (Text × Text)
 cut_found w s = Some (w, s)
 
--- no closing brace stands in it
+-- it contains no closing brace
 abbrev pub HasNoBrace : Text → Type 0
 HasNoBrace w = AllByRecursion (λ c. (c == code "}") ≡ false) w
 
@@ -313,7 +313,7 @@ byte_chunk v h =
       scalars = and_from _ _ (hex_scalar (v / 16) a) (and_from _ true (hex_scalar (v % 16) b) refl);
     }
 
--- ---- the table of names
+-- ---- the table of property names
 
 -- the parts of a form: items of a set, or two texts of which P holds
 abbrev pub FormOf : (Text → Type 0) → Form → Type 0
@@ -366,7 +366,7 @@ word_set =
     both_chunk (codes "_") (codes "[:alnum:]") (word_chunk (code "_") [] refl refl refl refl)
     (word_class (code ":") (codes "alnum:") refl refl refl refl)
 
--- P holds of the pairs of texts in the table
+-- P holds for the pairs of texts in the table
 pub record Pairs (P : Text → Type 0) : Type 0 where
   pub word : P (codes "\\w") × P (codes "\\W")
   pub graph : P (codes "[^\\p{White_Space}\\p{C}]") × P (codes "[\\p{White_Space}\\p{C}]")
@@ -433,7 +433,7 @@ property_chunk u b (braced s) h =
     let ok = lowercase_ok p.1 (turn_ok b s h) in
     form_chunk p.0 (form u (look_up (lowercase p.1)) (lowercase p.1)) (form_of Chunk chunk_pairs (lowercase p.1) ok u)
 
--- ---- what an escape in a class stands for
+-- ---- what an escape in a class is read as
 
 abbrev pub FineOf : Reading Escape → Type 0
 FineOf (gives e t) = Fine e

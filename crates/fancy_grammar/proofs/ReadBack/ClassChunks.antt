@@ -1,4 +1,4 @@
--- What a class is rewritten to is a class again, item by item.
+-- What a class is rewritten as is a class again, item by item.
 use Rattle.std.proofs.Common.{◌≡◌, ℕ, Bool, true, false, ◌||◌, nat_le, [], ◌∷◌, ◌++◌, codes, None, refl, sym, ap, ◌∙◌}
 use Rattle.std.proofs.Common.{subst, append_assoc}
 use Rattle.std.proofs.lemmas.Bool.{and_from, cond_both}
@@ -15,11 +15,11 @@ use Rattle.fancy_grammar.specs.Normal.{unicode_flags}
 use Rattle.fancy_grammar.proofs.ReadBack.ClearLemmas.{apart, Each, no_more, also, each_among}
 use Rattle.fancy_grammar.proofs.ReadBack.ScalarLemmas.{scalars_append}
 
--- from s on, a class's items are read to v, whatever was seen before
+-- the items of a class are read from s to v, whatever was read before
 abbrev pub Goes : Text → Text → Type 0
 Goes s v = (b : Bool) → (y : Text) × (a : Bool) × ClassItems (unicode_flags false) b s (written y a v)
 
--- the same of a class behind its bracket
+-- the same for a class, after its bracket
 abbrev pub ClassGoes : Text → Text → Type 0
 ClassGoes s v = (b : Bool) → (y : Text) × (a : Bool) × Class (unicode_flags false) b s (written y a v)
 
@@ -43,14 +43,14 @@ pub pass_class : (t head r v : Text) → ◌≡◌ {A = Text × Text} (class_hea
     ClassGoes t v
 pass_class t head r v e g b = let (y, a, h) = g b in (head ++ y, a, class_items e h)
 
--- what is written for an item: it goes on, and begins with neither a caret nor a closing bracket
+-- what is written for an item: a class continues after it, and it begins with neither a caret nor a closing bracket
 pub record Chunk (w : Text) : Type 0 where
   pub goes : (s v : Text) → Goes s v → Goes (w ++ s) v
   pub no_caret : (s : Text) → strip (code "^") (w ++ s) ≡ None
   pub no_close : (s : Text) → strip (code "]") (w ++ s) ≡ None
   pub scalars : all_scalars w ≡ true
 
--- what an escape in a class stands for
+-- what an escape in a class may be read as
 abbrev pub Fine : Escape → Type 0
 Fine (literal c b) = IsScalar c
 Fine (literal_bytes v) = nat_le v 0xFF ≡ true

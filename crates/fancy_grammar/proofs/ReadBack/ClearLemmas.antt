@@ -18,7 +18,7 @@ use Rattle.fancy_parts.specs.Quantifier.{counts}
 use Rattle.fancy_parts.specs.Quote.{behind_backslash, marks_with_backslash, needs_backslash}
 use Rattle.fancy_grammar.specs.State.{ends}
 
--- a quantifier's mark or brace stands in front
+-- an operator or brace of a quantifier is next
 abbrev pub begins_mark : Text → Bool
 begins_mark [] = false
 begins_mark (c ∷ s) = c ∈ "?*+{"
@@ -74,12 +74,12 @@ pub clear_brace : (s : Text) → Clear s → strip (code "{") s ≡ None
 clear_brace [] h = refl
 clear_brace (c ∷ s) h = rw ((no_mark_is c h.no_mark).brace) refl
 
--- where a branch stops
+-- a branch stops here
 pub record Stops (v : Text) : Type 0 where
   pub clear : Clear v
   pub ends : ends v ≡ true
 
--- where an alternation ends
+-- an alternation ends here
 pub record Ends (v : Text) : Type 0 where
   pub stops : Stops v
   pub no_bar : strip bar v ≡ None
@@ -101,12 +101,12 @@ ends_nothing = record {
 
 -- ---- the characters that are quoted
 
--- a character that fails a test is none that passes it
+-- a character that fails a test differs from each one that passes it
 pub apart : (test : ℕ → Bool) (c : ℕ) → test c ≡ false → (mark : ℕ) → test mark ≡ true → (c == mark) ≡ false
 apart test c fails mark passes =
     false_from_ne_true (c == mark) (λ same. false≢true (sym fails ∙ ap test (eqb-true c mark same) ∙ passes))
 
--- it is so of each of the characters
+-- P holds for each of the characters
 pub data Each (P : ℕ → Type 0) : List ℕ → Type 0 where
   no_more : Each P []
   also : {x : ℕ} {xs : List ℕ} → P x → Each P xs → Each P (x ∷ xs)
@@ -116,7 +116,7 @@ each_at P [] c no_more e = absurd (both_ways false refl e)
 each_at P (x ∷ xs) c (also h k) e =
     ⊎_elim (λ same. subst P (sym (eqb-true c x same)) h) (λ more. each_at P xs c k more) (or_cases (c == x) _ e)
 
--- the same of a character that is said to be in a list
+-- the same for a character that a list contains
 among_any : (c : ℕ) (xs : List ℕ) → is_among c xs ≡ list_any (λ m. c == m) xs
 among_any c [] = refl
 among_any c (x ∷ []) = sym (or-false (c == x))
@@ -125,7 +125,7 @@ among_any c (x ∷ y ∷ xs) = ap (λ b. c == x || b) (among_any c (y ∷ xs))
 pub each_among : (P : ℕ → Type 0) (xs : List ℕ) (c : ℕ) → Each P xs → is_among c xs ≡ true → P c
 each_among P xs c h e = each_at P xs c h (sym (among_any c xs) ∙ e)
 
--- a character printed as itself is no mark
+-- a character that is printed as itself is no metacharacter
 pub behind_none : (c : ℕ) → behind_backslash c ≡ None → needs_backslash c ≡ false
 behind_none c =
     let IsPlain : Option ℕ → Type 0 = λ o. o ≡ None → needs_backslash c ≡ false in
@@ -134,7 +134,7 @@ behind_none c =
     (λ _. cond_both (c == code "\r") _ _ IsPlain (λ t e. absurd cc)
     (λ _. cond_both (needs_backslash c) _ _ IsPlain (λ t e. absurd cc) (λ n e. n))))
 
--- what is printed behind a backslash is read as the character
+-- the character x after a backslash is read as the character c
 abbrev pub Escapes : ℕ → ℕ → Type 0
 Escapes x c = (f : Flags) (t : Text) → escape f false (x ∷ t) ≡ gives (escaped.literal c false) t
 

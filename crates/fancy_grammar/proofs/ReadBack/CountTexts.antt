@@ -27,7 +27,7 @@ digit_is c h =
     let v = digit_value_digit c r in
     (and_from _ _ (le-leb (code "0") c (omega arith)) (le-leb c (code "9") (omega arith)), omega arith)
 
--- digits in front of what begins with none
+-- digits before a text that begins with no digit
 run_read : (a : ℕ) (ds s : Text) → AllDigits 10 ds → at_digit s ≡ false →
     run a (ds ++ s) ≡ (digits_value_after 10 a ds, s)
 unfolding run
@@ -77,7 +77,7 @@ count_none : (s : Text) → at_digit s ≡ false → after_comment_head s ≡ No
 unfolding spaced_count count
 count_none s d e = rw (skip_same s e, number_none s d, skip_same s e) refl
 
--- the counts, whether they stand in braces, and what follows them
+-- the counts, whether they are in braces, and the text after them
 abbrev pub counts_and_rest : ℕ → ℕ → Bool → Text → Option (Counts × Text)
 counts_and_rest lo hi b s = Some (record { low = lo; high = hi; braces = b }, s)
 
@@ -118,7 +118,7 @@ unfolding boundary
 brace_name ds s h p negated =
     rw (no_layout (code "{" ∷ (ds ++ s)) refl, no_layout (ds ++ s) (no_comment ds s h), digit_first ds s h) refl
 
--- the mark w in front of s
+-- the operator w before s
 pub record IsMark (lo hi : ℕ) (s w : Text) : Type 0 where
   pub braces : Bool
   pub counts : counts false (w ++ s) ≡ counts_and_rest lo hi braces s
@@ -183,12 +183,12 @@ mark_read lo hi s l h =
     sign_mark lo hi 1 most (code "+") s (eqb-true lo 1 a) (eqb-true hi most b) refl refl refl)
     (λ _. range_mark lo hi s l h)))
 
--- the lazy mark
+-- the lazy operator
 abbrev pub lazy : Bool → Text
 lazy true = []
 lazy false = codes "?"
 
--- a whole quantifier in front of v
+-- a whole quantifier before v
 pub record IsQuantifier (lo hi : ℕ) (greedy : Bool) (v q : Text) : Type 0 where
   pub no_comment : after_comment_head q ≡ None
   pub braces : Bool

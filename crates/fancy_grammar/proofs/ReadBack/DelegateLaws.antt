@@ -1,4 +1,4 @@
--- What a printable Delegate's text is read as is printable again.
+-- The tree that a printable Delegate's text is read as is printable again.
 use Rattle.std.proofs.Common.{◌≡◌, ◌≢◌, ℕ, Bool, true, false, ◌==◌, ◌&&◌, if◌then◌else◌, [], ◌∷◌, ◌++◌, codes, Option}
 use Rattle.std.proofs.Common.{Some, None, is_some, option_map, ◌⊎◌, inl, inr, refl, sym, ap, ◌∙◌, subst, append-nil}
 use Rattle.std.proofs.Common.{ne_eqb, ◌+◌, rules}

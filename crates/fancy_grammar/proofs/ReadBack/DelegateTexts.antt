@@ -1,4 +1,4 @@
--- A Delegate's text in front of anything reads as it does alone.
+-- A Delegate's text is read before any text as it is read by itself.
 use Rattle.std.proofs.Common.{◌≡◌, ◌≢◌, ℕ, Bool, true, false, ◌==◌, [], ◌∷◌, ◌++◌, is_some, unwrap_or, ◌⊎◌, inl, inr}
 use Rattle.std.proofs.Common.{refl, sym, ap, ◌∙◌, subst, append-nil, ne_eqb}
 use Rattle.std.proofs.lemmas.Bool.{cases_eq, cond_both, false≢true}
@@ -118,7 +118,7 @@ escape_text t h =
       begins = λ v. begins_by refl refl refl;
     }
 
--- what is no Delegate is none, whatever is left
+-- what is no Delegate is still no Delegate if text is left
 pub other_left : (r : Tree) (v : Text) → false ≡ is_some (whole_of [] r) → false ≡ is_some (whole_of v r)
 other_left r [] other = other
 other_left r (c ∷ v) other = refl
@@ -137,7 +137,7 @@ pub nothing_whole : false ≡ is_some (class_of (unicode_flags false) [])
 unfolding class_of
 nothing_whole = refl
 
--- what is told of the text alone holds in front of any text, and under both settings
+-- what holds for the text by itself holds before any text, with UNICODE and without
 pub delegate_text : (s : Text) → is_some (class_of (unicode_flags false) s) ≡ true → DelegateText s
 delegate_text [] h = absurd (false≢true (nothing_whole ∙ h))
 delegate_text (c ∷ t) h = by_bracket (cases_eq c (code "[")) where

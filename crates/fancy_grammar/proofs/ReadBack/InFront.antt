@@ -1,4 +1,4 @@
--- What is printed for a tree, in front of a text: as `printed`, with no append to regroup.
+-- What is printed for a tree, before a text: as `printed`, but with no appended texts to regroup.
 use Rattle.std.proofs.Common.{◌≡◌, ℕ, Bool, true, false, nat_lt, [], ◌∷◌, ◌++◌, Option, Some, None, refl, sym, ap, ◌∙◌}
 use Rattle.std.proofs.Common.{append_assoc, append-nil}
 use Prim.Native.Char.{code}
@@ -88,7 +88,7 @@ abbrev mutual
   put_barred no_trees v = v
   put_barred (more_trees t ts) v = code "|" ∷ put t BRANCH (put_barred ts v)
 
--- what a quantifier is put behind
+-- the operand of a quantifier
 abbrev pub put_repeated : Tree → Text → Text
 put_repeated t v = open_if (is_long t) (put t OPERAND (close_if (is_long t) v))
 
@@ -172,6 +172,6 @@ mutual
       ap (λ w. code "|" ∷ w) (ap (put t BRANCH) (barred_text ts v)
       ∙ (put_text t BRANCH (barred ts ++ v) ∙ sym (append_assoc (printed t BRANCH) (barred ts) v)))
 
--- a text is what is put in front of nothing
+-- what is printed before the empty text is the printed text
 pub put_alone : (t : Tree) (p : ℕ) → put t p [] ≡ printed t p
 put_alone t p = put_text t p [] ∙ append-nil (printed t p)

@@ -34,7 +34,7 @@ use Rattle.fancy_grammar.proofs.ReadBack.ShapeLemmas.{DelegateText, Printable, A
 use Rattle.fancy_grammar.proofs.ReadBack.ShapeLemmas.{begins_head, begins_group, begins_atom, begins_repeated}
 use Rattle.fancy_grammar.proofs.ReadBack.ShapeLemmas.{clear_put, clear_puts}
 
--- what k prints, with m groups nested, reads as the tree x
+-- what k prints, with m groups nested, is read as the tree x
 abbrev pub ReadsAtom : Bool → (Text → Text) → ℕ → Tree → Type 0
 ReadsAtom u k m x = (d : ℕ) (v : Text) → d + m < max_depth → NoName v → AtomAs d (unicode_flags u) (k v) v x
 
@@ -75,8 +75,8 @@ wrap_atom u k m x w d v l _ =
 pub wrap_starts : (k : Text → Text) → Starts (wrapped k)
 wrap_starts k v = begins_head (code ":") (k (code ")" ∷ v)) refl
 
--- What the texts k3, k2, k1 and k0 of the four precedences read as, with m3 to m0 groups nested:
--- the tree x as an atom where IsOne, pieces with the trees ys, a branch with the tree x, and a whole alternation.
+-- What the texts k3, k2, k1 and k0 of the four precedences are read as, with m3 to m0 groups nested: the tree x as an
+-- atom if IsOne holds, pieces with the trees ys, a branch with the tree x, and a whole alternation.
 pub record ReadsBy (u : Bool) (k3 k2 k1 k0 : Text → Text) (m3 m2 m1 m0 : ℕ) (IsOne : Type 0) (x : Tree)
     (ys : List Tree) : Type 0 where
   pub atom : IsOne → ReadsAtom u k3 m3 x
@@ -272,13 +272,13 @@ from_run u t p r =
     to_whole u (put t p) (nest t p) (normal u t)
     (to_branch u (put t p) (nest t p) (pieces_of t (normal u t)) (normal u t) (join_items u t) r)
 
--- what is put in a group of its own where that is asked
+-- what is put in a group of its own if asked for
 atom_if : (u b : Bool) (k : Text → Text) (m : ℕ) (x : Tree) → (b ≡ false → ReadsAtom u k m x) → ReadsWhole u k m x →
     ReadsAtom u (λ v. open_if b (k (close_if b v))) (one_if b + m) x
 atom_if u true k m x a w = wrap_atom u k m x w
 atom_if u false k m x a w = λ d v l c. a refl d v (omega arith) c
 
--- what a quantifier is put behind is one atom
+-- the operand of a quantifier is one atom
 repeated_atom : (u : Bool) (t : Tree) → is_repeatable (unicode_flags false) (normal false t) ≡ true → ReadsTree u t →
     ReadsAtom u (put_repeated t) (one_if (is_long t) + nest t OPERAND) (normal u t)
 repeated_atom u t n r =

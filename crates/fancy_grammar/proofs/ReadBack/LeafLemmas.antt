@@ -41,11 +41,11 @@ pub record Begins (s : Text) : Type 0 where
   pub clear : Clear s
   pub goes : states.ends s ≡ false
 
--- told from the first characters
+-- decided by the first characters
 pub begins_by : {s : Text} → after_comment_head s ≡ None → begins_mark s ≡ false → states.ends s ≡ false → Begins s
 begins_by e m g = record { clear = record { no_comment = e; no_mark = m }; goes = g }
 
--- an atom alone in a group
+-- a single atom in a group
 pub whole_atom : (d : ℕ) (f : Flags) (s v : Text) (x : Tree) → Kept f → Begins s → AtomAs d f s (code ")" ∷ v) x →
     WholeAs d f s (code ")" ∷ v) x
 whole_atom d f s v x k b a =
@@ -72,7 +72,7 @@ pub quotes_clear : (cs v : Text) → Clear v → Clear (put_quotes cs v)
 quotes_clear [] v h = h
 quotes_clear (c ∷ cs) v h = (begins_char c (put_quotes cs v) (behind_backslash c) refl).clear
 
--- characters where nothing follows that takes the last
+-- characters, if nothing that could apply to the last one follows
 pub quotes_run : (d : ℕ) (f : Flags) (cs v : Text) → Kept f → Clear v →
     Run d f (put_quotes cs v) v (map (normal_character f.casei) cs)
 quotes_run d f [] v k h = no_run d f v
@@ -163,7 +163,7 @@ begins_any true b v = begins_by refl refl refl
 begins_any false true v = begins_by refl refl refl
 begins_any false false v = begins_dot v
 
--- ---- conditions on a place
+-- ---- assertions
 
 -- an anchor under MULTI in a group of its own
 line_atom : (d c : ℕ) (u r : Bool) (v : Text) (x : Tree) → d + 1 < max_depth → Begins (c ∷ code ")" ∷ v) →
@@ -214,7 +214,7 @@ end_line d u r v l =
     })
     (anchor (d + 1) f (code "$") (code ")" ∷ v) (EndLine r) (leaf_at (d + 1) f (code "$") (code ")" ∷ v) refl refl))
 
--- an escape that is a leaf
+-- an escape that is an assertion
 reads_assertion_escape : (d : ℕ) (u : Bool) (t v : Text) (a : Assertion) →
     escape (unicode_flags u) false t ≡ gives (escaped.assertion a) v →
     AtomAs d (unicode_flags u) (code "\\" ∷ t) v (assertion a)
@@ -258,7 +258,7 @@ right_escape : (u : Bool) (t : Text) →
 unfolding escape_at lone_escape outside
 right_escape u t = refl
 
--- the assertion that is read
+-- the assertion that is read back
 abbrev pub read_assertion : Assertion → Tree
 read_assertion (StartLineOniguruma crlf) = assertion (StartLine crlf)
 read_assertion a = assertion a

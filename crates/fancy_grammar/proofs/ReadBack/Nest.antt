@@ -6,13 +6,13 @@ use Rattle.fancy_grammar.specs.Tree.{repeat, delegate}
 use Rattle.fancy_grammar.specs.Printed.{is_long}
 use Rattle.fancy_grammar.specs.Printed.{WHOLE, BRANCH, PIECE, OPERAND}
 
--- one group where it is printed
+-- one group if it is printed
 abbrev pub one_if : Bool → ℕ
 one_if true = 1
 one_if false = 0
 
 abbrev mutual
-  -- in the tree's text at a precedence
+  -- how many nest in the tree's text at a precedence
   pub nest : Tree → ℕ → ℕ
   nest (any newline crlf) p = one_if (newline || crlf)
   nest (assertion a) p = one_if (is_at_line a)
@@ -24,7 +24,7 @@ abbrev mutual
   nest (repeat t lo hi greedy) p = one_if (nat_lt PIECE p) + (one_if (is_long t) + nest t OPERAND)
   nest _ p = 0
 
-  -- the most in any of several trees
+  -- the most that nest in one of several trees
   pub nests : Trees → ℕ → ℕ
   nests no_trees p = 0
   nests (more_trees t ts) p = max (nest t p) (nests ts p)

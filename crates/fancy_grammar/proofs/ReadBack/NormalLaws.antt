@@ -1,4 +1,4 @@
--- Normal forms are printable, and where they hold no Delegate normal.
+-- Normal forms are printable, and those without a Delegate are their own normal forms.
 use Rattle.std.proofs.Common.{◌≡◌, ℕ, Bool, true, false, true≢false, not, ◌&&◌, if◌then◌else◌, List, [], ◌∷◌, ◌++◌, map}
 use Rattle.std.proofs.Common.{is_none, Result, Ok, Err, IfOk, refl, sym, ap, ap₂, ◌∙◌}
 use Rattle.std.specs.declared.alloc.AllocError.{AllocError}
@@ -21,7 +21,7 @@ use Rattle.fancy_grammar.proofs.ReadBack.RuleLemmas.{solid_solid}
 use Rattle.fancy_grammar.proofs.ReadBack.PrintableLaws.{blank, blanks, normal_empty, delegate_class}
 use Rattle.fancy_grammar.proofs.ReadBack.DelegateTexts.{IsDelegate}
 
--- ---- a normal form is its own
+-- ---- a normal form is its own normal form
 
 record Fixed (u : Bool) (n : Tree) : Type 0 where
   same : normal u n ≡ n
@@ -228,7 +228,7 @@ mutual
 pub normal_printable : (t : Tree) (u : Bool) → printable t ≡ true → printable (normal u t) ≡ true
 normal_printable t u h = (kept u t h).is
 
--- ---- what is told of a tree
+-- ---- what is known of a tree
 
 pub normal_if : (r : Result Bool AllocError) (t : Tree) → IfOk r (λ b. b ≡ printable t) →
     IfOk r (λ b. b ≡ true → (u : Bool) → printable (normal u t) ≡ true)

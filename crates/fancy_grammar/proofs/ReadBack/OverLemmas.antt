@@ -1,4 +1,4 @@
--- The place of the first group that is too deep, by the nesting of each part.
+-- The position of the first group that is too deep, by the nesting of each part.
 use Rattle.std.proofs.Common.{◌≡◌, ℕ, ◌+◌, ◌<◌, ◌≤◌, Bool, true, false, ◌||◌, nat_lt, nat_le, ◌==◌, if◌then◌else◌, List}
 use Rattle.std.proofs.Common.{[], ◌∷◌, ◌++◌, codes, Option, Some, None, refl, ap, ◌∙◌, arith}
 use Rattle.std.proofs.lemmas.Bool.{cond_both, cond-true, cond-false}
@@ -17,16 +17,17 @@ use Rattle.fancy_grammar.proofs.ReadBack.Nest.{one_if, nest, nests}
 use Rattle.fancy_grammar.specs.Over.{Paren, Parens, no_parens, in_group, parens, parens_all, parens_branches}
 use Rattle.fancy_grammar.specs.Over.{parens_barred, is_at_line, is_too_deep, too_deep}
 
--- of a group whose head has so many bytes, where d groups are open round it
+-- for a group whose opening has this many bytes, if d groups are open around it
 abbrev pub at_open : ℕ → ℕ → ℕ → ℕ
 at_open d width inner = if nat_le most_open d then 0 else width + inner
 
--- the same of a group that is there where that is asked
+-- the same for a group that is there only if asked for
 abbrev pub at_open_if : Bool → ℕ → (ℕ → ℕ) → ℕ
 at_open_if true d inner = at_open d 3 (inner (d + 1))
 at_open_if false d inner = inner d
 
--- the place in the text at p of the first group that opens where as many are open as can be, d of them round the tree
+-- the position, in the text at p, of the first group that opens while as many as possible are open; d are open around
+-- the tree
 abbrev mutual
   pub place : Tree → ℕ → ℕ → ℕ
   place (concat ts) p d = at_open_if (nat_lt BRANCH p) d (λ e. places ts e)
@@ -52,7 +53,7 @@ abbrev mutual
       1 + (if nat_le max_depth (d + nest t BRANCH) then place t BRANCH d
       else bytes (printed t BRANCH) + barred_places ts d)
 
--- ---- the parentheses, in which so many groups nest, have their first that is too deep there
+-- ---- parentheses with this nesting have their first that is too deep there
 
 abbrev first : List Paren → Option Paren
 first l = find is_too_deep l
@@ -112,7 +113,7 @@ group_finds head k m o f = record {
   shallow = λ start d h. group_shallow head k m o f start d h;
 }
 
--- a group round these, where it is asked
+-- a group around these, if asked for
 if_finds : (b : Bool) (k : Parens) (m : ℕ) (o : ℕ → ℕ) → Finds k m o →
     Finds (in_group b (codes "(?:") k) (one_if b + m) (λ d. at_open_if b d o)
 unfolding bytes
@@ -129,7 +130,7 @@ leaf_finds true = record {
 }
 leaf_finds false = no_group
 
--- ---- one part behind another
+-- ---- one part after another
 
 behind_shallow : (a b : List Paren) → first a ≡ None → first (a ++ b) ≡ first b
 behind_shallow a b e = find-append is_too_deep a b ∙ ap (λ o. option_or o (first b)) e
@@ -137,7 +138,7 @@ behind_shallow a b e = find-append is_too_deep a b ∙ ap (λ o. option_or o (fi
 in_deep : (a b : List Paren) (q : Paren) → first a ≡ Some q → first (a ++ b) ≡ Some q
 in_deep a b q e = find-append is_too_deep a b ∙ ap (λ o. option_or o (first b)) e
 
--- two parts, the second w bytes behind the start of the first
+-- two parts, of which the second begins w bytes after the start of the first
 both_find : (k l : Parens) (m n w : ℕ) (o r : ℕ → ℕ) → Finds k m o → Finds l n r →
     Finds (λ start d. k start d ++ l (start + w) d) (max m n) (λ d. if nat_le max_depth (d + m) then o d else w + r d)
 both_find k l m n w o r f g = record {
@@ -152,7 +153,7 @@ both_find k l m n w o r f g = record {
       ∙ g.shallow (start + w) d (omega arith);
 }
 
--- a byte further on
+-- one byte later
 shifted : (k : Parens) (m : ℕ) (o : ℕ → ℕ) → Finds k m o → Finds (λ start d. k (start + 1) d) m (λ d. 1 + o d)
 shifted k m o f = record {
   deep = λ start d l h. f.deep (start + 1) d l h ∙ at_same _ _ (omega arith);
@@ -206,7 +207,7 @@ mutual
       (place t BRANCH)
       (barred_places ts) (parens_find t BRANCH) (barred_find ts))
 
--- the first that is too deep stands there, and where fewer nest there is none
+-- the first that is too deep is there; if fewer groups nest, no group is too deep
 pub over_place : (t : Tree) (p : ℕ) → max_depth ≤ nest t p →
     too_deep t p ≡ Some (record { place = place t p 0; round = most_open })
 over_place t p h = (parens_find t p).deep 0 0 (omega arith) (omega arith) ∙ at_same _ _ (omega arith)

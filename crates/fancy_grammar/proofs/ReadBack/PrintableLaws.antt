@@ -1,4 +1,4 @@
--- What is told printable is printable: above all, a quantifier may stand behind a normal form that is not Empty.
+-- What is known to be printable is printable; most of all, a quantifier may follow a normal form that is not Empty.
 use Rattle.std.proofs.Common.{◌≡◌, ℕ, ◌^◌, ◌<◌, Bool, true, false, not, ◌&&◌, List, [], ◌∷◌, map}
 use Rattle.std.proofs.Common.{unwrap_or, refl, sym, ap, ap₂, ◌∙◌, arith}
 use Rattle.std.proofs.lemmas.Bool.{false≢true}
@@ -27,7 +27,7 @@ use Rattle.fancy_grammar.proofs.ReadBack.DelegateTexts.{IsDelegate, delegate_tex
 pub count_below : (n : ℕ) → is_count n ≡ true → n < 2 ^ 64
 count_below n h = grind (arith, nat_tests)
 
--- ---- a normal form is Empty, or a quantifier may stand behind it
+-- ---- a normal form is Empty, or a quantifier may follow it
 
 abbrev Good : Tree → Type 0
 Good t = (u : Bool) → is_repeatable (unicode_flags u) t ≡ not (is_empty t)
@@ -49,7 +49,7 @@ good_characters : (i : Bool) (s : Text) → AllGood (map (normal_character i) s)
 good_characters i [] = tt
 good_characters i (c ∷ s) = (λ _. refl, good_characters i s)
 
--- what a Delegate's text reads as is a Delegate
+-- what a Delegate's text is read as is a Delegate
 
 delegate_whole : (s : Text) (t d : Tree) → IsDelegate d → IsDelegate (unwrap_or (whole_of s t) d)
 delegate_whole [] (delegate w i) d h = tt
@@ -99,7 +99,7 @@ mutual
   good_parts (literal s false) n h = good_characters false s
   good_parts t n h = each_solid Good (n ∷ []) (h, tt)
 
--- ---- whether a normal form is Empty hangs on no setting
+-- ---- whether a normal form is Empty does not depend on UNICODE
 
 abbrev mutual
   pub blank : Tree → Bool

@@ -1,4 +1,4 @@
--- What is printed for a printable tree is of scalar values, so its bytes spell it.
+-- What is printed for a printable tree consists of scalar values, so its bytes spell it.
 use Rattle.std.proofs.Common.{◌≡◌, ℕ, ◌^◌, ◌<◌, Bool, true, false, ◌&&◌, ◌==◌, nat_lt, [], ◌∷◌, ◌++◌, Option, codes}
 use Rattle.std.proofs.Common.{decimal, chars, refl, arith}
 use Rattle.std.specs.Prelude.{encode_utf8_all}

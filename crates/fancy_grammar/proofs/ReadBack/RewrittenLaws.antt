@@ -1,4 +1,4 @@
--- A rewritten class is one whole class again, and so is what a class escape is rewritten to.
+-- A rewritten class is one whole class again, and so is what a class escape is rewritten as.
 use Rattle.std.proofs.Common.{◌≡◌, ℕ, Bool, true, false, ◌&&◌, ◌==◌, if◌then◌else◌, [], ◌∷◌, ◌++◌, codes, Some, None}
 use Rattle.std.proofs.Common.{refl, sym, ap, ap₂, ◌∙◌, subst, append_assoc, eqb-true}
 use Rattle.std.proofs.lemmas.Bool.{and_from, and_parts}
@@ -32,21 +32,21 @@ item_chunk b e h = by_joint (b && is_negated e) where
   by_joint true = both_chunk (codes "&&") (escape_text e) amp_chunk (text_chunk e h)
   by_joint false = text_chunk e h
 
--- where the text does not begin with the mark, what is written does not
+-- if the text does not begin with the character k, what is written does not either
 same_front : (k c : ℕ) (t w : Text) → strip k (c ∷ t) ≡ None → strip k (c ∷ w) ≡ None
 same_front k c t w = by_test (c == k) where
   by_test : (x : Bool) → (if x then Some t else None) ≡ None → (if x then Some w else None) ≡ None
   by_test true e = absurd cc
   by_test false e = refl
 
--- what the beginning of a class takes
+-- what the beginning of a class consists of
 data Heads (t : Text) : Text → Text → Type 0 where
   plain_head : strip (code "^") t ≡ None → strip (code "]") t ≡ None → Heads t (code "[" ∷ []) t
   caret_head : (u : Text) → t ≡ code "^" ∷ u → strip (code "]") u ≡ None → Heads t (code "[" ∷ code "^" ∷ []) u
   close_head : (u : Text) → t ≡ code "]" ∷ u → Heads t (code "[" ∷ code "]" ∷ []) u
   both_head : (u : Text) → t ≡ code "^" ∷ code "]" ∷ u → Heads t (code "[" ∷ code "^" ∷ code "]" ∷ []) u
 
--- the head and the rest of a class, by the first characters
+-- the beginning and the rest of a class, by the first characters
 data Opened (t : Text) : Text × Text → Type 0 where
   opened : (head r : Text) → Heads t head r → Opened t (head, r)
 
@@ -95,7 +95,7 @@ record ItemsAgain (t w : Text) : Type 0 where
   no_close : strip (code "]") t ≡ None → (s : Text) → strip (code "]") (w ++ s) ≡ None
   scalars : all_scalars w ≡ true
 
--- what is written for a class: a bracket, and what is a class behind it
+-- what is written for a class: a bracket, and what is a class after it
 pub record ClassAgain (x : Text) : Type 0 where
   pub inner : Text
   pub is : x ≡ code "[" ∷ inner
@@ -163,7 +163,7 @@ nested_again t r w x c h =
       scalars = scalars_append c.inner w c.scalars h.scalars;
     })
 
--- ---- what is left behind a class is of scalar values too
+-- ---- the text after a class has only scalar values too
 
 heads_rest : (t head r : Text) → Heads t head r → all_scalars t ≡ true → all_scalars r ≡ true
 heads_rest t head r (plain_head a b) k = k

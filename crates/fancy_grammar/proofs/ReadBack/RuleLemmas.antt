@@ -1,4 +1,4 @@
--- What the grammar's rules read, under flags with which no blank is layout. Nothing else speaks of the rules.
+-- What the grammar's rules read, under flags with which no blank is layout. Nothing else here uses the rules.
 use Rattle.std.proofs.Common.{◌≡◌, ℕ, ◌+◌, ◌<◌, ◌≤◌, suc, Bool, true, false, not, ◌&&◌, ◌==◌, nat_le, nat_lt, List, []}
 use Rattle.std.proofs.Common.{◌∷◌, ◌++◌, Option, Some, None, is_none, refl, sym, ap, ap₂, ◌∙◌, subst, arith}
 use Rattle.std.proofs.Common.{append_assoc, append-nil, le-leb, if◌then◌else◌}
@@ -48,7 +48,7 @@ use Rattle.fancy_grammar.proofs.ReadBack.CountTexts.{IsQuantifier, lazy}
 abbrev pub st : Flags → Text → State
 st f s = record { flags = f; rest = s }
 
--- no blank is layout, and no quantifier is swapped
+-- no blank is layout, greed is not swapped, and the mode is not that of Oniguruma
 pub record Kept (f : Flags) : Type 0 where
   pub no_space : f.ignore_space ≡ false
   pub not_swapped : f.swap_greed ≡ false
@@ -60,7 +60,7 @@ kept_unicode u = record { no_space = refl; not_swapped = refl; not_oniguruma = r
 pub kept_case : (u i : Bool) → Kept (case_flags u i)
 kept_case u i = record { no_space = refl; not_swapped = refl; not_oniguruma = refl }
 
--- ---- trees that hold groups without a name, and no reference
+-- ---- trees that have groups without a name, and no reference
 
 abbrev pub OnlyGroups : List Item → Type 0
 OnlyGroups [] = Unit {0}
@@ -82,12 +82,12 @@ all_groups : (l : List Tree) → EachHasGroups l → OnlyGroups (items_all (tree
 all_groups [] h = tt
 all_groups (t ∷ l) h = groups_append (items t) (items_all (trees_of l)) h.0 (all_groups l h.1)
 
--- a raw tree of that kind that resolves to x, whatever stands around it
+-- a raw tree of that kind that resolves to x, whatever is around it
 pub record Becomes (r x : Tree) : Type 0 where
   pub is : (n : ℕ) (numbers_of : Text → List ℕ) (c : ℕ) → resolved_in n false numbers_of c r ≡ x
   pub groups : OnlyGroups (items r)
 
--- each of the trees becomes the one at its place
+-- each of the trees becomes the one at its index
 abbrev pub EachBecomes : List Tree → List Tree → Type 0
 EachBecomes l m = AllZip Becomes l m
 
@@ -165,7 +165,7 @@ solid_becomes (r ∷ l) (x ∷ m) h =
     solid_both (is_empty r) (is_empty x) r x (solid l) (solid m) (same_empty h.0) h.0 (solid_becomes l m h.1)
 solid_becomes _ _ h = absurd h
 
--- ---- what the text from s to v reads as: a tree that becomes x
+-- ---- what the text from s to v is read as: a tree that becomes x
 
 pub record AtomAs (d : ℕ) (f : Flags) (s v : Text) (x : Tree) : Type 0 where
   pub tree : Tree
@@ -187,7 +187,7 @@ pub record BranchesAs (d : ℕ) (f : Flags) (s v : Text) (ys : List Tree) : Type
   pub derives : Branches d (st f s) (done trees (st f v))
   pub become : EachBecomes trees ys
 
--- the pieces from s to v, whatever pieces follow; without the Empties they are these
+-- the pieces from s to v, whatever pieces follow; without the Empties, these are the trees
 pub record Run (d : ℕ) (f : Flags) (s v : Text) (ys : List Tree) : Type 0 where
   pub trees : List Tree
   pub pieces : (q : Outcome (List Tree)) → Pieces d (st f v) q → Pieces d (st f s) (trees_before trees q)
@@ -262,7 +262,7 @@ greed : (f : Flags) (lazy greedy : Bool) → f.swap_greed ≡ false → not lazy
     quantified.is_greedy f lazy ≡ greedy
 greed f lazy greedy e h = cond-false _ _ _ e ∙ h
 
--- the tree under a quantifier without the possessive mark
+-- the tree under a quantifier without the possessive operator
 quantified_as : (f : Flags) (a : Tree) (c : Counts) (b greedy : Bool) → Kept f → not b ≡ greedy →
     quantified.quantified f c (record { lazy = b; possessive = false }) a ≡ repeat a c.low c.high greedy
 quantified_as f a c b greedy k h =
@@ -273,7 +273,7 @@ same_if : {A : Type 0} (b : Bool) (x : A) → (if b then x else x) ≡ x
 same_if true x = refl
 same_if false x = refl
 
--- no possessive mark follows
+-- no possessive operator follows
 no_possessive : (f : Flags) (c : Counts) (b : Bool) (s v : Text) → Clear v →
     behind_lazy (st f s) c b v ≡ done (record { lazy = b; possessive = false }) (st f v)
 no_possessive f c b s v k = rw (clear_plus v k) (same_if (may_be_possessive f c) _)
@@ -366,7 +366,7 @@ unfolding ahead
 head_at d f t k l o = cond-false _ _ _ (not_deep d l)
     ∙ ap (behind_layout (st f (code "(" ∷ t))) (skip_here f t k o)
 
--- no head
+-- a parenthesis without a group kind after it
 head_group : (f : Flags) (s t : Text) → Clear t → group_ahead (st f s) t ≡ with_head (capture None) (st f t)
 head_group f s t c = rw (clear_lazy t c, clear_star t c) refl
 
@@ -383,7 +383,7 @@ reads_group d f s v x k l c w = record {
   becomes = record { is = λ n u c. ap tree.group (w.becomes.is n u (c + 1)); groups = (refl, w.becomes.groups) };
 }
 
--- a group of flags, whose letters begin with one that begins no other head
+-- a group of flags, whose letters do not begin as another group kind does
 pub scope_at : (d : ℕ) (f g : Flags) (t u : Text) → Kept f → d + 1 < max_depth →
     after_comment_head (code "?" ∷ t) ≡ None →
     behind_question (st f (code "(" ∷ code "?" ∷ t)) t ≡ flags_ahead (letters f t) →
@@ -396,7 +396,7 @@ pub reads_scope : (d : ℕ) (f g : Flags) (s t v : Text) (x : Tree) → ahead d 
 reads_scope d f g s t v x e w =
     record { tree = w.tree; derives = atom e (a_group (inside w.derives)); becomes = w.becomes }
 
--- with more than k letters to spare
+-- with more than k letters left to read
 abbrev pub Spelled : Text → ℕ → Bool → Flags → Text → Letters → Text → Type 0
 Spelled t k c f u l w = (j : ℕ) → k < j → letters_in t j c f u ≡ gives l w
 
@@ -513,7 +513,7 @@ reads_char d f c v (Some x) e =
     ∙ ap (λ b. read (done (literal (c ∷ []) b) (st f v))) (sym (and-false f.casei)))
     (record { is = λ n u c. refl; groups = tt })
 
--- ---- faults
+-- ---- errors
 
 -- a group that is too deep
 pub fails_deep : (d : ℕ) (f : Flags) (t : Text) → max_depth ≤ d + 1 →

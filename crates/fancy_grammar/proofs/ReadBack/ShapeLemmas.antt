@@ -16,7 +16,7 @@ use Rattle.fancy_grammar.proofs.ReadBack.RuleLemmas.{AtomAs}
 use Rattle.fancy_grammar.proofs.ReadBack.LeafLemmas.{Begins, begins_char, begins_any, begins_assertion, quotes_clear}
 use Rattle.fancy_grammar.proofs.ReadBack.LeafLemmas.{HasText}
 
--- a Delegate's text in front of anything reads as its normal form
+-- a Delegate's text is read before any text as its normal form
 pub record DelegateText (s : Text) : Type 0 where
   pub reads : (d : ℕ) (u i : Bool) (v : Text) →
       AtomAs d (case_flags u i) (s ++ v) v (normal u (delegate s i))
@@ -60,14 +60,14 @@ atom_of empty n l = absurd (false≢true n)
 atom_of (define_group t) n l = absurd (false≢true n)
 atom_of _ n l = tt
 
--- a head that opens no comment
+-- a question mark and a character that open no comment
 pub begins_head : (x : ℕ) (s : Text) → (x == code "#") ≡ false → Begins (code "(" ∷ code "?" ∷ x ∷ s)
 begins_head x s e = record { clear = record { no_comment = rw e refl; no_mark = refl }; goes = refl }
 
 pub begins_group : (s : Text) → Clear s → Begins (code "(" ∷ s)
 begins_group s c = record { clear = record { no_comment = not_asking s (clear_lazy s c); no_mark = refl }; goes = refl }
 
--- what a quantifier is put behind begins an atom
+-- the operand of a quantifier begins an atom
 pub begins_repeated : (t : Tree) → is_repeatable (unicode_flags false) (normal false t) ≡ true →
     (IsAtom t → (w : Text) → Begins (put t OPERAND w)) → (v : Text) → Begins (put_repeated t v)
 begins_repeated t n h v = by_length (is_long t) refl where

@@ -1,5 +1,5 @@
--- What is printed for a printable tree reads as its normal form, or is refused where it nests too deep: the text has no
--- other answer.
+-- What is printed for a printable tree is read as its normal form, or is an error if it nests too deep; the text has no
+-- other result.
 use Rattle.std.proofs.Common.{◌≡◌, ℕ, Bool, true, false, nat_lt, List, [], ◌∷◌, length}
 use Rattle.std.proofs.Common.{filter_map, map, Option, Some, None, refl, sym, ap, ap₂, ◌∙◌, subst, arith}
 use Rattle.std.specs.Prelude.{fold, chars, encode_utf8_all}
@@ -37,7 +37,7 @@ use Rattle.fancy_grammar.proofs.ReadBack.RuleLemmas.{OnlyGroups, Becomes}
 use Rattle.fancy_grammar.proofs.ReadBack.TooDeep.{deep_fails}
 use Rattle.fancy_grammar.proofs.ReadBack.OverLemmas.{place, over_place, none_too_deep}
 
--- ---- the marks
+-- ---- the group information
 
 no_meanings : (l : List Item) → OnlyGroups l → (named : Bool) (numbers_of : Text → List ℕ) (c : ℕ) →
     meanings_in named numbers_of c l ≡ []
@@ -60,9 +60,9 @@ marks_are u text r h =
     let none = no_meanings (items r) h false (numbers_in (unicode_flags u) r) 0 in
     λ i. marks_from text false n (unnamed i) (none i)
 
--- ---- the answer
+-- ---- the result
 
--- a text that derives a tree with groups alone
+-- a text that derives a tree whose only items are groups
 tree_of : (u : Bool) (text : Text) (r x : Tree) → DerivesTree (unicode_flags u) text r → Becomes r x →
     IsTreeOf (unicode_flags u) text x (marks_of_groups (length (groups x)))
 tree_of u text r x d b =
@@ -103,7 +103,7 @@ only_answer t p u h = by_nest (nat_lt (nest t p) max_depth) refl
 pub read_back_only : (t : Tree) (p : ℕ) → printable t ≡ true → IsReadBack t p (printed t p)
 read_back_only t p h = record { plain = only_answer t p false h; unicode = only_answer t p true h }
 
--- the same of the bytes
+-- the same for the bytes
 pub bytes_read_back : (t : Tree) (p : ℕ) → printable t ≡ true → IsReadBack t p (chars (encode_utf8_all (printed t p)))
 bytes_read_back t p h = subst (IsReadBack t p) (sym (printed_spelled t p h)) (read_back_only t p h)
 
@@ -118,7 +118,7 @@ unfolding tree_read
 from_read None x y m e = sym (ap tree_read e)
 from_read (Some q) x y m e = absurd cc
 
--- what was printed as the same text has the same normal form
+-- trees that are printed as the same text have the same normal form
 pub same_texts : (t s : Tree) (p q : ℕ) (u : Bool) → printable t ≡ true → printable s ≡ true →
     too_deep t p ≡ None → printed t p ≡ printed s q → normal u t ≡ normal u s
 same_texts t s p q u h k l e =

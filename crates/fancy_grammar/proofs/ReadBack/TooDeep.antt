@@ -1,4 +1,4 @@
--- What is printed too deep is refused at the first group that is too deep.
+-- What is printed too deep is an error at the first group that is too deep.
 use Rattle.std.proofs.Common.{◌≡◌, ℕ, zero, suc, ◌+◌, ◌<◌, ◌≤◌, Bool, true, false, nat_lt, nat_le, if◌then◌else◌, []}
 use Rattle.std.proofs.Common.{◌∷◌, ◌++◌, refl, sym, ap, ◌∙◌, subst, arith, lt-ltb, leb-true, leb-false}
 use Rattle.std.proofs.lemmas.Bool.{cond_both}
@@ -33,7 +33,7 @@ use Rattle.fancy_grammar.proofs.ReadBack.RuleLemmas.{fails_first, fails_more, fa
 use Rattle.fancy_grammar.proofs.ReadBack.ShapeLemmas.{Printable, ArePrintable, begins_head, begins_group, begins_atom}
 use Rattle.fancy_grammar.proofs.ReadBack.ShapeLemmas.{begins_repeated, clear_put, clear_puts}
 
--- the text that is left there
+-- the text from the group that is too deep on
 abbrev left_open : ℕ → Text → Text → Text
 left_open d here inner = if nat_le most_open d then here else inner
 
@@ -63,7 +63,7 @@ abbrev mutual
 abbrev repeated_left : Tree → ℕ → Text → Text
 repeated_left t d v = left_if (is_long t) d (put t OPERAND) (left t OPERAND) v
 
--- What k prints in front of v, with m groups nested, fails where o leaves.
+-- What k prints before v, with m groups nested, fails at the text that o gives.
 abbrev AtomFails : Bool → ℕ → Text → Text → Type 0
 AtomFails u d s at = Atom d (st (unicode_flags u) s) (fault recursion_exceeded (reach_of at))
 
@@ -119,7 +119,7 @@ by_atom u k m o s a =
     let r = atom_run u k m o s a in
     record { atom = a; high = r; run = r; branch = r; whole = to_whole u k m o r }
 
--- with no group
+-- without a group
 by_none : (u : Bool) (k : Text → Text) (o : ℕ → Text → Text) → FailsBy u k k k k 0 0 0 0 o o o o
 by_none u k o =
     record {
@@ -130,14 +130,14 @@ by_none u k o =
       whole = λ d v l h e. absurd (omega arith);
     }
 
--- one group, that holds none
+-- one group that contains no other
 by_one : (u : Bool) (k : Text → Text) → ((v : Text) → (t : Text) × (k v ≡ code "(" ∷ t)) → Starts k →
     FailsBy u k k k k 1 1 1 1 (λ d v. k v) (λ d v. k v) (λ d v. k v) (λ d v. k v)
 by_one u k h s =
     by_atom u k 1 (λ d v. k v) s
     (λ d v l m. subst (λ w. AtomFails u d w w) (sym (h v).1) (fails_deep d (unicode_flags u) (h v).0 m))
 
--- a group with something inside, that opens at here
+-- a group that opens at `here` and contains something
 opened : (u : Bool) (d : ℕ) (t inner : Text) → (d + 1 < max_depth → AtomFails u d (code "(" ∷ t) inner) →
     d < max_depth →
     AtomFails u d (code "(" ∷ t) (left_open d (code "(" ∷ t) inner)
@@ -252,13 +252,13 @@ alt_fails u (more_trees t (more_trees x xs)) r q d v l m e =
     (r.0.branch d (code "|" ∷ rest) b (stops_bar rest))
     (alt_fails u (more_trees x xs) r.1 q.1 d v l (omega arith) e))
 
--- what is put in a group of its own where that is asked
+-- what is put in a group of its own if asked for
 fails_if : (u b : Bool) (k : Text → Text) (m : ℕ) (o : ℕ → Text → Text) → FailsAtom u k m o → FailsWhole u k m o →
     FailsAtom u (λ v. open_if b (k (close_if b v))) (one_if b + m) (λ d v. left_if b d k o v)
 fails_if u true k m o a w = wrap_fails u k m o w
 fails_if u false k m o a w = λ d v l h. a d v l (omega arith)
 
--- what a quantifier is put behind
+-- the operand of a quantifier
 repeated_fails : (u : Bool) (t : Tree) → Fails u t →
     FailsAtom u (put_repeated t) (one_if (is_long t) + nest t OPERAND) (repeated_left t)
 repeated_fails u t q =
@@ -402,7 +402,7 @@ at_level t p u h w =
     (fails_text (unicode_flags u) s recursion_exceeded (place t p 0) _
     (w 0 [] (omega arith) (omega arith) ends_nothing) at)
 
--- where too many groups nest, the text fails at the first parenthesis that opens too deep
+-- if too many groups nest, the text fails at the first parenthesis that opens too deep
 pub deep_fails : (t : Tree) (p : ℕ) (u : Bool) → Printable t → max_depth ≤ nest t p →
     Faults (unicode_flags u) (printed t p) recursion_exceeded (place t p 0)
 deep_fails t zero u h m = at_level t WHOLE u m (fails u t h).whole

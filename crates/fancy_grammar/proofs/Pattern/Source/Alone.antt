@@ -1,4 +1,4 @@
--- A Delegate has a source where a class or an escape is read as it.
+-- A Delegate has a source if a class or an escape is read as it.
 use Rattle.std.proofs.Common.{◌≡◌, Bool, true, false, not, ◌&&◌, [], ◌∷◌, ◌++◌, sym, ap, ◌∙◌, subst}
 use Rattle.std.proofs.Math.Bool.{and-false}
 use Rattle.std.proofs.lemmas.Bool.{cond-false, or_parts}
@@ -25,7 +25,7 @@ class_follows : (f : Flags) (t s v : Text) → class f t ≡ gives s [] → clas
 class_follows f t s v e =
     let (a, h) = subst (OuterClass f t) e (class_reads f t) in class_complete f (t ++ v) _ (class_frame h v)
 
--- ---- what a Delegate needs
+-- ---- what a Delegate requires
 
 not_hex : (x y : Bool) (s : Text) → bytes_eq s hex_class ≡ false → (x && not y && bytes_eq s hex_class) ≡ false
 not_hex x y s e = ap (λ z. x && not y && z) e ∙ and-false (x && not y)
@@ -35,7 +35,7 @@ not_negated : (x y : Bool) (s : Text) → bytes_eq s negated_hex_class ≡ false
 not_negated x y s e = ap (λ z. x && not y && z) e ∙ and-false (x && not y)
 
 module _ (s : Text) (h : is_hex_class s ≡ false) where
-  -- no hex class is written as its source
+  -- the text is the source, and no hex class
   source_is : (f : Flags) (casei : Bool) → delegate_text f casei s ≡ source f.unicode s
   source_is f casei =
       let (a, b) = or_parts (bytes_eq s hex_class) _ h in
@@ -46,7 +46,7 @@ module _ (s : Text) (h : is_hex_class s ≡ false) where
   same_case f false e =
       sym (ap (λ g. g.casei) e) ∙ ap (λ (n : Needs). fixed_or f.casei n.casei) (cond-false _ _ _ h)
 
-  -- a class whose source is read alone as it
+  -- a class whose source, by itself, is read as the class
   pub class_source : (f : Flags) (t : Text) (casei : Bool) → source f.unicode s ≡ open_bracket ∷ t →
       ((g : Flags) → IsLike f g → class g t ≡ gives s []) → HasSource f s casei
   class_source f t casei e c g like none =
@@ -54,7 +54,7 @@ module _ (s : Text) (h : is_hex_class s ≡ false) where
       subst (IsSource g s casei) (sym text)
       (a_class (same_case g casei none) (λ v. class_follows g t s v (c g like)))
 
-  -- an escape that reads as it, as it stands
+  -- an escape that is read as the Delegate, and is its own source
   pub escape_source : (f : Flags) (t : Text) (casei : Bool) → source f.unicode s ≡ backslash ∷ t →
       ((g : Flags) → IsLike f g → (v : Text) → escape g false (t ++ v) ≡ gives (leaves.delegate s g.casei) v) →
       HasSource f s casei

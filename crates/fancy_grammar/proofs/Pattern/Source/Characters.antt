@@ -1,4 +1,4 @@
--- Characters and escapes that a class writes as they stand, and characters that are not seen.
+-- Characters and escapes that a class writes unchanged, and invisible characters.
 use Rattle.std.proofs.Common.{◌≡◌, None, ℕ, Bool, true, false, [], ◌∷◌, codes, refl, ◌/◌, ◌%◌, nat_lt, arith}
 use Rattle.std.proofs.lemmas.Bool.{cond_both}
 use Rattle.std.proofs.lemmas.Bool.Decides.{nat_tests}
@@ -15,7 +15,7 @@ use Rattle.fancy_grammar.specs.PatternLetters.{is_unseen, letter_of, by_letter_o
 use Rattle.fancy_grammar.proofs.ReadBack.ClearLemmas.{apart, Each, no_more, also, each_among}
 use Rattle.fancy_grammar.proofs.Pattern.Characters.{EscapesIn, escapes_letter, reads_small, reads_large, unseen_small}
 
--- ---- characters that are seen
+-- ---- visible characters
 
 pub no_letter : (c : ℕ) → is_unseen c ≡ false → letter_of c ≡ None
 no_letter c h =
@@ -30,9 +30,9 @@ no_letter c h =
       is_not (code "\u{1b}") refl,
     ) refl
 
--- ---- escapes in a class that are written as they stand
+-- ---- escapes in a class that are written unchanged
 
--- no row of what is replaced begins with it, and the class writes it as it is
+-- no row of the replaced texts begins with it, and the class writes it unchanged
 pub record IsKeptEscape (c : ℕ) : Type 0 where
   pub no_row : c ∈ "pPxt" ≡ false
   pub reads : (f : Flags) (v : Text) → (e : Escape) × (escape f true (c ∷ v) ≡ gives e v)
@@ -74,13 +74,13 @@ kept_escapes =
 pub kept_escape : (c : ℕ) → c ∈ "dDsSwW\\.+*?()|[]{}^$#&-~" ≡ true → IsKeptEscape c
 kept_escape c h = each_among IsKeptEscape (codes "dDsSwW\\.+*?()|[]{}^$#&-~") c kept_escapes h
 
--- ---- characters that are not seen, in a class
+-- ---- invisible characters, in a class
 
--- no mark, and none that stands behind a backslash
+-- no metacharacter, and none that follows a backslash
 pub unseen_plain : (c : ℕ) → is_unseen c ≡ true → (needs_backslash_in_class c ≡ false) × (c ∈ "\\[]^" ≡ false)
 unseen_plain c h = (grind (arith, nat_tests), grind (arith, nat_tests))
 
--- an escape that the class reads as the character, and writes as itself
+-- an escape that the class reads as the character, and writes as the character itself
 pub record IsUnseenEscape (c : ℕ) (t : Text) : Type 0 where
   pub behind : Text
   pub is : t ≡ backslash ∷ behind

@@ -19,7 +19,7 @@ use Rattle.fancy_grammar.proofs.Pattern.Source.Escapes.{escape_in, char_no_caret
 
 -- ---- what begins a class
 
--- what begins the text of a class, what is written for it, and what is left
+-- the beginning of a class, what is written for it, and the rest
 data HeadOf : Text → Text → Text → Type 0 where
   bare : {t : Text} → strip (code "^") t ≡ None → strip (code "]") t ≡ None → HeadOf t (codes "[") t
   negated : {u : Text} → strip (code "]") u ≡ None → HeadOf (code "^" ∷ u) (codes "[^") u
@@ -68,7 +68,7 @@ open_both : (t : Text) → ◌≡◌ {A = Text × Text} (class_head [] (codes "^
 unfolding class_head
 open_both t = refl
 
--- ---- what the text of items begins with
+-- ---- how the text of items begins
 
 plain_not : (c : ℕ) → is_plain_in_class c ≡ true → c ∈ "\\[]" ≡ false
 plain_not c h = not-true (c ∈ "\\[]") h
@@ -87,11 +87,11 @@ none_test m c t e = at (c == m) e
     at true e = absurd cc
     at false e = refl
 
--- no negated set of the rows is among an empty source
+-- no negated set of the rows is in an empty source
 none_below : (b : Bool) → IsBelow false b
 none_below b e = absurd cc
 
--- a class in front of a text
+-- a class before a text
 head_property : (t head u x w z : Text) → HeadOf t head u → NoProperty (((head ++ x) ++ w) ++ z)
 head_property t _ _ x w z (bare n m) = record { space = refl; control = refl }
 head_property _ _ u x w z (negated n) = record { space = refl; control = refl }
@@ -178,7 +178,7 @@ items_joined (nested {w} (class_items {t} {u} {head} {w = x} e h) k) seen z =
 
 -- ---- the induction
 
--- what was written for a class has a source behind its bracket that is read as it
+-- what was written for a class has, after its bracket, a source that is read as the class
 pub record ClassSource (u σ : Bool) (x : Text) (m : Bool) : Type 0 where
   pub tail : Text
   pub after : Bool
@@ -186,7 +186,7 @@ pub record ClassSource (u σ : Bool) (x : Text) (m : Bool) : Type 0 where
   pub below : IsBelow after m
   pub reads : (g : Flags) → g.unicode ≡ u → (r : Text) → Class g σ (tail ++ r) (written x after r)
 
--- the same of items through the closing bracket, which were read of t
+-- the same for items up to the closing bracket, which were read from t
 record ItemsSource (u σ : Bool) (t w : Text) (a : Bool) : Type 0 where
   source : Text
   after : Bool

@@ -1,4 +1,4 @@
--- What a class writes for an escape is read as itself.
+-- What a class writes for an escape is read as what the class wrote.
 use Rattle.std.proofs.Common.{◌≡◌, ℕ, ◌+◌, ◌<◌, ◌≤◌, ◌/◌, ◌%◌, Bool, true, false, not, ◌&&◌, ◌==◌, nat_le}
 use Rattle.std.proofs.Common.{[], ◌∷◌, ◌++◌, codes, Option, Some, None, option_map, refl, ap, ◌∙◌, sym, subst, arith}
 use Rattle.std.proofs.lemmas.Bool.{cond_both}

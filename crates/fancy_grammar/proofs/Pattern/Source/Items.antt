@@ -1,4 +1,4 @@
--- What a class writes for a property, by the rows of the table too, is read as itself.
+-- What a class writes for a property, also by the rows of the table, is read as itself.
 use Rattle.std.proofs.Common.{◌≡◌, ℕ, Bool, true, false, ◌&&◌, ◌||◌, ◌==◌, [], ◌∷◌, ◌++◌, codes, None}
 use Rattle.std.proofs.Common.{refl, ap, ◌∙◌, sym, subst, append_assoc}
 use Prim.Native.Char.{code}
@@ -18,14 +18,14 @@ use Rattle.fancy_grammar.proofs.Pattern.Source.Names.{negated_letter, property_w
 
 -- ---- an item of a class
 
--- what the text of an item begins with, where b says whether a negated set was written before it
+-- how the text of an item begins; b says whether a negated set was written before it
 pub record Front (b : Bool) (x : Text) : Type 0 where
   pub property : (z : Text) → NoProperty (x ++ z)
   pub set : b ≡ true → (z : Text) → NoSet (x ++ z)
   pub joined : b ≡ true → (z : Text) → NoJoined (x ++ z)
   pub no_caret : (z : Text) → strip (code "^") (x ++ z) ≡ None
 
--- its source is no mark of the head of a class
+-- its source cannot be read as part of the beginning of a class
 pub record Opens (s : Text) : Type 0 where
   pub no_caret : (v : Text) → strip (code "^") (s ++ v) ≡ None
   pub no_close : (v : Text) → strip (code "]") (s ++ v) ≡ None
@@ -43,7 +43,7 @@ pub record InClass (u b σ n : Bool) (x : Text) : Type 0 where
 abbrev pub InText : Bool → Bool → Bool → Text → Type 0
 InText u b σ t = InClass u b σ (is_negated_set t) (joint (b && is_negated_set t) ++ t)
 
--- no negated set of the rows is among the source before it where none was written
+-- the source before it has a negated set of the rows only if one was written
 abbrev pub IsBelow : Bool → Bool → Type 0
 IsBelow σ b = σ ≡ true → b ≡ true
 
@@ -66,7 +66,7 @@ unjoined u b σ t h i = subst (InClass u b σ (is_negated_set t)) (sym (none b))
     none true = ap (λ n. joint n ++ t) h
     none false = refl
 
--- ---- what a text begins with
+-- ---- how a text begins
 
 pub front_escape : (b : Bool) (d : ℕ) (r : Text) → (d == code "p") ≡ false → Front b (backslash ∷ d ∷ r)
 front_escape b d r h = record {
@@ -110,7 +110,7 @@ front_char b c r h k l m = record {
   no_caret = λ z. rw m refl;
 }
 
--- a negated set, behind `&&` where one was written
+-- a negated set, after `&&` if one was written before
 pub front_set : (b n : Bool) (r : Text) → ((z : Text) → NoProperty (r ++ z)) →
     Front b (joint (b && n) ++ (codes "[^" ++ r))
 front_set true true r h = record {

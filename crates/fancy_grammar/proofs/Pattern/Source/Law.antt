@@ -1,4 +1,4 @@
--- Each Delegate that a reader gives has a source: the law of all escapes and all classes.
+-- Each Delegate that a reader gives has a source: the law for all escapes and all classes.
 use Rattle.std.proofs.Common.{◌≡◌, ℕ, ◌+◌, Bool, true, false, not, ◌&&◌, ◌==◌, nat_le, [], ◌∷◌, ◌++◌, codes}
 use Rattle.std.proofs.Common.{Option, Some, None, option_map, refl, ap, ◌∙◌, sym, subst, append_assoc, append-nil}
 use Rattle.std.proofs.Common.{⊎_elim, rules}
@@ -48,14 +48,14 @@ use Rattle.fancy_grammar.proofs.Pattern.Source.Classes.{ClassSource, class_sourc
 use Rattle.fancy_grammar.proofs.Pattern.Source.Alone.{class_source, escape_source}
 use Rattle.fancy_grammar.proofs.Pattern.Source.Names.{negated_letter, property_written}
 
--- ---- one part alone
+-- ---- a single part
 
 -- a text that is one part has its source
 alone : (u τ : Bool) (x s : Text) → Reads u false τ x s → source u x ≡ s
 alone u τ x s r =
     ap (source u) (sym (append-nil x)) ∙ (r.is [] ∙ (ap (λ z. s ++ z) (source_ends u τ) ∙ append-nil s))
 
--- the same where UNICODE is said to be so
+-- the same, if UNICODE is known
 alone_under : (f : Flags) (u τ : Bool) (x s : Text) → f.unicode ≡ u → Reads u false τ x s → source f.unicode x ≡ s
 alone_under f u τ x s same r = ap (λ b. source b x) same ∙ alone u τ x s r
 
@@ -108,7 +108,7 @@ negated_hex_escape : (f : Flags) (v : Text) →
 unfolding escape_at lone_escape
 negated_hex_escape f v = refl
 
--- as classes, where the case flag is as it is kept
+-- as classes, if the case flag is as required
 hex_as_class : (g : Flags) (casei : Bool) → g.casei ≡ casei → IsSource g hex_class casei (source g.unicode hex_class)
 hex_as_class g casei e =
     let w = codes "0-9A-Fa-f" in
@@ -126,7 +126,7 @@ negated_hex_as_class g casei e =
     (sym (alone g.unicode false negated_hex_class negated_hex_class (negated_read g.unicode false w w i)))
     (a_class e (λ v. negated_is_read g.unicode w w i g refl v))
 
--- whether the flag is on where the case is kept, as the text asks for it
+-- whether the flag is on while the case is kept, as the text tests it
 kept_on : (b : Bool) → ((b && true) && true) ≡ b
 kept_on b = and-true (b && true) ∙ and-true b
 
@@ -160,7 +160,7 @@ negated_hex_has_source f false g like none =
 
 -- ---- classes
 
--- a class, as it is written
+-- a class, in its own text
 pub class_has_source : (f g : Flags) (t v s : Text) → f.unicode ≡ g.unicode → class g t ≡ gives s v → (casei : Bool) →
     HasSource f s casei
 class_has_source f g t v s same e casei =
@@ -337,7 +337,7 @@ property_has_source f u negated (braced w) casei same h =
 
 -- ---- escapes
 
--- read under g, where UNICODE is as under f
+-- read under g, which has UNICODE exactly if f has it
 module _ (f g : Flags) (same : f.unicode ≡ g.unicode) where
   -- a Delegate has a source
   abbrev Told : Escape → Type 0
@@ -439,15 +439,15 @@ escape_has_source f g t v s casei same e = subst (ToldOf f g same) e (escape_tol
 
 -- ---- the law
 
--- A Delegate as a reader gives it, under flags that have UNICODE where these have it: an escape outside a class, or a
--- class, which has the case flag that holds.
+-- A Delegate that a reader gives, under flags that agree with these on UNICODE: an escape outside a class, or a class,
+-- which has the case flag that holds.
 pub data IsReadDelegate (f : Flags) (s : Text) (casei : Bool) : Type 0 where
   by_escape : (g : Flags) (t v : Text) → f.unicode ≡ g.unicode → escape g false t ≡ gives (leaves.delegate s casei) v →
       IsReadDelegate f s casei
   by_class : (g : Flags) (t v : Text) → f.unicode ≡ g.unicode → g.casei ≡ casei → class g t ≡ gives s v →
       IsReadDelegate f s casei
 
--- each has a source
+-- each of these has a source
 pub sources_read : (f : Flags) (s : Text) (casei : Bool) → IsReadDelegate f s casei → HasSource f s casei
 sources_read f s casei (by_escape g t v same e) = escape_has_source f g t v s casei same e
 sources_read f s casei (by_class g t v same case e) = class_has_source f g t v s same e casei

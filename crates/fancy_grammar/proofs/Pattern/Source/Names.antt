@@ -21,7 +21,7 @@ use Rattle.fancy_grammar.proofs.Pattern.Source.Parts.{Reads, single_read}
 
 -- ---- how a property is written
 
--- the letter behind the backslash
+-- the letter after the backslash
 abbrev pub negated_letter : Bool → ℕ
 negated_letter negated = if negated then code "P" else code "p"
 
@@ -45,7 +45,7 @@ pub record IsRowless (w : Text) : Type 0 where
   pub lower : lowercase w ≡ w
   pub other : (u : Bool) → form u (look_up w) w ≡ pair (property_written false w) (property_written true w)
 
--- what is read of a name between braces, where UNICODE holds or does not
+-- what a name in braces is read as, with UNICODE or without
 pub named_reads : (g : Flags) (u inside negated : Bool) (w v : Text) → g.unicode ≡ u → HasNoBrace w →
     escape g inside (negated_letter negated ∷ code "{" ∷ (w ++ code "}" ∷ v))
     ≡ gives (leaves.delegate (property_text u inside (prop negated (braced w))) g.casei) v
@@ -56,7 +56,7 @@ named_reads g u inside false w v like h =
     braced_small g inside w v h
     ∙ ap (λ b. gives (leaves.delegate (property_text b inside (prop false (braced w))) g.casei) v) like
 
--- the text that is written for such a name is its own
+-- what is written for such a name is the name itself
 rowless_text : (u inside negated : Bool) (w : Text) → IsRowless w →
     braced_text u inside (negated, w) ≡ property_written negated w
 rowless_text u inside negated w h =
@@ -69,7 +69,7 @@ rowless_text u inside negated w h =
     by_sign true = refl
     by_sign false = refl
 
--- the source of a property behind its backslash, where this stands behind a caret at the front of its name
+-- the source of a property after its backslash; the option is the rest of its name after a caret, if it begins with one
 abbrev pub named_behind : Bool → Option Text → Text → Text
 named_behind negated (Some t) w =
     negated_letter (not negated) ∷ code "{" ∷ ((code "^" ∷ code "^" ∷ t) ++ codes "}")

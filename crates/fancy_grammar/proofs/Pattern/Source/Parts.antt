@@ -1,4 +1,4 @@
--- Parts of the text of a class: their sources, and that these are read as them.
+-- Parts of the text of a class, and their sources, which are read as these parts.
 use Rattle.std.proofs.Common.{◌≡◌, ℕ, Bool, true, false, not, ◌&&◌, ◌||◌, ◌==◌, [], ◌∷◌, ◌++◌, codes, None}
 use Rattle.std.proofs.Common.{refl, ap, ◌∙◌, sym, subst, append_assoc}
 use Rattle.std.proofs.lemmas.Bool.{cond-false, or_parts, and_parts, not-true, false≢true}
@@ -21,8 +21,8 @@ use Rattle.fancy_grammar.proofs.Pattern.Source.Steps.{char_on, close_on, open_on
 use Rattle.fancy_grammar.proofs.Pattern.Source.Steps.{by_escape, char_source_is}
 use Rattle.fancy_grammar.proofs.Pattern.Source.Characters.{no_letter, unseen_plain, kept_escape}
 
--- a part of the text of a class, where σ says whether a negated set of the rows is among the source before it, and τ
--- whether it is behind it: its source stands before that of what follows, and is read as it
+-- a part of the text of a class; σ and τ say whether the source before it, and the source with it, has a negated set of
+-- the rows: its source comes before that of what follows, and is read as the part
 pub record Reads (u σ τ : Bool) (text source : Text) : Type 0 where
   pub is : (z : Text) → source_from u σ 0 (text ++ z) ≡ source ++ source_from u τ 0 z
   pub reads : (g : Flags) → g.unicode ≡ u → (v r w : Text) (a : Bool) → ClassItems g τ v (written w a r) →
@@ -50,7 +50,7 @@ escape_item g σ τ t v r w a e x q is n k =
     subst (λ z. ClassItems g σ (backslash ∷ t) (written (z ++ w) a r)) is
     (escaped q (subst (λ b. ClassItems g b v (written w a r)) (sym n) k))
 
--- one that is no negated set
+-- an escape that is no negated set
 pub alone : (σ : Bool) (e : Escape) → is_negated e ≡ false → escape_in_class σ e ≡ escape_text e
 alone true e h = ap (λ b. joint b ++ escape_text e) h
 alone false e h = refl
@@ -77,7 +77,7 @@ char_read u σ c h k = record {
   reads = λ g like v r w a m. char_items g σ c v r w a h m;
 }
 
--- a character that is seen, and no `&`
+-- a visible character that is no `&`
 abbrev pub is_shown : ℕ → Bool
 is_shown c = not (c ∈ "\\[]") && (not (c == code "&") && not (is_unseen c))
 
@@ -98,7 +98,7 @@ word_read u σ (c ∷ w) h =
 
 -- ---- escapes
 
--- an escape whose source is read as it
+-- an escape whose source is read as the escape
 pub escape_read : (u σ τ : Bool) (x d : Text) →
     ((z : Text) → source_from u σ 0 (x ++ z) ≡ backslash ∷ (d ++ source_from u τ 0 z)) →
     ((g : Flags) → g.unicode ≡ u → (v : Text) → (e : Escape) × (escape g true (d ++ v) ≡ gives e v)
@@ -141,7 +141,7 @@ kept_read u σ c h =
 
 -- ---- sets
 
--- items of a set, before whose source a bracket is the head of a class
+-- the items of a set; a bracket before their source opens a class
 pub record SetItems (u σ : Bool) (items source : Text) : Type 0 where
   pub read : Reads u σ σ items source
   pub no_property : (z : Text) → NoProperty (items ++ z)
@@ -187,7 +187,7 @@ module _ (u σ : Bool) (items source : Text) (i : SetItems u σ items source) wh
         (nested (class_items (open_caret _ (i.no_close (code "]" ∷ v))) (closed_items g like v)) k);
   }
 
-  -- behind `&&` or not
+  -- after `&&` or not
   pub joined_read : (n : Bool) →
       Reads u σ σ (joint n ++ (codes "[^" ++ (items ++ codes "]"))) (joint n ++ (codes "[^" ++ (source ++ codes "]")))
   joined_read false = negated_read

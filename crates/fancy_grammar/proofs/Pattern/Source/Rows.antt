@@ -1,4 +1,4 @@
--- The rows of the table of names: what a class writes for each is read as itself.
+-- The rows of the table of property names: what a class writes for each is read as itself.
 use Rattle.std.proofs.Common.{◌≡◌, ℕ, Bool, true, false, not, ◌&&◌, ◌||◌, ◌==◌, [], ◌∷◌, ◌++◌, codes}
 use Rattle.std.proofs.Common.{refl, ap, ◌∙◌, sym, subst, append_assoc, if◌then◌else◌, arith}
 use Rattle.std.proofs.lemmas.Bool.{cond_both, and_parts, not-true}
@@ -156,7 +156,7 @@ joint_read u = record {
   reads = λ g like v r w a k. plain refl (plain refl k);
 }
 
--- a row: the text of the set behind its caret, and its name
+-- a row: the text of the set after its caret, and its name
 pub record IsRow (t name : Text) : Type 0 where
   free : HasNoBrace name
   text : property_text true true (prop false (braced name)) ≡ codes "[^" ++ t
@@ -243,7 +243,7 @@ print = record { free = free_of (codes "print") refl; text = refl; negated = ref
     at true z = source_goes_on true true (code "&") (codes "&[^\\p{C}\\t\\n\\v\\f\\r]" ++ z)
     at false z = source_goes_on true false (code "[") (codes "^\\p{C}\\t\\n\\v\\f\\r]" ++ z)
 
--- and what these are turned
+-- and the inverses of these
 pub turned_graph : (σ : Bool) → Reads true σ σ (codes "[\\p{White_Space}\\p{C}]") (codes "\\P{graph}")
 unfolding property_text
 turned_graph σ =
@@ -275,7 +275,7 @@ turned_in b σ c r source below h n k =
 
 -- ---- the table
 
--- P is so of the pairs of the table
+-- P holds for the pairs of the table
 pair_in : (u b σ negated : Bool) (x y : Text) → InText u b σ x → InText u b σ y →
     InText u b σ (form_text true negated (pair x y))
 pair_in u b σ true x y h k = k
@@ -347,7 +347,7 @@ module _ (b σ negated : Bool) (l : Text) (below : IsBelow σ b) (free : HasNoBr
 
 -- ---- properties
 
--- a name that the reader gives: one character that opens no brace, or one that no brace closes
+-- a name that the reader gives: one character that opens no brace, or a name without a closing brace
 abbrev pub IsFree : PropertyName → Type 0
 IsFree (single c) = (c == code "{") ≡ false
 IsFree (braced w) = HasNoBrace w

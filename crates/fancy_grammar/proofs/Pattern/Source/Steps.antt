@@ -1,4 +1,4 @@
--- The source of a text step by step: where no row of what is replaced begins.
+-- The source of a text step by step, where no row of the replaced texts begins.
 use Rattle.std.proofs.Common.{◌≡◌, ℕ, Bool, true, false, ◌||◌, ◌==◌, [], ◌∷◌, ◌++◌, codes, Option, Some, None}
 use Rattle.std.proofs.Common.{refl, ap, ◌∙◌, sym, subst, if◌then◌else◌, eqb-true}
 use Rattle.std.proofs.lemmas.Bool.{cond_both}
@@ -17,7 +17,7 @@ use Rattle.fancy_grammar.proofs.Pattern.Source.Characters.{no_letter, unseen_esc
 
 -- ---- words that are not at the front
 
--- a word is not at the front where its front is not
+-- a word is not at the front if its own front is not
 longer : (w v t : Text) → strip_word w t ≡ None → strip_word (w ++ v) t ≡ None
 longer [] v t h = absurd (nothing h)
   where
@@ -37,12 +37,12 @@ pub record NoProperty (t : Text) : Type 0 where
   pub space : strip_word (codes "\\p{W") t ≡ None
   pub control : strip_word (codes "\\p{C") t ≡ None
 
--- nor with a negated set of such
+-- nor with a negated set of such a property
 pub record NoSet (t : Text) : Type 0 where
   pub space : strip_word (codes "[^\\p{W") t ≡ None
   pub control : strip_word (codes "[^\\p{C") t ≡ None
 
--- nor with one behind an `&`
+-- nor with one after an `&`
 pub record NoJoined (t : Text) : Type 0 where
   pub space : strip_word (codes "&[^\\p{W") t ≡ None
   pub control : strip_word (codes "&[^\\p{C") t ≡ None
@@ -118,7 +118,7 @@ single_is : (c : ℕ) (t : Text) → (c == code "\\") ≡ false → single_part 
 single_is c [] h = refl
 single_is c (d ∷ t) h = rw h refl
 
--- a character that stands for itself in a class; no negated set of the rows stands behind two `&`
+-- a character that denotes itself in a class; no negated set of the rows comes after two `&`
 pub char_on : (u σ : Bool) (c : ℕ) (t : Text) → c ∈ "\\[]" ≡ false →
     ((c == code "&") ≡ true → σ ≡ true → NoJoined t) →
     source_from u σ 0 (c ∷ t) ≡ char_source c ++ source_from u σ 0 t
@@ -144,7 +144,7 @@ caret_on : (u σ : Bool) (t : Text) → source_from u σ 0 (code "^" ∷ t) ≡ 
 caret_on u σ t = single_on u σ (code "^") t (codes "^") t (plain_none u σ (code "^") t refl refl refl)
     (single_is (code "^") t refl)
 
--- what begins a class
+-- the opening bracket of a class
 pub open_on : (u σ : Bool) (t : Text) → NoProperty t → strip (code "^") t ≡ None →
     source_from u σ 0 (code "[" ∷ t) ≡ code "[" ∷ source_from u σ 0 t
 open_on u σ t h k = single_on u σ (code "[") t (codes "[") t (bracket_none u σ t h k) (single_is (code "[") t refl)
@@ -158,7 +158,7 @@ open_caret_on u σ t h =
 
 -- ---- the source of a character
 
--- it is the character, or an escape of one that is not seen
+-- it is the character, or an escape for an invisible one
 pub data CharSource (c : ℕ) : Text → Type 0 where
   itself : CharSource c (c ∷ [])
   by_escape : {behind : Text} → is_unseen c ≡ true → ((f : Flags) → (casei : Bool) × EscapesIn true f casei c behind) →
