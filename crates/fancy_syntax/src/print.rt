@@ -83,7 +83,7 @@ impl Expr {
             IsOk result }
         ensures nothing_to_print { printed (view self.now) precedence ≡ [] → IsOk result }
     {
-        // No string has room for the greatest word, for which a longer text is counted.
+        // No string has the capacity `usize::MAX`, which is the count for any longer text.
         buf.reserve(tree_len(self, precedence))?;
         put_tree(buf, self, precedence);
         Ok(())

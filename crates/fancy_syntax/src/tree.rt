@@ -106,7 +106,7 @@ impl Expr {
 
     /// Parses the pattern as `parse_tree_with_flags` does, with the same tree and the same errors, and also returns the
     /// span of each node of the tree, in preorder. A quantified node starts where its operand does and ends after the
-    /// quantifier. A group that has no node, as `(?:a)`, is in the span of its parent alone.
+    /// quantifier. A group that has no node, such as `(?:a)`, is only in the span of its parent.
     ///
     /// ```rust
     /// let (tree, spans) = Expr::parse_tree_with_spans(alloc, "(a|b)c*", FLAG_UNICODE)?;
@@ -163,7 +163,7 @@ impl Expr {
     }
 }
 
-/// Reads the pattern: its tree, or its fault with the reach of that.
+/// Reads the pattern: its tree, or its error with a reach.
 #[inline]
 fn read<S: Spanning>(
     alloc: Global,
@@ -182,7 +182,7 @@ fn read<S: Spanning>(
     resolve(alloc, raw, re, flags)
 }
 
-/// Reads the pattern: its tree with the spans of its nodes, or its fault with the reach of that.
+/// Reads the pattern: its tree with the spans of its nodes, or its error with a reach.
 fn read_with_spans(
     alloc: Global,
     re: &str,
