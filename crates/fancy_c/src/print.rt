@@ -27,7 +27,7 @@ fn text_of(alloc: Global, tree: &Expr, precedence: u8) -> Result<Option<String>,
     tree.print(alloc, precedence)
 }
 
-/// Writes the tree's text at the front of the buffer, if it has one and that fits.
+/// Writes the tree's text at the front of the buffer, if it has one and it fits.
 fn print(alloc: Global, tree: &Expr, precedence: u8, buffer: &mut [u8]) -> Answer
     ensures read { result.status ≡ STATUS_OK → (w : List ℕ) × IsText (view tree.now) precedence w
         × (result.size ≡ length w) × Fills buffer.old buffer.new w }

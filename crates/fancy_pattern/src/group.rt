@@ -11,7 +11,7 @@ use crate::sink::{Sink, put_ascii};
 use fancy_syntax::expr::LookAround;
 use std::alloc::AllocError;
 
-/// Opens a group with this opening, and enters it.
+/// Writes the opening of a group, and enters the group.
 pub(crate) fn open<S: Sink>(out: &mut S, head: &str, here: &mut Here) -> Result<(), AllocError>
     requires { list_all (λ b. nat_lt b 128) head.now ≡ true }
     ensures { OnOk result (Added S.holds out.old out.new (codes "(" ++ head.now)

@@ -204,7 +204,7 @@ fn join_both_needs(one: &mut Needs, other: &Needs)
 /// What a tree needs.
 #[derive(Clone, Copy)]
 pub(crate) struct TreeNeeds {
-    /// For each flag, the need of the first leaf in it that is not free.
+    /// For each flag, the first need of its leaves that is not free.
     pub(crate) first: Needs,
     /// What all leaves in it need in common.
     pub(crate) common: Needs,
@@ -223,8 +223,8 @@ impl TreeNeeds {
     }
 }
 
-/// Adds the needs of each node of the tree, in preorder: for each flag, the need of the first leaf in it that is not
-/// free. Returns what the tree needs.
+/// Adds the needs of each node of the tree, in preorder: for each flag, the first need of its leaves that is not free.
+/// Returns what the tree needs.
 pub(crate) fn push_needs(
     list: &mut Vec<Needs>,
     tree: &Expr,

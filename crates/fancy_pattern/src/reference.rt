@@ -230,7 +230,7 @@ fn has(text: &str, mark: char) -> bool
     split_at(text, mark).is_some()
 }
 
-/// Writes a call by name as a group.
+/// Writes a call by name in the form of a group.
 #[tactic(auto, using(crate::proofs::SinkLemmas::added_steps))]
 fn put_grouped_call<S: Sink>(out: &mut S, name: &str) -> Result<(), AllocError>
     ensures { OnOk result (Added S.holds out.old out.new (codes "(?P>" ++ (chars name.now ++ codes ")"))) }

@@ -331,7 +331,7 @@ reading_piece {d} {r} cs qs h e a i j = record {
 abbrev pub joined : List Tree → Tree
 joined = one_or concat
 
--- the open branch, of these pieces, ends at t
+-- the open branch, with these pieces, ends at t
 abbrev pub branch_closed : List Tree → State → Log → Log
 branch_closed ps t l = branch_ended (length ps) (reach_of t.rest) l
 

@@ -26,7 +26,7 @@ pub use Rattle.fancy_grammar.specs.Answered
 -- ---- the positions of the nodes
 pub use Rattle.fancy_grammar.specs.Spans
 pub mod SpanViews
--- ---- printing, and what a printed text reads as
+-- ---- printing, and what a printed text is read as
 pub use Rattle.fancy_grammar.specs.Printed
 pub use Rattle.fancy_grammar.specs.HasDelegate
 pub use Rattle.fancy_grammar.specs.Normal

@@ -25,8 +25,8 @@ module _ (R C : RattleType) (Seen : Type 0) (show : R.Denot → Seen) (see : C.D
       LendsSo R (box.the_row C global.the_row ghosts) e r
       (λ n w. OnSome r (show n ≡ with_child (show e.now) i (see w.value))) (λ n. show n ≡ show e.now)
 
-  -- n has the list w in the position of the list that r borrows: if one element of it was written, n is e with that
-  -- child; if none was, n is e
+  -- n has the list w instead of the list that r borrows: if one element of it was written, n is e with that child; if
+  -- none was, n is e
   abbrev pub Rewrites : R.Denot → Option (MutBor (Vec C.Denot Global)) → R.Denot → Vec C.Denot Global → Type 0
   Rewrites e (Some v) n w =
       ((i : ℕ) (c : C.Denot) → w ≡ with_item v.now i c → show n ≡ with_child (show e) i (see c))

@@ -60,7 +60,7 @@ pub(crate) fn parse<S: Spanning>(
     }
 }
 
-/// Reads branches with bars between, up to where the outermost ends.
+/// Reads branches with bars between them, up to the end of the outermost.
 fn alternation<'a, S: Spanning>(
     alloc: Global,
     start: State<'a>,

@@ -1,4 +1,4 @@
-//! The lines that say what a pattern reads as. Each ends with LF.
+//! The lines that show what a pattern is read as. Each ends with LF.
 use crate::names::{absent_name, assertion_name, look_around_name, node_name, verb_name};
 use fancy_lex::escape::Assertion;
 use fancy_lex::name::CaptureGroupTarget;

@@ -52,7 +52,7 @@ impl<'a> Frame<'a> {
     ghost use Rattle.fancy_syntax.specs.Machine.{part_of, opened_by_bar, branches_at_bar, is_second, IsFaultOfBar};
     ghost use Rattle.fancy_grammar.specs.Errors.{IsErrorAmong};
 
-    /// A group in which nothing is read yet, above that many trees, under these flags.
+    /// A group in which nothing has been read yet, above `height` trees, under these flags.
     pub(crate) fn new(opener: Opener<'a>, height: usize, flags: Flags) -> Frame<'a>
         ensures opener { result.opener ≡ opener.entry }
         ensures branches { result.branches ≡ height }

@@ -5,9 +5,9 @@
 pub(crate) struct Noted {
     pub(crate) start: usize,
     pub(crate) end: usize,
-    /// It is a capturing group without a name.
+    /// Whether it is a capturing group without a name.
     pub(crate) unnamed: bool,
-    /// It is an Alt, whose first bar this is.
+    /// The first bar, if it is an Alt.
     pub(crate) bar: Option<FirstBar>,
 }
 

@@ -35,7 +35,7 @@ use std::mem;
 pub(crate) struct Parser<'a> {
     /// The position of the loop.
     pub(crate) here: State<'a>,
-    /// The innermost group that is open.
+    /// The innermost open group.
     pub(crate) frame: Frame<'a>,
     /// The groups around it, the innermost last. It has capacity for all groups that can be open at once in the text.
     pub(crate) stack: Vec<Frame<'a>>,
@@ -50,7 +50,7 @@ pub(crate) struct Parser<'a> {
 const TREES: usize = 12;
 
 impl<'a> Parser<'a> {
-    /// Nothing is read yet.
+    /// A parser that has read nothing yet.
     #[inline(always)]
     pub(crate) fn new(alloc: Global, start: State<'a>) -> Result<Parser<'a>, AllocError>
         ensures here { IfOk result (λ r. r.here ≡ start.entry) }

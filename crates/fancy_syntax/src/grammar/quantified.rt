@@ -137,7 +137,7 @@ fn quantify_once<S: Spanning>(
     repeat(alloc, tree, counts, here, left, spans)
 }
 
-/// Puts the tree under a quantifier of these counts, and reads what follows them.
+/// Puts the tree under a quantifier with these counts, and reads what follows them.
 ///
 /// TargetNotRepeatable at the operator or the closing brace, if the tree takes no quantifier.
 #[inline(always)]

@@ -28,7 +28,7 @@ pub(crate) struct Spans {
 }
 
 impl Spans {
-    /// Nothing is read yet of a text that begins at the reach.
+    /// The spans before anything is read of a text that begins at the reach.
     pub(crate) fn new(alloc: Global, start: usize) -> Spans
         ensures { log_of result ≡ spec.started start }
     {

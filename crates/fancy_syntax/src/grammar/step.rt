@@ -37,7 +37,7 @@ use std::alloc::{AllocError, Global};
 pub(crate) enum Step<'a> {
     /// A piece, to its end.
     Piece(Expr),
-    /// The opening of a part of a group, up to its inside.
+    /// The opening of a part of a group, up to its contents.
     Open(Opener<'a>),
 }
 

@@ -42,7 +42,7 @@ fn branch_len(asked: bool, len: usize) -> usize
     if asked { len.saturating_add(1) } else { len }
 }
 
-// Only the calls for what holds trees save registers: none of them is inlined into the call for a leaf.
+// Only the calls for nodes that hold trees save registers: none of them is inlined into the call for a leaf.
 
 /// The length of a tree's text.
 #[cycle(count)]

@@ -27,7 +27,8 @@ fn put_if(buf: &mut String, asked: bool, text: &str)
     }
 }
 
-// Only the calls for what is rare or holds trees save registers: none of them is inlined into the call for a leaf.
+// Only the calls for rare nodes and for nodes that hold trees save registers: none of them is inlined into the call for
+// a leaf.
 
 /// Writes a text that does not depend on what a tree holds.
 #[inline(never)]

@@ -21,7 +21,7 @@ use std::mem;
 pub(super) struct Known<'a> {
     /// The pattern.
     pub(super) pattern: &'a str,
-    /// Groups without a name have no number.
+    /// Whether groups without a name have no number.
     pub(super) named: bool,
     /// The groups that have a number.
     pub(super) groups: Groups,
@@ -36,11 +36,11 @@ pub(super) struct Progress {
     pub(super) backrefs: BTreeSet<usize>,
     /// The first of the other numbers.
     pub(super) out_of_range: Option<usize>,
-    /// Some reference is written as a number.
+    /// Whether some reference is written as a number.
     pub(super) numeric: bool,
-    /// Some call is written.
+    /// Whether some call is written.
     pub(super) calls: bool,
-    /// Some call by the number 0 is written.
+    /// Whether some call by the number 0 is written.
     pub(super) self_recursive: bool,
     /// The error at which the walk stopped, or out of memory.
     pub(super) error: Option<Failure>,
