@@ -135,7 +135,7 @@ fn leaf_needs(tree: &Expr, oniguruma_mode: bool) -> Needs
     }
 }
 
-/// The first need, or if it is free the other, which follows it.
+/// The first of the two needs that is not free.
 fn first(one: Need, other: Need) -> Need
     ensures { result ≡ spec.first one other }
 {
@@ -145,7 +145,7 @@ fn first(one: Need, other: Need) -> Need
     }
 }
 
-/// Adds the other need, which follows the first.
+/// Adds the other need, which follows: the first of the two that is not free.
 #[inline(always)]
 #[tactic(auto, using(crate::proofs::NeedsWalk::first_free))]
 fn join_first(one: &mut Need, other: Need)
@@ -167,7 +167,7 @@ fn join_first_needs(one: &mut Needs, other: &Needs)
     join_first(&mut one.crlf, other.crlf);
 }
 
-/// What both need in common.
+/// What both need together.
 fn both(one: Need, other: Need) -> Need
     ensures { result ≡ spec.both one other }
 {
@@ -179,7 +179,7 @@ fn both(one: Need, other: Need) -> Need
     }
 }
 
-/// Adds the other need to what both need in common.
+/// Adds the other need: what both need together.
 #[inline(always)]
 #[tactic(auto, using(crate::proofs::NeedsWalk::both_free))]
 fn join_both(one: &mut Need, other: Need)
@@ -206,7 +206,7 @@ fn join_both_needs(one: &mut Needs, other: &Needs)
 pub(crate) struct TreeNeeds {
     /// For each flag, the first need of its leaves that is not free.
     pub(crate) first: Needs,
-    /// What all leaves in it need in common.
+    /// What all leaves in it need together.
     pub(crate) common: Needs,
 }
 

@@ -11,7 +11,7 @@ use std::alloc::AllocError;
 
 /// An output that takes a text, piece by piece.
 pub(crate) trait Sink {
-    /// what was written is this text
+    /// What was written is this text.
     ghost holds: { Self → Text → Type 0 };
 
     /// Writes a character.

@@ -71,7 +71,7 @@ impl Expr {
     }
 }
 
-/// Whether the positions are equal, or need not be.
+/// Whether the positions are equal, if they are compared; else true.
 fn is_same_place(place: usize, other: usize, with_places: bool) -> bool
     ensures { result ≡ nat_eq (place_if with_places place) (place_if with_places other) }
 {

@@ -6,7 +6,7 @@ use crate::grammar::group::head::Head;
 pub(crate) enum Ahead<'a> {
     /// No atom: the piece is Empty and takes no character.
     Nothing,
-    /// An atom without branches, which is read whole.
+    /// An atom without branches, which has been read.
     Read(Expr),
     /// A group that holds one alternation.
     Group(Head<'a>),

@@ -99,7 +99,7 @@ impl<'a> Parser<'a> {
         Ok(true)
     }
 
-    /// Reads a piece, or the opening of a group. An error is the error of the text.
+    /// Reads a piece, or the opening of a group. A returned error is the error of the text.
     #[inline(always)]
     pub(crate) fn step<S: Spanning>(&mut self, alloc: Global, spans: &mut S) -> Result<(), Failure>
         requires room { IsRoomy self.old }
@@ -119,7 +119,7 @@ impl<'a> Parser<'a> {
         Ok(self.take(step, spans)?)
     }
 
-    /// Ends the open branch at the bar at the current position, before `rest`. An error is the error of the text.
+    /// Ends the open branch at the bar at the front, which `rest` follows. A returned error is the error of the text.
     #[inline(always)]
     pub(crate) fn bar<S: Spanning>(
         &mut self,
@@ -145,7 +145,7 @@ impl<'a> Parser<'a> {
     }
 
     /// Ends the innermost group if neither a piece nor a bar follows. Returns the tree of the text if no group is
-    /// around it. An error is the error of the text.
+    /// around it. A returned error is the error of the text.
     #[inline(always)]
     pub(crate) fn close<S: Spanning>(
         &mut self,

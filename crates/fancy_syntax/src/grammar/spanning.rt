@@ -11,7 +11,7 @@ use std::alloc::AllocError;
 /// What is done with the reaches that the parser passes. If no spans are recorded, nothing is done, and calls are
 /// compiled without it.
 pub(crate) trait Spanning: Drop {
-    /// the log that is recorded, if anything is
+    /// The log that is recorded, if anything is.
     ghost notes: { Self → Log → Type 0 };
 
     /// A leaf is there, and becomes the last piece.

@@ -41,7 +41,7 @@ pub(crate) enum Step<'a> {
     Open(Opener<'a>),
 }
 
-/// Reads a piece, or the opening of a group. An error is the error of the piece.
+/// Reads a piece, or the opening of a group. A returned error is the error of the piece.
 pub(crate) fn read_step<'a, S: Spanning>(
     alloc: Global,
     here: &mut State<'a>,
@@ -123,7 +123,8 @@ fn piece<'a, S: Spanning>(
 }
 
 /// Ends the open part if no branch follows: a piece, or the part that comes next. The piece began under the flags,
-/// where that many bytes were left; a quantifier after it is read under them. An error is the error of the piece.
+/// where `left` bytes were left; a quantifier after it is read under them. A returned error is the error of the
+/// piece.
 pub(crate) fn close<'a, S: Spanning>(
     alloc: Global,
     opener: Opener<'a>,
