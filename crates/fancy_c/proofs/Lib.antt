@@ -2,7 +2,7 @@
 mod ReadLemmas
 mod TextLemmas
 mod NodeLemmas
--- ---- a tree and its marks in the buffers
+-- ---- a tree and its group information in the buffers
 mod RowLemmas
 mod MarkLemmas
 mod NodesLemmas

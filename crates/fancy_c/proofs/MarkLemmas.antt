@@ -12,7 +12,7 @@ use Rattle.fancy_c.specs.Marks.{rows_of_name, name_rows, name_texts}
 use Rattle.fancy_c.specs.declared.marks.Name.{Name}
 use Rattle.fancy_c.proofs.RowLemmas.{put_more, put_length}
 
--- ---- one row of a name more
+-- ---- one more row of a name
 
 pub number_put : (names : List Name) (first o n : ℕ) (ks : List ℕ) (i : ℕ) → first + length ks ≤ length names →
     i < length ks
@@ -51,14 +51,14 @@ names_length o p ((w, ks) ∷ l) =
     let right = length-append (rows_of_name p n ks) (name_rows (p + n) l) in
     omega (arith, left, right, rows_of_name_length o n ks, rows_of_name_length p n ks, names_length (o + n) (p + n) l)
 
--- a count that comes to that of all behind the first, with that of the rest behind it
+-- a count that, with the rest added, is the first count with all names added
 pub record CountingNames (n₀ o₀ n o : ℕ) (all rest : List (Text × List ℕ)) : Type 0 where
   pub rows : in_word (n + length (name_rows 0 rest)) ≡ in_word (n₀ + length (name_rows 0 all))
   pub text : in_word (o + length (name_texts rest)) ≡ in_word (o₀ + length (name_texts all))
   pub rows_fit : in_word n ≡ n
   pub text_fits : in_word o ≡ o
 
--- a writing that is on its way
+-- a writing in progress
 pub record PuttingNames (names₀ names : List Name) (bytes₀ bytes : List ℕ) (n₀ o₀ n o : ℕ)
     (all rest : List (Text × List ℕ)) : Type 0 where
   pub names_room : n + length (name_rows o rest) ≤ length names
@@ -66,7 +66,7 @@ pub record PuttingNames (names₀ names : List Name) (bytes₀ bytes : List ℕ)
   pub names_is : put_at names n (name_rows o rest) ≡ put_at names₀ n₀ (name_rows o₀ all)
   pub bytes_is : put_at bytes o (name_texts rest) ≡ put_at bytes₀ o₀ (name_texts all)
 
--- numbers on their way into a buffer
+-- numbers that are being written into a buffer
 pub record PuttingNumbers (buffer₀ buffer : List ℕ) (i : ℕ) (all rest : List ℕ) : Type 0 where
   pub room : i + length rest ≤ length buffer
   pub is : put_at buffer i rest ≡ put_at buffer₀ 0 all

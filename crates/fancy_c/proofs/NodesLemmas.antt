@@ -1,4 +1,4 @@
--- A tree and its marks in the buffers.
+-- A tree and its group information in the buffers.
 use Rattle.std.proofs.Common.{◌≡◌, ℕ, zero, suc, ◌+◌, ◌≤◌, List, [], ◌∷◌, ◌++◌, length, drop, map, chars, ap, ◌∙◌}
 use Rattle.std.proofs.Common.{subst, length-append, zero-add, arith}
 use Rattle.std.specs.List.{AllByRecursion}

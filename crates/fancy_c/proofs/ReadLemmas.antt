@@ -1,4 +1,4 @@
--- What the library says of a text is said of its bytes.
+-- What the library guarantees for a text holds for its bytes.
 use Rattle.std.proofs.Common.{◌≡◌, ℕ, List, length, chars, subst}
 use Rattle.std.specs.Str.{IsUtf8}
 use Rattle.fancy_lex.specs.Fault.{Kind}

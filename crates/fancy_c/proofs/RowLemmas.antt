@@ -108,7 +108,7 @@ texts_is t = ap texts (listed_is t)
 pub texts_size : (t : Tree) → length (texts (listed t)) ≡ length (carried t) + length (texts (listed_each (children t)))
 texts_size t = ap length (texts_is t) ∙ length-append (carried t) (texts (listed_each (children t)))
 
--- the place behind the text
+-- the position after the text
 pub text_place : (w v : List ℕ) (o p : ℕ) → w ≡ v → p ≡ o + length w → p ≡ o + length v
 text_place w v o p is at = at ∙ ap (λ u. o + length u) is
 
@@ -137,8 +137,7 @@ text_put t bytes bytes' bytes'' o p is room put puts =
     ∙ put_more bytes o p (carried t) (texts (listed_each (children t))) is (omega (arith, room))
     ∙ ap (put_at bytes o) (sym (texts_is t))
 
--- ---- a writing that is on its way: the rows of `all` stand behind n₀ and o₀ when those of `left` are put behind n and
--- o
+-- ---- a writing in progress: the rows of `all` follow n₀ and o₀ once those of `left` follow n and o
 pub record Putting (at : SpanAt) (nodes₀ nodes : List Node) (bytes₀ bytes : List ℕ) (n₀ o₀ n o : ℕ)
     (all left : List Tree) : Type 0
   where
@@ -231,9 +230,9 @@ putting_room {n = n} {o = o} xs rest is p =
     let text_size = ap (λ l. length (texts l)) is ∙ texts_length xs rest in
     (omega (arith, p.nodes_room, size), omega (arith, p.bytes_room, text_size))
 
--- ---- a count that is on its way
+-- ---- a count in progress
 
--- with the counts of `left` behind it, a count comes to that of `all` behind the first
+-- a count that, with the rows of `left` added, is the first count with those of `all` added
 pub record CountingRows (n₀ o₀ n o : ℕ) (all left : List Tree) : Type 0 where
   pub nodes : in_word (n + length left) ≡ in_word (n₀ + length all)
   pub text : in_word (o + length (texts left)) ≡ in_word (o₀ + length (texts all))

@@ -1,4 +1,4 @@
--- What a caller in C is told of the bytes of a pattern.
+-- What a call from C returns for the bytes of a pattern.
 use Rattle.std.specs.Prelude.{◌≡◌, ℕ, ◌+◌, ◌⊎◌, List, length, chars}
 use Rattle.std.specs.Str.{IsUtf8, IsCharBoundary}
 use Rattle.std.specs.Str.Lossy.{utf8_valid_len}
@@ -48,8 +48,8 @@ number_of_kind target_not_repeatable = ERROR_TARGET_NOT_REPEATABLE
 number_of_kind invalid_group_name = ERROR_INVALID_GROUP_NAME
 number_of_kind (invalid_group_name_backref s) = ERROR_INVALID_GROUP_NAME_BACKREF
 
--- the bytes are the UTF-8 of a pattern that has this tree with these marks, and no other and no fault; of n bytes it
--- has at most 2 n + 1 nodes and 832 levels; and the marks are those of its nodes
+-- The bytes are the UTF-8 of a pattern that has this tree with this group information, no other tree and no error. A
+-- pattern of n bytes has at most 2 n + 1 nodes and 832 levels. The group information is that of its nodes.
 pub record IsTreeOfBytes (f : Flags) (bytes : List ℕ) (t : Tree) (m : Marks) : Type 0 where
   pub utf8 : IsUtf8 bytes
   pub tree : IsTreeOf f (chars bytes) t m
@@ -58,8 +58,8 @@ pub record IsTreeOfBytes (f : Flags) (bytes : List ℕ) (t : Tree) (m : Marks) :
   pub small : IsSmall t (length bytes)
   pub answered : IsAnsweredWith t m
 
--- the bytes are the UTF-8 of a pattern that has this fault, and no other and no tree; its place is one past the end, or
--- one at which the pattern may be cut
+-- The bytes are the UTF-8 of a pattern that has this error, no other error and no tree. Its position is one past the
+-- end, or one at which the pattern may be split.
 pub record IsFaultOfBytes (f : Flags) (bytes : List ℕ) (k : Kind) (place : ℕ) : Type 0 where
   pub utf8 : IsUtf8 bytes
   pub fault : IsFaultOf f (chars bytes) k place
@@ -67,23 +67,23 @@ pub record IsFaultOfBytes (f : Flags) (bytes : List ℕ) (k : Kind) (place : ℕ
   pub no_tree : (t : Tree) (m : Marks) → IsTreeOf f (chars bytes) t m → ⊥
   pub placed : (place ≡ length bytes + 1) ⊎ IsCharBoundary bytes place
 
--- the bytes are no UTF-8, and the place is the length of the longest front that is
+-- the bytes are not UTF-8, and the position is the length of the longest prefix that is
 abbrev pub IsNoUtf8 : List ℕ → ℕ → Type 0
 IsNoUtf8 bytes place = (¬ IsUtf8 bytes) × (place ≡ utf8_valid_len bytes)
 
--- the refusal is that of the bytes, or memory was refused
+-- the refusal is that of the bytes, or memory ran out
 abbrev pub IsRefusalOf : Refusal → Flags → List ℕ → Type 0
 IsRefusalOf (NoUtf8 place) f bytes = IsNoUtf8 bytes place
 IsRefusalOf (Fault (ParseError place kind)) f bytes = IsFaultOfBytes f bytes (kind_of kind) place
 IsRefusalOf (Fault OutOfMemory) f bytes = Unit {0}
 
--- the answer tells the kind and the place, and how many bytes the kind's words have
+-- the answer has the kind and the position, and the number of bytes of the kind's message
 pub record IsTold (a : Answer) (place : ℕ) (k : Kind) : Type 0 where
   pub kind : a.kind ≡ number_of_kind k
   pub position : a.position ≡ place
   pub size : a.size ≡ length (kind_text k)
 
--- what is told of a refusal
+-- the answer for a refusal
 abbrev pub answer_of : Refusal → Answer
 answer_of (NoUtf8 p) = record { status = STATUS_NOT_UTF8; kind = ERROR_NONE; position = p; size = 0 }
 answer_of (Fault (ParseError p k)) =

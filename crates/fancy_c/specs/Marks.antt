@@ -1,4 +1,4 @@
--- What is said of a tree beside it, as a caller in C gets it.
+-- The group information of a tree, as a caller in C gets it.
 use Rattle.std.specs.Prelude.{◌≡◌, ℕ, ◌+◌, ◌*◌, ◌≤◌, List, [], ◌∷◌, ◌++◌, chars, length, map, encode_utf8_all}
 use Rattle.std.specs.Option.{unwrap_or, is_some}
 use Rattle.fancy_lex.specs.Text.{Text}
@@ -18,11 +18,11 @@ use Rattle.fancy_c.specs.declared.marks.Name.{Name}
 use Rattle.fancy_c.specs.declared.node.Node.{Node}
 use Rattle.fancy_c.specs.declared.marks.TreeInfo.{TreeInfo}
 
--- the rows of a name that stands at the byte o and has n bytes: one for each of its numbers
+-- the rows of a name that begins at the byte o and has n bytes: one for each of its numbers
 abbrev pub rows_of_name : ℕ → ℕ → List ℕ → List Name
 rows_of_name o n ks = map (λ k. record { text = o; text_size = n; group = k }) ks
 
--- the names, one behind the other
+-- the names, one after the other
 abbrev pub name_texts : List (Text × List ℕ) → List ℕ
 name_texts [] = []
 name_texts ((w, ks) ∷ l) = encode_utf8_all w ++ name_texts l
@@ -33,11 +33,11 @@ name_rows o [] = []
 name_rows o ((w, ks) ∷ l) =
     rows_of_name o (length (encode_utf8_all w)) ks ++ name_rows (o + length (encode_utf8_all w)) l
 
--- the bytes of a tree's texts, and the names of its groups behind them
+-- the bytes of a tree's texts, and after them the names of its groups
 abbrev pub all_texts : Tree → Marks → List ℕ
 all_texts t m = texts (listed t) ++ name_texts m.named_groups
 
--- what is told of a tree and its marks; a count past the greatest word is the greatest
+-- the sizes of a tree and its group information; a count that does not fit in a word is the greatest word
 abbrev pub told : Tree → Marks → TreeInfo
 told t m = record {
   node_count = in_word (length (listed t));
@@ -53,8 +53,8 @@ told t m = record {
   numbered_groups_ignored = m.numbered_groups_ignored;
 }
 
--- the buffers hold a tree, with these spans, and its marks: the rows of its nodes, the texts, the rows of the names,
--- and the back references
+-- the buffers hold a tree, with these spans, and its group information: the rows of its nodes, the texts, the rows of
+-- the names, and the back references
 pub record AreWritten (t : Tree) (m : Marks) (spans : SpanAt) (nodes nodes' : List Node) (bytes bytes' : List ℕ)
     (names names' : List Name) (backrefs backrefs' : List ℕ) : Type 0 where
   pub nodes_are : Fills nodes nodes' (rows spans 0 0 (listed t))
@@ -70,7 +70,7 @@ pub record AreSpansOfBytes (f : Flags) (bytes : List ℕ) (t : Tree) (spans : Li
   pub each : length spans ≡ length (preorder t)
   pub within : (i : ℕ) → ((span_at spans i).start ≤ (span_at spans i).end) × ((span_at spans i).end ≤ length bytes)
 
--- what is told is said of the tree of the bytes, and its nodes are at most 2 n + 1 where there are n bytes
+-- the info is that of the tree of the bytes, and a pattern of n bytes has at most 2 n + 1 nodes
 pub record IsToldOf (info : TreeInfo) (f : Flags) (bytes : List ℕ) (t : Tree) (m : Marks) : Type 0 where
   pub tree : IsTreeOfBytes f bytes t m
   pub is : info ≡ told t m

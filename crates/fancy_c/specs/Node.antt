@@ -21,7 +21,7 @@ use Rattle.fancy_c.specs.declared.node.Node.{Node}
 use Rattle.fancy_c.specs.declared.node.Stand.{Stand}
 use Rattle.fancy_c.specs.declared.node.TheConstants as number
 
--- ---- which one of several
+-- ---- the numbers of the variants of a kind
 
 abbrev pub assertion_number : Assertion → ℕ
 assertion_number is.StartText = number.ASSERTION_START_TEXT
@@ -57,9 +57,9 @@ verb_number verbs.Commit = number.VERB_COMMIT
 verb_number verbs.Skip = number.VERB_SKIP
 verb_number verbs.Prune = number.VERB_PRUNE
 
--- ---- what a node carries
+-- ---- the text of a node
 
--- the name that is called, where it is one
+-- the name that is called; no bytes for a number
 abbrev pub target_name : Target → List ℕ
 target_name (by_name w) = encode_utf8_all w
 target_name _ = []
@@ -74,7 +74,7 @@ carried _ = []
 
 -- ---- the row of a node
 
--- a node of this kind that has no more than its text
+-- a node of this kind that has only its text
 abbrev pub plain : ℕ → Stand → ℕ → Node
 plain k s n = record {
   kind = k;
@@ -105,7 +105,7 @@ condition s n (Some l) =
 abbrev pub with_text : Stand → ℕ → Text → Bool → Node
 with_text s k w casei = record (plain k s (length (encode_utf8_all w))) { casei = casei }
 
--- of a call that was read and not resolved
+-- a call that was read and not resolved
 abbrev pub row_of_call : Stand → Target → ℕ → Node
 row_of_call s (by_number n) p =
     record (plain number.NODE_AST_NODE s 0) { which = number.TARGET_BY_NUMBER; group = n; position = p }
@@ -118,7 +118,7 @@ abbrev pub row_of_read : Stand → AstReference → ℕ → Node
 row_of_read s (ast_call t) p = row_of_call s t p
 row_of_read s _ p = plain number.NODE_AST_NODE s 0
 
--- of an absent form
+-- an absent form
 abbrev pub absent_row : Stand → ℕ → Node
 absent_row s n = record (plain number.NODE_ABSENT s 0) { which = n }
 
@@ -155,8 +155,8 @@ row s (ast_group name place t) = plain number.NODE_AST_NODE s 0
 
 -- ---- the rows of a tree
 
--- The nodes of an answered tree in preorder: each before those that stand in it, in text order. No such tree holds a
--- group that is not resolved, so that one has no case here, as it has in `preorder`.
+-- The nodes of a parsed tree in preorder: each before the nodes in it, in text order. No parsed tree holds a group that
+-- is not resolved, so that kind of node has no case here, as it has in `preorder`.
 abbrev mutual
   pub listed : Tree → List Tree
   listed (leaf l) = leaf l ∷ []
@@ -168,17 +168,17 @@ abbrev mutual
   listed_all no_trees = []
   listed_all (more_trees t ts) = listed t ++ listed_all ts
 
--- their texts, one behind the other
+-- their texts, one after the other
 abbrev pub texts : List Tree → List ℕ
 texts [] = []
 texts (t ∷ ts) = carried t ++ texts ts
 
--- where a text begins that is put at the byte o; 0 where there is none
+-- where a text begins that is put at the byte o; 0 if there is none
 abbrev pub start_of_text : ℕ → List ℕ → ℕ
 start_of_text o [] = 0
 start_of_text o (b ∷ bs) = o
 
--- the span of each node, by its index; all that the rows need of spans
+-- the span of each node, by its index; the rows need no more of the spans
 abbrev pub SpanAt : Type 0
 SpanAt = ℕ → Span
 

@@ -14,7 +14,7 @@ use Rattle.fancy_grammar.specs.Tree.{Tree}
 use Rattle.fancy_c.specs.Answer.{number_of_kind, IsTreeOfBytes}
 use Rattle.fancy_c.specs.declared.answer.TheConstants.{ERROR_NONE, ERROR_INVALID_GROUP_NAME_BACKREF}
 
--- the tree is printable, the bytes w are its text at the precedence, and they read as its normal form
+-- the tree is printable, the bytes w are its text at the precedence, and they are read as its normal form
 pub record IsText (t : Tree) (precedence : ℕ) (w : List ℕ) : Type 0 where
   pub printable_is : printable t ≡ true
   pub is : w ≡ encode_utf8_all (printed t precedence)
@@ -24,7 +24,8 @@ pub record IsText (t : Tree) (precedence : ℕ) (w : List ℕ) : Type 0 where
 abbrev pub IsTextOfBytes : Flags → List ℕ → ℕ → List ℕ → Type 0
 IsTextOfBytes f bytes precedence w = (t : Tree) × (m : Marks) × IsTreeOfBytes f bytes t m × IsText t precedence w
 
--- the bytes w are the text that is written for a tree with its marks, and they read as the tree with the marks
+-- the bytes w are the text that is written for a tree with its group information, and they are read as that tree with
+-- it
 pub record IsPatternText (f : Flags) (t : Tree) (m : Marks) (w : List ℕ) : Type 0 where
   pub is : w ≡ encode_utf8_all (pattern_text f t m)
   pub reads_as : IsReadAs f (chars w) t m
@@ -33,7 +34,7 @@ pub record IsPatternText (f : Flags) (t : Tree) (m : Marks) (w : List ℕ) : Typ
 abbrev pub IsPatternTextOfBytes : Flags → List ℕ → List ℕ → Type 0
 IsPatternTextOfBytes f bytes w = (t : Tree) × (m : Marks) × IsTreeOfBytes f bytes t m × IsPatternText f t m w
 
--- the text that a kind of error carries, which its message ends with; empty where it carries none
+-- the text that a kind of error carries, which its message ends with; empty if it carries none
 abbrev pub carried : Kind → Text
 carried (general_parse_error s) = s
 carried (invalid_escape s) = s

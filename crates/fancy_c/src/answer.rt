@@ -20,7 +20,7 @@ pub const STATUS_NOT_PRINTABLE: u32 = 5;
 /// The pattern is valid, and the text that is written for its tree does not parse back as the tree.
 pub const STATUS_NO_PATTERN: u32 = 6;
 
-// Callers in C compare with these very numbers.
+// Callers in C compare with these numbers.
 const _: () = prove!(STATUS_OK == 0 && STATUS_REFUSED == 1 && STATUS_NOT_UTF8 == 2);
 
 const _: () = prove!(STATUS_OUT_OF_MEMORY == 3 && STATUS_BUFFER_TOO_SHORT == 4);

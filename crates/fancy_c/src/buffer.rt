@@ -1,10 +1,10 @@
-//! Writing into a buffer of the caller's.
+//! Writing into a buffer of the caller.
 ghost use Rattle.std.specs.Prelude.{◌≡◌, ◌≢◌, ◌<◌, ◌⊎◌, length, true, false};
 ghost use Rattle.fancy_c.specs.Buffer.{Fills};
 
 use crate::answer::{Answer, ERROR_NONE, STATUS_BUFFER_TOO_SHORT, STATUS_OK};
 
-/// Writes the text at the buffer's front, where it fits, and answers whether it does.
+/// Writes the text at the front of the buffer if it fits, and returns whether it does.
 pub(crate) fn fill(buffer: &mut [u8], text: &[u8]) -> bool
     ensures filled { result ≡ true → Fills buffer.old buffer.new text.now }
     ensures kept { result ≡ false → buffer.new ≡ buffer.old }
@@ -18,7 +18,7 @@ pub(crate) fn fill(buffer: &mut [u8], text: &[u8]) -> bool
     true
 }
 
-/// Writes the text at the buffer's front, where it fits, and answers what a caller in C is told.
+/// Writes the text at the front of the buffer if it fits, and returns the answer for the caller.
 pub(crate) fn write(buffer: &mut [u8], text: &[u8]) -> Answer
     ensures read { result.status ≡ STATUS_OK → Fills buffer.old buffer.new text.now }
     ensures short { result.status ≡ STATUS_BUFFER_TOO_SHORT → length buffer.old < length text.now }

@@ -1,4 +1,4 @@
-//! The sizes of a tree and the group information beside it, as a caller in C gets them.
+//! The sizes of a tree and its group information, as a caller in C gets them.
 ghost use Rattle.std.specs.Prelude.{◌≡◌, ◌+◌, ◌≤◌, length, map};
 ghost use Rattle.fancy_parts.specs.Groups.{entry_of};
 ghost use Rattle.fancy_parts.specs.Room.{in_word};
@@ -48,7 +48,7 @@ pub struct Name {
     pub group: usize,
 }
 
-/// What the counts come to behind the names, each the greatest word where it is more.
+/// The counts after the names, each `usize::MAX` if it is above that.
 pub(crate) fn count_names(groups: &BTreeMap<String, Vec<usize>>, before: Counts) -> Counts
     ensures rows { result.rows ≡ in_word (before.rows + length (name_rows 0 (map entry_of groups.now.entries))) }
     ensures text { result.text ≡ in_word (before.text + length (name_texts (map entry_of groups.now.entries))) }
@@ -63,7 +63,7 @@ pub(crate) fn count_names(groups: &BTreeMap<String, Vec<usize>>, before: Counts)
     behind
 }
 
-/// Writes the rows of a name that stands at a place, from an index on, and answers the index behind them.
+/// Writes the rows of a name that begins at a byte, from an index on, and returns the index after them.
 fn put_numbers(
     names: &mut [Name],
     first: usize,
@@ -85,7 +85,7 @@ fn put_numbers(
     first + numbers.len()
 }
 
-/// Writes the rows of the names, and the names, behind the counts.
+/// Writes the rows of the names, and the names, after what is counted.
 pub(crate) fn put_names(
     names: &mut [Name],
     bytes: &mut [u8],

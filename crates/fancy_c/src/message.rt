@@ -23,15 +23,15 @@ use crate::read::{Refusal, read};
 use fancy_syntax::error::{Error, ParseError};
 use std::alloc::{AllocError, Global};
 
-/// The words of a kind of fault, with the text that it carries.
+/// The message of a kind of error, with the text that it carries.
 fn words(alloc: Global, kind: &ParseError) -> Result<String, AllocError>
     ensures { IfOk result (λ s. string_bytes s ≡ kind_text (kind_of kind.now)) }
 {
     format!(in alloc; "{kind}")
 }
 
-/// Writes the words of the fault at the front of the buffer, where they fit: the answer is then `STATUS_REFUSED`, and
-/// else `STATUS_BUFFER_TOO_SHORT`.
+/// Writes the message of the error at the front of the buffer if it fits: the status is then `STATUS_REFUSED`, else
+/// `STATUS_BUFFER_TOO_SHORT`.
 fn tell(alloc: Global, place: usize, kind: &ParseError, buffer: &mut [u8]) -> Answer
     ensures told { result.status ≢ STATUS_OUT_OF_MEMORY → IsTold result place (kind_of kind.now) }
     ensures refused { result.status ≡ STATUS_REFUSED → Fills buffer.old buffer.new (kind_text (kind_of kind.now)) }
@@ -141,9 +141,9 @@ fn kind_of_number(alloc: Global, number: u32) -> ParseError
 
 /// Writes the message of a kind of error to the front of `buffer`, without reading a pattern. The messages of
 /// `ERROR_GENERAL_PARSE_ERROR`, `ERROR_INVALID_ESCAPE`, `ERROR_UNKNOWN_FLAG` and `ERROR_INVALID_GROUP_NAME_BACKREF` end
-/// with a text that depends on the pattern: of these it writes what comes before that text. For a number that no kind
-/// has, it writes an empty text. Returns `STATUS_OK` with the size of the text in bytes; `STATUS_BUFFER_TOO_SHORT` with that
-/// size if it does not fit; or `STATUS_OUT_OF_MEMORY`. Unless it returns `STATUS_OK`, nothing is written.
+/// with a text that depends on the pattern; for these it writes what comes before that text. For a number that no kind
+/// has, it writes an empty text. Returns `STATUS_OK` with the size of the text in bytes; `STATUS_BUFFER_TOO_SHORT` with
+/// that size if it does not fit; or `STATUS_OUT_OF_MEMORY`. Unless it returns `STATUS_OK`, nothing is written.
 #[unsafe(no_mangle)]
 pub extern "C" fn fancy_error_text_nonnull(alloc: Global, kind: u32, buffer: &mut [u8]) -> Answer
     ensures read { result.status ≡ STATUS_OK → (w : List ℕ) × IsErrorText kind w × (result.size ≡ length w)

@@ -57,7 +57,7 @@ pub const NODE_DEFINE_GROUP: u32 = 23;
 
 pub const NODE_AST_NODE: u32 = 24;
 
-// Callers in C compare with these very numbers.
+// Callers in C compare with these numbers.
 const _: () = prove!(NODE_EMPTY == 1 && NODE_ANY == 2 && NODE_ASSERTION == 3);
 
 const _: () = prove!(NODE_GENERAL_NEWLINE == 4 && NODE_LITERAL == 5 && NODE_LITERAL_BYTES == 6);
@@ -166,13 +166,13 @@ pub const TARGET_RELATIVE: u32 = 3;
 
 const _: () = prove!(TARGET_BY_NUMBER == 1 && TARGET_BY_NAME == 2 && TARGET_RELATIVE == 3);
 
-/// A node. What its kind does not have is 0 or false.
+/// A node. A field that its kind does not have is 0 or false.
 #[repr(C)]
 #[derive(Clone, Copy)]
 pub struct Node {
     /// `NODE_EMPTY` to `NODE_AST_NODE`.
     pub kind: u32,
-    /// Which assertion, look-around, verb or absent expression it is, or what a call names.
+    /// Which assertion, look-around, verb or absent expression it is, or what a call refers to.
     pub which: u32,
     /// One past the index of its last descendant.
     pub end: usize,
@@ -204,12 +204,12 @@ pub struct Node {
     pub casei: bool,
     /// Whether a repetition is greedy.
     pub greedy: bool,
-    /// Whether a recursion level is given; of a `NODE_BACKREF_AT_LEVEL` always.
+    /// Whether a recursion level is given; always for a `NODE_BACKREF_AT_LEVEL`.
     pub has_level: bool,
 }
 
-/// Where a node stands: the index behind its last descendant, where its text begins, 0 where it has none, and its span
-/// in the pattern.
+/// Where a node is: the index after its last descendant, where its text begins (0 if it has none), and its span in the
+/// pattern.
 #[derive(Clone, Copy)]
 pub(crate) struct Stand {
     pub(crate) end: usize,
@@ -238,7 +238,8 @@ fn assertion_number(assertion: Assertion) -> u32
     }
 }
 
-/// Whether CR is a line terminator too for the assertion, and CR LF a single one; false for an assertion without lines.
+/// Whether CR is a line terminator too for the assertion, and CR LF a single one; false if it does not look for line
+/// terminators.
 fn has_crlf(assertion: Assertion) -> bool
     ensures { result ≡ spec.has_crlf assertion }
 {
@@ -251,7 +252,7 @@ fn has_crlf(assertion: Assertion) -> bool
     }
 }
 
-/// The number of what a look-around asks for.
+/// The number of the look-around's kind.
 fn look_around_number(look_around: LookAround) -> u32
     ensures { result ≡ spec.look_around_number look_around }
 {
@@ -288,7 +289,7 @@ fn absent_number(absent: &Absent) -> u32
     }
 }
 
-/// The name that is called, where it is one.
+/// The name that is called; empty for a number.
 fn target_name(target: &CaptureGroupTarget) -> &[u8]
     ensures { result.now ≡ spec.target_name (view_target target.now) }
 {
@@ -299,7 +300,7 @@ fn target_name(target: &CaptureGroupTarget) -> &[u8]
     }
 }
 
-/// The name that is called, of a node that was read and not resolved.
+/// The name that is called by a node that was read and not resolved.
 fn called_name(node: &AstNode) -> &[u8]
     ensures { (place : _) → result.now ≡ spec.carried (view_ast node.now place) }
 {
@@ -325,7 +326,7 @@ pub(crate) fn carried(tree: &Expr) -> &[u8]
 }
 
 impl Stand {
-    /// A node of this kind that has no more than its text.
+    /// A node of this kind that has only its text.
     fn plain(self, kind: u32, size: usize) -> Node
         ensures { result ≡ spec.plain kind self size }
     {
@@ -351,7 +352,7 @@ impl Stand {
         }
     }
 
-    /// One that is one of several.
+    /// A node of a kind with several variants.
     fn one_of(self, kind: u32, which: u32) -> Node
         ensures { result ≡ record (spec.plain kind self 0) { which = which } }
     {
@@ -361,7 +362,7 @@ impl Stand {
         }
     }
 
-    /// One with a text.
+    /// A node with a text.
     #[tactic(auto, using(crate::proofs::NodeLemmas::text_size))]
     fn with_text(self, kind: u32, text: &str, casei: bool) -> Node
         ensures { result ≡ spec.with_text self kind (chars text.now) casei }
@@ -419,7 +420,7 @@ impl Stand {
         }
     }
 
-    /// What a caller in C gets of a node.
+    /// The row of a node for a caller in C.
     pub(crate) fn row(self, tree: &Expr) -> Node
         ensures { result ≡ spec.row self (view tree.now) }
     {

@@ -1,4 +1,4 @@
-//! A pattern's tree as an array, with what is said of it.
+//! A pattern's tree as an array, with its group information.
 ghost use Rattle.std.specs.Prelude.{◌≡◌, ◌≢◌, ◌<◌, ◌≤◌, ◌⊎◌, List, length, true, false};
 ghost use Rattle.fancy_lex.specs.Fault.{Kind};
 ghost use Rattle.fancy_lex.specs.Flags.{flags_of};
@@ -22,7 +22,7 @@ use fancy_syntax::span::Span;
 use fancy_syntax::tree::ExprTree;
 use std::alloc::Global;
 
-/// How much room the tree asks for, and what is said of it.
+/// The sizes of the tree, and its group information.
 fn info_told(tree: &ExprTree) -> TreeInfo
     ensures { result ≡ told (view tree.now.expr) (marks_of tree.now) }
 {
@@ -72,7 +72,7 @@ fn put_all(
     put_backrefs(backrefs, &tree.backrefs);
 }
 
-/// Whether buffers of these lengths have the room.
+/// Whether buffers of these lengths are long enough.
 fn fits(told: TreeInfo, nodes: usize, texts: usize, names: usize, backrefs: usize) -> bool
     ensures room { result ≡ true → (told.node_count ≤ nodes) × (told.texts_size ≤ texts) × (told.name_count ≤ names)
         × (told.backref_count ≤ backrefs) }
@@ -91,7 +91,7 @@ fn fits(told: TreeInfo, nodes: usize, texts: usize, names: usize, backrefs: usiz
     told.backref_count <= backrefs
 }
 
-/// Tells of the tree, and writes it at the front of the buffers, where all of it fits.
+/// Sets the info of the tree, and writes it at the front of the buffers if all of it fits.
 fn tell(
     nodes: &mut [Node],
     texts: &mut [u8],

@@ -19,7 +19,7 @@ use fancy_pattern::to_pattern;
 use fancy_syntax::tree::ExprTree;
 use std::alloc::{AllocError, Global};
 
-/// What is written for the tree, where that reads as the tree.
+/// The text that is written for the tree, if it is read as the tree.
 fn pattern_of(alloc: Global, tree: &ExprTree, flags: u32) -> Result<Option<String>, AllocError>
     ensures { IfOk result (λ text. MatchOption text
         (IsOfPattern (flags_of flags) (view tree.now.expr) (marks_of tree.now) → ⊥)
@@ -28,7 +28,7 @@ fn pattern_of(alloc: Global, tree: &ExprTree, flags: u32) -> Result<Option<Strin
     to_pattern(alloc, tree, flags)
 }
 
-/// Writes it at the front of the buffer, where there is one and that fits.
+/// Writes that text at the front of the buffer, if there is one and it fits.
 fn put_pattern(alloc: Global, tree: &ExprTree, flags: u32, buffer: &mut [u8]) -> Answer
     ensures read { result.status ≡ STATUS_OK → (w : List ℕ)
         × IsPatternText (flags_of flags) (view tree.now.expr) (marks_of tree.now) w × (result.size ≡ length w)

@@ -19,7 +19,7 @@ use crate::read::read;
 use fancy_syntax::expr::Expr;
 use std::alloc::{AllocError, Global};
 
-/// The tree's text, where it is printable.
+/// The tree's text, if it is printable.
 fn text_of(alloc: Global, tree: &Expr, precedence: u8) -> Result<Option<String>, AllocError>
     ensures { IfOk result (λ text. MatchOption text (printable (view tree.now) ≡ false)
         (λ s. IsText (view tree.now) precedence (string_bytes s))) }
@@ -27,7 +27,7 @@ fn text_of(alloc: Global, tree: &Expr, precedence: u8) -> Result<Option<String>,
     tree.print(alloc, precedence)
 }
 
-/// Writes the tree's text at the front of the buffer, where it has one and that fits.
+/// Writes the tree's text at the front of the buffer, if it has one and it fits.
 fn print(alloc: Global, tree: &Expr, precedence: u8, buffer: &mut [u8]) -> Answer
     ensures read { result.status ≡ STATUS_OK → (w : List ℕ) × IsText (view tree.now) precedence w
         × (result.size ≡ length w) × Fills buffer.old buffer.new w }

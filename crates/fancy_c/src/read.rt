@@ -22,17 +22,17 @@ use fancy_syntax::tree::ExprTree;
 use std::alloc::Global;
 use std::str;
 
-/// Why bytes are answered with no tree.
+/// Why there is no tree for the bytes.
 #[derive(Drop)]
 pub(crate) enum Refusal {
-    /// They are no UTF-8 from this place on.
+    /// They are not UTF-8 from this position on.
     NoUtf8(usize),
-    /// They are a pattern with a fault, or memory was refused.
+    /// They are a pattern with an error, or memory ran out.
     Fault(Error),
 }
 
 impl Refusal {
-    /// What a caller in C is told.
+    /// The answer for the caller in C.
     pub(crate) fn answer(&self) -> Answer
         ensures { result ≡ answer_of self.now }
     {
@@ -59,7 +59,7 @@ impl Refusal {
     }
 }
 
-/// The text whose UTF-8 the bytes are.
+/// The text that the bytes encode in UTF-8.
 fn text_of(pattern: &[u8]) -> Result<&str, Refusal>
     ensures text { IfOk result (λ text. (text.now ≡ pattern.now) × IsUtf8 pattern.now) }
     ensures refusal { IfErr result (λ r. (f : Flags) → IsRefusalOf r f pattern.now) }

@@ -11,7 +11,7 @@ use crate::node::{Node, Stand, carried};
 use fancy_syntax::expr::Expr;
 use fancy_syntax::span::Span;
 
-/// How many rows, and how many bytes of their texts.
+/// The number of rows, and the number of bytes of their texts.
 #[derive(Clone, Copy)]
 pub(crate) struct Counts {
     pub(crate) rows: usize,
@@ -28,7 +28,7 @@ fn span_at(spans: &[Span], i: usize) -> Span
     }
 }
 
-/// What the counts before a tree come to behind it, each the greatest word where it is more.
+/// The counts after a tree, given those before it, each `usize::MAX` if it is above that.
 pub(crate) fn count(tree: &Expr, before: Counts) -> Counts
     ensures nodes { result.rows ≡ in_word (before.rows + length (listed (view tree.now))) }
     ensures text { result.text ≡ in_word (before.text + length (texts (listed (view tree.now)))) }
@@ -44,7 +44,7 @@ pub(crate) fn count(tree: &Expr, before: Counts) -> Counts
     behind
 }
 
-/// Writes a text into the buffer from a place on, and answers the place behind it.
+/// Writes a text into the buffer from a position on, and returns the position after it.
 pub(crate) fn put_text(bytes: &mut [u8], place: usize, text: &[u8]) -> usize
     requires { place + length text.now ≤ length bytes.old }
     ensures behind { result ≡ place + length text.now }
@@ -55,7 +55,7 @@ pub(crate) fn put_text(bytes: &mut [u8], place: usize, text: &[u8]) -> usize
     behind
 }
 
-/// Where a text begins that is put at a place; 0 where there is none.
+/// Where a text begins that is put at a position; 0 if there is none.
 fn start_of_text(place: usize, text: &[u8]) -> usize
     ensures { result ≡ spec.start_of_text place text.now }
 {
@@ -65,7 +65,7 @@ fn start_of_text(place: usize, text: &[u8]) -> usize
     }
 }
 
-/// Writes the rows of a tree's nodes, and their texts, behind the counts, and answers the counts behind them.
+/// Writes the rows of a tree's nodes, and their texts, after what is counted, and returns the counts after them.
 #[cycle(put)]
 pub(crate) fn put_tree(
     nodes: &mut [Node],
@@ -97,7 +97,7 @@ pub(crate) fn put_tree(
     behind
 }
 
-/// Writes the rows of what stands in a node in the same way.
+/// Writes the rows of the children of a node in the same way.
 #[cycle(put)]
 fn put_children(
     nodes: &mut [Node],

@@ -1,4 +1,4 @@
--- Whether a mark stands in a text: where the text can be cut at it.
+-- Whether a text contains a delimiter, and how the text can be split at it.
 use Rattle.std.proofs.Common.{◌≡◌, ℕ, ◌==◌, List, [], ◌∷◌, refl, ap, ◌∙◌, arith, Bool, true, false, ◌||◌, Option, Some, None}
 use Rattle.std.proofs.Common.{option_map, if◌then◌else◌, is_some}
 use Rattle.std.proofs.Math.Bool.{or-false}

@@ -1,4 +1,4 @@
--- Characters that are written as they stand.
+-- Characters that are written as they are.
 use Rattle.std.proofs.Common.{◌≡◌, ℕ, ◌<◌, Bool, true, false, not, ◌&&◌, ◌||◌, [], ◌∷◌, Option, Some, None, refl, ap, sym}
 use Rattle.std.proofs.Common.{arith, is_some}
 use Rattle.std.specs.Char.{is_ascii_alphanumeric}
@@ -8,7 +8,7 @@ use Rattle.fancy_lex.specs.Characters.{◌∈◌}
 use Rattle.fancy_lex.specs.declared.flags.Flags.{Flags}
 use Rattle.fancy_grammar.specs.PatternLetters.{letter_of, is_unseen, character}
 
--- no mark, no layout, nothing with a letter of its own, and it shows
+-- no metacharacter, no layout, no character with an escape letter of its own, and visible
 is_ordinary : ℕ → Bool
 is_ordinary c =
     not (is_some (letter_of c))

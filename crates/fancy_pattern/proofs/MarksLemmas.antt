@@ -1,4 +1,4 @@
--- When two trees have the same marks.
+-- When two trees have the same group information.
 use Rattle.std.proofs.Common.{◌≡◌, ℕ, Bool, true, false, ◌&&◌, List, [], ◌∷◌, String, Global, Vec, string_bytes, chars}
 use Rattle.std.proofs.Common.{refl, ap, sym, ◌∙◌, map, nat_eq, Option, Some, None, Decides}
 use Rattle.std.specs.Prelude.{encode_utf8_all}
@@ -127,7 +127,7 @@ numbers_equal a b e =
     ((unsigned_Decides a.total_groups b.total_groups).1 (ap (λ (m : Marks). m.total_groups) e))
     (numbers_same a.out_of_range_backref b.out_of_range_backref (ap (λ (m : Marks). m.out_of_range_backref) e))
 
--- where one of the things that are the same differs, not all are the same
+-- if one of the compared things differs, not all are equal
 pub differs : {P Q : Type 0} (r : Bool) → Decides r P → r ≡ false → (Q → P) → Decides false Q
 differs r d e f = (λ h. absurd (false≢true h), λ q. sym e ∙ d.1 (f q))
 

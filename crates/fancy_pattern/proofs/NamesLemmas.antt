@@ -13,7 +13,7 @@ use Rattle.fancy_pattern.specs.declared.names.Name.{Name}
 abbrev is_in : List ℕ → ℕ → Bool
 is_in passed n = list_any (λ k. k == n) passed
 
--- from the names a the names b were made: those of the numbers passed that had none have the entry's name
+-- the names b are the names a, except that those of the passed numbers that had no name have the entry's name
 pub record Naming (a b : BTreeMap ℕ Name) (e : Named) (passed : List ℕ) : Type 0 where
   pub at : (n : ℕ) (o : Option Named) → IsNameOf n (get nat_cmp a n) o →
       IsNameOf n (get nat_cmp b n) (option_or o (if is_in passed n then Some e else None))
@@ -24,7 +24,7 @@ naming_ends a b e es are w = record {
   at = λ n. subst (IsNameOf n (get nat_cmp b n)) (sym (find-append (λ d. is_in d.1 n) es (e ∷ []))) (w.at n _ (are.at n));
 }
 
--- the names are those of the entries passed, of all these
+-- the names are those of the passed entries, out of all these
 pub record NamingAll (b : BTreeMap ℕ Name) (rest all : List Named) : Type 0 where
   pub passed : List Named
   pub names : AreNames b passed

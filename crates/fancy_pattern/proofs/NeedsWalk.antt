@@ -46,13 +46,13 @@ module _ (join : Need → Need → Need) (j : IsJoin join) (o : Bool) (t : Tree)
   joining_ends n left s h =
       sym (joined-behind join j n) ∙ ap (λ es. joined join n (needs_all join o (trees_of (views es)))) (sym h) ∙ s.whole
 
--- of a tree without children
+-- a tree without children
 pub leaf_joins : (join : Need → Need → Need) (j : IsJoin join) (o : Bool) (t : Tree) (n : Needs) →
     n ≡ needs_alone o t → children t ≡ [] → n ≡ needs join o t
 leaf_joins join j o t n e none =
     joining_ends join j o t n [] (joining_starts join j o t n [] e (sym none)) refl
 
--- ---- the table so far, behind what stood there before, with some children left
+-- ---- the table so far, after what was there before, with some children left
 
 pub record Listing (o : Bool) (t : Tree) (old now : List Needs) (left : List Expr) : Type 0 where
   pub whole : now ++ flat_map (needs_listed o) (views left)
@@ -85,7 +85,7 @@ module _ (o : Bool) (t : Tree) (old : List Needs) where
   set_behind [] x y l = refl
   set_behind (z ∷ a) x y l = ap (λ m. z ∷ m) (set_behind a x y l)
 
-  -- with what the node needs in it
+  -- with the needs of the node set in it
   pub table_stands : (n : Needs) (now : List Needs) (left : List Expr) → Listing o t old now left → left ≡ [] →
       n ≡ needs first o t → set now (length old) n ≡ old ++ needs_listed o t
   table_stands n now left s h e =
@@ -94,7 +94,7 @@ module _ (o : Bool) (t : Tree) (old : List Needs) where
       ∙ ap (λ m. old ++ m ∷ flat_map (needs_listed o) (children t)) e
       ∙ ap (λ l. old ++ l) (sym (table_node o t))
 
-  -- that of a tree without children
+  -- the table of a tree without children
   pub leaf_table : (n : Needs) (now : List Needs) → n ≡ needs first o t → children t ≡ [] → now ≡ old ++ n ∷ [] →
       now ≡ old ++ needs_listed o t
   leaf_table n now e none p =

@@ -1,4 +1,4 @@
--- Writers of nodes, each from the writers of what it holds.
+-- Writers of nodes, each made of the writers of its children.
 use Rattle.std.proofs.Common.{◌≡◌, ℕ, ◌+◌, nat_lt, Bool, true, false, not, ◌&&◌, ◌||◌, List, [], ◌∷◌, ◌++◌, subst}
 use Rattle.std.proofs.Common.{append_assoc, append-nil, sym, refl, ap, ◌∙◌, codes, if◌then◌else◌, arith}
 use Rattle.std.specs.Prelude.{Result, Ok, Err, OnOk}
@@ -45,7 +45,7 @@ abbrev pub is_repeat : Tree → Bool
 is_repeat (over (label.repeat lo hi greedy) t) = true
 is_repeat _ = false
 
--- a condition that is written as the text that it has elsewhere
+-- a condition that is written with the text that it has elsewhere
 abbrev pub is_text_condition : Tree → Bool
 is_text_condition (leaf (label.backref_exists n level)) = false
 is_text_condition (leaf (label.verb v)) = false
@@ -155,7 +155,7 @@ module _ {S : Type 0} (holds : S → Text → Type 0) where
   filled_where (Ok v) a b len place at e p = filled a b len place at e p
   filled_where (Err v) a b len place at e p = p
 
-  -- ---- in a group, where it has to be
+  -- ---- in a group, if it needs one
 
   pub atom_writes : (a b : S) (i j : code.Here) (t : Tree) (p : Precedence) (l : Bool → List Needs) (text : Here → Text)
       (n : Here → Here) (choice : Bool) → choice ≡ (is_operand p && not (is_repeatable i.flags t)) →
@@ -184,7 +184,7 @@ module _ {S : Type 0} (holds : S → Text → Type 0) where
 
   -- ---- trees, each from its writer
 
-  -- a capturing group, whose head is that of the number to which the place inside has come
+  -- a capturing group; its opening is that of the number that the position inside has reached
   pub group_writes : (a b c d e : S) (i j k o z : code.Here) (m : Marks) (t : Tree) → Added holds a b (codes "(" ++ []) →
       ((h : Here) (l : List Needs) → IsHere i h l → IsHere j (deeper h) l) →
       ((h : Here) (l : List Needs) → IsHere j h l → IsHere k (past_groups 1 h) l) →
@@ -290,7 +290,7 @@ module _ {S : Type 0} (holds : S → Text → Type 0) where
   leaf_behind label.clear p h e = absurd (cc)
   leaf_behind (label.ast_node r place) p h e = absurd (cc)
 
-  -- a condition of a word of its own
+  -- a condition that is written as a word of its own
   pub word_writes : (a b : S) (i j : code.Here) (m : Marks) (l : label.Leaf) (text : Text) →
       is_text_condition (leaf l) ≡ false → ((t : Text) → condition_text m (leaf l) t ≡ text) → Added holds a b text →
       ((h : Here) (d : Needs) (r : List Needs) → IsHere i h (d ∷ r) → IsHere j h r) →
@@ -411,7 +411,7 @@ module _ {S : Type 0} (holds : S → Text → Type 0) where
       = omega arith in
       ap (λ n. record h { opened = n }) groups)
 
-  -- ---- what stands behind the flags that are set before a tree
+  -- ---- what follows the flags that are set before a tree
 
   pub settled_group : (a b : S) (i j : code.Here) (m : Marks) (t : Tree) (p : Precedence) →
       Writes holds a b i j (λ o. needs_listed o t)

@@ -1,4 +1,4 @@
--- A text that is parted from what stands before it.
+-- A text that is separated from what is before it.
 use Rattle.std.proofs.Common.{◌≡◌, ℕ, true, false, List, [], ◌∷◌, ◌++◌, append_assoc, subst, sym, refl, ap, ◌∙◌, arith}
 use Rattle.std.proofs.Common.{take, drop, length, String, Global, string_bytes, chars, codes}
 use Rattle.std.specs.Char.{len_utf8}
@@ -14,7 +14,7 @@ use Rattle.fancy_grammar.specs.Pattern.{parted_if}
 use Rattle.fancy_pattern.specs.Sink.{Changed, needs_parting, parted}
 use Rattle.fancy_pattern.specs.declared.parting.Parting.{Parting}
 
--- texts that are the same cut at the same byte
+-- two equal texts, split at the same byte
 same_seam : (t u v w : Text) → t ++ u ≡ v ++ w → bytes t ≡ bytes v → (t ≡ v) × (u ≡ w)
 unfolding bytes
 same_seam [] u [] w e b = (refl, e)
@@ -30,7 +30,7 @@ same_seam (c ∷ t) u (d ∷ v) w e b =
 pub front_utf8 : (s front : List ℕ) (place : ℕ) → IsUtf8 s → IsCharBoundary s place → front ≡ take place s → IsUtf8 front
 front_utf8 s front place u b e = subst IsUtf8 (sym e) (IsUtf8-take s place u b)
 
--- the bytes stand before the cut of the text t ++ u, and behind it
+-- the bytes before the split of the text t ++ u, and the bytes after it
 behind_cut : (s front back : List ℕ) (t u : Text) (place : ℕ) → IsUtf8 front → chars s ≡ t ++ u → place ≡ bytes t →
     front ≡ take place s → back ≡ drop place s → length front ≡ place → (chars front ≡ t) × (chars back ≡ u)
 behind_cut s front back t u place f e at is rest long =

@@ -22,7 +22,7 @@ use Rattle.fancy_syntax.proofs.PrintLemmas.{left}
 use Rattle.fancy_pattern.proofs.SettledLemmas.{keeps_behind}
 use Rattle.fancy_pattern.proofs.WritesLemmas.{nothing_writes, then_writes, writes_as, text_writes, changed_writes}
 
--- what several trees write: what their nodes need, their text, and where what follows stands
+-- what several trees write: the needs of their nodes, their text, and the position of what follows
 pub record Rest : Type 0 where
   pub needs : Bool → List Needs
   pub text : Here → Text
@@ -31,12 +31,12 @@ pub record Rest : Type 0 where
 abbrev pub WritesRest : {S : Type 0} (holds : S → Text → Type 0) (old new : S) (from to : code.Here) → Rest → Type 0
 WritesRest holds a b i j r = Writes holds a b i j r.needs r.text r.next
 
--- a writing that began at a and stands at b: with the rest it is the whole
+-- a writing that began at a and is at b: with the rest it is the whole
 pub record WritesOn {S : Type 0} (holds : S → Text → Type 0) (a b : S) (i j : code.Here) (rest whole : Rest) :
     Type 0 where
   pub ends : (z : S) (k : code.Here) → WritesRest holds b z j k rest → WritesRest holds a z i k whole
 
--- the pieces that are left, where a reference in digits stands before them or not
+-- the pieces that are left, with or without a reference in digits before them
 abbrev pub pieces_left : Marks → Bool → Trees → Rest
 pieces_left m digits ts = record {
   needs = λ o. all_listed o ts;
@@ -44,7 +44,7 @@ pieces_left m digits ts = record {
   next = behind_all ts Piece;
 }
 
--- the branches, and those that are left behind the first, with a bar before each
+-- the branches, and those left after the first, with a bar before each
 abbrev pub all_branches : Marks → Trees → Rest
 all_branches m ts = record {
   needs = λ o. all_listed o ts;
@@ -88,7 +88,7 @@ module _ {S : Type 0} (holds : S → Text → Type 0) where
       (then_writes holds b c z j k e _ _ _ _ _ _ (keeps_behind t Piece) one rest)
       (λ o. refl) (λ h. refl) (λ h. sym (behind_next t ts Piece h))
 
-  -- one piece more is written, and parted from digits before it where it has to be
+  -- one more piece is written, and separated from digits before it if it has to be
   pub on_piece : (a b c d : S) (i j k : code.Here) (m : Marks) (digits : Bool) (place : ℕ) (t : Tree) (ts : Trees)
       (whole : Rest) → ((x : Text) → holds b x → place ≡ bytes x) →
       WritesOn holds a b i j (pieces_left m digits (more_trees t ts)) whole →

@@ -144,9 +144,9 @@ module _ {S : Type 0} (holds : S → Text → Type 0) where
         (λ h. no_more_groups h ∙ ap (λ n. past_groups n h) (leaf_groups t e));
   }
 
-  -- ---- any tree, behind what it needs
+  -- ---- any tree, after the flags that it needs
 
-  -- the flags are set that the tree needs, and then what stands behind them is written
+  -- the flags that the tree needs are set, and then what follows them is written
   pub settled_writes : (a b c : S) (i j k : code.Here) (n : Needs) (m : Marks) (t : Tree) (p : Precedence) →
       takes_setting t ≡ true → n ≡ needs first i.flags.oniguruma_mode t →
       Added holds a b (setting i.flags (with_needs i.flags n)) →
@@ -186,7 +186,7 @@ module _ {S : Type 0} (holds : S → Text → Type 0) where
       Writes holds a b i j (λ o. needs_below o empty) (written m empty p) (behind empty p)
   empty_writes a b i j m p w = writes_as holds a b i j _ _ _ _ _ _ w (λ o. refl) (λ h. refl) no_more_groups
 
-  -- ---- a row, in a group where it needs one
+  -- ---- a row, in a group if it needs one
 
   pub scope_writes : (a b c d : S) (i j k e : code.Here) (n : Needs) (t : Tree) (text : Here → Text) (next : Here → Here) →
       n ≡ needs first i.flags.oniguruma_mode t →

@@ -1,4 +1,4 @@
--- Texts that are written one behind the other.
+-- Texts that are written one after the other.
 use Rattle.std.proofs.Common.{◌≡◌, ℕ, ◌+◌, ◌<◌, List, [], ◌∷◌, ◌++◌, subst, append_assoc, append-nil, sym, refl, ap, ◌∙◌}
 use Rattle.std.proofs.Common.{length, drop, get_or, add-one, drop-cons}
 use Rattle.std.specs.Prelude.{Result, Ok, Err, OnOk}
@@ -27,7 +27,7 @@ pub added_two : {S : Type 0} (holds : S → Text → Type 0) (a b c : S) (xs ys 
     Added holds b c ys → xs ++ ys ≡ all → Added holds a c all
 added_two holds a b c xs ys all p q e = added_as holds a c (xs ++ ys) all (then_added holds a b c xs ys p q) e
 
--- ---- the last text behind others
+-- ---- the last text after others
 
 pub last_as : {S X E : Type 0} (holds : S → Text → Type 0) (r : Result X E) (a b : S) (xs all : Text) →
     OnOk r (Added holds a b xs) → xs ≡ all → OnOk r (Added holds a b all)
@@ -61,7 +61,7 @@ last_five holds r a b c d e f vs ws xs ys zs all n o p q z same =
 
 pub ruleset added_steps = (added_nothing, added_as, added_two, last_as, last_two, last_three, last_four)
 
--- ---- a writing that began at a and stands at b: with the rest the whole stands behind a
+-- ---- a writing that began at a and is at b: with the rest, the whole follows a
 
 pub record Adding {S : Type 0} (holds : S → Text → Type 0) (a b : S) (rest whole : Text) : Type 0 where
   pub ends : (z : S) → Added holds b z rest → Added holds a z whole

@@ -37,7 +37,7 @@ found_or : (a b : Option Found) → found_part (option_or a b) ≡ option_or (fo
 found_or (Some f) b = refl
 found_or None b = refl
 
--- of one list, or else of the other
+-- found in one list, or else in the other
 pub found_either : (seen : Bool) (t : Text) (l k : List Replaced) (r a b : Option Found) → r ≡ option_or a b →
     found_part a ≡ replaced_part seen l t → found_part b ≡ replaced_part seen k t →
     found_part r ≡ replaced_part seen (l ++ k) t
@@ -45,7 +45,7 @@ found_either seen t l k r a b e p q =
     ap found_part e ∙ found_or a b ∙ ap (λ o. option_or o (found_part b)) p
     ∙ ap (option_or (replaced_part seen l t)) q ∙ sym (replaced-append seen t l k)
 
--- none, where the text begins with a character that the reader writes for none
+-- none, if no text that the reader writes for an escape begins with the first character
 pub none_replaced : (unicode seen : Bool) (c : ℕ) (t text : Text) → text ≡ c ∷ t → c ∈ "\\[&" ≡ false →
     None ≡ replaced_part seen (replaced unicode) text
 none_replaced unicode seen c t text e h =
@@ -76,7 +76,7 @@ pub single_escape : (c d : ℕ) (t u : Text) → c ≡ backslash → d ≢ 112 �
     single_part c t ≡ part (c ∷ d ∷ []) u
 single_escape c d t u h k l e = rw (e, eq-eqb c backslash h, ne_eqb d 112 k, ne_eqb d 80 l) refl
 
--- and none is a negated set
+-- and it is no negated set
 property_keeps : (upper : Bool) (t : Text) → (property_part upper t).negated ≡ false
 property_keeps upper [] = refl
 property_keeps upper (c ∷ t) = at (not (c == open_brace)) (cut_at close_brace t)
@@ -102,7 +102,7 @@ single_keeps c (d ∷ t) = at (not (c == backslash)) (d ∈ "pP")
 
 -- ---- step by step
 
--- what begins the text is a part
+-- a part at the start of the text
 pub record Begins (unicode seen : Bool) (text : Text) (p : Part) : Type 0 where
   pub first : ℕ
   pub behind : Text

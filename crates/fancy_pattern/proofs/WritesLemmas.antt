@@ -1,4 +1,4 @@
--- Writers one behind the other, and writers in groups.
+-- Writers one after the other, and writers in groups.
 use Rattle.std.proofs.Common.{◌≡◌, ℕ, Bool, List, [], ◌∷◌, ◌++◌, subst, append_assoc}
 use Rattle.std.proofs.Common.{sym, ◌∙◌, codes}
 use Rattle.std.specs.Prelude.{Result, Ok, Err, IfOk, OnOk}
@@ -16,11 +16,11 @@ use Rattle.fancy_pattern.proofs.SinkLemmas.{added_nothing, added_as, then_added}
 abbrev pub KeepsMode : (Here → Here) → Type 0
 KeepsMode next = (h : Here) → (next h).flags.oniguruma_mode ≡ h.flags.oniguruma_mode
 
--- what holds where a call succeeds gives what follows from it
+-- if P holds after a success, so does Q, which follows from it
 pub on_then : {X E : Type 0} (r : Result X E) (P Q : Type 0) → OnOk r P → (P → Q) → OnOk r Q
 on_then r P Q p f = on_ok_weaker r f p
 
--- and holds beside what holds anyway
+-- and so do both, if Q holds anyway
 pub on_both : {X E : Type 0} (r : Result X E) (P Q : Type 0) → OnOk r P → Q → OnOk r (P × Q)
 on_both r P Q p q = on_ok_weaker r (λ x. (x, q)) p
 
@@ -28,7 +28,7 @@ pub on_when : {X E N : Type 0} (r : Result X E) (P : Type 0) → (N → OnOk r P
 on_when (Ok x) P f = f
 on_when (Err e) P f = tt
 
--- what holds of every value holds of one that follows from it
+-- if P holds of the value, so does Q, which follows from it
 pub ok_then : {X E : Type 0} (r : Result X E) (P Q : X → Type 0) → IfOk r P → ((x : X) → P x → Q x) → IfOk r Q
 ok_then r P Q p f = IfOk-weaker r P Q f p
 
@@ -36,7 +36,7 @@ module _ {S : Type 0} (holds : S → Text → Type 0) where
   pub nothing_writes : (a : S) (i : code.Here) → Writes holds a a i i (λ o. []) (λ h. []) (λ h. h)
   nothing_writes a i = record { writes = λ h l is. (added_nothing holds a, is) }
 
-  -- a text for which the place is all one
+  -- a text that does not depend on the position
   pub text_writes : (a b : S) (i : code.Here) (xs : Text) → Added holds a b xs →
       Writes holds a b i i (λ o. []) (λ h. xs) (λ h. h)
   text_writes a b i xs p = record { writes = λ h l is. (p, is) }
@@ -62,7 +62,7 @@ module _ {S : Type 0} (holds : S → Text → Type 0) where
         (added_as holds a b (t h) (u h) done.0 (et h), subst (λ x. IsHere j x r) (en h) done.1);
   }
 
-  -- a text whose characters depend on the place
+  -- a text whose characters depend on the position
   pub placed_writes : (a b : S) (i : code.Here) (t : Here → Text) →
       ((h : Here) (l : List Needs) → IsHere i h l → Added holds a b (t h)) →
       Writes holds a b i i (λ o. []) t (λ h. h)
@@ -74,7 +74,7 @@ module _ {S : Type 0} (holds : S → Text → Type 0) where
   on_placed (Ok x) a b i t p = placed_writes a b i t p
   on_placed (Err e) a b i t p = tt
 
-  -- a node is passed that nothing is written for
+  -- a node is passed for which nothing is written
   pub past_writes : (a b : S) (i j k : code.Here) (d : Bool → Needs) (l : Bool → List Needs) (t : Here → Text)
       (n : Here → Here) → ((h : Here) (e : Needs) (r : List Needs) → IsHere i h (e ∷ r) → IsHere j h r) →
       Writes holds a b j k l t n → Writes holds a b i k (λ o. d o ∷ l o) t n
@@ -93,7 +93,7 @@ module _ {S : Type 0} (holds : S → Text → Type 0) where
         (done.0, past (n h) (d o) r done.1);
   }
 
-  -- what is added is changed
+  -- the added text is changed
   pub change_added : (a b c : S) (place : ℕ) (change : Text → Text) (u : Text) →
       ((t : Text) → holds a t → place ≡ bytes t) → Added holds a b u → Changed holds b c place change →
       Added holds a c (change u)

@@ -1,10 +1,10 @@
--- What the contracts speak of.
+-- The definitions that the contracts use.
 
--- ---- the text of every tree, and what is promised of it
+-- ---- the text of every tree, and what is guaranteed for it
 pub use Rattle.fancy_grammar.specs.Pattern
 pub use Rattle.fancy_grammar.specs.ReadAs
 pub use Rattle.fancy_grammar.specs.OfPattern
--- What only the private contracts and the proofs of the code speak of: the writing of texts.
+-- The definitions that only the private contracts and the proofs of the code use: the writing of texts.
 
 pub mod Sink
 pub mod Wheres

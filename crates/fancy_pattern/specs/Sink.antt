@@ -1,4 +1,4 @@
--- What a text is written to, piece by piece.
+-- The output that a text is written to, piece by piece.
 use Rattle.std.specs.Prelude.{◌≡◌, ℕ, ◌||◌, Bool, ◌++◌, codes, nat_eq}
 use Rattle.std.specs.List.{starts_with}
 use Rattle.std.specs.Str.{bytes_eq}
@@ -9,21 +9,21 @@ use Rattle.fancy_grammar.specs.Pattern.{parted_if}
 use Rattle.fancy_pattern.specs.declared.parting.Parting.{Parting}
 use Rattle.fancy_pattern.specs.declared.parting.Parting.TheVariants.{Number, Condition, Absent}
 
--- the text stands behind what was taken before
+-- the text was added after what was written before
 pub record Added {S : Type 0} (holds : S → Text → Type 0) (old new : S) (text : Text) : Type 0 where
   pub behind : (t : Text) → holds old t → holds new (t ++ text)
 
--- the text would be read with what stands before it
+-- the text would be read together with what is before it
 abbrev pub needs_parting : Parting → Text → Bool
 needs_parting Number t = at_digit t
 needs_parting Condition t = begins_target t || bytes_eq t (codes "DEFINE")
 needs_parting Absent t = starts_with nat_eq t (codes "|")
 
--- what was taken from the place on is changed so, and what stands before it is as it was
+-- what was written from the position on is changed in this way, and what is before the position stays as it was
 pub record Changed {S : Type 0} (holds : S → Text → Type 0) (old new : S) (place : ℕ) (change : Text → Text) : Type 0
   where
     pub changes : (t u : Text) → holds old (t ++ u) → place ≡ bytes t → holds new (t ++ change u)
 
--- parted from what stands before it, where it would be read with that
+-- the text with a separator before it, if it would be read together with what is before it
 abbrev pub parted : Parting → Text → Text
 parted parting t = parted_if (needs_parting parting t) t

@@ -1,4 +1,4 @@
--- The parts of a source, as the code answers and writes them.
+-- The parts of a source, as the code returns and writes them.
 use Rattle.std.specs.Prelude.{◌≡◌, chars, Option, option_map}
 use Rattle.fancy_lex.specs.Text.{Text}
 use Rattle.fancy_grammar.specs.PatternSource.{Part}
@@ -12,7 +12,7 @@ part_of f = record { source = chars f.escape.now; rest = chars f.rest.now; negat
 abbrev pub found_part : Option Found → Option Part
 found_part r = option_map part_of r
 
--- the part's source stands behind what was taken before, and the other text is left of the Delegate's
+-- the part's source was added after what was written before, and the other text is left of the Delegate's text
 pub record AddedPart {S : Type 0} (holds : S → Text → Type 0) (old new : S) (part : Part) (left : Text) : Type 0 where
   pub source : Added holds old new part.source
   pub rest : left ≡ part.rest

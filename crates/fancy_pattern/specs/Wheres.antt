@@ -1,4 +1,4 @@
--- How the place of a writer of texts, and what it knows beside the tree, stand to the definition.
+-- How the position of a writer of texts, and what it knows besides the tree, correspond to the definition.
 use Rattle.std.specs.Prelude.{◌≡◌, ℕ, ◌-◌, ◌==◌, List, [], chars, find, Option, Some, None, ⊤}
 use Rattle.std.specs.BTreeMap.{BTreeMap, get}
 use Rattle.std.specs.List.{list_any}
@@ -14,9 +14,9 @@ use Rattle.fancy_pattern.specs.declared.here.Here as code
 use Rattle.fancy_pattern.specs.declared.names.Known as known
 use Rattle.fancy_pattern.specs.declared.names.Name as name
 
--- ---- where a text stands
+-- ---- the position of a text
 
--- the same place, before nodes that need this
+-- the same position, before nodes with these needs
 pub record IsHere (i : code.Here) (h : Here) (l : List Needs) : Type 0 where
   pub flags : i.flags ≡ h.flags
   pub opened : i.opened ≡ h.opened
@@ -25,14 +25,14 @@ pub record IsHere (i : code.Here) (h : Here) (l : List Needs) : Type 0 where
 
 -- ---- names
 
--- the name is that of the entry, and says of the group n what the entry does
+-- the name is the name in the entry, and says the same as the entry about the group n
 pub record Tells (n : ℕ) (a : name.Name) (e : Named) : Type 0 where
   pub text : chars a.text.now ≡ e.0
   pub plain : a.is_plain ≡ is_plain_name e.0
   pub last : a.is_last ≡ is_last n e.1
   pub only : a.is_only ≡ is_only n e.1
 
--- the group n has that name, or none
+-- the group n has the name of the entry, or neither exists
 abbrev pub IsNameOf : ℕ → Option name.Name → Option Named → Type 0
 IsNameOf n None None = ⊤
 IsNameOf n (Some a) (Some e) = Tells n a e
@@ -42,7 +42,7 @@ IsNameOf n _ _ = ⊥
 pub record AreNames (b : BTreeMap ℕ name.Name) (es : List Named) : Type 0 where
   pub at : (n : ℕ) → IsNameOf n (get nat_cmp b n) (find (λ e. list_any (λ k. k == n) e.1) es)
 
--- what is known of the tree is what its marks say
+-- what is known of the tree agrees with its group information
 pub record IsKnown (k : known.Known) (m : Marks) : Type 0 where
   pub numeric : k.is_numeric ≡ m.numeric_capture_group_references
   pub self_recursive : k.self_recursive ≡ m.self_recursive
@@ -50,7 +50,7 @@ pub record IsKnown (k : known.Known) (m : Marks) : Type 0 where
 
 -- ---- leaves
 
--- the text of a tree that holds no other; none of one that does
+-- the text of a leaf; an empty text for a tree that holds others
 abbrev pub alone_text : Marks → Tree → Here → Text
 alone_text m (leaf l) h = leaf_text m l h
 alone_text m t h = []

@@ -1,4 +1,4 @@
--- What the writers of a walk over a tree come to.
+-- What the writers of a walk over a tree write.
 use Rattle.std.specs.Prelude.{◌≡◌, ◌++◌, Bool, true, false, List, [], ◌∷◌, codes}
 use Rattle.fancy_lex.specs.Text.{Text}
 use Rattle.fancy_grammar.specs.Marks.{Marks}
@@ -13,8 +13,8 @@ use Rattle.fancy_pattern.specs.Sink.{Added}
 use Rattle.fancy_pattern.specs.Wheres.{IsHere}
 use Rattle.fancy_pattern.specs.declared.here.Here as code
 
--- a writer that began at one place wrote this text, past nodes that need so much in the mode that holds, and came to
--- where what follows stands
+-- from the first position, a writer wrote this text, passed nodes with these needs in the current mode, and reached the
+-- position of what follows
 pub record Writes {S : Type 0} (holds : S → Text → Type 0) (old new : S) (from to : code.Here)
     (needs : Bool → List Needs) (text : Here → Text) (next : Here → Here) : Type 0 where
   pub writes : (h : Here) (l : List Needs) → IsHere from h (needs h.flags.oniguruma_mode ++ l) →
@@ -30,7 +30,7 @@ abbrev pub is_expression : Tree → Bool
 is_expression (expression a e) = true
 is_expression _ = false
 
--- its group, behind the flags that are set before it
+-- the group of the node, after the flags that are set before it
 abbrev pub parts_text : Marks → Tree → Here → Text
 parts_text m (conditional c t e) h =
     in_parens (codes "?") (λ i. let j = behind c Whole i in parenthesized (condition_text m c (written m c Whole i))
@@ -39,7 +39,7 @@ parts_text m (expression a e) h =
     in_parens (codes "?~|") (λ i. written m a Branch i ++ (codes "|" ++ written m e Branch (behind a Branch i))) h
 parts_text m _ h = []
 
--- the branches of a conditional: what their nodes need, their text, and where what follows stands
+-- the branches of a conditional: the needs of their nodes, their text, and the position of what follows
 abbrev pub branches_needs : Bool → Tree → List Needs
 branches_needs o (conditional c t e) = all_listed o (more_trees t (more_trees e no_trees))
 branches_needs o _ = []
@@ -54,7 +54,7 @@ behind_branches _ h = h
 
 -- ---- a tree before which flags are set
 
--- such a tree: neither an Empty nor a Concat nor an Alt
+-- whether flags are set before the tree: it is no Empty, no Concat and no Alt
 abbrev pub takes_setting : Tree → Bool
 takes_setting empty = false
 takes_setting (concat ts) = false
@@ -69,7 +69,7 @@ past_first (n ∷ l) = l
 abbrev pub needs_below : Bool → Tree → List Needs
 needs_below o t = past_first (needs_listed o t)
 
--- a writer wrote what stands behind the flags that are set before the tree
+-- a writer wrote what follows the flags that are set before the tree
 pub record WritesSettled {S : Type 0} (holds : S → Text → Type 0) (old new : S) (from to : code.Here) (m : Marks)
     (t : Tree) (p : Precedence) : Type 0 where
   pub text : Here → Text

@@ -13,7 +13,7 @@ use fancy_grammar::needs::Needs;
 use fancy_lex::flags::Flags;
 use std::alloc::AllocError;
 
-/// Writes the letter, where it is asked.
+/// Writes the letter, if asked for.
 #[tactic(auto, using(crate::proofs::SinkLemmas::added_steps))]
 fn put_if<S: Sink>(out: &mut S, asked: bool, letter: char) -> Result<(), AllocError>
     ensures { OnOk result (Added S.holds out.old out.new (if asked then letter ∷ [] else [])) }
@@ -50,7 +50,7 @@ fn put_letters<S: Sink>(out: &mut S, from: Flags, to: Flags) -> Result<(), Alloc
     put_letters_on(out, to, from)
 }
 
-/// Writes a group that makes the flags `from` the flags `to` from there on, where they are not the same.
+/// Writes a group that changes the flags `from` to the flags `to` from there on, if they differ.
 fn put_group<S: Sink>(out: &mut S, from: Flags, to: Flags) -> Result<(), AllocError>
     ensures { OnOk result (Added S.holds out.old out.new (spec.setting from to)) }
 {
@@ -62,7 +62,7 @@ fn put_group<S: Sink>(out: &mut S, from: Flags, to: Flags) -> Result<(), AllocEr
     out.put(')')
 }
 
-/// Sets the flags that are needed from here on, where they do not hold.
+/// Sets the flags that are needed from here on, if they are not set.
 #[inline(always)]
 pub(crate) fn put_setting<S: Sink>(
     out: &mut S,
@@ -93,7 +93,7 @@ fn put_new_setting<S: Sink>(out: &mut S, needs: Needs, here: &mut Here) -> Resul
     put_group(out, from, here.flags)
 }
 
-/// Writes what opens a group in which the flags `from` are the flags `to`.
+/// Writes the opening of a group that changes the flags `from` to the flags `to`.
 fn put_scope_head<S: Sink>(out: &mut S, from: Flags, to: Flags) -> Result<(), AllocError>
     ensures { OnOk result (Added S.holds out.old out.new (codes "(?" ++ (spec.letters_between from to ++ codes ":"))) }
 {
@@ -102,7 +102,7 @@ fn put_scope_head<S: Sink>(out: &mut S, from: Flags, to: Flags) -> Result<(), Al
     out.put(':')
 }
 
-/// Opens a group in which the flags that are needed are set, and goes into it.
+/// Opens a group in which the flags that are needed are set, and enters it.
 pub(crate) fn open_scope<S: Sink>(
     out: &mut S,
     needs: Needs,

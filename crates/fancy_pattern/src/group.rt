@@ -11,7 +11,7 @@ use crate::sink::{Sink, put_ascii};
 use fancy_syntax::expr::LookAround;
 use std::alloc::AllocError;
 
-/// Opens a group with this head, and goes into it.
+/// Writes the opening of a group, and enters the group.
 pub(crate) fn open<S: Sink>(out: &mut S, head: &str, here: &mut Here) -> Result<(), AllocError>
     requires { list_all (λ b. nat_lt b 128) head.now ≡ true }
     ensures { OnOk result (Added S.holds out.old out.new (codes "(" ++ head.now)
@@ -22,7 +22,7 @@ pub(crate) fn open<S: Sink>(out: &mut S, head: &str, here: &mut Here) -> Result<
     put_ascii(out, head)
 }
 
-/// Closes the group that stands at `outside`, and leaves it.
+/// Closes the group that is at `outside`, and leaves it.
 pub(crate) fn close<S: Sink>(out: &mut S, outside: &Here, here: &mut Here) -> Result<(), AllocError>
     ensures { OnOk result (Added S.holds out.old out.new (codes ")")
         × ((h e : spec.Here) (k l : List Needs) → IsHere outside.now h k → IsHere here.old e l →
@@ -32,7 +32,7 @@ pub(crate) fn close<S: Sink>(out: &mut S, outside: &Here, here: &mut Here) -> Re
     out.put(')')
 }
 
-/// The head of a look-around.
+/// The opening of a look-around.
 pub(crate) fn look_head(look: LookAround) -> &'static str
     ensures text { spec.look_head look ≡ result.now }
     ensures ascii { list_all (λ b. nat_lt b 128) result.now ≡ true }

@@ -1,4 +1,4 @@
-//! Where a text stands.
+//! The position of a text.
 ghost use Rattle.std.specs.Prelude.{◌≡◌, ◌∷◌, List, OnOk};
 ghost use Rattle.fancy_lex.specs.declared.flags.Flags.{Flags};
 ghost use Rattle.fancy_grammar.specs.Pattern as spec;
@@ -12,21 +12,21 @@ use fancy_grammar::needs::Needs;
 use fancy_lex::flags::Flags;
 use std::alloc::AllocError;
 
-/// Where a text stands.
+/// The position of a text.
 #[derive(Clone, Copy)]
 pub(crate) struct Here<'a> {
-    /// The flags that hold there.
+    /// The flags in effect there.
     pub(crate) flags: Flags,
-    /// How many groups opened before.
+    /// How many groups opened before it.
     pub(crate) opened: usize,
-    /// How many levels are left: the groups that may still open in it, and one.
+    /// How many levels are left: one more than the groups that may still open in it.
     pub(crate) left: usize,
-    /// What each node from there on needs of the flags, in preorder.
+    /// The needs of each node from there on, in preorder.
     pub(crate) needs: &'a [Needs],
 }
 
 impl<'a> Here<'a> {
-    /// Where a pattern begins.
+    /// The start of a pattern.
     pub(crate) fn at_start(flags: Flags, needs: &'a [Needs]) -> Here<'a>
         ensures { IsHere result (record { flags = flags; opened = 0; depth = 0 }) needs.now }
     {
@@ -38,7 +38,7 @@ impl<'a> Here<'a> {
         }
     }
 
-    /// What the next node needs, which is passed.
+    /// Passes the next node, and returns its needs.
     pub(crate) fn next_node(&mut self) -> Needs
         ensures { (h : spec.Here) (n : Needs) (l : List Needs) → IsHere self.old h (n ∷ l) →
             (result ≡ n) × IsHere self.new h l }
@@ -59,7 +59,7 @@ impl<'a> Here<'a> {
         let _needs = self.next_node();
     }
 
-    /// Sets the flags as they are needed.
+    /// Sets the flags to what is needed.
     pub(crate) fn set(&mut self, needs: Needs)
         ensures flags { self.new.flags ≡ with_needs self.old.flags needs }
         ensures here { (h : spec.Here) (l : List Needs) → IsHere self.old h l →
@@ -68,14 +68,14 @@ impl<'a> Here<'a> {
         self.flags = with_needs(self.flags, needs);
     }
 
-    /// Goes into a group.
+    /// Enters a group.
     pub(crate) fn enter(&mut self)
         ensures { (h : spec.Here) (l : List Needs) → IsHere self.old h l → IsHere self.new (spec.deeper h) l }
     {
         self.left = self.left.saturating_sub(1);
     }
 
-    /// Counts a group with a number. There are fewer than a word holds: no memory has room for more.
+    /// Counts a group with a number. A word can hold the count: memory has no capacity for more groups.
     pub(crate) fn count_opening(&mut self) -> Result<(), AllocError>
         ensures { OnOk result ((h : spec.Here) (l : List Needs) → IsHere self.old h l →
             IsHere self.new (spec.past_groups 1 h) l) }
@@ -84,7 +84,7 @@ impl<'a> Here<'a> {
         Ok(())
     }
 
-    /// Leaves a group that stands at `outside`: the flags from before hold again.
+    /// Leaves a group that is at `outside`: the flags from before are in effect again.
     pub(crate) fn leave(&mut self, outside: &Here)
         ensures { (h e : spec.Here) (k l : List Needs) → IsHere outside.now h k → IsHere self.old e l →
             IsHere self.new (record h { opened = e.opened }) l }

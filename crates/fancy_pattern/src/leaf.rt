@@ -1,4 +1,4 @@
-//! Trees that hold no other.
+//! Trees that hold no other trees.
 ghost use Rattle.std.specs.Prelude.{◌≡◌, List, ◌++◌, codes, nat_lt, true, OnOk};
 ghost use Rattle.std.specs.List.{list_all};
 ghost use Rattle.fancy_grammar.specs.Marks.{Marks};
@@ -63,7 +63,7 @@ fn assertion_text(assertion: Assertion, flags: Flags) -> &'static str
     }
 }
 
-/// The name of a verb, as it stands in the parentheses.
+/// The name of a verb, as it is written in the parentheses.
 pub(crate) fn verb_name(verb: BacktrackingControlVerb) -> &'static str
     ensures text { spec.verb_name verb ≡ result.now }
     ensures ascii { list_all (λ b. nat_lt b 128) result.now ≡ true }
@@ -103,7 +103,7 @@ fn put_verb<S: Sink>(out: &mut S, verb: BacktrackingControlVerb) -> Result<(), A
     out.put(')')
 }
 
-/// Writes a condition on a group that stands alone.
+/// Writes a condition on a group that is not the condition of a Conditional.
 #[tactic(auto, using(crate::proofs::SinkLemmas::added_steps))]
 fn put_condition_alone<S: Sink>(
     out: &mut S,
@@ -119,7 +119,7 @@ fn put_condition_alone<S: Sink>(
     put_ascii(out, "))")
 }
 
-/// Writes a leaf where its flags are set, and nothing for a tree that holds others.
+/// Writes a leaf once its flags are set, and nothing for a tree that holds others.
 #[tactic(auto, using(crate::proofs::SinkLemmas::added_steps))]
 pub(crate) fn put_leaf<S: Sink>(
     out: &mut S,

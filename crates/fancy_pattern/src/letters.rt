@@ -1,4 +1,4 @@
-//! Characters: as they stand, behind a backslash, and by their codes.
+//! Characters: written as they are, after a backslash, or by their codes.
 ghost use Rattle.std.specs.Prelude.{◌≡◌, ◌<◌, ◌/◌, ◌%◌, ◌∷◌, [], true, false, chars, map, OnOk};
 ghost use Rattle.std.specs.Bool.{OnTrue};
 ghost use Rattle.std.specs.List.{flat_map};
@@ -13,7 +13,7 @@ use fancy_lex::flags::Flags;
 use fancy_lex::text::next;
 use std::alloc::AllocError;
 
-/// A control character, or one of those that show nothing.
+/// Whether the character is a control character or another invisible one.
 fn is_unseen(c: char) -> bool
     ensures { result ≡ spec.is_unseen c }
 {
@@ -30,7 +30,7 @@ fn is_unseen(c: char) -> bool
     )
 }
 
-/// The letter behind a backslash that stands for the character.
+/// The letter that represents the character after a backslash.
 fn letter_of(c: char) -> Option<char>
     ensures { spec.letter_of c ≡ result }
 {
@@ -46,7 +46,7 @@ fn letter_of(c: char) -> Option<char>
     }
 }
 
-/// Whether the character is a mark outside a class, whatever stands before it.
+/// Whether the character is a metacharacter outside a class, whatever is before it.
 fn is_mark(c: char) -> bool
     ensures { result ≡ (c ∈ "\\.+*?()|[{^$") }
 {
@@ -106,7 +106,7 @@ fn put_code<S: Sink>(out: &mut S, c: char) -> Result<(), AllocError>
     put_hex_digits(out, code)
 }
 
-/// Writes a character that shows, or the code of one that does not.
+/// Writes a visible character, or the code of an invisible one.
 fn put_plain<S: Sink>(out: &mut S, c: char) -> Result<(), AllocError>
     ensures { OnOk result (Added S.holds out.old out.new (spec.plain c)) }
 {
@@ -117,7 +117,7 @@ fn put_plain<S: Sink>(out: &mut S, c: char) -> Result<(), AllocError>
     }
 }
 
-/// Writes the character behind a backslash.
+/// Writes the character after a backslash.
 #[tactic(auto, using(crate::proofs::SinkLemmas::added_steps))]
 fn put_behind_backslash<S: Sink>(out: &mut S, c: char) -> Result<(), AllocError>
     ensures { OnOk result (Added S.holds out.old out.new (backslash ∷ c ∷ [])) }
@@ -136,7 +136,7 @@ pub(crate) fn put_class_character<S: Sink>(out: &mut S, c: char) -> Result<(), A
     }
 }
 
-/// Writes a character of a Literal that ignores case.
+/// Writes a character of a case-insensitive Literal.
 fn put_caseless<S: Sink>(out: &mut S, c: char, flags: Flags) -> Result<(), AllocError>
     ensures { OnOk result (Added S.holds out.old out.new (spec.character flags true c)) }
 {
@@ -147,7 +147,7 @@ fn put_caseless<S: Sink>(out: &mut S, c: char, flags: Flags) -> Result<(), Alloc
     }
 }
 
-/// Writes a character of a Literal with its case kept.
+/// Writes a character of a case-sensitive Literal.
 fn put_cased<S: Sink>(out: &mut S, c: char, flags: Flags) -> Result<(), AllocError>
     ensures { OnOk result (Added S.holds out.old out.new (spec.character flags false c)) }
 {
@@ -161,8 +161,8 @@ fn put_cased<S: Sink>(out: &mut S, c: char, flags: Flags) -> Result<(), AllocErr
     }
 }
 
-/// Whether an ASCII letter or digit stands for itself in a Literal: with its case kept it needs a backslash where the
-/// flag is on.
+/// Whether an ASCII letter or digit represents itself in a Literal. A case-sensitive one needs a backslash if the flag
+/// is set.
 #[tactic(auto, using(crate::proofs::LetterLemmas::stands_for_itself))]
 fn is_itself(c: char, casei: bool, flags: Flags) -> bool
     ensures { OnTrue result (spec.character flags casei c ≡ c ∷ []) }

@@ -68,11 +68,11 @@ pub fn to_pattern(alloc: Global, tree: &ExprTree, flags: u32) -> Result<Option<S
     }
 }
 
-/// What a list has capacity for from the start, so that a small one does not grow.
+/// The initial capacity of a list, so that a small one does not grow.
 const FIRST_CAPACITY: usize = 32;
 
-/// The tree's text. It is written to a string that has capacity for more than a byte a node from the start, and grows
-/// from there; what is answered owns memory for the text alone.
+/// The tree's text. It is written to a string with an initial capacity of more than a byte per node, which grows from
+/// there. The returned string owns memory only for the text.
 fn text_of_tree(alloc: Global, tree: &ExprTree, flags: Flags) -> Result<String, AllocError>
     ensures { IfOk result (λ s. text_of s ≡ pattern_text flags (view tree.now.expr) (marks_of tree.now)) }
 {

@@ -20,26 +20,26 @@ use std::collections::BTreeMap;
 pub(crate) struct Name<'a> {
     /// The name.
     pub(crate) text: &'a str,
-    /// Whether it is an id, and no number text.
+    /// Whether it is an id, and not the text of a number.
     is_plain: bool,
-    /// Whether the group is the last of this name.
+    /// Whether the group is the last one with this name.
     is_last: bool,
     /// Whether it is the only one.
     is_only: bool,
 }
 
-/// What the text of a tree depends on beside the tree.
+/// What the text of a tree depends on besides the tree.
 #[derive(Drop)]
 pub(crate) struct Known<'a> {
-    /// For each group that has a name, by its number, that name.
+    /// The name of each group that has one, by the number of the group.
     names: BTreeMap<usize, Name<'a>>,
-    /// Some reference is written as a number, and so is each.
+    /// Whether some reference is written as a number; then each is.
     pub(crate) is_numeric: bool,
-    /// Some call is by the number 0.
+    /// Whether some call is by the number 0.
     pub(crate) self_recursive: bool,
 }
 
-/// Whether the name is an id, and no number text.
+/// Whether the name is an id, and not the text of a number.
 fn is_plain_name(name: &str) -> bool
     ensures { result ≡ spec.is_plain_name (chars name.now) }
 {
@@ -66,7 +66,7 @@ fn is_only(number: usize, numbers: &[usize]) -> bool
     }
 }
 
-/// Adds the name of the group with this number, if it has none.
+/// Adds the name of the group with this number, if it has no name yet.
 fn add_number<'a>(
     names: &mut BTreeMap<usize, Name<'a>>,
     number: usize,
@@ -81,7 +81,7 @@ fn add_number<'a>(
     Ok(())
 }
 
-/// Adds the name for each of the numbers that has none.
+/// Adds the name for each of the numbers that has no name yet.
 fn add_name<'a>(
     names: &mut BTreeMap<usize, Name<'a>>,
     text: &'a str,
@@ -126,7 +126,7 @@ impl<'a> Known<'a> {
         self.names.get(&group).copied()
     }
 
-    /// The group's name, where references are written by names, and one by this name means the group.
+    /// The group's name, if references are written by names, and one by this name refers to the group.
     pub(crate) fn last_name(&self, group: usize) -> Option<&'a str>
         ensures { (m : Marks) → IsKnown self.now m →
             option_map (λ t. chars t.now) result ≡ spec.fit_name m (spec.is_last group) group }
@@ -139,7 +139,7 @@ impl<'a> Known<'a> {
         }
     }
 
-    /// The group's name, where references are written by names, and the group alone has this name.
+    /// The group's name, if references are written by names, and only this group has the name.
     pub(crate) fn only_name(&self, group: usize) -> Option<&'a str>
         ensures { (m : Marks) → IsKnown self.now m →
             option_map (λ t. chars t.now) result ≡ spec.fit_name m (spec.is_only group) group }

@@ -13,7 +13,7 @@ use fancy_lex::text::next;
 use fancy_syntax::expr::{Assertion, Expr};
 use std::alloc::AllocError;
 
-/// Nothing.
+/// No needs.
 pub(crate) fn no_needs() -> Needs
     ensures { result ≡ spec.no_needs }
 {
@@ -25,7 +25,7 @@ pub(crate) fn no_needs() -> Needs
     }
 }
 
-/// The case flag as it is told.
+/// The case flag with this value.
 fn needs_case(casei: bool) -> Needs
     ensures { result ≡ spec.needs_case casei }
 {
@@ -35,7 +35,7 @@ fn needs_case(casei: bool) -> Needs
     }
 }
 
-/// Lines, which end so.
+/// Multi-line mode, with this CRLF flag.
 fn needs_line(crlf: bool) -> Needs
     ensures { result ≡ spec.needs_line crlf }
 {
@@ -46,7 +46,7 @@ fn needs_line(crlf: bool) -> Needs
     }
 }
 
-/// Whether each character stands behind a backslash for itself with its case kept, whatever the flags.
+/// Whether each character represents itself after a backslash, with its case kept, whatever the flags.
 fn are_kept_by_backslash(text: &str, oniguruma_mode: bool) -> bool
     ensures { result ≡ list_all (spec.is_kept_by_backslash oniguruma_mode) (chars text.now) }
 {
@@ -60,7 +60,7 @@ fn are_kept_by_backslash(text: &str, oniguruma_mode: bool) -> bool
     true
 }
 
-/// Whether the text is what `\h` or `\H` is read as.
+/// Whether the text is the class that `\h` or `\H` is read as.
 fn is_hex_class(text: &str) -> bool
     ensures { result ≡ spec.is_hex_class (chars text.now) }
 {
@@ -83,7 +83,7 @@ fn assertion_needs(assertion: Assertion) -> Needs
     }
 }
 
-/// A dot with these fields.
+/// The flags of a dot with these fields.
 fn needs_dot(newline: bool, crlf: bool) -> Needs
     ensures { result ≡ spec.needs_dot newline crlf }
 {
@@ -135,7 +135,7 @@ fn leaf_needs(tree: &Expr, oniguruma_mode: bool) -> Needs
     }
 }
 
-/// What the one needs, or where that needs nothing the other behind it.
+/// The first of the two needs that is not free.
 fn first(one: Need, other: Need) -> Need
     ensures { result ≡ spec.first one other }
 {
@@ -145,7 +145,7 @@ fn first(one: Need, other: Need) -> Need
     }
 }
 
-/// Adds to what the one needs what the other behind it does.
+/// Adds the other need, which follows: the first of the two that is not free.
 #[inline(always)]
 #[tactic(auto, using(crate::proofs::NeedsWalk::first_free))]
 fn join_first(one: &mut Need, other: Need)
@@ -179,7 +179,7 @@ fn both(one: Need, other: Need) -> Need
     }
 }
 
-/// Adds to what the one needs what the other does.
+/// Adds the other need: what both need together.
 #[inline(always)]
 #[tactic(auto, using(crate::proofs::NeedsWalk::both_free))]
 fn join_both(one: &mut Need, other: Need)
@@ -204,14 +204,15 @@ fn join_both_needs(one: &mut Needs, other: &Needs)
 /// What a tree needs.
 #[derive(Clone, Copy)]
 pub(crate) struct TreeNeeds {
-    /// What the first leaf in it needs that needs something, for each flag.
+    /// For each flag, the first need of its leaves that is not free.
     pub(crate) first: Needs,
     /// What all leaves in it need together.
     pub(crate) common: Needs,
 }
 
 impl TreeNeeds {
-    /// Adds what a tree behind it needs. It is lent, and not inlined, so that its bytes are not moved one by one.
+    /// Adds what a following tree needs. It is borrowed, and the call is not inlined, so that its bytes are not moved
+    /// one by one.
     #[inline(never)]
     fn join(&mut self, below: &TreeNeeds)
         ensures first { self.new.first ≡ spec.joined spec.first self.old.first below.now.first }
@@ -222,8 +223,8 @@ impl TreeNeeds {
     }
 }
 
-/// Adds for each node of the tree, in preorder, what the first leaf in it needs that needs something, and answers what
-/// the tree needs.
+/// Adds the needs of each node of the tree, in preorder: for each flag, the first need of its leaves that is not free.
+/// Returns what the tree needs.
 pub(crate) fn push_needs(
     list: &mut Vec<Needs>,
     tree: &Expr,
@@ -254,7 +255,7 @@ pub(crate) fn push_needs(
     Ok(needs)
 }
 
-/// The flag as it is needed, or else as it is.
+/// The flag with the value that is needed, or else as it is.
 fn fixed_or(flag: bool, need: Need) -> bool
     ensures { result ≡ spec.fixed_or flag need }
 {
@@ -264,7 +265,7 @@ fn fixed_or(flag: bool, need: Need) -> bool
     }
 }
 
-/// Whether the flag is as it is needed.
+/// Whether the flag has the value that is needed.
 fn is_met(flag: bool, need: Need) -> bool
     ensures { Decides result (spec.fixed_or flag need ≡ flag) }
 {
@@ -274,7 +275,7 @@ fn is_met(flag: bool, need: Need) -> bool
     }
 }
 
-/// Whether the flags are as they are needed.
+/// Whether the flags have the values that are needed.
 pub(crate) fn are_met(flags: Flags, needs: Needs) -> bool
     ensures { Decides result (spec.with_needs flags needs ≡ flags) }
 {
@@ -284,7 +285,7 @@ pub(crate) fn are_met(flags: Flags, needs: Needs) -> bool
         && is_met(flags.crlf, needs.crlf)
 }
 
-/// The flags as they are needed.
+/// The flags with the values that are needed.
 pub(crate) fn with_needs(flags: Flags, needs: Needs) -> Flags
     ensures { result ≡ spec.with_needs flags needs }
 {

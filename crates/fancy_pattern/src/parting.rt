@@ -1,4 +1,4 @@
-//! Texts before which an empty comment stands, since they would be read with what stands before them.
+//! Texts that get an empty comment before them, since they would be read together with what is before them.
 ghost use Rattle.std.specs.Prelude.{◌≡◌, true, nat_lt, chars};
 ghost use Rattle.std.specs.List.{list_all};
 ghost use Rattle.std.specs.Str.{bytes_eq};
@@ -8,19 +8,19 @@ ghost use Rattle.fancy_pattern.specs.Sink.{needs_parting};
 use fancy_lex::text::{after, is_same_text, next};
 use fancy_parts::heads::references::begins_target;
 
-/// What stands before a text.
+/// What is before a text.
 #[derive(Clone, Copy)]
 pub(crate) enum Parting {
-    /// A number, to which a digit would belong.
+    /// A number, which a digit would continue.
     Number,
-    /// `(?(`, behind which a target or `DEFINE` would be read.
+    /// `(?(`, after which a target or `DEFINE` would be read.
     Condition,
-    /// `(?~`, to which a bar would belong.
+    /// `(?~`, which a bar would continue.
     Absent,
 }
 
 impl Parting {
-    /// Whether the text has to be parted from what stands before it.
+    /// Whether the text must be separated from what is before it.
     pub(crate) fn is_needed(self, text: &str) -> bool
         ensures { result ≡ needs_parting self (chars text.now) }
     {
@@ -32,7 +32,7 @@ impl Parting {
     }
 }
 
-/// Whether the text is the word, which has ASCII characters alone.
+/// Whether the text is the word, which has only ASCII characters.
 pub(crate) fn is_text(text: &str, word: &str) -> bool
     requires { list_all (λ b. nat_lt b 128) word.now ≡ true }
     ensures { result ≡ bytes_eq (chars text.now) word.now }
@@ -40,7 +40,7 @@ pub(crate) fn is_text(text: &str, word: &str) -> bool
     is_same_text(text, word)
 }
 
-/// Whether an ASCII digit stands at the front.
+/// Whether the text begins with an ASCII digit.
 fn begins_with_digit(text: &str) -> bool
     ensures { result ≡ at_digit (chars text.now) }
 {

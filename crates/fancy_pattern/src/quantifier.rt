@@ -13,7 +13,7 @@ use fancy_parts::quote::mark;
 use fancy_syntax::expr::Expr;
 use std::alloc::AllocError;
 
-/// The counts of a Repeat, what is tried first, and whether it is not entered again.
+/// The counts of a Repeat, whether it is greedy, and whether it is possessive.
 #[derive(Clone, Copy)]
 pub(crate) struct Quantifier {
     pub(crate) lo: usize,
@@ -22,8 +22,8 @@ pub(crate) struct Quantifier {
     pub(crate) possessive: bool,
 }
 
-/// Whether a possessive quantifier, or in Oniguruma mode one whose counts have changed places, is read as an atomic
-/// group of a Repeat with these counts.
+/// Whether a possessive quantifier, or in Oniguruma mode one with swapped counts, is read as an atomic group of a
+/// Repeat with these counts.
 pub(crate) fn is_possessive(lo: usize, hi: usize, flags: Flags) -> bool
     ensures { result ≡ spec.is_possessive flags lo hi }
 {
@@ -44,10 +44,10 @@ pub(crate) fn is_quantified(tree: &Expr, flags: Flags) -> bool
     }
 }
 
-/// The most quantifiers that may stand one behind another in Oniguruma mode.
+/// The largest number of adjacent quantifiers in Oniguruma mode.
 const MOST_ADJACENT: usize = 5;
 
-/// How many quantifiers may stand one behind another where so many groups may yet open.
+/// How many quantifiers may follow one another if `left` levels are left.
 pub(crate) fn most_quantifiers(flags: Flags, left: usize) -> usize
     ensures { (d : ℕ) → left ≡ max_depth - d → result ≡ spec.most_quantifiers flags d }
 {
@@ -58,7 +58,7 @@ pub(crate) fn most_quantifiers(flags: Flags, left: usize) -> usize
     }
 }
 
-/// Writes what stands in the braces of a quantifier.
+/// Writes the contents of the braces of a quantifier.
 #[tactic(auto, using(crate::proofs::SinkLemmas::added_steps, fancy_parts::proofs::QuoteLemmas::range_steps))]
 fn put_range<S: Sink>(out: &mut S, lo: usize, hi: usize) -> Result<(), AllocError>
     ensures { OnOk result (Added S.holds out.old out.new (range lo hi)) }
@@ -75,7 +75,8 @@ fn put_range<S: Sink>(out: &mut S, lo: usize, hi: usize) -> Result<(), AllocErro
     }
 }
 
-/// The mark that is left for the counts where the quantifier is adjacent to another: `?` and `+` would belong to that.
+/// The operator that remains for the counts if the quantifier is adjacent to another: `?` and `+` would belong to that
+/// one.
 fn mark_left(adjacent: bool, mark: Option<char>) -> Option<char>
     ensures { spec.mark_left adjacent mark ≡ result }
 {
@@ -85,7 +86,7 @@ fn mark_left(adjacent: bool, mark: Option<char>) -> Option<char>
     }
 }
 
-/// Writes the mark, or the counts in braces where there is none.
+/// Writes the operator, or the counts in braces if there is none.
 fn put_counts<S: Sink>(
     out: &mut S,
     lo: usize,
@@ -104,7 +105,7 @@ fn put_counts<S: Sink>(
     }
 }
 
-/// Writes the counts in braces with their places changed.
+/// Writes the counts in braces, swapped.
 fn put_swapped<S: Sink>(out: &mut S, lo: usize, hi: usize) -> Result<(), AllocError>
     ensures { OnOk result (Added S.holds out.old out.new
         (codes "{" ++ (decimal hi ++ (codes "," ++ (decimal lo ++ codes "}"))))) }
@@ -116,7 +117,7 @@ fn put_swapped<S: Sink>(out: &mut S, lo: usize, hi: usize) -> Result<(), AllocEr
     out.put('}')
 }
 
-/// `?` where the quantifier is not greedy, or under SWAP_GREED where it is.
+/// `?` if the quantifier is not greedy, or under SWAP_GREED if it is.
 fn lazy_mark(flags: Flags, greedy: bool) -> &'static str
     ensures text { spec.lazy_mark flags greedy ≡ result.now }
     ensures ascii { list_all (λ b. nat_lt b 128) result.now ≡ true }
@@ -124,7 +125,7 @@ fn lazy_mark(flags: Flags, greedy: bool) -> &'static str
     if greedy == flags.swap_greed { "?" } else { "" }
 }
 
-/// `+` where the quantifier is possessive.
+/// `+` if the quantifier is possessive.
 fn possessive_mark(possessive: bool) -> &'static str
     ensures text { spec.possessive_mark possessive ≡ result.now }
     ensures ascii { list_all (λ b. nat_lt b 128) result.now ≡ true }

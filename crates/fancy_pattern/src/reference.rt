@@ -34,7 +34,7 @@ fn put_signed<S: Sink>(out: &mut S, amount: isize) -> Result<(), AllocError>
     out.put_number(amount.unsigned_abs())
 }
 
-/// Writes a level with its sign, where there is one.
+/// Writes a level with its sign, if there is one.
 #[tactic(auto, using(crate::proofs::SinkLemmas::added_steps))]
 fn put_level<S: Sink>(out: &mut S, level: Option<isize>) -> Result<(), AllocError>
     ensures { OnOk result (Added S.holds out.old out.new (spec.level_text level)) }
@@ -45,7 +45,7 @@ fn put_level<S: Sink>(out: &mut S, level: Option<isize>) -> Result<(), AllocErro
     }
 }
 
-/// Writes a text between marks, behind a head.
+/// Writes a text between delimiters, after an opening.
 #[tactic(auto, using(crate::proofs::SinkLemmas::added_steps))]
 fn put_marked<S: Sink>(out: &mut S, head: &str, text: &str) -> Result<(), AllocError>
     requires { list_all (λ b. nat_lt b 128) head.now ≡ true }
@@ -57,7 +57,7 @@ fn put_marked<S: Sink>(out: &mut S, head: &str, text: &str) -> Result<(), AllocE
     out.put('>')
 }
 
-/// Writes a text between quotes, behind a head.
+/// Writes a text between quotes, after an opening.
 #[tactic(auto, using(crate::proofs::SinkLemmas::added_steps))]
 fn put_quoted<S: Sink>(out: &mut S, head: &str, text: &str) -> Result<(), AllocError>
     requires { list_all (λ b. nat_lt b 128) head.now ≡ true }
@@ -70,8 +70,8 @@ fn put_quoted<S: Sink>(out: &mut S, head: &str, text: &str) -> Result<(), AllocE
     out.put('\'')
 }
 
-/// Writes what a back reference names: the group by its name, where that means this group and stands before, or else by
-/// its number.
+/// Writes the target of a back reference: the group's name if it refers to this group and the group opened before, or
+/// else its number.
 #[tactic(auto, using(crate::proofs::SinkLemmas::added_steps))]
 fn put_group<S: Sink>(
     out: &mut S,
@@ -126,7 +126,7 @@ pub(crate) fn put_backref_at_level<S: Sink>(
     out.put('>')
 }
 
-/// Writes a name and a level between marks.
+/// Writes a name and a level between delimiters.
 #[tactic(auto, using(crate::proofs::SinkLemmas::added_steps))]
 fn put_name_at_level<S: Sink>(
     out: &mut S,
@@ -154,7 +154,7 @@ fn put_number_at_level<S: Sink>(
     put_level(out, level)
 }
 
-/// Writes what a condition on a group asks for.
+/// Writes the target of a condition on a group.
 #[tactic(auto, using(crate::proofs::SinkLemmas::added_steps))]
 pub(crate) fn put_target<S: Sink>(
     out: &mut S,
@@ -171,7 +171,7 @@ pub(crate) fn put_target<S: Sink>(
     }
 }
 
-/// Writes a group by its distance: so many groups on, or back.
+/// Writes a group by its distance: that many groups forward or back.
 #[tactic(auto, using(crate::proofs::SinkLemmas::added_steps))]
 fn put_distance<S: Sink>(out: &mut S, opened: usize, group: usize) -> Result<(), AllocError>
     ensures { OnOk result (Added S.holds out.old out.new (spec.distance opened group)) }
@@ -185,8 +185,8 @@ fn put_distance<S: Sink>(out: &mut S, opened: usize, group: usize) -> Result<(),
     }
 }
 
-/// Writes what a call names: by number where some reference is, and 0 where some call was; else by a name that this
-/// group alone has, or by distance.
+/// Writes the target of a call: the number if some reference is a number, or 0 if some call was; else a name that only
+/// this group has, or the distance.
 #[tactic(auto, using(crate::proofs::SinkLemmas::added_steps))]
 fn put_called<S: Sink>(
     out: &mut S,
@@ -222,7 +222,7 @@ pub(crate) fn put_call<S: Sink>(
     out.put('>')
 }
 
-/// Whether the mark, an ASCII character, stands in the text.
+/// Whether the text contains the delimiter, an ASCII character.
 fn has(text: &str, mark: char) -> bool
     requires { mark < 128 }
     ensures { result ≡ is_among mark (chars text.now) }
@@ -230,7 +230,7 @@ fn has(text: &str, mark: char) -> bool
     split_at(text, mark).is_some()
 }
 
-/// Writes a call by name as a group.
+/// Writes a call by name in the form of a group.
 #[tactic(auto, using(crate::proofs::SinkLemmas::added_steps))]
 fn put_grouped_call<S: Sink>(out: &mut S, name: &str) -> Result<(), AllocError>
     ensures { OnOk result (Added S.holds out.old out.new (codes "(?P>" ++ (chars name.now ++ codes ")"))) }
@@ -240,7 +240,7 @@ fn put_grouped_call<S: Sink>(out: &mut S, name: &str) -> Result<(), AllocError>
     out.put(')')
 }
 
-/// Writes a call by a name that means no group, or several.
+/// Writes a call by a name that refers to no group, or to several.
 fn put_call_by_name<S: Sink>(out: &mut S, name: &str) -> Result<(), AllocError>
     ensures { OnOk result (Added S.holds out.old out.new (spec.unresolved_call_by_name (chars name.now))) }
 {
@@ -255,7 +255,7 @@ fn put_call_by_name<S: Sink>(out: &mut S, name: &str) -> Result<(), AllocError>
     }
 }
 
-/// Writes a call so many groups away.
+/// Writes a call by a relative number.
 #[tactic(auto, using(crate::proofs::SinkLemmas::added_steps))]
 fn put_call_by_amount<S: Sink>(out: &mut S, amount: isize) -> Result<(), AllocError>
     ensures { OnOk result (Added S.holds out.old out.new (spec.marked (codes "\\g") (spec.signed amount))) }
@@ -275,7 +275,7 @@ fn put_call_by_number<S: Sink>(out: &mut S, group: usize) -> Result<(), AllocErr
     out.put('>')
 }
 
-/// Writes a call of this target that means no group.
+/// Writes a call with this target that refers to no group.
 fn put_unresolved_call<S: Sink>(out: &mut S, target: &CaptureGroupTarget) -> Result<(), AllocError>
     ensures { OnOk result (Added S.holds out.old out.new (spec.unresolved_text (ast_call (view_target target.now)))) }
 {
@@ -286,7 +286,7 @@ fn put_unresolved_call<S: Sink>(out: &mut S, target: &CaptureGroupTarget) -> Res
     }
 }
 
-/// Writes a call that means no group.
+/// Writes a call that refers to no group.
 #[tactic(auto, using(crate::proofs::SinkLemmas::added_steps))]
 pub(crate) fn put_unresolved<S: Sink>(out: &mut S, node: &AstNode) -> Result<(), AllocError>
     ensures { (m : Marks) (h : Here) (place : ℕ) →
@@ -300,7 +300,7 @@ pub(crate) fn put_unresolved<S: Sink>(out: &mut S, node: &AstNode) -> Result<(),
     }
 }
 
-/// What stands before a group's name: before `=` and `!` a `<` alone would begin a look-behind.
+/// The characters before a group's name: before `=` and `!`, a single `<` would begin a look-behind.
 fn name_mark(first: char) -> &'static str
     ensures text { (if first ∈ "=!" then codes "?P" else codes "?") ≡ result.now }
     ensures ascii { list_all (λ b. nat_lt b 128) result.now ≡ true }
@@ -312,7 +312,7 @@ fn name_mark(first: char) -> &'static str
     }
 }
 
-/// Writes the head of a capturing group of this name.
+/// Writes the opening of a capturing group with this name.
 fn put_name_head<S: Sink>(out: &mut S, name: &str) -> Result<(), AllocError>
     ensures { OnOk result (Added S.holds out.old out.new (spec.name_head (chars name.now))) }
 {
@@ -325,7 +325,7 @@ fn put_name_head<S: Sink>(out: &mut S, name: &str) -> Result<(), AllocError>
     put_marked(out, name_mark(first), name)
 }
 
-/// Writes what stands behind the parenthesis of a capturing group.
+/// Writes what follows the parenthesis of a capturing group.
 #[tactic(auto, using(crate::proofs::SinkLemmas::added_steps))]
 pub(crate) fn put_group_head<S: Sink>(
     out: &mut S,

@@ -33,7 +33,7 @@ fn have_same_backrefs(a: &ExprTree, b: &ExprTree) -> bool
     a.backrefs == b.backrefs
 }
 
-/// Whether the same is true of both.
+/// Whether the boolean fields of both are equal.
 fn have_same_flags(a: &ExprTree, b: &ExprTree) -> bool
     ensures { result ≡ (beq a.now.numeric_capture_group_references b.now.numeric_capture_group_references
         && beq a.now.contains_subroutines b.now.contains_subroutines
@@ -46,7 +46,7 @@ fn have_same_flags(a: &ExprTree, b: &ExprTree) -> bool
         && a.numbered_groups_ignored == b.numbered_groups_ignored
 }
 
-/// Whether both have as many groups, and the same back reference above them.
+/// Whether both have the same number of groups, and the same out-of-range back reference.
 fn have_same_numbers(a: &ExprTree, b: &ExprTree) -> bool
     ensures { result ≡ (nat_eq a.now.total_groups b.now.total_groups
         && option_eq nat_eq a.now.out_of_range_backref b.now.out_of_range_backref) }
@@ -54,7 +54,7 @@ fn have_same_numbers(a: &ExprTree, b: &ExprTree) -> bool
     a.total_groups == b.total_groups && a.out_of_range_backref == b.out_of_range_backref
 }
 
-/// Whether what is said beside the trees is the same.
+/// Whether the group information of the trees is the same.
 fn have_same_marks(a: &ExprTree, b: &ExprTree) -> bool
     ensures { Decides result (marks_of a.now ≡ marks_of b.now) }
 {
@@ -70,7 +70,7 @@ fn have_same_marks(a: &ExprTree, b: &ExprTree) -> bool
     have_same_numbers(a, b)
 }
 
-/// Whether the trees are the same up to places, with the same marks.
+/// Whether the trees are equal except for positions, with the same group information.
 fn is_same_answer(a: &ExprTree, b: &ExprTree) -> bool
     ensures { Decides result
         ((unplaced (view a.now.expr) ≡ unplaced (view b.now.expr)) × (marks_of a.now ≡ marks_of b.now)) }
@@ -92,7 +92,7 @@ fn is_read_after(error: Error) -> Result<bool, AllocError>
     }
 }
 
-/// Whether the text is read under the flags as this tree, up to places, with these marks.
+/// Whether the text is read under the flags as this tree, except for positions, with this group information.
 pub(crate) fn is_read_as(
     alloc: Global,
     text: &str,

@@ -1,4 +1,4 @@
-//! What a text is written to.
+//! The output that a text is written to.
 ghost use Rattle.std.specs.Prelude.{◌≡◌, ◌∷◌, [], true, nat_lt, chars, decimal, OnOk};
 ghost use Rattle.std.specs.List.{list_all};
 ghost use Rattle.fancy_lex.specs.Text.{Text, bytes, text_of};
@@ -9,28 +9,28 @@ use fancy_lex::text::{append, byte_len, push};
 use fancy_parts::quote::{number_len, put_number};
 use std::alloc::AllocError;
 
-/// What takes a text, piece by piece.
+/// An output that takes a text, piece by piece.
 pub(crate) trait Sink {
-    /// What was taken is this text.
+    /// What was written is this text.
     ghost holds: { Self → Text → Type 0 };
 
-    /// Takes a character.
+    /// Writes a character.
     fn put(&mut self, c: char) -> Result<(), AllocError>
         ensures { OnOk result (Added holds self.old self.new (c ∷ [])) };
 
-    /// Takes a text.
+    /// Writes a text.
     fn put_text(&mut self, text: &str) -> Result<(), AllocError>
         ensures { OnOk result (Added holds self.old self.new (chars text.now)) };
 
-    /// Takes a number in decimal digits.
+    /// Writes a number in decimal digits.
     fn put_number(&mut self, n: usize) -> Result<(), AllocError>
         ensures { OnOk result (Added holds self.old self.new (decimal n)) };
 
-    /// How many bytes were taken.
+    /// How many bytes were written.
     fn len(&self) -> usize
         ensures { (t : Text) → holds self.now t → result ≡ bytes t };
 
-    /// Parts what was taken from the place on from what stands before it, where it begins so that it has to be.
+    /// Separates what was written from the position on from what is before it, if they would be read together.
     fn part(&mut self, place: usize, parting: Parting) -> Result<(), AllocError>
         ensures { OnOk result (Changed holds self.old self.new place (parted parting)) };
 }
@@ -57,7 +57,7 @@ impl Sink for String {
     }
 
     fn part(&mut self, place: usize, parting: Parting) -> Result<(), AllocError> {
-        // Every caller asks at a place where it was before, so that a character begins there.
+        // Every caller passes a position where the output ended before, so that a character begins there.
         let Some((_, text)) = self.as_str().split_at_checked(place) else {
             return Err(AllocError);
         };
@@ -68,7 +68,7 @@ impl Sink for String {
     }
 }
 
-/// Takes a text of ASCII characters.
+/// Writes a text of ASCII characters.
 pub(crate) fn put_ascii<S: Sink>(out: &mut S, text: &str) -> Result<(), AllocError>
     requires { list_all (λ b. nat_lt b 128) text.now ≡ true }
     ensures { OnOk result (Added S.holds out.old out.new text.now) }

@@ -1,4 +1,4 @@
-//! What a Delegate was written as: a text that the reader writes as that of the Delegate.
+//! The source of a Delegate: a text that the reader turns into the text of the Delegate.
 ghost use Rattle.std.specs.Prelude.{◌≡◌, ◌∷◌, [], Bool, true, nat_lt, chars, option_map, IfOk, OnOk};
 ghost use Rattle.std.specs.List.{list_all};
 ghost use Rattle.fancy_lex.specs.Characters.{◌∈◌};
@@ -16,18 +16,18 @@ use fancy_lex::flags::Flags;
 use fancy_lex::text::{after, after_word, next, split_at};
 use std::alloc::AllocError;
 
-/// An escape, where the text begins with what the reader writes for it.
+/// An escape, if the text begins with what the reader writes for it.
 #[derive(Clone, Copy)]
 struct Found<'a> {
     /// The escape.
     escape: &'static str,
-    /// The text behind what the reader writes for it.
+    /// The text after what the reader writes for it.
     rest: &'a str,
     /// Whether that is a negated set.
     negated: bool,
 }
 
-/// The escape, where the text begins with the items that the reader writes for it.
+/// The escape, if the text begins with the items that the reader writes for it.
 fn items<'a>(text: &'a str, written: &'static str, escape: &'static str) -> Option<Found<'a>>
     ensures { (seen : Bool) → found_part result
         ≡ spec.replaced_part seen (spec.items (chars written.now) (chars escape.now) ∷ []) (chars text.now) }
@@ -40,7 +40,7 @@ fn items<'a>(text: &'a str, written: &'static str, escape: &'static str) -> Opti
     })
 }
 
-/// The text behind the `&&` that the reader writes before a negated set where it wrote another before.
+/// The text after the `&&` that the reader writes before a negated set if it wrote another before.
 fn after_joint(text: &str, seen: bool) -> Option<&str>
     ensures { strip_word (joint seen) (chars text.now) ≡ option_map (λ r. chars r.now) result }
 {
@@ -51,8 +51,8 @@ fn after_joint(text: &str, seen: bool) -> Option<&str>
     }
 }
 
-/// The escape, where the text begins with the negated set that the reader writes for it, behind `&&` where it wrote
-/// another before.
+/// The escape, if the text begins with the negated set that the reader writes for it, after `&&` if it wrote another
+/// before.
 fn negated_set<'a>(
     text: &'a str,
     seen: bool,
@@ -71,7 +71,7 @@ fn negated_set<'a>(
     })
 }
 
-/// The escape at the front, where UNICODE is set, that no other source is written as.
+/// The escape at the front, with UNICODE set, if no other source is written as this text.
 fn replaced_with_unicode(text: &str, seen: bool) -> Option<Found<'_>>
     ensures { found_part result ≡ spec.replaced_part seen (spec.replaced true) (chars text.now) }
 {
@@ -83,7 +83,7 @@ fn replaced_with_unicode(text: &str, seen: bool) -> Option<Found<'_>>
         .or(negated_set(text, seen, r"[^\p{C}\t\n\v\f\r]", r"\p{print}"))
 }
 
-/// The escape at the front that no other source is written as.
+/// The escape at the front, if no other source is written as this text.
 fn replaced(text: &str, unicode: bool, seen: bool) -> Option<Found<'_>>
     ensures { found_part result ≡ spec.replaced_part seen (spec.replaced unicode) (chars text.now) }
 {
@@ -94,7 +94,7 @@ fn replaced(text: &str, unicode: bool, seen: bool) -> Option<Found<'_>>
     }
 }
 
-/// Whether what the reader writes for an escape may begin with the character.
+/// Whether the text that the reader writes for an escape may begin with the character.
 fn may_be_replaced(c: char) -> bool
     ensures { result ≡ (c ∈ "\\[&") }
 {
@@ -121,7 +121,7 @@ fn letter(upper: bool) -> &'static str
     if upper { r"\P" } else { r"\p" }
 }
 
-/// Writes a property by its name: the reader takes one caret off, and turns the letter.
+/// Writes a property by its name: the reader removes one caret, and changes the case of the letter.
 fn put_property<S: Sink>(out: &mut S, upper: bool, name: &str) -> Result<(), AllocError>
     ensures { OnOk result (Added S.holds out.old out.new (spec.named_property upper (chars name.now))) }
 {
@@ -129,7 +129,7 @@ fn put_property<S: Sink>(out: &mut S, upper: bool, name: &str) -> Result<(), All
     out.put('}')
 }
 
-/// Writes what stands before the closing brace of a property.
+/// Writes what is before the closing brace of a property.
 fn put_property_front<S: Sink>(out: &mut S, upper: bool, name: &str) -> Result<(), AllocError>
     ensures { OnOk result (Added S.holds out.old out.new (spec.named_front upper (chars name.now))) }
 {
@@ -147,7 +147,7 @@ fn put_property_front<S: Sink>(out: &mut S, upper: bool, name: &str) -> Result<(
     }
 }
 
-/// Writes what stands behind the letter of a property, and answers what is left.
+/// Writes what follows the letter of a property, and returns the rest.
 fn put_property_at<'a, S: Sink>(
     out: &mut S,
     upper: bool,
@@ -176,7 +176,7 @@ fn put_property_at<'a, S: Sink>(
     }
 }
 
-/// Writes a character, or a backslash and what belongs to it, and answers what is left.
+/// Writes a character, or a backslash and what belongs to it, and returns the rest.
 fn put_unit<'a, S: Sink>(out: &mut S, c: char, rest: &'a str) -> Result<&'a str, AllocError>
     ensures { IfOk result (λ r. AddedPart S.holds out.old out.new (spec.single_part c (chars rest.now)) (chars r.now)) }
 {
@@ -194,7 +194,7 @@ fn put_unit<'a, S: Sink>(out: &mut S, c: char, rest: &'a str) -> Result<&'a str,
     Ok(rest)
 }
 
-/// Writes a text that the reader writes as this one.
+/// Writes a source that the reader turns into this text.
 fn put_source<S: Sink>(out: &mut S, text: &str, unicode: bool) -> Result<(), AllocError>
     ensures { OnOk result (Added S.holds out.old out.new (spec.source unicode (chars text.now))) }
 {

@@ -38,7 +38,7 @@ use fancy_syntax::expr::repeatable::is_repeatable;
 use fancy_syntax::expr::{Absent, Expr, LookAround};
 use std::alloc::AllocError;
 
-/// Writes the whole text, before which the flags are set that all leaves need.
+/// Writes the whole text, after the flags that all leaves need.
 pub(crate) fn put_pattern<S: Sink>(
     out: &mut S,
     known: &Known,
@@ -56,7 +56,7 @@ pub(crate) fn put_pattern<S: Sink>(
     put_tree(out, known, tree, Precedence::Whole, &mut here)
 }
 
-/// Writes a tree's text where it stands, and goes to where what follows it does.
+/// Writes a tree's text at its position, and moves to the position of what follows.
 #[cycle(write)]
 fn put_tree<S: Sink>(
     out: &mut S,
@@ -81,7 +81,7 @@ fn put_tree<S: Sink>(
     }
 }
 
-/// Writes an Empty: as a group, where pieces may not stand.
+/// Writes an Empty: as a group, if several pieces are not allowed there.
 #[tactic(auto, using(crate::proofs::SinkLemmas::added_steps))]
 fn put_empty<S: Sink>(out: &mut S, precedence: Precedence) -> Result<(), AllocError>
     ensures { OnOk result (Added S.holds out.old out.new (if spec.takes_pieces precedence then [] else codes "()")) }
@@ -93,14 +93,14 @@ fn put_empty<S: Sink>(out: &mut S, precedence: Precedence) -> Result<(), AllocEr
     }
 }
 
-/// Whether pieces may stand there one behind another.
+/// Whether several pieces may follow one another there.
 fn takes_pieces(precedence: Precedence) -> bool
     ensures { result ≡ spec.takes_pieces precedence }
 {
     matches!(precedence, Precedence::Whole | Precedence::Branch)
 }
 
-/// Whether branches may stand there side by side.
+/// Whether several branches are allowed there.
 fn takes_branches(precedence: Precedence) -> bool
     ensures { result ≡ spec.takes_branches precedence }
 {
@@ -114,14 +114,14 @@ fn is_operand(precedence: Precedence) -> bool
     matches!(precedence, Precedence::Operand(_))
 }
 
-/// Whether a quantifier follows, and no other may stand before it.
+/// Whether a quantifier follows, and no other is allowed before it.
 fn is_last_operand(precedence: Precedence) -> bool
     ensures { result ≡ spec.is_last_operand precedence }
 {
     matches!(precedence, Precedence::Operand(0))
 }
 
-/// How many quantifiers may stand before that of a tree at this precedence.
+/// How many quantifiers are allowed before the quantifier of a tree at this precedence.
 fn room(precedence: Precedence, here: &Here) -> usize
     ensures { (h : spec.Here) (l : List Needs) → IsHere here.now h l → result ≡ spec.room precedence h }
 {
@@ -131,7 +131,7 @@ fn room(precedence: Precedence, here: &Here) -> usize
     }
 }
 
-/// Writes a Concat, in a group of its own where pieces may not stand.
+/// Writes a Concat, in a group of its own if several pieces are not allowed there.
 #[cycle(write)]
 fn put_concat<S: Sink>(
     out: &mut S,
@@ -157,7 +157,7 @@ fn put_concat<S: Sink>(
     close(out, &outside, here)
 }
 
-/// Writes trees one behind the other. What begins with a digit is parted from a reference in digits before it.
+/// Writes trees one after the other. A text that begins with a digit is separated from a reference in digits before it.
 #[cycle(write)]
 fn put_pieces<S: Sink>(
     out: &mut S,
@@ -179,7 +179,7 @@ fn put_pieces<S: Sink>(
     Ok(())
 }
 
-/// Parts what was written from the place on from the reference in digits before it, if there is one.
+/// Separates what was written from the position on from the reference in digits before it, if there is one.
 fn part_behind_digits<S: Sink>(
     out: &mut S,
     place: usize,
@@ -201,7 +201,7 @@ fn is_in_digits(known: &Known, tree: &Expr) -> bool
     known.is_numeric && matches!(tree, Expr::Backref { .. })
 }
 
-/// Writes an Alt, in a group of its own where branches may not stand.
+/// Writes an Alt, in a group of its own if several branches are not allowed there.
 #[cycle(write)]
 fn put_alt<S: Sink>(
     out: &mut S,
@@ -227,7 +227,7 @@ fn put_alt<S: Sink>(
     close(out, &outside, here)
 }
 
-/// Writes trees with bars between.
+/// Writes trees with bars between them.
 #[cycle(write)]
 fn put_branches<S: Sink>(
     out: &mut S,
@@ -250,7 +250,7 @@ fn put_branches<S: Sink>(
     Ok(())
 }
 
-/// Writes any other tree where its flags are set.
+/// Writes any other tree once its flags are set.
 #[cycle(write)]
 fn put_settled<S: Sink>(
     out: &mut S,
@@ -298,14 +298,14 @@ fn put_settled<S: Sink>(
     }
 }
 
-/// Whether a quantifier follows that may not stand behind the tree.
+/// Whether a quantifier follows that the tree cannot take.
 fn needs_group(tree: &Expr, precedence: Precedence, flags: Flags) -> bool
     ensures { result ≡ (spec.is_operand precedence && not (spec_quantified.is_repeatable flags (view tree.now))) }
 {
     is_operand(precedence) && !is_repeatable(flags, tree)
 }
 
-/// Writes a leaf, in a group where a quantifier follows that may not stand behind it.
+/// Writes a leaf, in a group if a quantifier follows that the leaf cannot take.
 fn put_leaf_at<S: Sink>(
     out: &mut S,
     known: &Known,
@@ -325,7 +325,7 @@ fn put_leaf_at<S: Sink>(
     put_leaf(out, known, leaf, here)
 }
 
-/// Writes a tree in a group with this head.
+/// Writes a tree in a group with this opening.
 #[cycle(write)]
 fn put_in_group<S: Sink>(
     out: &mut S,
@@ -345,7 +345,7 @@ fn put_in_group<S: Sink>(
     close(out, &outside, here)
 }
 
-/// Writes a look-around, in a group where a quantifier follows.
+/// Writes a look-around, in a group if a quantifier follows.
 #[cycle(write)]
 fn put_look_around<S: Sink>(
     out: &mut S,
@@ -391,7 +391,7 @@ fn put_group<S: Sink>(
     close(out, &outside, here)
 }
 
-/// Writes a Repeat, in a group where no quantifier may stand before the one that follows.
+/// Writes a Repeat, in a group if no quantifier is allowed before the one that follows.
 #[cycle(write)]
 fn put_repeat<S: Sink>(
     out: &mut S,
@@ -414,15 +414,15 @@ fn put_repeat<S: Sink>(
     put_quantified(out, known, child, quantifier, precedence, here)
 }
 
-/// Whether an atomic group of a Repeat with these counts is written as a group: no quantifier is read so, or none may
-/// stand before the one that follows.
+/// Whether an atomic group of a Repeat with these counts is written as a group: no quantifier is read as such a group,
+/// or none is allowed before the one that follows.
 fn needs_atomic_group(lo: usize, hi: usize, precedence: Precedence, flags: Flags) -> bool
     ensures { result ≡ (spec.is_last_operand precedence || not (spec_quantifier.is_possessive flags lo hi)) }
 {
     is_last_operand(precedence) || !is_possessive(lo, hi, flags)
 }
 
-/// Writes an AtomicGroup: of a Repeat by a possessive quantifier, where one is read so.
+/// Writes an AtomicGroup. That of a Repeat is written as a possessive quantifier, if one is read as such a group.
 #[cycle(write)]
 fn put_atomic<S: Sink>(
     out: &mut S,
@@ -458,7 +458,7 @@ fn put_atomic<S: Sink>(
     put_quantified(out, known, repeated, quantifier, precedence, here)
 }
 
-/// Writes a tree and the quantifier behind it in a group with this head.
+/// Writes a tree and the quantifier after it, in a group with this opening.
 #[cycle(write)]
 fn put_quantified_in_group<S: Sink>(
     out: &mut S,
@@ -481,14 +481,14 @@ fn put_quantified_in_group<S: Sink>(
     close(out, &outside, here)
 }
 
-/// Whether the quantifier of the tree stands directly behind another.
+/// Whether the quantifier of the tree directly follows another.
 fn is_adjacent(room: usize, child: &Expr, flags: Flags) -> bool
     ensures { result ≡ (nat_lt 0 room && spec_quantifier.is_quantified flags (view child.now)) }
 {
     room > 0 && is_quantified(child, flags)
 }
 
-/// Writes a tree and the quantifier behind it.
+/// Writes a tree and the quantifier after it.
 #[cycle(write)]
 fn put_quantified<S: Sink>(
     out: &mut S,
@@ -575,7 +575,7 @@ fn are_empty(true_branch: &Expr, false_branch: &Expr) -> bool
     matches!(true_branch, Expr::Empty) && matches!(false_branch, Expr::Empty)
 }
 
-/// Whether a bar stands behind the first branch of a Conditional: an Alt without it would be read as both.
+/// Whether a bar follows the first branch of a Conditional: without it, an Alt would be read as both branches.
 fn needs_bar(true_branch: &Expr, false_branch: &Expr) -> bool
     ensures { result ≡ (not (is_empty (view false_branch.now)) || spec.is_alt (view true_branch.now)) }
 {
@@ -616,7 +616,7 @@ fn put_choice<S: Sink>(
     put_tree(out, known, false_branch, Precedence::Whole, here)
 }
 
-/// Writes an absent repeater: with a bar in front it would be another absent form.
+/// Writes an absent repeater. If a bar came first, it would be another absent form.
 #[cycle(write)]
 fn put_repeater<S: Sink>(
     out: &mut S,
@@ -664,7 +664,7 @@ fn put_expression<S: Sink>(
     close(out, &outside, here)
 }
 
-/// Writes an empty group, where nothing was written from the place on.
+/// Writes an empty group, if nothing was written from the position on.
 fn fill<S: Sink>(out: &mut S, place: usize) -> Result<(), AllocError>
     ensures { OnOk result (Changed S.holds out.old out.new place spec.stopper_text) }
 {
@@ -675,7 +675,7 @@ fn fill<S: Sink>(out: &mut S, place: usize) -> Result<(), AllocError>
     }
 }
 
-/// Writes an absent stopper: without a text it would be a clear.
+/// Writes an absent stopper. Without a text it would be a clear.
 #[cycle(write)]
 fn put_stopper<S: Sink>(
     out: &mut S,

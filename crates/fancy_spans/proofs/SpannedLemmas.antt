@@ -1,4 +1,4 @@
--- How many nodes each node has, and which of the spans its children have.
+-- How many nodes each node has, and which of the spans belong to its children.
 use Rattle.std.proofs.Common.{◌≡◌, ℕ, suc, ◌-◌, List, [], ◌∷◌, ◌++◌, length, take, drop, map, min, refl, ap}
 use Rattle.std.proofs.Common.{sym, ◌∙◌, arith, append_assoc, append-nil, length-append, length-take, length-drop}
 use Rattle.std.proofs.Math.ListN.{set}
@@ -20,7 +20,7 @@ sizes_listed : (ts : Trees) → sizes_all ts ≡ flat_map sizes (list_of ts)
 sizes_listed no_trees = refl
 sizes_listed (more_trees t ts) = ap (λ l. sizes t ++ l) (sizes_listed ts)
 
--- behind a node's own number stand those of its children
+-- the number of nodes of a node is followed by those of its children
 pub sizes_node : (t : Tree) →
     sizes t ≡ suc (length (flat_map sizes (children t))) ∷ flat_map sizes (children t)
 sizes_node (leaf l) = refl
@@ -37,7 +37,7 @@ both_halves : {A : Type 0} (P : A → Type 0) (l m : List A) → AllByRecursion 
 both_halves P [] m h = (tt, h)
 both_halves P (x ∷ l) m (f, g) = let (a, b) = both_halves P l m g in ((f, a), b)
 
--- in an answered tree every node counts
+-- in a parsed tree every node counts
 mutual
   many_sizes : (t : Tree) → IsAnswered t → length (sizes t) ≡ length (preorder t)
   many_sizes (leaf l) h = refl
@@ -58,7 +58,7 @@ mutual
         all_many_sizes ts g,
       )
 
--- a node of an answered tree that has as many spans as nodes
+-- a node of a parsed tree that has as many spans as nodes
 pub whole_of_nodes : (p : Spanned) → p.sizes ≡ sizes (view p.expr) → IsAnswered (view p.expr) →
     length p.spans ≡ length (preorder (view p.expr)) → IsWhole p
 whole_of_nodes p s a n = record {
@@ -66,7 +66,7 @@ whole_of_nodes p s a n = record {
   spanned = n ∙ sym (many_sizes (view p.expr) a) ∙ ap length (sym s);
 }
 
--- ---- the numbers so far, behind what stood there before, with some children left
+-- ---- the numbers so far, after those that were there before, with some children left
 
 pub record Counting (t : Tree) (old now : List ℕ) (left : List Expr) : Type 0 where
   pub whole : now ++ flat_map sizes (views left) ≡ old ++ 0 ∷ flat_map sizes (children t)
@@ -95,7 +95,7 @@ module _ (t : Tree) (old : List ℕ) where
   set_behind [] x y l = refl
   set_behind (z ∷ a) x y l = ap (λ m. z ∷ m) (set_behind a x y l)
 
-  -- with the node's own number in its place
+  -- with the number of the node itself in its position
   pub counting_stands : (now : List ℕ) (left : List Expr) (n : ℕ) → Counting t old now left → left ≡ [] →
       n ≡ length now - length old → set now (length old) n ≡ old ++ sizes t
   counting_stands now left n s h e =
@@ -116,7 +116,7 @@ pub record AreWhole (es : List Expr) (s : List Span) (n : List ℕ) : Type 0 whe
   pub sized : n ≡ flat_map sizes (views es)
   pub spanned : length s ≡ length n
 
--- of a whole node's children they are
+-- the children of a whole node are whole
 pub children_whole : (p : Spanned) (es : List Expr) (s : List Span) (n : List ℕ) → views es ≡ children (view p.expr) →
     s ≡ drop 1 p.spans → n ≡ drop 1 p.sizes → IsWhole p → AreWhole es s n
 children_whole p es s n h f g w = record {

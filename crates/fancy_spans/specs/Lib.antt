@@ -1,4 +1,4 @@
--- What the contracts speak of.
+-- The definitions that the contracts use.
 
 pub use Rattle.fancy_grammar.specs.Spans
 pub use Rattle.fancy_syntax.specs.SpanViews

@@ -10,8 +10,8 @@ use Rattle.fancy_spans.specs.declared.SpannedChildren.{SpannedChildren}
 use Rattle.fancy_spans.specs.declared.SpannedNode.{SpannedNode}
 use Rattle.fancy_spans.specs.declared.SpannedTree.{SpannedTree}
 
--- How many nodes each node of a tree has, itself counted, in preorder. What a group holds that is not resolved does not
--- count, as it is no child.
+-- How many nodes each node of a tree has, including itself, in preorder. The contents of an unresolved group do not
+-- count, since they are not its children.
 abbrev mutual
   pub sizes : Tree → List ℕ
   sizes (leaf l) = 1 ∷ []
@@ -23,7 +23,7 @@ abbrev mutual
   sizes_all no_trees = []
   sizes_all (more_trees t ts) = sizes t ++ sizes_all ts
 
--- a node, with the spans of it and of those below it in preorder, and how many nodes each of these has
+-- a node, with the spans of it and of its descendants in preorder, and the number of nodes of each of these
 pub record Spanned : Type 0 where
   pub expr : Expr
   pub spans : List Span
@@ -40,12 +40,12 @@ spanned_of n = record { expr = n.expr.now; spans = n.spans.now; sizes = n.sizes.
 abbrev pub spanned_of_tree : SpannedTree → Spanned
 spanned_of_tree t = record { expr = t.tree.expr; spans = t.spans.items; sizes = t.sizes.items }
 
--- the first span; no byte where there is none
+-- the first span; an empty one if there is none
 abbrev pub first_span : List Span → Span
 first_span [] = record { start = 0; end = 0 }
 first_span (s ∷ ss) = s
 
--- the first number; 0 where there is none
+-- the first number; 0 if there is none
 abbrev pub first_size : List ℕ → ℕ
 first_size [] = 0
 first_size (n ∷ ns) = n
@@ -57,6 +57,6 @@ side_by_side (e ∷ es) s n =
     (record { expr = e; spans = take (first_size n) s; sizes = take (first_size n) n })
     ∷ side_by_side es (drop (first_size n) s) (drop (first_size n) n)
 
--- the children that an iterator has still to give
+-- the children that an iterator has still to return
 abbrev pub remaining_spanned : SpannedChildren → List Spanned
 remaining_spanned i = side_by_side (remaining_children i.exprs) i.spans.now i.sizes.now

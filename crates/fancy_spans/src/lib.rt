@@ -32,7 +32,7 @@ pub struct SpannedTree {
     pub tree: ExprTree,
     /// The span of each node of the tree, in preorder.
     pub spans: Vec<Span>,
-    /// How many nodes each node has, itself counted, in preorder.
+    /// How many nodes each node has, including itself, in preorder.
     sizes: Vec<usize>,
 }
 
@@ -88,9 +88,9 @@ impl SpannedTree {
 #[derive(Debug, Clone, Copy)]
 pub struct SpannedNode<'a> {
     expr: &'a Expr,
-    /// The spans of the node and of those below it, in preorder.
+    /// The spans of the node and of its descendants, in preorder.
     spans: &'a [Span],
-    /// How many nodes each of them has, itself counted.
+    /// How many nodes each of them has, including itself.
     sizes: &'a [usize],
 }
 
@@ -144,7 +144,7 @@ impl<'a> SpannedNode<'a> {
 #[derive(Drop)]
 pub struct SpannedChildren<'a> {
     exprs: ExprChildrenIter<'a>,
-    /// The spans of the children that are still to come and of those below them.
+    /// The spans of the children that are still to come, and of their descendants.
     spans: &'a [Span],
     /// How many nodes each of these has.
     sizes: &'a [usize],
@@ -168,7 +168,7 @@ impl<'a> Iterator for SpannedChildren<'a> {
     }
 }
 
-/// How many nodes the first tree has; 0 where there is none.
+/// How many nodes the first tree has; 0 if there is none.
 fn first_size(sizes: &[usize]) -> usize
     ensures { result ≡ spec.first_size sizes.now }
 {
@@ -188,7 +188,7 @@ fn past_first<T>(items: &[T]) -> &[T]
     }
 }
 
-/// So many items, or all where there are fewer, and the others.
+/// The first `count` items, or all if there are fewer, and the others.
 fn split<T>(items: &[T], count: usize) -> (&[T], &[T])
     ensures front { result.0.now ≡ take count items.now }
     ensures others { result.1.now ≡ drop count items.now }
@@ -196,7 +196,7 @@ fn split<T>(items: &[T], count: usize) -> (&[T], &[T])
     items.split_at(count.min(items.len()))
 }
 
-/// How many nodes each node of the tree has, itself counted, in preorder. There are about so many nodes.
+/// How many nodes each node of the tree has, including itself, in preorder. `nodes` is about how many there are.
 fn all_sizes(
     alloc: Global,
     tree: &Expr,

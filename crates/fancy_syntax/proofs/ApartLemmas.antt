@@ -1,4 +1,4 @@
--- Two trees of different variants are not the same, with their places or without.
+-- Two trees of different variants are not equal, with or without their positions.
 use Rattle.std.proofs.Common.{◌≡◌, ℕ, Bool, true, false, ◌∙◌, refl, ap, sym, subst}
 use Rattle.fancy_grammar.specs.Placed.{placed}
 use Rattle.fancy_grammar.specs.Same.{same}
@@ -13,7 +13,7 @@ use Rattle.fancy_syntax.specs.declared.expr.Expr as expr
 use Rattle.fancy_syntax.specs.declared.expr.Expr.{Expr, out-Expr, roll-Expr, roll-out-Expr, map-Expr, fold_out-Expr}
 use Rattle.fancy_syntax.specs.declared.expr.Expr.TheVariants as variant
 
--- that a tree is of another variant than one of this level
+-- the tree is of a variant other than that of this level
 abbrev pub Other : Expr-F Absent AstNode Expr → Expr → Type 0
 Other Expr-F.Empty y = y ≡ expr.Empty → ⊥
 Other (Expr-F.Any _ _) y = (a b : _) → y ≡ expr.Any a b → ⊥
@@ -41,11 +41,11 @@ Other (Expr-F.Absent _) y = (a : _) → y ≡ expr.Absent a → ⊥
 Other (Expr-F.DefineGroup _) y = (a : _) → y ≡ expr.DefineGroup a → ⊥
 Other (Expr-F.AstNode _ _) y = (a b : _) → y ≡ expr.AstNode a b → ⊥
 
--- a level with each tree inside seen
+-- a level with the trees inside already converted
 abbrev seen : Expr-F Absent AstNode Expr → Tree
 seen u = expr_step (map-Expr Absent AstNode Expr Tree (ℕ → Tree) Tree view_absent view_ast view u)
 
--- what tells an absent form, and a node that is read, from the others
+-- what distinguishes an absent form, and a node as it is read, from the others
 abbrev is_absent : Tree → Bool
 is_absent (leaf label.clear) = true
 is_absent (over label.repeater t) = true
@@ -67,7 +67,7 @@ absent_is p a =
     ap (λ t. is_absent (placed p t)) (fold_out-Absent Tree (ℕ → Tree) Tree absent_step ast_step expr_step a)
     ∙ absent_step_is p (map-Absent Absent AstNode Expr Tree (ℕ → Tree) Tree view_absent view_ast view (out-Absent a))
 
--- that a tree is a node that is read, and no absent form
+-- the tree is a node as it is read, and no absent form
 abbrev pub IsRead : Bool → Tree → Type 0
 IsRead p t = (is_read (placed p t) ≡ true) × (is_absent (placed p t) ≡ false)
 
@@ -86,7 +86,7 @@ false_unless : (b : Bool) → (b ≡ true → ⊥) → false ≡ b
 false_unless true h = absurd (h refl)
 false_unless false h = refl
 
--- two trees of which one has it
+-- two trees, one of which has the property
 differ : (f : Tree → Bool) (s t : Tree) (b c : Bool) → f s ≡ b → f t ≡ c → (b ≡ c → ⊥) → false ≡ same s t
 differ f s t b c e g h =
     false_unless (same s t) (λ i. h (sym e ∙ ap f ((same-Decides s t).0 i) ∙ g))

@@ -34,7 +34,7 @@ levels_of_child e c same (i, (h, is)) =
     ∙ get_or-map view (children_of e) i c (view c) h ∙ ap view (sym is) in
     subst (λ t. levels t < levels (view e)) at (levels_child (view e) i (view c) long)
 
--- the same by what is known of the iterator that gives the children
+-- the same, with what is known of the iterator that returns the children
 pub levels_of_given : (e c : Expr) (all : List Expr) → all ≡ children_of e → views all ≡ children (view e) →
     IsAmong (children_of e) c → levels (view c) < levels (view e)
 levels_of_given e c all values trees among = levels_of_child e c (ap views (sym values) ∙ trees) among
@@ -64,7 +64,7 @@ within_next e c left more s h = record {
 
 -- ---- a search among them
 
--- P holds of c and of all that lies below it
+-- P holds of c and of all nodes below it
 pub record HoldsFrom (P : Expr → Type 0) (c : Expr) : Type 0 where
   pub here : P c
   pub below : (d : Expr) → IsDescendant d c → P d

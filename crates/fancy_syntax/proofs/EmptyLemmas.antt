@@ -1,4 +1,4 @@
--- When the normal form of a tree of several branches, or of what is left of a list, is Empty.
+-- When the normal form of a tree with several branches, or of the rest of a list, is Empty.
 use Rattle.std.proofs.Common.{◌≡◌, ℕ, ◌+◌, ◌<◌, ◌≤◌, false, true, ◌&&◌, List, [], ◌∷◌, length, get_or, Vec, Global}
 use Rattle.std.proofs.Common.{refl, ap, ◌∙◌, rules, arith}
 use Rattle.fancy_grammar.specs.Join.{is_empty, choice}

@@ -1,4 +1,4 @@
--- ---- trees: equality, children, descendants, and what is lent of them
+-- ---- trees: equality, children, descendants, and borrowed parts
 pub mod ApartLemmas
 pub mod ChildrenLemmas
 pub mod SameLemmas

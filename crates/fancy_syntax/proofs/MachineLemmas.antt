@@ -1,4 +1,4 @@
--- How each step of the loop keeps what stands on the stack.
+-- How each step of the loop keeps the contents of the stack valid.
 use Rattle.std.proofs.Common.{◌≡◌, ◌≢◌, ◌==◌, if◌then◌else◌, tests, rules, ℕ, ◌+◌, Bool, true, false}
 use Rattle.std.proofs.Common.{true≢false, List, [], ◌∷◌, ◌++◌, length, Some, None, Result, Ok, Err, refl, sym, ap, ◌∙◌}
 use Rattle.std.proofs.Common.{subst, append-nil, arith, ◌<◌}
@@ -56,11 +56,11 @@ use Rattle.fancy_grammar.proofs.Slices.{here, on, strip_slice}
 
 -- ---- a step
 
--- an atom with what was noted before and is noted behind
+-- an atom, with the log before and the log after
 abbrev AtomTo : ℕ → State → Outcome Tree → Log → Log → Type 0
 AtomTo d s o l m = (a : Atom d s o) × (atom_noted a l ≡ m)
 
--- an atom behind layout is a piece under its quantifiers
+-- an atom after layout is a piece under its quantifiers
 pub piece_to : {d : ℕ} {s : State} {u : Text} {q o : Outcome Tree} {l m n : Log} → skipped s ≡ rest u →
     AtomTo d (at s u) q l m → and_then q (quants d (bytes s.rest)) ≡ o → quants_noted (bytes s.rest) q m ≡ n →
     PieceTo d s o l n
@@ -79,7 +79,7 @@ steps_piece {d} {left} s {t} {a = tree} n (Err e) v i k (x, y) h j =
     IsErrorAmong-map (λ o. quants d left tree t ≡ o) (Piece d s) e
     (λ c p g. piece_as k x (subst (λ z. quants d z tree t ≡ fault c p) i g)) h
 
--- what a step notes is told by what stands ahead
+-- the start of the atom decides what a step records
 pub step_ahead : (d : ℕ) (s : State) {u : Text} {k : Ahead} (l : Log) → skipped s ≡ rest u → ahead d (at s u) ≡ k →
     step_noted d s l ≡ ahead_noted (bytes s.rest) (at s u) k l
 step_ahead d s {u} l i e =
@@ -99,7 +99,7 @@ nothing_noted d left s {u} l i k e =
     sym (step_ahead d s l k e
     ∙ ap (λ z. quants_noted z (done empty (at s u)) (leaf_noted (reach_of u) (reach_of u) l)) (sym i))
 
--- a step that reads an atom at once, or none
+-- a step that reads a whole atom, or none
 pub steps_read : (d left : ℕ) (s : State) {t : State} {u : Text} {a : Tree} (l : Log) (r : Result Step Failure)
     (v : State) → left ≡ bytes s.rest → skipped s ≡ rest u → ahead d (at s u) ≡ read (done a t) →
     GivesPiece r (quants d left a t) v → GivesStep r d s l v (step_noted d s l)
@@ -118,14 +118,14 @@ pub steps_open : {d : ℕ} {s t : State} {u : Text} {k : Ahead} {p : OpenPart} {
     OpensPart d s l p t (step_noted d s l)
 steps_open {d} {s} {t} {p} {l} i e h = subst (OpensPart d s l p t) (sym (step_ahead d s l i e)) h
 
--- a fault of the layout before a piece is the piece's
+-- an error in the layout before a piece is the error of the piece
 pub steps_layout : (d : ℕ) (s : State) {p : ℕ} (e : Failure) → e ≡ At p UnclosedOpenParen →
     skipped s ≡ open_comment p → IsErrorAmong e (Piece d s)
 steps_layout d s e i l = rw i (layout_fault l)
 
--- ---- what is open
+-- ---- open parts
 
--- a fault inside is the piece's
+-- an error inside is the error of the piece
 pub opens_fault : {d p : ℕ} {s v : State} {k : Kind} {o : OpenPart} {l m : Log} (n : Log) → OpensPart d s l o v m →
     Part o (d + 1) v (fault k p) m n → Piece d s (fault k p)
 opens_fault n (a_group l e) (r, x) = piece l (atom e (grammar.a_group (inside r)))
@@ -157,17 +157,17 @@ pub ended_closed : (p : OpenPart) (r : Tree) (s : State) → lacks_body p s ≡ 
     ended_part p r s ≡ closed (node_of_part p r) s
 ended_closed p r s e = rw e refl
 
--- a part may be followed by a bar only where it is the second branch of an absent expression, and then by a fault
+-- a bar may end a single-branch part only if it is the second branch of an absent expression, and then it is an error
 abbrev MayEnd : OpenPart → State → Type 0
 MayEnd p s = holds_one p ≡ true → is_second p ≡ false → strip bar s.rest ≡ None
 
--- the same where what is noted is told by the outcome
+-- the same, if the outcome decides the log
 closed_to : {d : ℕ} {s : State} (f : Flags) (g : Tree → Tree) (r : Tree) (w : State) (h : Outcome Tree → Log) (l : Log) →
     AtomTo d s (restored f (seen_through g (closed r w))) l (h (seen_through g (closed r w))) →
     AtomTo d s (restored f (closed (g r) w)) l (h (closed (g r) w))
 closed_to {d} {s} f g r w h l a = subst (λ o. AtomTo d s (restored f o) l (h o)) (closed_through g r w) a
 
--- a part ends, and with it the atom: the flags from before it hold again; the end of the outcome tells what is noted
+-- a part ends, and the atom with it: the flags from before it are restored; the end of the outcome decides the log
 opens_ended : {d : ℕ} {s v : State} {p : OpenPart} {l m : Log} (n : Log) (r : Tree) (w : State) → OpensPart d s l p v m →
     Part p (d + 1) v (done r w) m n → goes_on p ≡ false →
     MayEnd p w → (t : Text) × (skipped s ≡ rest t)
@@ -209,7 +209,7 @@ opens_ended n q w (behind_branch {a} (a_branch {u} i e) b j) (r, x) g f = (
   (atom e (two_branches b j r), ap (atom_closed (end_of (closed (expression a q) w)) false) x),
 )
 
--- where the atom goes on, the body of the conditional comes next
+-- if the atom continues, the body of the conditional comes next
 pub condition_ended : {d : ℕ} {s v t : State} {p : OpenPart} {c : Tree} {l m : Log} (n : Log) (r : Tree) (w : State) →
     OpensPart d s l p v m → Part p (d + 1) v (done r w) m n → goes_on p ≡ true →
     ended_part p r w ≡ done c t → OpensPart d s l (body c (bytes t.rest)) t (part_begun (reach_of t.rest) n)
@@ -223,7 +223,7 @@ condition_ended n r w (behind_condition x y) z g h = absurd (true≢false (sym g
 condition_ended n r w (a_branch l e) x g h = absurd (true≢false (sym g))
 condition_ended n r w (behind_branch x y z) a g h = absurd (true≢false (sym g))
 
--- a fault at the end of a part is the piece's
+-- an error at the end of a part is the error of the piece
 pub ended_fault : {d q : ℕ} {s v : State} {k : Kind} {p : OpenPart} {l m : Log} (n : Log) (r : Tree) (w : State) →
     OpensPart d s l p v m → Part p (d + 1) v (done r w) m n →
     MayEnd p w → ended_part p r w ≡ fault k q → Piece d s (fault k q)
@@ -244,7 +244,7 @@ ended_fault {d} {q} {s} {k} {p} {l} n r w x y f h = by_goes (goes_on p) refl
     by_goes false g =
         let (u, i, a) = opens_ended n r w x y g f in piece i (subst (Atom d (at s u)) (ap (restored s.flags) h) a.0)
 
--- what is noted where what is open ends with the atom, or goes on
+-- the log when the open part ends with the atom, or continues
 pub close_ends : (left : ℕ) (flags : Flags) (p : OpenPart) (r : Tree) (w : State) (n : Log) {a : Tree} {t : State} →
     ended_part p r w ≡ done a t → goes_on p ≡ false → close_noted left flags p r w n
     ≡ quants_noted left (done a (record t { flags = flags })) (part_noted p r (reach_of w.rest) (reach_of t.rest) n)
@@ -269,7 +269,7 @@ closes {d} {left} {s} {t} {a} {p} {l} n flags r w q z x y g f h i j e =
     (part_noted p r (reach_of w.rest) (end_of o) n)) h b) e
     (sym (close_ends left flags p r w n h g ∙ ap (λ f. quants_noted left (done a (record t { flags = f })) m) j))
 
--- where it goes on, what comes next
+-- if it continues, what comes next
 pub closes_condition : {d : ℕ} {s v t : State} {c : Tree} {p : OpenPart} {l m : Log} (left : ℕ) (n : Log) (flags : Flags)
     (r : Tree) (w : State) → OpensPart d s l p v m →
     Part p (d + 1) v (done r w) m n → goes_on p ≡ true → ended_part p r w ≡ done c t →
@@ -302,7 +302,7 @@ reading_new d p s l bs ps e f = record {
   slice = here s.rest;
 }
 
--- a piece more, or a branch
+-- one more piece, or one more branch
 next_to : {d : ℕ} {s t : State} {r : Tree} {l m n : Log} (o : Outcome (List Tree)) → ends s.rest ≡ false →
     PieceTo d s (done r t) l m → PiecesTo d t o (added r m) n → PiecesTo d s (trees_before (r ∷ []) o) l n
 next_to {r} o e (a, x) (b, y) = (next e a b, ap (λ m. pieces_noted b (added r m)) x ∙ y)
@@ -331,7 +331,7 @@ reading_piece {d} {r} cs qs h e a i j = record {
 abbrev pub joined : List Tree → Tree
 joined = one_or concat
 
--- the open branch, of these pieces, ends at t
+-- the open branch, with these pieces, ends at t
 abbrev pub branch_closed : List Tree → State → Log → Log
 branch_closed ps t l = branch_ended (length ps) (reach_of t.rest) l
 
@@ -371,7 +371,7 @@ reading_bar {d} {s} {t} {u} {bs} {ps} {l} {m} cs qs h k e f i j = record {
   slice = on h.slice (strip_slice bar t.rest u f);
 }
 
--- what is open ends at t with these branches and pieces
+-- the log when the open part ends at t with these branches and pieces
 abbrev pub choice_closed : List Tree → List Tree → State → Log → Log
 choice_closed bs ps t l = choice_noted (bs ++ joined ps ∷ []) (reach_of t.rest) (branch_closed ps t l)
 
@@ -383,7 +383,7 @@ reading_alternation {t} {bs} {ps} h e f =
     let (a, y) = h.all _ _ (last b f, x) in
     (alternation a, ap (choice_noted (bs ++ joined ps ∷ []) (reach_of t.rest)) y)
 
--- what is open ends at t
+-- the open part ends at t
 reading_end : {d : ℕ} {s t : State} {bs ps : List Tree} {l m : Log} (p : OpenPart) → ReadSoFar d p s l bs ps t m →
     ends t.rest ≡ true → strip bar t.rest ≡ None →
     Part p d s (done (choice (bs ++ joined ps ∷ [])) t) l (choice_closed bs ps t m)
@@ -433,7 +433,7 @@ reading_fault {d} {q} {s} {k} {bs} {l} p h e a = by_part p h.one
 
 -- ---- the stack of open groups
 
--- the fault of what is open is that of the whole
+-- an error in the innermost part is the error of the whole text
 levels_fault : {start : State} {none : Log} {d p : ℕ} {s : State} {k : Kind} {fs : List Frame} {ts : List Tree}
     {o : OpenPart} {l : Log} (n : Log) → OpenGroups start none fs ts o d s l →
     Part o d s (fault k p) l n → Alternation 0 start (fault k p)
@@ -459,7 +459,7 @@ push-same (a ∷ []) [] x y e = absurd cc
 push-same (a ∷ c ∷ l) [] x y e = absurd cc
 push-same (a ∷ l) (b ∷ m) x y e = let t : l ++ x ∷ [] ≡ m ++ y ∷ [] = cc in let h = push-same l m x y t in (cc, h.1)
 
--- the group on top of the stack, in which the innermost part was opened, and the trees that stand to its end
+-- the group on top of the stack, in which the innermost part was opened, and the trees up to the last of its own
 record Outer (start : State) (none : Log) (gs : List Frame) (g : Frame) (ts : List Tree) (o : OpenPart) (d : ℕ)
     (s : State) (l : Log) : Type 0 where
   depth : ℕ
@@ -503,9 +503,9 @@ levels_pop {start} {none} gs g {ts} (inner {d} {s} {l = c} {t} {m} {frames} {bel
       opens = j;
     }
 
--- ---- the loop's state: the stack, the innermost part, the trees and where it stands
+-- ---- the loop's state: the stack, the innermost part, the trees and the position
 
--- a group in which nothing is read yet stands above all trees
+-- a group in which nothing is read yet is above all trees
 holds_new : (g : Frame) (trees : List Tree) → g.branches ≡ length trees → g.pieces ≡ length trees →
     HoldsTrees g trees trees [] []
 holds_new g trees i j =
@@ -526,7 +526,7 @@ running_start start none stack f trees e x i j k = record {
   reading = reading_new 0 _ start none _ _ refl refl;
 }
 
--- what stands on the stack does not change by where the piece began
+-- the contents of the stack do not depend on where the piece began
 pub running_began : {start t : State} {none l : Log} {stack : List Frame} {f : Frame} {trees : List Tree} (left : ℕ)
     (flags : Flags) → Running start none stack f trees t l →
     Running start none stack (record f { left = left; flags = flags }) trees t l
@@ -582,7 +582,7 @@ running_leaf {start} {t} {none} {l} {stack} {f} {u} {r} all h p e =
     subst (Running start none stack f all (at t u)) (ap (λ b. if b then left_out m else m) p.solid)
     (running_piece all h p.more (p.piece _ l) e)
 
--- a leaf behind others, where it is no Empty
+-- a leaf after others, if it is no Empty
 pub added_leaf : (r : Tree) (a b x y : ℕ) (l : Log) → is_empty r ≡ false → a ≡ x → b ≡ y →
     added r (leaf_noted a b l) ≡ leaf_noted x y l
 added_leaf r a b x y l e i j = rw (i, j, e) refl
@@ -615,7 +615,7 @@ running_step {ts} m (step.Piece tree) h b e a i = rw (i.0, i.1) (running_piece t
 running_step {all} {g} m (step.Open opener) h b e a i =
     rw i.1 (running_open all g h b e a i.0 (ap part_of i.2) i.3 i.4)
 
--- no more groups are open behind it than may be
+-- after it, no more groups are open than allowed
 pub step_below : (made : Step) (stack all : List Frame) (f g : Frame) (trees ts : List Tree) →
     OpensBelow made (length stack) → length stack < max_depth → Takes made stack f trees all g ts →
     length all < max_depth
@@ -623,12 +623,12 @@ step_below (step.Piece tree) stack all f g trees ts b d i = rw i.0 d
 step_below (step.Open opener) stack all f g trees ts b d i =
     omega (arith, b, ap length i.0, length_push stack f)
 
--- where a group was closed, one may be opened
+-- if a group was closed, another may be opened
 pub opens_below : (d : ℕ) (made : Step) → d + 1 < max_depth → OpensBelow made d
 opens_below d (step.Piece tree) h = tt
 opens_below d (step.Open opener) h = h
 
--- behind a bar the second branch of an absent expression is open
+-- after a bar, the second branch of an absent expression is open
 levels_bar : {d : ℕ} {start s t : State} {none l m : Log} {u : Text} {a : Tree} {fs : List Frame} {ts : List Tree} →
     OpenGroups start none fs ts first d s l → BranchTo d s (done a t) l m →
     strip bar t.rest ≡ Some u →
@@ -688,7 +688,7 @@ running_bar {start} {t} {none} {l = c} {u} {stack} {f} all g h e b x i j =
     }
     by_open (second a) l r x i j = absurd (true≢false x)
 
--- a closing parenthesis follows where a branch ends and no bar does
+-- a closing parenthesis follows if a branch ends here without a bar
 pub closed_here : (r : Tree) (t : State) (c : ℕ) (u : Text) → t.rest ≡ c ∷ u → ends t.rest ≡ true →
     strip bar t.rest ≡ None → closed r t ≡ done r (at t u)
 closed_here r t c u e h n =
@@ -702,7 +702,7 @@ closed_here r t c u e h n =
     same true i = refl
     same false i = absurd (true≢false (sym i))
 
--- where another character than the closing parenthesis follows
+-- a character other than the closing parenthesis follows
 closed_other : (r : Tree) (t : State) (c : ℕ) (u : Text) → t.rest ≡ c ∷ u → c ≢ code ")" →
     closed r t ≡ faulted (bar_for_close_paren t.rest)
 closed_other r t c u e h = ap (closed_at r t) e ∙ other (c == code ")") (search (tests, rules))
@@ -754,7 +754,7 @@ running_end {start} {t} {none} {l} r h e a i j =
     (subst (λ s. AlternationTo 0 s (done whole t) h.before n) s
     (subst (λ d. AlternationTo d h.begin (done whole t) h.before n) d (reading_alternation h.reading e a))))
 
--- what the part that is to be closed stands in
+-- the context of the part that is to be closed
 pub record Closing (start : State) (none : Log) (stack : List Frame) (g : Frame) (trees : List Tree) (o : OpenPart)
     (r : Tree) (t : State) (n : Log) : Type 0 where
   pub here : State

@@ -1,4 +1,4 @@
--- What a derivation notes shows its spans, part by part.
+-- What a derivation records shows its spans, part by part.
 use Rattle.std.proofs.Common.{◌≡◌, ℕ, suc, ◌+◌, ◌-◌, ◌==◌, Bool, true, false, ◌&&◌, not, if◌then◌else◌, List, []}
 use Rattle.std.proofs.Common.{◌∷◌, ◌++◌, length, Some, None, refl, sym, ap, ◌∙◌, subst, arith, append-nil}
 use Rattle.std.proofs.Common.{length-append, append_assoc, nat_lt}
@@ -54,12 +54,12 @@ use Rattle.fancy_syntax.specs.declared.grammar.noted.Open.{Open}
 use Rattle.fancy_syntax.proofs.NotingLemmas.{put_noted, Beside, one_more, several_more, Barred, Fits, shown_one}
 use Rattle.fancy_syntax.proofs.NotingLemmas.{shown_append, fits_shown, PieceNoted, quants_noted_as}
 
--- the branch that is open begins at the state, above all that is noted
+-- the open branch begins at the state, above all recorded nodes
 pub record BranchBegun (s : State) (l : Log) : Type 0 where
   branch : l.open_atom.branch ≡ reach_of s.rest
   pieces : l.open_atom.pieces ≡ length l.noted
 
--- so does the part that is open
+-- so does the open part
 pub record PartBegun (s : State) (l : Log) : Type 0 where
   part : l.open_atom.part ≡ reach_of s.rest
   branches : l.open_atom.branches ≡ length l.noted
@@ -74,7 +74,7 @@ part_begins s l = record {
   branch = record { branch = refl; pieces = refl };
 }
 
--- the atom and the part that are open stay
+-- the open atom and the open part stay the same
 pub record Kept (l m : Log) : Type 0 where
   around : m.around ≡ l.around
   start : m.open_atom.start ≡ l.open_atom.start
@@ -100,7 +100,7 @@ kept_on h k = record {
   branches = k.branches ∙ h.branches;
 }
 
--- an atom that began at the reach is open behind the log l
+-- after the log l, an atom that began at the reach is open
 record Within (start : ℕ) (l m : Log) : Type 0 where
   around : m.around ≡ l.around ++ l.open_atom ∷ []
   start_is : m.open_atom.start ≡ start
@@ -116,7 +116,7 @@ within_on h k = record {
 opened_within : (start first : ℕ) (l : Log) → Within start l (opened start first l)
 opened_within start first l = record { around = refl; start_is = refl; height = refl }
 
--- a group without a name, where it has a number and where not
+-- a group without a name, with a number and without
 unnamed_group : (named : Bool) (n : Noted) (xs : List Noted) (p : Span) (x : Spans) → shown named xs ≡ in_preorder x →
     reaches n ≡ p → n.unnamed ≡ true →
     shown named (n ∷ xs) ≡ in_preorder (if is_counted named None then around p x else x)
@@ -130,7 +130,7 @@ named_group true name p x = refl
 named_group false name p x = refl
 
 module _ (named : Bool) where
-  -- ---- what closes an atom
+  -- ---- the end of an atom
 
   module _ (start : ℕ) (l : Log) where
     ended_as : (m : Log) (r : Tree) (x : Spans) (xs : List Noted) → Within start l m → m.noted ≡ l.noted ++ xs →
@@ -159,7 +159,7 @@ module _ (named : Bool) where
         (put_noted m m.open_atom.height l.noted xs n e h.height)
         (f n (ap (λ s. record { start = s; end = end }) h.start_is) refl)
 
-    -- a group round what it holds
+    -- a group around its contents
     group_as : (m : Log) (r : Tree) (x : Spans) (h : Head) (place end : ℕ) (xs : List Noted) → Within start l m →
         m.noted ≡ l.noted ++ xs → Fits named r x xs → PieceNoted named start l (group_noted h end m)
         (group_node h place r) (group_spans named h (record { start = start; end = end }) x)
@@ -187,7 +187,7 @@ module _ (named : Bool) where
         by_head define = closed_as m _ _ end false xs w e around_it
         by_head repeater = closed_as m _ _ end false xs w e around_it
 
--- behind a closing parenthesis, or a fault
+-- after a closing parenthesis, or an error
 closed_holds : (P : Outcome Tree → Type 0) (r : Tree) (s : State) → ((u : State) → P (done r u)) →
     ((k : Kind) (p : ℕ) → P (fault k p)) → P (closed r s)
 closed_holds P r s g f = by_text s.rest
@@ -206,14 +206,14 @@ remove_seam A B n =
     remove-append_right A (n ∷ B) (length A) (length A) refl (omega arith) ∙ ap (λ k. A ++ remove (n ∷ B) k) z
 
 module _ (named : Bool) where
-  -- behind the log l the tree r of a part is noted
+  -- after the log l, the tree r of a part is recorded
   pub record PartNoted (l m : Log) (r : Tree) (x : Spans) : Type 0 where
     pub xs : List Noted
     pub is_noted : m.noted ≡ l.noted ++ xs
     pub is_kept : Kept l m
     pub fits : Fits named r x xs
 
-  -- behind the log l, after which the body was noted up to m, stand the nodes of its branches
+  -- after the log l, after which the body was recorded up to m, follow the nodes of its branches
   record Parted (l m n : Log) (y z : Spans) : Type 0 where
     bs : List Noted
     is_noted : n.noted ≡ l.noted ++ bs
@@ -223,7 +223,7 @@ module _ (named : Bool) where
   same : (m : Log) → Kept m m
   same m = kept refl refl
 
-  -- the branches behind the first bar
+  -- the branches after the first bar
   others_as : (l m n : Log) (k : ℕ) (head : Noted) (b : FirstBar) (others : List Tree) (first : Spans) (f : Forest)
       (ys zs : List Noted) → Beside others f → k ≡ suc (length others) → Kept m n →
       n.open_atom.branches ≡ length l.noted → n.noted ≡ l.noted ++ (ys ++ zs) → b.nodes ≡ length ys →
@@ -297,7 +297,7 @@ module _ (named : Bool) where
   body_parted_as l m (row label.conditional ts) v x xs e j f = lacked_as l m (row label.conditional ts) v x xs e f
   body_parted_as l m (row label.expression ts) v x xs e j f = lacked_as l m (row label.expression ts) v x xs e f
 
-  -- a conditional, whose condition is noted behind l, and whose body behind n
+  -- a conditional, whose condition is recorded after l, and whose body after n
   conditional_as : (start : ℕ) (l n m : Log) (c r : Tree) (v : State) (x y : Spans) (ys : List Noted) (end : ℕ) →
       Within start l n → n.noted ≡ l.noted ++ ys → Fits named c y ys → n.open_atom.branches ≡ length n.noted →
       PartNoted n m r x → PieceNoted named start l (conditional_noted r (reach_of v.rest) end m)
@@ -366,7 +366,7 @@ module _ (named : Bool) where
     row_goes_on : {r rs x f ys zs : _} (xs : List Noted) → Fits named r x xs → Row rs f ys → zs ≡ xs ++ ys →
         Row (r ∷ rs) (more_spans x f) zs
 
-  -- behind the log l the pieces are noted
+  -- after the log l, the pieces are recorded
   record PiecesNoted (l m : Log) (rs : List Tree) (f : Forest) : Type 0 where
     xs : List Noted
     is_noted : m.noted ≡ l.noted ++ xs
@@ -408,7 +408,7 @@ module _ (named : Bool) where
         row = row_goes_on h.xs h.fits k.row refl;
       }
 
-  -- behind the log l the branch is noted
+  -- after the log l, the branch is recorded
   record BranchNoted (l m : Log) (r : Tree) (x : Spans) : Type 0 where
     xs : List Noted
     is_noted : m.noted ≡ l.noted ++ xs
@@ -467,7 +467,7 @@ module _ (named : Bool) where
   kept_branch : {l m : Log} {r : Tree} {x : Spans} → BranchNoted l m r x → Kept l m
   kept_branch h = kept h.is_around h.is_open
 
-  -- behind the bar that is kept, branches are noted
+  -- after the bar that is kept, branches are recorded
   record LaterNoted (b : FirstBar) (l m : Log) (rs : List Tree) (f : Forest) : Type 0 where
     xs : List Noted
     is_noted : m.noted ≡ l.noted ++ xs
@@ -606,7 +606,7 @@ module _ (named : Bool) where
     fits = f (plain start end) refl refl;
   }
 
-  -- a tree that stands alone is no Alt
+  -- a tree that has only its own span is no Alt
   fits_alone : {t u : Text} {p : Span} (r : Tree) (n : Noted) → Stands named t u r (alone p) → n.unnamed ≡ false →
       reaches n ≡ p → Fits named r (alone p) (n ∷ [])
   fits_alone (leaf a) n h e i = shown_one named n [] e ∙ (λ z. i z ∷ [])
@@ -692,7 +692,7 @@ module _ (named : Bool) where
           (λ c i j. shown_one named c f.xs j
           ∙ (λ z. i z ∷ (fits_shown named a x f.xs f.fits ∙ sym (append-nil (in_preorder x))) z))
 
-  -- what the outcome of the parts makes of the whole
+  -- the outcome of the parts decides that of the whole
   alternation_of : (s : State) (l m : Log) (f : Forest) (q : Outcome (List Tree)) →
       Holds (λ rs (v : State). PartNoted l (choice_noted rs (reach_of v.rest) m) (choice rs)
       (one_or_node (record { start = reach_of s.rest; end = reach_of v.rest }) f)) q →

@@ -1,4 +1,4 @@
--- What is noted of a text shows the spans of its derivation.
+-- What is recorded for a text shows the spans of its derivation.
 use Rattle.std.proofs.Common.{◌≡◌, ℕ, zero, suc, ◌+◌, ◌-◌, min, Bool, true, false, ◌||◌, ◌&&◌, if◌then◌else◌, List, []}
 use Rattle.std.proofs.Common.{◌∷◌, ◌++◌, length, Option, Some, None, refl, sym, ap, ◌∙◌, arith, append-nil}
 use Rattle.std.proofs.Common.{length-append, nat_lt}
@@ -28,7 +28,7 @@ use Rattle.fancy_syntax.specs.Noting.{counted_noted, quant_noted, adjacent_noted
 use Rattle.fancy_syntax.specs.declared.grammar.noted.Last.{Last}
 use Rattle.fancy_syntax.specs.declared.grammar.noted.Noted.{Noted}
 
--- a node put behind those of the first list
+-- a node inserted after those of the first list
 put_seam : (A xs : List Noted) (x : Noted) → insert (A ++ xs) (min (length A) (length (A ++ xs))) x ≡ A ++ x ∷ xs
 put_seam A xs x =
     let n : min (length A) (length (A ++ xs)) ≡ length A = omega (arith, length-append A xs) in
@@ -40,7 +40,7 @@ pub put_noted : (l : Log) (h : ℕ) (A xs : List Noted) (x : Noted) → l.noted 
     (put h x l).noted ≡ A ++ x ∷ xs
 put_noted l h A xs x e i = rw (e, i) (put_seam A xs x)
 
--- branches behind the first, with their spans
+-- branches after the first, with their spans
 pub data Beside : List Tree → Forest → Type 0 where
   one_more : {q z : _} → Beside (q ∷ []) (more_spans z no_spans)
   several_more : {q p l z b f : _} → Beside (q ∷ p ∷ l) (more_spans z (behind_bar b f))
@@ -102,7 +102,7 @@ module _ (named : Bool) where
   fits_shown (row label.conditional ts) x xs h = h
   fits_shown (row label.expression ts) x xs h = h
 
-  -- behind the log l the tree r is noted, a piece that begins at the reach
+  -- after the log l, the tree r is recorded as a piece that begins at the reach
   pub record PieceNoted (start : ℕ) (l m : Log) (r : Tree) (x : Spans) : Type 0 where
     pub xs : List Noted
     pub is_noted : m.noted ≡ l.noted ++ xs
@@ -112,7 +112,7 @@ module _ (named : Bool) where
     pub fits : Fits r x xs
 
   module _ (start : ℕ) (l : Log) where
-    -- under a node
+    -- in a node
     once : {m : Log} {a : Tree} {x : Spans} (w : _) (end : ℕ) → PieceNoted start l m a x →
         PieceNoted start l (under_node end m) (over w a) (around (record { start = start; end = end }) x)
     once {m} {a} {x} w end h =
@@ -151,7 +151,7 @@ module _ (named : Bool) where
         by_test false true = twice c.low c.high
         by_test false false = once (label.repeat c.low c.high (is_greedy f k.lazy)) end h
 
-    -- what comes out is noted
+    -- the outcome is recorded
     abbrev pub NotedAs : Log → Spans → Outcome Tree → Type 0
     NotedAs m x o = Holds (λ r v. PieceNoted start l m r x) o
 
@@ -267,13 +267,13 @@ module _ (named : Bool) where
 
 -- ---- the steps of adjacent quantifiers
 
--- no byte more
+-- no byte is taken
 pub noted_ends : (k : ℕ) (a : Tree) (s : State) (l : Log) {b : Tree} {t : State} →
     quant (bytes s.rest) a s ≡ done b t → is_unmoved s t ≡ true → adjacent_noted k a s l ≡ quant_noted a s l
 noted_ends zero a s l e u = refl
 noted_ends (suc k) a s l e u = rw (e, u) refl
 
--- one more
+-- one more quantifier is taken
 pub noted_counts : (k j : ℕ) (a : Tree) (s : State) (l : Log) {b : Tree} {t : State} →
     quant (bytes s.rest) a s ≡ done b t → is_unmoved s t ≡ false → k ≡ j + 1 →
     adjacent_noted k a s l ≡ adjacent_noted j b t (quant_noted a s l)

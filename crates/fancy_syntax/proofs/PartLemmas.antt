@@ -38,7 +38,7 @@ three_parts {c} {t} {f} h i j k = record {
       ∙ (λ n. items (view (sym i n)) ++ (items (view (sym j n)) ++ append-nil (items (view (sym k n))) n));
 }
 
--- the same of boxes that are lent
+-- the same for boxes that are borrowed
 pub three_lent : {e : Expr} {c t f x y z : Box Expr Global} → e ≡ Conditional c t f → x ≡ c → y ≡ t → z ≡ f →
     Three (items (view e)) x.value y.value z.value
 three_lent h i j k =
@@ -113,7 +113,7 @@ pub third_error : {l : List Item} {x y z : Expr} (k : Known) (r s : Progress) (e
 third_error {x} {y} {z} k r s e p f h =
     rw (p.is, noted_append k r (items (view x)) _, ← f) (error_kept k s e (items (view y)) (items (view z)) h)
 
--- a walk that resolves the last part, behind the groups of the parts before it, ends one that resolves all
+-- a walk that resolves the last part, after the groups of the parts before it, ends a walk that resolves all
 
 pub two_resolved : {A : Type 0} {e : Absent} {a b : Box Expr Global} (k : Known) (r s : Progress) (o : Result A Stopped)
     (after : code.Progress) (x y : Box Expr Global) → e ≡ Expression a b →
@@ -147,7 +147,7 @@ three_resolved {u} {v} {w} k p q s o after x y z h i j l a b first second rest =
     ∙ sym (ap (resolved_by k p.passed) (ap view same ∙ view_conditional u v w)))
     (walk_ends o k q s _ (items (view v.value)) (items (view w.value)) after _ _ refl b (λ _ h. h) rest)
 
--- a walk meets an item where one of the parts has one
+-- a walk finds an item if one of the parts has one
 
 pub two_met : {l : List Item} {x y : Expr} (r s : Bool) → Two l x y → s ≡ (r || has_items (items (view x))) →
     (r || has_items l) ≡ (s || has_items (items (view y)))

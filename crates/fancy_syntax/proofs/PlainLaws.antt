@@ -1,4 +1,4 @@
--- A plain character is a piece that is noted as a leaf, and so is an escape of one character.
+-- A plain character is a piece that is recorded as a leaf, and so is an escape of one character.
 use Rattle.std.proofs.Common.{◌≡◌, ℕ, Bool, true, false, [], ◌∷◌, refl, sym, ap, ◌∙◌, subst, if◌then◌else◌}
 use Rattle.fancy_lex.specs.Characters.{backslash}
 use Rattle.fancy_lex.specs.Escape.{escape}
@@ -24,7 +24,7 @@ use Rattle.fancy_syntax.specs.Noting.{quant_noted, adjacent_noted, quants_noted}
 use Rattle.fancy_syntax.proofs.MachineLemmas.{piece_to}
 use Rattle.fancy_syntax.proofs.NotingLemmas.{noted_ends}
 
--- where one quantifier does not follow, none is noted
+-- if no quantifier follows, none is recorded
 none_noted : (left : ℕ) (a : Tree) (s : State) (l : Log) → ((k : ℕ) → quant k a s ≡ done a s) →
     quant_noted a s l ≡ l → quants_noted left (done a s) l ≡ l
 none_noted left a s l e h =

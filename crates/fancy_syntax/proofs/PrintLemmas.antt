@@ -21,7 +21,7 @@ use Rattle.fancy_grammar.specs.Printed.{OPERAND}
 use Rattle.fancy_syntax.specs.declared.expr.Expr.{Expr}
 use Rattle.fancy_syntax.specs.View.{view, views}
 
--- the text where it is asked
+-- the text, if asked for
 abbrev pub asked : Bool → Text → Text
 asked b t = if b then t else []
 
@@ -46,7 +46,7 @@ pub caseless_len : (b : Bool) (t : Text) →
     bytes (caseless b t) ≡ bytes (asked b (codes "(?i:")) + (bytes t + bytes (asked b (codes ")")))
 caseless_len b t = between_len (asked b (codes "(?i:")) t (asked b (codes ")")) (caseless b t) (caseless_is b t)
 
--- by cases of what is asked
+-- by cases on what is asked for
 pub grouped_more : (t : Text) → bytes (grouped true t) ≡ bytes t + 4
 unfolding bytes
 grouped_more t = grouped_len true t ∙ omega arith
@@ -88,7 +88,7 @@ pub ruleset count_steps = (
   group_more,
 )
 
--- a text of one byte is no long one
+-- a text of one byte is not long
 pub short_text : (bs : List ℕ) → IsUtf8 bs → length bs < 2 → is_long (literal (chars bs) false) ≡ false
 unfolding bytes
 short_text bs utf8 h = by_chars (chars bs) (bytes_chars bs utf8) where
@@ -146,7 +146,7 @@ pub ruleset write_steps = (
   group_written,
 )
 
--- ---- the trees of a list that are left
+-- ---- the trees that are left of a list
 
 -- the trees from i on
 abbrev pub left : List Expr → ℕ → Trees
@@ -190,7 +190,7 @@ there_is [] i h = absurd (omega arith)
 there_is (e ∷ es) zero h = (e, refl)
 there_is (e ∷ es) (suc i) h = there_is es i (omega arith)
 
--- room for the branches from i on is room for the bar
+-- capacity for the branches from i on is capacity for the bar
 pub bar_room : (b : String Global) (es : List Expr) (i : ℕ) → i < length es → HasRoom b (branches es i) →
     HasRoom b (asked (nat_lt 0 i) (codes "|"))
 bar_room b es i h room =

@@ -48,7 +48,7 @@ open_parens-append (c ∷ w) u = by_test (c == open_paren) (open_parens-append w
 fewer_behind : {t u : Text} → Slice t u → open_parens u ≤ open_parens t
 fewer_behind {u} a = omega (arith, ap open_parens a.cut, open_parens-append a.word u)
 
--- behind an opening parenthesis there is one less
+-- after an opening parenthesis there is one less
 one_fewer : {s t u : Text} → s ≡ open_paren ∷ t → Slice s u → bytes u + 1 ≤ bytes s → open_parens u + 1 ≤ open_parens s
 one_fewer {s} {t} {u} e a long = by_word a.word a.cut
   where
@@ -60,7 +60,7 @@ one_fewer {s} {t} {u} e a long = by_word a.word a.cut
         let word : open_parens (c ∷ w) ≡ open_parens w + 1 = rw first refl in
         omega (arith, ap open_parens cut, open_parens-append (c ∷ w) u, word)
 
--- ---- what opens a part begins with a parenthesis
+-- ---- the opening of a part begins with a parenthesis
 
 abbrev Opens : Ahead → Type 0
 Opens nothing = ⊥
@@ -120,7 +120,7 @@ groups_fewer outermost = omega arith
 groups_fewer (inner {frames} f i x l h a m j) =
     omega (arith, groups_fewer l, ap length i, length_push frames f, fewer_behind h.slice, opened_fewer j)
 
--- so there is room for one more where one opens
+-- so the stack has capacity for one more if one opens
 room_for_one : {start t v : State} {none l m : Log} {stack : List Frame} {f : Frame} {trees : List Tree} {o : OpenPart}
     (room : ℕ) → Running start none stack f trees t l → OpensPart (length stack) t l o v m →
     length stack + 1 < max_depth →
@@ -145,7 +145,7 @@ room_for_step v m (step.Open opener) r h steps below room e =
 
 -- ---- the count
 
--- the byte of an opening parenthesis stands in a text where the character does
+-- the byte of an opening parenthesis is in a text where the character is
 no_paren : (bs : List ℕ) → ((k : ℕ) → k < length bs → slice_index bs k ≢ open_paren) → open_parens bs ≡ 0
 no_paren [] h = refl
 no_paren (b ∷ bs) h =
@@ -180,11 +180,11 @@ parens_encoded (c ∷ cs) =
 pub parens_of_bytes : (bs : List ℕ) → IsUtf8 bs → open_parens bs ≡ open_parens (chars bs)
 parens_of_bytes bs u = ap open_parens (sym (encodes-chars bs u)) ∙ parens_encoded (chars bs)
 
--- none is left where none is found
+-- if none is found, none is left
 pub none_found : (bs : List ℕ) → IsFirstByte (is_byte open_paren) bs None → open_parens bs ≡ 0
 none_found bs none = no_paren bs (λ k l e. none k (omega arith) l (grind (arith, nat_tests)))
 
--- behind the first there is one less
+-- after the first there is one less
 paren_at : (bs : List ℕ) (k : ℕ) → k < length bs → ((j : ℕ) → j < k → slice_index bs j ≢ open_paren) →
     slice_index bs k ≡ open_paren → open_parens bs ≡ open_parens (drop 1 (drop k bs)) + 1
 paren_at [] k l h e = absurd (omega (arith, l))
@@ -208,7 +208,7 @@ first_found bs k first =
     paren_at bs k first.0.high (λ j l e. first.0.before j (omega arith) l (grind (arith, nat_tests)))
     (grind (arith, nat_tests))
 
--- fewer than may be are all that there are
+-- if fewer than the limit are counted, they are all that there are
 pub all_counted : (t : Text) (count : ℕ) → open_parens t ≡ count → count < most_open → count ≡ groups_at_once t
 all_counted t count e l = by_test (nat_le most_open (open_parens t)) refl
   where
@@ -216,7 +216,7 @@ all_counted t count e l = by_test (nat_le most_open (open_parens t)) refl
     by_test true i = absurd (grind (arith, nat_tests))
     by_test false i = sym e
 
--- and no more are counted than may be
+-- and no more are counted than the limit
 pub most_counted : (t : Text) (count : ℕ) → most_open ≤ open_parens t → count ≡ most_open → count ≡ groups_at_once t
 most_counted t count l e = by_test (nat_le most_open (open_parens t)) refl
   where

@@ -1,4 +1,4 @@
--- Whether two lists have the same trees.
+-- Whether two lists have equal trees.
 use Rattle.std.proofs.Common.{◌≡◌, ◌≢◌, ℕ, ◌+◌, ◌<◌, ◌≤◌, Bool, true, false, List, [], ◌∷◌, ◌++◌, length, take, get_or}
 use Rattle.std.proofs.Common.{◌∙◌, refl, ap, sym, map, true≢false}
 use Rattle.std.specs.Bool.{Decides}
@@ -13,7 +13,7 @@ use Rattle.fancy_grammar.specs.Tree.{Tree, list_of, more_trees, trees_of}
 use Rattle.fancy_syntax.specs.View.{view, views}
 use Rattle.fancy_syntax.specs.declared.expr.Expr.{Expr}
 
--- ---- with all places, and with none
+-- ---- with all positions, and with none
 
 pub same_with_places : (s t : Tree) → same (placed true s) (placed true t) ≡ same s t
 same_with_places s t = λ i. same (placed_is s i) (placed_is t i)

@@ -1,4 +1,4 @@
--- What is shown of nodes, one by one.
+-- What is shown for nodes, one by one.
 use Rattle.std.proofs.Common.{◌≡◌, ℕ, ◌+◌, ◌<◌, Bool, true, false, List, [], ◌∷◌, ◌++◌, refl, ap, sym, ◌∙◌, ◌&&◌, if◌then◌else◌}
 use Rattle.std.proofs.Common.{length, take, map, get_or}
 use Rattle.std.proofs.lemmas.List.{map-append, take_more}
@@ -17,7 +17,7 @@ shown_more named (y ∷ xs) x = by_test (named && y.unnamed) (shown_more named x
     by_test true h = h
     by_test false h = ap (λ l. reaches y ∷ l) h
 
--- what is made of the nodes so far, with what is made of the next
+-- the result for the nodes so far, with the result for the next
 pub shown_next : (f : Span → Span) (named : Bool) (xs : List Noted) (i : ℕ) (d : Noted) (ys zs : List Span) →
     i < length xs → ys ≡ map f (shown named (take i xs)) →
     zs ≡ ys ++ map f (shown named (get_or xs i d ∷ [])) → zs ≡ map f (shown named (take (i + 1) xs))

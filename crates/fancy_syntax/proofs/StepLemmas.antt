@@ -1,4 +1,4 @@
--- A step where no atom stands.
+-- A step that finds no atom.
 use Rattle.std.proofs.Common.{◌≡◌, ℕ, ◌<◌, ◌≤◌, false, Result, Ok, Err, IfOk, sym, ◌∙◌, subst, ap, arith, ⊎_elim}
 use Rattle.std.proofs.Math.Nat.{eq-or-lt_of_le}
 use Rattle.fancy_lex.specs.Text.{Text, bytes}
@@ -12,14 +12,14 @@ use Rattle.fancy_syntax.specs.Machine.{GivesPiece}
 use Rattle.fancy_syntax.specs.declared.grammar.step.Step.{Step}
 use Rattle.fancy_syntax.specs.declared.grammar.step.Step.TheVariants as step
 
--- where no atom stands and the branch does not end, no piece is read
+-- if there is no atom and the branch does not end, no piece is read
 pub nothing_stops : (d : ℕ) (s : State) (u : Text) (r : Result Step Failure) (v : State) (P : Step → Type 0) →
     ahead d (at s u) ≡ nothing → ends u ≡ false → GivesPiece r (quants d (bytes u) empty (at s u)) v → IfOk r P
 nothing_stops d s u (Ok (step.Piece piece)) v P e h g = absurd (let p = nothing_repeats d s u e h in cc)
 nothing_stops d s u (Ok (step.Open opener)) v P e h g = absurd g
 nothing_stops d s u (Err e) v P f h g = tt
 
--- behind the layout before a piece, nothing is read only where layout was
+-- after the layout before a piece, nothing is read only if there was layout
 pub nothing_shorter : (d k l m left : ℕ) (s : State) (u : Text) (r : Result Step Failure) (v : State) →
     ahead d (at s u) ≡ nothing → ends s.rest ≡ false →
     left ≡ bytes s.rest → GivesPiece r (quants d left empty (at s u)) v → l ≤ m → (l ≡ m → u ≡ s.rest) → k ≤ l →

@@ -9,7 +9,7 @@ use Rattle.fancy_syntax.specs.View.{view, views}
 use Rattle.fancy_syntax.specs.declared.expr.Expr.{Expr}
 use Rattle.fancy_syntax.specs.declared.grammar.frame.Frame.{Frame}
 
--- above the height of a group's pieces stand these, and below its branches and what is around it
+-- the trees above the height of a group's pieces are its pieces; those below are its branches and the trees around it
 pub holds_pieces : (f : Frame) {trees : List Tree} (below branches : List Tree) (pieces : List Tree) →
     HoldsTrees f trees below branches pieces →
     (drop f.pieces trees ≡ pieces) × (take f.pieces trees ≡ below ++ branches)
@@ -40,7 +40,7 @@ split_node node height es ws e h =
     let n : 2 ≤ length (views ws) = omega (arith, h, views_length ws, ap length e, length-drop height es) in
     rw (drop-map view height es, ← e) (several node (views ws) n)
 
--- what stands where the last branch was put behind the others
+-- the trees once the last branch was put after the others
 branches_put : (f : Frame) {trees : List Tree} (below branches pieces all : List Tree) (x : Tree) →
     HoldsTrees f trees below branches pieces → x ≡ one_or concat (drop f.pieces trees) →
     all ≡ take f.pieces trees ++ x ∷ [] → all ≡ below ++ (branches ++ one_or concat pieces ∷ [])
@@ -49,7 +49,7 @@ branches_put f below branches pieces all x h e i =
     i ∙ ap (λ l. l ++ x ∷ []) p.1 ∙ append_assoc below branches (x ∷ [])
     ∙ ap (λ y. below ++ (branches ++ y ∷ [])) (e ∙ ap (one_or concat) p.0)
 
--- the branches of a group, the last put behind the others, are taken: a choice among them
+-- the branches of a group, with the last put after the others, are taken: a choice among them
 pub branches_taken : (f : Frame) {trees : List Tree} (below branches pieces : List Tree) (x : Tree)
     (es ws : List Expr) → HoldsTrees f trees below branches pieces → x ≡ one_or concat (drop f.pieces trees) →
     views es ≡ take f.pieces trees ++ x ∷ [] → f.branches ≢ f.pieces → ws ≡ drop f.branches es →
@@ -72,7 +72,7 @@ branches_taken f below branches pieces x es ws h e i d w =
     let cut : drop f.branches (views es) ≡ all = rw (put, h.1) (drop-append_seam below all) in
     sym (split_node alt f.branches es ws w n) ∙ ap (one_or alt) cut
 
--- and below them stands what is around the group
+-- and below them are the trees of the groups around it
 pub branches_below : (f : Frame) {trees : List Tree} (below branches pieces : List Tree) (x : Tree)
     (es : List Expr) → HoldsTrees f trees below branches pieces → x ≡ one_or concat (drop f.pieces trees) →
     views es ≡ take f.pieces trees ++ x ∷ [] → take f.branches (views es) ≡ below

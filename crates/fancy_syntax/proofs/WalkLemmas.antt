@@ -1,4 +1,4 @@
--- Walks over parts, one behind another.
+-- Walks over parts, one after another.
 use Rattle.std.proofs.Common.{◌≡◌, ℕ, ◌+◌, ◌<◌, ◌≤◌, List, ◌++◌, Bool, true, false, length, refl, ap}
 use Rattle.std.proofs.Common.{◌∙◌, [], ◌∷◌, drop, drop-cons, get_or, add-one, take, set, sym, arith, zero, suc, Option}
 use Rattle.std.proofs.Common.{Some, None, Result, Ok, Err, subst}
@@ -30,7 +30,7 @@ pub noted_append : (k : Known) (s : Progress) (a b : List Item) →
     progress_after k s (a ++ b) ≡ progress_after k (progress_after k s a) b
 noted_append k s a b = fold-append (note_item k) s a b
 
--- the first fault stays the first
+-- the first error stays the first
 fault_kept : (k : Known) (s : Progress) (f : Fault) (l : List Item) → s.fault ≡ Some f →
     (progress_after k s l).fault ≡ Some f
 fault_kept k s f [] h = h
@@ -134,7 +134,7 @@ views_append : (a b : List Expr) → views (a ++ b) ≡ views a ++ views b
 views_append [] b = refl
 views_append (e ∷ a) b = ap (λ l. view e ∷ l) (views_append a b)
 
--- the end that is not resolved yet, cut behind its first tree
+-- the end that is not resolved yet, split after its first tree
 end_cut : (k : Known) (c : ℕ) (es : List Expr) (all : List Tree) (i : ℕ) (e : Expr) → i < length es →
     e ≡ get_or es i e → resolved_list k c (views (drop i es)) ≡ drop i all →
     drop i all
@@ -143,7 +143,7 @@ end_cut k c es all i e h g d =
     let es_cut : drop i es ≡ e ∷ drop (i + 1) es = rw (drop-cons es i e, ← g, add-one) refl in
     sym d ∙ ap (λ l. resolved_list k c (views l)) es_cut
 
--- the front that is resolved, with one tree more
+-- the resolved front, with one more tree
 pub front_resolved : (k : Known) (c : ℕ) (es now : List Expr) (all : List Tree) (i : ℕ) (e e2 : Expr) →
     length now ≡ length es → i < length es → e ≡ get_or es i e →
     view e2 ≡ resolved_by k c (view e) → views (take i now) ≡ take i all →

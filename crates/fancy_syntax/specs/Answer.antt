@@ -1,11 +1,11 @@
--- What is answered for a text, beside its tree.
+-- What is returned for a text besides its tree.
 use Rattle.std.specs.Prelude.{map}
 use Rattle.fancy_parts.specs.Groups.{entry_of}
 use Rattle.fancy_grammar.specs.Marks.{Marks}
 use Rattle.fancy_syntax.specs.declared.tree.ExprTree.{ExprTree}
 pub use Rattle.fancy_grammar.specs.Answer.{IsTreeOf, IsFaultOf, of_reading, of_resolving, IsOnlyFault, IsPlacedIn}
 
--- what an answer says beside its tree
+-- the group information in an `ExprTree`
 abbrev pub marks_of : ExprTree → Marks
 marks_of t = record {
   backrefs = t.backrefs.keys;

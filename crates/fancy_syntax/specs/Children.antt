@@ -1,4 +1,4 @@
--- The immediate children of an `Expr`, and those that an iterator has left.
+-- The immediate children of an `Expr`, and those that an iterator has still to return.
 use Rattle.std.specs.Prelude.{List, [], ◌∷◌, ◌++◌, Option, option_map}
 use Rattle.std.specs.Borrow.{Bor}
 use Rattle.std.specs.Option.{option_to_list}
@@ -33,11 +33,11 @@ children_step _ = []
 abbrev pub children_of : Expr → List Expr
 children_of e = children_step (out-Expr e)
 
--- a child that was not given yet
+-- a child that was not returned yet
 abbrev waiting : Option (Bor Expr) → List Expr
 waiting child = option_to_list (option_map (λ c. c.now) child)
 
--- the children that an iterator has still to give
+-- the children that an iterator has still to return
 abbrev pub remaining_children : ExprChildrenIter → List Expr
 remaining_children iter.Empty = []
 remaining_children (iter.Single child) = waiting child

@@ -1,6 +1,6 @@
--- What the public contracts speak of.
+-- The definitions that the public contracts use.
 
--- ---- trees, and what is asked of them
+-- ---- trees, and the questions about them
 pub use Rattle.fancy_grammar.specs.Tree
 pub mod View
 pub mod Children
@@ -8,7 +8,7 @@ pub mod Descendants
 pub use Rattle.fancy_grammar.specs.Same
 pub mod Loans
 pub mod Writes
--- ---- reading: the grammar, what references mean, and what is answered
+-- ---- reading: the grammar, the groups that references refer to, and the results
 pub use Rattle.fancy_grammar.specs.Depth
 pub use Rattle.fancy_grammar.specs.State
 pub use Rattle.fancy_grammar.specs.Head
@@ -23,17 +23,17 @@ pub use Rattle.fancy_grammar.specs.Marks
 pub mod Answer
 pub use Rattle.fancy_grammar.specs.Preorder
 pub use Rattle.fancy_grammar.specs.Answered
--- ---- where the nodes stand
+-- ---- the positions of the nodes
 pub use Rattle.fancy_grammar.specs.Spans
 pub mod SpanViews
--- ---- printing, and what a printed text reads as
+-- ---- printing, and what a printed text is read as
 pub use Rattle.fancy_grammar.specs.Printed
 pub use Rattle.fancy_grammar.specs.HasDelegate
 pub use Rattle.fancy_grammar.specs.Normal
 pub use Rattle.fancy_grammar.specs.Printable
 pub use Rattle.fancy_grammar.specs.Over
 pub use Rattle.fancy_grammar.specs.ReadBack
--- What only the private contracts and the proofs of the code speak of.
+-- The definitions that only the private contracts and the proofs of the code use.
 
 -- ---- the parser's loop
 pub mod Reads

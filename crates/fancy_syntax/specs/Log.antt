@@ -1,4 +1,5 @@
--- What is noted of the places of nodes while a pattern is read, and what becomes of it with each thing that is read.
+-- What is recorded about the positions of nodes while a pattern is read, and how each thing that is read changes the
+-- record.
 use Rattle.std.specs.Prelude.{ℕ, ◌+◌, ◌-◌, ◌==◌, nat_lt, min, Bool, false, ◌&&◌, if◌then◌else◌, List, [], ◌∷◌, ◌++◌}
 use Rattle.std.specs.Prelude.{length, take, insert, remove, Option, Some, None}
 use Rattle.std.specs.List.{slice_get, slice_index_or}
@@ -10,7 +11,7 @@ use Rattle.fancy_syntax.specs.declared.grammar.noted.Last.{Last}
 use Rattle.fancy_syntax.specs.declared.grammar.noted.Noted.{Noted}
 use Rattle.fancy_syntax.specs.declared.grammar.noted.Open.{Open}
 
--- the nodes of what is read, each tree in preorder; the atoms that are open, the innermost apart; the last piece
+-- the nodes that have been read, each tree in preorder; the open atoms, with the innermost one separate; the last piece
 pub record Log : Type 0 where
   pub noted : List Noted
   pub around : List Open
@@ -21,7 +22,7 @@ pub record Log : Type 0 where
 abbrev pub plain : ℕ → ℕ → Noted
 plain start end = record { start = start; end = end; unnamed = false; bar = None }
 
--- nothing is read yet of a text that begins at the reach
+-- the log before anything is read of a text that begins at the reach
 abbrev pub started : ℕ → Log
 started start = record {
   noted = [];
@@ -38,16 +39,16 @@ started start = record {
   last = record { start = start; height = 0 };
 }
 
--- where the node stands
+-- the span of the node, in reaches
 abbrev pub reaches : Noted → Span
 reaches x = record { start = x.start; end = x.end }
 
--- the reaches of the nodes that are answered; where only groups with a name have a number, the others leave no node
+-- the reaches of the nodes of the parsed tree; if only named groups have a number, the other groups have no node
 abbrev pub shown : Bool → List Noted → List Span
 shown named [] = []
 shown named (x ∷ xs) = if named && x.unnamed then shown named xs else reaches x ∷ shown named xs
 
--- a node behind so many others, or behind all where there are fewer
+-- a node inserted after that many others, or after all if there are fewer
 abbrev pub put : ℕ → Noted → Log → Log
 put height x l = record l { noted = insert l.noted (min height (length l.noted)) x }
 
@@ -62,7 +63,7 @@ leaf_noted start end l = record l {
 abbrev pub left_out : Log → Log
 left_out l = record l { noted = take l.last.height l.noted }
 
--- under a node that ends there
+-- the last piece in a node that ends at the reach
 abbrev pub under_node : ℕ → Log → Log
 under_node end l = put l.last.height (plain l.last.start end) l
 
@@ -98,17 +99,17 @@ atom_opened start l = record l {
   };
 }
 
--- an atom that begins at the one reach, and its first part at the other
+-- an atom that begins at the first reach, and its first part at the second
 abbrev pub opened : ℕ → ℕ → Log → Log
 opened start inside l = part_begun inside (atom_opened start l)
 
--- a conditional that begins at s, whose body begins at t behind a condition that is no alternation
+-- a conditional that begins at s; its body begins at t, after a condition that is no alternation
 abbrev pub body_opened : State → State → Log → Log
 body_opened s t l =
     let p = condition_span s t in
     part_begun (reach_of t.rest) (leaf_noted p.start p.end (opened (reach_of s.rest) (reach_of t.rest) l))
 
--- the open atom is the last piece, and the one around it is open
+-- the open atom becomes the last piece, and the atom around it is the open one
 abbrev pub atom_ended : Log → Log
 atom_ended l =
     let outer = length l.around - 1 in
@@ -125,7 +126,8 @@ atom_closed end unnamed l = atom_ended
 
 -- ---- branches
 
--- the first bar is kept, of which the branch behind it begins there, and the one before it has so many nodes
+-- the first bar of a part: the earlier one if there is one; else this bar, after which a branch begins at the reach,
+-- and before which the branch has that many nodes
 abbrev pub first_bar : Option FirstBar → ℕ → ℕ → FirstBar
 first_bar None start nodes = record { behind = start; nodes = nodes }
 first_bar (Some b) start nodes = b
@@ -153,7 +155,7 @@ choice_ended end l = put l.open_atom.branches
 
 -- ---- the body of a conditional
 
--- in the place of an Alt of so many branches the choice among those behind its first bar, where they are several
+-- for an Alt of that many branches, which was removed: if several follow its first bar, an Alt of these is inserted
 abbrev pub others_put : ℕ → Noted → Option FirstBar → Log → Log
 others_put branches alt None l = l
 others_put branches alt (Some b) l =

@@ -1,4 +1,4 @@
--- What is noted, and what is answered of it.
+-- Views of the log, and the spans that are returned for it.
 use Rattle.std.specs.Prelude.{Bool, List, map}
 use Rattle.fancy_lex.specs.Text.{Text, bytes}
 use Rattle.fancy_grammar.specs.Spans as spec
@@ -8,6 +8,6 @@ use Rattle.fancy_syntax.specs.declared.grammar.spans.Spans.{Spans}
 abbrev pub log_of : Spans → Log
 log_of s = record { noted = s.noted.items; around = s.around.items; open_atom = s.open; last = s.last }
 
--- the spans that are answered of what is noted; where `named` only groups with a name have a number
+-- the spans that are returned for the log; with `named`, only named groups have a number
 abbrev pub answered_spans : Text → Bool → Log → List spec.Span
 answered_spans text named l = map (spec.placed (bytes text)) (shown named l.noted)

@@ -1,4 +1,4 @@
--- The groups that are open, as the parser's stack holds them.
+-- The open groups, as the parser's stack holds them.
 use Rattle.std.specs.Prelude.{◌≡◌, ℕ, ◌+◌, ◌<◌, ◌==◌, ◌&&◌, not, if◌then◌else◌, Bool, true, false, List, []}
 use Rattle.std.specs.Prelude.{◌∷◌, ◌++◌, length, Some, Result, MatchResult, ⊤}
 use Rattle.fancy_lex.specs.Characters.{bar}
@@ -31,14 +31,14 @@ use Rattle.fancy_syntax.specs.declared.grammar.parser.Parser.{Parser}
 use Rattle.fancy_syntax.specs.declared.grammar.step.Step.{Step}
 use Rattle.fancy_syntax.specs.declared.grammar.step.Step.TheVariants as step
 
--- what is open
+-- an open part
 pub data OpenPart : Type 0 where
   top : OpenPart  -- the whole text
   group : Head → ℕ → OpenPart  -- a group that opens at the reach
   condition : OpenPart  -- the condition of a conditional
-  body : Tree → ℕ → OpenPart  -- the body of a conditional of this condition, which began where so many bytes were left
-  first : OpenPart  -- the branch behind `(?~|`
-  second : Tree → OpenPart  -- the branch behind that one and a bar
+  body : Tree → ℕ → OpenPart  -- the body of a conditional with this condition; that many bytes were left at its start
+  first : OpenPart  -- the branch after `(?~|`
+  second : Tree → OpenPart  -- the branch after that branch and a bar
 
 abbrev pub part_of : Opener → OpenPart
 part_of opener.Top = top
@@ -48,7 +48,7 @@ part_of (opener.Body c left) = body (view c.value) left
 part_of opener.First = first
 part_of (opener.Second a) = second (view a.value)
 
--- whether no bar parts branches there
+-- whether the part holds a single branch, not an alternation
 abbrev pub holds_one : OpenPart → Bool
 holds_one first = true
 holds_one (second a) = true
@@ -58,22 +58,22 @@ abbrev pub is_second : OpenPart → Bool
 is_second (second a) = true
 is_second _ = false
 
--- what is open behind a bar, where the branch before it is the tree
+-- the part that is open after a bar; the tree is the branch before the bar
 abbrev pub opened_by_bar : OpenPart → Tree → OpenPart
 opened_by_bar first a = second a
 opened_by_bar p a = p
 
--- the branches behind a bar
+-- the branches after a bar
 abbrev pub branches_at_bar : OpenPart → List Tree → Tree → List Tree
 branches_at_bar first l a = l
 branches_at_bar _ l a = l ++ a ∷ []
 
--- no bar may stand behind the second branch of an absent expression
+-- the error at a bar after the second branch of an absent expression, which allows none
 abbrev pub IsFaultOfBar : OpenPart → Text → Outcome Tree → Type 0
 IsFaultOfBar (second a) t o = o ≡ faulted (bar_for_close_paren t)
 IsFaultOfBar _ t o = ⊥
 
--- what is read of what is open, noted from the one log to the other
+-- the outcome of reading the open part; the record goes from the first log to the second
 abbrev pub Part : OpenPart → ℕ → State → Outcome Tree → Log → Log → Type 0
 Part first d s o l m = BranchTo d s o l m
 Part (second a) d s o l m = BranchTo d s o l m
@@ -82,7 +82,8 @@ Part (group h p) d s o l m = AlternationTo d s o l m
 Part condition d s o l m = AlternationTo d s o l m
 Part (body c left) d s o l m = AlternationTo d s o l m
 
--- a piece at s opens this, and what is read of it begins at t; l is noted before, and the last log behind
+-- a piece at s opens this part, and the contents of the part begin at t; l is the log before, and the last argument the
+-- log after
 pub data OpensPart : ℕ → State → Log → OpenPart → State → Log → Type 0 where
   a_group : {d s l t u h : _} → skipped s ≡ rest u → ahead d (at s u) ≡ seen.with_head h t →
       OpensPart d s l (group h (reach_of u)) t (opened (reach_of u) (reach_of t.rest) l)
@@ -98,12 +99,12 @@ pub data OpensPart : ℕ → State → Log → OpenPart → State → Log → Ty
       strip bar v.rest ≡ Some u →
       OpensPart d s l (second a) (at v u) (branch_begun (reach_of u) (branch_noted b m))
 
--- the body of a conditional is wanting: it takes no byte, and the condition cannot do without
+-- the body of a conditional is missing: it takes no byte, and the condition needs a body
 abbrev pub lacks_body : OpenPart → State → Bool
 lacks_body (body c left) s = bytes s.rest == left && not (is_condition c)
 lacks_body _ s = false
 
--- the tree of what was open, around the tree read inside
+-- the tree of the part, around the tree read inside it
 abbrev pub node_of_part : OpenPart → Tree → Tree
 node_of_part top r = r
 node_of_part (group h p) r = group_node h p r
@@ -112,18 +113,18 @@ node_of_part (body c left) r = conditional_of c (branches_of r).0 (branches_of r
 node_of_part first r = clear_or_stopper r
 node_of_part (second a) r = expression a r
 
--- whether the atom goes on behind what is open: the body follows a condition
+-- whether the atom continues after the part: a body follows a condition
 abbrev pub goes_on : OpenPart → Bool
 goes_on condition = true
 goes_on _ = false
 
--- what comes out where what is open ends with the tree r at s
+-- the outcome when the part ends with the tree r at s
 abbrev pub ended_part : OpenPart → Tree → State → Outcome Tree
 ended_part p r s =
     if lacks_body p s then faulted (body_wanting s.rest)
     else closed (node_of_part p r) s
 
--- what is noted where it ends with the tree r: its parenthesis begins at the one reach and ends at the other
+-- the log when the part ends with the tree r; its parenthesis begins at the first reach and ends at the second
 abbrev pub part_noted : OpenPart → Tree → ℕ → ℕ → Log → Log
 part_noted top r paren end l = l
 part_noted (group h p) r paren end l = group_noted h end l
@@ -132,50 +133,52 @@ part_noted (body c left) r paren end l = conditional_noted r paren end l
 part_noted first r paren end l = stopper_noted r end l
 part_noted (second a) r paren end l = atom_closed end false l
 
--- the same with what follows: the body of a conditional begins, or quantifiers are read under the flags before the piece
+-- the same with what follows: the body of a conditional begins, or quantifiers are read under the flags from before the
+-- piece
 abbrev pub close_noted : ℕ → Flags → OpenPart → Tree → State → Log → Log
 close_noted left flags p r s l = if_done (ended_part p r s) (λ a t.
     let m = part_noted p r (reach_of s.rest) (reach_of t.rest) l in
     if goes_on p then part_begun (reach_of t.rest) m
     else quants_noted left (done a (record t { flags = flags })) m) l
 
--- a group is opened only where one may open inside d groups
+-- a group is opened only if one may open inside d groups
 abbrev pub OpensBelow : Step → ℕ → Type 0
 OpensBelow (step.Piece piece) d = ⊤
 OpensBelow (step.Open opener) d = d + 1 < max_depth
 
--- a step from s reads a piece, or opens a part of one, and ends at t; what is noted goes from l to m
+-- a step from s reads a piece, or opens a part of one, and ends at t; the record goes from l to m
 abbrev pub IsStep : ℕ → State → Log → Step → State → Log → Type 0
 IsStep d s l (step.Piece piece) t m = PieceTo d s (done (view piece) t) l m
 IsStep d s l (step.Open opener) t m = OpensPart d s l (part_of opener) t m
 
--- the stack, the innermost group and all trees behind a step: a tree more, or a group more in which nothing is read
+-- the stack, the innermost group and all trees after a step: one more tree, or one more group in which nothing is read
+-- yet
 abbrev pub Takes : Step → List Frame → Frame → List Tree → List Frame → Frame → List Tree → Type 0
 Takes (step.Piece piece) fs f ts gs g us = (gs ≡ fs) × (g ≡ f) × (us ≡ ts ++ solid (view piece ∷ []))
 Takes (step.Open opener) fs f ts gs g us =
     (gs ≡ fs ++ f ∷ []) × (us ≡ ts) ×
     (g.opener ≡ opener) × (g.branches ≡ length ts) × (g.pieces ≡ length ts)
 
--- what is noted once a step is taken: an Empty is left out
+-- the log after a step was taken: an Empty is left out
 abbrev pub taken_noted : Step → Log → Log
 taken_noted (step.Piece piece) l = added (view piece) l
 taken_noted (step.Open opener) l = l
 
--- a step from s to t, noted from l to m, or the fault of a piece there
+-- a step from s to t, recorded from l to m, or the error of a piece at s
 abbrev pub GivesStep : Result Step Failure → ℕ → State → Log → State → Log → Type 0
 GivesStep r d s l t m = MatchResult r (λ p. IsStep d s l p t m) (λ e. IsErrorAmong e (Piece d s))
 
--- the step reads a piece, to this outcome
+-- the step reads a piece, with this outcome
 abbrev pub IsPiece : Step → State → Outcome Tree → Type 0
 IsPiece (step.Piece piece) t o = o ≡ done (view piece) t
 IsPiece (step.Open opener) t o = ⊥
 
--- a step that reads a piece, up to t, or a fault, is the outcome
+-- the result, a step that reads a piece up to t or an error, is the outcome
 abbrev pub GivesPiece : Result Step Failure → Outcome Tree → State → Type 0
 GivesPiece r o t = MatchResult r (λ p. IsPiece p t o) (λ e. IsErrorAmong e (λ q. o ≡ q))
 
--- what is read of a part that begins at s: branches, and the pieces of the branch that is open at t; what is noted goes
--- from the log `start` to l
+-- what has been read of a part that begins at s: its branches, and the pieces of the branch that is open at t; the
+-- record goes from the log `start` to l
 pub record ReadSoFar (d : ℕ) (p : OpenPart) (s : State) (start : Log) (branches pieces : List Tree) (t : State)
     (l : Log) : Type 0 where
   pub begin : State
@@ -189,17 +192,18 @@ pub record ReadSoFar (d : ℕ) (p : OpenPart) (s : State) (start : Log) (branche
   pub one : holds_one p ≡ true → (begin ≡ s) × (branches ≡ []) × (before ≡ start)
   pub slice : Slice s.rest t.rest
 
--- the piece in which the parts above the frame were opened began at the state
+-- the piece that opened the parts above the frame began at the state
 abbrev pub Began : Frame → State → Type 0
 Began f s = (f.left ≡ bytes s.rest) × (f.flags ≡ s.flags)
 
--- where the group's own trees stand among all: above those of the groups around it, its pieces above its branches
+-- the position of the group's own trees among all: above the trees of the groups around it, and its pieces above its
+-- branches
 abbrev pub HoldsTrees : Frame → (trees below branches pieces : List Tree) → Type 0
 HoldsTrees f trees below branches pieces =
     (trees ≡ below ++ branches ++ pieces) × (f.branches ≡ length below) × (f.pieces ≡ length (below ++ branches))
 
--- the open groups of a text that begins at `start`, where `none` is noted, and the trees that they hold; what is read of
--- the innermost begins at s, at depth d, where l is noted, and its own trees are not among these
+-- the open groups of a text that begins at `start`, with the log `none`, and the trees that they hold. The innermost
+-- part begins at s, at depth d, with the log l. Its own trees are not among these.
 pub data OpenGroups (start : State) (none : Log) : List Frame → List Tree → OpenPart → ℕ → State → Log → Type 0 where
   outermost : OpenGroups start none [] [] top 0 start none
   inner : {d s l t m v n p all frames trees below branches pieces : _} (f : Frame) → all ≡ frames ++ f ∷ [] →
@@ -207,8 +211,8 @@ pub data OpenGroups (start : State) (none : Log) : List Frame → List Tree → 
       ReadSoFar d (part_of f.opener) s l branches pieces t m → Began f t → ends t.rest ≡ false →
       OpensPart d t m p v n → OpenGroups start none all trees p (d + 1) v n
 
--- what is open is read of a text that begins at `start`, up to t: the frames, the trees that they hold, and the frame
--- on top of them; what is noted goes from `none` to l
+-- what has been read of a text that begins at `start`, up to t: the frames, the trees that they hold, and the frame on
+-- top of them; the record goes from `none` to l
 pub record Running (start : State) (none : Log) (stack : List Frame) (f : Frame) (trees : List Tree) (t : State)
     (l : Log) : Type 0 where
   pub depth : ℕ
@@ -222,15 +226,15 @@ pub record Running (start : State) (none : Log) (stack : List Frame) (f : Frame)
   pub levels : OpenGroups start none stack below (part_of f.opener) depth begin before
   pub reading : ReadSoFar depth (part_of f.opener) begin before branches pieces t l
 
--- the same of what the loop holds
+-- the same for the fields of the parser
 abbrev pub HasRead : State → Log → Parser → Log → Type 0
 HasRead start none r l = Running start none r.stack.items r.frame (views r.trees.items) (state r.here) l
 
--- the same, where what is noted then is as told
+-- the same, and P holds of the log
 abbrev pub HasReadTo : State → Log → Parser → (Log → Type 0) → Type 0
 HasReadTo start none r P = (l : Log) × HasRead start none r l × P l
 
--- the leaf r stands at s and is a piece at any depth, noted as a leaf alone, and t follows it
+-- the leaf r is at s and is a piece at any depth, recorded only as a leaf, and t follows it
 pub record IsNotedPlain (s : State) (r : Tree) (t : Text) : Type 0 where
   pub more : ends s.rest ≡ false
   pub piece : (d : ℕ) (l : Log) → PieceTo d s (done r (at s t)) l (leaf_noted (reach_of s.rest) (reach_of t) l)

@@ -1,4 +1,4 @@
--- How the resolver's own values stand to the definitions.
+-- How the resolver's own values correspond to the definitions.
 use Rattle.std.specs.Prelude.{◌≡◌, ℕ, ◌||◌, Bool, true, false, List, [], ◌∷◌, Option, Some, None, chars}
 use Rattle.std.specs.Prelude.{Result, MatchResult}
 use Rattle.fancy_lex.specs.Fault.{Fault}
@@ -26,7 +26,7 @@ use Rattle.fancy_syntax.specs.declared.resolve.notes.Known.{Known}
 use Rattle.fancy_syntax.specs.declared.resolve.notes.Progress.{Progress}
 use Rattle.fancy_syntax.specs.declared.resolve.notes.Stopped.{Stopped}
 
--- whether a capturing group or a reference is there
+-- whether there is a capturing group or a reference
 abbrev pub has_items : List Item → Bool
 has_items [] = false
 has_items (i ∷ l) = true
@@ -34,7 +34,7 @@ has_items (i ∷ l) = true
 abbrev pub known_of : Known → walk.Known
 known_of k = record { text = chars k.pattern.now; named = k.named; groups = groups_of k.groups }
 
--- no fault is noted: the walk stops at the first
+-- the progress of a walk that has met no error; the walk stops at the first
 abbrev pub progress_of : Progress → walk.Progress
 progress_of p = record {
   passed = p.passed;
@@ -46,30 +46,30 @@ progress_of p = record {
   fault = None;
 }
 
--- the error that a walk noted where it stopped is this fault, or that memory ran out
+-- the error that a walk recorded when it stopped is this error, or out of memory
 abbrev pub IsErrorNoted : Option Failure → Option Fault → Type 0
 IsErrorNoted None o = ⊥
 IsErrorNoted (Some e) o = IsErrorIn e o
 
--- the walk goes over the items to their end, and then P holds of the answer; or it stops at their first fault
+-- the walk passes all items, and then P holds of the result; or it stops at their first error
 abbrev pub Walks : {A : Type 0} → Result A Stopped → walk.Known → walk.Progress → List Item → Progress →
     (A → Type 0) → Type 0
 Walks r k before l after P =
     let end = walk.progress_after k before l in
     MatchResult r (λ a. P a × (progress_of after ≡ end)) (λ _. IsErrorNoted after.error end.fault)
 
--- the tree is a node as it is read: a capturing group, or a reference
+-- the tree is a node of a raw tree: a capturing group, or a reference
 abbrev pub is_node_read : Tree → Bool
 is_node_read (leaf (label.ast_node r reach)) = true
 is_node_read (over (label.ast_group name reach) t) = true
 is_node_read _ = false
 
--- the tree is a capturing group as it is read
+-- the tree is a capturing group of a raw tree
 abbrev pub is_group_read : Tree → Bool
 is_group_read (over (label.ast_group name reach) t) = true
 is_group_read _ = false
 
--- a node that is read is a reference, and no group
+-- the node is a reference, not a group
 abbrev pub is_reference_step : AstNode-F Absent AstNode Expr → Bool
 is_reference_step (AstNode-F.AstGroup name inner) = false
 is_reference_step _ = true
@@ -77,22 +77,22 @@ is_reference_step _ = true
 abbrev pub is_reference : AstNode → Bool
 is_reference n = is_reference_step (out-AstNode n)
 
--- the tree, or where there is none what stands there
+-- the resolved tree, or the tree that is already there if there is none
 abbrev pub resolved_or : Tree → Option Expr → Tree
 resolved_or t None = t
 resolved_or t (Some e) = view e
 
--- the number that a reference means to the walk, where it means one
+-- the number that a reference refers to in the walk, if it refers to one
 abbrev pub number_meant : Known → Progress → Role → CaptureGroupTarget → Option ℕ
 number_meant k p role target =
     walk.number_in (walk.means_here (known_of k) (progress_of p) (role_of role) (view_target target))
 
--- the walk with a reference noted
+-- the walk with a reference recorded
 abbrev pub noted_one : Known → Progress → ℕ → Role → CaptureGroupTarget → walk.Progress
 noted_one k p reach role target =
     walk.note_reference (known_of k) (progress_of p) reach (role_of role) (view_target target)
 
--- the walk with what the form of a reference says noted
+-- the walk with the form of a reference recorded
 abbrev pub form_noted : Known → Progress → ℕ → Role → CaptureGroupTarget → walk.Progress
 form_noted k p reach role target = record (progress_of p) {
   numeric = p.numeric
@@ -102,7 +102,7 @@ form_noted k p reach role target = record (progress_of p) {
   self_recursive = p.self_recursive || spec.is_call_of_all (role_of role) (view_target target);
 }
 
--- the walk with what the meaning of a reference says noted
+-- the walk with the meaning of a reference recorded
 abbrev pub meaning_noted : Known → Progress → ℕ → Role → Meaning → walk.Progress
 meaning_noted k p reach role m =
     let total = (groups_of k.groups).total in let number = spec.back_number (role_of role) (meaning_of m) in
@@ -112,8 +112,7 @@ meaning_noted k p reach role m =
       fault = fault_or (meaning_of m) reach None;
     }
 
--- the marks that the end of the walk says, given the groups that have a number and whether these are the named ones
--- alone
+-- the group information at the end of the walk, given the groups that have a number and whether only named groups do
 abbrev pub marks_found : Bool → Groups → walk.Progress → spec.Marks
 marks_found named groups p = record {
   backrefs = p.backrefs;

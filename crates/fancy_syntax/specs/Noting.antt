@@ -1,4 +1,5 @@
--- What is noted of the places of nodes once a text is read: the events of the log in the order of the derivation.
+-- What is recorded about the positions of nodes when a text is read: the events of the log in the order of the
+-- derivation.
 use Rattle.std.specs.Prelude.{◌≡◌, ℕ, zero, suc, true, false, ◌||◌, ◌&&◌, List, ◌∷◌, length, None}
 use Rattle.std.specs.Prelude.{if◌then◌else◌}
 use Rattle.std.specs.Option.{option_and_then}
@@ -24,7 +25,7 @@ use Rattle.fancy_syntax.specs.Log.{atom_ended}
 
 -- ---- quantifiers
 
--- behind the atom a, under these counts
+-- after the atom a, with these counts
 abbrev pub counted_noted : Tree → State → Log → Counts × Text → Log
 counted_noted a s l (c, t) =
     if is_repeatable s.flags a
@@ -32,28 +33,28 @@ counted_noted a s l (c, t) =
     (λ m v. wrapped (quantifier_end t m v) (is_swapped s.flags c || m.possessive) l) l
     else l
 
--- behind the quantifier that follows layout, if one does
+-- after the quantifier that follows layout, if one does
 abbrev pub quant_noted : Tree → State → Log → Log
 quant_noted a s l =
     let blanks = s.flags.ignore_space in
     choose (option_and_then (counts blanks) (past_layout blanks s.rest)) (counted_noted a s l) l
 
--- behind adjacent ones, of which k may follow
+-- after adjacent quantifiers, of which k more may follow
 abbrev pub adjacent_noted : ℕ → Tree → State → Log → Log
 adjacent_noted zero a s l = quant_noted a s l
 adjacent_noted (suc k) a s l =
     let m = quant_noted a s l in
     if_done (quant (bytes s.rest) a s) (λ b t. if is_unmoved s t then m else adjacent_noted k b t m) m
 
--- behind all, in a piece before which so many bytes were left
+-- after all quantifiers of a piece; that many bytes were left at the start of the piece
 abbrev pub quants_noted : ℕ → Outcome Tree → Log → Log
 quants_noted left q l = if_done q (λ a s.
     let m = quant_noted a s l in
     if_done (quant left a s) (λ b t. if t.flags.oniguruma_mode then adjacent_noted max_adjacent b t m else m) m) l
 
--- ---- what closes
+-- ---- the ends of groups, conditionals and branches
 
--- a group, whose parenthesis ends at the reach
+-- a group, whose closing parenthesis ends at the reach
 abbrev pub group_noted : Head → ℕ → Log → Log
 group_noted scope end l = atom_ended l
 group_noted (capture None) end l = atom_closed end true l
@@ -64,23 +65,23 @@ abbrev pub body_parted : Tree → ℕ → Log → Log
 body_parted (alt ts) end l = body_split (length (list_of ts)) l
 body_parted r end l = branch_lacked end l
 
--- a conditional, whose parenthesis begins at the one reach and ends at the other
+-- a conditional, whose closing parenthesis begins at the first reach and ends at the second
 abbrev pub conditional_noted : Tree → ℕ → ℕ → Log → Log
 conditional_noted r paren end l =
     let b = branches_of r in
     let m = body_parted r paren l in
     if is_empty b.0 && is_empty b.1 then atom_ended (part_dropped m) else atom_closed end false m
 
--- a branch behind `(?~|` that no other follows
+-- a branch after `(?~|` that no other branch follows
 abbrev pub stopper_noted : Tree → ℕ → Log → Log
 stopper_noted a end l = atom_closed end false (if is_empty a then part_dropped l else l)
 
--- the last of these branches, which ends at the reach
+-- after all branches of a part; the last one ends at the reach
 abbrev pub choice_noted : List Tree → ℕ → Log → Log
 choice_noted (r ∷ q ∷ rs) end l = choice_ended end l
 choice_noted _ end l = l
 
--- a piece behind others: an Empty is left out
+-- a piece after others: an Empty is left out
 abbrev pub added : Tree → Log → Log
 added r l = if is_empty r then left_out l else l
 
@@ -135,7 +136,7 @@ abbrev mutual
   body_noted {o} (the_body {q} a) l =
       let m = alternation_noted a l in if_done q (λ r v. conditional_noted r (reach_of v.rest) (end_of o) m) m
 
--- ---- derivations with what was noted before and is noted behind
+-- ---- derivations with the log before and the log after
 
 abbrev pub PieceTo : ℕ → State → Outcome Tree → Log → Log → Type 0
 PieceTo d s o l m = (a : Piece d s o) × (piece_noted a l ≡ m)
@@ -154,7 +155,7 @@ AlternationTo d s o l m = (a : Alternation d s o) × (alternation_noted a l ≡ 
 
 -- ---- the steps of the loop
 
--- behind what stands ahead: a piece, or the opening of a part; so many bytes were left where the piece began
+-- after the start of an atom: a piece, or the opening of a part; that many bytes were left at the start of the piece
 abbrev pub ahead_noted : ℕ → State → Ahead → Log → Log
 ahead_noted left s nothing l = quants_noted left (done empty s) (leaf_noted (reach_of s.rest) (reach_of s.rest) l)
 ahead_noted left s (read o) l = quants_noted left o (leaf_noted (reach_of s.rest) (end_of o) l)
@@ -163,7 +164,7 @@ ahead_noted left s (condition t) l = opened (reach_of s.rest) (reach_of t.rest) 
 ahead_noted left s (body c t) l = body_opened s t l
 ahead_noted left s (absent_branch t) l = opened (reach_of s.rest) (reach_of t.rest) l
 
--- behind the layout before a piece
+-- after the layout before a piece
 abbrev pub skipped_noted : ℕ → State → Skipped → Log → Log
 skipped_noted d s (rest u) l = ahead_noted (bytes s.rest) (at s u) (ahead d (at s u)) l
 skipped_noted d s (open_comment p) l = l

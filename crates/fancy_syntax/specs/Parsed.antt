@@ -1,4 +1,4 @@
--- How the answers of the parser's readers stand to the grammar's.
+-- How the results of the parser's readers correspond to the grammar's.
 use Rattle.std.specs.Prelude.{◌≡◌, ℕ, ◌+◌, ◌<◌, List, option_map, chars, length, Result, MatchResult, ⊤}
 use Rattle.fancy_lex.specs.declared.error.Failure.{Failure}
 use Rattle.fancy_grammar.specs.Ahead.{Ahead, nothing, read, with_head, condition, body, absent_branch}
@@ -23,7 +23,7 @@ use Rattle.fancy_syntax.specs.declared.grammar.state.State.{State}
 abbrev pub state : State → spec.State
 state s = record { flags = s.flags; rest = chars s.rest.now }
 
--- the head, with its name as a list of characters
+-- the group kind, with its name as a list of characters
 abbrev pub head_of : Head → head.Head
 head_of (code.Capture name) = head.capture (option_map (λ t. chars t.now) name)
 head_of code.Scope = head.scope
@@ -32,27 +32,27 @@ head_of code.Atomic = head.atomic
 head_of code.Define = head.define
 head_of code.Repeater = head.repeater
 
--- a tree and the state behind it, or the fault, is an outcome
+-- the result, a tree with the state after it or an error, is an outcome
 abbrev pub IsTreeRead : Result (Expr × State) Failure → (Outcome Tree → Type 0) → Type 0
 IsTreeRead r P = MatchResult r (λ found. P (done (view found.0) (state found.1))) (λ e. IsErrorAmong e P)
 
--- the tree and the state come to these, or a fault is found: the outcome
+-- the outcome is this tree and this state, or the error that the result has
 abbrev pub Turns : Result (Unit {0}) Failure → Tree → spec.State → Outcome Tree → Type 0
 Turns r t s o = MatchResult r (λ _. o ≡ done t s) (λ e. IsErrorAmong e (λ q. o ≡ q))
 
--- the marks behind the counts of a quantifier
+-- the suffix after the counts of a quantifier
 abbrev pub suffix_of : Suffix → quantified.Suffix
 suffix_of m = record { lazy = m.lazy; possessive = m.possessive }
 
--- such marks are read, up to the state, or a fault is found: the outcome
+-- the outcome is this suffix, read up to the state, or the error that the result has
 abbrev pub GivesSuffix : Result Suffix Failure → spec.State → Outcome quantified.Suffix → Type 0
 GivesSuffix r s o = MatchResult r (λ m. o ≡ done (suffix_of m) s) (λ e. IsErrorAmong e (λ q. o ≡ q))
 
--- the tree of an expression is read, up to the state, or a fault is found: the outcome
+-- the outcome is the tree of the expression, read up to the state, or the error that the result has
 abbrev pub GivesTree : Result Expr Failure → spec.State → Outcome Tree → Type 0
 GivesTree r s o = MatchResult r (λ e. o ≡ done (view e) s) (λ e. IsErrorAmong e (λ q. o ≡ q))
 
--- what stands ahead, where the parser comes to the state
+-- the start of an atom, when the parser is at the state
 abbrev pub view_ahead : declared.Ahead → spec.State → Ahead
 view_ahead Nothing s = nothing
 view_ahead (Read atom) s = read (done (view atom) s)
@@ -61,31 +61,31 @@ view_ahead Condition s = condition s
 view_ahead (Body c) s = body (view c.value) s
 view_ahead AbsentBranch s = absent_branch s
 
--- what the parser sees ahead is what stands there
+-- what the parser finds at the start of an atom is what the grammar has there
 abbrev pub Sees : Result declared.Ahead Failure → spec.State → Ahead → Type 0
 Sees r s k = MatchResult r (λ a. k ≡ view_ahead a s) (λ e. IsErrorAmong e (λ o. k ≡ read o))
 
--- where nothing is seen, the state is the same
+-- if nothing is found, the state stays the same
 abbrev pub StaysAtNothing : declared.Ahead → State → State → Type 0
 StaysAtNothing Nothing s t = t ≡ s
 StaysAtNothing _ s t = ⊤
 
--- where something is seen, bytes are taken
+-- if something is found, bytes are taken
 abbrev pub TakesBytes : declared.Ahead → List ℕ → List ℕ → Type 0
 TakesBytes Nothing t u = ⊤
 TakesBytes _ t u = length u < length t
 
--- something is seen
+-- something is found
 abbrev pub IsSomething : declared.Ahead → Type 0
 IsSomething Nothing = ⊥
 IsSomething _ = ⊤
 
--- a group is seen only where one may open inside d groups
+-- a group is found only if one may open inside d groups
 abbrev pub IsBelow : declared.Ahead → ℕ → Type 0
 IsBelow Nothing d = ⊤
 IsBelow (Read atom) d = ⊤
 IsBelow _ d = d + 1 < max_depth
 
--- where no byte was taken, the text is the same
+-- if no byte was taken, the text is the same
 abbrev pub IsUnmoved : List ℕ → List ℕ → Type 0
 IsUnmoved t u = length u ≡ length t → chars u ≡ chars t

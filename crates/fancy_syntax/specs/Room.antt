@@ -1,4 +1,4 @@
--- How many groups the parser's stack has room for, from the start of a call.
+-- The capacity of the parser's stack, in groups, from the start of a call.
 use Rattle.std.specs.Prelude.{ℕ, ◌+◌, ◌≤◌, ◌<◌, ◌==◌, nat_le, if◌then◌else◌, [], ◌∷◌, ⊤, vec_len, vec_capacity, Result, IsOk}
 use Rattle.std.specs.declared.alloc.AllocError.{AllocError}
 use Rattle.fancy_lex.specs.Characters.{open_paren}
@@ -11,29 +11,29 @@ use Rattle.fancy_syntax.specs.declared.grammar.parser.Parser.{Parser}
 use Rattle.fancy_syntax.specs.declared.grammar.step.Step.{Step}
 use Rattle.fancy_syntax.specs.declared.grammar.step.Step.TheVariants as step
 
--- how many opening parentheses a text has, whatever they mean there
+-- how many opening parentheses a text has, whatever their role is
 abbrev pub open_parens : Text → ℕ
 open_parens [] = 0
 open_parens (c ∷ t) = if c == open_paren then open_parens t + 1 else open_parens t
 
--- at the most so many groups are open at once in a text
+-- the largest number of groups that a text may have open at once
 abbrev pub groups_at_once : Text → ℕ
 groups_at_once t = if nat_le most_open (open_parens t) then most_open else open_parens t
 
--- the stack has room for all groups of the text that can be open at once
+-- the stack has capacity for all groups of the text that can be open at once
 abbrev pub HasRoom : Parser → Text → Type 0
 HasRoom r text = groups_at_once text ≤ vec_capacity r.stack
 
--- what is read is read of some text, and the stack has room for its groups
+-- what has been read belongs to some text, and the stack has capacity for its groups
 abbrev pub IsRoomy : Parser → Type 0
 IsRoomy r = (start : State) × (none : Log) × (l : Log) × HasRead start none r l × HasRoom r start.rest
 
--- there is room for what the step opens
+-- the stack has capacity for what the step opens
 abbrev pub HasRoomFor : Step → Parser → Type 0
 HasRoomFor (step.Piece piece) r = ⊤
 HasRoomFor (step.Open opener) r = vec_len r.stack < vec_capacity r.stack
 
--- a group opens without a request for memory
+-- a group opens without an allocation
 abbrev pub OpensAlways : Step → Result (Unit {0}) AllocError → Type 0
 OpensAlways (step.Piece piece) r = ⊤
 OpensAlways (step.Open opener) r = IsOk r

@@ -1,4 +1,4 @@
--- The spans that are answered, as a list has them.
+-- The returned spans, as a list.
 use Rattle.std.specs.Prelude.{List, map}
 use Rattle.std.specs.Global.{Vec}
 use Rattle.fancy_grammar.specs.Spans as spec

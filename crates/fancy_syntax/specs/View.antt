@@ -1,4 +1,4 @@
--- The tree that an `Expr` stands for.
+-- The tree that an `Expr` represents.
 use Rattle.std.specs.Prelude.{ℕ, List, map, option_map}
 use Rattle.fancy_lex.specs.NameViews.{view_target}
 use Rattle.fancy_lex.specs.Text.{text_of}
@@ -13,14 +13,14 @@ use Rattle.fancy_syntax.specs.declared.expr.Absent.{Absent, fold-Absent}
 use Rattle.fancy_syntax.specs.declared.expr.AstNode.{AstNode, fold-AstNode}
 use Rattle.fancy_syntax.specs.declared.expr.Absent.TheOpen.{Absent-F, AstNode-F, Expr-F}
 
--- one level, with each tree inside already seen
+-- one level, with the trees inside already converted
 abbrev pub absent_step : Absent-F Tree (ℕ → Tree) Tree → Tree
 absent_step (Absent-F.Repeater t) = repeater t.value
 absent_step (Absent-F.Expression a e) = expression a.value e.value
 absent_step (Absent-F.Stopper t) = stopper t.value
 absent_step Absent-F.Clear = clear
 
--- the node at its place
+-- the node at its position
 abbrev pub ast_step : AstNode-F Tree (ℕ → Tree) Tree → ℕ → Tree
 ast_step (AstNode-F.AstGroup name inner) place = ast_group (option_map text_of name) place inner.value
 ast_step (AstNode-F.AstNode::Backref t casei level) place = ast_node (ast_backref (view_target t) casei level) place
@@ -63,6 +63,6 @@ view_absent = fold-Absent Tree (ℕ → Tree) Tree absent_step ast_step expr_ste
 abbrev pub view_ast : AstNode → ℕ → Tree
 view_ast = fold-AstNode Tree (ℕ → Tree) Tree absent_step ast_step expr_step
 
--- the trees of several
+-- the trees of several expressions
 abbrev pub views : List Expr → List Tree
 views = map view

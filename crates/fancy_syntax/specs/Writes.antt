@@ -1,4 +1,4 @@
--- The children of a tree by number, and what an `Expr` and an `Absent` lend.
+-- The children of a tree by number, and the children of an `Expr` and an `Absent` that can be borrowed.
 use Rattle.std.specs.Prelude.{ℕ, Option, slice_get}
 use Rattle.std.specs.Borrow.{MutBor, Fml}
 use Rattle.std.specs.declared.alloc.Global.{Global}
@@ -15,10 +15,10 @@ use Rattle.fancy_syntax.specs.declared.expr.Expr.{Expr}
 abbrev pub child_at : Tree → ℕ → Option Tree
 child_at t i = slice_get (children t) i
 
--- e ends with its child i as it is last behind r, and else as it was
+-- e ends with its child i as r leaves it, and otherwise as it was
 abbrev pub LendsChild : MutBor Expr → ℕ → Option (MutBor Expr) → Fml
 LendsChild = LendsChildAt expr.the_row expr.the_row Tree view view with_child
 
--- a ends with the box of its child i as it is last behind r, and else as it was
+-- a ends with the box of its child i as r leaves it, and otherwise as it was
 abbrev pub LendsAbsentBox : MutBor Absent → ℕ → Option (MutBor (Box Expr Global)) → Fml
 LendsAbsentBox = LendsBoxAt absent_type.the_row expr.the_row Tree view_absent view with_child

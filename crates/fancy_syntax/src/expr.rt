@@ -177,7 +177,7 @@ pub enum Expr {
         definitions: Box<Expr>,
     },
     /// A node as it is parsed, with its position in the pattern (a byte offset). In a returned tree it is a subroutine
-    /// call that cannot be resolved, which is no error: by a name that no group has, as `\g<b>` at position 2, or that
-    /// several have; or by a relative number that leads below group 0, as `\g<-2>`.
+    /// call that cannot be resolved, which is no error: by a name that no group has, such as `\g<b>` at position 2, or
+    /// that several have; or by a relative number that leads below group 0, such as `\g<-2>`.
     AstNode(AstNode, usize),
 }

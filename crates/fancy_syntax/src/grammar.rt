@@ -37,8 +37,8 @@ use fancy_lex::flags::Flags;
 use fancy_lex::text::{after, next, reach};
 use std::alloc::Global;
 
-/// Reads a whole text: its raw tree, in which a capturing group is an AstNode with the reach of its parenthesis. Else
-/// the fault of the text, or OutOfMemory.
+/// Reads a whole text: its raw tree, in which a capturing group is an AstNode with the reach of its parenthesis.
+/// Returns the error of the text, or OutOfMemory.
 #[inline]
 pub(crate) fn parse<S: Spanning>(
     alloc: Global,
@@ -60,7 +60,7 @@ pub(crate) fn parse<S: Spanning>(
     }
 }
 
-/// Reads branches with bars between, up to where the outermost ends.
+/// Reads branches with bars between them, up to the end of the outermost.
 fn alternation<'a, S: Spanning>(
     alloc: Global,
     start: State<'a>,

@@ -21,12 +21,12 @@ mod resolve;
 pub mod span;
 pub mod tree;
 
-/// Errors, as the root has them.
+/// The error types, which the root re-exports.
 pub mod error {
     pub use fancy_lex::error::{Error, ParseError, ParseErrorPosition, Result};
 }
 
-/// Flags, as the root has them.
+/// The flag constants, which the root re-exports.
 pub mod flags {
     pub use fancy_lex::flags::{
         FLAG_CASEI, FLAG_CRLF, FLAG_DOTNL, FLAG_IGNORE_NUMBERED_GROUPS_WHEN_NAMED_GROUPS_EXIST,

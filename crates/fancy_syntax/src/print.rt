@@ -55,8 +55,8 @@ impl Expr {
     /// around an `Alt` above precedence `WHOLE`, around a `Concat` above `BRANCH`, and around a `Repeat` above `PIECE`;
     /// also around the operand of a `Repeat` that is a case-sensitive `Literal` of several characters.
     ///
-    /// The text of a printable tree is read back as the tree's normal form, under no flag and under `FLAG_UNICODE`
-    /// alone. If 64 or more printed groups nest, `(?i:` and the like among them, it is refused instead: as
+    /// The text of a printable tree is read back as the tree's normal form, under no flag and under only
+    /// `FLAG_UNICODE`. If 64 or more printed groups nest, `(?i:` and the like among them, it is refused instead: as
     /// `RecursionExceeded`, at the first opening parenthesis inside 63 groups. If fewer nest, printable trees with the
     /// same text have the same normal form.
     ///
@@ -83,7 +83,7 @@ impl Expr {
             IsOk result }
         ensures nothing_to_print { printed (view self.now) precedence ≡ [] → IsOk result }
     {
-        // No string has room for the greatest word, for which a longer text is counted.
+        // No string has the capacity `usize::MAX`, which is the count for any longer text.
         buf.reserve(tree_len(self, precedence))?;
         put_tree(buf, self, precedence);
         Ok(())

@@ -1,4 +1,4 @@
-//! From a raw tree to the one that is answered: groups get their numbers, and references what they mean.
+//! From a raw tree to the resolved tree: groups get their numbers, and references the numbers that they refer to.
 ghost use Rattle.std.specs.Prelude.{◌≡◌, ◌+◌, ◌<◌, ◌&&◌, chars, length, IfOk, IfErr, None};
 ghost use Rattle.std.specs.List.{list_any};
 ghost use Rattle.fancy_lex.specs.IdReference.{amount_bound};
@@ -29,7 +29,7 @@ use fancy_lex::flags::Flags;
 use fancy_parts::ranks::Groups;
 use std::alloc::{AllocError, Global};
 
-/// The raw tree of the pattern resolved in its place, with its marks, or the first fault of its references.
+/// The raw tree of the pattern resolved in place, with its group information, or the first error of its references.
 #[inline(always)]
 pub(crate) fn resolve(
     alloc: Global,
@@ -65,7 +65,7 @@ pub(crate) fn resolve(
     Ok(answer(expr, known.named, known.groups, progress))
 }
 
-/// The resolved tree with what is said of its groups and references.
+/// The resolved tree with its group information.
 #[inline(always)]
 fn answer(expr: Expr, named: bool, groups: Groups, progress: Progress) -> ExprTree
     ensures tree { result.expr ≡ expr }
@@ -93,8 +93,8 @@ fn answer(expr: Expr, named: bool, groups: Groups, progress: Progress) -> ExprTr
     }
 }
 
-/// Resolves the tree in its place, and answers what was noted on the way, or the first fault. A tree where nothing was
-/// met is not walked.
+/// Resolves the tree in place, and returns what was recorded, or the first error. If there is nothing to resolve, the
+/// tree is not walked.
 #[inline(always)]
 fn walk(alloc: Global, tree: &mut Expr, known: &Known, met: bool) -> Result<Progress, Failure>
     requires room { length (openings (view tree.old)) < amount_bound }
@@ -114,7 +114,7 @@ fn walk(alloc: Global, tree: &mut Expr, known: &Known, met: bool) -> Result<Prog
     Ok(progress)
 }
 
-/// The groups that have a number, and whether only those with a name have one, which the flag may ask for.
+/// The groups that have a number, and whether only named groups have one, which the flag may ask for.
 #[inline(always)]
 fn find_groups(alloc: Global, tree: &Expr, ignore: bool) -> Result<(bool, Found), AllocError>
     requires { length (openings (view tree.now)) < amount_bound }

@@ -33,20 +33,22 @@ use std::collections::{BTreeMap, BTreeSet};
 pub struct ExprTree {
     /// The tree. Its k-th `Group` in preorder is the group with the number k.
     pub expr: Expr,
-    /// The group numbers of back references, as 1 in `(a)\1`, up to `total_groups`. A relative reference to group 0, as
-    /// `\k<-1>` before the first group, counts too. Conditions and subroutine calls do not.
+    /// The group numbers of back references, such as 1 in `(a)\1`, up to `total_groups`. A relative reference to group
+    /// 0, such as `\k<-1>` before the first group, counts too. Conditions and subroutine calls do not.
     pub backrefs: BTreeSet<usize>,
     /// The group numbers of each name, ascending.
     pub named_groups: BTreeMap<String, Vec<usize>>,
-    /// Whether the pattern has a back reference in digits, as `\1`, or a subroutine call by number, as `\g<1>`.
+    /// Whether the pattern has a back reference in digits, such as `\1`, or a subroutine call by number, such as
+    /// `\g<1>`.
     pub numeric_capture_group_references: bool,
-    /// Whether the pattern has a subroutine call, as `\g<n>`, even one that cannot be resolved.
+    /// Whether the pattern has a subroutine call, such as `\g<n>`, even one that cannot be resolved.
     pub contains_subroutines: bool,
     /// Whether the pattern calls itself by number, `\g<0>`.
     pub self_recursive: bool,
     /// The number of groups that have a number.
     pub total_groups: usize,
-    /// The number of the first back reference above `total_groups`, as 12 in `\12`. Such a reference is not an error.
+    /// The number of the first back reference above `total_groups`, such as 12 in `\12`. Such a reference is not an
+    /// error.
     pub out_of_range_backref: Option<usize>,
     /// Whether groups without a name have no number: `FLAG_IGNORE_NUMBERED_GROUPS_WHEN_NAMED_GROUPS_EXIST` is set, and
     /// some group has a name.
@@ -106,7 +108,7 @@ impl Expr {
 
     /// Parses the pattern as `parse_tree_with_flags` does, with the same tree and the same errors, and also returns the
     /// span of each node of the tree, in preorder. A quantified node starts where its operand does and ends after the
-    /// quantifier. A group that has no node, as `(?:a)`, is in the span of its parent alone.
+    /// quantifier. A group that has no node, such as `(?:a)`, is only in the span of its parent.
     ///
     /// ```rust
     /// let (tree, spans) = Expr::parse_tree_with_spans(alloc, "(a|b)c*", FLAG_UNICODE)?;
@@ -141,7 +143,7 @@ impl Expr {
         }
     }
 
-    /// Parses the pattern under `FLAG_UNICODE` alone, with the errors of `parse_tree_with_flags`.
+    /// Parses the pattern under only `FLAG_UNICODE`, with the errors of `parse_tree_with_flags`.
     ///
     /// ```rust
     /// let tree = Expr::parse_tree(alloc, "(?<year>\\d{4})-\\k<year>")?;
@@ -163,7 +165,7 @@ impl Expr {
     }
 }
 
-/// Reads the pattern: its tree, or its fault with the reach of that.
+/// Reads the pattern: its tree, or its error with a reach.
 #[inline]
 fn read<S: Spanning>(
     alloc: Global,
@@ -182,7 +184,7 @@ fn read<S: Spanning>(
     resolve(alloc, raw, re, flags)
 }
 
-/// Reads the pattern: its tree with the spans of its nodes, or its fault with the reach of that.
+/// Reads the pattern: its tree with the spans of its nodes, or its error with a reach.
 fn read_with_spans(
     alloc: Global,
     re: &str,

@@ -1,4 +1,4 @@
--- What a letter adds to the flags that are named.
+-- What each letter adds to the flags of a word.
 use Rattle.std.proofs.Common.{◌≡◌, ℕ, Bool, true, false, ◌||◌, [], ◌∷◌, ◌≢◌, codes, refl, sym, ap, subst, ◌∙◌, inl, inr}
 use Rattle.std.proofs.Common.{⊎_elim, true≢false}
 use Prim.Native.Char.{code}
@@ -166,7 +166,7 @@ named_first c t = simp or-false refl
 pub either_none : (f : Flags) → either f (named_flags []) ≡ f
 either_none f = simp or-false refl
 
--- the letters before the rest are flags, which the bits hold
+-- the letters before the rest are flags, and the bits contain them
 pub record ReadsLetters (word rest : Text) (bits : ℕ) : Type 0 where
   pub checked : list_all is_letter word ≡ list_all is_letter rest
   pub named : named_flags word ≡ either (flags_of bits) (named_flags rest)

@@ -1,4 +1,4 @@
--- What is known of the flags and the pattern is known of the words that name them.
+-- What is known of the flags and the pattern is also known of the arguments that name them.
 use Rattle.std.proofs.Common.{◌≡◌, List, [], ◌∷◌, String, Global, sym, subst}
 use Rattle.fancy_lex.specs.Text.{Text, text_of}
 use Rattle.fancy_lex.specs.declared.flags.Flags.{Flags}

@@ -5,7 +5,7 @@ use Prim.Native.Char.{code}
 use Rattle.fancy_lex.specs.Text.{Text}
 use Rattle.fancy_lex.specs.declared.flags.Flags.{Flags}
 
--- whether the character stands in the word
+-- whether the word contains the character
 abbrev pub has : ℕ → Text → Bool
 has c [] = false
 has c (d ∷ t) = d == c || has c t
@@ -33,7 +33,7 @@ abbrev pub NamesFlags : Text → Type 0
 NamesFlags [] = ⊥
 NamesFlags (c ∷ t) = (c ∷ t ≡ codes "-") ⊎ (list_all is_letter (c ∷ t) ≡ true)
 
--- the flags that either names
+-- the flags that are in one of the two
 abbrev pub either : Flags → Flags → Flags
 either f g = record {
   casei = f.casei || g.casei;

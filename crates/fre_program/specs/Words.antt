@@ -1,4 +1,4 @@
--- The words that the program is called with, and what its status says of them.
+-- The arguments of the program, and what its exit status says about them.
 use Rattle.std.specs.Prelude.{ℕ, List, [], ◌∷◌, String}
 use Rattle.std.specs.declared.alloc.Global.{Global}
 use Rattle.fancy_lex.specs.Fault.{Kind}
@@ -9,12 +9,12 @@ use Rattle.fancy_syntax.specs.Marks.{Marks}
 use Rattle.fancy_syntax.specs.Tree.{Tree}
 use Rattle.fre_program.specs.FlagWord.{NamesFlags, named_flags}
 
--- two words, of which the first names flags
+-- two arguments, the first of which names flags
 abbrev pub IsWellFormed : List (String Global) → Type 0
 IsWellFormed (flags ∷ pattern ∷ []) = NamesFlags (text_of flags)
 IsWellFormed _ = ⊥
 
--- the words are well formed, and P holds of the flags that the first names and of the second
+-- the arguments are well formed, and P holds of the flags that the first names and of the second
 abbrev pub OfWords : (Flags → Text → Type 0) → List (String Global) → Type 0
 OfWords P (flags ∷ pattern ∷ []) = NamesFlags (text_of flags) × P (named_flags (text_of flags)) (text_of pattern)
 OfWords P _ = ⊥
@@ -23,6 +23,6 @@ OfWords P _ = ⊥
 abbrev pub HasTree : Flags → Text → Type 0
 HasTree f pattern = (t : Tree) × (m : Marks) × IsTreeOf f pattern t m
 
--- the pattern has a fault under the flags
+-- the pattern has an error under the flags
 abbrev pub HasFault : Flags → Text → Type 0
 HasFault f pattern = (k : Kind) × (place : ℕ) × IsFaultOf f pattern k place

@@ -1,4 +1,4 @@
-//! Why there is no answer.
+//! Why a run has no result.
 use std::alloc::AllocError;
 use std::io;
 use thiserror::Error;

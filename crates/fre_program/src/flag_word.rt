@@ -30,7 +30,7 @@ fn flag_of(letter: char) -> Option<u32>
     }
 }
 
-/// The flags that the letters name, where each names one.
+/// The flags that the letters name, if each of them names one.
 #[tactic(auto, using(crate::proofs::FlagLemmas::letters_start, crate::proofs::FlagLemmas::letters_next, crate::proofs::FlagLemmas::letters_end, crate::proofs::FlagLemmas::letters_fail))]
 fn letters(word: &str) -> Option<u32>
     ensures { MatchOption result (list_all is_letter (chars word.now) ≡ false)

@@ -2,7 +2,7 @@
 use fancy_lex::escape::Assertion;
 use fancy_syntax::expr::{Absent, BacktrackingControlVerb, Expr, LookAround};
 
-/// Returns the name of a node's variant, as `Literal`.
+/// Returns the name of a node's variant, such as `Literal`.
 pub fn node_name(node: &Expr) -> &'static str {
     match node {
         Expr::Empty => "Empty",
@@ -32,7 +32,7 @@ pub fn node_name(node: &Expr) -> &'static str {
     }
 }
 
-/// Returns the name of an assertion, as `StartText`.
+/// Returns the name of an assertion, such as `StartText`.
 pub fn assertion_name(assertion: Assertion) -> &'static str {
     match assertion {
         Assertion::StartText => "StartText",
@@ -50,7 +50,7 @@ pub fn assertion_name(assertion: Assertion) -> &'static str {
     }
 }
 
-/// Returns the name of a kind of look-around, as `LookAhead`.
+/// Returns the name of a kind of look-around, such as `LookAhead`.
 pub fn look_around_name(look_around: LookAround) -> &'static str {
     match look_around {
         LookAround::LookAhead => "LookAhead",
@@ -60,7 +60,7 @@ pub fn look_around_name(look_around: LookAround) -> &'static str {
     }
 }
 
-/// Returns the name of a backtracking control verb, as `Fail`.
+/// Returns the name of a backtracking control verb, such as `Fail`.
 pub fn verb_name(verb: BacktrackingControlVerb) -> &'static str {
     match verb {
         BacktrackingControlVerb::Fail => "Fail",
@@ -71,7 +71,7 @@ pub fn verb_name(verb: BacktrackingControlVerb) -> &'static str {
     }
 }
 
-/// Returns the name of an absent form, as `Repeater`.
+/// Returns the name of an absent form, such as `Repeater`.
 pub fn absent_name(absent: &Absent) -> &'static str {
     match absent {
         Absent::Repeater(_) => "Repeater",

@@ -10,14 +10,14 @@ use fancy_syntax::{Error, Expr, ExprTree, WHOLE};
 use std::alloc::{AllocError, Global};
 use std::io::Write;
 
-/// What is said of a pattern.
+/// The verdict on a pattern.
 #[derive(Clone, Copy)]
 enum Verdict {
     Accepted,
     Refused,
 }
 
-/// The flags and the pattern that the words name.
+/// The flags and the pattern that the arguments name.
 fn named_by(words: &[String]) -> Option<(u32, &str)>
     ensures { MatchOption result (IsWellFormed words.now → ⊥) (λ p. OfWords (λ f pattern. (f ≡ flags_of p.0) ×
         (pattern ≡ chars p.1.now)) words.now) }
@@ -28,7 +28,7 @@ fn named_by(words: &[String]) -> Option<(u32, &str)>
     Some((flags_named(flags.as_str())?, pattern.as_str()))
 }
 
-/// Writes all that is known of the tree.
+/// Writes the tree, its group information and its text.
 fn accept<O: Write>(alloc: Global, out: &mut O, tree: &ExprTree) -> Result<Verdict, Fault>
     ensures { IfOk result (λ verdict. verdict ≡ Verdict.Accepted) }
 {
@@ -40,7 +40,7 @@ fn accept<O: Write>(alloc: Global, out: &mut O, tree: &ExprTree) -> Result<Verdi
     Ok(Verdict::Accepted)
 }
 
-/// Reads the pattern, and writes its tree on `out` or its fault on `err`.
+/// Reads the pattern, and writes its tree on `out` or its error on `err`.
 fn answer<O: Write, E: Write>(
     alloc: Global,
     pattern: &str,
@@ -66,13 +66,13 @@ fn refuse<E: Write>(err: &mut E, refusal: &Error) -> Result<Verdict, Fault>
     Ok(Verdict::Refused)
 }
 
-/// Says on `err` how the program is called.
+/// Writes the usage on `err`.
 fn explain<E: Write>(err: &mut E) -> Result<(), Fault> {
     writeln!(err, "{}", Fault::Usage)?;
     Ok(())
 }
 
-/// Tries to say why there is no answer.
+/// Tries to write why the run has no result.
 fn give_up<E: Write>(err: &mut E, fault: Fault) -> u8
     ensures { result ≡ 3 }
 {

@@ -1,4 +1,4 @@
-//! The lines that say what a pattern reads as. Each ends with LF.
+//! The lines that show what a pattern is read as. Each ends with LF.
 use crate::names::{absent_name, assertion_name, look_around_name, node_name, verb_name};
 use fancy_lex::escape::Assertion;
 use fancy_lex::name::CaptureGroupTarget;
@@ -8,7 +8,7 @@ use std::collections::{BTreeMap, BTreeSet};
 use std::io::Write;
 use std::{fmt, io};
 
-/// Bytes in hexadecimal, `-` where there are none.
+/// Bytes in hexadecimal, `-` if there are none.
 #[derive(Clone, Copy)]
 struct Hex<'a>(&'a [u8]);
 
@@ -37,7 +37,7 @@ impl<T: fmt::Display> fmt::Display for OrNone<T> {
     }
 }
 
-/// Numbers with commas between, `-` where there are none.
+/// Numbers separated by commas, `-` if there are none.
 #[derive(Clone, Copy)]
 struct Numbers<'a>(&'a [usize]);
 
@@ -72,7 +72,7 @@ impl fmt::Display for NumberSet<'_> {
     }
 }
 
-/// Each name with its numbers, in byte order with semicolons between, `-` where there are none.
+/// Each name with its numbers, in byte order and separated by semicolons, `-` if there are none.
 #[derive(Clone, Copy)]
 struct NamedGroups<'a>(&'a BTreeMap<String, Vec<usize>>);
 
@@ -90,7 +90,7 @@ impl fmt::Display for NamedGroups<'_> {
     }
 }
 
-/// What a reference names.
+/// The target of a reference.
 #[derive(Clone, Copy)]
 struct Target<'a>(&'a CaptureGroupTarget);
 
@@ -115,7 +115,7 @@ fn crlf_of(assertion: Assertion) -> Option<bool> {
     }
 }
 
-/// Writes an assertion's name, with its field where it has one.
+/// Writes an assertion's name, and its field if it has one.
 fn write_assertion<W: fmt::Write>(f: &mut fmt::Formatter<W>, assertion: Assertion) -> fmt::Result {
     write!(f, " {}", assertion_name(assertion))?;
     match crlf_of(assertion) {
@@ -133,7 +133,7 @@ fn write_text_fields<W: fmt::Write>(
     write!(f, " {} casei={casei}", Hex(text.as_bytes()))
 }
 
-/// Writes the fields of a node that names a group; nothing where it names none.
+/// Writes the fields of a node that refers to a group; nothing for another node.
 fn write_reference_fields<W: fmt::Write>(f: &mut fmt::Formatter<W>, node: &Expr) -> fmt::Result {
     match node {
         Expr::Backref { group, casei } => write!(f, " {group} casei={casei}"),
@@ -154,7 +154,7 @@ fn write_reference_fields<W: fmt::Write>(f: &mut fmt::Formatter<W>, node: &Expr)
     }
 }
 
-/// A node's fields behind its name, its children left out.
+/// A node's fields after its name, without its children.
 #[derive(Clone, Copy)]
 struct Fields<'a>(&'a Expr);
 
@@ -193,7 +193,7 @@ pub(crate) fn write_nodes<O: Write>(out: &mut O, tree: &Expr, level: usize) -> i
     Ok(())
 }
 
-/// Writes the line of what is known of the tree's groups and references.
+/// Writes the line of the tree's group information.
 pub(crate) fn write_marks<O: Write>(out: &mut O, tree: &ExprTree) -> io::Result<()> {
     write!(
         out,
@@ -212,7 +212,7 @@ pub(crate) fn write_marks<O: Write>(out: &mut O, tree: &ExprTree) -> io::Result<
     writeln!(out, " ignored={}", tree.numbered_groups_ignored)
 }
 
-/// Writes the line of the tree's text, or of its want of one.
+/// Writes the line of the tree's text, or that it has none.
 pub(crate) fn write_text<O: Write>(out: &mut O, text: Option<&str>) -> io::Result<()> {
     match text {
         Some(text) => writeln!(out, "text {}", Hex(text.as_bytes())),

@@ -7,7 +7,7 @@ use Rattle.fancy_syntax.specs.Answer.{marks_of}
 use Rattle.fancy_syntax.specs.View.{view}
 use Rattle.fancy_pattern.proofs.to_pattern.Goals as goal
 
--- the text of each tree that is parsed so reads back
+-- the text of each tree that is parsed in this way is read back as the tree
 pub returns-else-branch-clause-parsed : goal.returns-else-branch-clause-parsed
 returns-else-branch-clause-parsed c =
     let f = flags_of c.args.flags in

@@ -22,7 +22,7 @@ impl Expr {
     }
 }
 
-/// Whether the predicate holds of a node below the root.
+/// Whether the predicate is true of a node below the root.
 #[cycle(any_below)]
 fn any_below<F: Fn(&Expr) -> bool>(tree: &Expr, predicate: &F) -> bool
     requires { (d : _) → IsDescendant d.now tree.now → F.pre predicate.now d }
@@ -41,7 +41,7 @@ fn any_below<F: Fn(&Expr) -> bool>(tree: &Expr, predicate: &F) -> bool
     false
 }
 
-/// What the predicate answers of the node: apart from the recursion, so that it is known there.
+/// What the predicate returns for the node. It is a function of its own, so that its result is known there.
 fn holds<F: Fn(&Expr) -> bool>(tree: &Expr, predicate: &F) -> bool
     requires { F.pre predicate.now tree }
     ensures { FnReturnsAt F.Fn predicate.now tree.now result }

@@ -71,14 +71,14 @@ impl Expr {
     }
 }
 
-/// Whether the places are the same, where that is asked.
+/// Whether the positions are equal, if they are compared; else true.
 fn is_same_place(place: usize, other: usize, with_places: bool) -> bool
     ensures { result ≡ nat_eq (place_if with_places place) (place_if with_places other) }
 {
     !with_places || place == other
 }
 
-/// Whether the nodes are the same.
+/// Whether the nodes are equal.
 #[cycle(same)]
 fn is_same_node(
     node: &AstNode,
@@ -142,7 +142,7 @@ fn is_same_node(
     }
 }
 
-/// Whether the absent forms are the same.
+/// Whether the absent forms are equal.
 #[cycle(same)]
 fn is_same_absent(absent: &Absent, other: &Absent, with_places: bool) -> bool
     ensures { result ≡ same (placed with_places (view_absent absent.now)) (placed with_places (view_absent other.now)) }
@@ -168,7 +168,7 @@ fn is_same_absent(absent: &Absent, other: &Absent, with_places: bool) -> bool
     }
 }
 
-/// Whether the trees are the same.
+/// Whether the trees are equal.
 #[cycle(same)]
 fn is_same(tree: &Expr, other: &Expr, with_places: bool) -> bool
     ensures { result ≡ same (placed with_places (view tree.now)) (placed with_places (view other.now)) }
@@ -326,7 +326,7 @@ fn is_same(tree: &Expr, other: &Expr, with_places: bool) -> bool
     }
 }
 
-/// Whether both have the same name, or both none.
+/// Whether both have the same name, or neither has one.
 fn is_same_name(name: Option<&str>, other: Option<&str>) -> bool
     ensures { let text = option_map (λ t. chars t.now) in result ≡ same_name (text name.entry) (text other.entry) }
 {
@@ -339,7 +339,7 @@ fn is_same_name(name: Option<&str>, other: Option<&str>) -> bool
     }
 }
 
-/// Whether the trees in the boxes are the same.
+/// Whether the trees in the boxes are equal.
 #[cycle(same)]
 fn is_same_child(child: &Box<Expr>, other: &Box<Expr>, with_places: bool) -> bool
     ensures { result ≡ same (placed with_places (view child.now.value)) (placed with_places (view other.now.value)) }
@@ -347,7 +347,7 @@ fn is_same_child(child: &Box<Expr>, other: &Box<Expr>, with_places: bool) -> boo
     is_same(child, other, with_places)
 }
 
-/// Whether the lists hold the same trees, one by one.
+/// Whether the lists hold equal trees, one by one.
 #[cycle(same)]
 fn is_same_list(trees: &[Expr], others: &[Expr], with_places: bool) -> bool
     ensures { result ≡ same_all (placed_all with_places (trees_of (views trees.now)))

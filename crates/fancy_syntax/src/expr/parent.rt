@@ -8,7 +8,7 @@ ghost use Rattle.fancy_syntax.specs.Loans.{LendsChildAt, LendsBoxAt, LendsListAt
 pub(super) trait Parent {
     type Child;
 
-    // what is said of a value and of a child
+    // the view of a value and of a child
     ghost Seen: { Type 0 };
 
     ghost show: { Self → Seen };
@@ -41,7 +41,7 @@ pub(super) trait Parent {
         ensures value { option_map (λ b. see b.now.value) result ≡ child_at (show self.old) i };
 }
 
-/// The child i, if there is one, to be read and written.
+/// The child i, if there is one, borrowed for reading and writing.
 pub(super) fn lend_child<P: Parent>(parent: &mut P, i: usize) -> Option<&mut P::Child>
     ensures* writes_back { sem 𝓛
         (LendsChildAt P.row P.Child.row P.Seen P.show P.see P.with_child parent.entry i result) }

@@ -1,12 +1,12 @@
-//! What stands before an atom.
+//! The start of an atom.
 use crate::expr::Expr;
 use crate::grammar::group::head::Head;
 
-/// What stands before an atom decides how it is read.
+/// The start of an atom, which decides how the atom is read.
 pub(crate) enum Ahead<'a> {
-    /// No atom: it is Empty, and takes no character.
+    /// No atom: the piece is Empty and takes no character.
     Nothing,
-    /// An atom without branches, which is read at once.
+    /// An atom without branches, which has been read.
     Read(Expr),
     /// A group that holds one alternation.
     Group(Head<'a>),
@@ -14,6 +14,6 @@ pub(crate) enum Ahead<'a> {
     Condition,
     /// A conditional whose condition is this tree.
     Body(Box<Expr>),
-    /// `(?~|` of an absent expression, stopper or clear.
+    /// `(?~|`, which begins an absent expression, a stopper or a clear.
     AbsentBranch,
 }

@@ -1,4 +1,4 @@
-//! The start of an atom: a leaf, or what opens a group.
+//! The start of an atom: a leaf, or the opening of a group.
 ghost use Rattle.std.specs.Prelude.{◌≡◌, false, ◌+◌, ◌<◌, ◌≤◌, ◌^◌, ◌∷◌, [], length, chars, string_bytes, IfOk};
 ghost use Rattle.fancy_lex.specs.Characters.{open_paren};
 ghost use Rattle.fancy_lex.specs.Class as classes;
@@ -23,7 +23,7 @@ use fancy_lex::flags::Flags;
 use fancy_lex::text::{next, reach};
 use std::alloc::{AllocError, Global};
 
-/// Reads what stands before an atom, through a leaf, or up to where the first part of a group begins.
+/// Reads the start of an atom: a whole leaf, or a group up to the start of its first part.
 #[tactic(auto, unfolding(fancy_grammar::specs::Ahead::ahead))]
 pub(crate) fn read_atom_start<'a>(
     alloc: Global,
@@ -48,7 +48,8 @@ pub(crate) fn read_atom_start<'a>(
     Ok(Ahead::Read(leaf(alloc, c, here, rest)?))
 }
 
-/// Reads from the parenthesis at the front, which `rest` follows, up to where the first part of the group begins.
+/// Reads the opening of a group, from the parenthesis at the front, which `rest` follows, up to the start of its first
+/// part.
 #[tactic(auto, unfolding(fancy_grammar::specs::Ahead::ahead))]
 fn open_group<'a>(
     alloc: Global,
@@ -94,7 +95,7 @@ fn leaf<'a>(alloc: Global, c: char, here: &mut State<'a>, rest: &'a str) -> Resu
     }
 }
 
-/// Reads what stands behind a backslash.
+/// Reads an escape after its backslash.
 fn escape_leaf(alloc: Global, here: &mut State) -> Result<Expr, Failure>
     ensures value { GivesTree result (state here.new) (spec.leaf_outcome spec.leaf_node (state here.old)
         (escapes.escape here.old.flags false (chars here.old.rest.now))) }
@@ -105,7 +106,7 @@ fn escape_leaf(alloc: Global, here: &mut State) -> Result<Expr, Failure>
     Ok(leaf_node(alloc, escaped)?)
 }
 
-/// Reads a class behind its bracket.
+/// Reads a class after its bracket.
 fn class_leaf(alloc: Global, here: &mut State) -> Result<Expr, Failure>
     ensures value { GivesTree result (state here.new) (spec.leaf_outcome (λ w. delegate w here.old.flags.casei)
         (state here.old) (classes.class here.old.flags (chars here.old.rest.now))) }
@@ -133,7 +134,7 @@ pub(crate) fn leaf_node(alloc: Global, leaf: Escaped) -> Result<Expr, AllocError
         Escaped::KeepOut => Ok(Expr::KeepOut),
         Escaped::ContinueFromPreviousMatchEnd => Ok(Expr::ContinueFromPreviousMatchEnd),
         Escaped::Delegate { inner: text, casei } => {
-            // This is room for all but long names of properties.
+            // This capacity is enough for all but long names of properties.
             let mut inner = String::with_capacity(alloc, 16)?;
             push_delegate(&mut inner, text)?;
             Ok(Expr::Delegate { inner, casei })
@@ -143,7 +144,7 @@ pub(crate) fn leaf_node(alloc: Global, leaf: Escaped) -> Result<Expr, AllocError
     }
 }
 
-/// What `^` stands for: the start of the text, or of each line.
+/// The assertion that `^` represents: the start of the text, or of each line.
 fn start_anchor(flags: Flags) -> Assertion
     ensures { result ≡ spec.start_anchor flags }
 {
@@ -157,7 +158,7 @@ fn start_anchor(flags: Flags) -> Assertion
     }
 }
 
-/// What `$` stands for: the end of the text, or of each line.
+/// The assertion that `$` represents: the end of the text, or of each line.
 fn end_anchor(flags: Flags) -> Assertion
     ensures { result ≡ spec.end_anchor flags }
 {
@@ -168,7 +169,7 @@ fn end_anchor(flags: Flags) -> Assertion
     }
 }
 
-/// Whether the atom before the character is Empty.
+/// Whether the character cannot begin an atom, so that the piece before it is Empty.
 fn is_before_nothing(c: char) -> bool
     ensures { result ≡ spec.is_before_nothing c }
 {
@@ -185,7 +186,7 @@ pub(crate) fn literal(alloc: Global, c: char, casei: bool) -> Result<Expr, Alloc
     Ok(Expr::Literal { val, casei })
 }
 
-/// A copy of the text. Mostly it is one byte, which is copied without a call where its length is known.
+/// A copy of the text. Usually it is one byte, which is copied without a call if its length is known.
 #[inline(always)]
 fn copied(alloc: Global, text: &str) -> Result<String, AllocError>
     ensures ok { IfOk result (λ s. string_bytes s ≡ text.now) }

@@ -1,4 +1,4 @@
-//! Conditionals and absent nodes: what becomes of the trees that were read inside them.
+//! Conditionals and absent nodes, made of the trees that were read inside them.
 ghost use Rattle.std.specs.Prelude.{◌≡◌, ◌&&◌, true, false, if◌then◌else◌, IfOk, OnOk};
 ghost use Rattle.fancy_grammar.specs.Grammar as spec;
 ghost use Rattle.fancy_grammar.specs.Join as join;
@@ -34,7 +34,7 @@ fn is_condition_node(node: &AstNode) -> bool
     }
 }
 
-/// The branches of a conditional's body: of an Alt the first, and the choice among the others.
+/// The branches of a conditional's body. If it is an Alt, they are its first branch and the choice among the others.
 pub(crate) fn branches_of(body: Expr) -> (Expr, Expr)
     ensures first { view result.0 ≡ (spec.branches_of (view body)).0 }
     ensures others { view result.1 ≡ (spec.branches_of (view body)).1 }
@@ -72,7 +72,7 @@ fn choice(branches: Vec<Expr>) -> Expr
     }
 }
 
-/// The conditional of these branches, which ends at the reach; where both are Empty, the condition alone.
+/// The conditional of these branches, which ends at the reach. If both are Empty, it is only the condition.
 pub(crate) fn conditional<S: Spanning>(
     alloc: Global,
     condition: Box<Expr>,
@@ -122,7 +122,7 @@ fn decide(
     })
 }
 
-/// A branch behind `(?~|` that no other follows: a stopper, or where it is Empty a clear. It ends at the reach.
+/// A branch after `(?~|` that no other branch follows: a clear if it is Empty, else a stopper. It ends at the reach.
 pub(crate) fn clear_or_stopper<S: Spanning>(
     alloc: Global,
     branch: Expr,

@@ -1,4 +1,4 @@
-//! The fault whose kind carries a message.
+//! The error kind that carries a message.
 ghost use Rattle.std.specs.Prelude.{chars};
 ghost use Rattle.fancy_lex.specs.Fault as spec;
 ghost use Rattle.fancy_grammar.specs.Errors.{IsErrorAt};
@@ -6,7 +6,7 @@ ghost use Rattle.fancy_grammar.specs.Errors.{IsErrorAt};
 use fancy_lex::error::{Failure, ParseError};
 use std::alloc::Global;
 
-/// The general fault with this message, or that memory ran out.
+/// The general error with this message, or out of memory.
 pub(crate) fn general(alloc: Global, message: &str, reach: usize) -> Failure
     ensures { IsErrorAt result (spec.general_parse_error (chars message.now)) reach }
 {

@@ -1,4 +1,4 @@
-//! The groups that are open.
+//! The open groups.
 ghost use Rattle.std.specs.Prelude.{◌≡◌, ◌≤◌, List, [], ◌∷◌, ◌++◌, length, vec_len, IfOk, OnOk};
 ghost use Rattle.fancy_grammar.specs.Join.{one_or, choice};
 ghost use Rattle.fancy_grammar.specs.Tree.{Tree, concat};
@@ -16,7 +16,7 @@ use fancy_lex::error::Failure;
 use fancy_lex::flags::Flags;
 use std::alloc::{AllocError, Global};
 
-/// What is open.
+/// An open part.
 #[derive(Drop)]
 pub(crate) enum Opener<'a> {
     /// The whole text.
@@ -25,23 +25,23 @@ pub(crate) enum Opener<'a> {
     Group { head: Head<'a>, reach: usize },
     /// The condition of a conditional.
     Condition,
-    /// The body of a conditional of this condition, which began where so many bytes were left.
+    /// The body of a conditional with this condition; that many bytes were left at its start.
     Body { condition: Box<Expr>, left: usize },
-    /// The branch behind `(?~|`.
+    /// The branch after `(?~|`.
     First,
-    /// The branch behind that one and a bar.
+    /// The branch after that branch and a bar.
     Second(Box<Expr>),
 }
 
-/// An open group: where its trees begin among all that are read. Those of the groups around it stand below.
+/// An open group: where its trees begin among all that have been read. The trees of the groups around it are below.
 #[derive(Drop)]
 pub(crate) struct Frame<'a> {
     pub(crate) opener: Opener<'a>,
-    /// How many trees stand below its finished branches.
+    /// How many trees are below its finished branches.
     pub(crate) branches: usize,
-    /// How many trees stand below the pieces of the branch that is open, the last.
+    /// How many trees are below the pieces of the open branch, which is the last.
     pub(crate) pieces: usize,
-    /// How many bytes were left where the piece began that holds the groups above this one, and the flags that held.
+    /// The bytes that were left at the start of the piece that holds the groups above this one, and the flags there.
     pub(crate) left: usize,
     pub(crate) flags: Flags,
 }
@@ -52,7 +52,7 @@ impl<'a> Frame<'a> {
     ghost use Rattle.fancy_syntax.specs.Machine.{part_of, opened_by_bar, branches_at_bar, is_second, IsFaultOfBar};
     ghost use Rattle.fancy_grammar.specs.Errors.{IsErrorAmong};
 
-    /// A group in which nothing is read yet, above so many trees, and where these flags hold.
+    /// A group in which nothing has been read yet, above `height` trees, under these flags.
     pub(crate) fn new(opener: Opener<'a>, height: usize, flags: Flags) -> Frame<'a>
         ensures opener { result.opener ≡ opener.entry }
         ensures branches { result.branches ≡ height }
@@ -69,7 +69,7 @@ impl<'a> Frame<'a> {
 
     /// Ends the open branch at the bar at the reach, and opens what comes next.
     ///
-    /// Behind the second branch of an absent expression no bar may stand: the general fault, at the bar.
+    /// No bar may follow the second branch of an absent expression: the general error, at the bar.
     pub(crate) fn bar<S: Spanning>(
         &mut self,
         alloc: Global,
@@ -148,7 +148,7 @@ impl<'a> Frame<'a> {
             (choice_noted (branches ++ one_or concat pieces ∷ []) reach (branch_ended (length pieces) reach l))) }
     {
         let branch = take_branch(alloc, trees, self.pieces, reach, spans)?;
-        // Mostly it is the only one.
+        // Usually it is the only one.
         if self.branches == self.pieces {
             return Ok(branch);
         }

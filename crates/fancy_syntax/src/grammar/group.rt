@@ -1,4 +1,4 @@
-//! The heads of groups: what stands behind a parenthesis and a question mark or an asterisk.
+//! The openings of groups: what follows a parenthesis and a question mark or an asterisk.
 ghost use Rattle.std.specs.Prelude.{◌≡◌, ◌<◌, ◌≤◌, length, chars, codes, ◌++◌, Some, None, IfOk, IfSome, option_map, MatchResult};
 ghost use Rattle.fancy_lex.specs.FaultTable.{unknown_verb};
 ghost use Rattle.fancy_parts.specs.LetterSteps.{letters};
@@ -29,7 +29,7 @@ use fancy_parts::heads::references::{
 use fancy_parts::heads::{Letters, flag_letters};
 use std::alloc::Global;
 
-/// Reads what stands behind a parenthesis: the head of the group, if it has one.
+/// Reads what follows a parenthesis: the kind of the group, if it is written there.
 pub(crate) fn after_paren<'a>(alloc: Global, here: &mut State<'a>) -> Result<Ahead<'a>, Failure>
     ensures value { Sees result (state here.new) (spec.behind_layout (state here.old)
         (skipped (state here.old))) }
@@ -51,7 +51,7 @@ pub(crate) fn after_paren<'a>(alloc: Global, here: &mut State<'a>) -> Result<Ahe
     }
 }
 
-/// Reads what stands behind a parenthesis and a question mark.
+/// Reads what follows a parenthesis and a question mark.
 fn after_question<'a>(alloc: Global, here: &mut State<'a>) -> Result<Ahead<'a>, Failure>
     ensures value { Sees result (state here.new) (spec.behind_question (state here.old) (chars here.old.rest.now)) }
     ensures within { length here.new.rest.now ≤ length here.old.rest.now }
@@ -82,7 +82,7 @@ fn after_question<'a>(alloc: Global, here: &mut State<'a>) -> Result<Ahead<'a>, 
     }
 }
 
-/// The look-around whose inside begins at the text.
+/// The look-around whose contents begin at the text.
 fn open_look_around<'a>(here: &mut State<'a>, inside: &'a str, look: LookAround) -> Ahead<'a>
     requires { length inside.now ≤ length here.old.rest.now }
     ensures value { Sees (Ok result) (state here.new)
@@ -94,7 +94,7 @@ fn open_look_around<'a>(here: &mut State<'a>, inside: &'a str, look: LookAround)
     Ahead::Group(Head::Look(look))
 }
 
-/// Reads what stands behind `(?<`: look-behind, or a name.
+/// Reads what follows `(?<`: a look-behind, or a name.
 fn after_less<'a>(here: &mut State<'a>, rest: &'a str) -> Result<Ahead<'a>, Failure>
     requires shorter { length rest.now ≤ length here.old.rest.now }
     requires less { chars here.old.rest.now ≡ codes "<" ++ chars rest.now }
@@ -111,7 +111,7 @@ fn after_less<'a>(here: &mut State<'a>, rest: &'a str) -> Result<Ahead<'a>, Fail
     read_name(here, rest, ClosingMark::Angle)
 }
 
-/// Reads the name of a group, which begins at the text, up to the closing mark.
+/// Reads the name of a group, which begins at the text, up to the closing delimiter.
 fn read_name<'a>(
     here: &mut State<'a>,
     name: &'a str,
@@ -128,7 +128,7 @@ fn read_name<'a>(
     Ok(Ahead::Group(Head::Capture(Some(name))))
 }
 
-/// Reads what stands behind `(?P`: a name, a reference, a call, or letters of flags, of which none is a `P`.
+/// Reads what follows `(?P`: a name, a reference, a call, or flag letters, none of which is `P`.
 fn after_p<'a>(alloc: Global, here: &mut State<'a>, rest: &'a str) -> Result<Ahead<'a>, Failure>
     requires shorter { length rest.now ≤ length here.old.rest.now }
     requires letter { chars here.old.rest.now ≡ codes "P" ++ chars rest.now }
@@ -196,7 +196,7 @@ fn read_flags<'a>(alloc: Global, here: &mut State<'a>) -> Result<Ahead<'a>, Fail
     }
 }
 
-/// Reads what stands behind `(?~`: a bar, or nothing. UnclosedOpenParen at the end of the text.
+/// Reads what follows `(?~`: a bar, or nothing. UnclosedOpenParen at the end of the text.
 fn after_tilde<'a>(here: &mut State<'a>) -> Result<Ahead<'a>, Failure>
     ensures value { Sees result (state here.new)
         (spec.behind_question (state here.old) (codes "~" ++ chars here.old.rest.now)) }
@@ -214,9 +214,9 @@ fn after_tilde<'a>(here: &mut State<'a>) -> Result<Ahead<'a>, Failure>
     }
 }
 
-/// Reads what stands behind `(?(`: the word DEFINE, a target, a verb, or nothing.
+/// Reads what follows `(?(`: the word DEFINE, a target, a verb, or nothing.
 ///
-/// UnclosedOpenParen at the end of the text; TargetNotRepeatable at the asterisk of no verb; the faults of
+/// UnclosedOpenParen at the end of the text; TargetNotRepeatable at an asterisk that begins no verb; the errors of
 /// `condition_target`.
 fn read_condition<'a>(alloc: Global, here: &mut State<'a>) -> Result<Ahead<'a>, Failure>
     ensures value { Sees result (state here.new)
@@ -240,7 +240,7 @@ fn read_condition<'a>(alloc: Global, here: &mut State<'a>) -> Result<Ahead<'a>, 
     Ok(Ahead::Condition)
 }
 
-/// Reads the verb that is a condition, behind the asterisk at the front, which `rest` follows.
+/// Reads a verb as a condition, after the asterisk at the front, which `rest` follows.
 fn read_verb_condition<'a>(
     alloc: Global,
     here: &mut State<'a>,
@@ -257,7 +257,7 @@ fn read_verb_condition<'a>(
     Ok(Ahead::Body(verb))
 }
 
-/// Reads what a condition asks for.
+/// Reads the target of a condition.
 fn read_target<'a>(alloc: Global, here: &mut State<'a>) -> Result<Ahead<'a>, Failure>
     ensures value { Sees result (state here.new)
         (spec.target_ahead (state here.old) (references.condition_target (chars here.old.rest.now))) }
@@ -269,8 +269,8 @@ fn read_target<'a>(alloc: Global, here: &mut State<'a>) -> Result<Ahead<'a>, Fai
     Ok(Ahead::Body(condition(alloc, target)?))
 }
 
-/// Reads the verb behind the asterisk at the front, which `rest` follows. TargetNotRepeatable at the asterisk of no
-/// verb.
+/// Reads the verb after the asterisk at the front, which `rest` follows. TargetNotRepeatable at an asterisk that begins
+/// no verb.
 fn read_verb<'a>(here: &mut State<'a>, rest: &'a str) -> Result<BacktrackingControlVerb, Failure>
     requires shorter { length rest.now ≤ length here.old.rest.now }
     ensures value { MatchResult result (λ v. verbs.verb_at (chars rest.now) ≡ Some (v, chars here.new.rest.now))
@@ -286,7 +286,7 @@ fn read_verb<'a>(here: &mut State<'a>, rest: &'a str) -> Result<BacktrackingCont
     Ok(verb)
 }
 
-/// The verb whose name and closing parenthesis stand at the front, and what follows them.
+/// The verb whose name and closing parenthesis are at the front, and what follows them.
 #[tactic(auto, unfolding(fancy_grammar::specs::Verb::verb_at))]
 fn verb_at(text: &str) -> Option<(BacktrackingControlVerb, &str)>
     ensures value { verbs.verb_at (chars text.now) ≡ option_map (λ p. (p.0, chars p.1.now)) result }

@@ -1,4 +1,4 @@
-//! Where the loop stands that reads the raw tree of a text.
+//! The state of the loop that reads the raw tree of a text.
 ghost use Rattle.std.specs.Prelude.{◌≡◌, ◌∷◌, [], ◌++◌, ◌<◌, ◌≤◌, true, false, length, chars, vec_len, vec_capacity};
 ghost use Rattle.std.specs.Prelude.{Some, None, IfOk, OnOk, MatchOption, MatchResult};
 ghost use Rattle.fancy_lex.specs.Characters.{bar};
@@ -30,27 +30,27 @@ use memchr::memchr;
 use std::alloc::{AllocError, Global};
 use std::mem;
 
-/// What is read so far of a text.
+/// What has been read of a text so far.
 #[derive(Drop)]
 pub(crate) struct Parser<'a> {
-    /// Where it stands.
+    /// The position of the loop.
     pub(crate) here: State<'a>,
-    /// The innermost group that is open.
+    /// The innermost open group.
     pub(crate) frame: Frame<'a>,
-    /// The groups around it, the innermost last. It has room for all that can be open at once in the text.
+    /// The groups around it, the innermost last. It has capacity for all groups that can be open at once in the text.
     pub(crate) stack: Vec<Frame<'a>>,
-    /// The trees that stand in no other yet: those of all open groups, one above the other.
+    /// The trees that are in no other tree yet: those of all open groups, one above the other.
     pub(crate) trees: Vec<Expr>,
 }
 
-/// How many trees have room at first: some more than most patterns hold side by side.
+/// The initial capacity, in trees: a few more than most patterns have side by side.
 ///
-/// Where it is above 1,024 bytes, malloc puts its free blocks together at each request, and then hands out the small
-/// blocks of a tree slowly.
+/// If it takes more than 1,024 bytes, malloc merges its free blocks at each request, and then returns the small blocks
+/// of a tree slowly.
 const TREES: usize = 12;
 
 impl<'a> Parser<'a> {
-    /// Nothing is read yet.
+    /// A parser that has read nothing yet.
     #[inline(always)]
     pub(crate) fn new(alloc: Global, start: State<'a>) -> Result<Parser<'a>, AllocError>
         ensures here { IfOk result (λ r. r.here ≡ start.entry) }
@@ -68,7 +68,7 @@ impl<'a> Parser<'a> {
         Ok(parser)
     }
 
-    /// Reads the leaf at the front, where a look ahead reads all of it: whether it does.
+    /// Reads the leaf at the front if a look ahead reads all of it, and returns whether it does.
     #[inline(always)]
     pub(crate) fn add_leaf<S: Spanning>(
         &mut self,
@@ -99,7 +99,7 @@ impl<'a> Parser<'a> {
         Ok(true)
     }
 
-    /// Reads a piece, or the opening of a group. A fault is the text's.
+    /// Reads a piece, or the opening of a group. A returned error is the error of the text.
     #[inline(always)]
     pub(crate) fn step<S: Spanning>(&mut self, alloc: Global, spans: &mut S) -> Result<(), Failure>
         requires room { IsRoomy self.old }
@@ -119,7 +119,7 @@ impl<'a> Parser<'a> {
         Ok(self.take(step, spans)?)
     }
 
-    /// Ends the open branch at the bar that stands here, before `rest`. A fault is the text's.
+    /// Ends the open branch at the bar at the front, which `rest` follows. A returned error is the error of the text.
     #[inline(always)]
     pub(crate) fn bar<S: Spanning>(
         &mut self,
@@ -144,8 +144,8 @@ impl<'a> Parser<'a> {
         Ok(())
     }
 
-    /// Ends the innermost group where neither a piece nor a bar follows: the tree of the text, where no group is
-    /// around it. A fault is the text's.
+    /// Ends the innermost group if neither a piece nor a bar follows. Returns the tree of the text if no group is
+    /// around it. A returned error is the error of the text.
     #[inline(always)]
     pub(crate) fn close<S: Spanning>(
         &mut self,
@@ -189,8 +189,8 @@ impl<'a> Parser<'a> {
         Ok(None)
     }
 
-    /// Takes what a step read: a piece, which stands behind the others of the group, or a group, which opens in it.
-    /// Memory can be wanting for the list of pieces alone.
+    /// Takes what a step read: a piece, which follows the others of the group, or a group, which opens in it. Memory
+    /// can only run out for the list of pieces.
     #[inline(always)]
     fn take<S: Spanning>(&mut self, step: Step<'a>, spans: &mut S) -> Result<(), AllocError>
         requires room { HasRoomFor step self.old }
@@ -214,7 +214,8 @@ impl<'a> Parser<'a> {
     }
 }
 
-/// Puts a frame on the stack, which has room for it. It stands apart: inlined, it costs each leaf registers.
+/// Pushes a frame on the stack, which has capacity for it. It is a function of its own: inlined, it would cost each
+/// leaf registers.
 #[inline(never)]
 fn push_frame<'a>(stack: &mut Vec<Frame<'a>>, frame: Frame<'a>)
     requires room { vec_len stack.old < vec_capacity stack.old }

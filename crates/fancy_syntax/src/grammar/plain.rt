@@ -1,4 +1,4 @@
-//! Plain characters and escapes of one character, which most pieces are.
+//! Plain characters and escapes of one character. Most pieces are one of these.
 ghost use Rattle.std.specs.Prelude.{◌≡◌, ◌<◌, ℕ, true, [], ◌∷◌, length, chars, IfSome};
 ghost use Rattle.fancy_lex.specs.EscapeViews.{escape_of};
 ghost use Rattle.fancy_grammar.specs.Ahead.{leaf_node};
@@ -17,8 +17,8 @@ use fancy_lex::escape::{Escaped, short_escape};
 use fancy_lex::layout::is_layout;
 use fancy_lex::text::{after, next};
 
-/// The character at the front and what follows it, where one look ahead shows that it is a literal with no layout and
-/// no quantifier.
+/// The character at the front and what follows it, if one look ahead shows that it is a literal without layout and
+/// quantifiers.
 #[inline(always)]
 pub(crate) fn plain<'a>(here: State<'a>) -> Option<(char, &'a str)>
     ensures plain { IfSome result (λ p. IsNotedPlain (state here.entry)
@@ -36,8 +36,8 @@ pub(crate) fn plain<'a>(here: State<'a>) -> Option<(char, &'a str)>
     Some((c, rest))
 }
 
-/// What the escape at the front stands for and what follows it, where a look ahead reads all of it, with no layout and
-/// no quantifier behind it. Each way of noting spans has one of its own, which is inlined where it is called.
+/// The meaning of the escape at the front and what follows it, if a look ahead reads all of it and no layout or
+/// quantifier follows. Each way to record spans has a copy of its own, which is inlined at its call.
 #[inline(always)]
 pub(crate) fn plain_escape<'a, S: Spanning>(here: State<'a>) -> Option<(Escaped<'a>, &'a str)>
     ensures plain { IfSome result (λ p. IsNotedPlain (state here.entry) (leaf_node (escape_of p.0)) (chars p.1.now)) }
@@ -69,7 +69,7 @@ pub(crate) fn is_unquantified(here: State) -> bool
     !is_suffix(c) && !is_layout(here.flags.ignore_space, c)
 }
 
-/// Whether another thing than a literal begins with the character.
+/// Whether the character begins something other than a literal.
 #[inline]
 fn is_special(c: char) -> bool
     ensures { result ≡ spec.is_special c }
@@ -87,7 +87,7 @@ fn is_special(c: char) -> bool
         || c == '?'
 }
 
-/// Whether a quantifier, or a comment before one, may begin with the character.
+/// Whether the character may begin a quantifier, or a comment before one.
 #[inline]
 fn is_suffix(c: char) -> bool
     ensures { result ≡ spec.is_suffix c }

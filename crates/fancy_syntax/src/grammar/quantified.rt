@@ -27,29 +27,29 @@ use std::mem;
 /// How many adjacent quantifiers may follow the first.
 const MAX_ADJACENT: usize = 4;
 
-/// The marks behind the counts of a quantifier.
+/// What follows the counts of a quantifier: the lazy and the possessive operator.
 #[derive(Clone, Copy)]
 pub(crate) struct Suffix {
     pub(crate) lazy: bool,
     pub(crate) possessive: bool,
 }
 
-/// Whether an Empty stays without the quantifier whose mark or closing brace the text follows, as in Oniguruma mode
-/// where that stands behind the start, at which so many bytes were left.
+/// Whether an Empty is kept without its quantifier. In Oniguruma mode it is, if the quantifier's operator or closing
+/// brace, which the text follows, is after the start; `left` bytes were left at the start.
 fn is_dropped(flags: Flags, left: usize, tree: &Expr, text: &str) -> bool
     ensures { result ≡ spec.is_dropped flags left (view tree.now) (chars text.now) }
 {
     flags.oniguruma_mode && is_empty(tree) && left > 0 && byte_len(text) < left - 1
 }
 
-/// A quantifier is greedy without the lazy mark; swapped, with it.
+/// A quantifier is greedy without the lazy operator; if greediness is swapped, with it.
 fn is_greedy(flags: Flags, lazy: bool) -> bool
     ensures { result ≡ spec.is_greedy flags lazy }
 {
     if flags.swap_greed { lazy } else { !lazy }
 }
 
-/// Reads the quantifiers of the tree, before which so many bytes were left, and puts the tree under them.
+/// Reads the quantifiers of the tree, before which `left` bytes were left, and puts the tree under them.
 #[inline]
 pub(crate) fn quantify<S: Spanning>(
     alloc: Global,
@@ -73,7 +73,7 @@ pub(crate) fn quantify<S: Spanning>(
     Ok(())
 }
 
-/// Reads the quantifiers that are adjacent to an earlier one. RecursionExceeded behind a fifth, or at depth 64.
+/// Reads the quantifiers that are adjacent to an earlier one. RecursionExceeded after a fifth, or at depth 64.
 fn quantify_adjacent<S: Spanning>(
     alloc: Global,
     tree: &mut Expr,
@@ -105,7 +105,7 @@ fn quantify_adjacent<S: Spanning>(
     }
 }
 
-/// Whether one adjacent quantifier more may count at the depth.
+/// Whether one more adjacent quantifier is allowed at the depth.
 fn may_count(more: usize, depth: usize) -> bool
     requires { depth < max_depth }
     ensures { result ≡ spec.may_count more depth }
@@ -137,9 +137,9 @@ fn quantify_once<S: Spanning>(
     repeat(alloc, tree, counts, here, left, spans)
 }
 
-/// Puts the tree under a quantifier of these counts, and reads what follows them.
+/// Puts the tree under a quantifier with these counts, and reads what follows them.
 ///
-/// TargetNotRepeatable at the mark or the closing brace, where the tree takes no quantifier.
+/// TargetNotRepeatable at the operator or the closing brace, if the tree takes no quantifier.
 #[inline(always)]
 fn repeat<S: Spanning>(
     alloc: Global,
@@ -159,7 +159,7 @@ fn repeat<S: Spanning>(
         let behind_counts = reach(here.rest);
         let suffix = read_suffix(here, counts)?;
         put_under(alloc, tree, here.flags, counts, suffix)?;
-        // Layout behind the counts belongs to the quantifier only where a mark follows.
+        // Layout after the counts belongs to the quantifier only if an operator follows it.
         let end = if suffix.lazy || suffix.possessive {
             reach(here.rest)
         } else {
@@ -176,7 +176,7 @@ fn repeat<S: Spanning>(
     Err(Failure::At(mark, ParseError::TargetNotRepeatable))
 }
 
-/// Reads layout and the marks behind the counts of a quantifier: the lazy one, and directly the possessive one.
+/// Reads layout and the operators after the counts of a quantifier: the lazy one, and directly the possessive one.
 #[inline(always)]
 fn read_suffix(here: &mut State, counts: Counts) -> Result<Suffix, Failure>
     ensures value { GivesSuffix result (state here.new) (spec.suffix (state here.old) counts) }
@@ -204,14 +204,14 @@ fn read_suffix(here: &mut State, counts: Counts) -> Result<Suffix, Failure>
     })
 }
 
-/// Whether a possessive mark may follow the counts: in Oniguruma mode it does not behind braces.
+/// Whether a possessive operator may follow the counts: in Oniguruma mode it may not follow braces.
 fn may_be_possessive(flags: Flags, counts: Counts) -> bool
     ensures { result ≡ spec.may_be_possessive flags counts }
 {
     !(flags.oniguruma_mode && counts.braces)
 }
 
-/// Puts the tree under a quantifier of these counts and marks.
+/// Puts the tree under a quantifier with these counts and operators.
 #[inline(always)]
 fn put_under(
     alloc: Global,
@@ -223,7 +223,7 @@ fn put_under(
     ensures { IfOk result (λ _. view tree.new ≡ spec.quantified flags counts (suffix_of suffix) (view tree.old)) }
 {
     let child = Box::new(alloc, mem::replace(tree, Expr::Empty))?;
-    // What stood there is Empty, which owns nothing.
+    // The replaced tree is Empty, which owns nothing.
     mem::forget(mem::replace(tree, repeated(child, flags, counts, suffix.lazy)));
     if is_swapped(flags, counts) || suffix.possessive {
         make_atomic(alloc, tree)?;
@@ -231,7 +231,7 @@ fn put_under(
     Ok(())
 }
 
-/// The child between the counts.
+/// The child repeated between the counts.
 fn repeated(child: Box<Expr>, flags: Flags, counts: Counts, lazy: bool) -> Expr
     ensures { let greedy = spec.is_greedy flags lazy in view result ≡ (if spec.is_swapped flags counts
         then repeat (view child.value) counts.high counts.low greedy
@@ -260,7 +260,7 @@ fn make_atomic(alloc: Global, tree: &mut Expr) -> Result<(), AllocError>
     Ok(())
 }
 
-/// Whether the counts change places: in Oniguruma mode a greatest one below the least one does.
+/// Whether the counts are swapped: in Oniguruma mode they are if the maximum is below the minimum.
 fn is_swapped(flags: Flags, counts: Counts) -> bool
     ensures { result ≡ spec.is_swapped flags counts }
 {

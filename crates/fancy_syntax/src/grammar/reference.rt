@@ -1,4 +1,4 @@
-//! The nodes of references, whose groups are not known yet.
+//! The nodes of references, before the groups are known.
 ghost use Rattle.std.specs.Prelude.{◌≡◌, IfOk};
 ghost use Rattle.fancy_lex.specs.NameViews.{view_reference, view_call};
 ghost use Rattle.fancy_grammar.specs.Ahead as spec;

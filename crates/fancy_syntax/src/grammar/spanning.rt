@@ -1,4 +1,4 @@
-//! Where the nodes of a raw tree stand, noted while it is read.
+//! The positions of the nodes of a raw tree, recorded while it is read.
 ghost use Rattle.std.specs.Prelude.{OnOk};
 ghost use Rattle.fancy_syntax.specs.Log.{Log, leaf_noted, left_out, wrapped, opened, body_opened, part_begun};
 ghost use Rattle.fancy_syntax.specs.Log.{branch_begun, branch_ended, choice_ended, body_split, branch_lacked};
@@ -8,13 +8,13 @@ ghost use Rattle.fancy_syntax.specs.Parsed.{state};
 use crate::grammar::state::State;
 use std::alloc::AllocError;
 
-/// What is done with the reaches that the parser passes. Where no spans are wanted nothing is, and a call is compiled
-/// without them.
+/// What is done with the reaches that the parser passes. If no spans are recorded, nothing is done, and calls are
+/// compiled without it.
 pub(crate) trait Spanning: Drop {
-    /// What is noted is this, where anything is.
+    /// The log that is recorded, if anything is.
     ghost notes: { Self → Log → Type 0 };
 
-    /// A leaf stands there, which is the last piece.
+    /// A leaf is there, and becomes the last piece.
     fn note_leaf(&mut self, start: usize, end: usize) -> Result<(), AllocError>
         ensures { (l : Log) → notes self.old l → OnOk result (notes self.new (leaf_noted start end l)) };
 
@@ -22,15 +22,16 @@ pub(crate) trait Spanning: Drop {
     fn leave_out(&mut self)
         ensures { (l : Log) → notes self.old l → notes self.new (left_out l) };
 
-    /// A quantifier that ends there makes a node round the last piece, and where it is atomic one more round that.
+    /// A quantifier that ends there makes a node around the last piece, and if it is atomic one more around that.
     fn wrap(&mut self, end: usize, atomic: bool) -> Result<(), AllocError>
         ensures { (l : Log) → notes self.old l → OnOk result (notes self.new (wrapped end atomic l)) };
 
-    /// An atom that holds branches begins at the one reach, and its first part at the other.
+    /// An atom that holds branches begins at the first reach, and its first part at the second.
     fn open(&mut self, start: usize, inside: usize) -> Result<(), AllocError>
         ensures { (l : Log) → notes self.old l → OnOk result (notes self.new (opened start inside l)) };
 
-    /// A conditional begins at the one state, and behind a condition that is no alternation its body at the other.
+    /// A conditional begins at the first state. Its body begins at the second, after a condition that is no
+    /// alternation.
     fn open_body(&mut self, start: State, inside: State) -> Result<(), AllocError>
         ensures { (l : Log) → notes self.old l → OnOk result (notes self.new (body_opened (state start.entry) (state inside.entry) l)) };
 
@@ -38,20 +39,20 @@ pub(crate) trait Spanning: Drop {
     fn begin(&mut self, start: usize)
         ensures { (l : Log) → notes self.old l → notes self.new (part_begun start l) };
 
-    /// The next branch begins there, behind a bar.
+    /// The next branch begins there, after a bar.
     fn next_branch(&mut self, start: usize)
         ensures { (l : Log) → notes self.old l → notes self.new (branch_begun start l) };
 
-    /// The open branch, of so many pieces, ends there.
+    /// The open branch, with that many pieces, ends there.
     fn end_branch(&mut self, pieces: usize, end: usize) -> Result<(), AllocError>
         ensures { (l : Log) → notes self.old l → OnOk result (notes self.new (branch_ended pieces end l)) };
 
-    /// The branches of the open part are several, of which the last ends there: they become an Alt.
+    /// The open part has several branches, the last of which ends there: they become an Alt.
     fn end_choice(&mut self, end: usize) -> Result<(), AllocError>
         ensures { (l : Log) → notes self.old l → OnOk result (notes self.new (choice_ended end l)) };
 
-    /// The Alt of so many branches, the body of a conditional, gives way to the first of them and the choice among the
-    /// others.
+    /// The Alt of that many branches, the body of a conditional, is replaced by the first branch and the choice among
+    /// the others.
     fn split(&mut self, branches: usize) -> Result<(), AllocError>
         ensures { (l : Log) → notes self.old l → OnOk result (notes self.new (body_split branches l)) };
 
@@ -63,16 +64,17 @@ pub(crate) trait Spanning: Drop {
     fn drop_part(&mut self)
         ensures { (l : Log) → notes self.old l → notes self.new (part_dropped l) };
 
-    /// The open atom ends there with a node of its own, and is the last piece. An unnamed group may be without a number.
+    /// The open atom ends there with a node of its own, and becomes the last piece. An unnamed group may have no
+    /// number.
     fn close(&mut self, end: usize, unnamed: bool) -> Result<(), AllocError>
         ensures { (l : Log) → notes self.old l → OnOk result (notes self.new (atom_closed end unnamed l)) };
 
-    /// The open atom ends without a node of its own, and is the last piece.
+    /// The open atom ends without a node of its own, and becomes the last piece.
     fn close_bare(&mut self)
         ensures { (l : Log) → notes self.old l → notes self.new (atom_ended l) };
 }
 
-/// No spans are wanted.
+/// No spans are recorded.
 #[derive(Drop)]
 pub(crate) struct NoSpans;
 

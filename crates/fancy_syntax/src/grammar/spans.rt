@@ -16,11 +16,11 @@ use crate::span::Span;
 use fancy_lex::text::{after, after_word, place_at, reach, reach_before};
 use std::alloc::{AllocError, Global};
 
-/// The nodes that are read, and the atoms that are open.
+/// The nodes that have been read, and the open atoms.
 #[derive(Drop)]
 pub(crate) struct Spans {
     pub(crate) noted: Vec<Noted>,
-    /// The atoms around the innermost one that is open.
+    /// The atoms around the innermost open one.
     pub(crate) around: Vec<Open>,
     pub(crate) open: Open,
     /// The last piece.
@@ -28,7 +28,7 @@ pub(crate) struct Spans {
 }
 
 impl Spans {
-    /// Nothing is read yet of a text that begins at the reach.
+    /// The spans before anything is read of a text that begins at the reach.
     pub(crate) fn new(alloc: Global, start: usize) -> Spans
         ensures { log_of result ≡ spec.started start }
     {
@@ -48,7 +48,7 @@ impl Spans {
         }
     }
 
-    /// The spans of the answered tree; where `named` only groups with a name have a number, and the others no node.
+    /// The spans of the parsed tree; with `named`, only named groups have a number, and the others have no node.
     pub(crate) fn answered(
         &self,
         alloc: Global,
@@ -65,7 +65,7 @@ impl Spans {
         Ok(spans)
     }
 
-    /// Puts a node behind so many others.
+    /// Inserts a node after that many others.
     fn put(&mut self, height: usize, node: Noted) -> Result<(), AllocError>
         ensures { OnOk result (log_of self.new ≡ spec.put height node (log_of self.old)) }
     {
@@ -83,7 +83,7 @@ impl Spans {
         Ok(())
     }
 
-    /// Ends the open atom, which is the last piece.
+    /// Ends the open atom, which becomes the last piece.
     fn end_atom(&mut self)
         ensures { log_of self.new ≡ spec.atom_ended (log_of self.old) }
     {
@@ -210,7 +210,7 @@ impl Spanning for Spans {
     }
 }
 
-/// Adds where the node stands in the pattern, if it is answered.
+/// Adds the span of the node in the pattern, if the node is in the parsed tree.
 fn push_shown(
     spans: &mut Vec<Span>,
     pattern: &str,
@@ -226,7 +226,7 @@ fn push_shown(
     Ok(spans.push(span_in(pattern, node))?)
 }
 
-/// Where the node stands in the pattern.
+/// The span of the node in the pattern.
 fn span_in(pattern: &str, node: Noted) -> Span
     ensures { span_of result ≡ placed (bytes (chars pattern.now)) (reaches node) }
 {
@@ -236,7 +236,7 @@ fn span_in(pattern: &str, node: Noted) -> Span
     }
 }
 
-/// A node that is neither a group without a name nor an Alt which the grammar reads.
+/// A node that is neither a group without a name nor an Alt that the grammar reads.
 fn plain(start: usize, end: usize) -> Noted
     ensures { result ≡ spec.plain start end }
 {
@@ -248,14 +248,14 @@ fn plain(start: usize, end: usize) -> Noted
     }
 }
 
-/// The choice among the branches behind the first bar of an Alt: its own first bar is of no use.
+/// The choice among the branches after the first bar of an Alt. Its own first bar is not needed.
 fn rest_of(alt: Noted, bar: FirstBar) -> Noted
     ensures { result ≡ spec.plain bar.behind alt.end }
 {
     plain(bar.behind, alt.end)
 }
 
-/// Where the condition begins of a conditional that begins here: behind the parenthesis, layout, a question mark and a
+/// Where the condition of a conditional begins that begins here: after the parenthesis, layout, a question mark and a
 /// parenthesis.
 fn condition_start(here: State) -> usize
     ensures { result ≡ choose (condition_text (state here.entry)) reach_of (reach_of (chars here.entry.rest.now)) }
@@ -266,7 +266,7 @@ fn condition_start(here: State) -> usize
     }
 }
 
-/// What follows the parenthesis of a conditional, layout, a question mark and a parenthesis.
+/// The text after the parenthesis of a conditional, layout, a question mark and a parenthesis.
 fn condition_text(here: State<'_>) -> Option<&str>
     ensures { condition_text (state here.entry) ≡ option_map (λ t. chars t.now) result }
 {

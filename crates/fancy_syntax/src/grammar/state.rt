@@ -1,4 +1,4 @@
-//! Where a reading stands: what holds there, whether a branch ends there, and the layout there.
+//! The state of a reading, the ends of branches, and layout.
 ghost use Rattle.std.specs.Prelude.{◌≡◌, ◌<◌, ◌≤◌, length, chars, IfOk};
 ghost use Rattle.fancy_grammar.specs.State.{ends, skipped};
 ghost use Rattle.fancy_lex.specs.Views.{Skips};
@@ -9,7 +9,7 @@ use fancy_lex::flags::Flags;
 use fancy_lex::layout::skip;
 use fancy_lex::text::next;
 
-/// The flags that hold, and the text that is still to be read.
+/// The flags in effect, and the text that is still to be read.
 #[derive(Clone, Copy)]
 pub(crate) struct State<'a> {
     pub(crate) flags: Flags,
@@ -26,7 +26,7 @@ pub(crate) fn is_end(text: &str) -> bool
     c == '|' || c == ')'
 }
 
-/// Reads the layout at the front: the text behind it.
+/// Reads the layout at the front: the text after it.
 #[inline]
 pub(crate) fn skip_layout<'a>(here: State<'a>) -> Result<&'a str, Failure>
     ensures value { Skips result (skipped (state here.entry)) }

@@ -1,4 +1,4 @@
-//! The steps of the loop that read a piece, or come to the next part of a group.
+//! The steps of the loop that read a piece, or continue with the next part of a group.
 ghost use Rattle.std.specs.Prelude.{◌≡◌, ◌+◌, ◌<◌, ◌≤◌, true, false, length, chars, IfOk, OnOk, MatchResult, None};
 ghost use Rattle.fancy_lex.specs.Characters.{bar};
 ghost use Rattle.fancy_lex.specs.Text.{bytes, reach_of, strip};
@@ -37,11 +37,11 @@ use std::alloc::{AllocError, Global};
 pub(crate) enum Step<'a> {
     /// A piece, to its end.
     Piece(Expr),
-    /// The opening of a part of a group, up to its inside.
+    /// The opening of a part of a group, up to its contents.
     Open(Opener<'a>),
 }
 
-/// Reads a piece, or the opening of a group. A fault is the piece's.
+/// Reads a piece, or the opening of a group. A returned error is the error of the piece.
 pub(crate) fn read_step<'a, S: Spanning>(
     alloc: Global,
     here: &mut State<'a>,
@@ -67,7 +67,7 @@ pub(crate) fn read_step<'a, S: Spanning>(
         }
         Ahead::Read(atom) => {
             spans.note_leaf(reach(before.rest), reach(here.rest))?;
-            // Mostly no quantifier follows: this saves a call for each leaf.
+            // Usually no quantifier follows: this saves a call for each leaf.
             if is_unquantified(*here) {
                 return Ok(Step::Piece(atom));
             }
@@ -122,8 +122,9 @@ fn piece<'a, S: Spanning>(
     }
 }
 
-/// Ends what is open, where no branch follows: a piece, or the part that comes next. The piece began under the flags,
-/// where so many bytes were left; a quantifier behind it is read under them. A fault is the piece's.
+/// Ends the open part if no branch follows: a piece, or the part that comes next. The piece began under the flags,
+/// where `left` bytes were left; a quantifier after it is read under them. A returned error is the error of the
+/// piece.
 pub(crate) fn close<'a, S: Spanning>(
     alloc: Global,
     opener: Opener<'a>,
@@ -150,7 +151,7 @@ pub(crate) fn close<'a, S: Spanning>(
     let atom = end_part(alloc, opener, inner, here, spans)?;
     if !has_body {
         here.flags = flags;
-        // Mostly no quantifier follows: this saves a call for each group.
+        // Usually no quantifier follows: this saves a call for each group.
         if is_unquantified(*here) {
             return Ok(Step::Piece(atom));
         }
@@ -162,16 +163,16 @@ pub(crate) fn close<'a, S: Spanning>(
     Ok(Step::Open(Opener::Body { condition, left }))
 }
 
-/// Whether the atom goes on behind what is open: the body of a conditional follows its condition.
+/// Whether the atom continues after the open part: the body of a conditional follows its condition.
 fn goes_on(opener: &Opener) -> bool
     ensures { result ≡ machine.goes_on (part_of opener.now) }
 {
     matches!(opener, Opener::Condition)
 }
 
-/// Reads the closing parenthesis of what is open: the tree that comes out.
+/// Reads the closing parenthesis of the open part: the tree of the part.
 ///
-/// The general fault where a conditional has no body; else that of `close_paren`.
+/// The general error if a conditional has no body; else the error of `close_paren`.
 fn end_part<S: Spanning>(
     alloc: Global,
     opener: Opener,
@@ -196,7 +197,7 @@ fn end_part<S: Spanning>(
     Ok(node_of_part(alloc, opener, inner, paren, reach(here.rest), spans)?)
 }
 
-/// Reads the closing parenthesis of what is open, whatever tree stands in it. The faults are those of `end_part`.
+/// Reads the closing parenthesis of the open part, whatever its tree is. The errors are those of `end_part`.
 fn read_end(alloc: Global, opener: &Opener, here: &mut State) -> Result<(), Failure>
     requires last { ends (chars here.old.rest.now) ≡ true }
     requires no_bar { strip bar (chars here.old.rest.now) ≡ None }
@@ -212,8 +213,8 @@ fn read_end(alloc: Global, opener: &Opener, here: &mut State) -> Result<(), Fail
     close_paren(here)
 }
 
-/// Whether what is open is the body of a conditional that takes no byte before the text, and the condition cannot do
-/// without.
+/// Whether the open part is the body of a conditional that takes no byte before the text, with a condition that needs a
+/// body.
 fn lacks_body(opener: &Opener, text: &str) -> bool
     ensures { (s : states.State) → s.rest ≡ chars text.now → result ≡ machine.lacks_body (part_of opener.now) s }
 {
@@ -223,8 +224,8 @@ fn lacks_body(opener: &Opener, text: &str) -> bool
     }
 }
 
-/// The tree of what was open, around the tree read inside. Its closing parenthesis begins at the one reach and ends at the
-/// other.
+/// The tree of the open part, around the tree read inside. Its closing parenthesis begins at the first reach and ends
+/// at the second.
 fn node_of_part<S: Spanning>(
     alloc: Global,
     opener: Opener,
@@ -256,7 +257,7 @@ fn node_of_part<S: Spanning>(
     }
 }
 
-/// Ends a group of one alternation at the reach: flags leave no node.
+/// Ends a group of one alternation at the reach. A flag group has no node.
 #[inline(always)]
 fn close_group<S: Spanning>(head: &Head, end: usize, spans: &mut S) -> Result<(), AllocError>
     ensures { (l : Log) → S.notes spans.old l → OnOk result (S.notes spans.new (group_noted (head_of head.now) end l)) }
@@ -271,8 +272,8 @@ fn close_group<S: Spanning>(head: &Head, end: usize, spans: &mut S) -> Result<()
     }
 }
 
-/// Notes the branches of the body of a conditional, which ends at the reach: of an Alt the first, and the choice among
-/// the others; else the body, and an Empty.
+/// Records the branches of the body of a conditional, which ends at the reach. If it is an Alt, they are its first
+/// branch and the choice among the others; else the body and an Empty.
 #[inline(always)]
 fn part_body<S: Spanning>(body: &Expr, end: usize, spans: &mut S) -> Result<(), AllocError>
     ensures { (l : Log) → S.notes spans.old l → OnOk result (S.notes spans.new (body_parted (view body.now) end l)) }
@@ -287,8 +288,7 @@ fn part_body<S: Spanning>(body: &Expr, end: usize, spans: &mut S) -> Result<(), 
 const NO_BODY: &str =
     "expected conditional to be a backreference or at least an expression for when the condition is true";
 
-/// Reads the closing parenthesis that stands where neither a piece nor a bar does. UnclosedOpenParen at the end of the
-/// text.
+/// Reads the closing parenthesis, where neither a piece nor a bar follows. UnclosedOpenParen at the end of the text.
 fn close_paren(here: &mut State) -> Result<(), Failure>
     requires last { ends (chars here.old.rest.now) ≡ true }
     requires no_bar { strip bar (chars here.old.rest.now) ≡ None }

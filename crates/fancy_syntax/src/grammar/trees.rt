@@ -1,4 +1,4 @@
-//! The trees that are read and stand in no other yet: those of all open groups, one above the other.
+//! The trees that have been read and are in no other tree yet: those of all open groups, one above the other.
 ghost use Rattle.std.specs.Prelude.{◌≡◌, ◌≤◌, [], ◌∷◌, ◌++◌, take, drop, length, vec_len, IfOk, OnOk};
 ghost use Rattle.fancy_grammar.specs.Join as spec;
 ghost use Rattle.fancy_grammar.specs.Join.{solid, one_or};
@@ -23,7 +23,7 @@ pub(crate) fn add<S: Spanning>(
     ensures spans { (l : Log) → S.notes spans.old l → OnOk result (S.notes spans.new (added (view piece) l)) }
 {
     if is_empty(&piece) {
-        // It owns nothing.
+        // An Empty owns nothing.
         mem::forget(piece);
         spans.leave_out();
         return Ok(());
@@ -44,7 +44,8 @@ pub(crate) fn push(trees: &mut Vec<Expr>, tree: Expr) -> Result<(), AllocError>
     Ok(())
 }
 
-/// Takes the trees that stand above so many others, the pieces of a branch that ends at the reach: its tree.
+/// Takes the trees above that many others, the pieces of a branch that ends at the reach, and returns the tree of the
+/// branch.
 #[inline(always)]
 pub(crate) fn take_branch<S: Spanning>(
     alloc: Global,
@@ -68,13 +69,13 @@ pub(crate) fn take_branch<S: Spanning>(
     }
 }
 
-/// From so many trees on a list is handed on though others stand below, which are copied in their place.
+/// From this many trees on, the list is handed on even if others are below; those are copied.
 const MANY: usize = 32;
 
-/// Takes the trees that stand above so many others, as a list of their own.
+/// Takes the trees above that many others, as a list of their own.
 ///
-/// Where they fill more than half of the list, it is handed on as it is: a copy beside it would double the memory of a
-/// long branch. A few trees are copied where others stand below.
+/// If they fill more than half of the list, it is handed on as it is: a copy would double the memory of a long branch.
+/// A few trees are copied if others are below.
 pub(crate) fn take_above(
     alloc: Global,
     trees: &mut Vec<Expr>,

@@ -1,4 +1,4 @@
-//! How many bytes a tree is printed as, where that is more than a word holds the greatest word.
+//! The number of bytes that a tree is printed as, or `usize::MAX` if a word cannot hold it.
 ghost use Rattle.std.specs.Prelude.{◌≡◌, ◌++◌, codes, if◌then◌else◌, []};
 ghost use Rattle.fancy_lex.specs.Text.{Text, bytes};
 ghost use Rattle.fancy_parts.specs.Quote.{quantifier};
@@ -15,7 +15,7 @@ use fancy_lex::text::byte_len;
 use fancy_parts::quote::{quantifier_len, quotes_len};
 use fancy_parts::room::ascii_len;
 
-/// With a group's parentheses, where they are asked.
+/// With a group's parentheses, if asked for.
 #[inline]
 #[tactic(auto, using(crate::proofs::PrintLemmas::count_steps))]
 fn grouped_len(asked: bool, len: usize) -> usize
@@ -24,7 +24,7 @@ fn grouped_len(asked: bool, len: usize) -> usize
     if asked { len.saturating_add(4) } else { len }
 }
 
-/// With the parentheses of a group that ignores case, where they are asked.
+/// With the parentheses of a group that ignores case, if asked for.
 #[inline]
 #[tactic(auto, using(crate::proofs::PrintLemmas::count_steps))]
 fn caseless_len(asked: bool, len: usize) -> usize
@@ -33,7 +33,7 @@ fn caseless_len(asked: bool, len: usize) -> usize
     if asked { len.saturating_add(5) } else { len }
 }
 
-/// With a bar before it, where one is asked.
+/// With a bar before it, if asked for.
 #[inline]
 #[tactic(auto, using(crate::proofs::PrintLemmas::count_steps))]
 fn branch_len(asked: bool, len: usize) -> usize
@@ -42,7 +42,7 @@ fn branch_len(asked: bool, len: usize) -> usize
     if asked { len.saturating_add(1) } else { len }
 }
 
-// Only the calls for what holds trees save registers: none of them is inlined into the call for a leaf.
+// Only the calls for nodes that hold trees save registers: none of them is inlined into the call for a leaf.
 
 /// The length of a tree's text.
 #[cycle(count)]
@@ -80,7 +80,7 @@ fn node_len(tree: &Expr, precedence: u8) -> usize
     }
 }
 
-/// The bytes of a Concat, with the group round it where it needs one.
+/// The bytes of a Concat, with the group around it if it needs one.
 #[cycle(count)]
 #[inline(never)]
 fn concat_len(trees: &[Expr], is_grouped: bool) -> usize
@@ -93,7 +93,7 @@ fn concat_len(trees: &[Expr], is_grouped: bool) -> usize
     grouped_len(is_grouped, len)
 }
 
-/// The bytes of an Alt, with the group round it where it needs one.
+/// The bytes of an Alt, with the group around it if it needs one.
 #[cycle(count)]
 #[inline(never)]
 fn alt_len(trees: &[Expr], is_grouped: bool) -> usize
@@ -116,7 +116,7 @@ fn group_len(tree: &Expr) -> usize
     tree_len(tree, WHOLE).saturating_add(2)
 }
 
-/// The bytes of a Repeat, with the group round it where it needs one.
+/// The bytes of a Repeat, with the group around it if it needs one.
 #[cycle(count)]
 #[inline(never)]
 #[tactic(auto, using(crate::proofs::PrintLemmas::count_steps))]
@@ -127,7 +127,7 @@ fn repeat_len(child: &Expr, lo: usize, hi: usize, greedy: bool, is_grouped: bool
     grouped_len(is_grouped, len)
 }
 
-/// The length of what a quantifier stands behind.
+/// The length of the operand of a quantifier.
 #[cycle(count)]
 #[inline]
 fn repeated_len(tree: &Expr) -> usize

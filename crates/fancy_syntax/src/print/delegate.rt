@@ -13,7 +13,7 @@ use fancy_lex::flags::Flags;
 use fancy_lex::text::next;
 use std::alloc::{AllocError, Global};
 
-/// Whether the text alone, read under no flags, is one whole class or one whole class escape.
+/// Whether the text, read under no flags, is exactly one whole class or class escape.
 pub(crate) fn is_whole(alloc: Global, text: &str) -> Result<bool, AllocError>
     ensures { IfOk result (λ b. b ≡ is_some (class_of (unicode_flags false) (chars text.now))) }
 {
@@ -47,14 +47,14 @@ fn is_whole_escape(alloc: Global, text: &str) -> Result<bool, AllocError>
     }
 }
 
-/// Whether the escape stands for a class.
+/// Whether the escape represents a class.
 fn is_class(leaf: Escaped) -> bool
     ensures { result ≡ is_some (whole_of [] (leaf_node (escape_of leaf.entry))) }
 {
     matches!(leaf, Escaped::Delegate { .. })
 }
 
-/// False for a fault of the text; the refusal where memory ran out.
+/// False for an error of the text; `AllocError` if memory ran out.
 fn is_no_class(error: Failure) -> Result<bool, AllocError>
     ensures no { IfOk result (λ b. b ≡ false) }
     ensures fault { IfOk result (λ _. error ≡ OutOfMemory → ⊥) }

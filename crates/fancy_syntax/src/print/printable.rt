@@ -1,4 +1,4 @@
-//! Whether a tree's text reads back as its normal form, where fewer than 64 printed groups nest.
+//! Whether a tree's text is read back as its normal form, if fewer than 64 printed groups nest.
 ghost use Rattle.std.specs.Prelude.{◌≡◌, false, IfOk, IsOk};
 ghost use Rattle.fancy_grammar.specs.HasDelegate.{has_delegate, any_has_delegate};
 ghost use Rattle.fancy_grammar.specs.Join.{is_empty, join};
@@ -60,8 +60,8 @@ fn has_text(assertion: Assertion) -> bool
     !matches!(assertion, Assertion::EndTextIgnoreTrailingNewlines { .. })
 }
 
-/// Whether the tree's normal form is Empty. It looks into no Group and no Repeat, so that `is_printable`, which asks it
-/// of the child of each Repeat, comes to no node more than twice.
+/// Whether the tree's normal form is Empty. It does not look into a Group or a Repeat, so that `is_printable`, which
+/// calls it on the child of each Repeat, visits no node more than twice.
 #[cycle(normal)]
 fn is_empty_in_normal_form(tree: &Expr) -> bool
     ensures { result ≡ is_empty (normal false (view tree.now)) }
@@ -80,7 +80,7 @@ fn is_empty_in_normal_form(tree: &Expr) -> bool
     }
 }
 
-/// Whether the trees, in a row, are Empty in their normal form.
+/// Whether the normal form of the trees, one after the other, is Empty.
 #[cycle(normal)]
 fn are_empty_in_normal_form(trees: &[Expr]) -> bool
     ensures { result ≡ is_empty (join (normal_pieces false (trees_of (views trees.now)))) }

@@ -1,4 +1,4 @@
-//! What is put in a group of its own where a quantifier stands behind it.
+//! Which operands of a quantifier are put in a group of their own.
 ghost use Rattle.std.specs.Prelude.{◌≡◌, false, chars};
 ghost use Rattle.fancy_grammar.specs.Printed as spec;
 ghost use Rattle.fancy_grammar.specs.Tree.{literal};
@@ -7,7 +7,7 @@ ghost use Rattle.fancy_syntax.specs.View.{view};
 use crate::expr::Expr;
 use fancy_lex::text::next;
 
-/// Whether a quantifier would take the last character of the tree's text alone.
+/// Whether a quantifier would apply only to the last character of the tree's text.
 #[inline]
 pub(super) fn is_long(tree: &Expr) -> bool
     ensures { result ≡ spec.is_long (view tree.now) }
@@ -23,7 +23,7 @@ pub(super) fn is_long(tree: &Expr) -> bool
 fn has_several(text: &str) -> bool
     ensures { result ≡ spec.is_long (literal (chars text.now) false) }
 {
-    // In the tree of a pattern a literal is one character, and mostly one byte.
+    // In the tree of a pattern a literal is one character, and usually one byte.
     if text.len() < 2 {
         return false;
     }

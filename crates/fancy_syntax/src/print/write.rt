@@ -1,4 +1,4 @@
-//! Writing a tree's text into a string that has room for it.
+//! Writes a tree's text into a string with capacity for it.
 ghost use Rattle.std.specs.Prelude.{◌≡◌, ◌++◌, codes, if◌then◌else◌, [], nat_lt, true, chars};
 ghost use Rattle.std.specs.List.{list_all};
 ghost use Rattle.fancy_parts.specs.Quote.{quotes, quantifier};
@@ -14,7 +14,7 @@ use crate::print::{BRANCH, OPERAND, PIECE, WHOLE};
 use fancy_parts::quote::{put_quantifier, put_quotes};
 use fancy_parts::room::{put, put_ascii, put_text};
 
-/// Writes a text of ASCII characters, where it is asked.
+/// Writes a text of ASCII characters, if asked for.
 #[inline]
 #[tactic(auto, using(crate::proofs::PrintLemmas::write_steps))]
 fn put_if(buf: &mut String, asked: bool, text: &str)
@@ -27,7 +27,8 @@ fn put_if(buf: &mut String, asked: bool, text: &str)
     }
 }
 
-// Only the calls for what is rare or holds trees save registers: none of them is inlined into the call for a leaf.
+// Only the calls for rare nodes and for nodes that hold trees save registers: none of them is inlined into the call for
+// a leaf.
 
 /// Writes a text that does not depend on what a tree holds.
 #[inline(never)]
@@ -70,7 +71,7 @@ fn put_caseless_literal(buf: &mut String, val: &str)
     put(buf, ')');
 }
 
-/// Writes a Delegate, in a group of flags where it ignores case.
+/// Writes a Delegate, in a group of flags if it ignores case.
 #[inline(never)]
 #[tactic(auto, using(crate::proofs::PrintLemmas::write_steps))]
 fn put_delegate(buf: &mut String, inner: &str, casei: bool)
@@ -122,7 +123,7 @@ fn put_node(buf: &mut String, tree: &Expr, precedence: u8)
     }
 }
 
-/// Writes a Concat, with the group round it where it needs one.
+/// Writes a Concat, with the group around it if it needs one.
 #[cycle(write)]
 #[inline(never)]
 #[tactic(auto, using(crate::proofs::PrintLemmas::write_steps))]
@@ -147,7 +148,7 @@ fn put_all(buf: &mut String, trees: &[Expr])
     }
 }
 
-/// Writes an Alt, with the group round it where it needs one.
+/// Writes an Alt, with the group around it if it needs one.
 #[cycle(write)]
 #[inline(never)]
 #[tactic(auto, using(crate::proofs::PrintLemmas::write_steps))]
@@ -186,7 +187,7 @@ fn put_group(buf: &mut String, tree: &Expr)
     put(buf, ')');
 }
 
-/// Writes a Repeat, with the group round it where it needs one.
+/// Writes a Repeat, with the group around it if it needs one.
 #[cycle(write)]
 #[inline(never)]
 #[tactic(auto, using(crate::proofs::PrintLemmas::write_steps))]
@@ -200,7 +201,7 @@ fn put_repeat(buf: &mut String, child: &Expr, lo: usize, hi: usize, greedy: bool
     put_if(buf, is_grouped, ")");
 }
 
-/// Writes what a quantifier stands behind.
+/// Writes the operand of a quantifier.
 #[cycle(write)]
 #[inline]
 #[tactic(auto, using(crate::proofs::PrintLemmas::write_steps))]

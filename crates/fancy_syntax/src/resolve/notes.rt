@@ -1,4 +1,4 @@
-//! What the second walk knows, and what it notes of each reference.
+//! What the second walk knows, and what it records of each reference.
 ghost use Rattle.std.specs.Prelude.{◌≡◌, ◌<◌, IfOk, IfErr, Option, Some};
 ghost use Rattle.fancy_lex.specs.Fault.{Fault};
 ghost use Rattle.fancy_lex.specs.IdReference.{amount_bound};
@@ -21,37 +21,37 @@ use std::mem;
 pub(super) struct Known<'a> {
     /// The pattern.
     pub(super) pattern: &'a str,
-    /// Groups without a name have no number.
+    /// Whether groups without a name have no number.
     pub(super) named: bool,
     /// The groups that have a number.
     pub(super) groups: Groups,
 }
 
-/// How far the second walk has come, and what it noted.
+/// How far the second walk has come, and what it recorded.
 #[derive(Debug, Drop)]
 pub(super) struct Progress {
-    /// How many groups with a number opened.
+    /// How many groups with a number have opened.
     pub(super) passed: usize,
     /// The numbers of back references, up to the number of groups.
     pub(super) backrefs: BTreeSet<usize>,
     /// The first of the other numbers.
     pub(super) out_of_range: Option<usize>,
-    /// Some reference is written as a number.
+    /// Whether some reference is written as a number.
     pub(super) numeric: bool,
-    /// Some call is written.
+    /// Whether some call is written.
     pub(super) calls: bool,
-    /// Some call by the number 0 is written.
+    /// Whether some call by the number 0 is written.
     pub(super) self_recursive: bool,
-    /// The fault at which the walk stopped, or that memory ran out.
+    /// The error at which the walk stopped, or out of memory.
     pub(super) error: Option<Failure>,
 }
 
-/// The walk stopped: its `Progress` says why. An error by itself is seven words, which each call would hand on.
+/// The walk stopped: its `Progress` says why. An error itself has seven words, which each call would pass on.
 #[derive(Debug, Drop)]
 pub(super) struct Stopped;
 
 impl Progress {
-    /// Nothing passed, and nothing noted.
+    /// Nothing passed, and nothing recorded.
     pub(super) fn new(alloc: Global) -> Progress
         ensures { progress_of result ≡ nothing_noted }
     {
@@ -66,7 +66,7 @@ impl Progress {
         }
     }
 
-    /// Notes why the walk stops.
+    /// Records why the walk stops.
     #[cold]
     fn stop(&mut self, error: Failure) -> Stopped
         ensures error { self.new.error ≡ Some error }
@@ -84,7 +84,7 @@ impl Progress {
     }
 }
 
-/// Notes the reference, and answers the number that it means, or its fault.
+/// Records the reference, and returns the number that it refers to, or its error.
 #[inline(always)]
 pub(super) fn refer(
     known: &Known,
@@ -108,7 +108,7 @@ pub(super) fn refer(
     note_meaning(known, progress, reach, role, meaning)
 }
 
-/// Notes how the reference is written: as a number, as a call, as a call of the whole pattern.
+/// Records how the reference is written: as a number, as a call, as a call of the whole pattern.
 fn note_form(
     known: &Known,
     progress: &mut Progress,
@@ -131,7 +131,7 @@ fn note_form(
     }
 }
 
-/// Notes the number that the reference means, and answers it, or the fault.
+/// Records the number that the reference refers to, and returns it, or the error.
 fn note_meaning(
     known: &Known,
     progress: &mut Progress,

@@ -1,5 +1,5 @@
-//! The second walk: each capturing group becomes a `Group`, and each reference what it means. It stops at the first
-//! fault.
+//! The second walk: each capturing group becomes a `Group`, and each reference the node with its number. It stops at
+//! the first error.
 ghost use Rattle.std.specs.Prelude.{◌≡◌, ◌+◌, ◌<◌, length, true, false, chars};
 ghost use Rattle.fancy_lex.specs.IdReference.{amount_bound};
 ghost use Rattle.fancy_lex.specs.NameViews.{view_target};
@@ -20,7 +20,7 @@ use fancy_lex::text::place_at;
 use fancy_parts::ranks::Role;
 use std::mem;
 
-/// Resolves the tree in its place, or answers the first fault of its references.
+/// Resolves the tree in place, or returns the first error of its references.
 #[cycle(rewrite)]
 #[inline(always)]
 pub(super) fn rewrite(
@@ -58,7 +58,7 @@ pub(super) fn rewrite(
 
 // The functions for nodes that hold trees are not inlined, so that the call for a leaf saves no registers.
 
-/// Puts what the node is resolved to in its place.
+/// Replaces the node by what it is resolved to.
 #[cycle(rewrite)]
 #[inline(never)]
 fn rewrite_node(tree: &mut Expr, known: &Known, progress: &mut Progress) -> Result<(), Stopped>
@@ -75,7 +75,7 @@ fn rewrite_node(tree: &mut Expr, known: &Known, progress: &mut Progress) -> Resu
         return rewrite_group(tree, known, progress);
     }
     if let Some(resolved) = resolve_reference(node, *place, known, progress)? {
-        // The name goes alone, and not with its tree; what stands in its place then takes no memory.
+        // The name is dropped by itself, not with its tree; the node that is left then owns no memory.
         drop(take_target(node));
         mem::forget(mem::replace(tree, resolved));
     } else {
@@ -84,7 +84,7 @@ fn rewrite_node(tree: &mut Expr, known: &Known, progress: &mut Progress) -> Resu
     Ok(())
 }
 
-/// Puts what the capturing group is resolved to in its place.
+/// Replaces the capturing group by what it is resolved to.
 #[cycle(rewrite)]
 #[inline(never)]
 fn rewrite_group(tree: &mut Expr, known: &Known, progress: &mut Progress) -> Result<(), Stopped>
@@ -96,7 +96,7 @@ fn rewrite_group(tree: &mut Expr, known: &Known, progress: &mut Progress) -> Res
     let Expr::AstNode(node, reach) = tree else {
         unreachable!();
     };
-    // The node is moved alone, and not with its tree; what stands in its place then takes no memory.
+    // The node is moved by itself, not with its tree; the node that is left then owns no memory.
     let taken = AstNode::SubroutineCall(CaptureGroupTarget::ByNumber(0));
     let node = mem::replace(node, taken);
     let resolved = resolve_group(node, *reach, known, progress)?;
@@ -104,7 +104,7 @@ fn rewrite_group(tree: &mut Expr, known: &Known, progress: &mut Progress) -> Res
     Ok(())
 }
 
-/// Takes what the reference names out of it.
+/// Takes the target out of the reference.
 fn take_target(reference: &mut AstNode) -> CaptureGroupTarget
     requires { is_reference reference.old ≡ true }
 {
@@ -145,7 +145,7 @@ fn resolve_group(
     }
 }
 
-/// What the reference that is read at the reach is resolved to; none where it stays.
+/// What the reference that is read at the reach is resolved to, or `None` if it stays.
 fn resolve_reference(
     node: &AstNode,
     reach: usize,
@@ -194,7 +194,7 @@ fn resolve_reference(
     }
 }
 
-/// What the back reference that is read at the reach is resolved to; none where it stays.
+/// What the back reference that is read at the reach is resolved to, or `None` if it stays.
 fn resolve_backref(
     target: &CaptureGroupTarget,
     casei: bool,
@@ -263,7 +263,7 @@ fn rewrite_child(
     rewrite(&mut **child, known, progress)
 }
 
-/// Resolves the trees in their places, from the first on.
+/// Resolves the trees in place, from the first on.
 #[cycle(rewrite)]
 #[inline(never)]
 fn rewrite_all(trees: &mut Vec<Expr>, known: &Known, progress: &mut Progress) -> Result<(), Stopped>

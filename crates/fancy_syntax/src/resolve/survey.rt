@@ -13,17 +13,17 @@ use crate::expr::{Absent, AstNode, Expr};
 use fancy_parts::ranks::Groups;
 use std::alloc::{AllocError, Global};
 
-/// What the first walk has found.
+/// What the first walk found.
 #[derive(Debug, Drop)]
 pub(super) struct Found {
     /// The groups that have a number.
     pub(super) groups: Groups,
-    /// A capturing group or a reference was met, for the second walk to resolve.
+    /// Whether a capturing group or a reference was found, for the second walk to resolve.
     pub(super) met: bool,
 }
 
 impl Found {
-    /// No groups, and nothing met.
+    /// No groups, and nothing found.
     pub(super) fn new(alloc: Global) -> Found
         ensures groups { groups_of result.groups ≡ no_groups }
         ensures met { result.met ≡ false }
@@ -35,7 +35,7 @@ impl Found {
     }
 }
 
-/// Adds the groups of the tree, in text order; with `named` those alone that have a name.
+/// Adds the groups of the tree, in text order; with `named` only those that have a name.
 #[cycle(survey)]
 #[inline(always)]
 pub(super) fn survey(
@@ -73,14 +73,14 @@ pub(super) fn survey(
     }
 }
 
-/// Whether a group of that name has a number.
+/// Whether a group with that name has a number.
 pub(super) fn is_counted_name(named: bool, name: Option<&str>) -> bool
     ensures { result ≡ is_counted named (option_map (λ t. chars t.now) name.entry) }
 {
     !named || name.is_some()
 }
 
-/// Whether a capturing group or a reference can stand in the tree: most trees are leaves, which need no walk.
+/// Whether the tree can contain a capturing group or a reference. Most trees are leaves, which need no walk.
 #[inline(always)]
 pub(super) fn may_hold_items(tree: &Expr) -> bool
     ensures { result ≡ false → items (view tree.now) ≡ [] }
@@ -100,7 +100,7 @@ pub(super) fn may_hold_items(tree: &Expr) -> bool
     )
 }
 
-/// Adds the groups of the node that is read at the reach. A reference has none, and is met without a call.
+/// Adds the groups of the node that is read at the reach. A reference has none, and is recorded without a call.
 #[cycle(survey)]
 #[inline(always)]
 fn survey_node(
@@ -132,7 +132,7 @@ fn survey_node(
 
 // The functions for nodes that hold trees are not inlined, so that the call for a leaf saves no registers.
 
-/// Adds the group of that name, where it has a number, and then those in it.
+/// Adds the group with that name, if it has a number, and then the groups in it.
 #[cycle(survey)]
 #[inline(never)]
 fn survey_group(

@@ -12,7 +12,7 @@ use Rattle.fancy_syntax.proofs.resolve.find_groups.Goals.{else-ignore-via-then-i
 use Rattle.fancy_syntax.proofs.resolve.find_groups.Goals.{else-ignore-via-else-ignore}
 use Rattle.fancy_syntax.proofs.resolve.find_groups.Goals.{Then-not-found}
 
--- where nothing is met, no group opens
+-- if nothing is found, no group opens
 
 unmet_named : (ignore : Bool) (l : List Item) → l ≡ [] → false ≡ (ignore && list_any is_named (openings_in l))
 unmet_named ignore l h = rw h (none_counted ignore false 0 refl refl)

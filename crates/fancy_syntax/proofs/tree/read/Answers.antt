@@ -34,7 +34,7 @@ pub resolve-requires : goal.resolve-requires
 resolve-requires g c =
     text_order c.args.flags c.args.re.now (view c.in_ok-raw.raw) c.utf8.re c.in_ok-raw.ensures.reads
 
--- the tree of the text, where its raw tree is this one
+-- the tree of the text, if its raw tree is this one
 tree_of : {f : Flags} {text : Text} {r : Tree} (o : Result ExprTree Failure) → DerivesTree f text r →
     IfOk o (λ t. view t.expr ≡ resolved f (bytes text) r) → IfOk o (λ t. marks_of t ≡ marks f text r) →
     IfOk o (λ _. fault_of f r ≡ None) → IfOk o (λ t. IsTreeOf f text (view t.expr) (marks_of t))
@@ -59,7 +59,7 @@ returns-clause-place g c =
     c.in_ok-raw.ensures.reads first)
     c.resolve.ensures.fault
 
--- the spans of the text, where these are those of the nodes of this raw tree
+-- the spans of the text, if they are those of the nodes of this raw tree
 spans_of_tree : {f : Flags} {text : Text} {r : Tree} {N : Log → Type 0} (o : Result ExprTree Failure) →
     (m : Log) × N m × IsNotedWhole f text r m → IfOk o (λ t. marks_of t ≡ marks f text r) → IfOk o (λ t.
     (m : Log) × N m × AreSpansOf f text (answered_spans text (marks_of t).numbered_groups_ignored m))

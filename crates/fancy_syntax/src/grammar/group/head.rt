@@ -1,4 +1,4 @@
-//! What opens a group that holds one alternation.
+//! The kinds of group that hold one alternation.
 ghost use Rattle.std.specs.Prelude.{◌≡◌, IfOk, option_map, chars};
 ghost use Rattle.fancy_grammar.specs.Head as spec;
 ghost use Rattle.fancy_syntax.specs.Parsed.{head_of};
@@ -8,7 +8,7 @@ ghost use Rattle.fancy_syntax.specs.View.{view};
 use crate::expr::{Absent, AstNode, Expr, LookAround};
 use std::alloc::{AllocError, Global};
 
-/// What opens a group.
+/// The kind of a group.
 #[derive(Clone, Copy)]
 pub(crate) enum Head<'a> {
     /// A capturing group, with its name if it has one.
@@ -22,7 +22,7 @@ pub(crate) enum Head<'a> {
     Repeater,
 }
 
-/// The node round the inside of a group that opens at the reach.
+/// The node around the contents of a group that opens at the reach.
 pub(crate) fn node(alloc: Global, head: Head, reach: usize, inner: Expr) -> Result<Expr, AllocError>
     ensures { IfOk result (λ e. view e ≡ spec.group_node (head_of head.entry) reach (view inner)) }
 {

@@ -1,5 +1,5 @@
--- `child_mut` hands itself on to `lend_child`, at the same lifetime. The borrow checker proves no loan at the lender's
--- own type, and `lend_child` is proved for any two types: so only the call is walked here.
+-- `child_mut` passes itself on to `lend_child`, at the same lifetime. The borrow checker proves no loan at the lender's
+-- own type, and `lend_child` is proved for any two types. So only the call is proved here.
 use mathlib.Core.Path.{refl}
 use mathlib.Core.List.{[], ◌∷◌}
 use mir.Syntax.{named, w64}

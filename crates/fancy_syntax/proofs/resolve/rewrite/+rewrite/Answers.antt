@@ -66,7 +66,7 @@ rewrite_all-rewrite-requires t c =
           (arith, count_two (rest es i) (items (view e)) (rest es (i + 1)) step, c.loop-i.invariant.2),
     )
 
--- a tree that can hold no item is passed over: it stays, and so does what is noted
+-- a tree that can contain no item is skipped: it stays, and so does what is recorded
 pub rewrite_all-loop-i-preserved : goal.rewrite_all-loop-i-preserved
 rewrite_all-loop-i-preserved t c =
     let es = c.args.trees.now.items in let i = c.loop-i.i in let now = c.loop-i.trees.items in
@@ -131,7 +131,7 @@ rewrite_all-returns t c =
       ap (progress_after k p) (sym (rest_none es i (omega arith))) ∙ c.loop-i.invariant.1,
     )
 
--- a part behind others is resolved behind the groups of these
+-- a part after others is resolved after their groups
 
 pub rewrite-returns-in_ok-rewrite_child-in-Conditional-2 :
     goal.rewrite-returns-in_ok-rewrite_child-in-Conditional-2
@@ -152,7 +152,7 @@ rewrite_absent-returns-in_ok-rewrite_child-in-Expression t c =
     two_resolved (known_of c.args.known.now) (progress_of c.args.progress.now) (progress_of one.new.progress) two.result
     two.new.progress one.new.child two.new.child c.in-Expression.is first.1 first.0 two.ensures
 
--- the walk stops at the first fault, which is that of the walk over all the parts
+-- the walk stops at the first error, which is that of the walk over all the parts
 
 pub rewrite-returns-in_err-rewrite_child-in-Conditional :
     goal.rewrite-returns-in_err-rewrite_child-in-Conditional

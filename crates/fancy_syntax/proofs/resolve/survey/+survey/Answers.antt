@@ -65,7 +65,7 @@ survey_all-survey-requires t c =
     let step : rest es i ≡ l ++ rest es (i + 1) = rest_next es i c.tree-item.result (omega arith) (cc) in
     (search (rules, the_lemmas), omega (arith, count_two (rest es i) l (rest es (i + 1)) step, c.loop-tree.invariant.1))
 
--- a tree that can hold no item is passed over: the walk over its items, of which there are none, stays where it was
+-- a tree that can contain no item is skipped: the walk over its items, of which there are none, stays where it was
 pub survey_all-loop-tree-preserved : goal.survey_all-loop-tree-preserved
 survey_all-loop-tree-preserved t c =
     let es = c.args.trees.now in let i = c.loop-tree.tree-index in let l = items (view c.tree-item.result) in
