@@ -6,9 +6,19 @@ use std::io::BufWriter;
 use std::process::ExitCode;
 use std::{env, io};
 
+/// The arguments after the program's name. Each refused request is an error here: `collect` would first request capacity
+/// for all of them, and do with less.
+fn words_after_name(rt: &HostRuntime) -> io::Result<Vec<String>> {
+    let mut words = Vec::new(rt.alloc());
+    for word in env::args(rt)?.skip(1) {
+        words.push(word)?;
+    }
+    Ok(words)
+}
+
 /// Runs the program on the arguments after its name; an error if memory runs out for them.
 fn run(rt: &HostRuntime) -> io::Result<u8> {
-    let words: Vec<String> = env::args(rt)?.skip(1).collect(rt.alloc())?;
+    let words = words_after_name(rt)?;
     let mut out = BufWriter::new(rt.alloc(), rt.stdout())?;
     Ok(fre_run(rt.alloc(), &words, &mut out, &mut rt.stderr()))
 }

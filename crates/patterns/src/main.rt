@@ -32,9 +32,19 @@ fn paints_of(rt: &HostRuntime, terminals: Terminals) -> Result<Paints, AllocErro
     })
 }
 
+/// The arguments. Each refused request is an error here: `collect` would first request capacity for all of them, and do
+/// with less.
+fn arguments(rt: &HostRuntime) -> io::Result<Vec<String>> {
+    let mut words = Vec::new(rt.alloc());
+    for word in env::args(rt)? {
+        words.push(word)?;
+    }
+    Ok(words)
+}
+
 /// Runs the program on its arguments; an error if memory runs out for them.
 fn run(rt: &HostRuntime) -> io::Result<u8> {
-    let words: Vec<String> = env::args(rt)?.collect(rt.alloc())?;
+    let words = arguments(rt)?;
     let mut out = BufWriter::new(rt.alloc(), rt.stdout())?;
     let host = Host { rt };
     let auto = paints_of(rt, host.terminals())?;
