@@ -118,7 +118,7 @@ impl<C: Clock, O: Write, E: Write> FileRun<'_, C, O, E> {
     }
 
     /// Does the verb's work on a pattern.
-    fn answer_pattern(&mut self, pattern: &str, at: Location<'_>) -> Result<Outcome, Fault> {
+    fn answer_pattern<'p>(&mut self, pattern: &'p str, at: Location<'p>) -> Result<Outcome, Fault> {
         let subject = Subject {
             alloc: self.alloc,
             flags: self.job.flags,
@@ -163,7 +163,7 @@ impl<C: Clock, O: Write, E: Write> FileRun<'_, C, O, E> {
     }
 
     /// Does the verb's work on a line.
-    fn answer_line(&mut self, line: &[u8], at: Location<'_>) -> Result<Outcome, Fault> {
+    fn answer_line<'p>(&mut self, line: &'p [u8], at: Location<'p>) -> Result<Outcome, Fault> {
         match str::from_utf8(line) {
             Ok(pattern) => self.answer_pattern(pattern, at),
             Err(_) => {
