@@ -51,6 +51,4 @@ fn main(rt: HostRuntime) -> ExitCode {
 #[cfg(test)]
 mod memory;
 #[cfg(test)]
-mod progress;
-#[cfg(test)]
 mod tests;
