@@ -1,7 +1,7 @@
 """Runs of the programs, for `.ci/pages` and `.ci/patterns`.
 
-A program is that which `rt ci` left, or is built anew; or, for `--try`, built without proof. What it reads and writes is
-UTF-8 here, with each other byte as a surrogate.
+A program is that which `rt ci` left, or is built anew; or, for `--try`, built without proof. What it reads and writes
+is UTF-8 here, with each other byte as a surrogate.
 """
 import os
 import re

@@ -4,6 +4,7 @@
 
 mod fault;
 pub mod flag_word;
+pub mod hex;
 pub mod names;
 pub mod program;
 mod report;

@@ -1,4 +1,4 @@
-//! The names of the variants of a tree, as `Expr` has them.
+//! The names of the variants of a tree, as `Expr` has them, and a field that several assertions have.
 use fancy_lex::escape::Assertion;
 use fancy_syntax::expr::{Absent, BacktrackingControlVerb, Expr, LookAround};
 
@@ -47,6 +47,24 @@ pub fn assertion_name(assertion: Assertion) -> &'static str {
         Assertion::RightWordHalfBoundary => "RightWordHalfBoundary",
         Assertion::WordBoundary => "WordBoundary",
         Assertion::NotWordBoundary => "NotWordBoundary",
+    }
+}
+
+/// Returns whether CR is a line terminator too for an assertion; `None` if the variant has no such field.
+pub fn crlf_of(assertion: Assertion) -> Option<bool> {
+    match assertion {
+        Assertion::EndTextIgnoreTrailingNewlines { crlf }
+        | Assertion::StartLine { crlf }
+        | Assertion::StartLineOniguruma { crlf }
+        | Assertion::EndLine { crlf } => Some(crlf),
+        Assertion::StartText
+        | Assertion::EndText
+        | Assertion::LeftWordBoundary
+        | Assertion::LeftWordHalfBoundary
+        | Assertion::RightWordBoundary
+        | Assertion::RightWordHalfBoundary
+        | Assertion::WordBoundary
+        | Assertion::NotWordBoundary => None,
     }
 }
 

@@ -1,5 +1,6 @@
 //! The lines that show what a pattern is read as. Each ends with LF.
-use crate::names::{absent_name, assertion_name, look_around_name, node_name, verb_name};
+use crate::hex::Hex;
+use crate::names::{absent_name, assertion_name, crlf_of, look_around_name, node_name, verb_name};
 use fancy_lex::escape::Assertion;
 use fancy_lex::name::CaptureGroupTarget;
 use fancy_syntax::expr::{AstNode, Expr};
@@ -7,22 +8,6 @@ use fancy_syntax::tree::ExprTree;
 use std::collections::{BTreeMap, BTreeSet};
 use std::io::Write;
 use std::{fmt, io};
-
-/// Bytes in hexadecimal, `-` if there are none.
-#[derive(Clone, Copy)]
-struct Hex<'a>(&'a [u8]);
-
-impl fmt::Display for Hex<'_> {
-    fn fmt<W: fmt::Write>(&self, f: &mut fmt::Formatter<W>) -> fmt::Result {
-        if self.0.is_empty() {
-            return f.write_str("-");
-        }
-        for byte in self.0 {
-            write!(f, "{byte:02x}")?;
-        }
-        Ok(())
-    }
-}
 
 /// A value, or `none`.
 #[derive(Clone, Copy)]
@@ -101,17 +86,6 @@ impl fmt::Display for Target<'_> {
             CaptureGroupTarget::ByName(name) => write!(f, "name:{}", Hex(name.as_bytes())),
             CaptureGroupTarget::Relative(amount) => write!(f, "relative:{amount}"),
         }
-    }
-}
-
-/// The field of an assertion that has one.
-fn crlf_of(assertion: Assertion) -> Option<bool> {
-    match assertion {
-        Assertion::EndTextIgnoreTrailingNewlines { crlf }
-        | Assertion::StartLine { crlf }
-        | Assertion::StartLineOniguruma { crlf }
-        | Assertion::EndLine { crlf } => Some(crlf),
-        _ => None,
     }
 }
 

@@ -61,6 +61,4 @@ fn main(rt: HostRuntime) -> ExitCode {
 #[cfg(test)]
 mod memory;
 #[cfg(test)]
-mod progress;
-#[cfg(test)]
 mod tests;

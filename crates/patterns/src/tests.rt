@@ -14,8 +14,8 @@ struct Ending {
     err: Limited,
 }
 
-/// Runs the program on the words and the standard input `(`, where so many bytes can be written on each output, and `auto`
-/// says which has colours.
+/// Runs the program on the words and the standard input `(`, where so many bytes can be written on each output, and
+/// `auto` says which has colours.
 fn run(alloc: Global, auto: Paints, words: &[&str], room: usize) -> Result<Ending, Fail> {
     let mut owned = Vec::new(alloc);
     for word in words {

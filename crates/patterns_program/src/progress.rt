@@ -1,4 +1,4 @@
-//! The line on a terminal that says how far a run is.
+//! The line on a terminal that says how far a run is. `.ci/patterns` tests it on one.
 ghost use Rattle.std.specs.Prelude.{◌≡◌, ◌+◌, ◌++◌, ◌≤◌, ◌↔◌, IsTrue, IsNone, IfSome, OnOk, false};
 ghost use Rattle.std.specs.Io.KnownBytes.{Appends, Keeps};
 ghost use Rattle.std.specs.Time.{instant_nanos};
@@ -6,9 +6,9 @@ ghost use Rattle.patterns_program.specs.Progress.{erasure_if};
 
 use crate::sources::Sources;
 use crate::tally::{Counted, Tally, Thousands};
+use std::io;
 use std::io::Write;
 use std::time::{Clock, Duration, Instant};
-use std::{fmt, io};
 
 /// Which of the two outputs are terminals.
 #[derive(Clone, Copy)]
@@ -23,17 +23,8 @@ pub trait System: Sources + Clock {
     fn terminals(&self) -> Terminals;
 }
 
-/// How long a run takes before the line is shown.
-const DELAY_SECONDS: u64 = 1;
-
-/// How long a line stays as it is.
-const PAUSE_MILLISECONDS: u64 = 100;
-
 /// How many bytes of patterns are done from one question for the time to the next.
 const STEP: usize = 8192;
-
-/// What erases the line that the cursor is in.
-const ERASURE: &str = "\r\x1b[K";
 
 /// An output. The line, which may be below what has been written to it, is erased before more is.
 #[derive(Drop)]
@@ -43,44 +34,24 @@ pub(crate) struct Output<'a, W> {
     has_line: bool,
 }
 
-impl<'a, W> Output<'a, W> {
-    /// Without the line.
-    fn new(stream: &'a mut W) -> Output<'a, W> {
-        Output {
-            stream,
-            has_line: false,
-        }
-    }
-}
-
 impl<W: Write> Output<'_, W> {
-    /// Erases the line.
-    fn erase(&mut self) -> io::Result<()>
-        ensures erased { OnOk result (Appends (W.contents self.old.stream.now) (W.contents self.new.stream.now)
-            (erasure_if self.old.has_line)) }
-        ensures gone { OnOk result (self.new.has_line ≡ false) }
-    {
-        if self.has_line {
-            self.stream.write_all(ERASURE.as_bytes())?;
-            self.has_line = false;
-        }
-        Ok(())
-    }
-
     /// Erases the line, and writes the bytes.
     fn put(&mut self, bytes: &[u8]) -> io::Result<()>
         ensures written { OnOk result (Appends (W.contents self.old.stream.now) (W.contents self.new.stream.now)
             (erasure_if self.old.has_line ++ bytes.now)) }
         ensures gone { OnOk result (self.new.has_line ≡ false) }
     {
-        self.erase()?;
+        if self.has_line {
+            self.stream.write_all(b"\r\x1b[K")?;
+            self.has_line = false;
+        }
         self.stream.write_all(bytes)
     }
 }
 
 impl<W: Write> Write for Output<'_, W> {
     fn write(&mut self, bytes: &[u8]) -> io::Result<usize> {
-        self.erase()?;
+        self.put(b"")?;
         self.stream.write(bytes)
     }
 
@@ -93,61 +64,28 @@ impl<W: Write> Write for Output<'_, W> {
     }
 }
 
-/// How far a run is, as the line says it.
-#[derive(Clone, Copy)]
-struct Progress {
-    done: u64,
-    files: u64,
-    patterns: u64,
+/// When the line of a run that begins at a time is due first: after a second.
+fn first_due(begin: Instant) -> Option<Instant>
+    ensures later { IfSome result (λ time. instant_nanos time ≡ instant_nanos begin + 1_000_000_000) }
+{
+    begin.checked_add(Duration::from_secs(1))
 }
 
-impl fmt::Display for Progress {
-    fn fmt<W: fmt::Write>(&self, f: &mut fmt::Formatter<W>) -> fmt::Result {
-        let files = Counted(self.files, "file");
-        let patterns = Counted(self.patterns, "pattern");
-        write!(f, "{} of {files}, {patterns}", Thousands(self.done))
+/// Whether the line is due at a time. If so, it is due again after a tenth of a second. Without a time it never is.
+fn strikes(due: &mut Option<Instant>, now: Instant) -> bool
+    ensures due { IfSome due.entry.now (λ time. IsTrue result ↔ (instant_nanos time ≤ instant_nanos now)) }
+    ensures never { IsNone due.entry.now → result ≡ false }
+    ensures later { IsTrue result → IfSome due.new (λ time. instant_nanos time ≡ instant_nanos now + 100_000_000) }
+    ensures waits { result ≡ false → due.new ≡ due.old }
+{
+    let Some(time) = *due else {
+        return false;
+    };
+    if now.checked_duration_since(time).is_none() {
+        return false;
     }
-}
-
-/// When the line is shown next.
-#[derive(Clone, Copy)]
-struct Timer {
-    /// Never, if none.
-    due: Option<Instant>,
-}
-
-impl Timer {
-    /// That of a run which begins at a time; none where it is not known.
-    fn start(now: Option<Instant>) -> Timer
-        ensures never { IsNone now → IsNone result.due }
-        ensures later { IfSome now (λ begin. IfSome result.due (λ time.
-            instant_nanos time ≡ instant_nanos begin + 1_000_000_000)) }
-    {
-        match now {
-            Some(begin) => Timer {
-                due: begin.checked_add(Duration::from_secs(DELAY_SECONDS)),
-            },
-            None => Timer { due: None },
-        }
-    }
-
-    /// Whether the line is due at a time. If so, it is due again after a pause.
-    fn strikes(&mut self, now: Instant) -> bool
-        ensures due { IfSome self.old.due (λ time. IsTrue result ↔ (instant_nanos time ≤ instant_nanos now)) }
-        ensures never { IsNone self.old.due → result ≡ false }
-        ensures later { IsTrue result → IfSome self.new.due (λ time.
-            instant_nanos time ≡ instant_nanos now + 100_000_000) }
-        ensures waits { result ≡ false → self.new.due ≡ self.old.due }
-    {
-        let Some(time) = self.due else {
-            return false;
-        };
-        if now.checked_duration_since(time).is_none() {
-            return false;
-        }
-        self.due = now.checked_add(Duration::from_millis(PAUSE_MILLISECONDS));
-        true
-    }
+    *due = now.checked_add(Duration::from_millis(100));
+    true
 }
 
 /// The outputs of a run over files, and the line that says how far it is.
@@ -157,7 +95,8 @@ pub(crate) struct Screen<'a, C, O, E> {
     pub(crate) err: Output<'a, E>,
     is_out_terminal: bool,
     clock: &'a C,
-    timer: Timer,
+    /// When the line is shown next: never, if none.
+    due: Option<Instant>,
     /// How many bytes of patterns are done since the clock was asked.
     bytes: usize,
     files: u64,
@@ -173,20 +112,25 @@ impl<'a, S: System, O: Write, E: Write> Screen<'a, S, O, E> {
         out: &'a mut O,
         err: &'a mut E,
     ) -> Screen<'a, S, O, E>
-        ensures quiet { IsTrue is_quiet → IsNone result.timer.due }
+        ensures quiet { IsTrue is_quiet → IsNone result.due }
     {
         let terminals = system.terminals();
-        let begin = if is_quiet || !terminals.err {
-            None
-        } else {
-            Instant::now(system).ok()
+        let due = match Instant::now(system) {
+            Ok(begin) if terminals.err && !is_quiet => first_due(begin),
+            _ => None,
         };
         Screen {
-            out: Output::new(out),
-            err: Output::new(err),
+            out: Output {
+                stream: out,
+                has_line: false,
+            },
+            err: Output {
+                stream: err,
+                has_line: false,
+            },
             is_out_terminal: terminals.out,
             clock: system,
-            timer: Timer::start(begin),
+            due,
             bytes: 0,
             files: files as u64,
             done: 0,
@@ -202,28 +146,23 @@ impl<C: Clock, O: Write, E: Write> Screen<'_, C, O, E> {
             self.out.has_line = true;
         }
         self.err.has_line = true;
-        let progress = Progress {
-            done: self.done,
-            files: self.files,
-            patterns,
-        };
-        write!(self.err.stream, "\r{progress}\x1b[K")?;
+        let done = Thousands(self.done);
+        let files = Counted(self.files, "file");
+        let patterns = Counted(patterns, "pattern");
+        write!(self.err.stream, "\r{done} of {files}, {patterns}\x1b[K")?;
         self.err.stream.flush()
     }
 
     /// Shows the line if it is due. No line is if the clock cannot be read.
     fn show_if_due(&mut self, tally: &Tally) -> io::Result<()>
-        ensures silent { IsNone self.old.timer.due →
+        ensures silent { IsNone self.old.due →
             Keeps (E.contents self.old.err.stream.now) (E.contents self.new.err.stream.now) }
-        ensures never { IsNone self.old.timer.due → IsNone self.new.timer.due }
+        ensures never { IsNone self.old.due → IsNone self.new.due }
     {
-        if self.timer.due.is_none() {
-            return Ok(());
-        }
         let Ok(now) = Instant::now(self.clock) else {
             return Ok(());
         };
-        if !self.timer.strikes(now) {
+        if !strikes(&mut self.due, now) {
             return Ok(());
         }
         self.show(tally.patterns)
@@ -231,19 +170,19 @@ impl<C: Clock, O: Write, E: Write> Screen<'_, C, O, E> {
 
     /// Goes on to the file that so many are done before.
     pub(crate) fn begin_file(&mut self, done: usize, tally: &Tally) -> io::Result<()>
-        ensures silent { IsNone self.old.timer.due →
+        ensures silent { IsNone self.old.due →
             Keeps (E.contents self.old.err.stream.now) (E.contents self.new.err.stream.now) }
-        ensures never { IsNone self.old.timer.due → IsNone self.new.timer.due }
+        ensures never { IsNone self.old.due → IsNone self.new.due }
     {
         self.done = done as u64;
         self.show_if_due(tally)
     }
 
-    /// Goes on from a pattern that has so many bytes.
+    /// Goes on from a pattern that has so many bytes. The clock is asked once in 8 KiB.
     pub(crate) fn end_pattern(&mut self, bytes: usize, tally: &Tally) -> io::Result<()>
-        ensures silent { IsNone self.old.timer.due →
+        ensures silent { IsNone self.old.due →
             Keeps (E.contents self.old.err.stream.now) (E.contents self.new.err.stream.now) }
-        ensures never { IsNone self.old.timer.due → IsNone self.new.timer.due }
+        ensures never { IsNone self.old.due → IsNone self.new.due }
     {
         self.bytes = self.bytes.saturating_add(bytes).saturating_add(1);
         if self.bytes < STEP {

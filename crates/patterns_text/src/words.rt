@@ -4,6 +4,7 @@ use crate::place::Cut;
 use fancy_lex::escape::Assertion;
 use fancy_lex::name::CaptureGroupTarget;
 use fancy_syntax::expr::{Absent, AstNode, BacktrackingControlVerb, Expr, LookAround};
+use fre_program::hex::Hex;
 use std::io::Write;
 use std::{fmt, io};
 
@@ -134,20 +135,6 @@ impl fmt::Display for Times {
             (least, most) if least == most => write!(f, "{least} times"),
             (least, most) => write!(f, "{least} to {most} times"),
         }
-    }
-}
-
-/// Bytes in hexadecimal, separated by spaces.
-#[derive(Clone, Copy)]
-struct Hex<'a>(&'a [u8]);
-
-impl fmt::Display for Hex<'_> {
-    fn fmt<W: fmt::Write>(&self, f: &mut fmt::Formatter<W>) -> fmt::Result {
-        for (i, byte) in self.0.iter().enumerate() {
-            let blank = if i > 0 { " " } else { "" };
-            write!(f, "{blank}{byte:02x}")?;
-        }
-        Ok(())
     }
 }
 
