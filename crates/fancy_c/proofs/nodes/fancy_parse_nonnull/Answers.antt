@@ -1,3 +1,4 @@
+use Rattle.std.proofs.Common.{sym}
 use Rattle.fancy_syntax.specs.Answer.{marks_of}
 use Rattle.fancy_syntax.specs.View.{view}
 use Rattle.fancy_c.proofs.NodesLemmas.{told_of}

@@ -102,7 +102,7 @@ put_tree-returns-clause-nodes t c =
       end = c.put_children-behind.result.rows;
       text = c.start_of_text.result;
       span = s;
-    }) tree)) c.at.ensures
+    }) tree)) c.span_at.ensures
     ∙ row_put spans tree c.args.nodes.now c.put_children-behind.new.nodes n c.args.before.text
     c.put_children-behind.result.rows _ put.behind
     (c.start_of_text.ensures ∙ ap (start_of_text c.args.before.text) c.carried-text.ensures) c.requires.nodes_room

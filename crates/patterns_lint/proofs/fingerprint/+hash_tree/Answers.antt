@@ -3,7 +3,7 @@ use Rattle.fancy_syntax.specs.Children.{remaining_children}
 use Rattle.fancy_syntax.specs.Tree.{levels}
 use Rattle.fancy_syntax.specs.View.{view, views}
 use Rattle.fancy_syntax.proofs.Descents.{sweep_start, sweep_head, sweep_next, levels_of_child}
-use Rattle.patterns_program.proofs.lint.fingerprint.+hash_tree.Goals as goal
+use Rattle.patterns_lint.proofs.fingerprint.+hash_tree.Goals as goal
 
 pub loop-child-init : goal.loop-child-init
 loop-child-init t c =

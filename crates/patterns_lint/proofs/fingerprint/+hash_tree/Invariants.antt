@@ -2,7 +2,7 @@ use Rattle.fancy_syntax.specs.Children.{remaining_children}
 use Rattle.fancy_syntax.specs.Tree.{levels}
 use Rattle.fancy_syntax.specs.View.{view}
 use Rattle.fancy_syntax.proofs.Descents.{Sweep}
-use Rattle.patterns_program.proofs.lint.fingerprint.+hash_tree.Given as goal
+use Rattle.patterns_lint.proofs.fingerprint.+hash_tree.Given as goal
 
 abbrev pub decreases-hash_tree : goal.decreases-hash_tree
 decreases-hash_tree l = levels (view l.tree.now)
