@@ -23,6 +23,7 @@ use patterns_text::fault::Fault;
 use patterns_text::paint::Ink;
 use patterns_text::place::write_refusal;
 use patterns_text::subject::Subject;
+use std::alloc::Global;
 use std::io;
 use std::io::Write;
 
@@ -58,17 +59,22 @@ fn breaks_line(text: &str, pattern: &str) -> bool
 
 /// The text of the pattern's tree, for the pattern's line. None if it would break the line: the pattern itself is written
 /// then.
-fn text_of(subject: Subject<'_>, tree: &ExprTree) -> Result<Option<String>, Fault>
-    ensures some { IfOk result (λ text. IfSome text (λ s. let given = subject.entry in
-        IsLineOf (flags_of given.flags) given.pattern.now (view tree.now.expr) (marks_of tree.now) (string_bytes s))) }
-    ensures none { IfOk result (λ text. IfNone text (let given = subject.entry in
-        IsTreeOf (flags_of given.flags) (chars given.pattern.now) (view tree.now.expr) (marks_of tree.now) →
-        HasNoLine (flags_of given.flags) given.pattern.now (view tree.now.expr) (marks_of tree.now))) }
+fn text_of(
+    alloc: Global,
+    flags: u32,
+    pattern: &str,
+    tree: &ExprTree,
+) -> Result<Option<String>, Fault>
+    ensures some { IfOk result (λ text. IfSome text (λ s.
+        IsLineOf (flags_of flags) pattern.now (view tree.now.expr) (marks_of tree.now) (string_bytes s))) }
+    ensures none { IfOk result (λ text. IfNone text
+        (IsTreeOf (flags_of flags) (chars pattern.now) (view tree.now.expr) (marks_of tree.now) →
+        HasNoLine (flags_of flags) pattern.now (view tree.now.expr) (marks_of tree.now))) }
 {
-    let Some(text) = to_pattern(subject.alloc, tree, subject.flags)? else {
+    let Some(text) = to_pattern(alloc, tree, flags)? else {
         return Ok(None);
     };
-    if breaks_line(text.as_str(), subject.pattern) {
+    if breaks_line(text.as_str(), pattern) {
         return Ok(None);
     }
     Ok(Some(text))
@@ -120,7 +126,7 @@ pub(crate) fn format_pattern<O: Write, E: Write>(
         write_ended(text.out, subject.pattern, ending)?;
         return Ok(Outcome::Refused);
     }
-    match text_of(subject, &parsed.tree)? {
+    match text_of(subject.alloc, subject.flags, subject.pattern, &parsed.tree)? {
         Some(line) => write_ended(text.out, line.as_str(), ending)?,
         None => write_ended(text.out, subject.pattern, ending)?,
     }
@@ -160,7 +166,7 @@ pub(crate) fn is_formatted<O: Write, E: Write>(
     if keeps_comment(subject, &parsed, comments, text.err)? {
         return Ok(Outcome::Refused);
     }
-    let Some(line) = text_of(subject, &parsed.tree)? else {
+    let Some(line) = text_of(subject.alloc, subject.flags, subject.pattern, &parsed.tree)? else {
         return Ok(Outcome::Good);
     };
     if line.as_str() != subject.pattern {

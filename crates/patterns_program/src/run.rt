@@ -97,6 +97,60 @@ fn unread<E: Write>(file: &str, error: io::Error, err: &mut E) -> Result<Outcome
     Ok(Outcome::Unread)
 }
 
+/// Does the verb's work on a pattern.
+fn answer<O: Write, E: Write>(
+    subject: Subject<'_>,
+    job: Job<'_>,
+    out: &mut O,
+    err: &mut E,
+    tally: &mut Tally,
+) -> Result<Outcome, Fault> {
+    let verb = job.verb;
+    match verb {
+        Verb::Check => check(subject, &mut Text::new(out, err, verb.errors())),
+        Verb::Format(kept) => {
+            let ending = job.form.ending();
+            format_pattern(
+                subject,
+                ending,
+                kept,
+                &mut Text::new(out, err, verb.errors()),
+            )
+        }
+        Verb::IsFormatted(kept) => {
+            is_formatted(
+                subject,
+                kept,
+                &mut Text::new(out, err, verb.errors()),
+                tally,
+            )
+        }
+        Verb::Groups => list_groups(subject, &mut Text::new(out, err, verb.errors())),
+        Verb::Lint(chosen) => {
+            lint(
+                subject,
+                &chosen,
+                &mut Text::new(out, err, verb.errors()),
+                tally,
+            )
+        }
+        Verb::Json(Report::Check) => check(subject, &mut Json { out }),
+        Verb::Json(Report::Groups) => list_groups(subject, &mut Json { out }),
+        Verb::LintJson(chosen) => lint(subject, &chosen, &mut Json { out }, tally),
+    }
+}
+
+/// The same, on a screen.
+fn answer_on<C: Clock, O: Write, E: Write>(
+    subject: Subject<'_>,
+    job: Job<'_>,
+    screen: &mut Screen<'_, C, O, E>,
+    tally: &mut Tally,
+) -> Result<Outcome, Fault> {
+    let Screen { out, err, .. } = screen;
+    answer(subject, job, out, err, tally)
+}
+
 /// A run over files.
 #[derive(Drop)]
 struct FileRun<'a, C, O, E> {
@@ -125,41 +179,7 @@ impl<C: Clock, O: Write, E: Write> FileRun<'_, C, O, E> {
             at,
             pattern,
         };
-        let verb = self.job.verb;
-        let tally = &mut self.tally;
-        let Screen { out, err, .. } = &mut self.screen;
-        match verb {
-            Verb::Check => check(subject, &mut Text::new(out, err, verb.errors())),
-            Verb::Format(kept) => {
-                let ending = self.job.form.ending();
-                format_pattern(
-                    subject,
-                    ending,
-                    kept,
-                    &mut Text::new(out, err, verb.errors()),
-                )
-            }
-            Verb::IsFormatted(kept) => {
-                is_formatted(
-                    subject,
-                    kept,
-                    &mut Text::new(out, err, verb.errors()),
-                    tally,
-                )
-            }
-            Verb::Groups => list_groups(subject, &mut Text::new(out, err, verb.errors())),
-            Verb::Lint(chosen) => {
-                lint(
-                    subject,
-                    &chosen,
-                    &mut Text::new(out, err, verb.errors()),
-                    tally,
-                )
-            }
-            Verb::Json(Report::Check) => check(subject, &mut Json { out }),
-            Verb::Json(Report::Groups) => list_groups(subject, &mut Json { out }),
-            Verb::LintJson(chosen) => lint(subject, &chosen, &mut Json { out }, tally),
-        }
+        answer_on(subject, self.job, &mut self.screen, &mut self.tally)
     }
 
     /// Does the verb's work on a line.

@@ -1,7 +1,8 @@
-use Rattle.std.proofs.Common.{◌≡◌, ◌∙◌, ap, sym, ℕ, List, true, String, Global, string_bytes}
+use Rattle.std.proofs.Common.{◌≡◌, ◌∙◌, ◌<◌, ◌^◌, ap, sym, arith, chars, ℕ, List, true, String, Global, string_bytes}
 use Rattle.std.specs.Prelude.{encode_utf8_all}
 use Rattle.std.proofs.lemmas.Str.{encodes-chars, IsUtf8-string_bytes}
-use Rattle.fancy_lex.specs.Text.{Text, text_of}
+use Rattle.fancy_lex.proofs.TextLemmas.{bytes_chars}
+use Rattle.fancy_lex.specs.Text.{Text, bytes, text_of}
 use Rattle.patterns_program.specs.Line.{breaks_line}
 use Rattle.patterns_program.proofs.printing.text_of.Goals as goal
 
@@ -15,5 +16,12 @@ breaks s t w pattern text bytes is =
 pub returns-then-breaks_line-clause-none : goal.returns-then-breaks_line-clause-none
 returns-then-breaks_line-clause-none c =
     let text = rw c.in-Some.is at c.in_ok-text.ensures.text in
-    λ parsed. (breaks c.in-Some.text _ c.as_str.result.now c.args.subject.pattern.now text c.as_str.ensures.value
+    λ parsed. (breaks c.in-Some.text _ c.as_str.result.now c.args.pattern.now text c.as_str.ensures.value
     (sym c.breaks_line.ensures ∙ c.if-breaks_line.true))
+
+pub returns-in_default-clause-none : goal.returns-in_default-clause-none
+returns-in_default-clause-none c = λ parsed.
+    let none = rw c.in_default.is at c.in_ok-text.ensures.parsed in
+    let pattern = c.args.pattern.now in
+    let few : bytes (chars pattern) < 2 ^ 63 = omega (arith, bytes_chars pattern c.utf8.pattern) in
+    absurd (none (chars pattern, parsed, few))
