@@ -41,126 +41,118 @@ fn explain_flags<E: Write>(err: &mut E) -> Result<u8, Fault> {
     Ok(MISUSED)
 }
 
-/// Draws the tree of a pattern, in lines of text or as a picture.
-fn answer_pattern<O: Write, E: Write>(
-    alloc: Global,
-    name: &str,
-    flags: u32,
-    pattern: &str,
-    matches: &ArgMatches<'_>,
-    out: &mut O,
-    err: &mut E,
-) -> u8 {
-    if name == "picture" {
-        return draw_picture(alloc, flags, canvas_chosen(matches), pattern, out, err);
-    }
-    if matches.get_flag("json") {
-        return write_tree(alloc, flags, pattern, out, err);
-    }
-    draw_tree(alloc, flags, look_chosen(matches), pattern, out, err)
-}
-
-/// Runs a subcommand over files.
-fn answer_files<S: System, O: Write, E: Write>(
+/// A call of the program: what it reads from and writes to, and the colours where the arguments leave them open.
+#[derive(Drop)]
+struct Call<'a, S, O, E> {
     alloc: Global,
     auto: Paints,
-    verb: Verb,
-    flags: u32,
-    matches: &ArgMatches<'_>,
-    sources: &S,
-    out: &mut O,
-    err: &mut E,
-) -> Result<u8, Fault> {
-    let Some(files) = matches.get_strs("files") else {
-        return Ok(MISUSED);
-    };
-    let Some(paints) = paints_chosen(matches, auto) else {
-        writeln!(err, "patterns: --color takes auto, always or never")?;
-        return Ok(MISUSED);
-    };
-    let job = Job {
-        verb,
-        flags,
-        form: form_chosen(matches),
-        is_quiet: matches.get_flag("quiet"),
-        paints,
-    };
-    Ok(run(alloc, job, files, sources, out, err))
+    sources: &'a S,
+    out: &'a mut O,
+    err: &'a mut E,
 }
 
-/// Lists the rules of `lint`, or reports what they find in files.
-fn answer_lint<S: System, O: Write, E: Write>(
-    alloc: Global,
-    auto: Paints,
-    flags: u32,
-    matches: &ArgMatches<'_>,
-    sources: &S,
-    out: &mut O,
-    err: &mut E,
-) -> Result<u8, Fault> {
-    if matches.get_flag("rules") {
-        write_rules(out)?;
-        out.flush()?;
-        return Ok(0);
-    }
-    let chosen = match rules_chosen(matches) {
-        Ok(chosen) => chosen,
-        Err(name) => {
-            writeln!(
-                err,
-                "patterns: no rule is named {name}; lint --rules lists them"
-            )?;
-            return Ok(MISUSED);
+impl<S: System, O: Write, E: Write> Call<'_, S, O, E> {
+    /// Draws the tree of a pattern, in lines of text or as a picture.
+    fn answer_pattern(
+        &mut self,
+        name: &str,
+        flags: u32,
+        pattern: &str,
+        matches: &ArgMatches<'_>,
+    ) -> u8 {
+        let alloc = self.alloc;
+        if name == "picture" {
+            let canvas = canvas_chosen(matches);
+            return draw_picture(alloc, flags, canvas, pattern, self.out, self.err);
         }
-    };
-    let verb = if matches.get_flag("json") {
-        Verb::LintJson(chosen)
-    } else {
-        Verb::Lint(chosen)
-    };
-    answer_files(alloc, auto, verb, flags, matches, sources, out, err)
-}
-
-/// Runs a subcommand.
-fn answer_verb<S: System, O: Write, E: Write>(
-    alloc: Global,
-    auto: Paints,
-    name: &str,
-    matches: &ArgMatches<'_>,
-    sources: &S,
-    out: &mut O,
-    err: &mut E,
-) -> Result<u8, Fault> {
-    let Some(flags) = flags_chosen(matches) else {
-        return explain_flags(err);
-    };
-    if let Some(pattern) = matches.get_str("pattern") {
-        return Ok(answer_pattern(alloc, name, flags, pattern, matches, out, err));
+        if matches.get_flag("json") {
+            return write_tree(alloc, flags, pattern, self.out, self.err);
+        }
+        draw_tree(
+            alloc,
+            flags,
+            look_chosen(matches),
+            pattern,
+            self.out,
+            self.err,
+        )
     }
-    if name == "lint" {
-        return answer_lint(alloc, auto, flags, matches, sources, out, err);
-    }
-    let Some(verb) = verb_chosen(name, matches) else {
-        return Ok(MISUSED);
-    };
-    answer_files(alloc, auto, verb, flags, matches, sources, out, err)
-}
 
-/// Runs the subcommand that the arguments choose, or reports what is wrong with them.
-fn try_answer<S: System, O: Write, E: Write>(
-    alloc: Global,
-    auto: Paints,
-    words: &[String],
-    sources: &S,
-    out: &mut O,
-    err: &mut E,
-) -> Result<u8, Fault> {
-    match command(alloc)?.try_get_matches_from(words) {
-        Ok(matches) => match matches.subcommand() {
-            Some((name, chosen)) => answer_verb(alloc, auto, name, chosen, sources, out, err),
-            None => Ok(MISUSED),
-        },
-        Err(error) => explain(&error, out, err),
+    /// Runs a subcommand over files.
+    fn answer_files(
+        &mut self,
+        verb: Verb,
+        flags: u32,
+        matches: &ArgMatches<'_>,
+    ) -> Result<u8, Fault> {
+        let Some(files) = matches.get_strs("files") else {
+            return Ok(MISUSED);
+        };
+        let Some(paints) = paints_chosen(matches, self.auto) else {
+            writeln!(self.err, "patterns: --color takes auto, always or never")?;
+            return Ok(MISUSED);
+        };
+        let job = Job {
+            verb,
+            flags,
+            form: form_chosen(matches),
+            is_quiet: matches.get_flag("quiet"),
+            paints,
+        };
+        Ok(run(self.alloc, job, files, self.sources, self.out, self.err))
+    }
+
+    /// Lists the rules of `lint`, or reports what they find in files.
+    fn answer_lint(&mut self, flags: u32, matches: &ArgMatches<'_>) -> Result<u8, Fault> {
+        if matches.get_flag("rules") {
+            write_rules(self.out)?;
+            self.out.flush()?;
+            return Ok(0);
+        }
+        let chosen = match rules_chosen(matches) {
+            Ok(chosen) => chosen,
+            Err(name) => {
+                writeln!(
+                    self.err,
+                    "patterns: no rule is named {name}; lint --rules lists them"
+                )?;
+                return Ok(MISUSED);
+            }
+        };
+        let verb = if matches.get_flag("json") {
+            Verb::LintJson(chosen)
+        } else {
+            Verb::Lint(chosen)
+        };
+        self.answer_files(verb, flags, matches)
+    }
+
+    /// Runs a subcommand.
+    fn answer_verb(&mut self, name: &str, matches: &ArgMatches<'_>) -> Result<u8, Fault> {
+        let Some(flags) = flags_chosen(matches) else {
+            return explain_flags(self.err);
+        };
+        if let Some(pattern) = matches.get_str("pattern") {
+            return Ok(self.answer_pattern(name, flags, pattern, matches));
+        }
+        if name == "lint" {
+            return self.answer_lint(flags, matches);
+        }
+        let Some(verb) = verb_chosen(name, matches) else {
+            return Ok(MISUSED);
+        };
+        self.answer_files(verb, flags, matches)
+    }
+
+    /// Runs the subcommand that the arguments choose, or reports what is wrong with them.
+    fn answer(&mut self, words: &[String]) -> Result<u8, Fault> {
+        match command(self.alloc)?.try_get_matches_from(words) {
+            Ok(matches) => match matches.subcommand() {
+                Some((name, chosen)) => self.answer_verb(name, chosen),
+                None => Ok(MISUSED),
+            },
+            Err(error) => explain(&error, self.out, self.err),
+        }
     }
 }
 
@@ -175,8 +167,15 @@ pub(crate) fn answer<S: System, O: Write, E: Write>(
     out: &mut O,
     err: &mut E,
 ) -> u8 {
-    match try_answer(alloc, auto, words, sources, out, err) {
+    let mut call = Call {
+        alloc,
+        auto,
+        sources,
+        out,
+        err,
+    };
+    match call.answer(words) {
         Ok(status) => status,
-        Err(fault) => give_up(err, fault),
+        Err(fault) => give_up(call.err, fault),
     }
 }
