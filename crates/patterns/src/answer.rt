@@ -159,13 +159,13 @@ impl<S: System, O: Write, E: Write> Call<'_, S, O, E> {
 /// Does what the arguments ask, the program's name first, and returns the exit status: that of the run, or 0 if help
 /// was asked for, 2 if the arguments are wrong, and 3 if memory ran out or a write failed. Where the arguments leave it open,
 /// `auto` says which stream has colours.
-pub(crate) fn answer<S: System, O: Write, E: Write>(
+pub(crate) fn answer<'a, S: System, O: Write, E: Write>(
     alloc: Global,
     auto: Paints,
     words: &[String],
-    sources: &S,
-    out: &mut O,
-    err: &mut E,
+    sources: &'a S,
+    out: &'a mut O,
+    err: &'a mut E,
 ) -> u8 {
     let mut call = Call {
         alloc,
