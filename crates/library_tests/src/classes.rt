@@ -1,4 +1,4 @@
-//! Classes: those that no recorded pattern of `replay` has alone.
+//! Classes: those that no recorded pattern of `conformance` has alone.
 use crate::readers::Reader::Class;
 use crate::readers::{Row, first_wrong};
 use fancy_lex::flags::{FLAG_IGNORE_SPACE, FLAG_UNICODE};

@@ -1,4 +1,4 @@
-//! Escapes outside a class: those that no recorded pattern of `replay` has alone.
+//! Escapes outside a class: those that no recorded pattern of `conformance` has alone.
 use crate::readers::Reader::Escape;
 use crate::readers::{Row, first_wrong};
 use fancy_lex::flags::{

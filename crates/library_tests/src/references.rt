@@ -1,4 +1,4 @@
-//! Names and references: what no recorded result of `replay` shows.
+//! Names and references: what no recorded result of `conformance` shows.
 use crate::readers::Reader::{Name, Reference};
 use crate::readers::{Row, first_wrong};
 use std::alloc::AllocError;

@@ -1,0 +1,121 @@
+//! Replays recorded results of the original's program: `conformance FILE..` runs `fre` on each pattern of the files, compares
+//! what it writes byte by byte, and writes for each file how many results are the same. The status is 0 only if every
+//! line was replayed and no result is different. A run that ends before its last line, as one that is out of memory
+//! does, writes an error.
+#![tactic(auto)]
+
+mod comparison;
+mod nodes;
+mod record;
+mod texts;
+
+use anyhow::{Context, Result, bail, ensure};
+use comparison::{Answer, OUT_OF_MEMORY};
+use fancy_syntax::error::Error;
+use fancy_syntax::expr::Expr;
+use fre_program::flag_word::flags_named;
+use fre_program::program::fre_run;
+use nodes::read_tree;
+use record::{Printing, Reading, Record};
+use std::alloc::Global;
+use std::process::ExitCode;
+use std::rt::Files;
+use std::{env, fs};
+use texts::{is_written, replay_writing};
+
+/// What the program answers now; an error where memory was refused. It writes into room that is there, so that what is
+/// refused is no write.
+fn answer_now(alloc: Global, record: &Reading) -> Result<Answer> {
+    let recorded = &record.answer;
+    let mut out = Vec::with_capacity(alloc, recorded.out.len())?;
+    let mut err = Vec::with_capacity(alloc, recorded.err.len().max(OUT_OF_MEMORY.len()))?;
+    let status = fre_run(alloc, record.words.as_slice(), &mut out, &mut err);
+    let answer = Answer { status, out, err };
+    ensure!(
+        !answer.is_out_of_memory(&record.answer),
+        "memory was refused"
+    );
+    Ok(answer)
+}
+
+/// Whether a clone of the error says the same.
+fn is_cloned(alloc: Global, error: &Error) -> Result<bool> {
+    let copy = error.clone(alloc)?;
+    let said = format!(in alloc; "{error}")?;
+    Ok(format!(in alloc; "{copy}")? == said)
+}
+
+/// Whether a clone of the pattern's tree is equal to it, and the tree is written as a text that is read as it; or, where
+/// the pattern has a fault, whether a clone of its error says the same.
+fn is_kept(alloc: Global, record: &Reading) -> Result<bool> {
+    let [word, pattern] = &record.words;
+    let Some(flags) = flags_named(word.as_str()) else {
+        return Ok(true);
+    };
+    match Expr::parse_tree_with_flags(alloc, pattern.as_str(), flags) {
+        Ok(tree) => Ok(tree.clone(alloc)?.expr == tree.expr && is_written(alloc, &tree, flags)?),
+        Err(Error::OutOfMemory) => bail!("memory was refused"),
+        Err(error) => is_cloned(alloc, &error),
+    }
+}
+
+/// Whether a pattern is answered as recorded.
+fn replay_reading(alloc: Global, record: &Reading) -> Result<bool> {
+    Ok(is_kept(alloc, record)? && answer_now(alloc, record)?.is(&record.answer))
+}
+
+/// The text of the tree now, none where it is not printable. A refusal of memory for the text is said to be one, and
+/// leaves nothing of it.
+fn text_now(alloc: Global, tree: &Expr, precedence: u8) -> Result<Option<String>> {
+    if !tree.is_printable(alloc)? {
+        return Ok(None);
+    }
+    let mut text = String::new(alloc);
+    let printed = tree.to_str(&mut text, precedence);
+    ensure!(printed.is_ok() || text.is_empty(), "the buffer changed");
+    printed.context("no room for the text")?;
+    Ok(Some(text))
+}
+
+/// Whether a clone of the tree is equal to it, and printed as recorded.
+fn replay_printing(alloc: Global, record: &Printing) -> Result<bool> {
+    let tree = read_tree(alloc, record.lines.as_str())?;
+    let copy = tree.clone(alloc)?;
+    Ok(copy == tree && text_now(alloc, &copy, record.precedence)? == record.text)
+}
+
+/// Whether a line of a file is answered as recorded.
+fn replay_line(alloc: Global, line: &str) -> Result<bool> {
+    Ok(match Record::read(alloc, line)? {
+        Record::Reading(record) => replay_reading(alloc, &record)?,
+        Record::Writing(record) => replay_writing(alloc, &record)?,
+        Record::Printing(record) => replay_printing(alloc, &record)?,
+    })
+}
+
+/// Replays a file, writes its counts, and returns how many results are different.
+fn replay(rt: &(impl Files + Print + AllocGlobal), name: &str) -> Result<usize> {
+    let text = fs::read_to_string(rt, name).context(format_args!("reading {name}"))?;
+    let mut same = 0usize;
+    let mut different = 0usize;
+    for line in text.lines() {
+        if replay_line(rt.alloc(), line).context(format_args!("{name}: {line}"))? {
+            same = same.saturating_add(1);
+        } else {
+            different = different.saturating_add(1);
+            println!(rt; "{name}: different: {line}")?;
+        }
+    }
+    println!(rt; "{name}: {same} same, {different} different")?;
+    Ok(different)
+}
+
+fn main(rt: HostRuntime) -> Result<ExitCode> {
+    let mut status = ExitCode::SUCCESS;
+    for name in env::args(&rt)?.skip(1) {
+        if replay(&rt, name.as_str())? > 0 {
+            status = ExitCode::FAILURE;
+        }
+    }
+    Ok(status)
+}

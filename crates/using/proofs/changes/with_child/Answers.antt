@@ -1,7 +1,0 @@
-use Rattle.using.proofs.FormLemmas.{marks_kept}
-use Rattle.using.proofs.changes.with_child.Goals as goal
-
-pub returns : goal.returns
-returns c = record {
-  marks = marks_kept _ _ _ _ _ _ c.in_ok-tree.ensures.found c.in_ok-to_pattern.ensures.reads_back;
-}
