@@ -16,7 +16,7 @@ use crate::answer::{
 };
 use crate::marks::{Name, TreeInfo, count_names, put_backrefs, put_names};
 use crate::node::Node;
-use crate::read::read_with_spans;
+use crate::read::{Parsed, read_with_spans};
 use crate::rows::{Counts, count, put_tree};
 use fancy_syntax::span::Span;
 use fancy_syntax::tree::ExprTree;
@@ -98,16 +98,15 @@ fn tell(
     names: &mut [Name],
     backrefs: &mut [usize],
     info: &mut TreeInfo,
-    tree: &ExprTree,
-    spans: &[Span],
+    parsed: &Parsed,
 ) -> Answer
-    ensures read { result.status ≡ STATUS_OK → AreWritten (view tree.now.expr) (marks_of tree.now)
-        (span_at spans.now) nodes.old nodes.new
+    ensures read { result.status ≡ STATUS_OK → AreWritten (view parsed.now.tree.expr) (marks_of parsed.now.tree)
+        (span_at parsed.now.spans.items) nodes.old nodes.new
         texts.old texts.new names.old names.new backrefs.old backrefs.new }
     ensures short { result.status ≡ STATUS_BUFFER_TOO_SHORT → (length nodes.old < info.new.node_count)
         ⊎ ((length texts.old < info.new.texts_size)
         ⊎ ((length names.old < info.new.name_count) ⊎ (length backrefs.old < info.new.backref_count))) }
-    ensures info { info.new ≡ told (view tree.now.expr) (marks_of tree.now) }
+    ensures info { info.new ≡ told (view parsed.now.tree.expr) (marks_of parsed.now.tree) }
     ensures nodes_kept { result.status ≢ STATUS_OK → nodes.new ≡ nodes.old }
     ensures texts_kept { result.status ≢ STATUS_OK → texts.new ≡ texts.old }
     ensures names_kept { result.status ≢ STATUS_OK → names.new ≡ names.old }
@@ -117,7 +116,7 @@ fn tell(
     ensures no_position { result.position ≡ 0 }
     ensures no_size { result.size ≡ 0 }
 {
-    let told = info_told(tree);
+    let told = info_told(&parsed.tree);
     *info = told;
     if !fits(told, nodes.len(), texts.len(), names.len(), backrefs.len()) {
         return Answer {
@@ -127,7 +126,7 @@ fn tell(
             size: 0,
         };
     }
-    put_all(nodes, texts, names, backrefs, tree, spans);
+    put_all(nodes, texts, names, backrefs, &parsed.tree, &parsed.spans);
     Answer {
         status: STATUS_OK,
         kind: ERROR_NONE,
@@ -174,7 +173,7 @@ pub extern "C" fn fancy_parse_nonnull(
     ensures no_size { result.size ≡ 0 }
 {
     match read_with_spans(alloc, pattern, flags) {
-        Ok((tree, spans)) => tell(nodes, texts, names, backrefs, info, &tree, spans.as_slice()),
+        Ok(parsed) => tell(nodes, texts, names, backrefs, info, &parsed),
         Err(refusal) => refusal.answer(),
     }
 }

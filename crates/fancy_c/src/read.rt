@@ -82,19 +82,22 @@ pub(crate) fn read(alloc: Global, pattern: &[u8], flags: u32) -> Result<ExprTree
     }
 }
 
+/// A parsed tree with the spans of its nodes, in preorder.
+#[derive(Drop)]
+pub(crate) struct Parsed {
+    pub(crate) tree: ExprTree,
+    pub(crate) spans: Vec<Span>,
+}
+
 /// The same, with the spans of the tree's nodes.
-pub(crate) fn read_with_spans(
-    alloc: Global,
-    pattern: &[u8],
-    flags: u32,
-) -> Result<(ExprTree, Vec<Span>), Refusal>
-    ensures tree { IfOk result (λ p. IsTreeOfBytes (flags_of flags) pattern.now (view p.0.expr) (marks_of p.0)) }
-    ensures spans { IfOk result (λ p. AreSpansOfBytes (flags_of flags) pattern.now (view p.0.expr) p.1.items) }
+pub(crate) fn read_with_spans(alloc: Global, pattern: &[u8], flags: u32) -> Result<Parsed, Refusal>
+    ensures tree { IfOk result (λ p. IsTreeOfBytes (flags_of flags) pattern.now (view p.tree.expr) (marks_of p.tree)) }
+    ensures spans { IfOk result (λ p. AreSpansOfBytes (flags_of flags) pattern.now (view p.tree.expr) p.spans.items) }
     ensures refusal { IfErr result (λ r. IsRefusalOf r (flags_of flags) pattern.now) }
 {
     let text = text_of(pattern)?;
     match Expr::parse_tree_with_spans(alloc, text, flags) {
-        Ok(found) => Ok(found),
+        Ok((tree, spans)) => Ok(Parsed { tree, spans }),
         Err(error) => Err(Refusal::Fault(error)),
     }
 }

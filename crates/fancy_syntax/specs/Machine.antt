@@ -194,7 +194,7 @@ pub record ReadSoFar (d : ℕ) (p : OpenPart) (s : State) (start : Log) (branche
 
 -- the piece that opened the parts above the frame began at the state
 abbrev pub Began : Frame → State → Type 0
-Began f s = (f.left ≡ bytes s.rest) × (f.flags ≡ s.flags)
+Began f s = (f.piece.left ≡ bytes s.rest) × (f.piece.flags ≡ s.flags)
 
 -- the position of the group's own trees among all: above the trees of the groups around it, and its pieces above its
 -- branches

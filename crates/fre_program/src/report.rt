@@ -124,7 +124,26 @@ fn write_reference_fields<W: fmt::Write>(f: &mut fmt::Formatter<W>, node: &Expr)
         Expr::AstNode(AstNode::SubroutineCall(target), place) => {
             write!(f, " SubroutineCall {} {place}", Target(target))
         }
-        _ => Ok(()),
+        Expr::Empty
+        | Expr::Any { .. }
+        | Expr::Assertion(_)
+        | Expr::GeneralNewline { .. }
+        | Expr::Literal { .. }
+        | Expr::LiteralBytes { .. }
+        | Expr::Concat(_)
+        | Expr::Alt(_)
+        | Expr::Group(_)
+        | Expr::LookAround(..)
+        | Expr::Repeat { .. }
+        | Expr::Delegate { .. }
+        | Expr::AtomicGroup(_)
+        | Expr::KeepOut
+        | Expr::ContinueFromPreviousMatchEnd
+        | Expr::Conditional { .. }
+        | Expr::BacktrackingControlVerb(_)
+        | Expr::Absent(_)
+        | Expr::DefineGroup { .. }
+        | Expr::AstNode(..) => Ok(()),
     }
 }
 

@@ -16,6 +16,8 @@ const ABOUT: &str =
     "Checks, shows and formats patterns in the syntax of fancy-regex. It does not match them. Flags \
 that are set inside a group end with the group.";
 
+const VERSION: &str = "1.0.0";
+
 const STATUSES: &str =
     "The exit status is 0 if every pattern passes, 1 if one does not, 2 if the arguments are \
 wrong or a file cannot be read, and 3 if memory ran out or a write failed.";
@@ -47,7 +49,7 @@ const KEYS_HELP: &str =
 const JSON_HELP: &str = "Writes JSON, one object per line, to standard output";
 
 const QUIET_HELP: &str =
-    "Does not write to standard error how far the run is, nor at its end how many patterns there were";
+    "Shows neither progress nor the final summary on standard error";
 
 const COLOR_HELP: &str =
     "When to write colours: always, never, or auto, which is to a terminal unless the environment variable NO_COLOR is \
@@ -59,7 +61,7 @@ const CHECK_EXAMPLE: &str = r"Example: patterns check dates.txt
   (?<year>\d{4})-(?<month>\d\d
                               ^";
 
-const CHECK: &str = "Reports each pattern that is refused, with the position and the reason";
+const CHECK: &str = "Reports each invalid pattern, with the position and the reason";
 
 const TREE_EXAMPLE: &str = r#"Example: patterns tree '(a|b)+'
 
@@ -87,8 +89,8 @@ const FORMAT: &str =
     "Writes each pattern in one form, which parses to the same tree under the same flags";
 
 const IS_CHECK_HELP: &str =
-    "Writes, for each line that would change, FILE:LINE and what it is and would be; the exit status is 1 if one would \
-change or is refused";
+    "Writes no pattern, and reports each line that would change, with the line now and the line then; the exit status is 1 \
+if a line would change or a pattern is invalid";
 
 const LINT_EXAMPLE: &str = "Example: patterns lint words.txt
 
@@ -97,11 +99,11 @@ const LINT_EXAMPLE: &str = "Example: patterns lint words.txt
       ^
   help: remove it";
 
-const LINT: &str = "Reports likely mistakes in patterns that are accepted";
+const LINT: &str = "Reports likely mistakes in valid patterns";
 
-const LINT_MORE: &str = "Reports likely mistakes in patterns that are accepted.
+const LINT_MORE: &str = "Reports likely mistakes in valid patterns.
 
-The exit status is 0 if every pattern is accepted and no denied rule reports, even if there are \
+The exit status is 0 if every pattern is valid and no denied rule reports, even if there are \
 warnings, and 1 if not. docs/lint.md says what each rule reports, and when it is silent.";
 
 const GROUPS: &str = "Lists the groups of each pattern, and what its references and calls refer to";
@@ -124,13 +126,13 @@ const FORMAT_EXAMPLE: &str = r"Example: patterns format --flags ux words.txt
   the line             (?<y>\d{4})-\k<y>";
 
 const FORMAT_MORE: &str =
-    "Writes each pattern in one form. Comments (only with --drop-comments), ignored whitespace, and the choice among several \
-ways to write the same thing are lost.
+    "Writes each pattern in one form: drops ignored whitespace, and normalises spelling. Drops comments only with \
+--drop-comments.
 
 The text that is written for a pattern parses, under the same flags, to the same tree with the \
 same groups and names. Each line ends with LF.
 
-A pattern that is refused, or that has a comment, is written unchanged; standard error has the position and the reason.";
+A pattern that is invalid, or that has a comment, is written unchanged; standard error has the position and the reason.";
 
 fn flags_arg<'a>(alloc: Global) -> Arg<'a> {
     Arg::new(alloc, "flags")
@@ -306,6 +308,7 @@ fn groups_command<'a>(alloc: Global) -> Result<Command<'a>, AllocError> {
 pub(crate) fn command<'a>(alloc: Global) -> Result<Command<'a>, AllocError> {
     Command::new(alloc, "patterns")
         .bin_name("patterns")?
+        .version(VERSION)
         .about(ABOUT)
         .after_help(STATUSES)
         .subcommand_required(true)

@@ -113,7 +113,29 @@ impl<'b> Branches<'b> {
     fn of(tree: &'b Expr, about: About<'_>, is_at_end: bool) -> Branches<'b> {
         let all: &[Expr] = match tree {
             Expr::Alt(branches) => branches,
-            _ => &[],
+            Expr::Empty
+            | Expr::Any { .. }
+            | Expr::Assertion(_)
+            | Expr::GeneralNewline { .. }
+            | Expr::Literal { .. }
+            | Expr::LiteralBytes { .. }
+            | Expr::Concat(_)
+            | Expr::Group(_)
+            | Expr::LookAround(..)
+            | Expr::Repeat { .. }
+            | Expr::Delegate { .. }
+            | Expr::Backref { .. }
+            | Expr::BackrefWithRelativeRecursionLevel { .. }
+            | Expr::AtomicGroup(_)
+            | Expr::KeepOut
+            | Expr::ContinueFromPreviousMatchEnd
+            | Expr::BackrefExistsCondition { .. }
+            | Expr::Conditional { .. }
+            | Expr::SubroutineCall(_)
+            | Expr::BacktrackingControlVerb(_)
+            | Expr::Absent(_)
+            | Expr::DefineGroup { .. }
+            | Expr::AstNode(..) => &[],
         };
         Branches {
             all,

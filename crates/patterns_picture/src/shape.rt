@@ -44,7 +44,20 @@ impl Shape {
             Expr::Absent(Absent::Repeater(_) | Absent::Stopper(_)) => Shape::Frame,
             Expr::Absent(Absent::Expression { .. }) => Shape::Parts,
             Expr::Conditional { .. } | Expr::DefineGroup { .. } => Shape::Parts,
-            _ => Shape::Leaf,
+            Expr::Any { .. }
+            | Expr::Assertion(_)
+            | Expr::GeneralNewline { .. }
+            | Expr::LiteralBytes { .. }
+            | Expr::Delegate { .. }
+            | Expr::Backref { .. }
+            | Expr::BackrefWithRelativeRecursionLevel { .. }
+            | Expr::KeepOut
+            | Expr::ContinueFromPreviousMatchEnd
+            | Expr::BackrefExistsCondition { .. }
+            | Expr::SubroutineCall(_)
+            | Expr::BacktrackingControlVerb(_)
+            | Expr::Absent(Absent::Clear)
+            | Expr::AstNode(..) => Shape::Leaf,
         }
     }
 

@@ -127,13 +127,37 @@ impl Drawing<'_> {
 
 /// What a child is to its parent, where so many follow it.
 pub fn role(parent: &Expr, following: usize) -> &'static str {
-    match (parent, following) {
-        (Expr::Conditional { .. }, 2) => "if: ",
-        (Expr::Conditional { .. }, 1) => "then: ",
-        (Expr::Conditional { .. }, _) => "else: ",
-        (Expr::Absent(Absent::Expression { .. }), 1) => "absent: ",
-        (Expr::Absent(Absent::Expression { .. }), _) => "text: ",
-        _ => "",
+    match parent {
+        Expr::Conditional { .. } => match following {
+            2 => "if: ",
+            1 => "then: ",
+            _ => "else: ",
+        },
+        Expr::Absent(Absent::Expression { .. }) if following == 1 => "absent: ",
+        Expr::Absent(Absent::Expression { .. }) => "text: ",
+        Expr::Empty
+        | Expr::Any { .. }
+        | Expr::Assertion(_)
+        | Expr::GeneralNewline { .. }
+        | Expr::Literal { .. }
+        | Expr::LiteralBytes { .. }
+        | Expr::Concat(_)
+        | Expr::Alt(_)
+        | Expr::Group(_)
+        | Expr::LookAround(..)
+        | Expr::Repeat { .. }
+        | Expr::Delegate { .. }
+        | Expr::Backref { .. }
+        | Expr::BackrefWithRelativeRecursionLevel { .. }
+        | Expr::AtomicGroup(_)
+        | Expr::KeepOut
+        | Expr::ContinueFromPreviousMatchEnd
+        | Expr::BackrefExistsCondition { .. }
+        | Expr::SubroutineCall(_)
+        | Expr::BacktrackingControlVerb(_)
+        | Expr::Absent(Absent::Repeater(_) | Absent::Stopper(_) | Absent::Clear)
+        | Expr::DefineGroup { .. }
+        | Expr::AstNode(..) => "",
     }
 }
 

@@ -116,7 +116,16 @@ fn plain_words(node: &Expr) -> &'static str {
         Expr::BacktrackingControlVerb(verb) => verb_words(*verb),
         Expr::Absent(absent) => absent_words(absent),
         Expr::DefineGroup { .. } => "definitions",
-        _ => "a node that no parsed tree has",
+        Expr::Literal { .. }
+        | Expr::LiteralBytes { .. }
+        | Expr::Group(_)
+        | Expr::Repeat { .. }
+        | Expr::Delegate { .. }
+        | Expr::Backref { .. }
+        | Expr::BackrefWithRelativeRecursionLevel { .. }
+        | Expr::BackrefExistsCondition { .. }
+        | Expr::SubroutineCall(_)
+        | Expr::AstNode(..) => "a node that no parsed tree has",
     }
 }
 
@@ -203,7 +212,26 @@ pub fn write_reference<O: Write>(
             let at = Cut::at(pattern, *place);
             write!(out, r"unresolved call \g<{}>, {at}", Target(target))
         }
-        _ => Ok(()),
+        Expr::Empty
+        | Expr::Any { .. }
+        | Expr::Assertion(_)
+        | Expr::GeneralNewline { .. }
+        | Expr::Literal { .. }
+        | Expr::LiteralBytes { .. }
+        | Expr::Concat(_)
+        | Expr::Alt(_)
+        | Expr::Group(_)
+        | Expr::LookAround(..)
+        | Expr::Repeat { .. }
+        | Expr::Delegate { .. }
+        | Expr::AtomicGroup(_)
+        | Expr::KeepOut
+        | Expr::ContinueFromPreviousMatchEnd
+        | Expr::Conditional { .. }
+        | Expr::BacktrackingControlVerb(_)
+        | Expr::Absent(_)
+        | Expr::DefineGroup { .. }
+        | Expr::AstNode(..) => Ok(()),
     }
 }
 

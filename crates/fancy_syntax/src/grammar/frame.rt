@@ -33,6 +33,13 @@ pub(crate) enum Opener<'a> {
     Second(Box<Expr>),
 }
 
+/// The start of a piece: how many bytes are left there, and the flags.
+#[derive(Clone, Copy)]
+pub(crate) struct PieceStart {
+    pub(crate) left: usize,
+    pub(crate) flags: Flags,
+}
+
 /// An open group: where its trees begin among all that have been read. The trees of the groups around it are below.
 #[derive(Drop)]
 pub(crate) struct Frame<'a> {
@@ -41,9 +48,8 @@ pub(crate) struct Frame<'a> {
     pub(crate) branches: usize,
     /// How many trees are below the pieces of the open branch, which is the last.
     pub(crate) pieces: usize,
-    /// The bytes that were left at the start of the piece that holds the groups above this one, and the flags there.
-    pub(crate) left: usize,
-    pub(crate) flags: Flags,
+    /// The start of the piece that holds the groups above this one.
+    pub(crate) piece: PieceStart,
 }
 
 impl<'a> Frame<'a> {
@@ -62,8 +68,7 @@ impl<'a> Frame<'a> {
             opener,
             branches: height,
             pieces: height,
-            left: 0,
-            flags,
+            piece: PieceStart { left: 0, flags },
         }
     }
 

@@ -17,11 +17,11 @@ ghost use Rattle.fancy_syntax.specs.View.{view, views};
 
 use crate::expr::Expr;
 use crate::grammar::atom::{leaf_node, literal};
-use crate::grammar::frame::{Frame, Opener};
+use crate::grammar::frame::{Frame, Opener, PieceStart};
 use crate::grammar::plain::{plain, plain_escape};
 use crate::grammar::spanning::Spanning;
 use crate::grammar::state::State;
-use crate::grammar::step::{Step, close, read_step};
+use crate::grammar::step::{FinishedPart, Step, close, read_step};
 use crate::grammar::trees::add;
 use fancy_grammar::depth::MAX_DEPTH;
 use fancy_lex::error::Failure;
@@ -113,8 +113,10 @@ impl<'a> Parser<'a> {
         ensures capacity { OnOk result (vec_capacity self.new.stack ≡ vec_capacity self.old.stack) }
         ensures shorter { OnOk result (length self.new.here.rest.now < length self.old.here.rest.now) }
     {
-        self.frame.left = byte_len(self.here.rest);
-        self.frame.flags = self.here.flags;
+        self.frame.piece = PieceStart {
+            left: byte_len(self.here.rest),
+            flags: self.here.flags,
+        };
         let step = read_step(alloc, &mut self.here, self.stack.len(), spans)?;
         Ok(self.take(step, spans)?)
     }
@@ -175,16 +177,9 @@ impl<'a> Parser<'a> {
             return Ok(Some(inner));
         };
         let Frame { opener, .. } = mem::replace(&mut self.frame, outer);
-        let step = close(
-            alloc,
-            opener,
-            inner,
-            &mut self.here,
-            self.frame.left,
-            self.frame.flags,
-            self.stack.len(),
-            spans,
-        )?;
+        let part = FinishedPart { opener, inner };
+        let depth = self.stack.len();
+        let step = close(alloc, part, self.frame.piece, &mut self.here, depth, spans)?;
         self.take(step, spans)?;
         Ok(None)
     }

@@ -22,14 +22,13 @@ use crate::grammar::ahead::Ahead;
 use crate::grammar::atom::read_atom_start;
 use crate::grammar::conditional::{branches_of, clear_or_stopper, conditional, is_condition};
 use crate::grammar::fault::general;
-use crate::grammar::frame::Opener;
+use crate::grammar::frame::{Opener, PieceStart};
 use crate::grammar::group::head::{Head, node};
 use crate::grammar::plain::is_unquantified;
 use crate::grammar::quantified::quantify;
 use crate::grammar::spanning::Spanning;
 use crate::grammar::state::{State, skip_layout};
 use fancy_lex::error::{Failure, ParseError};
-use fancy_lex::flags::Flags;
 use fancy_lex::text::{AT_END, byte_len, next, reach};
 use std::alloc::{AllocError, Global};
 
@@ -39,6 +38,13 @@ pub(crate) enum Step<'a> {
     Piece(Expr),
     /// The opening of a part of a group, up to its contents.
     Open(Opener<'a>),
+}
+
+/// A part of a group whose inside was read.
+#[derive(Drop)]
+pub(crate) struct FinishedPart<'a> {
+    pub(crate) opener: Opener<'a>,
+    pub(crate) inner: Expr,
 }
 
 /// Reads a piece, or the opening of a group. A returned error is the error of the piece.
@@ -122,40 +128,38 @@ fn piece<'a, S: Spanning>(
     }
 }
 
-/// Ends the open part if no branch follows: a piece, or the part that comes next. The piece began under the flags,
-/// where `left` bytes were left; a quantifier after it is read under them. A returned error is the error of the
-/// piece.
+/// Ends the open part if no branch follows: a piece, or the part that comes next. A quantifier after the piece is read
+/// under the flags at its start. A returned error is the error of the piece.
 pub(crate) fn close<'a, S: Spanning>(
     alloc: Global,
-    opener: Opener<'a>,
-    inner: Expr,
+    part: FinishedPart<'a>,
+    start: PieceStart,
     here: &mut State<'a>,
-    left: usize,
-    flags: Flags,
     depth: usize,
     spans: &mut S,
 ) -> Result<Step<'a>, Failure>
     requires depth { depth < max_depth }
     requires last { ends (chars here.old.rest.now) ≡ true }
     requires no_bar { strip bar (chars here.old.rest.now) ≡ None }
-    ensures value { (s t : states.State) (l m n : Log) → left ≡ bytes s.rest → flags ≡ s.flags →
-        OpensPart depth s l (part_of opener.entry) t m →
-        Part (part_of opener.entry) (depth + 1) t (states.done (view inner) (state here.old)) m n →
+    ensures value { (s t : states.State) (l m n : Log) → start.left ≡ bytes s.rest → start.flags ≡ s.flags →
+        OpensPart depth s l (part_of part.entry.opener) t m →
+        Part (part_of part.entry.opener) (depth + 1) t (states.done (view part.entry.inner) (state here.old)) m n →
         GivesStep result depth s l (state here.new)
-        (close_noted left flags (part_of opener.entry) (view inner) (state here.old) n) }
+        (close_noted start.left start.flags (part_of part.entry.opener) (view part.entry.inner) (state here.old) n) }
     ensures spans { (l : Log) → S.notes spans.old l → OnOk result (S.notes spans.new
-        (close_noted left flags (part_of opener.entry) (view inner) (state here.old) l)) }
+        (close_noted start.left start.flags (part_of part.entry.opener) (view part.entry.inner) (state here.old) l)) }
     ensures shorter { IfOk result (λ _. length here.new.rest.now < length here.old.rest.now) }
 {
+    let FinishedPart { opener, inner } = part;
     let has_body = goes_on(&opener);
     let atom = end_part(alloc, opener, inner, here, spans)?;
     if !has_body {
-        here.flags = flags;
+        here.flags = start.flags;
         // Usually no quantifier follows: this saves a call for each group.
         if is_unquantified(*here) {
             return Ok(Step::Piece(atom));
         }
-        return piece(alloc, atom, here, left, depth, spans);
+        return piece(alloc, atom, here, start.left, depth, spans);
     }
     let condition = Box::new(alloc, atom)?;
     spans.begin(reach(here.rest));

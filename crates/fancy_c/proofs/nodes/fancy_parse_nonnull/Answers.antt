@@ -1,4 +1,3 @@
-use Rattle.std.proofs.Common.{sym}
 use Rattle.fancy_syntax.specs.Answer.{marks_of}
 use Rattle.fancy_syntax.specs.View.{view}
 use Rattle.fancy_c.proofs.NodesLemmas.{told_of}
@@ -6,19 +5,19 @@ use Rattle.fancy_c.proofs.nodes.fancy_parse_nonnull.Goals as goal
 
 pub returns-in-Ok-clause-read : goal.returns-in-Ok-clause-read
 returns-in-Ok-clause-read c =
-    let t = view c.in-Ok.tree.expr in
-    let m = marks_of c.in-Ok.tree in
+    let t = view c.in-Ok.parsed.tree.expr in
+    let m = marks_of c.in-Ok.parsed.tree in
     λ is. (
       t,
       m,
-      c.in-Ok.spans.items,
+      c.in-Ok.parsed.spans.items,
       told_of _ _ t m _ c.in-Ok.ensures.tree c.tell.ensures.info,
       c.in-Ok.ensures.spans,
-      rw (sym c.as_slice.ensures.value) (c.tell.ensures.read is),
+      c.tell.ensures.read is,
     )
 
 pub returns-in-Ok-clause-short : goal.returns-in-Ok-clause-short
 returns-in-Ok-clause-short c =
-    let t = view c.in-Ok.tree.expr in
-    let m = marks_of c.in-Ok.tree in
+    let t = view c.in-Ok.parsed.tree.expr in
+    let m = marks_of c.in-Ok.parsed.tree in
     λ is. (t, m, told_of _ _ t m _ c.in-Ok.ensures.tree c.tell.ensures.info, c.tell.ensures.short is)

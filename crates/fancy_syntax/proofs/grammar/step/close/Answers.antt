@@ -17,25 +17,25 @@ returns-in_err-atom-clause-value g c =
     let e = err_from_is_err_and c.from_residual.result c.from_residual.ensures.1 in
     rw (e.1, e.2)
     (IsErrorAmong-map
-    (λ q. ended_part (part_of c.args.opener) (view c.args.inner) (state c.args.here.now) ≡ q)
+    (λ q. ended_part (part_of c.args.part.opener) (view c.args.part.inner) (state c.args.here.now) ≡ q)
     (Piece c.args.depth s)
-    c.in_err-atom.field-0.0 (λ k q h. ended_fault n (view c.args.inner) (state c.args.here.now) o p
+    c.in_err-atom.field-0.0 (λ k q h. ended_fault n (view c.args.part.inner) (state c.args.here.now) o p
     (λ _ _. c.requires.no_bar) h) c.in_err-atom.ensures.value)
 
 pub returns-then-is_unquantified-clause-value : goal.returns-then-is_unquantified-clause-value
 returns-then-is_unquantified-clause-value g c =
     λ s t l m n i j o p.
-    closes n c.args.flags (view c.args.inner) (state c.args.here.now) (Ok (step.Piece _)) _ o p
+    closes n c.args.start.flags (view c.args.part.inner) (state c.args.here.now) (Ok (step.Piece _)) _ o p
     (sym c.goes_on-has_body.ensures ∙ c.if-not-has_body.true) c.requires.no_bar
     c.in_ok-atom.ensures.value i j
-    (ap (λ (f : Flags). quants c.args.depth c.args.left (view c.in_ok-atom.atom)
+    (ap (λ (f : Flags). quants c.args.depth c.args.start.left (view c.in_ok-atom.atom)
     (record (state c.end_part.new.here) { flags = f })) (sym j)
     ∙ c.is_unquantified.ensures.quants c.if-is_unquantified.true _ _ _)
 
 pub returns-then-not-has_body-clause-value : goal.returns-then-not-has_body-clause-value
 returns-then-not-has_body-clause-value g c =
     λ s t l m n i j o p.
-    closes n c.args.flags (view c.args.inner) (state c.args.here.now) c.piece.result _ o p
+    closes n c.args.start.flags (view c.args.part.inner) (state c.args.here.now) c.piece.result _ o p
     (sym c.goes_on-has_body.ensures ∙ c.if-not-has_body.true) c.requires.no_bar
     c.in_ok-atom.ensures.value i j (rw j at c.piece.ensures.value)
 
@@ -43,5 +43,5 @@ pub returns-clause-value : goal.returns-clause-value
 returns-clause-value g c =
     λ s t l m n i j o p.
     rw (c.byte_len-left.ensures, c.in_ok-condition.ensures.ok)
-    (closes_condition c.args.left n c.args.flags (view c.args.inner) (state c.args.here.now) o p
+    (closes_condition c.args.start.left n c.args.start.flags (view c.args.part.inner) (state c.args.here.now) o p
     (sym c.goes_on-has_body.ensures ∙ c.if-not-has_body.false) c.in_ok-atom.ensures.value)

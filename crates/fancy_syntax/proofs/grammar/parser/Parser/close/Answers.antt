@@ -54,7 +54,7 @@ returns-clause-reading g c start none l h =
     let n : c.len.result ≡ length c.pop.new.self.items = omega (arith, c.len.ensures, c.pop.new.self.ok.0) in
     let made = c.in_ok-step.step in
     let m = choice_closed h.branches h.pieces (state c.args.self.now.here) l in
-    let k = close_noted c.replace-opener.new.dest.left c.replace-opener.new.dest.flags
+    let k = close_noted c.replace-opener.new.dest.piece.left c.replace-opener.new.dest.piece.flags
     (part_of c.replace-opener.result.opener) (view c.in_ok-inner.inner) (state c.args.self.now.here) m in
     let steps = subst (λ d. IsStep d w.here w.noted made (state c.close.new.here) k) n
     (c.in_ok-step.ensures.value w.here w.inside w.noted w.before m w.began.0 w.began.1 (rw n w.opens) (rw n w.whole)) in
