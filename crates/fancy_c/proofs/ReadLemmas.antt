@@ -10,7 +10,7 @@ use Rattle.fancy_grammar.specs.Answered.{IsAnsweredWith, IsSmall}
 use Rattle.fancy_grammar.specs.Marks.{Marks}
 use Rattle.fancy_grammar.specs.Tree.{Tree}
 use Rattle.fancy_c.specs.Answer.{IsTreeOfBytes, IsRefusalOf}
-use Rattle.fancy_c.specs.declared.read.Refusal.TheVariants.{Fault}
+use Rattle.fancy_c.specs.declared.read.Refusal.TheVariants.{Parse}
 
 pub tree_told : (f : Flags) (text bytes : List ℕ) (t : Tree) (m : Marks) → text ≡ bytes → IsUtf8 bytes
     → IsTreeOf f (chars text) t m → ((s : Tree) (l : Marks) → IsTreeOf f (chars text) s l → (s ≡ t) × (l ≡ m))
@@ -23,9 +23,9 @@ tree_told f text bytes t m is utf8 tree only no_fault small answered =
 
 pub fault_told : (e : Error) (f : Flags) (text bytes : List ℕ) → text ≡ bytes → IsUtf8 bytes →
     IsOnlyFault e f (chars text)
-    → IsPlacedIn e text → IsRefusalOf (Fault e) f bytes
+    → IsPlacedIn e text → IsRefusalOf (Parse e) f bytes
 fault_told (ParseError p k) f text bytes is utf8 only placed =
-    subst (λ b. IsUtf8 b → IsRefusalOf (Fault (ParseError p k)) f b) is here utf8 where
-      here : IsUtf8 text → IsRefusalOf (Fault (ParseError p k)) f text
+    subst (λ b. IsUtf8 b → IsRefusalOf (Parse (ParseError p k)) f b) is here utf8 where
+      here : IsUtf8 text → IsRefusalOf (Parse (ParseError p k)) f text
       here u = record { utf8 = u; fault = only.0; only = only.1; no_tree = only.2; placed = placed }
 fault_told OutOfMemory f text bytes is utf8 only placed = tt

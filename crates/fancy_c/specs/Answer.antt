@@ -27,7 +27,7 @@ use Rattle.fancy_c.specs.declared.answer.TheConstants.{ERROR_INVALID_BACKREF, ER
 use Rattle.fancy_c.specs.declared.answer.TheConstants.{ERROR_INVALID_GROUP_NAME, ERROR_INVALID_GROUP_NAME_BACKREF}
 use Rattle.fancy_c.specs.declared.answer.Answer.{Answer}
 use Rattle.fancy_c.specs.declared.read.Refusal.{Refusal}
-use Rattle.fancy_c.specs.declared.read.Refusal.TheVariants.{NoUtf8, Fault}
+use Rattle.fancy_c.specs.declared.read.Refusal.TheVariants.{NoUtf8, Parse}
 
 -- the number of a kind
 abbrev pub number_of_kind : Kind → ℕ
@@ -74,8 +74,8 @@ IsNoUtf8 bytes place = (¬ IsUtf8 bytes) × (place ≡ utf8_valid_len bytes)
 -- the refusal is that of the bytes, or memory ran out
 abbrev pub IsRefusalOf : Refusal → Flags → List ℕ → Type 0
 IsRefusalOf (NoUtf8 place) f bytes = IsNoUtf8 bytes place
-IsRefusalOf (Fault (ParseError place kind)) f bytes = IsFaultOfBytes f bytes (kind_of kind) place
-IsRefusalOf (Fault OutOfMemory) f bytes = Unit {0}
+IsRefusalOf (Parse (ParseError place kind)) f bytes = IsFaultOfBytes f bytes (kind_of kind) place
+IsRefusalOf (Parse OutOfMemory) f bytes = Unit {0}
 
 -- the answer has the kind and the position, and the number of bytes of the kind's message
 pub record IsTold (a : Answer) (place : ℕ) (k : Kind) : Type 0 where
@@ -86,6 +86,6 @@ pub record IsTold (a : Answer) (place : ℕ) (k : Kind) : Type 0 where
 -- the answer for a refusal
 abbrev pub answer_of : Refusal → Answer
 answer_of (NoUtf8 p) = record { status = STATUS_NOT_UTF8; kind = ERROR_NONE; position = p; size = 0 }
-answer_of (Fault (ParseError p k)) =
+answer_of (Parse (ParseError p k)) =
     record { status = STATUS_REFUSED; kind = number_of_kind (kind_of k); position = p; size = 0 }
-answer_of (Fault OutOfMemory) = record { status = STATUS_OUT_OF_MEMORY; kind = ERROR_NONE; position = 0; size = 0 }
+answer_of (Parse OutOfMemory) = record { status = STATUS_OUT_OF_MEMORY; kind = ERROR_NONE; position = 0; size = 0 }

@@ -97,8 +97,8 @@ pub extern "C" fn fancy_message_nonnull(
             position: 0,
             size: 0,
         },
-        Err(Refusal::Fault(Error::ParseError(place, kind))) => tell(alloc, place, &kind, buffer),
-        Err(Refusal::Fault(Error::OutOfMemory)) => Answer {
+        Err(Refusal::Parse(Error::ParseError(place, kind))) => tell(alloc, place, &kind, buffer),
+        Err(Refusal::Parse(Error::OutOfMemory)) => Answer {
             status: STATUS_OUT_OF_MEMORY,
             kind: ERROR_NONE,
             position: 0,

@@ -28,7 +28,7 @@ pub(crate) enum Refusal {
     /// They are not UTF-8 from this position on.
     NoUtf8(usize),
     /// They are a pattern with an error, or memory ran out.
-    Fault(Error),
+    Parse(Error),
 }
 
 impl Refusal {
@@ -43,13 +43,13 @@ impl Refusal {
                 position: *place,
                 size: 0,
             },
-            Refusal::Fault(Error::ParseError(place, kind)) => Answer {
+            Refusal::Parse(Error::ParseError(place, kind)) => Answer {
                 status: STATUS_REFUSED,
                 kind: kind_number(kind),
                 position: *place,
                 size: 0,
             },
-            Refusal::Fault(Error::OutOfMemory) => Answer {
+            Refusal::Parse(Error::OutOfMemory) => Answer {
                 status: STATUS_OUT_OF_MEMORY,
                 kind: ERROR_NONE,
                 position: 0,
@@ -78,7 +78,7 @@ pub(crate) fn read(alloc: Global, pattern: &[u8], flags: u32) -> Result<ExprTree
     let text = text_of(pattern)?;
     match Expr::parse_tree_with_flags(alloc, text, flags) {
         Ok(tree) => Ok(tree),
-        Err(error) => Err(Refusal::Fault(error)),
+        Err(error) => Err(Refusal::Parse(error)),
     }
 }
 
@@ -98,7 +98,7 @@ pub(crate) fn read_with_spans(alloc: Global, pattern: &[u8], flags: u32) -> Resu
     let text = text_of(pattern)?;
     match Expr::parse_tree_with_spans(alloc, text, flags) {
         Ok((tree, spans)) => Ok(Parsed { tree, spans }),
-        Err(error) => Err(Refusal::Fault(error)),
+        Err(error) => Err(Refusal::Parse(error)),
     }
 }
 

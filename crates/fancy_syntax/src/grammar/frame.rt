@@ -94,7 +94,7 @@ impl<'a> Frame<'a> {
         ensures spans { (below branches pieces : List Tree) (l : Log) →
             HoldsTrees self.old (views trees.old.items) below branches pieces →
             S.notes spans.old l → OnOk result (S.notes spans.new (branch_ended (length pieces) reach l)) }
-        ensures fault { (t : _) → reach ≡ reach_of t →
+        ensures error { (t : _) → reach ≡ reach_of t →
             IfErr result (λ e. IsErrorAmong e (IsFaultOfBar (part_of self.old.opener) t)) }
     {
         match &self.opener {
