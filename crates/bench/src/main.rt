@@ -2,12 +2,12 @@
 //! writes how much that made. An instruction counter round two modes gives the cost of what lies between them.
 #![tactic(auto)]
 
-mod answer;
+mod result_line;
 mod sample;
 mod stage;
 
-use answer::write_answer;
 use anyhow::{Context, Result, bail};
+use result_line::write_result;
 use sample::Sample;
 use stage::Stage;
 use std::alloc::Global;
@@ -28,10 +28,10 @@ fn sum_of_amounts(alloc: Global, lines: &str, stage: Stage) -> Result<usize> {
 }
 
 /// Writes what `fre` answers on each pattern, a line each.
-fn write_answers<O: Write>(alloc: Global, lines: &str, out: &mut O) -> Result<()> {
+fn write_results<O: Write>(alloc: Global, lines: &str, out: &mut O) -> Result<()> {
     for line in lines.lines() {
         let sample = Sample::read(alloc, line).context(format_args!("{line}"))?;
-        write_answer(alloc, &sample, out)?;
+        write_result(alloc, &sample, out)?;
     }
     out.flush()?;
     Ok(())
@@ -45,7 +45,7 @@ fn main(rt: HostRuntime) -> Result<()> {
     let lines = fs::read_to_string(&rt, file.as_str()).context(format_args!("reading {file}"))?;
     if mode.as_str() == "all" {
         let mut out = BufWriter::new(rt.alloc(), rt.stdout())?;
-        return write_answers(rt.alloc(), lines.as_str(), &mut out);
+        return write_results(rt.alloc(), lines.as_str(), &mut out);
     }
     let stage = Stage::named(mode.as_str()).context("no such mode")?;
     println!(rt; "{}", sum_of_amounts(rt.alloc(), lines.as_str(), stage)?)?;

@@ -5,23 +5,23 @@ pub(crate) const OUT_OF_MEMORY: &str = "out of memory\n";
 
 /// What a run ended with, and what it wrote.
 #[derive(Drop)]
-pub(crate) struct Answer {
+pub(crate) struct RunResult {
     pub(crate) status: u8,
     pub(crate) out: Vec<u8>,
     pub(crate) err: Vec<u8>,
 }
 
-impl Answer {
+impl RunResult {
     /// Whether the run came to no answer, since memory was refused: what is on standard output is a beginning of the
     /// recorded lines.
-    pub(crate) fn is_out_of_memory(&self, recorded: &Answer) -> bool {
+    pub(crate) fn is_out_of_memory(&self, recorded: &RunResult) -> bool {
         self.status == 3
             && self.err.as_slice() == OUT_OF_MEMORY.as_bytes()
             && recorded.out.starts_with(&self.out)
     }
 
     /// Whether the answer is the recorded one, byte by byte.
-    pub(crate) fn is(&self, recorded: &Answer) -> bool {
+    pub(crate) fn is(&self, recorded: &RunResult) -> bool {
         self.status == recorded.status && self.out == recorded.out && self.err == recorded.err
     }
 }

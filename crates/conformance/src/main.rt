@@ -10,7 +10,7 @@ mod record;
 mod texts;
 
 use anyhow::{Context, Result, bail, ensure};
-use comparison::{Answer, OUT_OF_MEMORY};
+use comparison::{OUT_OF_MEMORY, RunResult};
 use fancy_syntax::error::Error;
 use fancy_syntax::expr::Expr;
 use fre_program::flag_word::flags_named;
@@ -25,24 +25,24 @@ use texts::{is_written, replay_writing};
 
 /// What the program answers now; an error where memory was refused. It writes into room that is there, so that what is
 /// refused is no write.
-fn answer_now(alloc: Global, record: &Reading) -> Result<Answer> {
-    let recorded = &record.answer;
+fn result_now(alloc: Global, record: &Reading) -> Result<RunResult> {
+    let recorded = &record.run_result;
     let mut out = Vec::with_capacity(alloc, recorded.out.len())?;
     let mut err = Vec::with_capacity(alloc, recorded.err.len().max(OUT_OF_MEMORY.len()))?;
     let status = fre_run(alloc, record.words.as_slice(), &mut out, &mut err);
-    let answer = Answer { status, out, err };
+    let run_result = RunResult { status, out, err };
     ensure!(
-        !answer.is_out_of_memory(&record.answer),
+        !run_result.is_out_of_memory(&record.run_result),
         "memory was refused"
     );
-    Ok(answer)
+    Ok(run_result)
 }
 
 /// Whether a clone of the error says the same.
 fn is_cloned(alloc: Global, error: &Error) -> Result<bool> {
     let copy = error.clone(alloc)?;
-    let said = format!(in alloc; "{error}")?;
-    Ok(format!(in alloc; "{copy}")? == said)
+    let message = format!(in alloc; "{error}")?;
+    Ok(format!(in alloc; "{copy}")? == message)
 }
 
 /// Whether a clone of the pattern's tree is equal to it, and the tree is written as a text that is read as it; or, where
@@ -61,7 +61,7 @@ fn is_kept(alloc: Global, record: &Reading) -> Result<bool> {
 
 /// Whether a pattern is answered as recorded.
 fn replay_reading(alloc: Global, record: &Reading) -> Result<bool> {
-    Ok(is_kept(alloc, record)? && answer_now(alloc, record)?.is(&record.answer))
+    Ok(is_kept(alloc, record)? && result_now(alloc, record)?.is(&record.run_result))
 }
 
 /// The text of the tree now, none where it is not printable. A refusal of memory for the text is said to be one, and

@@ -131,10 +131,10 @@ fn reference(alloc: Global, words: &[&str]) -> Result<Expr> {
             group: number(group)?,
             relative_recursion_level: level(amount)?,
         },
-        ["AstNode", "SubroutineCall", name, place] => {
+        ["AstNode", "SubroutineCall", name, position] => {
             Expr::AstNode(
                 AstNode::SubroutineCall(target(alloc, name)?),
-                number(place)?,
+                number(position)?,
             )
         }
         _ => bail!("no leaf"),
@@ -191,13 +191,13 @@ fn node(alloc: Global, words: &[&str], children: Vec<Expr>) -> Result<Expr> {
 
 /// A tree read, with its level.
 #[derive(Drop)]
-struct Placed {
+struct Leveled {
     level: usize,
     tree: Expr,
 }
 
 /// Takes the trees at the level from the top, in order.
-fn take_children(alloc: Global, trees: &mut Vec<Placed>, level: usize) -> Result<Vec<Expr>> {
+fn take_children(alloc: Global, trees: &mut Vec<Leveled>, level: usize) -> Result<Vec<Expr>> {
     let mut children = Vec::new(alloc);
     for _ in 0..trees.len() {
         match trees.pop() {
@@ -221,7 +221,7 @@ pub(crate) fn read_tree(alloc: Global, lines: &str) -> Result<Expr> {
         let words = parts(alloc, named, ' ')?;
         let children = take_children(alloc, &mut trees, level + 1)?;
         let tree = node(alloc, &words, children)?;
-        trees.push(Placed { level, tree })?;
+        trees.push(Leveled { level, tree })?;
     }
     let top = trees.pop().context("no node")?;
     Ok(top.tree)

@@ -1,6 +1,6 @@
 //! Recorded answers: the lines of the files, whose fields tabs part. Texts are in hexadecimal, `-` or nothing where
 //! empty.
-use crate::comparison::Answer;
+use crate::comparison::RunResult;
 use anyhow::{Result, bail};
 use std::alloc::Global;
 use std::str;
@@ -10,7 +10,7 @@ use std::str;
 pub(crate) struct Reading {
     /// The flags and the pattern.
     pub(crate) words: [String; 2],
-    pub(crate) answer: Answer,
+    pub(crate) run_result: RunResult,
 }
 
 /// Flags, a pattern, and what `to_pattern` writes for its tree.
@@ -66,7 +66,7 @@ impl Record {
         Ok(match fields.as_slice() {
             [flags, pattern, status, out, err] => Record::Reading(Reading {
                 words: [String::from_str(alloc, flags)?, text(alloc, pattern)?],
-                answer: Answer {
+                run_result: RunResult {
                     status: status.parse::<u8>()?,
                     out: bytes(alloc, out)?,
                     err: bytes(alloc, err)?,

@@ -26,7 +26,7 @@ pub(crate) fn is_written(alloc: Global, tree: &ExprTree, flags: u32) -> Result<b
         return Ok(false);
     };
     Ok(
-        again.expr.is_same_but_for_places(&tree.expr)
+        again.expr.is_same_but_for_positions(&tree.expr)
             && to_pattern(alloc, &again, flags)? == Some(text),
     )
 }

@@ -4,5 +4,5 @@ mod TextLemmas
 mod NodeLemmas
 -- ---- a tree and its group information in the buffers
 mod RowLemmas
-mod MarkLemmas
+mod NameRowLemmas
 mod NodesLemmas

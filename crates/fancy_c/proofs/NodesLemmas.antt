@@ -3,20 +3,20 @@ use Rattle.std.proofs.Common.{◌≡◌, ℕ, zero, suc, ◌+◌, ◌≤◌, Lis
 use Rattle.std.proofs.Common.{subst, length-append, zero-add, arith}
 use Rattle.std.specs.List.{AllByRecursion}
 use Rattle.fancy_lex.specs.declared.flags.Flags.{Flags}
-use Rattle.fancy_grammar.specs.Marks.{Marks}
-use Rattle.fancy_c.specs.Answer.{IsTreeOfBytes}
+use Rattle.fancy_grammar.specs.GroupInfo.{GroupInfo}
+use Rattle.fancy_c.specs.CallResult.{IsTreeOfBytes}
 use Rattle.fancy_grammar.specs.Label as label
 use Rattle.fancy_grammar.specs.Preorder.{preorder}
 use Rattle.fancy_grammar.specs.Spans as spec
 use Rattle.fancy_grammar.specs.Spans.{AreSpansOf, Nests}
 use Rattle.fancy_grammar.specs.Tree.{Tree, leaf, over, row, Trees, no_trees, more_trees, nodes, nodes_all}
 use Rattle.fancy_c.specs.Buffer.{Fills, put_at}
-use Rattle.fancy_grammar.proofs.SpansAnswer.{nests_within}
+use Rattle.fancy_grammar.proofs.ParsedSpans.{nests_within}
 use Rattle.fancy_syntax.specs.SpanViews.{span_of}
 use Rattle.fancy_syntax.specs.declared.span.Span.{Span}
-use Rattle.fancy_c.specs.Marks.{told, IsToldOf, AreSpansOfBytes}
+use Rattle.fancy_c.specs.InfoRows.{summary, IsSummaryOf, AreSpansOfBytes}
 use Rattle.fancy_c.specs.Node.{listed, listed_all, span_at}
-use Rattle.fancy_c.specs.declared.marks.TreeInfo.{TreeInfo}
+use Rattle.fancy_c.specs.declared.info_rows.TreeInfo.{TreeInfo}
 use Rattle.fancy_c.proofs.RowLemmas.{put_more}
 
 pub filled : {A : Type 0} (old new items : List A) → length items ≤ length old → new ≡ put_at old 0 items →
@@ -32,7 +32,7 @@ texts_put d d' d'' xs ys o at put puts = puts ∙ ap (λ e. put_at e o ys) put �
 mutual
   listed_nodes : (t : Tree) → length (listed t) ≤ nodes t
   listed_nodes (leaf l) = omega arith
-  listed_nodes (over (label.ast_group name place) t) = omega arith
+  listed_nodes (over (label.ast_group name position) t) = omega arith
   listed_nodes (over w t) = omega (arith, listed_nodes t)
   listed_nodes (row r ts) = omega (arith, listed_nodes_all ts)
 
@@ -41,9 +41,9 @@ mutual
   listed_nodes_all (more_trees t ts) =
       omega (arith, listed_nodes t, listed_nodes_all ts, length-append (listed t) (listed_all ts))
 
-pub told_of : (f : Flags) (bytes : List ℕ) (t : Tree) (m : Marks) (info : TreeInfo) → IsTreeOfBytes f bytes t m →
-    info ≡ told t m → IsToldOf info f bytes t m
-told_of f bytes t m info tree is = record {
+pub is_summary_of : (f : Flags) (bytes : List ℕ) (t : Tree) (m : GroupInfo) (info : TreeInfo) → IsTreeOfBytes f bytes t m →
+    info ≡ summary t m → IsSummaryOf info f bytes t m
+is_summary_of f bytes t m info tree is = record {
   tree = tree;
   is = is;
   few = omega (arith, tree.small.0, listed_nodes t, ap (λ k. k.node_count) is);

@@ -7,7 +7,7 @@ use Rattle.std.proofs.lemmas.List.Edits.{paste-paste, length-paste, paste_none}
 use Rattle.std.proofs.Math.Seq.{paste}
 use Rattle.fancy_grammar.specs.Label as label
 use Rattle.fancy_grammar.specs.Tree.{Tree, leaf, over, row as row_of, Trees, no_trees, more_trees, list_of, children}
-use Rattle.fancy_parts.specs.Room.{in_word}
+use Rattle.fancy_parts.specs.Capacity.{in_word}
 use Rattle.fancy_c.specs.Buffer.{put_at}
 use Rattle.fancy_c.specs.Node.{listed, listed_all, listed_each, carried, texts, start_of_text, row, rows, SpanAt}
 use Rattle.fancy_c.specs.declared.node.Node.{Node}
@@ -23,7 +23,7 @@ one t = sym (append-nil (listed t))
 
 pub listed_is : (t : Tree) → listed t ≡ t ∷ listed_each (children t)
 listed_is (leaf l) = refl
-listed_is (over (label.ast_group name place) t) = refl
+listed_is (over (label.ast_group name position) t) = refl
 listed_is (over w t) = ap (λ l. over w t ∷ l) (one t)
 listed_is (row_of r ts) = ap (λ l. row_of r ts ∷ l) (listed_list ts)
 
@@ -60,40 +60,40 @@ put_is d i xs = ap (λ l. take i d ++ l ++ drop (i + length xs) d) (sym (take_al
 
 pub put_length : {A : Type 0} (d : List A) (i : ℕ) (xs : List A) → i + length xs ≤ length d →
     length (put_at d i xs) ≡ length d
-put_length d i xs room = ap length (put_is d i xs) ∙ length-paste d i xs (length xs) room (omega arith)
+put_length d i xs capacity = ap length (put_is d i xs) ∙ length-paste d i xs (length xs) capacity (omega arith)
 
 pub put_none : {A : Type 0} (d : List A) (i : ℕ) → put_at d i [] ≡ d
 put_none d i = put_is d i [] ∙ sym (paste_none d i [])
 
 pub put_more : {A : Type 0} (d : List A) (i j : ℕ) (xs ys : List A) → j ≡ i + length xs → i ≤ length d →
     put_at (put_at d i xs) j ys ≡ put_at d i (xs ++ ys)
-put_more d i j xs ys is room =
+put_more d i j xs ys is capacity =
     put_is (put_at d i xs) j ys ∙ ap (λ e. paste e j ys (length ys)) (put_is d i xs)
     ∙ ap (λ k. paste (paste d i xs (length xs)) k ys (length ys)) is
-    ∙ paste-paste d i xs ys (length xs) (length ys) refl refl room
+    ∙ paste-paste d i xs ys (length xs) (length ys) refl refl capacity
     ∙ ap (λ n. paste d i (xs ++ ys) n) (sym (length-append xs ys))
     ∙ sym (put_is d i (xs ++ ys))
 
 -- an item before what was put
 pub put_before : {A : Type 0} (d : List A) (i : ℕ) (x : A) (xs : List A) → i + 1 + length xs ≤ length d →
     set (put_at d (i + 1) xs) i x ≡ put_at d i (x ∷ xs)
-put_before d i x xs room =
+put_before d i x xs capacity =
     let j = i + 1 in
     let rest = drop (j + length xs) d in
-    let front : length (take j d) ≡ j = length-take-le j d (omega (arith, room)) in
+    let front : length (take j d) ≡ j = length-take-le j d (omega (arith, capacity)) in
     let flat : put_at d j xs ≡ take j d ++ (xs ++ rest) = append_assoc (take j d) xs rest in
     let long : i < length (take j d ++ (xs ++ rest)) = omega (arith, front, length-append (take j d) (xs ++ rest)) in
     let before : take i (take j d ++ (xs ++ rest)) ≡ take i d =
     take-append-le i (take j d) (xs ++ rest) (omega (arith, front)) ∙ take-take i j d (omega arith) in
     let seam : suc i ≡ length (take j d) = omega (arith, front) in
-    let behind : drop (suc i) (take j d ++ (xs ++ rest)) ≡ xs ++ rest =
+    let after : drop (suc i) (take j d ++ (xs ++ rest)) ≡ xs ++ rest =
     ap (λ k. drop k (take j d ++ (xs ++ rest))) seam ∙ drop-append_seam (take j d) (xs ++ rest) in
     let end : j + length xs ≡ i + length (x ∷ xs) = omega arith in
     let same : rest ≡ drop (i + length (x ∷ xs)) d = ap (λ k. drop k d) end in
     ap (λ l. set l i x) flat
     ∙ set_split (take j d ++ (xs ++ rest)) i x long
     ∙ ap (λ l. l ++ x ∷ drop (suc i) (take j d ++ (xs ++ rest))) before
-    ∙ ap (λ l. take i d ++ x ∷ l) behind
+    ∙ ap (λ l. take i d ++ x ∷ l) after
     ∙ ap (λ l. take i d ++ x ∷ (xs ++ l)) same
     ∙ sym (append_assoc (take i d) (x ∷ xs) (drop (i + length (x ∷ xs)) d))
 
@@ -109,21 +109,21 @@ pub texts_size : (t : Tree) → length (texts (listed t)) ≡ length (carried t)
 texts_size t = ap length (texts_is t) ∙ length-append (carried t) (texts (listed_each (children t)))
 
 -- the position after the text
-pub text_place : (w v : List ℕ) (o p : ℕ) → w ≡ v → p ≡ o + length w → p ≡ o + length v
-text_place w v o p is at = at ∙ ap (λ u. o + length u) is
+pub text_position : (w v : List ℕ) (o p : ℕ) → w ≡ v → p ≡ o + length w → p ≡ o + length v
+text_position w v o p is at = at ∙ ap (λ u. o + length u) is
 
 pub row_put : (at : SpanAt) (t : Tree) (nodes nodes' : List Node) (n o b p : ℕ) →
     b ≡ n + 1 + length (listed_each (children t)) →
     p ≡ start_of_text o (carried t) → n + length (listed t) ≤ length nodes
     → nodes' ≡ put_at nodes (n + 1) (rows at (n + 1) (o + length (carried t)) (listed_each (children t)))
     → set nodes' n (row (record { end = b; text = p; span = at n }) t) ≡ put_at nodes n (rows at n o (listed t))
-row_put at t nodes nodes' n o b p end start room put =
+row_put at t nodes nodes' n o b p end start capacity put =
     let inside = rows at (n + 1) (o + length (carried t)) (listed_each (children t)) in
     let size = rows_length at (n + 1) (o + length (carried t)) (listed_each (children t)) in
     let long = listed_length t in
     let end_is : b ≡ n + length (listed t) = omega (arith, end, long) in
     ap (λ l. set l n (row (record { end = b; text = p; span = at n }) t)) put
-    ∙ put_before nodes n (row (record { end = b; text = p; span = at n }) t) inside (omega (arith, room, long, size))
+    ∙ put_before nodes n (row (record { end = b; text = p; span = at n }) t) inside (omega (arith, capacity, long, size))
     ∙ ap (λ e. put_at nodes n (row (record { end = e; text = p; span = at n }) t ∷ inside)) end_is
     ∙ ap (λ q. put_at nodes n (row (record { end = n + length (listed t); text = q; span = at n }) t ∷ inside)) start
     ∙ ap (λ l. put_at nodes n (rows at n o l)) (sym (listed_is t))
@@ -132,17 +132,17 @@ pub text_put : (t : Tree) (bytes bytes' bytes'' : List ℕ) (o p : ℕ) → p �
     o + length (texts (listed t)) ≤ length bytes
     → bytes' ≡ put_at bytes o (carried t) → bytes'' ≡ put_at bytes' p (texts (listed_each (children t))) →
     bytes'' ≡ put_at bytes o (texts (listed t))
-text_put t bytes bytes' bytes'' o p is room put puts =
+text_put t bytes bytes' bytes'' o p is capacity put puts =
     puts ∙ ap (λ d. put_at d p (texts (listed_each (children t)))) put
-    ∙ put_more bytes o p (carried t) (texts (listed_each (children t))) is (omega (arith, room))
+    ∙ put_more bytes o p (carried t) (texts (listed_each (children t))) is (omega (arith, capacity))
     ∙ ap (put_at bytes o) (sym (texts_is t))
 
 -- ---- a writing in progress: the rows of `all` follow n₀ and o₀ once those of `left` follow n and o
 pub record Putting (at : SpanAt) (nodes₀ nodes : List Node) (bytes₀ bytes : List ℕ) (n₀ o₀ n o : ℕ)
     (all left : List Tree) : Type 0
   where
-    pub nodes_room : n + length left ≤ length nodes
-    pub bytes_room : o + length (texts left) ≤ length bytes
+    pub nodes_capacity : n + length left ≤ length nodes
+    pub bytes_capacity : o + length (texts left) ≤ length bytes
     pub nodes_end : n + length left ≡ n₀ + length all
     pub bytes_end : o + length (texts left) ≡ o₀ + length (texts all)
     pub nodes_is : put_at nodes n (rows at n o left) ≡ put_at nodes₀ n₀ (rows at n₀ o₀ all)
@@ -151,12 +151,12 @@ pub record Putting (at : SpanAt) (nodes₀ nodes : List Node) (bytes₀ bytes : 
 pub putting_starts : (at : SpanAt) (nodes : List Node) (bytes : List ℕ) (n o : ℕ) (all left : List Tree) → left ≡ all
     → n + length all ≤ length nodes → o + length (texts all) ≤ length bytes →
     Putting at nodes nodes bytes bytes n o n o all left
-putting_starts at nodes bytes n o all left is room more =
+putting_starts at nodes bytes n o all left is capacity more =
     subst (λ l. Putting at nodes nodes bytes bytes n o n o all l) (sym is) here where
       here : Putting at nodes nodes bytes bytes n o n o all all
       here = record {
-        nodes_room = room;
-        bytes_room = more;
+        nodes_capacity = capacity;
+        bytes_capacity = more;
         nodes_end = refl;
         bytes_end = refl;
         nodes_is = refl;
@@ -179,13 +179,13 @@ putting_next at nodes₀ nodes nodes' bytes₀ bytes bytes' n₀ o₀ n o n' o' 
     let both = length-append xs left in
     let both_texts = texts_length xs left in
     let rows_xs = rows_length at n o xs in
-    let fits_n : n + length (rows at n o xs) ≤ length nodes = omega (arith, p.nodes_room, both, rows_xs) in
-    let fits_o : o + length (texts xs) ≤ length bytes = omega (arith, p.bytes_room, both_texts) in
+    let fits_n : n + length (rows at n o xs) ≤ length nodes = omega (arith, p.nodes_capacity, both, rows_xs) in
+    let fits_o : o + length (texts xs) ≤ length bytes = omega (arith, p.bytes_capacity, both_texts) in
     let long_n : length nodes' ≡ length nodes = ap length put_n ∙ put_length nodes n (rows at n o xs) fits_n in
     let long_o : length bytes' ≡ length bytes = ap length put_o ∙ put_length bytes o (texts xs) fits_o in
     record {
-      nodes_room = omega (arith, p.nodes_room, both, at_n, long_n);
-      bytes_room = omega (arith, p.bytes_room, both_texts, at_o, long_o);
+      nodes_capacity = omega (arith, p.nodes_capacity, both, at_n, long_n);
+      bytes_capacity = omega (arith, p.bytes_capacity, both_texts, at_o, long_o);
       nodes_end = omega (arith, p.nodes_end, both, at_n);
       bytes_end = omega (arith, p.bytes_end, both_texts, at_o);
       nodes_is =
@@ -220,15 +220,15 @@ putting_ends at nodes₀ nodes bytes₀ bytes n₀ o₀ n o all left p is =
         sym (put_none bytes o) ∙ q.bytes_is,
       )
 
-pub putting_room : {at : SpanAt} {nodes₀ nodes : List Node} {bytes₀ bytes : List ℕ} {n₀ o₀ n o : ℕ}
+pub putting_capacity : {at : SpanAt} {nodes₀ nodes : List Node} {bytes₀ bytes : List ℕ} {n₀ o₀ n o : ℕ}
     {all left : List Tree}
     (xs rest : List Tree) → left ≡ xs ++ rest
     → Putting at nodes₀ nodes bytes₀ bytes n₀ o₀ n o all left →
     (n + length xs ≤ length nodes) × (o + length (texts xs) ≤ length bytes)
-putting_room {n = n} {o = o} xs rest is p =
+putting_capacity {n = n} {o = o} xs rest is p =
     let size = ap length is ∙ length-append xs rest in
     let text_size = ap (λ l. length (texts l)) is ∙ texts_length xs rest in
-    (omega (arith, p.nodes_room, size), omega (arith, p.bytes_room, text_size))
+    (omega (arith, p.nodes_capacity, size), omega (arith, p.bytes_capacity, text_size))
 
 -- ---- a count in progress
 

@@ -1,5 +1,5 @@
-pub mod Answer
+pub mod CallResult
 pub mod Buffer
 pub mod Text
 pub mod Node
-pub mod Marks
+pub mod InfoRows

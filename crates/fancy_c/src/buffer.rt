@@ -2,7 +2,7 @@
 ghost use Rattle.std.specs.Prelude.{◌≡◌, ◌≢◌, ◌<◌, ◌⊎◌, length, true, false};
 ghost use Rattle.fancy_c.specs.Buffer.{Fills};
 
-use crate::answer::{Answer, ERROR_NONE, STATUS_BUFFER_TOO_SHORT, STATUS_OK};
+use crate::call_result::{CallResult, ERROR_NONE, STATUS_BUFFER_TOO_SHORT, STATUS_OK};
 
 /// Writes the text at the front of the buffer if it fits, and returns whether it does.
 pub(crate) fn fill(buffer: &mut [u8], text: &[u8]) -> bool
@@ -19,7 +19,7 @@ pub(crate) fn fill(buffer: &mut [u8], text: &[u8]) -> bool
 }
 
 /// Writes the text at the front of the buffer if it fits, and returns the answer for the caller.
-pub(crate) fn write(buffer: &mut [u8], text: &[u8]) -> Answer
+pub(crate) fn write(buffer: &mut [u8], text: &[u8]) -> CallResult
     ensures read { result.status ≡ STATUS_OK → Fills buffer.old buffer.new text.now }
     ensures short { result.status ≡ STATUS_BUFFER_TOO_SHORT → length buffer.old < length text.now }
     ensures kept { result.status ≢ STATUS_OK → buffer.new ≡ buffer.old }
@@ -33,7 +33,7 @@ pub(crate) fn write(buffer: &mut [u8], text: &[u8]) -> Answer
     } else {
         STATUS_BUFFER_TOO_SHORT
     };
-    Answer {
+    CallResult {
         status,
         kind: ERROR_NONE,
         position: 0,

@@ -4,9 +4,9 @@
 //! crate, from C, C++ and Python.
 #![tactic(auto)]
 
-pub mod answer;
 mod buffer;
-pub mod marks;
+pub mod call_result;
+pub mod info_rows;
 pub mod message;
 pub mod node;
 pub mod nodes;

@@ -1,16 +1,17 @@
 //! The message of an error.
 ghost use Rattle.std.specs.Prelude.{◌≡◌, ◌≢◌, ◌<◌, ◌≤◌, ℕ, List, [], IfOk, length, string_bytes};
-ghost use Rattle.fancy_lex.specs.Fault.{Kind, kind_text};
+ghost use Rattle.fancy_lex.specs.Located.{Kind, kind_text};
 ghost use Rattle.fancy_lex.specs.ErrorViews.{kind_of};
 ghost use Rattle.fancy_lex.specs.Flags.{flags_of};
-ghost use Rattle.fancy_grammar.specs.Marks.{Marks};
+ghost use Rattle.fancy_grammar.specs.GroupInfo.{GroupInfo};
 ghost use Rattle.fancy_grammar.specs.Tree.{Tree};
-ghost use Rattle.fancy_c.specs.Answer.{number_of_kind, IsTold, IsTreeOfBytes, IsFaultOfBytes, IsNoUtf8};
+ghost use Rattle.fancy_c.specs.CallResult.{number_of_kind, IsReported, IsTreeOfBytes, IsErrorOfBytes, IsNoUtf8};
 ghost use Rattle.fancy_c.specs.Buffer.{Fills};
 ghost use Rattle.fancy_c.specs.Text.{carried, NamesKind, IsErrorText};
 
-use crate::answer::{
-    Answer, ERROR_CHANGING_UNICODE_MODE_UNSUPPORTED, ERROR_GENERAL_PARSE_ERROR,
+use crate::buffer::{fill, write};
+use crate::call_result::{
+    CallResult, ERROR_CHANGING_UNICODE_MODE_UNSUPPORTED, ERROR_GENERAL_PARSE_ERROR,
     ERROR_INVALID_BACKREF, ERROR_INVALID_CLASS, ERROR_INVALID_CODEPOINT_VALUE,
     ERROR_INVALID_ESCAPE, ERROR_INVALID_GROUP_NAME, ERROR_INVALID_GROUP_NAME_BACKREF,
     ERROR_INVALID_HEX, ERROR_INVALID_REPEAT, ERROR_NONE, ERROR_RECURSION_EXCEEDED,
@@ -18,8 +19,7 @@ use crate::answer::{
     ERROR_UNCLOSED_UNICODE_NAME, ERROR_UNKNOWN_FLAG, STATUS_BUFFER_TOO_SHORT, STATUS_NOT_UTF8,
     STATUS_OK, STATUS_OUT_OF_MEMORY, STATUS_REFUSED, kind_number,
 };
-use crate::buffer::{fill, write};
-use crate::read::{Refusal, read};
+use crate::read::{BytesRefusal, read};
 use fancy_syntax::error::{Error, ParseError};
 use std::alloc::{AllocError, Global};
 
@@ -32,19 +32,19 @@ fn words(alloc: Global, kind: &ParseError) -> Result<String, AllocError>
 
 /// Writes the message of the error at the front of the buffer if it fits: the status is then `STATUS_REFUSED`, else
 /// `STATUS_BUFFER_TOO_SHORT`.
-fn tell(alloc: Global, place: usize, kind: &ParseError, buffer: &mut [u8]) -> Answer
-    ensures told { result.status ≢ STATUS_OUT_OF_MEMORY → IsTold result place (kind_of kind.now) }
+fn report(alloc: Global, offset: usize, kind: &ParseError, buffer: &mut [u8]) -> CallResult
+    ensures reported { result.status ≢ STATUS_OUT_OF_MEMORY → IsReported result offset (kind_of kind.now) }
     ensures refused { result.status ≡ STATUS_REFUSED → Fills buffer.old buffer.new (kind_text (kind_of kind.now)) }
     ensures short { result.status ≡ STATUS_BUFFER_TOO_SHORT → length buffer.old < result.size }
     ensures kept { result.status ≢ STATUS_REFUSED → buffer.new ≡ buffer.old }
-    ensures fault { (result.status ≢ STATUS_OK) × (result.status ≢ STATUS_NOT_UTF8) }
+    ensures error { (result.status ≢ STATUS_OK) × (result.status ≢ STATUS_NOT_UTF8) }
     ensures status { result.status ≤ STATUS_BUFFER_TOO_SHORT }
     ensures no_kind { result.status ≡ STATUS_OUT_OF_MEMORY → result.kind ≡ ERROR_NONE }
     ensures no_position { result.status ≡ STATUS_OUT_OF_MEMORY → result.position ≡ 0 }
     ensures no_size { result.status ≡ STATUS_OUT_OF_MEMORY → result.size ≡ 0 }
 {
     let Ok(words) = words(alloc, kind) else {
-        return Answer {
+        return CallResult {
             status: STATUS_OUT_OF_MEMORY,
             kind: ERROR_NONE,
             position: 0,
@@ -56,10 +56,10 @@ fn tell(alloc: Global, place: usize, kind: &ParseError, buffer: &mut [u8]) -> An
     } else {
         STATUS_BUFFER_TOO_SHORT
     };
-    Answer {
+    CallResult {
         status,
         kind: kind_number(kind),
-        position: place,
+        position: offset,
         size: words.len(),
     }
 }
@@ -74,13 +74,13 @@ pub extern "C" fn fancy_message_nonnull(
     pattern: &[u8],
     flags: u32,
     buffer: &mut [u8],
-) -> Answer
-    ensures read { result.status ≡ STATUS_OK → (t : Tree) × (m : Marks)
+) -> CallResult
+    ensures read { result.status ≡ STATUS_OK → (t : Tree) × (m : GroupInfo)
         × IsTreeOfBytes (flags_of flags) pattern.now t m }
-    ensures refused { result.status ≡ STATUS_REFUSED → (k : Kind) × IsTold result result.position k
-        × IsFaultOfBytes (flags_of flags) pattern.now k result.position × Fills buffer.old buffer.new (kind_text k) }
-    ensures short { result.status ≡ STATUS_BUFFER_TOO_SHORT → (k : Kind) × IsTold result result.position k
-        × IsFaultOfBytes (flags_of flags) pattern.now k result.position × (length buffer.old < result.size) }
+    ensures refused { result.status ≡ STATUS_REFUSED → (k : Kind) × IsReported result result.position k
+        × IsErrorOfBytes (flags_of flags) pattern.now k result.position × Fills buffer.old buffer.new (kind_text k) }
+    ensures short { result.status ≡ STATUS_BUFFER_TOO_SHORT → (k : Kind) × IsReported result result.position k
+        × IsErrorOfBytes (flags_of flags) pattern.now k result.position × (length buffer.old < result.size) }
     ensures no_utf8 { result.status ≡ STATUS_NOT_UTF8 → IsNoUtf8 pattern.now result.position }
     ensures kept { result.status ≢ STATUS_REFUSED → buffer.new ≡ buffer.old }
     ensures status { result.status ≤ STATUS_BUFFER_TOO_SHORT }
@@ -91,23 +91,25 @@ pub extern "C" fn fancy_message_nonnull(
     ensures no_size { result.status ≢ STATUS_REFUSED → result.status ≢ STATUS_BUFFER_TOO_SHORT → result.size ≡ 0 }
 {
     match read(alloc, pattern, flags) {
-        Ok(_) => Answer {
+        Ok(_) => CallResult {
             status: STATUS_OK,
             kind: ERROR_NONE,
             position: 0,
             size: 0,
         },
-        Err(Refusal::Parse(Error::ParseError(place, kind))) => tell(alloc, place, &kind, buffer),
-        Err(Refusal::Parse(Error::OutOfMemory)) => Answer {
+        Err(BytesRefusal::Parse(Error::ParseError(offset, kind))) => report(
+            alloc, offset, &kind, buffer,
+        ),
+        Err(BytesRefusal::Parse(Error::OutOfMemory)) => CallResult {
             status: STATUS_OUT_OF_MEMORY,
             kind: ERROR_NONE,
             position: 0,
             size: 0,
         },
-        Err(Refusal::NoUtf8(place)) => Answer {
+        Err(BytesRefusal::NoUtf8(offset)) => CallResult {
             status: STATUS_NOT_UTF8,
             kind: ERROR_NONE,
-            position: place,
+            position: offset,
             size: 0,
         },
     }
@@ -145,7 +147,11 @@ fn kind_of_number(alloc: Global, number: u32) -> ParseError
 /// has, it writes an empty text. Returns `STATUS_OK` with the size of the text in bytes; `STATUS_BUFFER_TOO_SHORT` with
 /// that size if it does not fit; or `STATUS_OUT_OF_MEMORY`. Unless it returns `STATUS_OK`, nothing is written.
 #[unsafe(no_mangle)]
-pub extern "C" fn fancy_error_text_nonnull(alloc: Global, kind: u32, buffer: &mut [u8]) -> Answer
+pub extern "C" fn fancy_error_text_nonnull(
+    alloc: Global,
+    kind: u32,
+    buffer: &mut [u8],
+) -> CallResult
     ensures read { result.status ≡ STATUS_OK → (w : List ℕ) × IsErrorText kind w × (result.size ≡ length w)
         × Fills buffer.old buffer.new w }
     ensures short { result.status ≡ STATUS_BUFFER_TOO_SHORT → (w : List ℕ) × IsErrorText kind w
@@ -162,7 +168,7 @@ pub extern "C" fn fancy_error_text_nonnull(alloc: Global, kind: u32, buffer: &mu
     }
     match words(alloc, &kind_of_number(alloc, kind)) {
         Ok(words) => write(buffer, words.as_bytes()),
-        Err(AllocError) => Answer {
+        Err(AllocError) => CallResult {
             status: STATUS_OUT_OF_MEMORY,
             kind: ERROR_NONE,
             position: 0,

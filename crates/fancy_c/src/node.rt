@@ -211,7 +211,7 @@ pub struct Node {
 /// Where a node is: the index after its last descendant, where its text begins (0 if it has none), and its span in the
 /// pattern.
 #[derive(Clone, Copy)]
-pub(crate) struct Stand {
+pub(crate) struct Location {
     pub(crate) end: usize,
     pub(crate) text: usize,
     pub(crate) span: Span,
@@ -302,7 +302,7 @@ fn target_name(target: &CaptureGroupTarget) -> &[u8]
 
 /// The name that is called by a node that was read and not resolved.
 fn called_name(node: &AstNode) -> &[u8]
-    ensures { (place : _) → result.now ≡ spec.carried (view_ast node.now place) }
+    ensures { (offset : _) → result.now ≡ spec.carried (view_ast node.now offset) }
 {
     match node {
         AstNode::SubroutineCall(target) => target_name(target),
@@ -325,7 +325,7 @@ pub(crate) fn carried(tree: &Expr) -> &[u8]
     }
 }
 
-impl Stand {
+impl Location {
     /// A node of this kind that has only its text.
     fn plain(self, kind: u32, size: usize) -> Node
         ensures { result ≡ spec.plain kind self size }
@@ -374,34 +374,34 @@ impl Stand {
     }
 
     /// A call as it was read.
-    fn call(self, target: &CaptureGroupTarget, place: usize) -> Node
-        ensures { result ≡ spec.row_of_call self (view_target target.now) place }
+    fn call(self, target: &CaptureGroupTarget, offset: usize) -> Node
+        ensures { result ≡ spec.row_of_call self (view_target target.now) offset }
     {
         match target {
             CaptureGroupTarget::ByNumber(number) => Node {
                 group: *number,
-                position: place,
+                position: offset,
                 ..self.one_of(NODE_AST_NODE, TARGET_BY_NUMBER)
             },
             CaptureGroupTarget::ByName(name) => Node {
                 which: TARGET_BY_NAME,
-                position: place,
+                position: offset,
                 ..self.with_text(NODE_AST_NODE, name.as_str(), false)
             },
             CaptureGroupTarget::Relative(amount) => Node {
                 level: *amount,
-                position: place,
+                position: offset,
                 ..self.one_of(NODE_AST_NODE, TARGET_RELATIVE)
             },
         }
     }
 
     /// A node that was read and not resolved.
-    fn read_node(self, node: &AstNode, place: usize) -> Node
-        ensures { result ≡ spec.row self (view_ast node.now place) }
+    fn read_node(self, node: &AstNode, offset: usize) -> Node
+        ensures { result ≡ spec.row self (view_ast node.now offset) }
     {
         match node {
-            AstNode::SubroutineCall(target) => self.call(target, place),
+            AstNode::SubroutineCall(target) => self.call(target, offset),
             AstNode::AstGroup { .. }
             | AstNode::Backref { .. }
             | AstNode::BackrefExistsCondition { .. } => { self.plain(NODE_AST_NODE, 0) }
@@ -491,7 +491,7 @@ impl Stand {
             Expr::BacktrackingControlVerb(verb) => self.one_of(NODE_VERB, verb_number(*verb)),
             Expr::Absent(absent) => self.one_of(NODE_ABSENT, absent_number(absent)),
             Expr::DefineGroup { .. } => self.plain(NODE_DEFINE_GROUP, 0),
-            Expr::AstNode(node, place) => self.read_node(node, *place),
+            Expr::AstNode(node, offset) => self.read_node(node, *offset),
         }
     }
 }

@@ -1,33 +1,33 @@
 //! A pattern's tree as an array, with its group information.
 ghost use Rattle.std.specs.Prelude.{◌≡◌, ◌≢◌, ◌<◌, ◌≤◌, ◌⊎◌, List, length, true, false};
-ghost use Rattle.fancy_lex.specs.Fault.{Kind};
+ghost use Rattle.fancy_lex.specs.Located.{Kind};
 ghost use Rattle.fancy_lex.specs.Flags.{flags_of};
-ghost use Rattle.fancy_grammar.specs.Marks.{Marks};
+ghost use Rattle.fancy_grammar.specs.GroupInfo.{GroupInfo};
 ghost use Rattle.fancy_grammar.specs.Tree.{Tree};
-ghost use Rattle.fancy_syntax.specs.Answer.{marks_of};
+ghost use Rattle.fancy_syntax.specs.InfoViews.{info_of};
 ghost use Rattle.fancy_syntax.specs.View.{view};
 ghost use Rattle.fancy_syntax.specs.declared.span.Span.{Span};
-ghost use Rattle.fancy_c.specs.Answer.{number_of_kind, IsFaultOfBytes, IsNoUtf8};
-ghost use Rattle.fancy_c.specs.Marks.{told, all_texts, name_rows, AreWritten, AreSpansOfBytes, IsToldOf};
+ghost use Rattle.fancy_c.specs.CallResult.{number_of_kind, IsErrorOfBytes, IsNoUtf8};
+ghost use Rattle.fancy_c.specs.InfoRows.{summary, all_texts, name_rows, AreWritten, AreSpansOfBytes, IsSummaryOf};
 ghost use Rattle.fancy_c.specs.Node.{listed, span_at};
 
-use crate::answer::{
-    Answer, ERROR_NONE, STATUS_BUFFER_TOO_SHORT, STATUS_NOT_UTF8, STATUS_OK, STATUS_REFUSED,
+use crate::call_result::{
+    CallResult, ERROR_NONE, STATUS_BUFFER_TOO_SHORT, STATUS_NOT_UTF8, STATUS_OK, STATUS_REFUSED,
 };
-use crate::marks::{Name, TreeInfo, count_names, put_backrefs, put_names};
+use crate::info_rows::{Name, TreeInfo, count_names, put_backrefs, put_names};
 use crate::node::Node;
 use crate::read::{Parsed, read_with_spans};
-use crate::rows::{Counts, count, put_tree};
+use crate::rows::{RowCounts, count, put_tree};
 use fancy_syntax::span::Span;
 use fancy_syntax::tree::ExprTree;
 use std::alloc::Global;
 
 /// The sizes of the tree, and its group information.
-fn info_told(tree: &ExprTree) -> TreeInfo
-    ensures { result ≡ told (view tree.now.expr) (marks_of tree.now) }
+fn summary_of(tree: &ExprTree) -> TreeInfo
+    ensures { result ≡ summary (view tree.now.expr) (info_of tree.now) }
 {
-    let nodes = count(&tree.expr, Counts { rows: 0, text: 0 });
-    let before = Counts {
+    let nodes = count(&tree.expr, RowCounts { rows: 0, text: 0 });
+    let before = RowCounts {
         rows: 0,
         text: nodes.text,
     };
@@ -56,57 +56,63 @@ fn put_all(
     tree: &ExprTree,
     spans: &[Span],
 )
-    requires nodes_room { length (listed (view tree.now.expr)) ≤ length nodes.old }
-    requires texts_room { length (all_texts (view tree.now.expr) (marks_of tree.now)) ≤ length texts.old }
-    requires names_room { length (name_rows 0 (marks_of tree.now).named_groups) ≤ length names.old }
-    requires backrefs_room { length tree.now.backrefs.keys ≤ length backrefs.old }
-    ensures { AreWritten (view tree.now.expr) (marks_of tree.now) (span_at spans.now)
+    requires nodes_capacity { length (listed (view tree.now.expr)) ≤ length nodes.old }
+    requires texts_capacity { length (all_texts (view tree.now.expr) (info_of tree.now)) ≤ length texts.old }
+    requires names_capacity { length (name_rows 0 (info_of tree.now).named_groups) ≤ length names.old }
+    requires backrefs_capacity { length tree.now.backrefs.keys ≤ length backrefs.old }
+    ensures { AreWritten (view tree.now.expr) (info_of tree.now) (span_at spans.now)
         nodes.old nodes.new texts.old texts.new names.old names.new backrefs.old backrefs.new }
 {
-    let behind = put_tree(nodes, texts, &tree.expr, spans, Counts { rows: 0, text: 0 });
-    let before = Counts {
+    let after = put_tree(
+        nodes,
+        texts,
+        &tree.expr,
+        spans,
+        RowCounts { rows: 0, text: 0 },
+    );
+    let before = RowCounts {
         rows: 0,
-        text: behind.text,
+        text: after.text,
     };
     put_names(names, texts, &tree.named_groups, before);
     put_backrefs(backrefs, &tree.backrefs);
 }
 
 /// Whether buffers of these lengths are long enough.
-fn fits(told: TreeInfo, nodes: usize, texts: usize, names: usize, backrefs: usize) -> bool
-    ensures room { result ≡ true → (told.node_count ≤ nodes) × (told.texts_size ≤ texts) × (told.name_count ≤ names)
-        × (told.backref_count ≤ backrefs) }
-    ensures short { result ≡ false → (nodes < told.node_count) ⊎ ((texts < told.texts_size) ⊎ ((names < told.name_count)
-        ⊎ (backrefs < told.backref_count))) }
+fn fits(summary: TreeInfo, nodes: usize, texts: usize, names: usize, backrefs: usize) -> bool
+    ensures capacity { result ≡ true → (summary.node_count ≤ nodes) × (summary.texts_size ≤ texts) × (summary.name_count ≤ names)
+        × (summary.backref_count ≤ backrefs) }
+    ensures short { result ≡ false → (nodes < summary.node_count) ⊎ ((texts < summary.texts_size) ⊎ ((names < summary.name_count)
+        ⊎ (backrefs < summary.backref_count))) }
 {
-    if nodes < told.node_count {
+    if nodes < summary.node_count {
         return false;
     }
-    if texts < told.texts_size {
+    if texts < summary.texts_size {
         return false;
     }
-    if names < told.name_count {
+    if names < summary.name_count {
         return false;
     }
-    told.backref_count <= backrefs
+    summary.backref_count <= backrefs
 }
 
 /// Sets the info of the tree, and writes it at the front of the buffers if all of it fits.
-fn tell(
+fn write_tree(
     nodes: &mut [Node],
     texts: &mut [u8],
     names: &mut [Name],
     backrefs: &mut [usize],
     info: &mut TreeInfo,
     parsed: &Parsed,
-) -> Answer
-    ensures read { result.status ≡ STATUS_OK → AreWritten (view parsed.now.tree.expr) (marks_of parsed.now.tree)
+) -> CallResult
+    ensures read { result.status ≡ STATUS_OK → AreWritten (view parsed.now.tree.expr) (info_of parsed.now.tree)
         (span_at parsed.now.spans.items) nodes.old nodes.new
         texts.old texts.new names.old names.new backrefs.old backrefs.new }
     ensures short { result.status ≡ STATUS_BUFFER_TOO_SHORT → (length nodes.old < info.new.node_count)
         ⊎ ((length texts.old < info.new.texts_size)
         ⊎ ((length names.old < info.new.name_count) ⊎ (length backrefs.old < info.new.backref_count))) }
-    ensures info { info.new ≡ told (view parsed.now.tree.expr) (marks_of parsed.now.tree) }
+    ensures info { info.new ≡ summary (view parsed.now.tree.expr) (info_of parsed.now.tree) }
     ensures nodes_kept { result.status ≢ STATUS_OK → nodes.new ≡ nodes.old }
     ensures texts_kept { result.status ≢ STATUS_OK → texts.new ≡ texts.old }
     ensures names_kept { result.status ≢ STATUS_OK → names.new ≡ names.old }
@@ -116,10 +122,16 @@ fn tell(
     ensures no_position { result.position ≡ 0 }
     ensures no_size { result.size ≡ 0 }
 {
-    let told = info_told(&parsed.tree);
-    *info = told;
-    if !fits(told, nodes.len(), texts.len(), names.len(), backrefs.len()) {
-        return Answer {
+    let summary = summary_of(&parsed.tree);
+    *info = summary;
+    if !fits(
+        summary,
+        nodes.len(),
+        texts.len(),
+        names.len(),
+        backrefs.len(),
+    ) {
+        return CallResult {
             status: STATUS_BUFFER_TOO_SHORT,
             kind: ERROR_NONE,
             position: 0,
@@ -127,7 +139,7 @@ fn tell(
         };
     }
     put_all(nodes, texts, names, backrefs, &parsed.tree, &parsed.spans);
-    Answer {
+    CallResult {
         status: STATUS_OK,
         kind: ERROR_NONE,
         position: 0,
@@ -151,16 +163,16 @@ pub extern "C" fn fancy_parse_nonnull(
     names: &mut [Name],
     backrefs: &mut [usize],
     info: &mut TreeInfo,
-) -> Answer
-    ensures read { result.status ≡ STATUS_OK → (t : Tree) × (m : Marks) × (spans : List Span)
-        × IsToldOf info.new (flags_of flags) pattern.now t m × AreSpansOfBytes (flags_of flags) pattern.now t spans
+) -> CallResult
+    ensures read { result.status ≡ STATUS_OK → (t : Tree) × (m : GroupInfo) × (spans : List Span)
+        × IsSummaryOf info.new (flags_of flags) pattern.now t m × AreSpansOfBytes (flags_of flags) pattern.now t spans
         × AreWritten t m (span_at spans) nodes.old nodes.new texts.old texts.new names.old names.new backrefs.old backrefs.new }
     ensures short { result.status ≡ STATUS_BUFFER_TOO_SHORT →
-        (t : Tree) × (m : Marks) × IsToldOf info.new (flags_of flags) pattern.now t m
+        (t : Tree) × (m : GroupInfo) × IsSummaryOf info.new (flags_of flags) pattern.now t m
         × ((length nodes.old < info.new.node_count) ⊎ ((length texts.old < info.new.texts_size)
         ⊎ ((length names.old < info.new.name_count) ⊎ (length backrefs.old < info.new.backref_count)))) }
     ensures refused { result.status ≡ STATUS_REFUSED → (k : Kind) × (result.kind ≡ number_of_kind k)
-        × IsFaultOfBytes (flags_of flags) pattern.now k result.position }
+        × IsErrorOfBytes (flags_of flags) pattern.now k result.position }
     ensures no_utf8 { result.status ≡ STATUS_NOT_UTF8 → IsNoUtf8 pattern.now result.position }
     ensures nodes_kept { result.status ≢ STATUS_OK → nodes.new ≡ nodes.old }
     ensures texts_kept { result.status ≢ STATUS_OK → texts.new ≡ texts.old }
@@ -173,7 +185,7 @@ pub extern "C" fn fancy_parse_nonnull(
     ensures no_size { result.size ≡ 0 }
 {
     match read_with_spans(alloc, pattern, flags) {
-        Ok(parsed) => tell(nodes, texts, names, backrefs, info, &parsed),
-        Err(refusal) => refusal.answer(),
+        Ok(parsed) => write_tree(nodes, texts, names, backrefs, info, &parsed),
+        Err(refusal) => refusal.call_result(),
     }
 }

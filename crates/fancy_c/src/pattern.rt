@@ -1,19 +1,19 @@
 //! The text of any pattern's tree, for the flags that the pattern was parsed under.
 ghost use Rattle.std.specs.Prelude.{◌≡◌, ◌≢◌, ◌<◌, ◌≤◌, ℕ, List, IfOk, MatchOption, length, string_bytes};
-ghost use Rattle.fancy_lex.specs.Fault.{Kind};
+ghost use Rattle.fancy_lex.specs.Located.{Kind};
 ghost use Rattle.fancy_lex.specs.Flags.{flags_of};
 ghost use Rattle.fancy_grammar.specs.OfPattern.{IsOfPattern};
-ghost use Rattle.fancy_syntax.specs.Answer.{marks_of};
+ghost use Rattle.fancy_syntax.specs.InfoViews.{info_of};
 ghost use Rattle.fancy_syntax.specs.View.{view};
-ghost use Rattle.fancy_c.specs.Answer.{number_of_kind, IsFaultOfBytes, IsNoUtf8};
+ghost use Rattle.fancy_c.specs.CallResult.{number_of_kind, IsErrorOfBytes, IsNoUtf8};
 ghost use Rattle.fancy_c.specs.Buffer.{Fills};
 ghost use Rattle.fancy_c.specs.Text.{IsPatternText, IsPatternTextOfBytes};
 
-use crate::answer::{
-    Answer, ERROR_NONE, STATUS_BUFFER_TOO_SHORT, STATUS_NO_PATTERN, STATUS_NOT_PRINTABLE,
+use crate::buffer::write;
+use crate::call_result::{
+    CallResult, ERROR_NONE, STATUS_BUFFER_TOO_SHORT, STATUS_NO_PATTERN, STATUS_NOT_PRINTABLE,
     STATUS_NOT_UTF8, STATUS_OK, STATUS_OUT_OF_MEMORY, STATUS_REFUSED,
 };
-use crate::buffer::write;
 use crate::read::read;
 use fancy_pattern::to_pattern;
 use fancy_syntax::tree::ExprTree;
@@ -22,24 +22,24 @@ use std::alloc::{AllocError, Global};
 /// The text that is written for the tree, if it is read as the tree.
 fn pattern_of(alloc: Global, tree: &ExprTree, flags: u32) -> Result<Option<String>, AllocError>
     ensures { IfOk result (λ text. MatchOption text
-        (IsOfPattern (flags_of flags) (view tree.now.expr) (marks_of tree.now) → ⊥)
-        (λ s. IsPatternText (flags_of flags) (view tree.now.expr) (marks_of tree.now) (string_bytes s))) }
+        (IsOfPattern (flags_of flags) (view tree.now.expr) (info_of tree.now) → ⊥)
+        (λ s. IsPatternText (flags_of flags) (view tree.now.expr) (info_of tree.now) (string_bytes s))) }
 {
     to_pattern(alloc, tree, flags)
 }
 
 /// Writes that text at the front of the buffer, if there is one and it fits.
-fn put_pattern(alloc: Global, tree: &ExprTree, flags: u32, buffer: &mut [u8]) -> Answer
+fn put_pattern(alloc: Global, tree: &ExprTree, flags: u32, buffer: &mut [u8]) -> CallResult
     ensures read { result.status ≡ STATUS_OK → (w : List ℕ)
-        × IsPatternText (flags_of flags) (view tree.now.expr) (marks_of tree.now) w × (result.size ≡ length w)
+        × IsPatternText (flags_of flags) (view tree.now.expr) (info_of tree.now) w × (result.size ≡ length w)
         × Fills buffer.old buffer.new w }
     ensures short { result.status ≡ STATUS_BUFFER_TOO_SHORT → (w : List ℕ)
-        × IsPatternText (flags_of flags) (view tree.now.expr) (marks_of tree.now) w × (result.size ≡ length w)
+        × IsPatternText (flags_of flags) (view tree.now.expr) (info_of tree.now) w × (result.size ≡ length w)
         × (length buffer.old < length w) }
     ensures no_pattern { result.status ≡ STATUS_NO_PATTERN →
-        IsOfPattern (flags_of flags) (view tree.now.expr) (marks_of tree.now) → ⊥ }
+        IsOfPattern (flags_of flags) (view tree.now.expr) (info_of tree.now) → ⊥ }
     ensures kept { result.status ≢ STATUS_OK → buffer.new ≡ buffer.old }
-    ensures fault { (result.status ≢ STATUS_REFUSED) × (result.status ≢ STATUS_NOT_UTF8) }
+    ensures error { (result.status ≢ STATUS_REFUSED) × (result.status ≢ STATUS_NOT_UTF8) }
     ensures printed { result.status ≢ STATUS_NOT_PRINTABLE }
     ensures status { result.status ≤ STATUS_NO_PATTERN }
     ensures no_kind { result.kind ≡ ERROR_NONE }
@@ -48,13 +48,13 @@ fn put_pattern(alloc: Global, tree: &ExprTree, flags: u32, buffer: &mut [u8]) ->
 {
     match pattern_of(alloc, tree, flags) {
         Ok(Some(text)) => write(buffer, text.as_bytes()),
-        Ok(None) => Answer {
+        Ok(None) => CallResult {
             status: STATUS_NO_PATTERN,
             kind: ERROR_NONE,
             position: 0,
             size: 0,
         },
-        Err(AllocError) => Answer {
+        Err(AllocError) => CallResult {
             status: STATUS_OUT_OF_MEMORY,
             kind: ERROR_NONE,
             position: 0,
@@ -75,7 +75,7 @@ pub extern "C" fn fancy_pattern_nonnull(
     pattern: &[u8],
     flags: u32,
     buffer: &mut [u8],
-) -> Answer
+) -> CallResult
     ensures read { result.status ≡ STATUS_OK → (w : List ℕ) × IsPatternTextOfBytes (flags_of flags) pattern.now w
         × (result.size ≡ length w) × Fills buffer.old buffer.new w }
     ensures short { result.status ≡ STATUS_BUFFER_TOO_SHORT → (w : List ℕ)
@@ -83,7 +83,7 @@ pub extern "C" fn fancy_pattern_nonnull(
         × (result.size ≡ length w) × (length buffer.old < length w) }
     ensures never { result.status ≢ STATUS_NO_PATTERN }
     ensures refused { result.status ≡ STATUS_REFUSED → (k : Kind) × (result.kind ≡ number_of_kind k)
-        × IsFaultOfBytes (flags_of flags) pattern.now k result.position }
+        × IsErrorOfBytes (flags_of flags) pattern.now k result.position }
     ensures no_utf8 { result.status ≡ STATUS_NOT_UTF8 → IsNoUtf8 pattern.now result.position }
     ensures kept { result.status ≢ STATUS_OK → buffer.new ≡ buffer.old }
     ensures printed { result.status ≢ STATUS_NOT_PRINTABLE }
@@ -94,6 +94,6 @@ pub extern "C" fn fancy_pattern_nonnull(
 {
     match read(alloc, pattern, flags) {
         Ok(tree) => put_pattern(alloc, &tree, flags, buffer),
-        Err(refusal) => refusal.answer(),
+        Err(refusal) => refusal.call_result(),
     }
 }

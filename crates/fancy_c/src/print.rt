@@ -1,20 +1,20 @@
 //! The text of a pattern's tree.
 ghost use Rattle.std.specs.Prelude.{◌≡◌, ◌≢◌, ◌<◌, ◌≤◌, ℕ, List, IfOk, MatchOption, length, string_bytes, false};
-ghost use Rattle.fancy_lex.specs.Fault.{Kind};
+ghost use Rattle.fancy_lex.specs.Located.{Kind};
 ghost use Rattle.fancy_lex.specs.Flags.{flags_of};
-ghost use Rattle.fancy_grammar.specs.Marks.{Marks};
+ghost use Rattle.fancy_grammar.specs.GroupInfo.{GroupInfo};
 ghost use Rattle.fancy_grammar.specs.Printable.{printable};
 ghost use Rattle.fancy_grammar.specs.Tree.{Tree};
 ghost use Rattle.fancy_syntax.specs.View.{view};
-ghost use Rattle.fancy_c.specs.Answer.{number_of_kind, IsTreeOfBytes, IsFaultOfBytes, IsNoUtf8};
+ghost use Rattle.fancy_c.specs.CallResult.{number_of_kind, IsTreeOfBytes, IsErrorOfBytes, IsNoUtf8};
 ghost use Rattle.fancy_c.specs.Buffer.{Fills};
 ghost use Rattle.fancy_c.specs.Text.{IsText, IsTextOfBytes};
 
-use crate::answer::{
-    Answer, ERROR_NONE, STATUS_BUFFER_TOO_SHORT, STATUS_NOT_PRINTABLE, STATUS_NOT_UTF8, STATUS_OK,
-    STATUS_OUT_OF_MEMORY, STATUS_REFUSED,
-};
 use crate::buffer::write;
+use crate::call_result::{
+    CallResult, ERROR_NONE, STATUS_BUFFER_TOO_SHORT, STATUS_NOT_PRINTABLE, STATUS_NOT_UTF8,
+    STATUS_OK, STATUS_OUT_OF_MEMORY, STATUS_REFUSED,
+};
 use crate::read::read;
 use fancy_syntax::expr::Expr;
 use std::alloc::{AllocError, Global};
@@ -28,7 +28,7 @@ fn text_of(alloc: Global, tree: &Expr, precedence: u8) -> Result<Option<String>,
 }
 
 /// Writes the tree's text at the front of the buffer, if it has one and it fits.
-fn print(alloc: Global, tree: &Expr, precedence: u8, buffer: &mut [u8]) -> Answer
+fn print(alloc: Global, tree: &Expr, precedence: u8, buffer: &mut [u8]) -> CallResult
     ensures read { result.status ≡ STATUS_OK → (w : List ℕ) × IsText (view tree.now) precedence w
         × (result.size ≡ length w) × Fills buffer.old buffer.new w }
     ensures short { result.status ≡ STATUS_BUFFER_TOO_SHORT →
@@ -36,7 +36,7 @@ fn print(alloc: Global, tree: &Expr, precedence: u8, buffer: &mut [u8]) -> Answe
         × (length buffer.old < length w) }
     ensures not_printable { result.status ≡ STATUS_NOT_PRINTABLE → printable (view tree.now) ≡ false }
     ensures kept { result.status ≢ STATUS_OK → buffer.new ≡ buffer.old }
-    ensures fault { (result.status ≢ STATUS_REFUSED) × (result.status ≢ STATUS_NOT_UTF8) }
+    ensures error { (result.status ≢ STATUS_REFUSED) × (result.status ≢ STATUS_NOT_UTF8) }
     ensures status { result.status ≤ STATUS_NOT_PRINTABLE }
     ensures no_kind { result.kind ≡ ERROR_NONE }
     ensures no_position { result.position ≡ 0 }
@@ -44,13 +44,13 @@ fn print(alloc: Global, tree: &Expr, precedence: u8, buffer: &mut [u8]) -> Answe
 {
     match text_of(alloc, tree, precedence) {
         Ok(Some(text)) => write(buffer, text.as_bytes()),
-        Ok(None) => Answer {
+        Ok(None) => CallResult {
             status: STATUS_NOT_PRINTABLE,
             kind: ERROR_NONE,
             position: 0,
             size: 0,
         },
-        Err(AllocError) => Answer {
+        Err(AllocError) => CallResult {
             status: STATUS_OUT_OF_MEMORY,
             kind: ERROR_NONE,
             position: 0,
@@ -71,16 +71,16 @@ pub extern "C" fn fancy_print_nonnull(
     flags: u32,
     precedence: u8,
     buffer: &mut [u8],
-) -> Answer
+) -> CallResult
     ensures read { result.status ≡ STATUS_OK → (w : List ℕ) × IsTextOfBytes (flags_of flags) pattern.now precedence w
         × (result.size ≡ length w) × Fills buffer.old buffer.new w }
     ensures short { result.status ≡ STATUS_BUFFER_TOO_SHORT → (w : List ℕ)
         × IsTextOfBytes (flags_of flags) pattern.now precedence w
         × (result.size ≡ length w) × (length buffer.old < length w) }
-    ensures not_printable { result.status ≡ STATUS_NOT_PRINTABLE → (t : Tree) × (m : Marks)
+    ensures not_printable { result.status ≡ STATUS_NOT_PRINTABLE → (t : Tree) × (m : GroupInfo)
         × IsTreeOfBytes (flags_of flags) pattern.now t m × (printable t ≡ false) }
     ensures refused { result.status ≡ STATUS_REFUSED → (k : Kind) × (result.kind ≡ number_of_kind k)
-        × IsFaultOfBytes (flags_of flags) pattern.now k result.position }
+        × IsErrorOfBytes (flags_of flags) pattern.now k result.position }
     ensures no_utf8 { result.status ≡ STATUS_NOT_UTF8 → IsNoUtf8 pattern.now result.position }
     ensures kept { result.status ≢ STATUS_OK → buffer.new ≡ buffer.old }
     ensures status { result.status ≤ STATUS_NOT_PRINTABLE }
@@ -90,6 +90,6 @@ pub extern "C" fn fancy_print_nonnull(
 {
     match read(alloc, pattern, flags) {
         Ok(tree) => print(alloc, &tree.expr, precedence, buffer),
-        Err(refusal) => refusal.answer(),
+        Err(refusal) => refusal.call_result(),
     }
 }

@@ -1,18 +1,18 @@
 //! Bytes parsed as a pattern.
 ghost use Rattle.std.specs.Prelude.{◌≡◌, ◌≢◌, ◌≤◌, IfOk, IfErr};
 ghost use Rattle.std.specs.Str.{IsUtf8};
-ghost use Rattle.fancy_lex.specs.Fault.{Kind};
+ghost use Rattle.fancy_lex.specs.Located.{Kind};
 ghost use Rattle.fancy_lex.specs.Flags.{flags_of};
 ghost use Rattle.fancy_lex.specs.declared.flags.Flags.{Flags};
-ghost use Rattle.fancy_grammar.specs.Marks.{Marks};
+ghost use Rattle.fancy_grammar.specs.GroupInfo.{GroupInfo};
 ghost use Rattle.fancy_grammar.specs.Tree.{Tree};
-ghost use Rattle.fancy_syntax.specs.Answer.{marks_of};
+ghost use Rattle.fancy_syntax.specs.InfoViews.{info_of};
 ghost use Rattle.fancy_syntax.specs.View.{view};
-ghost use Rattle.fancy_c.specs.Answer.{number_of_kind, IsTreeOfBytes, IsFaultOfBytes, IsNoUtf8, IsRefusalOf, answer_of};
-ghost use Rattle.fancy_c.specs.Marks.{AreSpansOfBytes};
+ghost use Rattle.fancy_c.specs.CallResult.{number_of_kind, IsTreeOfBytes, IsErrorOfBytes, IsNoUtf8, IsRefusalOf, result_of};
+ghost use Rattle.fancy_c.specs.InfoRows.{AreSpansOfBytes};
 
-use crate::answer::{
-    Answer, ERROR_NONE, STATUS_NOT_UTF8, STATUS_OK, STATUS_OUT_OF_MEMORY, STATUS_REFUSED,
+use crate::call_result::{
+    CallResult, ERROR_NONE, STATUS_NOT_UTF8, STATUS_OK, STATUS_OUT_OF_MEMORY, STATUS_REFUSED,
     kind_number,
 };
 use fancy_syntax::error::Error;
@@ -24,32 +24,32 @@ use std::str;
 
 /// Why there is no tree for the bytes.
 #[derive(Drop)]
-pub(crate) enum Refusal {
+pub(crate) enum BytesRefusal {
     /// They are not UTF-8 from this position on.
     NoUtf8(usize),
     /// They are a pattern with an error, or memory ran out.
     Parse(Error),
 }
 
-impl Refusal {
+impl BytesRefusal {
     /// The answer for the caller in C.
-    pub(crate) fn answer(&self) -> Answer
-        ensures { result ≡ answer_of self.now }
+    pub(crate) fn call_result(&self) -> CallResult
+        ensures { result ≡ result_of self.now }
     {
         match self {
-            Refusal::NoUtf8(place) => Answer {
+            BytesRefusal::NoUtf8(offset) => CallResult {
                 status: STATUS_NOT_UTF8,
                 kind: ERROR_NONE,
-                position: *place,
+                position: *offset,
                 size: 0,
             },
-            Refusal::Parse(Error::ParseError(place, kind)) => Answer {
+            BytesRefusal::Parse(Error::ParseError(offset, kind)) => CallResult {
                 status: STATUS_REFUSED,
                 kind: kind_number(kind),
-                position: *place,
+                position: *offset,
                 size: 0,
             },
-            Refusal::Parse(Error::OutOfMemory) => Answer {
+            BytesRefusal::Parse(Error::OutOfMemory) => CallResult {
                 status: STATUS_OUT_OF_MEMORY,
                 kind: ERROR_NONE,
                 position: 0,
@@ -60,25 +60,25 @@ impl Refusal {
 }
 
 /// The text that the bytes encode in UTF-8.
-fn text_of(pattern: &[u8]) -> Result<&str, Refusal>
+fn text_of(pattern: &[u8]) -> Result<&str, BytesRefusal>
     ensures text { IfOk result (λ text. (text.now ≡ pattern.now) × IsUtf8 pattern.now) }
     ensures refusal { IfErr result (λ r. (f : Flags) → IsRefusalOf r f pattern.now) }
 {
     match str::from_utf8(pattern) {
         Ok(text) => Ok(text),
-        Err(error) => Err(Refusal::NoUtf8(error.valid_up_to())),
+        Err(error) => Err(BytesRefusal::NoUtf8(error.valid_up_to())),
     }
 }
 
 /// Reads bytes as a pattern under the flags whose bits are set.
-pub(crate) fn read(alloc: Global, pattern: &[u8], flags: u32) -> Result<ExprTree, Refusal>
-    ensures tree { IfOk result (λ t. IsTreeOfBytes (flags_of flags) pattern.now (view t.expr) (marks_of t)) }
+pub(crate) fn read(alloc: Global, pattern: &[u8], flags: u32) -> Result<ExprTree, BytesRefusal>
+    ensures tree { IfOk result (λ t. IsTreeOfBytes (flags_of flags) pattern.now (view t.expr) (info_of t)) }
     ensures refusal { IfErr result (λ r. IsRefusalOf r (flags_of flags) pattern.now) }
 {
     let text = text_of(pattern)?;
     match Expr::parse_tree_with_flags(alloc, text, flags) {
         Ok(tree) => Ok(tree),
-        Err(error) => Err(Refusal::Parse(error)),
+        Err(error) => Err(BytesRefusal::Parse(error)),
     }
 }
 
@@ -90,15 +90,19 @@ pub(crate) struct Parsed {
 }
 
 /// The same, with the spans of the tree's nodes.
-pub(crate) fn read_with_spans(alloc: Global, pattern: &[u8], flags: u32) -> Result<Parsed, Refusal>
-    ensures tree { IfOk result (λ p. IsTreeOfBytes (flags_of flags) pattern.now (view p.tree.expr) (marks_of p.tree)) }
+pub(crate) fn read_with_spans(
+    alloc: Global,
+    pattern: &[u8],
+    flags: u32,
+) -> Result<Parsed, BytesRefusal>
+    ensures tree { IfOk result (λ p. IsTreeOfBytes (flags_of flags) pattern.now (view p.tree.expr) (info_of p.tree)) }
     ensures spans { IfOk result (λ p. AreSpansOfBytes (flags_of flags) pattern.now (view p.tree.expr) p.spans.items) }
     ensures refusal { IfErr result (λ r. IsRefusalOf r (flags_of flags) pattern.now) }
 {
     let text = text_of(pattern)?;
     match Expr::parse_tree_with_spans(alloc, text, flags) {
         Ok((tree, spans)) => Ok(Parsed { tree, spans }),
-        Err(error) => Err(Refusal::Parse(error)),
+        Err(error) => Err(BytesRefusal::Parse(error)),
     }
 }
 
@@ -106,11 +110,11 @@ pub(crate) fn read_with_spans(alloc: Global, pattern: &[u8], flags: u32) -> Resu
 /// `STATUS_REFUSED`, with the kind and the position of the pattern's only error; `STATUS_NOT_UTF8`, with the length of
 /// the valid UTF-8 prefix; or `STATUS_OUT_OF_MEMORY`. The size is 0.
 #[unsafe(no_mangle)]
-pub extern "C" fn fancy_check_nonnull(alloc: Global, pattern: &[u8], flags: u32) -> Answer
-    ensures read { result.status ≡ STATUS_OK → (t : Tree) × (m : Marks)
+pub extern "C" fn fancy_check_nonnull(alloc: Global, pattern: &[u8], flags: u32) -> CallResult
+    ensures read { result.status ≡ STATUS_OK → (t : Tree) × (m : GroupInfo)
         × IsTreeOfBytes (flags_of flags) pattern.now t m }
     ensures refused { result.status ≡ STATUS_REFUSED → (k : Kind) × (result.kind ≡ number_of_kind k)
-        × IsFaultOfBytes (flags_of flags) pattern.now k result.position }
+        × IsErrorOfBytes (flags_of flags) pattern.now k result.position }
     ensures no_utf8 { result.status ≡ STATUS_NOT_UTF8 → IsNoUtf8 pattern.now result.position }
     ensures status { result.status ≤ STATUS_OUT_OF_MEMORY }
     ensures no_kind { result.status ≢ STATUS_REFUSED → result.kind ≡ ERROR_NONE }
@@ -118,12 +122,12 @@ pub extern "C" fn fancy_check_nonnull(alloc: Global, pattern: &[u8], flags: u32)
     ensures no_size { result.size ≡ 0 }
 {
     match read(alloc, pattern, flags) {
-        Ok(_) => Answer {
+        Ok(_) => CallResult {
             status: STATUS_OK,
             kind: ERROR_NONE,
             position: 0,
             size: 0,
         },
-        Err(refusal) => refusal.answer(),
+        Err(refusal) => refusal.call_result(),
     }
 }

@@ -1,19 +1,19 @@
 //! The nodes of a tree written into an array.
 ghost use Rattle.std.specs.Prelude.{◌≡◌, ◌+◌, ◌≤◌, length};
-ghost use Rattle.fancy_parts.specs.Room.{in_word};
+ghost use Rattle.fancy_parts.specs.Capacity.{in_word};
 ghost use Rattle.fancy_grammar.specs.Tree.{children};
 ghost use Rattle.fancy_syntax.specs.View.{view};
 ghost use Rattle.fancy_c.specs.Buffer.{put_at};
 ghost use Rattle.fancy_c.specs.Node as spec;
 ghost use Rattle.fancy_c.specs.Node.{listed, listed_each, rows, span_at, texts};
 
-use crate::node::{Node, Stand, carried};
+use crate::node::{Location, Node, carried};
 use fancy_syntax::expr::Expr;
 use fancy_syntax::span::Span;
 
 /// The number of rows, and the number of bytes of their texts.
 #[derive(Clone, Copy)]
-pub(crate) struct Counts {
+pub(crate) struct RowCounts {
     pub(crate) rows: usize,
     pub(crate) text: usize,
 }
@@ -29,39 +29,39 @@ fn span_at(spans: &[Span], i: usize) -> Span
 }
 
 /// The counts after a tree, given those before it, each `usize::MAX` if it is above that.
-pub(crate) fn count(tree: &Expr, before: Counts) -> Counts
+pub(crate) fn count(tree: &Expr, before: RowCounts) -> RowCounts
     ensures nodes { result.rows ≡ in_word (before.rows + length (listed (view tree.now))) }
     ensures text { result.text ≡ in_word (before.text + length (texts (listed (view tree.now)))) }
 {
-    let mut behind = Counts {
+    let mut after = RowCounts {
         rows: before.rows.saturating_add(1),
         text: before.text.saturating_add(carried(tree).len()),
     };
     let mut children = tree.children_iter();
     while let Some(child) = children.next() {
-        behind = count(child, behind);
+        after = count(child, after);
     }
-    behind
+    after
 }
 
 /// Writes a text into the buffer from a position on, and returns the position after it.
-pub(crate) fn put_text(bytes: &mut [u8], place: usize, text: &[u8]) -> usize
-    requires { place + length text.now ≤ length bytes.old }
-    ensures behind { result ≡ place + length text.now }
-    ensures put { bytes.new ≡ put_at bytes.old place text.now }
+pub(crate) fn put_text(bytes: &mut [u8], offset: usize, text: &[u8]) -> usize
+    requires { offset + length text.now ≤ length bytes.old }
+    ensures after { result ≡ offset + length text.now }
+    ensures put { bytes.new ≡ put_at bytes.old offset text.now }
 {
-    let behind = place + text.len();
-    bytes[place..behind].copy_from_slice(text);
-    behind
+    let after = offset + text.len();
+    bytes[offset..after].copy_from_slice(text);
+    after
 }
 
 /// Where a text begins that is put at a position; 0 if there is none.
-fn start_of_text(place: usize, text: &[u8]) -> usize
-    ensures { result ≡ spec.start_of_text place text.now }
+fn start_of_text(offset: usize, text: &[u8]) -> usize
+    ensures { result ≡ spec.start_of_text offset text.now }
 {
     match text {
         [] => 0,
-        _ => place,
+        _ => offset,
     }
 }
 
@@ -72,29 +72,29 @@ pub(crate) fn put_tree(
     bytes: &mut [u8],
     tree: &Expr,
     spans: &[Span],
-    before: Counts,
-) -> Counts
-    requires nodes_room { before.rows + length (listed (view tree.now)) ≤ length nodes.old }
-    requires bytes_room { before.text + length (texts (listed (view tree.now))) ≤ length bytes.old }
-    ensures behind { result.rows ≡ before.rows + length (listed (view tree.now)) }
-    ensures text_behind { result.text ≡ before.text + length (texts (listed (view tree.now))) }
+    before: RowCounts,
+) -> RowCounts
+    requires nodes_capacity { before.rows + length (listed (view tree.now)) ≤ length nodes.old }
+    requires bytes_capacity { before.text + length (texts (listed (view tree.now))) ≤ length bytes.old }
+    ensures after { result.rows ≡ before.rows + length (listed (view tree.now)) }
+    ensures text_after { result.text ≡ before.text + length (texts (listed (view tree.now))) }
     ensures nodes { nodes.new ≡ put_at nodes.old before.rows
         (rows (span_at spans.now) before.rows before.text (listed (view tree.now))) }
     ensures bytes { bytes.new ≡ put_at bytes.old before.text (texts (listed (view tree.now))) }
 {
     let text = carried(tree);
-    let first = Counts {
+    let first = RowCounts {
         rows: before.rows + 1,
         text: put_text(bytes, before.text, text),
     };
-    let behind = put_children(nodes, bytes, tree, spans, first);
-    let stand = Stand {
-        end: behind.rows,
+    let after = put_children(nodes, bytes, tree, spans, first);
+    let location = Location {
+        end: after.rows,
         text: start_of_text(before.text, text),
         span: span_at(spans, before.rows),
     };
-    nodes[before.rows] = stand.row(tree);
-    behind
+    nodes[before.rows] = location.row(tree);
+    after
 }
 
 /// Writes the rows of the children of a node in the same way.
@@ -104,21 +104,21 @@ fn put_children(
     bytes: &mut [u8],
     tree: &Expr,
     spans: &[Span],
-    before: Counts,
-) -> Counts
-    requires nodes_room { before.rows + length (listed_each (children (view tree.now))) ≤ length nodes.old }
-    requires bytes_room { before.text + length (texts (listed_each (children (view tree.now)))) ≤ length bytes.old }
-    ensures behind { result.rows ≡ before.rows + length (listed_each (children (view tree.now))) }
-    ensures text_behind { result.text ≡ before.text + length (texts (listed_each (children (view tree.now)))) }
+    before: RowCounts,
+) -> RowCounts
+    requires nodes_capacity { before.rows + length (listed_each (children (view tree.now))) ≤ length nodes.old }
+    requires bytes_capacity { before.text + length (texts (listed_each (children (view tree.now)))) ≤ length bytes.old }
+    ensures after { result.rows ≡ before.rows + length (listed_each (children (view tree.now))) }
+    ensures text_after { result.text ≡ before.text + length (texts (listed_each (children (view tree.now)))) }
     ensures nodes { nodes.new ≡ put_at nodes.old before.rows
         (rows (span_at spans.now) before.rows before.text
         (listed_each (children (view tree.now)))) }
     ensures bytes { bytes.new ≡ put_at bytes.old before.text (texts (listed_each (children (view tree.now)))) }
 {
-    let mut behind = before;
+    let mut after = before;
     let mut children = tree.children_iter();
     while let Some(child) = children.next() {
-        behind = put_tree(nodes, bytes, child, spans, behind);
+        after = put_tree(nodes, bytes, child, spans, after);
     }
-    behind
+    after
 }

@@ -8,14 +8,14 @@ use Rattle.fancy_lex.specs.declared.flags.Flags.{Flags}
 use Rattle.fancy_parts.specs.Ranks.{only_named}
 use Rattle.fancy_grammar.specs.Items.{openings, numbers_in}
 use Rattle.fancy_grammar.specs.Tree.{Tree, levels, nodes}
-use Rattle.fancy_grammar.specs.Answer.{IsTreeOf}
-use Rattle.fancy_grammar.specs.Answered.{IsSmall}
-use Rattle.fancy_grammar.specs.Marks.{Marks}
+use Rattle.fancy_grammar.specs.ParseResult.{IsTreeOf}
+use Rattle.fancy_grammar.specs.ParsedTree.{IsSmall}
+use Rattle.fancy_grammar.specs.GroupInfo.{GroupInfo}
 use Rattle.fancy_grammar.proofs.LevelLaws.{resolved_size, resolved_levels}
 use Rattle.fancy_grammar.proofs.ReadLaws.{whole_read}
 
 -- the size of a parsed tree is bounded by that of its text
-pub bounded : {f : Flags} {re : List ℕ} {t : Tree} {m : Marks} → IsUtf8 re → IsTreeOf f (chars re) t m →
+pub bounded : {f : Flags} {re : List ℕ} {t : Tree} {m : GroupInfo} → IsUtf8 re → IsTreeOf f (chars re) t m →
     IsSmall t (length re)
 bounded {f} {re} {t} u (r, a, none, e, d) =
     let small = (whole_read a.1).size (omega arith) in let named = only_named f (openings r) in

@@ -9,16 +9,16 @@ use Rattle.fancy_lex.specs.Characters.{open_bracket, backslash, ◌∈◌}
 use Rattle.fancy_lex.specs.Class.{class}
 use Rattle.fancy_lex.specs.Escape.{escape}
 use Rattle.fancy_lex.specs.Escaped.{Escape}
-use Rattle.fancy_lex.specs.Fault.{Fault}
+use Rattle.fancy_lex.specs.Located.{Located}
 use Rattle.fancy_lex.specs.ErrorViews.{kind_of, IfFailed}
 use Rattle.fancy_lex.specs.Flags.{flags_of}
-use Rattle.fancy_lex.specs.Reading.{Reading, gives, fails, fault_at}
+use Rattle.fancy_lex.specs.Reading.{Reading, gives, fails, error_at}
 use Rattle.fancy_lex.specs.Text.{Text}
-use Rattle.fancy_lex.specs.declared.error.Failure.{Failure}
-use Rattle.fancy_lex.specs.declared.error.Failure.TheVariants.{At, OutOfMemory}
+use Rattle.fancy_lex.specs.declared.error.ReadError.{ReadError}
+use Rattle.fancy_lex.specs.declared.error.ReadError.TheVariants.{At, OutOfMemory}
 use Rattle.fancy_lex.specs.declared.escape.Assertion.TheVariants.{StartLineOniguruma}
 use Rattle.fancy_lex.specs.declared.flags.Flags.{Flags}
-use Rattle.fancy_grammar.specs.Ahead.{leaf_node, leaf_outcome}
+use Rattle.fancy_grammar.specs.AtomStart.{leaf_node, leaf_outcome}
 use Rattle.fancy_grammar.specs.Grammar.{start}
 use Rattle.fancy_grammar.specs.Normal.{unicode_flags, class_of, whole_of, whole_leaf, normal}
 use Rattle.fancy_grammar.specs.Join.{is_empty}
@@ -51,9 +51,9 @@ module _ (bs : List ℕ) (f : Flags) (is : f ≡ flags_of 0) where
       ap (λ q. whole_leaf (leaf_outcome (λ w. delegate w false)
       (start (unicode_flags false) (open_bracket ∷ chars bs)) q)) e))
 
-  pub class_faulty : (e : Fault) → class f (chars bs) ≡ fails e →
+  pub class_fails : (e : Located) → class f (chars bs) ≡ fails e →
       false ≡ is_some (class_of (unicode_flags false) (open_bracket ∷ chars bs))
-  class_faulty e h = sym (ap is_some (class_leaf ∙
+  class_fails e h = sym (ap is_some (class_leaf ∙
       ap (λ q. whole_leaf (leaf_outcome (λ w. delegate w false)
       (start (unicode_flags false) (open_bracket ∷ chars bs)) q)) h))
 
@@ -84,19 +84,19 @@ module _ (bs : List ℕ) (f : Flags) (is : f ≡ flags_of 0) where
   escape_other x v a e class is_other = is_other ∙ other_left (leaf_node x) v (sym is_other ∙ class)
       ∙ sym (escape_is _ e)
 
-  pub escape_faulty : (e : Fault) → escape f false (chars bs) ≡ fails e →
+  pub escape_fails : (e : Located) → escape f false (chars bs) ≡ fails e →
       false ≡ is_some (class_of (unicode_flags false) (backslash ∷ chars bs))
-  escape_faulty e h = sym (escape_is _ h)
+  escape_fails e h = sym (escape_is _ h)
 
 -- the result if a reading failed, unless memory ran out
-pub failed : {A : Type 0} (r : Result Bool AllocError) (error : Failure) (o : Reading A) (x : Bool) →
+pub failed : {A : Type 0} (r : Result Bool AllocError) (error : ReadError) (o : Reading A) (x : Bool) →
     IfOk r (λ b. b ≡ false) →
-    IfOk r (λ _. error ≡ OutOfMemory → ⊥) → IfFailed error (λ k p. o ≡ fault_at p k) →
-    ((e : Fault) → o ≡ fails e → false ≡ x) →
+    IfOk r (λ _. error ≡ OutOfMemory → ⊥) → IfFailed error (λ k p. o ≡ error_at p k) →
+    ((e : Located) → o ≡ fails e → false ≡ x) →
     IfOk r (λ b. b ≡ x)
-failed (Ok b) (At p k) o x is in_memory f faulty = is ∙ faulty (record { reach = p; kind = kind_of k }) f
-failed (Ok b) OutOfMemory o x is in_memory f faulty = absurd (in_memory refl)
-failed (Err m) error o x is in_memory f faulty = tt
+failed (Ok b) (At p k) o x is in_memory f on_error = is ∙ on_error (record { reach = p; kind = kind_of k }) f
+failed (Ok b) OutOfMemory o x is in_memory f on_error = absurd (in_memory refl)
+failed (Err m) error o x is in_memory f on_error = tt
 
 -- a text that begins with neither a bracket nor a backslash is no class
 pub none_of_nothing : (bs : List ℕ) → chars bs ≡ [] → false ≡ is_some (class_of (unicode_flags false) (chars bs))
@@ -112,10 +112,10 @@ none_of_others bs r c is other =
 -- ---- what the code returns for a variant
 
 -- the printable Delegates, as the code determines them
-pub delegate_told : (r : Result Bool AllocError) (s : Text) (casei : Bool) (e : Tree) → all_scalars s ≡ true →
+pub delegate_determined : (r : Result Bool AllocError) (s : Text) (casei : Bool) (e : Tree) → all_scalars s ≡ true →
     IfOk r (λ b. b ≡ is_some (class_of (unicode_flags false) s)) → e ≡ delegate s casei → IfOk r (λ b. b ≡ printable e)
-delegate_told (Ok b) s casei e scalars is seen = is ∙ rw (seen, scalars) refl
-delegate_told (Err m) s casei e scalars is seen = tt
+delegate_determined (Ok b) s casei e scalars is seen = is ∙ rw (seen, scalars) refl
+delegate_determined (Err m) s casei e scalars is seen = tt
 
 -- the variants whose normal form may be Empty
 abbrev pub may_be_blank : Tree → Bool

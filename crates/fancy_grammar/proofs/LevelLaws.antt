@@ -3,7 +3,7 @@ use Rattle.std.proofs.Common.{◌≡◌, ℕ, suc, ◌+◌, ◌≤◌, Bool, Lis
 use Rattle.std.proofs.Common.{refl, ap, arith}
 use Rattle.std.proofs.lemmas.Bool.{cond_both}
 use Rattle.fancy_lex.specs.Text.{Text}
-use Rattle.fancy_parts.specs.Meaning.{Meaning, number, means}
+use Rattle.fancy_parts.specs.Meaning.{Meaning, number, refers_to}
 use Rattle.fancy_parts.specs.Ranks.{is_counted, numbered_openings_in}
 use Rattle.fancy_grammar.specs.Items.{openings, role_of, target_of}
 use Rattle.fancy_grammar.specs.Label.{AstReference, ast_backref, ast_call, ast_condition}
@@ -30,11 +30,11 @@ mutual
 module _ (z : ℕ) (named : Bool) (numbers_of : Text → List ℕ) where
   kept_length : (c : ℕ) (l : List Tree) → length (kept z named numbers_of c l) ≤ length l
   kept_length c [] = omega arith
-  kept_length c (ast_group name place t ∷ l) =
+  kept_length c (ast_group name position t ∷ l) =
       let in_group = kept_length (c + 1) l in let alone = kept_length c l in
-      cond_both (is_counted named name) _ _ (λ m. length m ≤ length (ast_group name place t ∷ l))
+      cond_both (is_counted named name) _ _ (λ m. length m ≤ length (ast_group name position t ∷ l))
       (λ _. omega (arith, in_group)) (λ _. omega (arith, alone))
-  kept_length c (ast_node r place ∷ l) = omega (arith, kept_length c l)
+  kept_length c (ast_node r position ∷ l) = omega (arith, kept_length c l)
   kept_length c (t ∷ l) = omega (arith, kept_length c l)
 
   -- the resolved tree has no more nodes than the raw one
@@ -50,24 +50,24 @@ module _ (z : ℕ) (named : Bool) (numbers_of : Text → List ℕ) where
 
 -- ---- levels
 
-reference_level : (z : ℕ) (m : Meaning) (r : AstReference) (place : ℕ) → levels (reference_node z m r place) ≡ 1
-reference_level z (number n) (ast_backref t casei None) place = refl
-reference_level z (number n) (ast_backref t casei (Some level)) place = refl
-reference_level z (number n) (ast_call t) place = refl
-reference_level z (number n) (ast_condition t level) place = refl
-reference_level z _ r place = refl
+reference_level : (z : ℕ) (m : Meaning) (r : AstReference) (position : ℕ) → levels (reference_node z m r position) ≡ 1
+reference_level z (number n) (ast_backref t casei None) position = refl
+reference_level z (number n) (ast_backref t casei (Some level)) position = refl
+reference_level z (number n) (ast_call t) position = refl
+reference_level z (number n) (ast_condition t level) position = refl
+reference_level z _ r position = refl
 
 module _ (z : ℕ) (named : Bool) (numbers_of : Text → List ℕ) where
   mutual
     -- the resolved tree has no more levels than the raw one
     pub resolved_levels : (c : ℕ) (t : Tree) → levels (resolved_in z named numbers_of c t) ≤ levels t
-    resolved_levels c (ast_group name place t) =
+    resolved_levels c (ast_group name position t) =
         let in_group = resolved_levels (c + 1) t in
         let alone = resolved_levels c t in
-        cond_both (is_counted named name) _ _ (λ u. levels u ≤ levels (ast_group name place t))
+        cond_both (is_counted named name) _ _ (λ u. levels u ≤ levels (ast_group name position t))
         (λ _. omega (arith, in_group)) (λ _. omega (arith, alone))
-    resolved_levels c (ast_node r place) =
-        let m = means numbers_of c (role_of r) (target_of r) in omega (arith, reference_level z m r place)
+    resolved_levels c (ast_node r position) =
+        let m = refers_to numbers_of c (role_of r) (target_of r) in omega (arith, reference_level z m r position)
     resolved_levels c (leaf l) = omega arith
     resolved_levels c (over w t) = omega (arith, resolved_levels c t)
     resolved_levels c (row r ts) = omega (arith, resolved_levels_all c ts)

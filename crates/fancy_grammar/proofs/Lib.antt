@@ -2,10 +2,10 @@
 pub mod SameLaws
 -- ---- reading: each start has one outcome
 pub mod OutcomeLemmas
-pub mod AheadLemmas
+pub mod AtomStartLemmas
 pub mod PlainLemmas
 pub mod QuantLemmas
-pub mod FaultLemmas
+pub mod ErrorLemmas
 pub mod PremiseLaws
 pub mod Unique
 -- ---- items, nodes in preorder, and levels
@@ -15,7 +15,7 @@ pub mod LevelLaws
 -- ---- what is true of every raw tree
 pub mod Slices
 pub mod TreeLaws
-pub mod AheadLaws
+pub mod AtomStartLaws
 pub mod ReadLaws
 pub mod BoundLaws
 -- ---- the spans of nodes
@@ -28,21 +28,21 @@ pub mod SpansUnique
 pub mod OrderLaws
 pub mod NamedNumbers
 pub mod FoundLaws
-pub mod NoteLaws
-pub mod AnswerLaws
+pub mod RecordLaws
+pub mod WalkLaws
 -- ---- printing, and how a printed text reads
 pub mod PrintableLemmas
 pub mod ReadBack
 pub mod DelegateLemmas
 -- ---- the one result of a text, and what is true of it
 pub mod Verdict
-pub mod SpansAnswer
-pub mod AnsweredLaws
+pub mod ParsedSpans
+pub mod ParsedTreeLaws
 -- ---- the text of every tree
 pub mod PatternRows
 pub mod NeedsLemmas
 pub mod SourceLemmas
-pub mod HereLemmas
+pub mod ContextLemmas
 pub mod ReadAsLaws
 pub mod Pattern
 -- ---- what is true of parsed trees

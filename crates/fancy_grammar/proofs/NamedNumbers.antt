@@ -11,7 +11,7 @@ use Rattle.std.specs.declared.cmp.Ordering.{Ordering}
 use Rattle.std.specs.declared.cmp.Ordering.TheVariants.{Less, Equal, Greater}
 use Rattle.fancy_lex.specs.Text.{Text}
 use Rattle.fancy_parts.specs.Ranks.{Opening, is_name, numbers_from, numbers, name_cmp, names, named_groups}
-use Rattle.fancy_grammar.specs.Answered.{AscendingNumbers, AreNamed}
+use Rattle.fancy_grammar.specs.ParsedTree.{AscendingNumbers, AreNamed}
 
 -- ---- they ascend
 

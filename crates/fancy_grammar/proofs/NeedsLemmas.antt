@@ -16,20 +16,20 @@ use Rattle.fancy_grammar.specs.declared.needs.Needs.{Needs}
 pub record IsJoin (join : Need → Need → Need) : Type 0 where
   pub assoc : (a b c : Need) → join (join a b) c ≡ join a (join b c)
   pub before : (a : Need) → join Free a ≡ a
-  pub behind : (a : Need) → join a Free ≡ a
+  pub after : (a : Need) → join a Free ≡ a
 
 first-assoc : (a b c : Need) → first (first a b) c ≡ first a (first b c)
 first-assoc Free b c = refl
 first-assoc (Fixed a) b c = refl
 first-assoc Torn b c = refl
 
-first-behind : (a : Need) → first a Free ≡ a
-first-behind Free = refl
-first-behind (Fixed a) = refl
-first-behind Torn = refl
+first-after : (a : Need) → first a Free ≡ a
+first-after Free = refl
+first-after (Fixed a) = refl
+first-after Torn = refl
 
 pub first_joins : IsJoin first
-first_joins = record { assoc = first-assoc; before = λ a. refl; behind = first-behind }
+first_joins = record { assoc = first-assoc; before = λ a. refl; after = first-after }
 
 both-assoc : (a b c : Need) → both (both a b) c ≡ both a (both b c)
 both-assoc Free b c = refl
@@ -73,13 +73,13 @@ both-assoc Torn Torn (Fixed true) = refl
 both-assoc Torn Torn (Fixed false) = refl
 both-assoc Torn Torn Torn = refl
 
-both-behind : (a : Need) → both a Free ≡ a
-both-behind Free = refl
-both-behind (Fixed a) = refl
-both-behind Torn = refl
+both-after : (a : Need) → both a Free ≡ a
+both-after Free = refl
+both-after (Fixed a) = refl
+both-after Torn = refl
 
 pub both_joins : IsJoin both
-both_joins = record { assoc = both-assoc; before = λ a. refl; behind = both-behind }
+both_joins = record { assoc = both-assoc; before = λ a. refl; after = both-after }
 
 pub listed : (ts : Trees) → trees_of (list_of ts) ≡ ts
 listed no_trees = refl
@@ -102,20 +102,20 @@ module _ (join : Need → Need → Need) (j : IsJoin join) where
     crlf = j.before n.crlf i;
   }
 
-  pub joined-behind : (n : Needs) → joined join n no_needs ≡ n
-  joined-behind n = λ i. record {
-    casei = j.behind n.casei i;
-    multi = j.behind n.multi i;
-    dotnl = j.behind n.dotnl i;
-    crlf = j.behind n.crlf i;
+  pub joined-after : (n : Needs) → joined join n no_needs ≡ n
+  joined-after n = λ i. record {
+    casei = j.after n.casei i;
+    multi = j.after n.multi i;
+    dotnl = j.after n.dotnl i;
+    crlf = j.after n.crlf i;
   }
 
   -- a node requires what it requires itself, and what its children require
   pub needs_node : (o : Bool) (t : Tree) →
       needs join o t ≡ joined join (needs_alone o t) (needs_all join o (trees_of (children t)))
-  needs_node o (leaf l) = sym (joined-behind (leaf_needs o l))
-  needs_node o (over (ast_group name place) t) = sym (joined-behind no_needs)
-  needs_node o (over w t) = sym (joined-before (joined join (needs join o t) no_needs) ∙ joined-behind (needs join o t))
+  needs_node o (leaf l) = sym (joined-after (leaf_needs o l))
+  needs_node o (over (ast_group name position) t) = sym (joined-after no_needs)
+  needs_node o (over w t) = sym (joined-before (joined join (needs join o t) no_needs) ∙ joined-after (needs join o t))
   needs_node o (row r ts) = sym (joined-before _ ∙ ap (needs_all join o) (listed ts))
 
   -- one more child is joined to the children before it
@@ -134,6 +134,6 @@ tables_listed o (more_trees t ts) = ap (λ l. needs_listed o t ++ l) (tables_lis
 pub table_node : (o : Bool) (t : Tree) →
     needs_listed o t ≡ needs first o t ∷ flat_map (needs_listed o) (children t)
 table_node o (leaf l) = refl
-table_node o (over (ast_group name place) t) = refl
+table_node o (over (ast_group name position) t) = refl
 table_node o (over w t) = ap (λ l. needs first o t ∷ l) (sym (append-nil (needs_listed o t)))
 table_node o (row r ts) = ap (λ l. needs_all first o ts ∷ l) (tables_listed o ts)

@@ -1,13 +1,13 @@
 -- What follows if the reaches of items descend, and where the first error is.
 use Rattle.std.proofs.Common.{◌≡◌, ℕ, ◌+◌, ◌≤◌, Option, Some, Bool, List, [], ◌∷◌, length, subst, arith, if◌then◌else◌}
 use Rattle.std.specs.List.{AllByRecursion}
-use Rattle.fancy_lex.specs.Fault.{Fault}
+use Rattle.fancy_lex.specs.Located.{Located}
 use Rattle.fancy_lex.specs.Text.{Text}
-use Rattle.fancy_parts.specs.Meaning.{Meaning, number, unresolved, faulty, means, fault_or}
+use Rattle.fancy_parts.specs.Meaning.{Meaning, number, unresolved, invalid, refers_to, error_or}
 use Rattle.fancy_parts.specs.Ranks.{is_counted}
 use Rattle.fancy_grammar.specs.Items.{Item, opening, reference, openings_in, meanings_in, role_of, target_of}
 use Rattle.fancy_grammar.specs.Ordered.{DescendingReaches, reach_of_item}
-use Rattle.fancy_grammar.specs.Resolved.{first_fault}
+use Rattle.fancy_grammar.specs.Resolved.{first_error}
 
 pub bounds : (high low : ℕ) (l : List Item) → DescendingReaches high low l → low ≤ high
 bounds high low [] a = a
@@ -20,18 +20,18 @@ openings_fit high low (opening o ∷ l) a = omega (arith, a.0, openings_fit o.re
 openings_fit high low (reference r reach ∷ l) a = omega (arith, a.0, openings_fit reach low l a.1)
 
 -- the first error is at a reference
-fault_here : (P : ℕ → Type 0) (m : Meaning) (reach : ℕ) (other : Option Fault) (x : Fault) → P reach →
-    (other ≡ Some x → P x.reach) → fault_or m reach other ≡ Some x → P x.reach
-fault_here P (number n) reach other x h i e = i e
-fault_here P unresolved reach other x h i e = i e
-fault_here P (faulty k) reach other x h i e =
-    let same : record { reach = reach; kind = k } ≡ x = cc in subst (λ (y : Fault). P y.reach) same h
+error_here : (P : ℕ → Type 0) (m : Meaning) (reach : ℕ) (other : Option Located) (x : Located) → P reach →
+    (other ≡ Some x → P x.reach) → error_or m reach other ≡ Some x → P x.reach
+error_here P (number n) reach other x h i e = i e
+error_here P unresolved reach other x h i e = i e
+error_here P (invalid k) reach other x h i e =
+    let same : record { reach = reach; kind = k } ≡ x = cc in subst (λ (y : Located). P y.reach) same h
 
-pub fault_place : (P : ℕ → Type 0) (named : Bool) (numbers_of : Text → List ℕ) (c : ℕ) (l : List Item) (x : Fault) →
-    AllByRecursion (λ i. P (reach_of_item i)) l → first_fault (meanings_in named numbers_of c l) ≡ Some x → P x.reach
-fault_place P named u c [] x a e = absurd cc
-fault_place P named u c (opening o ∷ l) x a e =
-    fault_place P named u (if is_counted named o.name then c + 1 else c) l x a.1 e
-fault_place P named u c (reference r reach ∷ l) x a e =
-    fault_here P (means u c (role_of r) (target_of r)) reach (first_fault (meanings_in named u c l)) x a.0
-    (fault_place P named u c l x a.1) e
+pub error_reach : (P : ℕ → Type 0) (named : Bool) (numbers_of : Text → List ℕ) (c : ℕ) (l : List Item) (x : Located) →
+    AllByRecursion (λ i. P (reach_of_item i)) l → first_error (meanings_in named numbers_of c l) ≡ Some x → P x.reach
+error_reach P named u c [] x a e = absurd cc
+error_reach P named u c (opening o ∷ l) x a e =
+    error_reach P named u (if is_counted named o.name then c + 1 else c) l x a.1 e
+error_reach P named u c (reference r reach ∷ l) x a e =
+    error_here P (refers_to u c (role_of r) (target_of r)) reach (first_error (meanings_in named u c l)) x a.0
+    (error_reach P named u c l x a.1) e

@@ -2,19 +2,19 @@
 use Rattle.std.proofs.Common.{◌≡◌, ℕ, Bool, true, false, if◌then◌else◌, List, [], ◌∷◌, ◌++◌, Some, refl, ap, subst}
 use Rattle.std.proofs.Common.{append_assoc}
 use Rattle.std.specs.List.{AllByRecursion}
-use Rattle.fancy_lex.specs.Fault.{Kind}
+use Rattle.fancy_lex.specs.Located.{Kind}
 use Rattle.fancy_lex.specs.LayoutSteps.{rest}
 use Rattle.fancy_lex.specs.Text.{Text, bytes, strip}
-use Rattle.fancy_lex.specs.declared.error.Failure.{Failure}
-use Rattle.fancy_lex.specs.declared.error.Failure.TheVariants.{At, OutOfMemory}
+use Rattle.fancy_lex.specs.declared.error.ReadError.{ReadError}
+use Rattle.fancy_lex.specs.declared.error.ReadError.TheVariants.{At, OutOfMemory}
 use Rattle.fancy_lex.specs.Characters.{bar}
 use Rattle.fancy_lex.specs.declared.flags.Flags.{Flags}
-use Rattle.fancy_grammar.specs.Ahead.{Ahead, nothing, read, with_head, condition, body, absent_branch}
-use Rattle.fancy_grammar.specs.Grammar.{restored, behind_atom, Branch, Branches, more, Piece, Pieces, next, Atom, piece}
+use Rattle.fancy_grammar.specs.AtomStart.{AtomStart, nothing, read, of_kind, condition, body, absent_branch}
+use Rattle.fancy_grammar.specs.Grammar.{restored, after_atom, Branch, Branches, more, Piece, Pieces, next, Atom, piece}
 use Rattle.fancy_grammar.specs.Quantified.{quants}
 use Rattle.fancy_grammar.specs.Join.{is_empty, solid}
 use Rattle.fancy_grammar.specs.Errors.{IsErrorAmong, IsErrorAt}
-use Rattle.fancy_grammar.specs.State.{ends, skipped, State, at, Outcome, done, fault, and_then, seen_through}
+use Rattle.fancy_grammar.specs.State.{ends, skipped, State, at, Outcome, done, failed, and_then, seen_through}
 use Rattle.fancy_grammar.specs.Tree.{Tree}
 
 -- the same tree with other flags
@@ -22,37 +22,37 @@ then_keeps : (P : Outcome Tree → Type 0) →
     ((r : Tree) (t : State) (f : Flags) → P (done r t) → P (done r (record t { flags = f }))) →
     (f : Flags) (q : Outcome Tree) → P q → P (restored f q)
 then_keeps P g f (done r t) h = g r t f h
-then_keeps P g f (fault k p) h = h
+then_keeps P g f (failed k p) h = h
 
 -- P holds of what was read and of the state after it
 abbrev pub Holds : {A : Type 0} → (A → State → Type 0) → Outcome A → Type 0
 Holds P (done a s) = P a s
-Holds P (fault k p) = Unit {0}
+Holds P (failed k p) = Unit {0}
 
 -- one part after another
 pub then_holds : {A B : Type 0} (P : A → State → Type 0) (Q : B → State → Type 0) (q : Outcome A)
     (f : A → State → Outcome B) → Holds P q → ((a : A) (s : State) → P a s → Holds Q (f a s)) → Holds Q (and_then q f)
 then_holds P Q (done a s) f h g = g a s h
-then_holds P Q (fault k p) f h g = tt
+then_holds P Q (failed k p) f h g = tt
 
 -- what does not depend on the flags after an atom holds whatever they are
-pub behind_keeps : (P : Outcome Tree → Type 0) →
+pub after_keeps : (P : Outcome Tree → Type 0) →
     ((r : Tree) (t : State) (f : Flags) → P (done r t) → P (done r (record t { flags = f }))) →
-    (k : Ahead) (f : Flags) (q : Outcome Tree) → P q → P (behind_atom k f q)
-behind_keeps P g nothing f q h = h
-behind_keeps P g (read o) f q h = h
-behind_keeps P g (with_head a s) f q h = then_keeps P g f q h
-behind_keeps P g (condition s) f q h = then_keeps P g f q h
-behind_keeps P g (body c s) f q h = then_keeps P g f q h
-behind_keeps P g (absent_branch s) f q h = then_keeps P g f q h
+    (k : AtomStart) (f : Flags) (q : Outcome Tree) → P q → P (after_atom k f q)
+after_keeps P g nothing f q h = h
+after_keeps P g (read o) f q h = h
+after_keeps P g (of_kind a s) f q h = then_keeps P g f q h
+after_keeps P g (condition s) f q h = then_keeps P g f q h
+after_keeps P g (body c s) f q h = then_keeps P g f q h
+after_keeps P g (absent_branch s) f q h = then_keeps P g f q h
 
-pub IsErrorAmong-map : {A B : Type 0} (P : Outcome A → Type 0) (Q : Outcome B → Type 0) (e : Failure) →
-    ((k : Kind) (p : ℕ) → P (fault k p) → Q (fault k p)) → IsErrorAmong e P → IsErrorAmong e Q
+pub IsErrorAmong-map : {A B : Type 0} (P : Outcome A → Type 0) (Q : Outcome B → Type 0) (e : ReadError) →
+    ((k : Kind) (p : ℕ) → P (failed k p) → Q (failed k p)) → IsErrorAmong e P → IsErrorAmong e Q
 IsErrorAmong-map P Q (At p k) f h = f _ p h
 IsErrorAmong-map P Q OutOfMemory f h = tt
 
-pub IsErrorAmong-is : {A : Type 0} (P : Outcome A → Type 0) (e : Failure) (k : Kind) (p : ℕ) → IsErrorAt e k p →
-    P (fault k p) →
+pub IsErrorAmong-is : {A : Type 0} (P : Outcome A → Type 0) (e : ReadError) (k : Kind) (p : ℕ) → IsErrorAt e k p →
+    P (failed k p) →
     IsErrorAmong e P
 IsErrorAmong-is P (At q j) k p h d = rw (h.0, h.1) d
 IsErrorAmong-is P OutOfMemory k p h d = tt
@@ -67,12 +67,12 @@ trees_before l = seen_through (l ++◌)
 
 pub before-nil : (o : Outcome (List Tree)) → trees_before [] o ≡ o
 before-nil (done l s) = refl
-before-nil (fault k p) = refl
+before-nil (failed k p) = refl
 
 pub before-push : (l : List Tree) (r : Tree) (o : Outcome (List Tree)) →
     trees_before (l ++ r ∷ []) o ≡ trees_before l (trees_before (r ∷ []) o)
 before-push l r (done m s) = ap (λ n. done n s) (append_assoc l (r ∷ []) m)
-before-push l r (fault k p) = refl
+before-push l r (failed k p) = refl
 
 pub solid-append : (l m : List Tree) → solid (l ++ m) ≡ solid l ++ solid m
 solid-append [] m = refl

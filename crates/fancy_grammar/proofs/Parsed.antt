@@ -3,8 +3,8 @@
 
 -- ---- the group information
 pub mod Lists
-pub mod Told
-pub mod Marks
+pub mod NumberedGroups
+pub mod ParsedInfo
 -- ---- what is read without trees
 pub mod Readers
 pub mod Targets

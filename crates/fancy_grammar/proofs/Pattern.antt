@@ -1,7 +1,7 @@
 -- The text of a tree reads back; the modules are in reading order, and the theorem is last.
 
 -- ---- what a raw tree becomes when its references are resolved
-pub mod Unplaced
+pub mod Unpositioned
 pub mod Becomes
 -- ---- what the rules read, under flags that change along the text
 pub mod Rules
@@ -33,13 +33,13 @@ pub mod ConditionTexts
 pub mod Suited
 pub mod Fitting
 pub mod Outermost
-pub mod Told
-pub mod Ahead
+pub mod SuitedEscapes
+pub mod AtomStart
 pub mod Nested
 pub mod NestedQuantifiers
 pub mod NestedGroups
 pub mod ReadFits
 pub mod Levels
 -- ---- the theorem
-pub mod Marked
+pub mod ReferenceInfo
 pub mod Theorem

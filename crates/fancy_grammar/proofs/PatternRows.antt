@@ -13,11 +13,11 @@ use Rattle.fancy_lex.specs.Text.{Text}
 use Rattle.fancy_lex.specs.declared.escape.Assertion.TheVariants.{StartText, EndText, EndTextIgnoreTrailingNewlines}
 use Rattle.fancy_lex.specs.declared.escape.Assertion.TheVariants.{StartLine, EndLine, LeftWordBoundary, WordBoundary}
 use Rattle.fancy_lex.specs.declared.flags.Flags.{Flags}
-use Rattle.fancy_parts.specs.HeadReference.{begins_target}
+use Rattle.fancy_parts.specs.GroupReference.{begins_target}
 use Rattle.fancy_parts.specs.Quantifier.{most}
-use Rattle.fancy_parts.specs.Quote.{range, mark}
+use Rattle.fancy_parts.specs.Quote.{range, operator}
 use Rattle.fancy_grammar.specs.Label.{ast_call}
-use Rattle.fancy_grammar.specs.Marks.{Marks}
+use Rattle.fancy_grammar.specs.GroupInfo.{GroupInfo}
 use Rattle.fancy_grammar.specs.Pattern.{pattern_text}
 use Rattle.fancy_grammar.specs.PatternSource.{source_from}
 use Rattle.fancy_grammar.specs.Tree.{Tree, trees_of, empty, any, assertion, general_newline, literal, literal_bytes}
@@ -37,14 +37,14 @@ use Rattle.ucd_table.specs.Rows.{in_ranges, value_in}
 record Row : Type 0 where
   text : Text
   flags : Flags
-  marks : Marks
+  info : GroupInfo
   tree : Tree
 
-abbrev row : String → Flags → Marks → Tree → Row
-row s f m t = record { text = codes s; flags = f; marks = m; tree = t }
+abbrev row : String → Flags → GroupInfo → Tree → Row
+row s f m t = record { text = codes s; flags = f; info = m; tree = t }
 
 abbrev texts : List Row → List Text
-texts = map (λ r. pattern_text r.flags r.tree r.marks)
+texts = map (λ r. pattern_text r.flags r.tree r.info)
 
 abbrev wanted : List Row → List Text
 wanted = map (λ r. r.text)
@@ -59,8 +59,8 @@ names_alone = record unicode_alone { ignore_numbered_groups = true }
 
 -- what the text needs of the group information: the names, whether some reference is written with a number, and whether
 -- one is a call of 0
-abbrev told : List (Text × List ℕ) → Bool → Bool → Marks
-told names numeric self_recursive = record {
+abbrev info_with : List (Text × List ℕ) → Bool → Bool → GroupInfo
+info_with names numeric self_recursive = record {
   backrefs = [];
   named_groups = names;
   numeric_capture_group_references = numeric;
@@ -71,14 +71,14 @@ told names numeric self_recursive = record {
   numbered_groups_ignored = false;
 }
 
-abbrev unnamed : Marks
-unnamed = told [] false false
+abbrev unnamed : GroupInfo
+unnamed = info_with [] false false
 
-abbrev in_numbers : Marks
-in_numbers = told [] true false
+abbrev in_numbers : GroupInfo
+in_numbers = info_with [] true false
 
-abbrev named : String → List ℕ → Marks
-named name numbers = told ((codes name, numbers) ∷ []) false false
+abbrev named : String → List ℕ → GroupInfo
+named name numbers = info_with ((codes name, numbers) ∷ []) false false
 
 abbrev kept : String → Tree
 kept s = literal (codes s) false
@@ -131,7 +131,7 @@ flags =
     ∷ []
 
 pub flags_written : texts flags ≡ wanted flags
-unfolding pattern_text source_from digits range mark
+unfolding pattern_text source_from digits range operator
 flags_written = refl
 
 -- ---- characters and escapes
@@ -151,7 +151,7 @@ characters =
     ∷ []
 
 pub characters_written : texts characters ≡ wanted characters
-unfolding pattern_text source_from digits range mark
+unfolding pattern_text source_from digits range operator
 characters_written = refl
 
 -- ---- sources of Delegates
@@ -169,7 +169,7 @@ sources =
     ∷ []
 
 pub sources_written : texts sources ≡ wanted sources
-unfolding pattern_text source_from digits range mark
+unfolding pattern_text source_from digits range operator
 sources_written = refl
 
 -- ---- quantifiers
@@ -193,7 +193,7 @@ quantifiers =
     ∷ []
 
 pub quantifiers_written : texts quantifiers ≡ wanted quantifiers
-unfolding pattern_text source_from digits range mark
+unfolding pattern_text source_from digits range operator
 quantifiers_written = refl
 
 -- ---- references
@@ -204,7 +204,7 @@ references =
     ∷ row "(a)\\1(?#)1" unicode_alone in_numbers (seq (group (kept "a") ∷ backref 1 false ∷ kept "1" ∷ []))
     ∷ row "(a)\\k<1>1" unicode_alone unnamed (seq (group (kept "a") ∷ backref 1 false ∷ kept "1" ∷ []))
     ∷ row "(?<n>a)\\k<n>" unicode_alone (named "n" (1 ∷ [])) (seq (group (kept "a") ∷ backref 1 false ∷ []))
-    ∷ row "(?<n>a)\\1" unicode_alone (told ((codes "n", (1 ∷ [])) ∷ []) true false)
+    ∷ row "(?<n>a)\\1" unicode_alone (info_with ((codes "n", (1 ∷ [])) ∷ []) true false)
     (seq (group (kept "a") ∷ backref 1 false ∷ []))
     ∷ row "(?<n>a)(?<n>b)\\k<1>\\k<n>" unicode_alone (named "n" (1 ∷ 2 ∷ []))
     (seq (group (kept "a") ∷ group (kept "b") ∷ backref 1 false ∷ backref 2 false ∷ []))
@@ -214,12 +214,12 @@ references =
     (seq (group (kept "a") ∷ backref_at_level 1 (negsuc 0) false
     ∷ conditional (backref_exists 1 (Some (pos 2))) (kept "b") empty ∷ []))
     ∷ row "\\k<1>(?<n>a)" unicode_alone (named "n" (1 ∷ [])) (seq (backref 1 false ∷ group (kept "a") ∷ []))
-    ∷ row "(?<n>a)\\g<1>" unicode_alone (told ((codes "n", (1 ∷ [])) ∷ []) true false)
+    ∷ row "(?<n>a)\\g<1>" unicode_alone (info_with ((codes "n", (1 ∷ [])) ∷ []) true false)
     (seq (group (kept "a") ∷ subroutine_call 1 ∷ []))
     ∷ row "(?<n>a)\\g<n>\\g<n>" unicode_alone (named "n" (1 ∷ []))
     (seq (group (kept "a") ∷ subroutine_call 1 ∷ subroutine_call 1 ∷ []))
     ∷ row "(a)\\g<+1>(b)" unicode_alone unnamed (seq (group (kept "a") ∷ subroutine_call 2 ∷ group (kept "b") ∷ []))
-    ∷ row "a\\g<0>?" unicode_alone (told [] true true) (seq (kept "a" ∷ repeat (subroutine_call 0) 0 1 true ∷ []))
+    ∷ row "a\\g<0>?" unicode_alone (info_with [] true true) (seq (kept "a" ∷ repeat (subroutine_call 0) 0 1 true ∷ []))
     ∷ row "(a)\\g<-2>" unicode_alone unnamed (seq (group (kept "a") ∷ subroutine_call 0 ∷ []))
     ∷ row "\\g<-2>\\g<n>" unicode_alone unnamed
     (seq (ast_node (ast_call (relative (negsuc 1))) 2 ∷ ast_node (ast_call (by_name (codes "n"))) 8 ∷ []))
@@ -230,16 +230,16 @@ references =
     ∷ []
 
 pub references_written : texts references ≡ wanted references
-unfolding pattern_text source_from digits range mark begins_target is_relative number_text whole_number number run
+unfolding pattern_text source_from digits range operator begins_target is_relative number_text whole_number number run
     id_reference id id_run is_id_char is_alphabetic in_ranges alphabetic_ranges general_category value_in
     general_category_rows
 references_written = refl
 
 -- ---- groups, conditionals, and what remains of a group without a number
 
-abbrev heads : List Row
-heads =
-    row "(?'a>b'x)(?P<!>y)" unicode_alone (told ((codes "!", (2 ∷ [])) ∷ (codes "a>b", (1 ∷ [])) ∷ []) false false)
+abbrev groups : List Row
+groups =
+    row "(?'a>b'x)(?P<!>y)" unicode_alone (info_with ((codes "!", (2 ∷ [])) ∷ (codes "a>b", (1 ∷ [])) ∷ []) false false)
     (seq (group (kept "x") ∷ group (kept "y") ∷ []))
     ∷ row "(a)(?(1)b|c)" unicode_alone unnamed
     (seq (group (kept "a") ∷ conditional (backref_exists 1 None) (kept "b") (kept "c") ∷ []))
@@ -273,8 +273,8 @@ heads =
     (seq (repeat (assertion StartText) 0 most true ∷ group empty ∷ []))
     ∷ []
 
-pub heads_written : texts heads ≡ wanted heads
-unfolding pattern_text source_from digits range mark begins_target is_relative number_text whole_number number run
+pub groups_written : texts groups ≡ wanted groups
+unfolding pattern_text source_from digits range operator begins_target is_relative number_text whole_number number run
     id_reference id id_run is_id_char is_alphabetic in_ranges alphabetic_ranges general_category value_in
     general_category_rows
-heads_written = refl
+groups_written = refl

@@ -11,7 +11,7 @@ use Rattle.fancy_lex.specs.Escaped.{Escape}
 use Rattle.fancy_lex.specs.Reading.{gives}
 use Rattle.fancy_lex.specs.Text.{Text, bytes}
 use Rattle.fancy_parts.specs.Quantifier.{counts}
-use Rattle.fancy_grammar.specs.Ahead.{ahead, read, leaf_node, leaf_outcome}
+use Rattle.fancy_grammar.specs.AtomStart.{atom_start, read, leaf_node, leaf_outcome}
 use Rattle.fancy_grammar.specs.Plain.{is_special, is_suffix}
 use Rattle.fancy_grammar.specs.Quantified.{quant, quants, adjacent, max_adjacent, is_unmoved}
 use Rattle.fancy_grammar.specs.State.{ends, State, at, Outcome, done, and_then}
@@ -43,8 +43,8 @@ pub no_end : (c : ℕ) (t : Text) → is_special c ≡ false → ends (c ∷ t) 
 no_end c t e = grind (arith, nat_tests)
 
 pub is_leaf : (d c : ℕ) (s : State) (t : Text) → is_special c ≡ false →
-    ahead d (at s (c ∷ t)) ≡ read (done (literal (c ∷ []) s.flags.casei) (at s t))
-unfolding ahead
+    atom_start d (at s (c ∷ t)) ≡ read (done (literal (c ∷ []) s.flags.casei) (at s t))
+unfolding atom_start
 is_leaf d c s t e = grind (arith, nat_tests)
 
 pub no_counts : (c : ℕ) (x : Bool) (t : Text) → is_suffix c ≡ false → ◌≡◌ {A = _} (counts x (c ∷ t)) None
@@ -101,6 +101,6 @@ backslash_no_layout true = refl
 backslash_no_layout false = refl
 
 pub is_escape : (d : ℕ) (s : State) (t u : Text) (e : Escape) → escape s.flags false t ≡ gives e u →
-    ahead d (at s (backslash ∷ t)) ≡ read (done (leaf_node e) (at s u))
-unfolding ahead
+    atom_start d (at s (backslash ∷ t)) ≡ read (done (leaf_node e) (at s u))
+unfolding atom_start
 is_escape d s t u e h = ap (λ o. read (leaf_outcome leaf_node s o)) h

@@ -6,7 +6,7 @@ use Rattle.fancy_lex.proofs.LayoutLaws.{layout_sound, layout_complete, unclosed_
 use Rattle.fancy_lex.specs.Boundary.{Boundary}
 use Rattle.fancy_lex.specs.Class.{OuterClass}
 use Rattle.fancy_parts.proofs.LetterRelation.{flag_group_reads, flag_group_is}
-use Rattle.fancy_parts.specs.FlagLetters.{FlagGroup}
+use Rattle.fancy_parts.specs.FlagLetters.{GroupLetters}
 use Rattle.fancy_grammar.specs.Premises.{LayoutIsRelated, ClassIsRelated, LettersAreRelated, BoundaryIsRelated}
 
 pub layout_related : LayoutIsRelated
@@ -19,7 +19,7 @@ pub class_related : ClassIsRelated
 class_related f t o = (λ e. subst (OuterClass f t) e (class_reads f t), λ h. class_is f t o h)
 
 pub letters_related : LettersAreRelated
-letters_related f t o = (λ e. subst (FlagGroup f t) e (flag_group_reads f t), λ h. flag_group_is f t h)
+letters_related f t o = (λ e. subst (GroupLetters f t) e (flag_group_reads f t), λ h. flag_group_is f t h)
 
 pub boundary_related : BoundaryIsRelated
 boundary_related x p negated t o =

@@ -7,37 +7,37 @@ use Rattle.std.proofs.lemmas.Bool.{cond_both}
 use Rattle.std.specs.List.{AllByRecursion}
 use Rattle.std.proofs.lemmas.Bool.Decides.{nat_tests}
 use Prim.Native.Char.{code}
-use Rattle.fancy_lex.proofs.LeaveLaws.{stands_before, stands_end}
+use Rattle.fancy_lex.proofs.LeaveLaws.{lies_before, lies_at_end}
 use Rattle.fancy_lex.proofs.ReadingLemmas.{choose_both}
 use Rattle.fancy_lex.specs.Characters.{bar}
-use Rattle.fancy_lex.specs.Fault.{Kind}
-use Rattle.fancy_lex.specs.LayoutSteps.{Skipped, rest, fault as open_comment}
+use Rattle.fancy_lex.specs.Located.{Kind}
+use Rattle.fancy_lex.specs.LayoutSteps.{Skipped, rest, failed as open_comment}
 use Rattle.fancy_lex.specs.Text.{Text, bytes, reach_of, strip}
 use Rattle.fancy_lex.specs.declared.flags.Flags.{Flags}
 use Rattle.fancy_parts.proofs.CountLaws.{Closed, closes_counts}
 use Rattle.fancy_parts.specs.Quantifier.{counts}
 use Rattle.fancy_parts.specs.declared.counts.Counts.{Counts}
-use Rattle.fancy_grammar.specs.Ahead.{Ahead}
+use Rattle.fancy_grammar.specs.AtomStart.{AtomStart}
 use Rattle.fancy_grammar.specs.Depth.{max_depth, levels_at_depth, max_levels}
-use Rattle.fancy_grammar.specs.Grammar.{Alternation, alternation, Branches, last, more, branch_fault, Branch, branch}
-use Rattle.fancy_grammar.specs.Grammar.{Pieces, stop, next, piece_fault, Piece, piece, layout_fault, Atom, atom, AtomOf}
-use Rattle.fancy_grammar.specs.Grammar.{a_nothing, a_read, a_group, a_condition, condition_fault, a_body, two_branches}
-use Rattle.fancy_grammar.specs.Grammar.{one_branch, absent_fault, Inside, inside, Body, the_body, Whole, whole, start}
+use Rattle.fancy_grammar.specs.Grammar.{Alternation, alternation, Branches, last, more, branch_error, Branch, branch}
+use Rattle.fancy_grammar.specs.Grammar.{Pieces, stop, next, piece_error, Piece, piece, layout_error, Atom, atom, AtomOf}
+use Rattle.fancy_grammar.specs.Grammar.{a_nothing, a_read, a_group, a_condition, condition_error, a_body, two_branches}
+use Rattle.fancy_grammar.specs.Grammar.{one_branch, absent_error, Inside, inside, Body, the_body, Whole, whole, start}
 use Rattle.fancy_grammar.specs.Grammar.{closed, closed_at, ended, ended_at, branches_of, conditional_of}
-use Rattle.fancy_grammar.specs.Grammar.{conditional_behind, is_condition, clear_or_stopper}
-use Rattle.fancy_grammar.specs.Head.{Head, capture, scope, look, atomic, define, repeater, group_node}
+use Rattle.fancy_grammar.specs.Grammar.{conditional_after, is_condition, clear_or_stopper}
+use Rattle.fancy_grammar.specs.GroupKind.{GroupKind, capture, flag_group, look, atomic, define, repeater, group_node}
 use Rattle.fancy_grammar.specs.Items.{items}
 use Rattle.fancy_grammar.specs.Quantified.{quants, adjacent, max_adjacent, is_unmoved, quant, quant_at, with_counts}
-use Rattle.fancy_grammar.specs.Quantified.{suffix, suffix_at, behind_lazy, may_be_possessive, is_repeatable, is_dropped}
+use Rattle.fancy_grammar.specs.Quantified.{suffix, suffix_at, after_lazy, may_be_possessive, is_repeatable, is_dropped}
 use Rattle.fancy_grammar.specs.Quantified.{Suffix}
 use Rattle.fancy_grammar.specs.Ordered.{DescendingReaches, reach_of_item}
 use Rattle.fancy_grammar.specs.Slices.{Slice}
-use Rattle.fancy_grammar.specs.State.{skipped, State, at, Outcome, done, fault}
+use Rattle.fancy_grammar.specs.State.{skipped, State, at, Outcome, done, failed}
 use Rattle.fancy_grammar.specs.Tree.{Tree, expression, levels, nodes}
-use Rattle.fancy_grammar.proofs.OutcomeLemmas.{behind_keeps}
-use Rattle.fancy_grammar.proofs.Slices.{MayStand, ItemSpan, Reads, here, on, fits, one, one_bytes, strip_slice}
-use Rattle.fancy_grammar.proofs.Slices.{strip_bytes, cut_slice, to_ends, stands_at, stands_in, raised, lowered, bare}
-use Rattle.fancy_grammar.proofs.Slices.{then, before, behind, listed, opened, SkippedSlice, layout_slice}
+use Rattle.fancy_grammar.proofs.OutcomeLemmas.{after_keeps}
+use Rattle.fancy_grammar.proofs.Slices.{MayLie, ItemSpan, Reads, current, on, fits, one, one_bytes, strip_slice}
+use Rattle.fancy_grammar.proofs.Slices.{strip_bytes, cut_slice, to_ends, lies_at, lies_in, raised, lowered, bare}
+use Rattle.fancy_grammar.proofs.Slices.{then, before, after, listed, opened, SkippedSlice, layout_slice}
 use Rattle.fancy_grammar.proofs.Slices.{skipped_slice, then_reads}
 use Rattle.fancy_grammar.proofs.TreeLaws.{items_of, items_choice, items_join, items_quantified, items_conditional}
 use Rattle.fancy_grammar.proofs.TreeLaws.{items_branches, items_clear_or_stopper, IsRead, AreRead, leaf_is_read}
@@ -47,7 +47,7 @@ use Rattle.fancy_grammar.proofs.TreeLaws.{weights, widest, weight_most, join_siz
 use Rattle.fancy_grammar.proofs.TreeLaws.{choice_levels, branches_size, branches_levels, conditional_size}
 use Rattle.fancy_grammar.proofs.TreeLaws.{conditional_levels, node_over, clear_or_stopper_over, repeatable_solid}
 use Rattle.fancy_grammar.proofs.TreeLaws.{solid_weight, quantified_over, leaf_size}
-use Rattle.fancy_grammar.proofs.AheadLaws.{Past, IsLeaf, AheadReads, ahead_reads, OpensBelow, ahead_below}
+use Rattle.fancy_grammar.proofs.AtomStartLaws.{Past, IsLeaf, StartReads, start_reads, OpensBelow, start_below}
 
 -- a tree that is read from s up to t: its groups and references, its nodes, and a bound on its size
 pub record Part (Size : Tree → State → Type 0) (s : State) (r : Tree) (t : State) : Type 0 where
@@ -65,7 +65,7 @@ pub record Parts (Size : List Tree → State → Type 0) (s : State) (l : List T
 resized : (P Q : Tree → State → Type 0) (s : State) (o : Outcome Tree) → ((b : Tree) (v : State) → P b v → Q b v) →
     Reads (Part P s) s o → Reads (Part Q s) s o
 resized P Q s (done b v) f h = record { span = h.span; read = h.read; size = f b v h.size }
-resized P Q s (fault k p) f h = h
+resized P Q s (failed k p) f h = h
 
 -- ---- quantifiers
 
@@ -75,15 +75,15 @@ suffix_reads w c = by_layout (skipped w) (layout_slice w.flags.ignore_space w.re
     W : Outcome Suffix → Type 0
     W = Reads (λ (m : Suffix) v. Slice w.rest v.rest) w
 
-    behind_mark : (lazy : Bool) (t : Text) → Slice w.rest t → W (behind_lazy w c lazy t)
-    behind_mark lazy t i =
+    after_operator : (lazy : Bool) (t : Text) → Slice w.rest t → W (after_lazy w c lazy t)
+    after_operator lazy t i =
         cond_both (may_be_possessive w.flags c) _ _ W
         (λ _. choose_both W (strip (code "+") t) _ _ (λ u e. on i (strip_slice (code "+") t u e)) i) (λ _. i)
 
     by_layout : (j : Skipped) → SkippedSlice w.rest j → W (suffix_at w c j)
     by_layout (rest t) i =
-        choose_both W (strip (code "?") t) _ _ (λ u e. behind_mark true u (on i (strip_slice (code "?") t u e)))
-        (behind_mark false t i)
+        choose_both W (strip (code "?") t) _ _ (λ u e. after_operator true u (on i (strip_slice (code "?") t u e)))
+        (after_operator false t i)
     by_layout (open_comment p) i = i
 
 -- a quantifier has at least one byte for each level that it adds, and for each two nodes; it adds at most two levels
@@ -109,32 +109,32 @@ quant_read left a s t h n = by_layout (skipped t) (layout_slice t.flags.ignore_s
     by_counts : (v : Text) (o : Option (Counts × Text)) → Slice t.rest v → IfSome o (λ p. Closed v p.1) →
         Reads P s (with_counts left a (at t v) o)
     by_counts v None l i = record {
-      span = behind h l;
+      span = after h l;
       read = n;
       size = (omega (arith, fits l), omega (arith, fits l), omega arith);
     }
     by_counts v (Some (c, u)) l i =
-        let ends = on l (cut_slice i.ends) in let past = on ends (one i.mark u) in
-        let long : bytes u + 1 ≤ bytes t.rest = omega (arith, fits ends, one_bytes i.mark u) in
-        let marks = suffix_reads (at t u) c in
+        let ends = on l (cut_slice i.ends) in let past = on ends (one i.last_char u) in
+        let long : bytes u + 1 ≤ bytes t.rest = omega (arith, fits ends, one_bytes i.last_char u) in
+        let operators = suffix_reads (at t u) c in
         cond_both (is_repeatable t.flags a) _ _ (Reads P s)
-        (λ e. then_reads _ P s (at t u) (suffix (at t u) c) _ (on h.slice past) marks (λ m w k.
+        (λ e. then_reads _ P s (at t u) (suffix (at t u) c) _ (on h.slice past) operators (λ m w k.
         let over = quantified_over t.flags c m a in let is = solid_weight a (repeatable_solid t.flags a e) in record {
-          span = listed (items_quantified t.flags c m a) (behind h (on past k));
+          span = listed (items_quantified t.flags c m a) (after h (on past k));
           read = quantified_read t.flags c m a n;
           size = (omega (arith, over.0, is, long, fits k), omega (arith, over.1, long, fits k), over.1);
         })) (λ _.
         cond_both (is_dropped t.flags left a u) _ _ (Reads P s)
-        (λ _. then_reads _ P s (at t u) (suffix (at t u) c) _ (on h.slice past) marks (λ m w k. record {
-          span = behind h (on past k);
+        (λ _. then_reads _ P s (at t u) (suffix (at t u) c) _ (on h.slice past) operators (λ m w k. record {
+          span = after h (on past k);
           read = n;
           size = (omega (arith, long, fits k), omega (arith, long, fits k), omega arith);
-        })) (λ _. stands_before i.ascii (to_ends (on h.slice ends))))
+        })) (λ _. lies_before i.ascii (to_ends (on h.slice ends))))
 
     by_layout : (j : Skipped) → SkippedSlice t.rest j → Reads P s (quant_at left a t j)
     by_layout (rest v) i =
         by_counts v (counts t.flags.ignore_space v) i (closes_counts t.flags.ignore_space v)
-    by_layout (open_comment p) i = stands_in h.slice i
+    by_layout (open_comment p) i = lies_in h.slice i
 
 unmoved_bytes : (s t : State) → is_unmoved s t ≡ true → bytes t.rest ≡ bytes s.rest
 unmoved_bytes s t e = grind (arith, nat_tests)
@@ -145,16 +145,16 @@ adjacent_read : (k d : ℕ) (a : Tree) (s t : State) → ItemSpan (items a) s.re
 unfolding adjacent
 adjacent_read zero d a s t h n =
     let P = Part (GrowsBy zero a t) s in let once = quant_read (bytes t.rest) a s t h n in
-    then_reads (Part (Grows a t) s) P s s (quant (bytes t.rest) a t) _ (here s.rest) once (λ b v i.
+    then_reads (Part (Grows a t) s) P s s (quant (bytes t.rest) a t) _ (current s.rest) once (λ b v i.
     cond_both (is_unmoved t v) _ _ (Reads P s) (λ e. record {
       span = i.span;
       read = i.read;
       size = (i.size.0, omega (arith, i.size.1, unmoved_bytes t v e));
-    }) (λ _. stands_at i.span.slice))
+    }) (λ _. lies_at i.span.slice))
 adjacent_read (suc k) d a s t h n =
     let P = Part (GrowsBy (suc k) a t) s in let once = quant_read (bytes t.rest) a s t h n in
     let more = adjacent_read k (d + 1) in
-    then_reads (Part (Grows a t) s) P s s (quant (bytes t.rest) a t) _ (here s.rest) once (λ b v i.
+    then_reads (Part (Grows a t) s) P s s (quant (bytes t.rest) a t) _ (current s.rest) once (λ b v i.
     cond_both (is_unmoved t v) _ _ (Reads P s) (λ e. record {
       span = i.span;
       read = i.read;
@@ -163,14 +163,14 @@ adjacent_read (suc k) d a s t h n =
     cond_both (nat_lt (d + 1) max_depth) _ _ (Reads P s)
     (λ _. resized (GrowsBy k b v) (GrowsBy (suc k) a t) s (adjacent k (d + 1) b v) (λ x w j.
     (omega (arith, i.size.0, j.0), omega (arith, i.size.2, j.1))) (more b s v i.span i.read))
-    (λ _. stands_at i.span.slice)))
+    (λ _. lies_at i.span.slice)))
 
 -- one quantifier, and four adjacent to it
 quants_read : (d left : ℕ) (a : Tree) (s t : State) → ItemSpan (items a) s.rest t.rest → IsRead a →
     Reads (Part (GrowsBy 5 a t) s) s (quants d left a t)
 quants_read d left a s t h n =
     let P = Part (GrowsBy 5 a t) s in
-    then_reads (Part (Grows a t) s) P s s (quant left a t) _ (here s.rest) (quant_read left a s t h n) (λ b v i.
+    then_reads (Part (Grows a t) s) P s s (quant left a t) _ (current s.rest) (quant_read left a s t h n) (λ b v i.
     cond_both v.flags.oniguruma_mode _ _ (Reads P s)
     (λ _. resized (GrowsBy max_adjacent b v) (GrowsBy 5 a t) s (adjacent max_adjacent d b v) (λ x w j.
     (omega (arith, i.size.0, j.0), omega (arith, i.size.2, j.1)))
@@ -253,30 +253,30 @@ closed_reads : (P : Tree → State → Type 0) (s t : State) (r : Tree) → Slic
 closed_reads P s t r h k = by_text t.rest refl
   where
     by_text : (u : Text) → t.rest ≡ u → Reads P s (closed_at r t u)
-    by_text [] e = stands_end s.rest
+    by_text [] e = lies_at_end s.rest
     by_text (c ∷ u) e =
         cond_both (c == code ")") _ _ (Reads P s)
         (λ _. k (at t u) (record { word = c ∷ []; cut = e }) (omega (arith, ap bytes e, one_bytes c u)))
-        (λ _. stands_at h)
+        (λ _. lies_at h)
 
 -- the opening of a capturing group comes before its contents
-node_span : (h : Head) (s t : State) (r : Tree) (v : Text) → Past s t.rest → ItemSpan (items r) t.rest v →
+node_span : (h : GroupKind) (s t : State) (r : Tree) (v : Text) → Past s t.rest → ItemSpan (items r) t.rest v →
     ItemSpan (items (group_node h (reach_of s.rest) r)) s.rest v
 node_span (capture name) s t r v a b = opened name a b
-node_span scope s t r v a b = before a.0 b
+node_span flag_group s t r v a b = before a.0 b
 node_span (look l) s t r v a b = before a.0 b
 node_span atomic s t r v a b = before a.0 b
 node_span define s t r v a b = before a.0 b
 node_span repeater s t r v a b = before a.0 b
 
 conditional_reads : (d : ℕ) (s t v : State) (c r : Tree) → d + 1 < max_depth → Part (ConditionFits d s) s c t →
-    IsAlternation (d + 1) t r v → Reads (IsAtom d s) s (conditional_behind c (bytes t.rest) r v)
+    IsAlternation (d + 1) t r v → Reads (IsAtom d s) s (conditional_after c (bytes t.rest) r v)
 conditional_reads d s t v c r l h i =
     let (a, b) = branches_of r in let both = then h.span i.span in
     cond_both (bytes v.rest == bytes t.rest && not (is_condition c)) _ _ (Reads (IsAtom d s) s)
-    (λ _. stands_at both.slice) (λ _. closed_reads (IsAtom d s) s v (conditional_of c a b) both.slice (λ z k m.
+    (λ _. lies_at both.slice) (λ _. closed_reads (IsAtom d s) s v (conditional_of c a b) both.slice (λ z k m.
     let each = branches_read r i.read in let deep = branches_levels r in record {
-      span = listed (ap (λ l. items c ++ l) (items_branches r) ∙ items_conditional c a b) (behind both k);
+      span = listed (ap (λ l. items c ++ l) (items_branches r) ∙ items_conditional c a b) (after both k);
       read = conditional_of_read c a b h.read each.0 each.1;
       size = λ _. (
         omega (
@@ -298,14 +298,14 @@ leaf_is_atom d s (done a t) h = record {
   read = leaf_is_read a h.alone;
   size = λ l. (omega (arith, h.past, weight_most a, leaf_size a h.alone.1), omega (arith, l, h.alone.2));
 }
-leaf_is_atom d s (fault k p) h = h
+leaf_is_atom d s (failed k p) h = h
 
 -- ---- the grammar
 
 mutual
   pub alternation_read : {d : ℕ} {s : State} {o : Outcome Tree} → Alternation d s o → Reads (IsAlternation d s) s o
   alternation_read (alternation {d} {s} {q} b) =
-      then_reads (AreBranches d s) (IsAlternation d s) s s q _ (here s.rest) (branches_are_read b) (λ l v h. record {
+      then_reads (AreBranches d s) (IsAlternation d s) s s q _ (current s.rest) (branches_are_read b) (λ l v h. record {
         span = listed (sym (items_choice l)) h.span;
         read = choice_read l h.read;
         size = λ x. let i = h.size x in
@@ -320,7 +320,7 @@ mutual
         size = λ x. let i = h.size x in (omega (arith, i.0), omega (arith, i.1), omega arith);
       }
   branches_are_read (more {d} {s} {t} {u} {q} b e m) =
-      let h = branch_read b in let past = behind h.span (strip_slice bar t.rest u e) in
+      let h = branch_read b in let past = after h.span (strip_slice bar t.rest u e) in
       then_reads (AreBranches d (at t u)) (AreBranches d s) s (at t u) q _ past.slice (branches_are_read m)
       (λ l v i. record {
         span = then past i.span;
@@ -328,18 +328,18 @@ mutual
         size = λ x. let j = h.size x in let k = i.size x in
             (omega (arith, j.0, strip_bytes bar t.rest u e, k.0), omega (arith, j.1, k.1), omega arith);
       })
-  branches_are_read (branch_fault b) = branch_read b
+  branches_are_read (branch_error b) = branch_read b
 
   pub branch_read : {d : ℕ} {s : State} {o : Outcome Tree} → Branch d s o → Reads (IsBranch d s) s o
   branch_read (branch {d} {s} {q} b) =
-      then_reads (ArePieces d s) (IsBranch d s) s s q _ (here s.rest) (pieces_read b) (λ l v h. record {
+      then_reads (ArePieces d s) (IsBranch d s) s s q _ (current s.rest) (pieces_read b) (λ l v h. record {
         span = listed (sym (items_join l)) h.span;
         read = join_read l h.read;
         size = λ x. let i = h.size x in (omega (arith, join_size l, i.0), omega (arith, join_levels l, i.1));
       })
 
   pieces_read : {d : ℕ} {s : State} {o : Outcome (List Tree)} → Pieces d s o → Reads (ArePieces d s) s o
-  pieces_read (stop {s} e) = record { span = bare (here s.rest); read = tt; size = λ x. (omega arith, omega (arith, x)) }
+  pieces_read (stop {s} e) = record { span = bare (current s.rest); read = tt; size = λ x. (omega arith, omega (arith, x)) }
   pieces_read (next {d} {t} {q} {s} e a m) =
       let h = piece_read a in
       then_reads (ArePieces d t) (ArePieces d s) s t q _ h.span.slice (pieces_read m) (λ l v i. record {
@@ -347,7 +347,7 @@ mutual
         read = (h.read, i.read);
         size = λ x. let j = h.size x in let k = i.size x in (omega (arith, j.0, k.0), omega (arith, j.1, k.1));
       })
-  pieces_read (piece_fault e a) = piece_read a
+  pieces_read (piece_error e a) = piece_read a
 
   pub piece_read : {d : ℕ} {s : State} {o : Outcome Tree} → Piece d s o → Reads (IsPiece d s) s o
   piece_read (piece {d} {s} {u} {q} l x) =
@@ -356,27 +356,27 @@ mutual
       resized (GrowsBy 5 a t) (Fits piece_levels d s) s (quants d (bytes s.rest) a t) (λ b v i x. let j = h.size x in
       (omega (arith, fits k, j.0, i.0), omega (arith, j.1, i.1)))
       (quants_read d (bytes s.rest) a s t (before k h.span) h.read))
-  piece_read (layout_fault {s} l) =
+  piece_read (layout_error {s} l) =
       subst (SkippedSlice s.rest) l (layout_slice s.flags.ignore_space s.rest)
 
   pub atom_read : {d : ℕ} {s : State} {o : Outcome Tree} → Atom d s o → Reads (IsAtom d s) s o
   atom_read (atom {d} {s} {e} {q} is a) =
-      behind_keeps (Reads (IsAtom d s) s) (λ r t f i. record { span = i.span; read = i.read; size = i.size }) e s.flags q
-      (of_read a (subst (AheadReads s) is (ahead_reads d s)) (subst (OpensBelow d) is (ahead_below d s)))
+      after_keeps (Reads (IsAtom d s) s) (λ r t f i. record { span = i.span; read = i.read; size = i.size }) e s.flags q
+      (of_read a (subst (StartReads s) is (start_reads d s)) (subst (OpensBelow d) is (start_below d s)))
 
-  of_read : {k : Ahead} {d : ℕ} {s : State} {o : Outcome Tree} → AtomOf k d s o → AheadReads s k → OpensBelow d k →
+  of_read : {k : AtomStart} {d : ℕ} {s : State} {o : Outcome Tree} → AtomOf k d s o → StartReads s k → OpensBelow d k →
       Reads (IsAtom d s) s o
   of_read (a_nothing {s}) h b =
-      record { span = bare (here s.rest); read = (tt, tt); size = λ x. (omega arith, omega (arith, x)) }
+      record { span = bare (current s.rest); read = (tt, tt); size = λ x. (omega arith, omega (arith, x)) }
   of_read (a_read {d} {s} {o}) h b = leaf_is_atom d s o h
-  of_read (a_group {d} {s} {t} {h = head} {q} i) h b =
+  of_read (a_group {d} {s} {t} {h = kind} {q} i) h b =
       let p = reach_of s.rest in
       then_reads (IsInside d t) (IsAtom d s) s t q _ h.0 (inside_read i) (λ r v k.
-      let over = node_over head p r in let j = k.size b in record {
-        span = node_span head s t r v.rest h k.span;
-        read = node_read head p r k.read;
+      let over = node_over kind p r in let j = k.size b in record {
+        span = node_span kind s t r v.rest h k.span;
+        read = node_read kind p r k.read;
         size = λ _.
-            (omega (arith, weight_most (group_node head p r), over.0, j.0, h.1), omega (arith, over.1, j.1));
+            (omega (arith, weight_most (group_node kind p r), over.0, j.0, h.1), omega (arith, over.1, j.1));
       })
   of_read (a_condition {s} i m) h b =
       let c = inside_read i in
@@ -385,7 +385,7 @@ mutual
         read = c.read;
         size = λ x. let j = c.size x in (omega (arith, j.0, h.1), j.1);
       })
-  of_read (condition_fault i) h b = stands_in h.0 (inside_read i)
+  of_read (condition_error i) h b = lies_in h.0 (inside_read i)
   of_read (a_body {s} {c} m) h b =
       body_read s m b (record {
         span = h.0;
@@ -394,12 +394,12 @@ mutual
       })
   of_read (two_branches {d} {s} {v} {u} {a} {q} m e n) h b =
       let c = branch_read m in let j = c.size b in
-      let first = before h.0 (behind c.span (strip_slice bar v.rest u e)) in
+      let first = before h.0 (after c.span (strip_slice bar v.rest u e)) in
       then_reads (IsBranch (d + 1) (at v u)) (IsAtom d s) s (at v u) q _ first.slice (branch_read n) (λ r w i.
       let both = listed (ap (λ l. items a ++ l) (sym (append-nil (items r)))) (then first i.span) in
       let k = i.size b in
       closed_reads (IsAtom d s) s w (expression a r) both.slice (λ z x y. record {
-        span = behind both x;
+        span = after both x;
         read = (tt, all_read (a ∷ r ∷ []) (c.read, (i.read, tt)));
         size = λ _. (omega (arith, h.1, j.0, strip_bytes bar v.rest u e, k.0, y), omega (arith, j.1, k.1));
       }))
@@ -407,18 +407,18 @@ mutual
       let c = branch_read m in let j = c.size b in let over = clear_or_stopper_over a in
       let one = listed (items_clear_or_stopper a) (before h.0 c.span) in
       closed_reads (IsAtom d s) s v (clear_or_stopper a) one.slice (λ z x y. record {
-        span = behind one x;
+        span = after one x;
         read = clear_or_stopper_read a c.read;
         size = λ _.
             (omega (arith, weight_most (clear_or_stopper a), over.0, h.1, j.0, y), omega (arith, over.1, j.1));
       })
-  of_read (absent_fault m) h b = stands_in h.0 (branch_read m)
+  of_read (absent_error m) h b = lies_in h.0 (branch_read m)
 
   pub inside_read : {d : ℕ} {s : State} {o : Outcome Tree} → Inside d s o → Reads (IsInside d s) s o
   inside_read (inside {d} {s} {q} a) =
-      then_reads (IsAlternation (d + 1) s) (IsInside d s) s s q _ (here s.rest) (alternation_read a) (λ r v h.
+      then_reads (IsAlternation (d + 1) s) (IsInside d s) s s q _ (current s.rest) (alternation_read a) (λ r v h.
       closed_reads (IsInside d s) s v r h.span.slice (λ z k m. record {
-        span = behind h.span k;
+        span = after h.span k;
         read = h.read;
         size = λ x. let i = h.size x in (omega (arith, i.0, m), omega (arith, i.1));
       }))
@@ -437,13 +437,13 @@ ended_reads P s t r h i = by_text t.rest
   where
     by_text : (u : Text) → Reads P s (ended_at r t u)
     by_text [] = i
-    by_text (c ∷ u) = stands_at h
+    by_text (c ∷ u) = lies_at h
 
 pub whole_read : {f : Flags} {text : Text} {o : Outcome Tree} → Whole f text o →
     Reads (IsAlternation 0 (start f text)) (start f text) o
 whole_read (whole {f} {text} {q} a) =
     let s = start f text in
-    then_reads (IsAlternation 0 s) (IsAlternation 0 s) s s q _ (here text) (alternation_read a)
+    then_reads (IsAlternation 0 s) (IsAlternation 0 s) s s q _ (current text) (alternation_read a)
     (λ r t h. ended_reads (IsAlternation 0 s) s t r h.span.slice h)
 
 -- each raw tree of a text has such nodes
@@ -451,14 +451,14 @@ pub derived_read : {f : Flags} {text : Text} {r : Tree} {t : State} → Whole f 
 derived_read a = (whole_read a).read
 
 -- an error is where a suffix of the text begins, or one past the end
-pub fault_stands : {f : Flags} {text : Text} {k : Kind} {p : ℕ} → Whole f text (fault k p) →
-    MayStand text p
-fault_stands a = whole_read a
+pub error_lies : {f : Flags} {text : Text} {k : Kind} {p : ℕ} → Whole f text (failed k p) →
+    MayLie text p
+error_lies a = whole_read a
 
 -- so are the groups and references
-pub items_stand : {f : Flags} {text : Text} {r : Tree} {t : State} → Whole f text (done r t) →
-    AllByRecursion (λ i. MayStand text (reach_of_item i)) (items r)
-items_stand a = (whole_read a).span.stand
+pub items_lie : {f : Flags} {text : Text} {r : Tree} {t : State} → Whole f text (done r t) →
+    AllByRecursion (λ i. MayLie text (reach_of_item i)) (items r)
+items_lie a = (whole_read a).span.may_lie
 
 -- the groups and references of a text are in text order, before its end
 pub ordered_within : {f : Flags} {text : Text} {r : Tree} {t : State} → Whole f text (done r t) →

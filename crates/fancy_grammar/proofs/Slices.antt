@@ -3,37 +3,37 @@ use Rattle.std.proofs.Common.{◌≡◌, ℕ, ◌+◌, ◌≤◌, ◌∷◌, [],
 use Rattle.std.proofs.Common.{Some, append_assoc, append-nil}
 use Rattle.std.proofs.lemmas.Str.{len_utf8_bounds}
 use Rattle.std.specs.List.{AllByRecursion}
-use Rattle.fancy_lex.proofs.LeaveLaws.{stands_past}
-use Rattle.fancy_lex.proofs.LayoutLaws.{layout_cut, layout_stands}
+use Rattle.fancy_lex.proofs.LeaveLaws.{lies_past}
+use Rattle.fancy_lex.proofs.LayoutLaws.{layout_cut, layout_lies}
 use Rattle.fancy_lex.proofs.TakeLaws.{Takes, takes_bytes}
 use Rattle.fancy_lex.proofs.TextLemmas.{bytes-append, strip_is}
-use Rattle.fancy_lex.specs.LayoutSteps.{layout, Skipped, rest, fault as open_comment}
-use Rattle.fancy_lex.specs.Text.{Text, EndsWith, Stands, begins, bytes, past_end, reach_of, strip}
+use Rattle.fancy_lex.specs.LayoutSteps.{layout, Skipped, rest, failed as open_comment}
+use Rattle.fancy_lex.specs.Text.{Text, EndsWith, LiesIn, begins, bytes, past_end, reach_of, strip}
 use Rattle.fancy_grammar.specs.Label.{AstReference}
 use Rattle.fancy_grammar.specs.Items.{Item, opening, reference}
 use Rattle.fancy_grammar.specs.Ordered.{DescendingReaches, reach_of_item}
 use Rattle.fancy_grammar.specs.Slices.{Slice}
-use Rattle.fancy_grammar.specs.State.{skipped, State, Outcome, done, fault, and_then}
+use Rattle.fancy_grammar.specs.State.{skipped, State, Outcome, done, failed, and_then}
 
 -- in a pattern that ends with t: the reach at which a suffix of t begins, or of one past the end
-abbrev pub MayStand : Text → ℕ → Type 0
-MayStand t p = Stands past_end t p
+abbrev pub MayLie : Text → ℕ → Type 0
+MayLie t p = LiesIn past_end t p
 
 -- a slice lies between the start of t and the start of u, and the items in it are in text order
 pub record ItemSpan (l : List Item) (t u : Text) : Type 0 where
   pub slice : Slice t u
   pub descends : DescendingReaches (reach_of t + 1) (reach_of u + 1) l
-  pub stand : AllByRecursion (λ i. MayStand t (reach_of_item i)) l
+  pub may_lie : AllByRecursion (λ i. MayLie t (reach_of_item i)) l
 
 -- P holds of what was read, or the error is where a suffix of the text that begins at s begins, or one past its end
 abbrev pub Reads : {A : Type 0} → (A → State → Type 0) → State → Outcome A → Type 0
 Reads P s (done a t) = P a t
-Reads P s (fault k p) = MayStand s.rest p
+Reads P s (failed k p) = MayLie s.rest p
 
 -- ---- slices
 
-pub here : (t : Text) → Slice t t
-here t = record { word = []; cut = refl }
+pub current : (t : Text) → Slice t t
+current t = record { word = []; cut = refl }
 
 pub on : {t u v : Text} → Slice t u → Slice u v → Slice t v
 on {v} a b = record {
@@ -65,11 +65,11 @@ to_ends a = (a.word, a.cut)
 
 -- ---- where an error is
 
-pub stands_at : {t u : Text} → Slice t u → MayStand t (reach_of u)
-stands_at {u} a = begins u (to_ends a) refl
+pub lies_at : {t u : Text} → Slice t u → MayLie t (reach_of u)
+lies_at {u} a = begins u (to_ends a) refl
 
-pub stands_in : {p : ℕ} {t u : Text} → Slice t u → MayStand u p → MayStand t p
-stands_in a h = stands_past (to_ends a) h
+pub lies_in : {p : ℕ} {t u : Text} → Slice t u → MayLie u p → MayLie t p
+lies_in a h = lies_past (to_ends a) h
 
 -- ---- items in a slice
 
@@ -86,31 +86,31 @@ joined : (a b c : ℕ) (l m : List Item) → DescendingReaches a b l → Descend
 joined a b c [] m h i = raised a b c m h i
 joined a b c (x ∷ l) m h i = (h.0, joined (reach_of_item x) b c l m h.1 i)
 
-joined_stand : {t u : Text} (l m : List Item) → Slice t u →
-    AllByRecursion (λ i. MayStand t (reach_of_item i)) l → AllByRecursion (λ i. MayStand u (reach_of_item i)) m →
-    AllByRecursion (λ i. MayStand t (reach_of_item i)) (l ++ m)
-joined_stand [] [] a h k = tt
-joined_stand [] (x ∷ m) a h k = (stands_in a k.0, joined_stand [] m a tt k.1)
-joined_stand (x ∷ l) m a h k = (h.0, joined_stand l m a h.1 k)
+joined_lie : {t u : Text} (l m : List Item) → Slice t u →
+    AllByRecursion (λ i. MayLie t (reach_of_item i)) l → AllByRecursion (λ i. MayLie u (reach_of_item i)) m →
+    AllByRecursion (λ i. MayLie t (reach_of_item i)) (l ++ m)
+joined_lie [] [] a h k = tt
+joined_lie [] (x ∷ m) a h k = (lies_in a k.0, joined_lie [] m a tt k.1)
+joined_lie (x ∷ l) m a h k = (h.0, joined_lie l m a h.1 k)
 
 -- a slice without items
 pub bare : {t u : Text} → Slice t u → ItemSpan [] t u
-bare a = record { slice = a; descends = omega (arith, fits a); stand = tt }
+bare a = record { slice = a; descends = omega (arith, fits a); may_lie = tt }
 
 -- one part after another
 pub then : {l m : List Item} {t u v : Text} → ItemSpan l t u → ItemSpan m u v → ItemSpan (l ++ m) t v
 then {l} {m} {t} {u} {v} a b = record {
   slice = on a.slice b.slice;
   descends = joined (reach_of t + 1) (reach_of u + 1) (reach_of v + 1) l m a.descends b.descends;
-  stand = joined_stand l m a.slice a.stand b.stand;
+  may_lie = joined_lie l m a.slice a.may_lie b.may_lie;
 }
 
 -- the slice extends further, or began earlier
 pub before : {l : List Item} {t u v : Text} → Slice t u → ItemSpan l u v → ItemSpan l t v
 before a b = then (bare a) b
 
-pub behind : {l : List Item} {t u v : Text} → ItemSpan l t u → Slice u v → ItemSpan l t v
-behind {l} {t} {v} a b = subst (λ m. ItemSpan m t v) (append-nil l) (then a (bare b))
+pub after : {l : List Item} {t u v : Text} → ItemSpan l t u → Slice u v → ItemSpan l t v
+after {l} {t} {v} a b = subst (λ m. ItemSpan m t v) (append-nil l) (then a (bare b))
 
 -- the same items
 pub listed : {l m : List Item} {t u : Text} → l ≡ m → ItemSpan l t u → ItemSpan m t u
@@ -126,7 +126,7 @@ opened {l} {t} {u} {v} name a b = record {
     omega arith,
     raised (reach_of t) (reach_of u + 1) (reach_of v + 1) l (omega (arith, a.1)) b.descends,
   );
-  stand = (stands_at (here t), joined_stand [] l a.0 tt b.stand);
+  may_lie = (lies_at (current t), joined_lie [] l a.0 tt b.may_lie);
 }
 
 pub taken : {k : ℕ} {t u : Text} → Takes k t u → Slice t u
@@ -140,7 +140,7 @@ referred {t} {m} {u} r p a k e =
     record {
       slice = on a (taken k);
       descends = (omega (arith, e, fits a), omega (arith, e, fits a, more));
-      stand = (begins m (to_ends a) e, tt);
+      may_lie = (begins m (to_ends a) e, tt);
     }
 
 -- ---- layout
@@ -148,14 +148,14 @@ referred {t} {m} {u} r p a k e =
 -- the text after the layout is a suffix of the text, and the error of an open comment is at the end or one past it
 abbrev pub SkippedSlice : Text → Skipped → Type 0
 SkippedSlice t (rest u) = Slice t u
-SkippedSlice t (open_comment p) = MayStand t p
+SkippedSlice t (open_comment p) = MayLie t p
 
 pub layout_slice : (x : Bool) (t : Text) → SkippedSlice t (layout x t)
 layout_slice x t = by_layout (layout x t) refl
   where
     by_layout : (k : Skipped) → layout x t ≡ k → SkippedSlice t k
     by_layout (rest u) e = cut_slice (layout_cut x t u e)
-    by_layout (open_comment p) e = layout_stands 0 x t p e
+    by_layout (open_comment p) e = layout_lies 0 x t p e
 
 pub skipped_slice : (s : State) (u : Text) → skipped s ≡ rest u → Slice s.rest u
 skipped_slice s u l = subst (SkippedSlice s.rest) l (layout_slice s.flags.ignore_space s.rest)
@@ -167,4 +167,4 @@ pub then_reads : {A B : Type 0} (P : A → State → Type 0) (Q : B → State �
     (f : A → State → Outcome B) → Slice s.rest t.rest → Reads P t q →
     ((a : A) (v : State) → P a v → Reads Q s (f a v)) → Reads Q s (and_then q f)
 then_reads P Q s t (done a v) f x h g = g a v h
-then_reads P Q s t (fault k p) f x h g = stands_in x h
+then_reads P Q s t (failed k p) f x h g = lies_in x h

@@ -74,9 +74,9 @@ all_words : (unicode : Bool) → AreWords (replaced unicode)
 all_words true = (tt, (tt, (tt, (tt, (tt, (tt, tt))))))
 all_words false = (tt, tt)
 
-cut_left : (mark : ℕ) (t : Text) → LeavesSome t (cut_at mark t)
-cut_left mark [] = tt
-cut_left mark (c ∷ t) = at (c == mark) (cut_at mark t) (cut_left mark t)
+cut_left : (delimiter : ℕ) (t : Text) → LeavesSome t (cut_at delimiter t)
+cut_left delimiter [] = tt
+cut_left delimiter (c ∷ t) = at (c == delimiter) (cut_at delimiter t) (cut_left delimiter t)
   where
     at : (b : Bool) (o : Option (Text × Text)) → LeavesSome t o →
         LeavesSome (c ∷ t) (if b then Some ([], t) else option_map (λ p. (c ∷ p.0, p.1)) o)

@@ -7,23 +7,23 @@ use Rattle.std.proofs.lemmas.Str.{len_utf8_ascii}
 use Rattle.std.proofs.lemmas.Bool.Decides.{nat_tests}
 use Prim.Native.Char.{code}
 use Rattle.fancy_lex.proofs.ReadingLemmas.{choose_both}
-use Rattle.fancy_lex.proofs.ReferenceLaws.{IsCut, cut_is, takes_marked_name}
+use Rattle.fancy_lex.proofs.ReferenceLaws.{IsCut, cut_is, takes_delimited_name}
 use Rattle.fancy_lex.proofs.TakeLaws.{TakesSome}
 use Rattle.fancy_lex.proofs.TextLemmas.{strip_is, strip_word_is}
 use Rattle.fancy_lex.specs.Characters.{open_paren, close_paren, ◌∈◌}
-use Rattle.fancy_lex.specs.Delimited.{name_before, marked_name, of_name}
+use Rattle.fancy_lex.specs.Delimited.{name_before, delimited_name, of_name}
 use Rattle.fancy_lex.specs.Id.{nonempty_front}
-use Rattle.fancy_lex.specs.LayoutSteps.{Skipped, rest, rest_of, fault as open_comment, layout}
+use Rattle.fancy_lex.specs.LayoutSteps.{Skipped, rest, rest_of, failed as open_comment, layout}
 use Rattle.fancy_lex.specs.Reading.{Reading, gives, fails, choose}
 use Rattle.fancy_lex.specs.Referred.{Reference, name_reading, reference_by_name, written_reference}
 use Rattle.fancy_lex.specs.Text.{Text, EndsWith, bytes, reach_of, cut_at, strip, strip_word}
-use Rattle.fancy_parts.specs.FlagLetters.{Letters, setting, scope as scoped}
+use Rattle.fancy_parts.specs.FlagLetters.{Letters, inline_flags, flag_group as scoped}
 use Rattle.fancy_parts.specs.GroupName.{group_name}
-use Rattle.fancy_parts.specs.HeadReference.{begins_target, condition_name, condition_target, with_close_paren}
+use Rattle.fancy_parts.specs.GroupReference.{begins_target, condition_name, condition_target, with_close_paren}
 use Rattle.fancy_parts.specs.LetterSteps.{letters}
-use Rattle.fancy_grammar.specs.Ahead.{Ahead, nothing, read, with_head, condition, body, absent_branch}
-use Rattle.fancy_grammar.specs.Ahead.{ahead, ahead_of, behind_layout, group_ahead, behind_question, condition_ahead}
-use Rattle.fancy_grammar.specs.Ahead.{repeater_ahead, flags_ahead, named_ahead, target_ahead, is_before_nothing}
+use Rattle.fancy_grammar.specs.AtomStart.{AtomStart, nothing, read, of_kind, condition, body, absent_branch}
+use Rattle.fancy_grammar.specs.AtomStart.{atom_start, start_of, after_layout, group_start, after_question, condition_start}
+use Rattle.fancy_grammar.specs.AtomStart.{repeater_start, flags_start, named_start, target_start, is_before_nothing}
 use Rattle.fancy_grammar.specs.Depth.{max_depth}
 use Rattle.fancy_grammar.specs.Label as label
 use Rattle.fancy_grammar.specs.Label.{Leaf}
@@ -35,7 +35,7 @@ use Rattle.fancy_grammar.specs.Verb.{verb_at}
 use Rattle.fancy_grammar.specs.declared.kinds.BacktrackingControlVerb.{BacktrackingControlVerb}
 use Rattle.fancy_grammar.specs.declared.kinds.BacktrackingControlVerb.TheVariants.{Fail, Accept, Commit, Skip, Prune}
 use Rattle.fancy_grammar.proofs.Slices.{on, layout_slice, SkippedSlice}
-use Rattle.fancy_grammar.proofs.SpansLemmas.{Stands, leaf_at, reaches}
+use Rattle.fancy_grammar.proofs.SpansLemmas.{Lies, leaf_at, reaches}
 
 -- ---- a condition's text ends with its parenthesis
 
@@ -71,7 +71,7 @@ unfolding condition_name
 closes_condition_name [] = tt
 closes_condition_name (c ∷ t) =
     cond_both (c ∈ "'<") _ _ (ClosesSome (c ∷ t))
-    (λ _. closes_with (c ∷ t) (marked_name (c ∷ t)) (takes_marked_name (c ∷ t))) (λ _. closes_name (c ∷ t))
+    (λ _. closes_with (c ∷ t) (delimited_name (c ∷ t)) (takes_delimited_name (c ∷ t))) (λ _. closes_name (c ∷ t))
 
 closes_target : (t : Text) → ClosesIfGiven t (condition_target t)
 unfolding condition_target reference_by_name
@@ -104,63 +104,63 @@ closes_verb t =
 -- ---- the start of an atom
 
 -- a condition that is no alternation is a leaf, and o is its text, which ends with its parenthesis
-abbrev Told : Option Text → Ahead → Type 0
-Told o (body c v) = (w : Text) × (o ≡ Some w) × ((l : Leaf) × (c ≡ leaf l)) × Closes w v.rest
-Told o _ = Unit {0}
+abbrev HasConditionText : Option Text → AtomStart → Type 0
+HasConditionText o (body c v) = (w : Text) × (o ≡ Some w) × ((l : Leaf) × (c ≡ leaf l)) × Closes w v.rest
+HasConditionText o _ = Unit {0}
 
 module _ (o : Option Text) where
-  told_condition : (s : State) (w : Text) → o ≡ Some w → Told o (condition_ahead s w)
-  told_condition s [] e = tt
-  told_condition s (c ∷ t) e =
-      cond_both (begins_target (c ∷ t)) _ _ (Told o)
+  has_text_condition : (s : State) (w : Text) → o ≡ Some w → HasConditionText o (condition_start s w)
+  has_text_condition s [] e = tt
+  has_text_condition s (c ∷ t) e =
+      cond_both (begins_target (c ∷ t)) _ _ (HasConditionText o)
       (λ _. by_target (condition_target (c ∷ t)) (closes_target (c ∷ t))) (λ _.
-      cond_both (c == code "*") _ _ (Told o)
-      (λ _. choose_both (Told o) (verb_at t) _ _ (λ p i. (c ∷ t, e, (label.verb p.0, refl), by_verb p i)) tt) (λ _. tt))
+      cond_both (c == code "*") _ _ (HasConditionText o)
+      (λ _. choose_both (HasConditionText o) (verb_at t) _ _ (λ p i. (c ∷ t, e, (label.verb p.0, refl), by_verb p i)) tt) (λ _. tt))
     where
-      by_target : (r : Reading Reference) → ClosesIfGiven (c ∷ t) r → Told o (target_ahead s r)
+      by_target : (r : Reading Reference) → ClosesIfGiven (c ∷ t) r → HasConditionText o (target_start s r)
       by_target (gives r u) h = (c ∷ t, e, (_, refl), h)
       by_target (fails k) h = tt
 
       by_verb : (p : _) → verb_at t ≡ Some p → Closes (c ∷ t) p.1
       by_verb p i = let h = subst (ClosesSome t) i (closes_verb t) in (c ∷ h.0, ap (λ z. c ∷ z) h.1)
 
-  told_named : (s : State) (r : Reading Text) → Told o (named_ahead s r)
-  told_named s (gives w u) = tt
-  told_named s (fails k) = tt
+  has_text_named : (s : State) (r : Reading Text) → HasConditionText o (named_start s r)
+  has_text_named s (gives w u) = tt
+  has_text_named s (fails k) = tt
 
-  told_flags : (r : Reading Letters) → Told o (flags_ahead r)
-  told_flags (gives (setting f) u) = tt
-  told_flags (gives (scoped f) u) = tt
-  told_flags (fails k) = tt
+  has_text_flags : (r : Reading Letters) → HasConditionText o (flags_start r)
+  has_text_flags (gives (inline_flags f) u) = tt
+  has_text_flags (gives (scoped f) u) = tt
+  has_text_flags (fails k) = tt
 
-  told_repeater : (s : State) (t : Text) → Told o (repeater_ahead s t)
-  told_repeater s [] = tt
-  told_repeater s (c ∷ t) = tt
+  has_text_repeater : (s : State) (t : Text) → HasConditionText o (repeater_start s t)
+  has_text_repeater s [] = tt
+  has_text_repeater s (c ∷ t) = tt
 
-  told_question : (s : State) (t : Text) → ((w : Text) → strip_word (codes "(") t ≡ Some w → o ≡ Some w) →
-      Told o (behind_question s t)
-  told_question s t f =
-      let P = Told o in
+  has_text_question : (s : State) (t : Text) → ((w : Text) → strip_word (codes "(") t ≡ Some w → o ≡ Some w) →
+      HasConditionText o (after_question s t)
+  has_text_question s t f =
+      let P = HasConditionText o in
       choose_both P (strip_word (codes "=") t) _ _ (λ u e. tt) (
       choose_both P (strip_word (codes "!") t) _ _ (λ u e. tt) (
       choose_both P (strip_word (codes "<=") t) _ _ (λ u e. tt) (
       choose_both P (strip_word (codes "<!") t) _ _ (λ u e. tt) (
-      choose_both P (strip_word (codes "<") t) _ _ (λ u e. told_named s (group_name (code ">") t u)) (
-      choose_both P (strip_word (codes "'") t) _ _ (λ u e. told_named s (group_name (code "'") t u)) (
-      choose_both P (strip_word (codes "P<") t) _ _ (λ u e. told_named s (group_name (code ">") t u)) (
+      choose_both P (strip_word (codes "<") t) _ _ (λ u e. has_text_named s (group_name (code ">") t u)) (
+      choose_both P (strip_word (codes "'") t) _ _ (λ u e. has_text_named s (group_name (code "'") t u)) (
+      choose_both P (strip_word (codes "P<") t) _ _ (λ u e. has_text_named s (group_name (code ">") t u)) (
       choose_both P (strip_word (codes "P=") t) _ _ (λ u e. tt) (
       choose_both P (strip_word (codes "P>") t) _ _ (λ u e. tt) (
       choose_both P (strip_word (codes "~|") t) _ _ (λ u e. tt) (
-      choose_both P (strip_word (codes "~") t) _ _ (λ u e. told_repeater s u) (
+      choose_both P (strip_word (codes "~") t) _ _ (λ u e. has_text_repeater s u) (
       choose_both P (strip_word (codes ">") t) _ _ (λ u e. tt) (
       choose_both P (strip_word (codes "(DEFINE)") t) _ _ (λ u e. tt) (
-      choose_both P (strip_word (codes "(") t) _ _ (λ u e. told_condition s u (f u e))
-      (told_flags (letters s.flags t)))))))))))))))
+      choose_both P (strip_word (codes "(") t) _ _ (λ u e. has_text_condition s u (f u e))
+      (has_text_flags (letters s.flags t)))))))))))))))
 
-told_group : (s : State) (u : Text) → Told (strip_word (codes "?(") u) (group_ahead s u)
-told_group s u =
-    let P = Told (strip_word (codes "?(") u) in
-    choose_both P (strip_word (codes "?") u) _ _ (λ t e. told_question _ s t (λ w i. both t w e i)) (
+has_text_group : (s : State) (u : Text) → HasConditionText (strip_word (codes "?(") u) (group_start s u)
+has_text_group s u =
+    let P = HasConditionText (strip_word (codes "?(") u) in
+    choose_both P (strip_word (codes "?") u) _ _ (λ t e. has_text_question _ s t (λ w i. both t w e i)) (
     choose_both P (strip_word (codes "*") u) _ _ (λ t e. choose_both P (verb_at t) _ _ (λ p i. tt) tt) tt)
   where
     both : (t w : Text) → strip_word (codes "?") u ≡ Some t → strip_word (codes "(") t ≡ Some w →
@@ -171,53 +171,53 @@ told_group s u =
 -- ---- where it is
 
 module _ (named : Bool) where
-  abbrev pub ConditionStands : State → Ahead → Type 0
-  ConditionStands s (body c t) = Stands named s.rest t.rest c (alone (condition_span s t))
-  ConditionStands s _ = Unit {0}
+  abbrev pub ConditionLies : State → AtomStart → Type 0
+  ConditionLies s (body c t) = Lies named s.rest t.rest c (alone (condition_span s t))
+  ConditionLies s _ = Unit {0}
 
-  pub condition_stands : (d : ℕ) (s : State) → ConditionStands s (ahead d s)
-  unfolding ahead bytes
-  condition_stands d s = by_text s.rest refl
+  pub condition_lies : (d : ℕ) (s : State) → ConditionLies s (atom_start d s)
+  unfolding atom_start bytes
+  condition_lies d s = by_text s.rest refl
     where
-      placed : (w : Text) (v : State) → condition_text s ≡ Some w →
+      positioned : (w : Text) (v : State) → condition_text s ≡ Some w →
           reaches w (close_paren ∷ v.rest) ≡ condition_span s v
-      placed w v e =
+      positioned w v e =
           let start = ap (λ o. choose o reach_of (reach_of s.rest)) (sym e) in
           let end : reach_of (close_paren ∷ v.rest) ≡ reach_of v.rest + 1 =
           omega (arith, len_utf8_ascii close_paren (omega arith)) in
           λ i. record { start = start i; end = end i }
 
-      by_ahead : (u : Text) → Slice s.rest u → condition_text s ≡ strip_word (codes "?(") u → (k : Ahead) →
-          Told (strip_word (codes "?(") u) k → ConditionStands s k
-      by_ahead u a e (body c v) (w, i, (l, j), h) =
+      by_start : (u : Text) → Slice s.rest u → condition_text s ≡ strip_word (codes "?(") u → (k : AtomStart) →
+          HasConditionText (strip_word (codes "?(") u) k → ConditionLies s k
+      by_start u a e (body c v) (w, i, (l, j), h) =
           let cut : Slice u w = record { word = codes "?("; cut = strip_word_is (codes "?(") u w i } in
-          subst (λ p. Stands named s.rest v.rest c (alone p)) (placed w v (e ∙ i))
-          (subst (λ r. Stands named s.rest v.rest r (alone (reaches w (close_paren ∷ v.rest)))) (sym j)
+          subst (λ p. Lies named s.rest v.rest c (alone p)) (positioned w v (e ∙ i))
+          (subst (λ r. Lies named s.rest v.rest r (alone (reaches w (close_paren ∷ v.rest)))) (sym j)
           (leaf_at (on a cut) (record { word = h.0; cut = h.1 }) (record { word = close_paren ∷ []; cut = refl })))
-      by_ahead u a e nothing h = tt
-      by_ahead u a e (read q) h = tt
-      by_ahead u a e (with_head g v) h = tt
-      by_ahead u a e (condition v) h = tt
-      by_ahead u a e (absent_branch v) h = tt
+      by_start u a e nothing h = tt
+      by_start u a e (read q) h = tt
+      by_start u a e (of_kind g v) h = tt
+      by_start u a e (condition v) h = tt
+      by_start u a e (absent_branch v) h = tt
 
       by_layout : (t : Text) → s.rest ≡ open_paren ∷ t → (k : Skipped) → layout s.flags.ignore_space t ≡ k →
-          SkippedSlice t k → ConditionStands s (behind_layout (at s t) k)
+          SkippedSlice t k → ConditionLies s (after_layout (at s t) k)
       by_layout t e (rest u) l i =
-          by_ahead u (on (record { word = open_paren ∷ []; cut = e }) i)
+          by_start u (on (record { word = open_paren ∷ []; cut = e }) i)
           (ap (λ z. option_and_then (strip_word (codes "?("))
           (option_and_then (λ v. rest_of (layout s.flags.ignore_space v)) (strip open_paren z))) e
           ∙ ap (λ k. option_and_then (strip_word (codes "?(")) (rest_of k)) l)
-          (group_ahead (at s t) u) (told_group (at s t) u)
+          (group_start (at s t) u) (has_text_group (at s t) u)
       by_layout t e (open_comment p) l i = tt
 
-      by_text : (t : Text) → s.rest ≡ t → ConditionStands s (ahead_of d s t)
+      by_text : (t : Text) → s.rest ≡ t → ConditionLies s (start_of d s t)
       by_text [] e = tt
       by_text (c ∷ t) e =
-          cond_both (c == code "(") _ _ (ConditionStands s) (λ i.
-          cond_both (nat_le max_depth (d + 1)) _ _ (ConditionStands s) (λ _. tt)
+          cond_both (c == code "(") _ _ (ConditionLies s) (λ i.
+          cond_both (nat_le max_depth (d + 1)) _ _ (ConditionLies s) (λ _. tt)
           (λ _. by_layout t (e ∙ ap (λ b. b ∷ t) (is_paren i)) (skipped (at s t)) refl
           (layout_slice s.flags.ignore_space t))) (λ _.
-          cond_both (is_before_nothing c) _ _ (ConditionStands s) (λ _. tt) (λ _. tt))
+          cond_both (is_before_nothing c) _ _ (ConditionLies s) (λ _. tt) (λ _. tt))
         where
           is_paren : (c == code "(") ≡ true → c ≡ open_paren
           is_paren i = grind (arith, nat_tests)

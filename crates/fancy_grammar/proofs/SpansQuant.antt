@@ -4,8 +4,8 @@ use Rattle.std.proofs.Common.{if◌then◌else◌, refl}
 use Rattle.std.specs.Option.{option_and_then}
 use Rattle.std.proofs.lemmas.Bool.{cond_both}
 use Rattle.fancy_lex.proofs.TakeLaws.{TakesSome}
-use Rattle.fancy_lex.specs.FaultTable.{not_repeatable, quantifier_too_deep}
-use Rattle.fancy_lex.specs.LayoutSteps.{Skipped, rest, rest_of, fault as open_comment}
+use Rattle.fancy_lex.specs.ErrorTable.{not_repeatable, quantifier_too_deep}
+use Rattle.fancy_lex.specs.LayoutSteps.{Skipped, rest, rest_of, failed as open_comment}
 use Rattle.fancy_lex.specs.Reading.{choose}
 use Rattle.fancy_lex.specs.Text.{Text, bytes, reach_of}
 use Rattle.fancy_lex.specs.declared.flags.Flags.{Flags}
@@ -19,38 +19,38 @@ use Rattle.fancy_grammar.specs.Quantified.{suffix, is_swapped, quantified, is_re
 use Rattle.fancy_grammar.specs.Slices.{Slice}
 use Rattle.fancy_grammar.specs.Spans.{Spans, around, if_done, under, quantifier_end, counted, quant_spans}
 use Rattle.fancy_grammar.specs.Spans.{adjacent_spans, quants_spans}
-use Rattle.fancy_grammar.specs.State.{skipped, State, at, Outcome, done, fault, faulted, and_then, seen_through}
+use Rattle.fancy_grammar.specs.State.{skipped, State, at, Outcome, done, failed, failed_with, and_then, seen_through}
 use Rattle.fancy_grammar.specs.Tree.{Tree, repeat, atomic_group}
 use Rattle.fancy_grammar.proofs.OutcomeLemmas.{Holds}
 use Rattle.fancy_grammar.proofs.ReadLaws.{suffix_reads}
-use Rattle.fancy_grammar.proofs.Slices.{Reads, here, on, layout_slice, SkippedSlice}
-use Rattle.fancy_grammar.proofs.SpansLemmas.{Stands, StandsFrom, reaches, over_at, wider}
+use Rattle.fancy_grammar.proofs.Slices.{Reads, current, on, layout_slice, SkippedSlice}
+use Rattle.fancy_grammar.proofs.SpansLemmas.{Lies, LiesFrom, reaches, over_at, wider}
 
 -- the rest after what is read is a suffix of t
-abbrev Behind : {A : Type 0} → Text → Outcome A → Type 0
-Behind t o = Holds (λ a (v : State). Slice t v.rest) o
+abbrev RestIn : {A : Type 0} → Text → Outcome A → Type 0
+RestIn t o = Holds (λ a (v : State). Slice t v.rest) o
 
-suffix_behind : (s : State) (c : Counts) → Behind s.rest (suffix s c)
-suffix_behind s c = by_cases (suffix s c) (suffix_reads s c)
+suffix_rest : (s : State) (c : Counts) → RestIn s.rest (suffix s c)
+suffix_rest s c = by_cases (suffix s c) (suffix_reads s c)
   where
-    by_cases : (o : Outcome Suffix) → Reads (λ m v. Slice s.rest v.rest) s o → Behind s.rest o
+    by_cases : (o : Outcome Suffix) → Reads (λ m v. Slice s.rest v.rest) s o → RestIn s.rest o
     by_cases (done m v) h = h
-    by_cases (fault k p) h = tt
+    by_cases (failed k p) h = tt
 
 module _ (named : Bool) where
-  under_stands : {t e v : Text} {a : Tree} {x : Spans} (f : Flags) (c : Counts) (m : Suffix) →
-      Stands named t e a x → Slice e v → Stands named t v (quantified f c m a) (under f c m (reaches t e) x)
-  under_stands {t} {e} {v} {a} {x} f c m h k = by_test (is_swapped f c) m.possessive
+  under_lies : {t e v : Text} {a : Tree} {x : Spans} (f : Flags) (c : Counts) (m : Suffix) →
+      Lies named t e a x → Slice e v → Lies named t v (quantified f c m a) (under f c m (reaches t e) x)
+  under_lies {t} {e} {v} {a} {x} f c m h k = by_test (is_swapped f c) m.possessive
     where
       once : {z : Text} (low high : ℕ) → Slice e z →
-          Stands named t z (repeat a low high (is_greedy f m.lazy)) (around (reaches t e) x)
-      once low high g = over_at (label.repeat low high (is_greedy f m.lazy)) refl (here t) h g
+          Lies named t z (repeat a low high (is_greedy f m.lazy)) (around (reaches t e) x)
+      once low high g = over_at (label.repeat low high (is_greedy f m.lazy)) refl (current t) h g
 
-      twice : (low high : ℕ) → Stands named t v (atomic_group (repeat a low high (is_greedy f m.lazy)))
+      twice : (low high : ℕ) → Lies named t v (atomic_group (repeat a low high (is_greedy f m.lazy)))
           (around (reaches t e) (around (reaches t e) x))
-      twice low high = over_at label.atomic_group refl (here t) (once low high (here e)) k
+      twice low high = over_at label.atomic_group refl (current t) (once low high (current e)) k
 
-      by_test : (b d : Bool) → Stands named t v
+      by_test : (b d : Bool) → Lies named t v
           (if b then atomic_group (repeat a c.high c.low (is_greedy f m.lazy))
           else if d then atomic_group (repeat a c.low c.high (is_greedy f m.lazy))
           else repeat a c.low c.high (is_greedy f m.lazy))
@@ -61,107 +61,107 @@ module _ (named : Bool) where
 
   -- the atom a spans from t to the state s
   module _ (t : Text) where
-    quant_stands : (left : ℕ) (a : Tree) (s : State) (x : Spans) → Stands named t s.rest a x →
-        StandsFrom named t (quant_spans (reach_of t) a s x) (quant left a s)
+    quant_lies : (left : ℕ) (a : Tree) (s : State) (x : Spans) → Lies named t s.rest a x →
+        LiesFrom named t (quant_spans (reach_of t) a s x) (quant left a s)
     unfolding quant
-    quant_stands left a s x h = by_layout (skipped s) (layout_slice s.flags.ignore_space s.rest)
+    quant_lies left a s x h = by_layout (skipped s) (layout_slice s.flags.ignore_space s.rest)
       where
-        kept : {v : Text} → Slice s.rest v → Stands named t v a x
-        kept i = wider named (here t) i h
+        kept : {v : Text} → Slice s.rest v → Lies named t v a x
+        kept i = wider named (current t) i h
 
-        by_marks : (c : Counts) (u : Text) (o : Outcome Suffix) → Slice s.rest u → Behind u o →
-            StandsFrom named t
+        by_operators : (c : Counts) (u : Text) (o : Outcome Suffix) → Slice s.rest u → RestIn u o →
+            LiesFrom named t
             (if_done o (λ m v. under s.flags c m (record { start = reach_of t; end = quantifier_end u m v }) x) x)
             (seen_through (λ m. quantified s.flags c m a) o)
-        by_marks c u (done m v) i j =
-            cond_both (m.lazy || m.possessive) _ _ (λ e. Stands named t v.rest (quantified s.flags c m a)
+        by_operators c u (done m v) i j =
+            cond_both (m.lazy || m.possessive) _ _ (λ e. Lies named t v.rest (quantified s.flags c m a)
             (under s.flags c m (record { start = reach_of t; end = e }) x))
-            (λ _. under_stands s.flags c m (kept (on i j)) (here v.rest))
-            (λ _. under_stands s.flags c m (kept i) j)
-        by_marks c u (fault k p) i j = tt
+            (λ _. under_lies s.flags c m (kept (on i j)) (current v.rest))
+            (λ _. under_lies s.flags c m (kept i) j)
+        by_operators c u (failed k p) i j = tt
 
-        by_dropped : (u : Text) (o : Outcome Suffix) → Slice s.rest u → Behind u o →
-            StandsFrom named t x (seen_through (λ m. a) o)
+        by_dropped : (u : Text) (o : Outcome Suffix) → Slice s.rest u → RestIn u o →
+            LiesFrom named t x (seen_through (λ m. a) o)
         by_dropped u (done m v) i j = kept (on i j)
-        by_dropped u (fault k p) i j = tt
+        by_dropped u (failed k p) i j = tt
 
         by_tests : (b d : Bool) (c : Counts) (u : Text) → Slice s.rest u →
-            StandsFrom named t
+            LiesFrom named t
             (if b then if_done (suffix (at s u) c)
             (λ m v. under s.flags c m (record { start = reach_of t; end = quantifier_end u m v }) x) x else x)
             (if b then seen_through (λ m. quantified s.flags c m a) (suffix (at s u) c)
-            else if d then seen_through (λ m. a) (suffix (at s u) c) else faulted (not_repeatable u))
-        by_tests true d c u i = by_marks c u (suffix (at s u) c) i (suffix_behind (at s u) c)
-        by_tests false true c u i = by_dropped u (suffix (at s u) c) i (suffix_behind (at s u) c)
+            else if d then seen_through (λ m. a) (suffix (at s u) c) else failed_with (not_repeatable u))
+        by_tests true d c u i = by_operators c u (suffix (at s u) c) i (suffix_rest (at s u) c)
+        by_tests false true c u i = by_dropped u (suffix (at s u) c) i (suffix_rest (at s u) c)
         by_tests false false c u i = tt
 
         by_counts : (v : Text) (o : Option (Counts × Text)) → Slice s.rest v → TakesSome 1 v o →
-            StandsFrom named t (choose o (counted (reach_of t) a s x) x) (with_counts left a (at s v) o)
+            LiesFrom named t (choose o (counted (reach_of t) a s x) x) (with_counts left a (at s v) o)
         by_counts v None i j = kept i
         by_counts v (Some (c, u)) i j =
             by_tests (is_repeatable s.flags a) (is_dropped s.flags left a u) c u
             (on i (record { word = j.word; cut = j.cut }))
 
         by_layout : (j : Skipped) → SkippedSlice s.rest j →
-            StandsFrom named t
+            LiesFrom named t
             (choose (option_and_then (counts s.flags.ignore_space) (rest_of j)) (counted (reach_of t) a s x) x)
             (quant_at left a s j)
         by_layout (rest v) i = by_counts v (counts s.flags.ignore_space v) i (takes_counts s.flags.ignore_space v)
         by_layout (open_comment p) i = tt
 
-    adjacent_stands : (k d : ℕ) (a : Tree) (s : State) (x : Spans) → Stands named t s.rest a x →
-        StandsFrom named t (adjacent_spans k (reach_of t) a s x) (adjacent k d a s)
+    adjacent_lies : (k d : ℕ) (a : Tree) (s : State) (x : Spans) → Lies named t s.rest a x →
+        LiesFrom named t (adjacent_spans k (reach_of t) a s x) (adjacent k d a s)
     unfolding adjacent
-    adjacent_stands zero d a s x h = by_first (quant (bytes s.rest) a s) (quant_stands (bytes s.rest) a s x h)
+    adjacent_lies zero d a s x h = by_first (quant (bytes s.rest) a s) (quant_lies (bytes s.rest) a s x h)
       where
         y : Spans
         y = quant_spans (reach_of t) a s x
 
-        by_first : (o : Outcome Tree) → StandsFrom named t y o → StandsFrom named t y
-            (and_then o (λ b v. if is_unmoved s v then done b v else faulted (quantifier_too_deep v.rest)))
-        by_first (done b v) i = cond_both (is_unmoved s v) _ _ (StandsFrom named t y) (λ _. i) (λ _. tt)
-        by_first (fault j p) i = tt
-    adjacent_stands (suc k) d a s x h =
-        by_first (λ b v i. adjacent_stands k (d + 1) b v (quant_spans (reach_of t) a s x) i)
-        (quant (bytes s.rest) a s) (quant_stands (bytes s.rest) a s x h)
+        by_first : (o : Outcome Tree) → LiesFrom named t y o → LiesFrom named t y
+            (and_then o (λ b v. if is_unmoved s v then done b v else failed_with (quantifier_too_deep v.rest)))
+        by_first (done b v) i = cond_both (is_unmoved s v) _ _ (LiesFrom named t y) (λ _. i) (λ _. tt)
+        by_first (failed j p) i = tt
+    adjacent_lies (suc k) d a s x h =
+        by_first (λ b v i. adjacent_lies k (d + 1) b v (quant_spans (reach_of t) a s x) i)
+        (quant (bytes s.rest) a s) (quant_lies (bytes s.rest) a s x h)
       where
         y : Spans
         y = quant_spans (reach_of t) a s x
 
-        by_tests : (c e : Bool) (b : Tree) (v : State) → Stands named t v.rest b y →
-            StandsFrom named t (adjacent_spans k (reach_of t) b v y) (adjacent k (d + 1) b v) →
-            StandsFrom named t (if c then y else adjacent_spans k (reach_of t) b v y)
-            (if c then done b v else if e then adjacent k (d + 1) b v else faulted (quantifier_too_deep v.rest))
+        by_tests : (c e : Bool) (b : Tree) (v : State) → Lies named t v.rest b y →
+            LiesFrom named t (adjacent_spans k (reach_of t) b v y) (adjacent k (d + 1) b v) →
+            LiesFrom named t (if c then y else adjacent_spans k (reach_of t) b v y)
+            (if c then done b v else if e then adjacent k (d + 1) b v else failed_with (quantifier_too_deep v.rest))
         by_tests true e b v i j = i
         by_tests false true b v i j = j
         by_tests false false b v i j = tt
 
-        by_first : ((b : Tree) (v : State) → Stands named t v.rest b y →
-            StandsFrom named t (adjacent_spans k (reach_of t) b v y) (adjacent k (d + 1) b v)) →
-            (o : Outcome Tree) → StandsFrom named t y o →
-            StandsFrom named t
+        by_first : ((b : Tree) (v : State) → Lies named t v.rest b y →
+            LiesFrom named t (adjacent_spans k (reach_of t) b v y) (adjacent k (d + 1) b v)) →
+            (o : Outcome Tree) → LiesFrom named t y o →
+            LiesFrom named t
             (if_done o (λ b v. if is_unmoved s v then y else adjacent_spans k (reach_of t) b v y) y)
             (and_then o (λ b v. if is_unmoved s v then done b v
-            else if nat_lt (d + 1) max_depth then adjacent k (d + 1) b v else faulted (quantifier_too_deep v.rest)))
+            else if nat_lt (d + 1) max_depth then adjacent k (d + 1) b v else failed_with (quantifier_too_deep v.rest)))
         by_first go_on (done b v) i = by_tests (is_unmoved s v) (nat_lt (d + 1) max_depth) b v i (go_on b v i)
-        by_first go_on (fault j p) i = tt
+        by_first go_on (failed j p) i = tt
 
-    pub quants_stand : (d left : ℕ) (a : Tree) (s : State) (x : Spans) → Stands named t s.rest a x →
-        StandsFrom named t (quants_spans left (reach_of t) (done a s) x) (quants d left a s)
-    quants_stand d left a s x h = by_first (quant left a s) (quant_stands left a s x h)
+    pub quants_lie : (d left : ℕ) (a : Tree) (s : State) (x : Spans) → Lies named t s.rest a x →
+        LiesFrom named t (quants_spans left (reach_of t) (done a s) x) (quants d left a s)
+    quants_lie d left a s x h = by_first (quant left a s) (quant_lies left a s x h)
       where
         y : Spans
         y = quant_spans (reach_of t) a s x
 
-        by_mode : (c : Bool) (b : Tree) (v : State) → Stands named t v.rest b y →
-            StandsFrom named t (if c then adjacent_spans max_adjacent (reach_of t) b v y else y)
+        by_mode : (c : Bool) (b : Tree) (v : State) → Lies named t v.rest b y →
+            LiesFrom named t (if c then adjacent_spans max_adjacent (reach_of t) b v y else y)
             (if c then adjacent max_adjacent d b v else done b v)
-        by_mode true b v i = adjacent_stands max_adjacent d b v y i
+        by_mode true b v i = adjacent_lies max_adjacent d b v y i
         by_mode false b v i = i
 
-        by_first : (o : Outcome Tree) → StandsFrom named t y o →
-            StandsFrom named t (if_done o
+        by_first : (o : Outcome Tree) → LiesFrom named t y o →
+            LiesFrom named t (if_done o
             (λ b v. if v.flags.oniguruma_mode then adjacent_spans max_adjacent (reach_of t) b v y else y) y)
             (and_then o (λ b v. if v.flags.oniguruma_mode then adjacent max_adjacent d b v else done b v))
         by_first (done b v) i = by_mode v.flags.oniguruma_mode b v i
-        by_first (fault k p) i = tt
+        by_first (failed k p) i = tt

@@ -7,7 +7,7 @@ use Rattle.std.specs.List.{AllByRecursion}
 use Rattle.fancy_lex.specs.declared.flags.Flags.{Flags}
 use Rattle.fancy_parts.specs.declared.counts.Counts.{Counts}
 use Rattle.fancy_grammar.specs.Grammar.{branches_of, conditional_of, clear_or_stopper}
-use Rattle.fancy_grammar.specs.Head.{Head, capture, scope, look, atomic, define, repeater, group_node}
+use Rattle.fancy_grammar.specs.GroupKind.{GroupKind, capture, flag_group, look, atomic, define, repeater, group_node}
 use Rattle.fancy_grammar.specs.Join.{join, choice, solid, is_empty, one_or}
 use Rattle.fancy_grammar.specs.Items.{Item, items, items_all}
 use Rattle.fancy_grammar.specs.Quantified.{is_swapped, quantified, is_repeatable, Suffix}
@@ -151,9 +151,9 @@ quantified_read f c m a h =
     cond_both (is_swapped f c) _ _ IsRead (λ _. (tt, (tt, h)))
     (λ _. cond_both m.possessive _ _ IsRead (λ _. (tt, (tt, h))) (λ _. (tt, h)))
 
-pub node_read : (h : Head) (p : ℕ) (r : Tree) → IsRead r → IsRead (group_node h p r)
+pub node_read : (h : GroupKind) (p : ℕ) (r : Tree) → IsRead r → IsRead (group_node h p r)
 node_read (capture name) p r i = (tt, i)
-node_read scope p r i = i
+node_read flag_group p r i = i
 node_read (look l) p r i = (tt, i)
 node_read atomic p r i = (tt, i)
 node_read define p r i = (tt, i)
@@ -276,9 +276,9 @@ conditional_levels c t f =
 abbrev IsNodeOver : Tree → Tree → Type 0
 IsNodeOver t u = (nodes u ≤ nodes t + 1) × (levels u ≤ levels t + 1)
 
-pub node_over : (h : Head) (p : ℕ) (t : Tree) → IsNodeOver t (group_node h p t)
+pub node_over : (h : GroupKind) (p : ℕ) (t : Tree) → IsNodeOver t (group_node h p t)
 node_over (capture name) p t = (omega arith, omega arith)
-node_over scope p t = (omega arith, omega arith)
+node_over flag_group p t = (omega arith, omega arith)
 node_over (look l) p t = (omega arith, omega arith)
 node_over atomic p t = (omega arith, omega arith)
 node_over define p t = (omega arith, omega arith)

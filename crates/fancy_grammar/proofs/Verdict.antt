@@ -4,116 +4,116 @@ use Rattle.std.proofs.Common.{subst, chars, length, arith}
 use Rattle.std.specs.Str.{IsUtf8, IsCharBoundary, all_scalars}
 use Rattle.std.proofs.Math.Utf8.{encodes}
 use Rattle.std.proofs.lemmas.Str.{scalars-chars, chars-encodes}
-use Rattle.fancy_lex.proofs.LeaveLaws.{stands_within}
+use Rattle.fancy_lex.proofs.LeaveLaws.{lies_within}
 use Rattle.fancy_lex.proofs.TextLemmas.{bytes_chars, cut_boundary}
-use Rattle.fancy_lex.specs.Fault.{Kind, Fault}
+use Rattle.fancy_lex.specs.Located.{Kind, Located}
 use Rattle.fancy_lex.specs.ErrorViews.{kind_of, error_in}
-use Rattle.fancy_lex.specs.Text.{Text, EndsWith, as_told, begins, beyond, bytes, past_end, place_at, IsPositionOf}
+use Rattle.fancy_lex.specs.Text.{Text, EndsWith, as_given, begins, beyond, bytes, past_end, position_at, IsPositionOf}
 use Rattle.fancy_lex.specs.declared.error.ParseError.{ParseError as ErrorKind}
 use Rattle.fancy_lex.specs.declared.error.Error.TheVariants.{ParseError}
-use Rattle.fancy_lex.specs.declared.error.Failure.{Failure}
-use Rattle.fancy_lex.specs.declared.error.Failure.TheVariants.{At, OutOfMemory}
+use Rattle.fancy_lex.specs.declared.error.ReadError.{ReadError}
+use Rattle.fancy_lex.specs.declared.error.ReadError.TheVariants.{At, OutOfMemory}
 use Rattle.fancy_lex.specs.declared.flags.Flags.{Flags}
 use Rattle.fancy_parts.specs.Ranks.{only_named}
-use Rattle.fancy_grammar.specs.Answer.{IsTreeOf, IsFaultOf, of_reading, of_resolving, IsOnlyFault, IsPlacedIn}
-use Rattle.fancy_grammar.specs.Grammar.{DerivesTree, Faults, Whole}
+use Rattle.fancy_grammar.specs.ParseResult.{IsTreeOf, IsErrorOf, of_reading, of_resolving, IsOnlyError, IsPositionedIn}
+use Rattle.fancy_grammar.specs.Grammar.{DerivesTree, FailsWith, Whole}
 use Rattle.fancy_grammar.specs.Items.{items, openings, numbers_in}
-use Rattle.fancy_grammar.specs.Marks.{Marks, marks}
+use Rattle.fancy_grammar.specs.GroupInfo.{GroupInfo, group_info}
 use Rattle.fancy_grammar.specs.Errors.{IsErrorAmong, IsErrorIn}
 use Rattle.fancy_grammar.specs.Ordered.{DescendingReaches}
-use Rattle.fancy_grammar.proofs.ReadBack.ScalarLemmas.{scalars_behind}
-use Rattle.fancy_grammar.specs.ReadBack.{Answer, read, refused, IsAnswerOf, IsOnlyAnswer}
-use Rattle.fancy_grammar.specs.Resolved.{resolved, fault_of}
-use Rattle.fancy_grammar.specs.State.{Outcome, fault}
+use Rattle.fancy_grammar.proofs.ReadBack.ScalarLemmas.{scalars_after}
+use Rattle.fancy_grammar.specs.ReadBack.{ParseResult, read, refused, IsResultOf, IsOnlyResult}
+use Rattle.fancy_grammar.specs.Resolved.{resolved, error_of}
+use Rattle.fancy_grammar.specs.State.{Outcome, failed}
 use Rattle.fancy_grammar.specs.Tree.{Tree}
-use Rattle.fancy_grammar.proofs.OrderLaws.{fault_place}
-use Rattle.fancy_grammar.proofs.ReadLaws.{fault_stands, items_stand, ordered_within}
-use Rattle.fancy_grammar.proofs.Slices.{MayStand}
+use Rattle.fancy_grammar.proofs.OrderLaws.{error_reach}
+use Rattle.fancy_grammar.proofs.ReadLaws.{error_lies, items_lie, ordered_within}
+use Rattle.fancy_grammar.proofs.Slices.{MayLie}
 use Rattle.fancy_grammar.proofs.Unique.{whole_unique}
 
 pub same_tree : {f : Flags} {text : Text} {r q : Tree} → DerivesTree f text r → DerivesTree f text q → q ≡ r
 same_tree a b = let e = whole_unique a.1 b.1 in cc
 
-same_fault : {A : Type 0} {k j : Kind} {p q : ℕ} → ◌≡◌ {A = Outcome A} (fault k p) (fault j q) → (j ≡ k) × (q ≡ p)
-same_fault e = (cc, cc)
+same_error : {A : Type 0} {k j : Kind} {p q : ℕ} → ◌≡◌ {A = Outcome A} (failed k p) (failed j q) → (j ≡ k) × (q ≡ p)
+same_error e = (cc, cc)
 
-apart : {f : Flags} {text : Text} {r : Tree} {k : Kind} (p : ℕ) → DerivesTree f text r → Faults f text k p → ⊥
+apart : {f : Flags} {text : Text} {r : Tree} {k : Kind} (p : ℕ) → DerivesTree f text r → FailsWith f text k p → ⊥
 apart p a (q, b, i) = let e = whole_unique a.1 b in cc
 
-kind_in : Kind → Option Fault → Kind
+kind_in : Kind → Option Located → Kind
 kind_in k None = k
 kind_in k (Some x) = x.kind
 
-place_in : Option Fault → ℕ
-place_in None = 0
-place_in (Some x) = x.reach
+reach_in : Option Located → ℕ
+reach_in None = 0
+reach_in (Some x) = x.reach
 
 same_first : {k j : Kind} {p q : ℕ} →
-    ◌≡◌ {A = Option Fault} (Some (record { reach = p; kind = k })) (Some (record { reach = q; kind = j })) →
+    ◌≡◌ {A = Option Located} (Some (record { reach = p; kind = k })) (Some (record { reach = q; kind = j })) →
     (j ≡ k) × (q ≡ p)
-unfolding kind_in place_in
-same_first {k} e = (sym (ap (kind_in k) e), sym (ap place_in e))
+unfolding kind_in reach_in
+same_first {k} e = (sym (ap (kind_in k) e), sym (ap reach_in e))
 
-pub only_tree : (f : Flags) (text : Text) (t u : Tree) (m k : Marks) → IsTreeOf f text t m → IsTreeOf f text u k →
+pub only_tree : (f : Flags) (text : Text) (t u : Tree) (m k : GroupInfo) → IsTreeOf f text t m → IsTreeOf f text u k →
     (u ≡ t) × (k ≡ m)
 only_tree f text t u m k (r, a, none, e, d) (q, b, none2, e2, d2) =
-    let same = same_tree a b in (e2 ∙ ap (resolved f (bytes text)) same ∙ sym e, d2 ∙ ap (marks f text) same ∙ sym d)
+    let same = same_tree a b in (e2 ∙ ap (resolved f (bytes text)) same ∙ sym e, d2 ∙ ap (group_info f text) same ∙ sym d)
 
-pub no_fault : (f : Flags) (text : Text) (t : Tree) (m : Marks) (k : Kind) (p : ℕ) → IsTreeOf f text t m →
-    IsFaultOf f text k p → ⊥
-no_fault f text t m k p (r, a, none, e, d) (of_reading b) = apart p a b
-no_fault f text t m k p (r, a, none, e, d) (of_resolving {q} b some i) =
-    let same = ap (fault_of f) (same_tree a b) in
-    let both : ◌≡◌ {A = Option Fault} None (Some (record { reach = q; kind = k })) = sym none ∙ sym same ∙ some in
+pub no_error : (f : Flags) (text : Text) (t : Tree) (m : GroupInfo) (k : Kind) (p : ℕ) → IsTreeOf f text t m →
+    IsErrorOf f text k p → ⊥
+no_error f text t m k p (r, a, none, e, d) (of_reading b) = apart p a b
+no_error f text t m k p (r, a, none, e, d) (of_resolving {q} b some i) =
+    let same = ap (error_of f) (same_tree a b) in
+    let both : ◌≡◌ {A = Option Located} None (Some (record { reach = q; kind = k })) = sym none ∙ sym same ∙ some in
     absurd cc
 
 -- a tree of the text is its only result
-pub only_read : (f : Flags) (text : Text) (t : Tree) (m : Marks) → IsTreeOf f text t m → IsOnlyAnswer f text (read t m)
+pub only_read : (f : Flags) (text : Text) (t : Tree) (m : GroupInfo) → IsTreeOf f text t m → IsOnlyResult f text (read t m)
 only_read f text t m a = record { is = a; only = λ b h. other b h }
   where
-    other : (b : Answer) → IsAnswerOf f text b → b ≡ read t m
+    other : (b : ParseResult) → IsResultOf f text b → b ≡ read t m
     other (read s k) h = let (e, d) = only_tree f text t s m k a h in ap₂ read e d
-    other (refused k p) h = absurd (no_fault f text t m k p a h)
+    other (refused k p) h = absurd (no_error f text t m k p a h)
 
 -- the reach of a character boundary of the pattern, or of one past its end, is that of a position
-at_position : (text : Text) (q : ℕ) → MayStand text q → IsPositionOf (bytes text) q (place_at (bytes text) q)
-at_position text q h = let small = stands_within {m = bytes text + 1} (omega arith) (omega arith) h in omega arith
+at_position : (text : Text) (q : ℕ) → MayLie text q → IsPositionOf (bytes text) q (position_at (bytes text) q)
+at_position text q h = let small = lies_within {m = bytes text + 1} (omega arith) (omega arith) h in omega arith
 
 -- the one error of a text that cannot be read
-pub only_reading : (e : Failure) (f : Flags) (text : Text) → IsErrorAmong e (Whole f text) →
-    IsOnlyFault (error_in text e) f text
+pub only_reading : (e : ReadError) (f : Flags) (text : Text) → IsErrorAmong e (Whole f text) →
+    IsOnlyError (error_in text e) f text
 only_reading (At p k) f text a =
-    (of_reading here, λ j q b. other j q b, λ t m b. no_fault f text t m (kind_of k) _ b (of_reading here))
+    (of_reading here, λ j q b. other j q b, λ t m b. no_error f text t m (kind_of k) _ b (of_reading here))
   where
-    here : Faults f text (kind_of k) (place_at (bytes text) p)
-    here = (p, a, at_position text p (fault_stands a))
+    here : FailsWith f text (kind_of k) (position_at (bytes text) p)
+    here = (p, a, at_position text p (error_lies a))
 
-    other : (j : Kind) (q : ℕ) → IsFaultOf f text j q → (j ≡ kind_of k) × (q ≡ place_at (bytes text) p)
+    other : (j : Kind) (q : ℕ) → IsErrorOf f text j q → (j ≡ kind_of k) × (q ≡ position_at (bytes text) p)
     other j q (of_reading (r, b, i)) =
-        let same = same_fault (whole_unique a b) in (same.0, omega (arith, i, same.1))
+        let same = same_error (whole_unique a b) in (same.0, omega (arith, i, same.1))
     other j q (of_resolving b some i) = absurd (apart _ b here)
 only_reading OutOfMemory f text a = tt
 
 -- where the error of a reference may be
-resolving_stands : (f : Flags) (text : Text) (r : Tree) (k : Kind) (p : ℕ) → DerivesTree f text r →
-    fault_of f r ≡ Some (record { reach = p; kind = k }) → MayStand text p
-resolving_stands f text r k p a h =
-    fault_place (MayStand text) (only_named f (openings r)) (numbers_in f r) 0 (items r) (record { reach = p; kind = k })
-    (items_stand a.1) h
+resolving_lies : (f : Flags) (text : Text) (r : Tree) (k : Kind) (p : ℕ) → DerivesTree f text r →
+    error_of f r ≡ Some (record { reach = p; kind = k }) → MayLie text p
+resolving_lies f text r k p a h =
+    error_reach (MayLie text) (only_named f (openings r)) (numbers_in f r) 0 (items r) (record { reach = p; kind = k })
+    (items_lie a.1) h
 
 -- the one error of a text that is read and cannot be resolved
-pub only_resolving : (e : Failure) (f : Flags) (text : Text) (r : Tree) → DerivesTree f text r →
-    IsErrorIn e (fault_of f r) → IsOnlyFault (error_in text e) f text
+pub only_resolving : (e : ReadError) (f : Flags) (text : Text) (r : Tree) → DerivesTree f text r →
+    IsErrorIn e (error_of f r) → IsOnlyError (error_in text e) f text
 only_resolving (At p k) f text r a h =
-    (here, λ j q b. other j q b, λ t m b. no_fault f text t m (kind_of k) _ b here)
+    (here, λ j q b. other j q b, λ t m b. no_error f text t m (kind_of k) _ b here)
   where
-    here : IsFaultOf f text (kind_of k) (place_at (bytes text) p)
-    here = of_resolving a h (at_position text p (resolving_stands f text r (kind_of k) p a h))
+    here : IsErrorOf f text (kind_of k) (position_at (bytes text) p)
+    here = of_resolving a h (at_position text p (resolving_lies f text r (kind_of k) p a h))
 
-    other : (j : Kind) (q : ℕ) → IsFaultOf f text j q → (j ≡ kind_of k) × (q ≡ place_at (bytes text) p)
+    other : (j : Kind) (q : ℕ) → IsErrorOf f text j q → (j ≡ kind_of k) × (q ≡ position_at (bytes text) p)
     other j q (of_reading b) = absurd (apart q a b)
     other j q (of_resolving b some i) =
-        let same = same_first (sym h ∙ sym (ap (fault_of f) (same_tree a b)) ∙ some) in
+        let same = same_first (sym h ∙ sym (ap (error_of f) (same_tree a b)) ∙ some) in
         (same.0, omega (arith, i, same.1))
 only_resolving OutOfMemory f text r a h = tt
 
@@ -123,36 +123,36 @@ only_resolving OutOfMemory f text r a h = tt
 pub cut_at : (re : List ℕ) (u : Text) → IsUtf8 re → EndsWith (chars re) u →
     IsCharBoundary re (bytes (chars re) - bytes u)
 cut_at re u valid (w, cut) =
-    let scalars = scalars_behind w u (ap all_scalars (sym cut) ∙ scalars-chars re valid) in
+    let scalars = scalars_after w u (ap all_scalars (sym cut) ∙ scalars-chars re valid) in
     let ends : IsUtf8 (encodes u) = (u, (scalars, refl)) in
     let same : chars (encodes u) ≡ u = chars-encodes u scalars in
     let left : length (encodes u) ≡ bytes u = sym (bytes_chars (encodes u) ends) ∙ ap bytes same in
     subst (IsCharBoundary re) (ap₂ (λ a b. a - b) (sym (bytes_chars re valid)) left)
     (cut_boundary re (encodes u) w valid ends (cut ∙ ap (λ s. w ++ s) (sym same)))
 
-past_end_is : (re : List ℕ) (q : ℕ) → IsUtf8 re → q ≡ past_end → place_at (bytes (chars re)) q ≡ length re + 1
+past_end_is : (re : List ℕ) (q : ℕ) → IsUtf8 re → q ≡ past_end → position_at (bytes (chars re)) q ≡ length re + 1
 past_end_is re q valid h = omega (arith, bytes_chars re valid)
 
-placed : (e : ErrorKind) (re : List ℕ) (q : ℕ) → IsUtf8 re → MayStand (chars re) q →
-    IsPlacedIn (ParseError (place_at (bytes (chars re)) q) e) re
-placed e re q valid (as_told h) = inl (past_end_is re q valid h)
-placed e re q valid (begins u ends h) =
-    let at : bytes (chars re) - bytes u ≡ place_at (bytes (chars re)) q = omega arith in
+positioned : (e : ErrorKind) (re : List ℕ) (q : ℕ) → IsUtf8 re → MayLie (chars re) q →
+    IsPositionedIn (ParseError (position_at (bytes (chars re)) q) e) re
+positioned e re q valid (as_given h) = inl (past_end_is re q valid h)
+positioned e re q valid (begins u ends h) =
+    let at : bytes (chars re) - bytes u ≡ position_at (bytes (chars re)) q = omega arith in
     inr (subst (IsCharBoundary re) at (cut_at re u valid ends))
-placed e re q valid (beyond h) = inl (past_end_is re q valid h)
+positioned e re q valid (beyond h) = inl (past_end_is re q valid h)
 
-pub reading_placed : (e : Failure) (f : Flags) (re : List ℕ) → IsUtf8 re → IsErrorAmong e (Whole f (chars re)) →
-    IsPlacedIn (error_in (chars re) e) re
-reading_placed (At p k) f re u a = placed k re p u (fault_stands a)
-reading_placed OutOfMemory f re u a = tt
+pub reading_positioned : (e : ReadError) (f : Flags) (re : List ℕ) → IsUtf8 re → IsErrorAmong e (Whole f (chars re)) →
+    IsPositionedIn (error_in (chars re) e) re
+reading_positioned (At p k) f re u a = positioned k re p u (error_lies a)
+reading_positioned OutOfMemory f re u a = tt
 
 -- the groups and references of a text that is read are in text order
 pub text_order : (f : Flags) (re : List ℕ) (r : Tree) → IsUtf8 re → DerivesTree f (chars re) r →
     DescendingReaches (length re + 2) 2 (items r)
 text_order f re r u a = subst (λ n. DescendingReaches (n + 2) 2 (items r)) (bytes_chars re u) (ordered_within a.1)
 
-pub resolving_placed : (e : Failure) (f : Flags) (re : List ℕ) (r : Tree) → IsUtf8 re → DerivesTree f (chars re) r →
-    IsErrorIn e (fault_of f r) → IsPlacedIn (error_in (chars re) e) re
-resolving_placed (At p k) f re r u a h =
-    placed k re p u (resolving_stands f (chars re) r (kind_of k) p a h)
-resolving_placed OutOfMemory f re r u a h = tt
+pub resolving_positioned : (e : ReadError) (f : Flags) (re : List ℕ) (r : Tree) → IsUtf8 re → DerivesTree f (chars re) r →
+    IsErrorIn e (error_of f r) → IsPositionedIn (error_in (chars re) e) re
+resolving_positioned (At p k) f re r u a h =
+    positioned k re p u (resolving_lies f (chars re) r (kind_of k) p a h)
+resolving_positioned OutOfMemory f re r u a h = tt

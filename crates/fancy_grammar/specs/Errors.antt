@@ -1,29 +1,29 @@
 -- How an `Error` of the code relates to an error in the definitions and to an outcome.
 use Rattle.std.specs.Prelude.{◌≡◌, ℕ, Option, Some}
-use Rattle.fancy_lex.specs.Fault.{Kind, Fault}
+use Rattle.fancy_lex.specs.Located.{Kind, Located}
 use Rattle.fancy_lex.specs.ErrorViews.{kind_of, IfFailed}
 use Rattle.fancy_lex.specs.declared.error.Error.{Error}
 use Rattle.fancy_lex.specs.declared.error.Error.TheVariants.{ParseError, OutOfMemory}
-use Rattle.fancy_lex.specs.declared.error.Failure.{Failure}
-use Rattle.fancy_grammar.specs.State.{Outcome, fault}
+use Rattle.fancy_lex.specs.declared.error.ReadError.{ReadError}
+use Rattle.fancy_grammar.specs.State.{Outcome, failed}
 
 -- memory ran out, or P holds for the error's kind and position
-abbrev pub IfFault : Error → (Kind → ℕ → Type 0) → Type 0
-IfFault (ParseError p k) P = P (kind_of k) p
-IfFault OutOfMemory P = Unit {0}
+abbrev pub IfParseError : Error → (Kind → ℕ → Type 0) → Type 0
+IfParseError (ParseError p k) P = P (kind_of k) p
+IfParseError OutOfMemory P = Unit {0}
 
 -- memory ran out, or the error has this kind and this reach
-abbrev pub IsErrorAt : Failure → Kind → ℕ → Type 0
+abbrev pub IsErrorAt : ReadError → Kind → ℕ → Type 0
 IsErrorAt e kind reach = IfFailed e (λ k q. (k ≡ kind) × (q ≡ reach))
 
 -- memory ran out, or it is this error
-abbrev pub IsErrorOf : Failure → Fault → Type 0
-IsErrorOf e f = IsErrorAt e f.kind f.reach
+abbrev pub IsThisError : ReadError → Located → Type 0
+IsThisError e f = IsErrorAt e f.kind f.reach
 
 -- memory ran out, or P holds for the error as an outcome
-abbrev pub IsErrorAmong : {A : Type 0} → Failure → (Outcome A → Type 0) → Type 0
-IsErrorAmong e P = IfFailed e (λ k q. P (fault k q))
+abbrev pub IsErrorAmong : {A : Type 0} → ReadError → (Outcome A → Type 0) → Type 0
+IsErrorAmong e P = IfFailed e (λ k q. P (failed k q))
 
 -- memory ran out, or it is the error in the option
-abbrev pub IsErrorIn : Failure → Option Fault → Type 0
+abbrev pub IsErrorIn : ReadError → Option Located → Type 0
 IsErrorIn e o = IfFailed e (λ k q. o ≡ Some (record { reach = q; kind = k }))

@@ -7,18 +7,18 @@ use Rattle.std.specs.Prelude.{◌≡◌, ℕ, ◌+◌, ◌==◌, Bool, true, fal
 use Rattle.std.specs.Prelude.{if◌then◌else◌}
 use Prim.Native.Char.{code}
 use Rattle.fancy_lex.specs.Characters.{bar}
-use Rattle.fancy_lex.specs.Fault.{Kind}
-use Rattle.fancy_lex.specs.FaultTable.{comment_not_closed, group_not_closed, bar_for_close_paren, close_paren_left_over}
-use Rattle.fancy_lex.specs.FaultTable.{body_wanting}
-use Rattle.fancy_lex.specs.LayoutSteps.{rest, fault as open_comment}
+use Rattle.fancy_lex.specs.Located.{Kind}
+use Rattle.fancy_lex.specs.ErrorTable.{comment_not_closed, group_not_closed, bar_for_close_paren, close_paren_left_over}
+use Rattle.fancy_lex.specs.ErrorTable.{body_missing}
+use Rattle.fancy_lex.specs.LayoutSteps.{rest, failed as open_comment}
 use Rattle.fancy_lex.specs.Text.{Text, bytes, IsPositionOf, reach_of, strip}
 use Rattle.fancy_lex.specs.declared.flags.Flags.{Flags}
-use Rattle.fancy_grammar.specs.Ahead.{Ahead, nothing, read, with_head, condition, body, absent_branch, ahead}
-use Rattle.fancy_grammar.specs.Head.{group_node}
+use Rattle.fancy_grammar.specs.AtomStart.{AtomStart, nothing, read, of_kind, condition, body, absent_branch, atom_start}
+use Rattle.fancy_grammar.specs.GroupKind.{group_node}
 use Rattle.fancy_grammar.specs.Join.{join, choice, is_empty}
 use Rattle.fancy_grammar.specs.Label.{AstReference, ast_condition}
 use Rattle.fancy_grammar.specs.Quantified.{quants}
-use Rattle.fancy_grammar.specs.State.{ends, skipped, State, at, Outcome, done, fault, faulted, and_then, seen_through}
+use Rattle.fancy_grammar.specs.State.{ends, skipped, State, at, Outcome, done, failed, failed_with, and_then, seen_through}
 use Rattle.fancy_grammar.specs.Tree.{Tree, more_trees, list_of, empty, alt, conditional, clear, stopper}
 use Rattle.fancy_grammar.specs.Tree.{expression, ast_node}
 
@@ -27,9 +27,9 @@ use Rattle.fancy_grammar.specs.Tree.{expression, ast_node}
 -- The tree, if the closing parenthesis follows. Otherwise there is an error, at the end of the text or at a bar; the
 -- bar can only follow the second branch of an absent expression, since an alternation continues after a bar.
 abbrev pub closed_at : Tree → State → Text → Outcome Tree
-closed_at r s [] = faulted group_not_closed
+closed_at r s [] = failed_with group_not_closed
 closed_at r s (c ∷ t) =
-    if c == code ")" then done r (at s t) else faulted (bar_for_close_paren s.rest)
+    if c == code ")" then done r (at s t) else failed_with (bar_for_close_paren s.rest)
 
 abbrev pub closed : Tree → State → Outcome Tree
 closed r s = closed_at r s s.rest
@@ -40,7 +40,7 @@ is_condition_node (ast_condition t level) = true
 is_condition_node _ = false
 
 abbrev pub is_condition : Tree → Bool
-is_condition (ast_node node place) = is_condition_node node
+is_condition (ast_node node position) = is_condition_node node
 is_condition _ = false
 
 -- a conditional of these branches; if both are Empty, only the condition
@@ -55,9 +55,9 @@ branches_of r = (r, empty)
 
 -- the conditional of the condition c, whose body began when this many bytes were left; only a condition on a group may
 -- have no body
-abbrev pub conditional_behind : Tree → ℕ → Tree → State → Outcome Tree
-conditional_behind c left r s =
-    if bytes s.rest == left && not (is_condition c) then faulted (body_wanting s.rest)
+abbrev pub conditional_after : Tree → ℕ → Tree → State → Outcome Tree
+conditional_after c left r s =
+    if bytes s.rest == left && not (is_condition c) then failed_with (body_missing s.rest)
     else closed (conditional_of c (branches_of r).0 (branches_of r).1) s
 
 -- the branch after `(?~|`, if no other branch follows
@@ -71,10 +71,10 @@ abbrev pub restored : Flags → Outcome Tree → Outcome Tree
 restored f q = and_then q (λ r t. done r (record t { flags = f }))
 
 -- after a group, the flags f from before it hold again; what is read at once, such as `(?flags)`, leaves its own flags
-abbrev pub behind_atom : Ahead → Flags → Outcome Tree → Outcome Tree
-behind_atom nothing f q = q
-behind_atom (read o) f q = q
-behind_atom _ f q = restored f q
+abbrev pub after_atom : AtomStart → Flags → Outcome Tree → Outcome Tree
+after_atom nothing f q = q
+after_atom (read o) f q = q
+after_atom _ f q = restored f q
 
 -- ---- the productions
 
@@ -91,7 +91,7 @@ mutual
     last : {d s t r : _} → Branch d s (done r t) → strip bar t.rest ≡ None → Branches d s (done (r ∷ []) t)
     more : {d s t u r q : _} → Branch d s (done r t) → strip bar t.rest ≡ Some u → Branches d (at t u) q →
         Branches d s (seen_through (r ∷◌) q)
-    branch_fault : {d s k p : _} → Branch d s (fault k p) → Branches d s (fault k p)
+    branch_error : {d s k p : _} → Branch d s (failed k p) → Branches d s (failed k p)
 
   -- pieces up to where a branch ends
   pub data Branch : ℕ → State → Outcome Tree → Type 0 where
@@ -101,32 +101,32 @@ mutual
     stop : {d : ℕ} {s : State} → ends s.rest ≡ true → Pieces d s (done [] s)
     next : {d t r q : _} {s : State} → ends s.rest ≡ false → Piece d s (done r t) → Pieces d t q →
         Pieces d s (seen_through (r ∷◌) q)
-    piece_fault : {d k p : _} {s : State} → ends s.rest ≡ false → Piece d s (fault k p) → Pieces d s (fault k p)
+    piece_error : {d k p : _} {s : State} → ends s.rest ≡ false → Piece d s (failed k p) → Pieces d s (failed k p)
 
   -- layout, and an atom under the quantifiers that follow it
   pub data Piece : ℕ → State → Outcome Tree → Type 0 where
     piece : {d s u q : _} → skipped s ≡ rest u → Atom d (at s u) q → Piece d s (and_then q (quants d (bytes s.rest)))
-    layout_fault : {d s p : _} → skipped s ≡ open_comment p → Piece d s (faulted (comment_not_closed p))
+    layout_error : {d s p : _} → skipped s ≡ open_comment p → Piece d s (failed_with (comment_not_closed p))
 
   -- the start of an atom decides which of its rules applies
   pub data Atom : ℕ → State → Outcome Tree → Type 0 where
-    atom : {d s e q : _} → ahead d s ≡ e → AtomOf e d s q → Atom d s (behind_atom e s.flags q)
+    atom : {d s e q : _} → atom_start d s ≡ e → AtomOf e d s q → Atom d s (after_atom e s.flags q)
 
-  pub data AtomOf : Ahead → ℕ → State → Outcome Tree → Type 0 where
+  pub data AtomOf : AtomStart → ℕ → State → Outcome Tree → Type 0 where
     a_nothing : {d s : _} → AtomOf nothing d s (done empty s)
     a_read : {d s o : _} → AtomOf (read o) d s o
     a_group : {d s t h q : _} → Inside d t q →
-        AtomOf (with_head h t) d s (seen_through (group_node h (reach_of s.rest)) q)
+        AtomOf (of_kind h t) d s (seen_through (group_node h (reach_of s.rest)) q)
     -- a conditional: its condition's parentheses, and its body
     a_condition : {d s t v c o : _} → Inside d t (done c v) → Body d c v o → AtomOf (condition t) d s o
-    condition_fault : {d s t k p : _} → Inside d t (fault k p) → AtomOf (condition t) d s (fault k p)
+    condition_error : {d s t k p : _} → Inside d t (failed k p) → AtomOf (condition t) d s (failed k p)
     a_body : {d s t c o : _} → Body d c t o → AtomOf (body c t) d s o
     -- the two branches of an absent expression; the one branch of a stopper or a clear
     two_branches : {d s t v u a q : _} → Branch (d + 1) t (done a v) → strip bar v.rest ≡ Some u →
         Branch (d + 1) (at v u) q → AtomOf (absent_branch t) d s (and_then q (λ r. closed (expression a r)))
     one_branch : {d s t v a : _} → Branch (d + 1) t (done a v) → strip bar v.rest ≡ None →
         AtomOf (absent_branch t) d s (closed (clear_or_stopper a) v)
-    absent_fault : {d s t k p : _} → Branch (d + 1) t (fault k p) → AtomOf (absent_branch t) d s (fault k p)
+    absent_error : {d s t k p : _} → Branch (d + 1) t (failed k p) → AtomOf (absent_branch t) d s (failed k p)
 
   -- the contents of a group, one level deeper, with its closing parenthesis
   pub data Inside : ℕ → State → Outcome Tree → Type 0 where
@@ -134,7 +134,7 @@ mutual
 
   -- the body of a conditional whose condition is the tree, with its closing parenthesis
   pub data Body : ℕ → Tree → State → Outcome Tree → Type 0 where
-    the_body : {d c s q : _} → Alternation (d + 1) s q → Body d c s (and_then q (conditional_behind c (bytes s.rest)))
+    the_body : {d c s q : _} → Alternation (d + 1) s q → Body d c s (and_then q (conditional_after c (bytes s.rest)))
 
 -- ---- a whole text
 
@@ -145,7 +145,7 @@ start f text = record { flags = f; rest = text }
 -- the tree, if nothing is left; what is left can only begin with a closing parenthesis
 abbrev pub ended_at : Tree → State → Text → Outcome Tree
 ended_at r s [] = done r s
-ended_at r s (c ∷ t) = faulted (close_paren_left_over s.rest)
+ended_at r s (c ∷ t) = failed_with (close_paren_left_over s.rest)
 
 abbrev pub ended : Tree → State → Outcome Tree
 ended r s = ended_at r s s.rest
@@ -159,5 +159,5 @@ abbrev pub DerivesTree : Flags → Text → Tree → Type 0
 DerivesTree f text r = (t : State) × Whole f text (done r t)
 
 -- reading the text ends with an error of this kind, at this position
-abbrev pub Faults : Flags → Text → Kind → ℕ → Type 0
-Faults f text k p = (q : ℕ) × Whole f text (fault k q) × IsPositionOf (bytes text) q p
+abbrev pub FailsWith : Flags → Text → Kind → ℕ → Type 0
+FailsWith f text k p = (q : ℕ) × Whole f text (failed k q) × IsPositionOf (bytes text) q p

@@ -3,7 +3,7 @@ use Rattle.std.specs.Prelude.{ℕ, ◌+◌, Bool, List, [], ◌∷◌, ◌++◌,
 use Rattle.fancy_lex.specs.Target.{Target}
 use Rattle.fancy_lex.specs.Text.{Text}
 use Rattle.fancy_lex.specs.declared.flags.Flags.{Flags}
-use Rattle.fancy_parts.specs.Meaning.{Role, back_reference, call, condition, Meaning, means}
+use Rattle.fancy_parts.specs.Meaning.{Role, back_reference, call, condition, Meaning, refers_to}
 use Rattle.fancy_parts.specs.Ranks.{Opening, is_counted, only_named, numbered_openings, numbers}
 use Rattle.fancy_grammar.specs.Label.{Leaf, Wrap, AstReference, ast_group, ast_node, ast_backref, ast_call}
 use Rattle.fancy_grammar.specs.Label.{ast_condition}
@@ -64,7 +64,7 @@ meanings_in named numbers_of c [] = []
 meanings_in named numbers_of c (opening o ∷ l) =
     meanings_in named numbers_of (if is_counted named o.name then c + 1 else c) l
 meanings_in named numbers_of c (reference r reach ∷ l) =
-    (r, reach, means numbers_of c (role_of r) (target_of r)) ∷ meanings_in named numbers_of c l
+    (r, reach, refers_to numbers_of c (role_of r) (target_of r)) ∷ meanings_in named numbers_of c l
 
 -- the numbers of each name in a raw tree, under the flags that the caller gives
 abbrev pub numbers_in : Flags → Tree → Text → List ℕ

@@ -7,9 +7,9 @@ pub mod Same
 -- ---- reading: the grammar and its errors
 pub mod Depth
 pub mod State
-pub mod Head
+pub mod GroupKind
 pub mod Verb
-pub mod Ahead
+pub mod AtomStart
 pub mod Join
 pub mod Quantified
 pub mod Grammar
@@ -18,10 +18,10 @@ pub mod Errors
 -- ---- what references mean, and what is returned
 pub mod Items
 pub mod Resolved
-pub mod Marks
-pub mod Answer
+pub mod GroupInfo
+pub mod ParseResult
 pub mod Preorder
-pub mod Answered
+pub mod ParsedTree
 -- ---- the spans of nodes
 pub mod Spans
 -- ---- printing, and how a printed text reads
@@ -52,4 +52,4 @@ pub mod Ordered
 pub mod Walk
 -- ---- the text of every tree
 pub mod PatternWalk
-pub mod Placed
+pub mod Positioned

@@ -5,11 +5,11 @@ use Rattle.fancy_lex.specs.Flags.{no_flag}
 use Rattle.fancy_lex.specs.Text.{Text}
 use Rattle.fancy_lex.specs.declared.escape.Assertion.TheVariants.{StartLine, StartLineOniguruma}
 use Rattle.fancy_lex.specs.declared.flags.Flags.{Flags}
-use Rattle.fancy_parts.specs.Quote.{behind_backslash}
-use Rattle.fancy_grammar.specs.Ahead.{leaf_of}
+use Rattle.fancy_parts.specs.Quote.{after_backslash}
+use Rattle.fancy_grammar.specs.AtomStart.{leaf_of}
 use Rattle.fancy_grammar.specs.Grammar.{start}
 use Rattle.fancy_grammar.specs.Join.{solid, join, choice}
-use Rattle.fancy_grammar.specs.State.{Outcome, done, fault}
+use Rattle.fancy_grammar.specs.State.{Outcome, done, failed}
 use Rattle.fancy_grammar.specs.Tree.{Tree, Trees, no_trees, more_trees, empty, any, assertion, literal, concat, alt}
 use Rattle.fancy_grammar.specs.Tree.{group, repeat, delegate, define_group}
 
@@ -32,7 +32,7 @@ whole_of _ _ = None
 
 abbrev pub whole_leaf : Outcome Tree → Option Tree
 whole_leaf (done r s) = whole_of s.rest r
-whole_leaf (fault k p) = None
+whole_leaf (failed k p) = None
 
 -- the Delegate that this text is read as, if it is one whole class or one whole class escape
 unfoldable pub class_of : Flags → Text → Option Tree
@@ -43,7 +43,7 @@ class_of f (c ∷ t) = whole_leaf (leaf_of (start f (c ∷ t)) c t)
 
 -- one character; it keeps its case flag only if it is printed without a backslash
 abbrev pub normal_character : Bool → ℕ → Tree
-normal_character casei c = literal (c ∷ []) (casei && is_none (behind_backslash c))
+normal_character casei c = literal (c ∷ []) (casei && is_none (after_backslash c))
 
 -- the pieces in a sequence that come from a tree with this normal form
 abbrev pub pieces_of : Tree → Tree → List Tree

@@ -11,7 +11,7 @@ use Rattle.fancy_grammar.specs.Tree.{repeat, delegate}
 
 -- the opening parenthesis of a printed group: its position in bytes, and how many groups are open around it
 pub record Paren : Type 0 where
-  pub place : ℕ
+  pub position : ℕ
   pub round : ℕ
 
 -- the parentheses from a position on, inside this many groups
@@ -19,13 +19,13 @@ abbrev pub Parens : Type 0
 Parens = ℕ → ℕ → List Paren
 
 abbrev pub no_parens : Parens
-no_parens place round = []
+no_parens position round = []
 
 -- a group with this opening around these parentheses, if it is printed
 abbrev pub in_group : Bool → Text → Parens → Parens
-in_group true head inside place round =
-    record { place = place; round = round } ∷ inside (place + bytes head) (round + 1)
-in_group false head inside place round = inside place round
+in_group true opening inside position round =
+    record { position = position; round = round } ∷ inside (position + bytes opening) (round + 1)
+in_group false opening inside position round = inside position round
 
 -- the start or the end of each line, which is printed in a group with its flags
 abbrev pub is_at_line : Assertion → Bool
@@ -49,19 +49,19 @@ abbrev mutual
   parens _ p = no_parens
 
   pub parens_all : Trees → Parens
-  parens_all no_trees place round = []
-  parens_all (more_trees t ts) place round =
-      parens t PIECE place round ++ parens_all ts (place + bytes (printed t PIECE)) round
+  parens_all no_trees position round = []
+  parens_all (more_trees t ts) position round =
+      parens t PIECE position round ++ parens_all ts (position + bytes (printed t PIECE)) round
 
   pub parens_branches : Trees → Parens
-  parens_branches no_trees place round = []
-  parens_branches (more_trees t ts) place round =
-      parens t BRANCH place round ++ parens_barred ts (place + bytes (printed t BRANCH)) round
+  parens_branches no_trees position round = []
+  parens_branches (more_trees t ts) position round =
+      parens t BRANCH position round ++ parens_barred ts (position + bytes (printed t BRANCH)) round
 
   pub parens_barred : Trees → Parens
-  parens_barred no_trees place round = []
-  parens_barred (more_trees t ts) place round =
-      parens t BRANCH (place + 1) round ++ parens_barred ts (place + 1 + bytes (printed t BRANCH)) round
+  parens_barred no_trees position round = []
+  parens_barred (more_trees t ts) position round =
+      parens t BRANCH (position + 1) round ++ parens_barred ts (position + 1 + bytes (printed t BRANCH)) round
 
 -- a group that opens here is too deep, and the groups around it are not
 abbrev pub is_too_deep : Paren → Bool

@@ -87,7 +87,7 @@ joined join n m = record {
 abbrev mutual
   pub needs : (Need → Need → Need) → Bool → Tree → Needs
   needs join o (leaf l) = leaf_needs o l
-  needs join o (over (ast_group name place) t) = no_needs
+  needs join o (over (ast_group name position) t) = no_needs
   needs join o (over w t) = needs join o t
   needs join o (row r ts) = needs_all join o ts
 
@@ -140,6 +140,6 @@ abbrev pub letters_between : Flags → Flags → Text
 letters_between f g = letters_on f g ++ ((if turns_on g f then codes "-" else []) ++ letters_on g f)
 
 -- a group that changes the flags f to the flags g for what follows, if they differ
-abbrev pub setting : Flags → Flags → Text
-setting f g =
+abbrev pub inline_flags : Flags → Flags → Text
+inline_flags f g =
     if turns_on f g || turns_on g f then codes "(?" ++ (letters_between f g ++ codes ")") else []

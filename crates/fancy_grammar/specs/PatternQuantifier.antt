@@ -5,7 +5,7 @@ use Rattle.std.proofs.Math.Bool.{beq}
 use Prim.Native.Char.{code}
 use Rattle.fancy_lex.specs.Text.{Text}
 use Rattle.fancy_lex.specs.declared.flags.Flags.{Flags}
-use Rattle.fancy_parts.specs.Quote.{mark, counts_as}
+use Rattle.fancy_parts.specs.Quote.{operator, counts_as}
 use Rattle.fancy_grammar.specs.Depth.{max_depth}
 use Rattle.fancy_grammar.specs.Label.{repeat, atomic_group}
 use Rattle.fancy_grammar.specs.Quantified.{max_adjacent}
@@ -24,28 +24,28 @@ is_quantified f _ = false
 
 -- the operator for the counts, if it can be used; directly after another quantifier, `?` and `+` would belong to that
 -- one
-abbrev pub mark_left : Bool → Option ℕ → Option ℕ
-mark_left adjacent None = None
-mark_left adjacent (Some c) = if adjacent && not (c == code "*") then None else Some c
+abbrev pub operator_left : Bool → Option ℕ → Option ℕ
+operator_left adjacent None = None
+operator_left adjacent (Some c) = if adjacent && not (c == code "*") then None else Some c
 
 -- the lazy operator if the quantifier is not greedy, or under SWAP_GREED if it is
-abbrev pub lazy_mark : Flags → Bool → Text
-lazy_mark f greedy = if beq greedy f.swap_greed then codes "?" else []
+abbrev pub lazy_operator : Flags → Bool → Text
+lazy_operator f greedy = if beq greedy f.swap_greed then codes "?" else []
 
-abbrev pub possessive_mark : Bool → Text
-possessive_mark possessive = if possessive then codes "+" else []
+abbrev pub possessive_operator : Bool → Text
+possessive_operator possessive = if possessive then codes "+" else []
 
 -- the operator or the counts in braces, and what follows; in Oniguruma mode a quantifier in braces is possessive only
 -- by exchanged counts
 abbrev pub quantifier_by : Flags → Bool → ℕ → ℕ → Bool → Option ℕ → Text
 quantifier_by f possessive lo hi greedy m =
     if f.oniguruma_mode && (possessive && is_none m) then
-    codes "{" ++ (decimal hi ++ (codes "," ++ (decimal lo ++ codes "}"))) ++ lazy_mark f greedy
-    else counts_as lo hi m ++ (lazy_mark f greedy ++ possessive_mark possessive)
+    codes "{" ++ (decimal hi ++ (codes "," ++ (decimal lo ++ codes "}"))) ++ lazy_operator f greedy
+    else counts_as lo hi m ++ (lazy_operator f greedy ++ possessive_operator possessive)
 
 abbrev pub quantifier_text : Flags → Bool → Bool → ℕ → ℕ → Bool → Text
 quantifier_text f possessive adjacent lo hi greedy =
-    quantifier_by f possessive lo hi greedy (mark_left adjacent (mark lo hi))
+    quantifier_by f possessive lo hi greedy (operator_left adjacent (operator lo hi))
 
 -- how many quantifiers may follow one another if d groups are open
 abbrev pub most_quantifiers : Flags → ℕ → ℕ

@@ -6,11 +6,11 @@ use Rattle.fancy_lex.specs.BoundarySteps.{boundary}
 use Rattle.fancy_lex.specs.Class.{class, OuterClass}
 use Rattle.fancy_lex.specs.Escaped.{Escape}
 use Rattle.fancy_lex.specs.Layout.{Before, Unclosed}
-use Rattle.fancy_lex.specs.LayoutSteps.{layout, rest, fault as open_comment}
+use Rattle.fancy_lex.specs.LayoutSteps.{layout, rest, failed as open_comment}
 use Rattle.fancy_lex.specs.Reading.{Reading}
 use Rattle.fancy_lex.specs.Text.{Text}
 use Rattle.fancy_lex.specs.declared.flags.Flags.{Flags}
-use Rattle.fancy_parts.specs.FlagLetters.{Letters, FlagGroup}
+use Rattle.fancy_parts.specs.FlagLetters.{Letters, GroupLetters}
 use Rattle.fancy_parts.specs.LetterSteps.{letters}
 
 -- layout: what precedes the rest of the text, or an open comment
@@ -26,7 +26,7 @@ ClassIsRelated = (f : Flags) (t : Text) (o : Reading Text) → (class f t ≡ o)
 
 -- the letters of a flag group
 abbrev pub LettersAreRelated : Type 0
-LettersAreRelated = (f : Flags) (t : Text) (o : Reading Letters) → (letters f t ≡ o) ↔ FlagGroup f t o
+LettersAreRelated = (f : Flags) (t : Text) (o : Reading Letters) → (letters f t ≡ o) ↔ GroupLetters f t o
 
 -- a boundary after its letter
 abbrev pub BoundaryIsRelated : Type 0

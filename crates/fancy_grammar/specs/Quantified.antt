@@ -2,8 +2,8 @@
 use Rattle.std.specs.Prelude.{ℕ, zero, suc, ◌+◌, ◌==◌, Bool, true, false, not, ◌&&◌, nat_lt, Option, Some, None}
 use Rattle.std.specs.Prelude.{if◌then◌else◌}
 use Prim.Native.Char.{code}
-use Rattle.fancy_lex.specs.FaultTable.{comment_not_closed, not_repeatable, quantifier_too_deep}
-use Rattle.fancy_lex.specs.LayoutSteps.{Skipped, rest, fault as open_comment}
+use Rattle.fancy_lex.specs.ErrorTable.{comment_not_closed, not_repeatable, quantifier_too_deep}
+use Rattle.fancy_lex.specs.LayoutSteps.{Skipped, rest, failed as open_comment}
 use Rattle.fancy_lex.specs.Reading.{choose}
 use Rattle.fancy_lex.specs.Text.{Text, bytes, strip}
 use Rattle.fancy_lex.specs.declared.flags.Flags.{Flags}
@@ -11,7 +11,7 @@ use Rattle.fancy_parts.specs.Quantifier.{counts}
 use Rattle.fancy_parts.specs.declared.counts.Counts.{Counts}
 use Rattle.fancy_grammar.specs.Depth.{max_depth}
 use Rattle.fancy_grammar.specs.Join.{is_empty}
-use Rattle.fancy_grammar.specs.State.{skipped, State, at, Outcome, done, faulted, and_then, seen_through}
+use Rattle.fancy_grammar.specs.State.{skipped, State, at, Outcome, done, failed_with, and_then, seen_through}
 use Rattle.fancy_grammar.specs.Label as label
 use Rattle.fancy_grammar.specs.Tree.{Tree, leaf, over, repeat, atomic_group}
 
@@ -55,8 +55,8 @@ quantified f c m a =
     else repeat a c.low c.high (is_greedy f m.lazy)
 
 -- the possessive operator; it follows the lazy one at once, or is where the lazy one could be
-abbrev pub behind_lazy : State → Counts → Bool → Text → Outcome Suffix
-behind_lazy s c lazy t =
+abbrev pub after_lazy : State → Counts → Bool → Text → Outcome Suffix
+after_lazy s c lazy t =
     let plain = done (record { lazy = lazy; possessive = false }) (at s t) in
     if may_be_possessive s.flags c then
     choose (strip (code "+") t) (λ u. done (record { lazy = lazy; possessive = true }) (at s u)) plain
@@ -64,8 +64,8 @@ behind_lazy s c lazy t =
 
 -- after the counts: layout, and then the lazy operator
 abbrev pub suffix_at : State → Counts → Skipped → Outcome Suffix
-suffix_at s c (rest t) = choose (strip (code "?") t) (behind_lazy s c true) (behind_lazy s c false t)
-suffix_at s c (open_comment p) = faulted (comment_not_closed p)
+suffix_at s c (rest t) = choose (strip (code "?") t) (after_lazy s c true) (after_lazy s c false t)
+suffix_at s c (open_comment p) = failed_with (comment_not_closed p)
 
 -- the operators after the counts
 abbrev pub suffix : State → Counts → Outcome Suffix
@@ -77,12 +77,12 @@ with_counts left a s None = done a s
 with_counts left a s (Some (c, t)) =
     if is_repeatable s.flags a then seen_through (λ m. quantified s.flags c m a) (suffix (at s t) c)
     else if is_dropped s.flags left a t then seen_through (λ m. a) (suffix (at s t) c)
-    else faulted (not_repeatable t)
+    else failed_with (not_repeatable t)
 
 -- after the layout that precedes a quantifier
 abbrev pub quant_at : ℕ → Tree → State → Skipped → Outcome Tree
 quant_at left a s (rest t) = with_counts left a (at s t) (counts s.flags.ignore_space t)
-quant_at left a s (open_comment p) = faulted (comment_not_closed p)
+quant_at left a s (open_comment p) = failed_with (comment_not_closed p)
 
 -- layout, and the tree under the quantifier that follows it, or the tree itself if no quantifier follows
 unfoldable pub quant : ℕ → Tree → State → Outcome Tree
@@ -102,12 +102,12 @@ unfoldable pub adjacent : ℕ → ℕ → Tree → State → Outcome Tree
 adjacent zero d a s =
     and_then (quant (bytes s.rest) a s) (λ b t.
     if is_unmoved s t then done b t
-    else faulted (quantifier_too_deep t.rest))
+    else failed_with (quantifier_too_deep t.rest))
 adjacent (suc k) d a s =
     and_then (quant (bytes s.rest) a s) (λ b t.
     if is_unmoved s t then done b t
     else if nat_lt (d + 1) max_depth then adjacent k (d + 1) b t
-    else faulted (quantifier_too_deep t.rest))
+    else failed_with (quantifier_too_deep t.rest))
 
 -- how many adjacent quantifiers may follow the first
 abbrev pub max_adjacent : ℕ

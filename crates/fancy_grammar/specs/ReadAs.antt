@@ -3,31 +3,31 @@ use Rattle.std.specs.Prelude.{◌≡◌}
 use Rattle.fancy_lex.specs.Text.{Text}
 use Rattle.fancy_lex.specs.declared.flags.Flags.{Flags}
 use Rattle.fancy_grammar.specs.Label.{Leaf, Wrap, ast_node, ast_group}
-use Rattle.fancy_grammar.specs.Marks.{Marks}
-use Rattle.fancy_grammar.specs.ReadBack.{IsOnlyAnswer, read}
+use Rattle.fancy_grammar.specs.GroupInfo.{GroupInfo}
+use Rattle.fancy_grammar.specs.ReadBack.{IsOnlyResult, read}
 use Rattle.fancy_grammar.specs.Tree.{Tree, leaf, over, row, Trees, no_trees, more_trees}
 
 -- the node with its position, if it has one, set to 0
-abbrev pub unplaced_leaf : Leaf → Leaf
-unplaced_leaf (ast_node r place) = ast_node r 0
-unplaced_leaf l = l
+abbrev pub unpositioned_leaf : Leaf → Leaf
+unpositioned_leaf (ast_node r position) = ast_node r 0
+unpositioned_leaf l = l
 
-abbrev pub unplaced_wrap : Wrap → Wrap
-unplaced_wrap (ast_group name place) = ast_group name 0
-unplaced_wrap w = w
+abbrev pub unpositioned_wrap : Wrap → Wrap
+unpositioned_wrap (ast_group name position) = ast_group name 0
+unpositioned_wrap w = w
 
 abbrev mutual
   -- the tree with each position set to 0
-  pub unplaced : Tree → Tree
-  unplaced (leaf l) = leaf (unplaced_leaf l)
-  unplaced (over w t) = over (unplaced_wrap w) (unplaced t)
-  unplaced (row r ts) = row r (unplaced_all ts)
+  pub unpositioned : Tree → Tree
+  unpositioned (leaf l) = leaf (unpositioned_leaf l)
+  unpositioned (over w t) = over (unpositioned_wrap w) (unpositioned t)
+  unpositioned (row r ts) = row r (unpositioned_all ts)
 
-  pub unplaced_all : Trees → Trees
-  unplaced_all no_trees = no_trees
-  unplaced_all (more_trees t ts) = more_trees (unplaced t) (unplaced_all ts)
+  pub unpositioned_all : Trees → Trees
+  unpositioned_all no_trees = no_trees
+  unpositioned_all (more_trees t ts) = more_trees (unpositioned t) (unpositioned_all ts)
 
 -- the text is read as a tree that differs from this one only in positions, with this group information, and has no
 -- other result
-abbrev pub IsReadAs : Flags → Text → Tree → Marks → Type 0
-IsReadAs f text t m = (u : Tree) × IsOnlyAnswer f text (read u m) × (unplaced u ≡ unplaced t)
+abbrev pub IsReadAs : Flags → Text → Tree → GroupInfo → Type 0
+IsReadAs f text t m = (u : Tree) × IsOnlyResult f text (read u m) × (unpositioned u ≡ unpositioned t)

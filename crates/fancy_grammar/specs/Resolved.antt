@@ -1,9 +1,9 @@
 -- The tree that is returned for a raw tree: its groups have numbers, and so have its references.
 use Rattle.std.specs.Prelude.{ℕ, ◌+◌, Bool, List, [], ◌∷◌, length, Option, Some, None, if◌then◌else◌}
-use Rattle.fancy_lex.specs.Fault.{Fault}
-use Rattle.fancy_lex.specs.Text.{Text, place_at}
+use Rattle.fancy_lex.specs.Located.{Located}
+use Rattle.fancy_lex.specs.Text.{Text, position_at}
 use Rattle.fancy_lex.specs.declared.flags.Flags.{Flags}
-use Rattle.fancy_parts.specs.Meaning.{Meaning, number, means, fault_or}
+use Rattle.fancy_parts.specs.Meaning.{Meaning, number, refers_to, error_or}
 use Rattle.fancy_parts.specs.Ranks.{only_named, is_counted, numbered_openings_in}
 use Rattle.fancy_grammar.specs.Items.{openings, role_of, target_of, numbers_in, meanings}
 use Rattle.fancy_grammar.specs.Label.{AstReference, ast_backref, ast_call, ast_condition}
@@ -17,7 +17,7 @@ reference_node m (number n) (ast_backref t casei None) reach = backref n casei
 reference_node m (number n) (ast_backref t casei (Some level)) reach = backref_at_level n level casei
 reference_node m (number n) (ast_call t) reach = subroutine_call n
 reference_node m (number n) (ast_condition t level) reach = backref_exists n level
-reference_node m _ r reach = ast_node r (place_at m reach)
+reference_node m _ r reach = ast_node r (position_at m reach)
 
 -- in a pattern of n bytes; numbers_of gives the numbers of each name, and c groups that have a number open before the
 -- tree
@@ -28,7 +28,7 @@ module _ (n : ℕ) (named : Bool) (numbers_of : Text → List ℕ) where
     pub resolved_in : ℕ → Tree → Tree
     resolved_in c (ast_group name reach t) =
         if is_counted named name then group (resolved_in (c + 1) t) else resolved_in c t
-    resolved_in c (ast_node r reach) = reference_node n (means numbers_of c (role_of r) (target_of r)) r reach
+    resolved_in c (ast_node r reach) = reference_node n (refers_to numbers_of c (role_of r) (target_of r)) r reach
     resolved_in c (leaf l) = leaf l
     resolved_in c (over w t) = over w (resolved_in c t)
     resolved_in c (row r ts) = row r (resolved_all c ts)
@@ -43,10 +43,10 @@ abbrev pub resolved : Flags → ℕ → Tree → Tree
 resolved f n r = resolved_in n (only_named f (openings r)) (numbers_in f r) 0 r
 
 -- the first error among references with their reaches and meanings
-abbrev pub first_fault : List (AstReference × ℕ × Meaning) → Option Fault
-first_fault [] = None
-first_fault ((r, reach, m) ∷ l) = fault_or m reach (first_fault l)
+abbrev pub first_error : List (AstReference × ℕ × Meaning) → Option Located
+first_error [] = None
+first_error ((r, reach, m) ∷ l) = error_or m reach (first_error l)
 
 -- the first error among the references of the raw tree
-abbrev pub fault_of : Flags → Tree → Option Fault
-fault_of f r = first_fault (meanings f r)
+abbrev pub error_of : Flags → Tree → Option Located
+error_of f r = first_error (meanings f r)

@@ -63,7 +63,7 @@ same_leaf (backref_exists n level) (backref_exists n' level') = nat_eq n n' && s
 same_leaf (subroutine_call n) (subroutine_call n') = nat_eq n n'
 same_leaf (verb v) (verb v') = same_verb v v'
 same_leaf clear clear = true
-same_leaf (ast_node r place) (ast_node r' place') = same_reference r r' && nat_eq place place'
+same_leaf (ast_node r position) (ast_node r' position') = same_reference r r' && nat_eq position position'
 same_leaf _ _ = false
 
 abbrev pub same_wrap : Wrap → Wrap → Bool
@@ -74,7 +74,7 @@ same_wrap atomic_group atomic_group = true
 same_wrap define_group define_group = true
 same_wrap repeater repeater = true
 same_wrap stopper stopper = true
-same_wrap (ast_group name place) (ast_group name' place') = same_name name name' && nat_eq place place'
+same_wrap (ast_group name position) (ast_group name' position') = same_name name name' && nat_eq position position'
 same_wrap _ _ = false
 
 abbrev pub same_row : Row → Row → Bool

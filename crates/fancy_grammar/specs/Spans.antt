@@ -11,22 +11,22 @@ use Rattle.std.specs.Str.{IsCharBoundary}
 use Rattle.fancy_lex.specs.Characters.{open_paren}
 use Rattle.fancy_lex.specs.LayoutSteps.{past_layout}
 use Rattle.fancy_lex.specs.Reading.{choose}
-use Rattle.fancy_lex.specs.Text.{Text, bytes, reach_of, place_at, strip, strip_word}
+use Rattle.fancy_lex.specs.Text.{Text, bytes, reach_of, position_at, strip, strip_word}
 use Rattle.fancy_lex.specs.declared.flags.Flags.{Flags}
 use Rattle.fancy_parts.specs.Quantifier.{counts}
 use Rattle.fancy_parts.specs.Ranks.{is_counted, only_named}
 use Rattle.fancy_parts.specs.declared.counts.Counts.{Counts}
-use Rattle.fancy_grammar.specs.Ahead.{Ahead}
-use Rattle.fancy_grammar.specs.Grammar.{Alternation, alternation, Branches, last, more, branch_fault, Branch, branch}
-use Rattle.fancy_grammar.specs.Grammar.{Pieces, stop, next, piece_fault, Piece, piece, layout_fault, Atom, atom, AtomOf}
-use Rattle.fancy_grammar.specs.Grammar.{a_nothing, a_read, a_group, a_condition, condition_fault, a_body, two_branches}
-use Rattle.fancy_grammar.specs.Grammar.{one_branch, absent_fault, Inside, inside, Body, the_body, Whole, whole}
+use Rattle.fancy_grammar.specs.AtomStart.{AtomStart}
+use Rattle.fancy_grammar.specs.Grammar.{Alternation, alternation, Branches, last, more, branch_error, Branch, branch}
+use Rattle.fancy_grammar.specs.Grammar.{Pieces, stop, next, piece_error, Piece, piece, layout_error, Atom, atom, AtomOf}
+use Rattle.fancy_grammar.specs.Grammar.{a_nothing, a_read, a_group, a_condition, condition_error, a_body, two_branches}
+use Rattle.fancy_grammar.specs.Grammar.{one_branch, absent_error, Inside, inside, Body, the_body, Whole, whole}
 use Rattle.fancy_grammar.specs.Grammar.{branches_of}
-use Rattle.fancy_grammar.specs.Head.{Head, capture, scope}
+use Rattle.fancy_grammar.specs.GroupKind.{GroupKind, capture, flag_group}
 use Rattle.fancy_grammar.specs.Items.{openings}
 use Rattle.fancy_grammar.specs.Join.{is_empty}
 use Rattle.fancy_grammar.specs.Quantified.{quant, suffix, Suffix, is_repeatable, is_swapped, is_unmoved, max_adjacent}
-use Rattle.fancy_grammar.specs.State.{State, at, Outcome, done, fault}
+use Rattle.fancy_grammar.specs.State.{State, at, Outcome, done, failed}
 use Rattle.fancy_grammar.specs.Tree.{Tree, leaf, over, row, Trees, no_trees, more_trees, alt}
 
 -- where the text of a node begins and where it ends: as reaches while the pattern is read, and as positions in the
@@ -36,8 +36,8 @@ pub record Span : Type 0 where
   pub end : ℕ
 
 -- with positions in a pattern of n bytes
-abbrev pub placed : ℕ → Span → Span
-placed n p = record { start = place_at n p.start; end = place_at n p.end }
+abbrev pub positioned : ℕ → Span → Span
+positioned n p = record { start = position_at n p.start; end = position_at n p.end }
 
 -- ---- how the spans of a tree nest
 
@@ -72,7 +72,7 @@ mutual
   pub data Forest : Type 0 where
     no_spans : Forest
     more_spans : Spans → Forest → Forest
-    behind_bar : ℕ → Forest → Forest
+    after_bar : ℕ → Forest → Forest
 
 abbrev mutual
   -- each span before those of the node's children
@@ -82,7 +82,7 @@ abbrev mutual
   pub all_in_preorder : Forest → List Span
   all_in_preorder no_spans = []
   all_in_preorder (more_spans x xs) = in_preorder x ++ all_in_preorder xs
-  all_in_preorder (behind_bar p xs) = all_in_preorder xs
+  all_in_preorder (after_bar p xs) = all_in_preorder xs
 
 abbrev pub alone : Span → Spans
 alone p = node p no_spans
@@ -106,7 +106,7 @@ solid_spans r x xs = if is_empty r then xs else more_spans x xs
 -- the reach at which what is read ends, or the reach of the error
 abbrev pub end_of : {A : Type 0} → Outcome A → ℕ
 end_of (done a t) = reach_of t.rest
-end_of (fault k p) = p
+end_of (failed k p) = p
 
 -- from a state to the end of what is read from it
 abbrev pub between : {A : Type 0} → State → Outcome A → Span
@@ -115,21 +115,21 @@ between s o = record { start = reach_of s.rest; end = end_of o }
 -- f applied to what is read, or x for an error
 abbrev pub if_done : {A B : Type 0} → Outcome A → (A → State → B) → B → B
 if_done (done a t) f x = f a t
-if_done (fault k p) f x = x
+if_done (failed k p) f x = x
 
 -- ---- groups and conditionals
 
 -- the node of a group that spans p, around its contents; if only groups with a name have a number, the other capturing
 -- groups make no node
-abbrev pub group_spans : Bool → Head → Span → Spans → Spans
+abbrev pub group_spans : Bool → GroupKind → Span → Spans → Spans
 group_spans named (capture name) p x = if is_counted named name then around p x else x
-group_spans named scope p x = x
+group_spans named flag_group p x = x
 group_spans named _ p x = around p x
 
 -- the branches of a conditional's body, which ends at v: the first branch of an Alt, and the choice among the branches
 -- after its first bar; if the body is no Alt, the body itself and an Empty at its end
 abbrev pub body_parts : Tree → State → Spans → Spans × Spans
-body_parts (alt ts) v (node p (more_spans x (behind_bar b xs))) =
+body_parts (alt ts) v (node p (more_spans x (after_bar b xs))) =
     (x, one_or_node (record { start = b; end = p.end }) xs)
 body_parts r v x = (x, alone (between v (done r v)))
 
@@ -200,8 +200,8 @@ module _ (named : Bool) where
 
     pub branches_spans : {d : ℕ} {s : State} {o : Outcome (List Tree)} → Branches d s o → Forest
     branches_spans (last b e) = more_spans (branch_spans b) no_spans
-    branches_spans (more {u} b e m) = more_spans (branch_spans b) (behind_bar (reach_of u) (branches_spans m))
-    branches_spans (branch_fault b) = no_spans
+    branches_spans (more {u} b e m) = more_spans (branch_spans b) (after_bar (reach_of u) (branches_spans m))
+    branches_spans (branch_error b) = no_spans
 
     pub branch_spans : {d : ℕ} {s : State} {o : Outcome Tree} → Branch d s o → Spans
     branch_spans {s} {o} (branch p) = one_or_node (between s o) (pieces_spans p)
@@ -209,26 +209,26 @@ module _ (named : Bool) where
     pub pieces_spans : {d : ℕ} {s : State} {o : Outcome (List Tree)} → Pieces d s o → Forest
     pieces_spans (stop e) = no_spans
     pieces_spans (next {r} e a m) = solid_spans r (piece_spans a) (pieces_spans m)
-    pieces_spans (piece_fault e a) = no_spans
+    pieces_spans (piece_error e a) = no_spans
 
     pub piece_spans : {d : ℕ} {s : State} {o : Outcome Tree} → Piece d s o → Spans
     piece_spans {s} (piece {u} {q} l a) = quants_spans (bytes s.rest) (reach_of u) q (atom_spans a)
-    piece_spans {s} {o} (layout_fault l) = alone (between s o)
+    piece_spans {s} {o} (layout_error l) = alone (between s o)
 
     pub atom_spans : {d : ℕ} {s : State} {o : Outcome Tree} → Atom d s o → Spans
     atom_spans (atom e a) = atom_of_spans a
 
-    pub atom_of_spans : {k : Ahead} {d : ℕ} {s : State} {o : Outcome Tree} → AtomOf k d s o → Spans
+    pub atom_of_spans : {k : AtomStart} {d : ℕ} {s : State} {o : Outcome Tree} → AtomOf k d s o → Spans
     atom_of_spans {s} {o} a_nothing = alone (between s o)
     atom_of_spans {s} {o} a_read = alone (between s o)
     atom_of_spans {s} {o} (a_group {h} i) = group_spans named h (between s o) (inside_spans i)
     atom_of_spans {s} (a_condition i b) = body_spans s (inside_spans i) b
-    atom_of_spans {s} {o} (condition_fault i) = alone (between s o)
+    atom_of_spans {s} {o} (condition_error i) = alone (between s o)
     atom_of_spans {s} (a_body {t} b) = body_spans s (alone (condition_span s t)) b
     atom_of_spans {s} {o} (two_branches b e m) =
         node (between s o) (more_spans (branch_spans b) (more_spans (branch_spans m) no_spans))
     atom_of_spans {s} {o} (one_branch {a} b e) = node (between s o) (solid_spans a (branch_spans b) no_spans)
-    atom_of_spans {s} {o} (absent_fault b) = alone (between s o)
+    atom_of_spans {s} {o} (absent_error b) = alone (between s o)
 
     pub inside_spans : {d : ℕ} {s : State} {o : Outcome Tree} → Inside d s o → Spans
     inside_spans (inside a) = alternation_spans a
@@ -244,4 +244,4 @@ module _ (named : Bool) where
 abbrev pub AreSpansOf : Flags → Text → List Span → Type 0
 AreSpansOf f text l =
     (r : Tree) × (t : State) × (a : Whole f text (done r t)) ×
-    (l ≡ map (placed (bytes text)) (in_preorder (whole_spans (only_named f (openings r)) a)))
+    (l ≡ map (positioned (bytes text)) (in_preorder (whole_spans (only_named f (openings r)) a)))

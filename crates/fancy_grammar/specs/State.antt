@@ -1,7 +1,7 @@
 -- The state of the parser, and the outcome of a part.
 use Rattle.std.specs.Prelude.{ℕ, Bool, true, [], ◌∷◌}
 use Rattle.fancy_lex.specs.Characters.{◌∈◌}
-use Rattle.fancy_lex.specs.Fault.{Kind, Fault}
+use Rattle.fancy_lex.specs.Located.{Kind, Located}
 use Rattle.fancy_lex.specs.LayoutSteps.{layout, Skipped}
 use Rattle.fancy_lex.specs.Text.{Text}
 use Rattle.fancy_lex.specs.declared.flags.Flags.{Flags}
@@ -27,16 +27,16 @@ ends (c ∷ t) = c ∈ "|)"
 -- what is read, with the state after it; or the error that ends the reading, with its reach
 pub data Outcome (A : Type 0) : Type 0 where
   done : A → State → Outcome A
-  fault : Kind → ℕ → Outcome A
+  failed : Kind → ℕ → Outcome A
 
 -- this error, as an outcome
-abbrev pub faulted : {A : Type 0} → Fault → Outcome A
-faulted e = fault e.kind e.reach
+abbrev pub failed_with : {A : Type 0} → Located → Outcome A
+failed_with e = failed e.kind e.reach
 
 -- one part after another: an error of the first is the error of both
 abbrev pub and_then : {A B : Type 0} → Outcome A → (A → State → Outcome B) → Outcome B
 and_then (done a s) f = f a s
-and_then (fault k p) f = fault k p
+and_then (failed k p) f = failed k p
 
 -- the outcome with f applied to what is read
 abbrev pub seen_through : {A B : Type 0} → (A → B) → Outcome A → Outcome B

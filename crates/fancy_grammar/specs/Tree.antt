@@ -72,7 +72,7 @@ pattern abbrev pub clear : Tree
 clear = leaf label.clear
 
 pattern abbrev pub ast_node : AstReference → ℕ → Tree
-ast_node r place = leaf (label.ast_node r place)
+ast_node r position = leaf (label.ast_node r position)
 
 pattern abbrev pub group : Tree → Tree
 group t = over label.group t
@@ -96,7 +96,7 @@ pattern abbrev pub stopper : Tree → Tree
 stopper t = over label.stopper t
 
 pattern abbrev pub ast_group : Option (List ℕ) → ℕ → Tree → Tree
-ast_group name place t = over (label.ast_group name place) t
+ast_group name position t = over (label.ast_group name position) t
 
 pattern abbrev pub expression : Tree → Tree → Tree
 expression a e = row label.expression (more_trees a (more_trees e no_trees))
@@ -115,14 +115,14 @@ alt ts = row label.alt ts
 -- the immediate children in text order; the contents of a capturing group are not among them
 abbrev pub children : Tree → List Tree
 children (leaf l) = []
-children (over (label.ast_group name place) t) = []
+children (over (label.ast_group name position) t) = []
 children (over w t) = t ∷ []
 children (row r ts) = list_of ts
 
 -- whether the node is one that has no children
 abbrev pub is_leaf : Tree → Bool
 is_leaf (leaf l) = true
-is_leaf (over (label.ast_group name place) t) = true
+is_leaf (over (label.ast_group name position) t) = true
 is_leaf _ = false
 
 -- whether the node itself allocates nothing: it has no text, no bytes, no tree and no target
@@ -130,7 +130,7 @@ abbrev pub holds_nothing : Tree → Bool
 holds_nothing (leaf (label.literal text casei)) = false
 holds_nothing (leaf (label.literal_bytes bytes)) = false
 holds_nothing (leaf (label.delegate text casei)) = false
-holds_nothing (leaf (label.ast_node r place)) = false
+holds_nothing (leaf (label.ast_node r position)) = false
 holds_nothing (leaf l) = true
 holds_nothing _ = false
 

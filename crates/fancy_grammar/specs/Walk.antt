@@ -2,15 +2,15 @@
 use Rattle.std.specs.Prelude.{ℕ, ◌+◌, Bool, false, ◌||◌, nat_le, List, [], Option, Some, None, fold, if◌then◌else◌}
 use Rattle.std.specs.BTreeSet.{insert_key}
 use Rattle.std.specs.Ordering.{nat_cmp}
-use Rattle.fancy_lex.specs.Fault.{Fault}
+use Rattle.fancy_lex.specs.Located.{Located}
 use Rattle.fancy_lex.specs.Target.{Target}
-use Rattle.fancy_lex.specs.Text.{Text, bytes, place_at}
+use Rattle.fancy_lex.specs.Text.{Text, bytes, position_at}
 use Rattle.fancy_parts.specs.Groups.{Groups, with_opening, numbers_under}
-use Rattle.fancy_parts.specs.Meaning.{Role, Meaning, number, means, fault_or}
+use Rattle.fancy_parts.specs.Meaning.{Role, Meaning, number, refers_to, error_or}
 use Rattle.fancy_parts.specs.Ranks.{is_counted}
 use Rattle.fancy_parts.specs.Written.{is_numeric}
 use Rattle.fancy_grammar.specs.Items.{Item, opening, reference, role_of, target_of}
-use Rattle.fancy_grammar.specs.Marks.{back_number, is_call, is_call_of_all}
+use Rattle.fancy_grammar.specs.GroupInfo.{back_number, is_call, is_call_of_all}
 use Rattle.fancy_grammar.specs.Resolved.{resolved_in, resolved_all}
 use Rattle.fancy_grammar.specs.Tree.{Tree, Trees}
 
@@ -28,7 +28,7 @@ groups_after named s l = fold (find_item named) s l
 -- ---- the second walk resolves the references, and records the group information and the first error
 
 -- what is known when references are resolved
-pub record Known : Type 0 where
+pub record Resolver : Type 0 where
   pub text : Text
   pub named : Bool
   pub groups : Groups
@@ -41,18 +41,18 @@ pub record Progress : Type 0 where
   pub numeric : Bool
   pub calls : Bool
   pub self_recursive : Bool
-  pub fault : Option Fault
+  pub error : Option Located
 
 -- the walk before its first step
-abbrev pub nothing_noted : Progress
-nothing_noted = record {
+abbrev pub nothing_recorded : Progress
+nothing_recorded = record {
   passed = 0;
   backrefs = [];
   out_of_range = None;
   numeric = false;
   calls = false;
   self_recursive = false;
-  fault = None;
+  error = None;
 }
 
 -- the first option if it has a value, or else the second
@@ -72,20 +72,20 @@ number_above total (Some n) = if nat_le n total then None else Some n
 
 -- what is recorded for a reference with this meaning: its number, how it is written, whether it is a call, and its
 -- error
-abbrev pub note_reference_with : Known → Progress → ℕ → Role → Target → Meaning → Progress
-note_reference_with k s reach role target m = record {
+abbrev pub record_reference_with : Resolver → Progress → ℕ → Role → Target → Meaning → Progress
+record_reference_with k s reach role target m = record {
   passed = s.passed;
   backrefs = with_backref k.groups.total s.backrefs (back_number role m);
   out_of_range = or_else s.out_of_range (number_above k.groups.total (back_number role m));
-  numeric = s.numeric || is_numeric k.text (place_at (bytes k.text) reach) role target;
+  numeric = s.numeric || is_numeric k.text (position_at (bytes k.text) reach) role target;
   calls = s.calls || is_call role;
   self_recursive = s.self_recursive || is_call_of_all role target;
-  fault = or_else s.fault (fault_or m reach None);
+  error = or_else s.error (error_or m reach None);
 }
 
 -- the meaning of a target, given the groups that the walk has passed
-abbrev pub means_here : Known → Progress → Role → Target → Meaning
-means_here k s role target = means (numbers_under k.groups.names) s.passed role target
+abbrev pub refers_here : Resolver → Progress → Role → Target → Meaning
+refers_here k s role target = refers_to (numbers_under k.groups.names) s.passed role target
 
 -- the number, if the meaning is one
 abbrev pub number_in : Meaning → Option ℕ
@@ -93,21 +93,21 @@ number_in (number n) = Some n
 number_in _ = None
 
 -- what is recorded for a reference
-abbrev pub note_reference : Known → Progress → ℕ → Role → Target → Progress
-note_reference k s reach role target = note_reference_with k s reach role target (means_here k s role target)
+abbrev pub record_reference : Resolver → Progress → ℕ → Role → Target → Progress
+record_reference k s reach role target = record_reference_with k s reach role target (refers_here k s role target)
 
 -- what is recorded for an item; a group with a number is counted
-abbrev pub note_item : Known → Progress → Item → Progress
-note_item k s (opening o) = record s { passed = if is_counted k.named o.name then s.passed + 1 else s.passed }
-note_item k s (reference r reach) = note_reference k s reach (role_of r) (target_of r)
+abbrev pub record_item : Resolver → Progress → Item → Progress
+record_item k s (opening o) = record s { passed = if is_counted k.named o.name then s.passed + 1 else s.passed }
+record_item k s (reference r reach) = record_reference k s reach (role_of r) (target_of r)
 
 -- what is recorded for the items, one after another
-abbrev pub progress_after : Known → Progress → List Item → Progress
-progress_after k s l = fold (note_item k) s l
+abbrev pub progress_after : Resolver → Progress → List Item → Progress
+progress_after k s l = fold (record_item k) s l
 
 -- trees resolved with what is known, if c groups with a number open before them
-abbrev pub resolved_by : Known → ℕ → Tree → Tree
+abbrev pub resolved_by : Resolver → ℕ → Tree → Tree
 resolved_by k c t = resolved_in (bytes k.text) k.named (numbers_under k.groups.names) c t
 
-abbrev pub all_resolved_by : Known → ℕ → Trees → Trees
+abbrev pub all_resolved_by : Resolver → ℕ → Trees → Trees
 all_resolved_by k c ts = resolved_all (bytes k.text) k.named (numbers_under k.groups.names) c ts

@@ -17,16 +17,16 @@ use Rattle.fancy_lex.specs.Target.{Target, by_number, by_name, relative}
 use Rattle.fancy_lex.specs.Text.{Text}
 use Rattle.fancy_lex.specs.declared.escape.Assertion.TheVariants.{StartLine, StartLineOniguruma}
 use Rattle.fancy_lex.specs.declared.flags.Flags.{Flags}
-use Rattle.fancy_parts.specs.Meaning.{call, means, unresolved}
+use Rattle.fancy_parts.specs.Meaning.{call, refers_to, unresolved}
 use Rattle.fancy_parts.specs.Ranks.{Opening, is_counted, only_named, named_groups, numbers}
-use Rattle.fancy_grammar.specs.Answered.{groups_referred, has_call}
+use Rattle.fancy_grammar.specs.ParsedTree.{groups_referred, has_call}
 use Rattle.fancy_grammar.specs.Join.{is_empty}
 use Rattle.fancy_grammar.specs.Label.{Leaf, empty, any, assertion, general_newline, literal, literal_bytes, delegate}
 use Rattle.fancy_grammar.specs.Label.{keep_out, continue_from_previous_match_end, verb, clear, group, look_around}
 use Rattle.fancy_grammar.specs.Label.{repeat, atomic_group, define_group, repeater, stopper, expression, conditional}
 use Rattle.fancy_grammar.specs.Label.{concat, alt, backref, subroutine_call, backref_at_level, backref_exists, ast_node}
 use Rattle.fancy_grammar.specs.Label.{ast_call}
-use Rattle.fancy_grammar.specs.Marks.{Marks, ascending}
+use Rattle.fancy_grammar.specs.GroupInfo.{GroupInfo, ascending}
 use Rattle.fancy_grammar.specs.Pattern.{group_count}
 use Rattle.fancy_grammar.specs.PatternReference.{name_of}
 use Rattle.fancy_grammar.specs.PatternDepth.{Fits}
@@ -60,17 +60,17 @@ HasSource f s casei =
 -- ---- groups and references, by the group information
 
 -- the name of the group with this number, by the group information
-abbrev pub name_at : Marks → ℕ → Option Text
+abbrev pub name_at : GroupInfo → ℕ → Option Text
 name_at m n = option_map (λ e. e.0) (name_of m n)
 
 -- the openings of the next n groups after c others, with their names by the group information; their reaches are 0
-abbrev pub openings_told : Marks → ℕ → ℕ → List Opening
-openings_told m c zero = []
-openings_told m c (suc n) = record { reach = 0; name = name_at m (c + 1) } ∷ openings_told m (c + 1) n
+abbrev pub info_openings : GroupInfo → ℕ → ℕ → List Opening
+info_openings m c zero = []
+info_openings m c (suc n) = record { reach = 0; name = name_at m (c + 1) } ∷ info_openings m (c + 1) n
 
 -- the numbers of a name
-abbrev pub numbers_told : Marks → Text → List ℕ
-numbers_told m w = numbers w (openings_told m 0 m.total_groups)
+abbrev pub info_numbers : GroupInfo → Text → List ℕ
+info_numbers m w = numbers w (info_openings m 0 m.total_groups)
 
 -- a level that can be written
 abbrev pub IsLevelWritable : ℤ → Type 0
@@ -78,7 +78,7 @@ IsLevelWritable (pos n) = n < amount_bound
 IsLevelWritable (negsuc n) = n + 1 < amount_bound
 
 -- a call is written with a number if some reference of the pattern was, except a call of group 0 if no call of 0 was
-abbrev pub is_called_by_number : Marks → ℕ → Bool
+abbrev pub is_called_by_number : GroupInfo → ℕ → Bool
 is_called_by_number m n = m.numeric_capture_group_references && (nat_lt 0 n || m.self_recursive)
 
 -- a call of group n can be written: by number, if that fits in a word; by distance, if that is below `amount_bound`
@@ -105,7 +105,7 @@ IsCalledTarget (by_number n) = ⊥
 
 -- a leaf as it is parsed, after the openings of c groups: a character, a byte without UNICODE, a node with an escape, a
 -- back reference, a call, which may refer to no group, or a condition on a group without branches
-abbrev pub IsWritableLeaf : Flags → Marks → ℕ → Leaf → Type 0
+abbrev pub IsWritableLeaf : Flags → GroupInfo → ℕ → Leaf → Type 0
 IsWritableLeaf f m c (literal (d ∷ []) casei) = Unit {0}
 IsWritableLeaf f m c (literal_bytes (b ∷ [])) = (f.unicode ≡ false) × (0x80 ≤ b) × (b ≤ 0xFF)
 IsWritableLeaf f m c (delegate s casei) = HasSource f s casei
@@ -123,7 +123,7 @@ IsWritableLeaf f m c (backref n casei) = n < 2 ^ 64
 IsWritableLeaf f m c (backref_at_level n level casei) = (n < 2 ^ 64) × IsLevelWritable level
 IsWritableLeaf f m c (subroutine_call n) = IsCallWritable (is_called_by_number m n) c n
 IsWritableLeaf f m c (backref_exists n level) = (n < 2 ^ 64) × IfSome level IsLevelWritable
-IsWritableLeaf f m c (ast_node (ast_call t) place) = IsCalledTarget t × (means (numbers_told m) c call t ≡ unresolved)
+IsWritableLeaf f m c (ast_node (ast_call t) position) = IsCalledTarget t × (refers_to (info_numbers m) c call t ≡ unresolved)
 IsWritableLeaf f m c _ = ⊥
 
 abbrev mutual
@@ -132,7 +132,7 @@ abbrev mutual
   -- The rest is required only if groups without a name have a number, since otherwise such groups are replaced by
   -- their contents: the operand of a quantifier is repeatable, no part of a Concat and no contents of a stopper are
   -- Empty, and a conditional has a branch that is not Empty.
-  pub AreNodesWritable : Flags → Marks → ℕ → Tree → Type 0
+  pub AreNodesWritable : Flags → GroupInfo → ℕ → Tree → Type 0
   AreNodesWritable f m c (leaf l) = IsWritableLeaf f m c l
   AreNodesWritable f m c (over (repeat lo hi greedy) t) =
       AreNodesWritable f m c t × (m.numbered_groups_ignored ≡ false → is_repeatable f t ≡ true)
@@ -157,11 +157,11 @@ abbrev mutual
       AreAllWritable f m c (more_trees t (more_trees u ts))
   AreNodesWritable f m c _ = ⊥
 
-  pub AreAllWritable : Flags → Marks → ℕ → Trees → Type 0
+  pub AreAllWritable : Flags → GroupInfo → ℕ → Trees → Type 0
   AreAllWritable f m c no_trees = Unit {0}
   AreAllWritable f m c (more_trees t ts) = AreNodesWritable f m c t × AreAllWritable f m (c + group_count t) ts
 
-  pub ArePieces : Flags → Marks → ℕ → Trees → Type 0
+  pub ArePieces : Flags → GroupInfo → ℕ → Trees → Type 0
   ArePieces f m c no_trees = Unit {0}
   ArePieces f m c (more_trees t ts) =
       AreNodesWritable f m c t × (m.numbered_groups_ignored ≡ false → is_empty t ≡ false)
@@ -170,19 +170,19 @@ abbrev mutual
 -- ---- the group information of a tree
 
 -- the node is a reference that is written with a number, given this group information
-abbrev pub is_numbered : Marks → Tree → Bool
+abbrev pub is_numbered : GroupInfo → Tree → Bool
 is_numbered m (leaf (backref n casei)) = m.numeric_capture_group_references
 is_numbered m (leaf (subroutine_call n)) = is_called_by_number m n
 is_numbered m _ = false
 
 -- the node is a call of group 0 that is written with a number
-abbrev pub is_numbered_call_of_all : Marks → Tree → Bool
+abbrev pub is_numbered_call_of_all : GroupInfo → Tree → Bool
 is_numbered_call_of_all m (leaf (subroutine_call n)) = is_called_by_number m n && n == 0
 is_numbered_call_of_all m _ = false
 
 -- the group information of a tree that has these groups; m determines how its references are written
-abbrev pub marks_of : Flags → List Opening → Tree → Marks → Marks
-marks_of f l t m = record {
+abbrev pub info_of : Flags → List Opening → Tree → GroupInfo → GroupInfo
+info_of f l t m = record {
   backrefs = ascending (filter (λ n. nat_le n (length l)) (groups_referred t));
   named_groups = named_groups l;
   numeric_capture_group_references = list_any (is_numbered m) (preorder t);
@@ -205,8 +205,8 @@ IsNameWritable (c ∷ w) = (is_among (code ">") (c ∷ w) && is_among (code "'")
 -- ---- the trees
 
 -- a tree whose text nests fewer than 64 groups, with its group information
-pub record IsWritable (f : Flags) (m : Marks) (t : Tree) : Type 0 where
-  pub marks : m ≡ marks_of f (openings_told m 0 (group_count t)) t m
+pub record IsWritable (f : Flags) (m : GroupInfo) (t : Tree) : Type 0 where
+  pub group_info : m ≡ info_of f (info_openings m 0 (group_count t)) t m
   pub names : AllByRecursion (λ e. IsNameWritable e.0) m.named_groups
   pub nodes : AreNodesWritable f m 0 t
   pub fits : Fits t Whole (record { flags = agreed f t; opened = 0; depth = 0 })

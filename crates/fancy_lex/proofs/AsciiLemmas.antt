@@ -27,14 +27,14 @@ agrees_same true false h = absurd cc
 agrees_same false true h = absurd cc
 
 -- the two tests agree on the first n characters
-are_told : ℕ → Bool
-are_told zero = true
-are_told (suc n) = agrees (is_id_char n) (is_ascii_id_char n) && are_told n
+all_agree : ℕ → Bool
+all_agree zero = true
+all_agree (suc n) = agrees (is_id_char n) (is_ascii_id_char n) && all_agree n
 
-told : (n c : ℕ) → are_told n ≡ true → c < n → is_id_char c ≡ is_ascii_id_char c
-unfolding are_told
-told zero c all h = absurd (omega (arith, h))
-told (suc n) c all h = let both = and_parts _ _ all in cases (c == n) refl (told n c both.1) both.0 where
+ids_agree : (n c : ℕ) → all_agree n ≡ true → c < n → is_id_char c ≡ is_ascii_id_char c
+unfolding all_agree
+ids_agree zero c all h = absurd (omega (arith, h))
+ids_agree (suc n) c all h = let both = and_parts _ _ all in cases (c == n) refl (ids_agree n c both.1) both.0 where
   cases : (b : Bool) → (c == n) ≡ b → (c < n → is_id_char c ≡ is_ascii_id_char c) →
       agrees (is_id_char n) (is_ascii_id_char n) ≡ true → is_id_char c ≡ is_ascii_id_char c
   cases true e below here =
@@ -42,16 +42,16 @@ told (suc n) c all h = let both = and_parts _ _ all in cases (c == n) refl (told
       subst (λ d. is_id_char d ≡ is_ascii_id_char d) same (agrees_same _ _ here)
   cases false e below here = below (grind (arith, nat_tests))
 
-all_told : are_told 128 ≡ true
+ascii_agrees : all_agree 128 ≡ true
 unfolding is_id_char is_alphabetic in_ranges alphabetic_ranges general_category value_in general_category_rows agrees
-    are_told
-all_told = refl
+    all_agree
+ascii_agrees = refl
 
-pub alphanumeric_told : (c : ℕ) → is_ascii_alphanumeric c ≡ true → is_id_char c ≡ true
-alphanumeric_told c h =
-    let small : c < 128 = grind (arith, nat_tests) in told 128 c all_told small ∙ rw h refl
+pub alphanumeric_id : (c : ℕ) → is_ascii_alphanumeric c ≡ true → is_id_char c ≡ true
+alphanumeric_id c h =
+    let small : c < 128 = grind (arith, nat_tests) in ids_agree 128 c ascii_agrees small ∙ rw h refl
 
-pub other_told : (c : ℕ) → is_ascii_alphanumeric c ≡ false → is_ascii c ≡ true → is_id_char c ≡ (c == code "_")
-other_told c h a = let small : c < 128 = grind (arith, nat_tests) in told 128 c all_told small ∙ rw h refl
+pub other_id : (c : ℕ) → is_ascii_alphanumeric c ≡ false → is_ascii c ≡ true → is_id_char c ≡ (c == code "_")
+other_id c h a = let small : c < 128 = grind (arith, nat_tests) in ids_agree 128 c ascii_agrees small ∙ rw h refl
 
-pub ruleset ascii_told = (alphanumeric_told, other_told)
+pub ruleset ascii_ids = (alphanumeric_id, other_id)

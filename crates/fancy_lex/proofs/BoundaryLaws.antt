@@ -9,12 +9,12 @@ use Rattle.fancy_lex.specs.declared.escape.Assertion.TheVariants.{LeftWordBounda
 use Rattle.fancy_lex.specs.declared.escape.Assertion.TheVariants.{LeftWordHalfBoundary, RightWordHalfBoundary}
 use Rattle.fancy_lex.specs.Boundary.{boundary_of_name}
 use Rattle.fancy_lex.specs.BoundarySteps.{name, named_boundary}
-use Rattle.fancy_lex.specs.BoundaryName.{after_name, known_boundary, name_fault, name_fault_behind}
+use Rattle.fancy_lex.specs.BoundaryName.{after_name, known_boundary, name_error, name_error_after}
 use Rattle.fancy_lex.specs.Characters.{close_brace}
 use Rattle.fancy_lex.specs.Escaped.{assertion}
-use Rattle.fancy_lex.specs.Fault.{unclosed_open_paren, invalid_escape}
-use Rattle.fancy_lex.specs.LayoutSteps.{Skipped, rest, fault, rest_of, layout}
-use Rattle.fancy_lex.specs.Reading.{Reading, gives, fails, ◌>=>◌, fault_at}
+use Rattle.fancy_lex.specs.Located.{unclosed_open_paren, invalid_escape}
+use Rattle.fancy_lex.specs.LayoutSteps.{Skipped, rest, failed, rest_of, layout}
+use Rattle.fancy_lex.specs.Reading.{Reading, gives, fails, ◌>=>◌, error_at}
 use Rattle.fancy_lex.specs.Text.{Text, strip}
 use Rattle.fancy_lex.proofs.BoundaryLemmas.{after_name_open, after_name_end, after_name_step, after_name_other}
 use Rattle.fancy_lex.proofs.BoundaryLemmas.{name_start, name_end, name_start_half, name_end_half}
@@ -27,19 +27,19 @@ no_brace [] = true
 no_brace (c ∷ w) = not (c == close_brace) && no_brace w
 
 -- the tests of a word, from the tests of its characters
-plain_head : (c : ℕ) (w : Text) → no_brace (c ∷ w) ≡ true → ((c == close_brace) ≡ false) × (no_brace w ≡ true)
-plain_head c w b = by (c == close_brace) refl b where
+plain_tests : (c : ℕ) (w : Text) → no_brace (c ∷ w) ≡ true → ((c == close_brace) ≡ false) × (no_brace w ≡ true)
+plain_tests c w b = by (c == close_brace) refl b where
   by : (h : Bool) → (c == close_brace) ≡ h → (not h && no_brace w) ≡ true → (h ≡ false) × (no_brace w ≡ true)
   by true e b = absurd (false≢true b)
   by false e b = (refl, b)
 
 -- one step of a name
 module _ (x : Bool) (p k : ℕ) (t : Text) where
-  pub name_open : (q : ℕ) → layout x t ≡ fault q → name x p (suc k) t ≡ fault_at q unclosed_open_paren
+  pub name_open : (q : ℕ) → layout x t ≡ failed q → name x p (suc k) t ≡ error_at q unclosed_open_paren
   unfolding name
   name_open q e = rw e refl
 
-  pub name_unclosed : layout x t ≡ rest [] → name x p (suc k) t ≡ fault_at p (invalid_escape (codes "\\b{...}"))
+  pub name_unclosed : layout x t ≡ rest [] → name x p (suc k) t ≡ error_at p (invalid_escape (codes "\\b{...}"))
   unfolding name
   name_unclosed e = rw e refl
 
@@ -63,8 +63,8 @@ module _ (x : Bool) (p k : ℕ) (v : Text)
       let here = strip_is close_brace u v (sym (after_name_end x [] t u refl (ap rest_of q)) ∙ e) in
       name_close x p k t close_brace v (q ∙ ap rest here) refl
   gives_rest u q (c ∷ w) b e = by (strip c u) refl where
-    heads : ((c == close_brace) ≡ false) × (no_brace w ≡ true)
-    heads = plain_head c w b
+    tests : ((c == close_brace) ≡ false) × (no_brace w ≡ true)
+    tests = plain_tests c w b
 
     by : (o : Option Text) → strip c u ≡ o → name x p (suc k) t ≡ gives (c ∷ w) v
     by None h = let none = sym (after_name_other x (c ∷ w) t c w u refl (ap rest_of q) h) ∙ e in absurd (cc)
@@ -74,13 +74,13 @@ module _ (x : Bool) (p k : ℕ) (v : Text)
         sym (after_name_step x (c ∷ w) t c w u r refl (ap rest_of q) h) ∙ e in
         let short = layout_length x t u q in
         let fewer : length r < k = omega (arith, ap length here) in
-        let name_is : name x p k r ≡ gives w v = more w r heads.1 fewer after in
-        name_step x p k t c r (q ∙ ap rest here) heads.0 ∙ rw name_is refl
+        let name_is : name x p k r ≡ gives w v = more w r tests.1 fewer after in
+        name_step x p k t c r (q ∙ ap rest here) tests.0 ∙ rw name_is refl
 
   gives_at : (o : Skipped) → layout x t ≡ o → (w : Text) → no_brace w ≡ true → after_name x w t ≡ Some v →
       name x p (suc k) t ≡ gives w v
   gives_at (rest u) q w b e = gives_rest u q w b e
-  gives_at (fault m) q w b e = let none = sym (after_name_open x w t (ap rest_of q)) ∙ e in absurd (cc)
+  gives_at (failed m) q w b e = let none = sym (after_name_open x w t (ap rest_of q)) ∙ e in absurd (cc)
 
 -- if the text begins with a word and a closing brace, the word is the name
 pub after_name_gives : (x : Bool) (p k : ℕ) (v w t : Text) → no_brace w ≡ true → length t < k →
@@ -112,11 +112,11 @@ module _ (x : Bool) (p k : ℕ) (more : (w r v : Text) → name x p k r ≡ give
   spells_rest c r q false h = spells_step c r q h (name x p k r) refl
 
   spells_at : (o : Skipped) → layout x t ≡ o → after_name x w t ≡ Some v
-  spells_at (fault m) q = let step = sym (name_open x p k t m q) ∙ e in absurd (cc)
+  spells_at (failed m) q = let step = sym (name_open x p k t m q) ∙ e in absurd (cc)
   spells_at (rest []) q = let step = sym (name_unclosed x p k t q) ∙ e in absurd (cc)
   spells_at (rest (c ∷ r)) q = spells_rest c r q (c == close_brace) refl
 
-name_out : (x : Bool) (p : ℕ) (t : Text) → name x p zero t ≡ fault_at p (invalid_escape (codes "\\b{...}"))
+name_out : (x : Bool) (p : ℕ) (t : Text) → name x p zero t ≡ error_at p (invalid_escape (codes "\\b{...}"))
 unfolding name
 name_out x p t = refl
 
@@ -196,8 +196,8 @@ module _ (x : Bool) (p : ℕ) (t : Text) (a : after_name x (codes "start") t ≡
     (b : after_name x (codes "end") t ≡ None) (d : after_name x (codes "start-half") t ≡ None)
     (e : after_name x (codes "end-half") t ≡ None) where
   name_unknown : (o : Reading Text) → name x p (suc (length t)) t ≡ o →
-      named_boundary x p false t ≡ name_fault x p false t
-  unfolding named_boundary name_fault name_fault_behind
+      named_boundary x p false t ≡ name_error x p false t
+  unfolding named_boundary name_error name_error_after
   name_unknown (gives w v) h =
       let no : (known : Text) → after_name x known t ≡ None → bytes_eq w known ≡ false =
       λ known none. not_word x p (suc (length t)) t w v known h none in
@@ -205,15 +205,15 @@ module _ (x : Bool) (p : ℕ) (t : Text) (a : after_name x (codes "start") t ≡
   name_unknown (fails f) h = rw h refl
 
 pub braced_unknown : (x : Bool) (p : ℕ) (t : Text) → known_boundary x t ≡ None →
-    named_boundary x p false t ≡ name_fault x p false t
+    named_boundary x p false t ≡ name_error x p false t
 braced_unknown x p t e =
     elim (which_word x t) [
       | word w r b m q h s ↦ let none = sym s ∙ e in absurd (cc)
       | no_word a b d f s ↦ name_unknown x p t a b d f (name x p (suc (length t)) t) refl
     ]
 
-pub braced_negated : (x : Bool) (p : ℕ) (t : Text) → named_boundary x p true t ≡ name_fault x p true t
-unfolding named_boundary name_fault name_fault_behind
+pub braced_negated : (x : Bool) (p : ℕ) (t : Text) → named_boundary x p true t ≡ name_error x p true t
+unfolding named_boundary name_error name_error_after
 braced_negated x p t = refl
 
 pub ruleset braced_steps = (braced_named, braced_unknown, braced_negated)

@@ -2,17 +2,17 @@
 use Rattle.std.proofs.Common.{◌≡◌, ◌≢◌, ℕ, zero, suc, pred, ◌<◌, ◌≤◌, Bool, false, ◌==◌, [], ◌∷◌, ◌++◌, length, codes}
 use Rattle.std.proofs.Common.{Option, Some, None, option_map, refl, ap, sym, ◌∙◌, append_assoc, arith}
 use Rattle.std.proofs.lemmas.Bool.Decides.{nat_tests}
-use Rattle.fancy_lex.specs.declared.error.Failure.{Failure}
-use Rattle.fancy_lex.specs.declared.error.Failure.TheVariants.{At, OutOfMemory}
+use Rattle.fancy_lex.specs.declared.error.ReadError.{ReadError}
+use Rattle.fancy_lex.specs.declared.error.ReadError.TheVariants.{At, OutOfMemory}
 use Rattle.fancy_lex.specs.BoundarySteps.{name}
-use Rattle.fancy_lex.specs.Fault.{invalid_escape}
-use Rattle.fancy_lex.specs.FaultTable.{boundary_head}
-use Rattle.fancy_lex.specs.Reading.{Reading, gives, fails, fault_at, ◌>=>◌, layout_reading, Says, Reports}
+use Rattle.fancy_lex.specs.Located.{invalid_escape}
+use Rattle.fancy_lex.specs.ErrorTable.{boundary_start}
+use Rattle.fancy_lex.specs.Reading.{Reading, gives, fails, error_at, ◌>=>◌, layout_reading, Says, Reports}
 use Rattle.fancy_lex.specs.Characters.{close_brace}
-use Rattle.fancy_lex.specs.LayoutSteps.{Skipped, rest, fault, layout, past_layout}
+use Rattle.fancy_lex.specs.LayoutSteps.{Skipped, rest, failed, layout, past_layout}
 use Rattle.fancy_lex.specs.Text.{Text, strip}
 use Rattle.fancy_lex.proofs.LayoutLaws.{layout_length}
-use Rattle.fancy_lex.specs.BoundaryName.{after_name, known_boundary, name_fault_behind, name_fault}
+use Rattle.fancy_lex.specs.BoundaryName.{after_name, known_boundary, name_error_after, name_error}
 use Rattle.fancy_lex.specs.declared.escape.Assertion.TheVariants.{LeftWordBoundary, RightWordBoundary}
 use Rattle.fancy_lex.specs.declared.escape.Assertion.TheVariants.{LeftWordHalfBoundary, RightWordHalfBoundary}
 
@@ -65,7 +65,7 @@ module _ (x : Bool) (t : Text) where
 -- layout whose reading gives a rest has that rest
 pub rest_from_reading : (o : Skipped) (u : Text) → layout_reading o ≡ gives tt u → o ≡ rest u
 rest_from_reading (rest v) u e = cc
-rest_from_reading (fault p) u e = cc
+rest_from_reading (failed p) u e = cc
 
 -- a name with one more character
 longer : {B : Type 0} (o : Reading Text) (f : Text → Reading B) (c : ℕ) →
@@ -80,41 +80,41 @@ same_after (fails e) f g h = refl
 
 -- one step of the name that an error reports
 module _ (x : Bool) (p : ℕ) (out t : Text) where
-  pub name_fault_open : (k : ℕ) (b : Failure) → 0 < k → Says b (layout_reading (layout x t)) →
-      Reports b (name_fault_behind x p out k t)
-  unfolding name_fault_behind name
-  name_fault_open zero b l e = absurd (omega arith)
-  name_fault_open (suc k) (At q d) l e = rw e refl
-  name_fault_open (suc k) OutOfMemory l e = absurd e
+  pub name_error_open : (k : ℕ) (b : ReadError) → 0 < k → Says b (layout_reading (layout x t)) →
+      Reports b (name_error_after x p out k t)
+  unfolding name_error_after name
+  name_error_open zero b l e = absurd (omega arith)
+  name_error_open (suc k) (At q d) l e = rw e refl
+  name_error_open (suc k) OutOfMemory l e = absurd e
 
-  pub name_fault_end : (k : ℕ) (u : Text) → layout_reading (layout x t) ≡ gives tt u → u ≡ [] →
-      name_fault_behind x p out k t ≡ fault_at p (invalid_escape (codes "\\b{...}"))
-  unfolding name_fault_behind name
-  name_fault_end zero u e z = refl
-  name_fault_end (suc k) u e z = rw (e, z) refl
+  pub name_error_end : (k : ℕ) (u : Text) → layout_reading (layout x t) ≡ gives tt u → u ≡ [] →
+      name_error_after x p out k t ≡ error_at p (invalid_escape (codes "\\b{...}"))
+  unfolding name_error_after name
+  name_error_end zero u e z = refl
+  name_error_end (suc k) u e z = rw (e, z) refl
 
   module _ (u : Text) (e : layout_reading (layout x t) ≡ gives tt u) (c : ℕ) (r : Text) (q : u ≡ c ∷ r) where
-    pub name_fault_close : (k : ℕ) (o : Text) → 0 < k → c ≡ close_brace → o ≡ out ++ c ∷ [] →
-        name_fault_behind x p out k t ≡ fault_at p (invalid_escape o)
-    unfolding name_fault_behind name
-    name_fault_close zero o l h s = absurd (omega arith)
-    name_fault_close (suc k) o l h s = rw (e, q, s, h) refl
+    pub name_error_close : (k : ℕ) (o : Text) → 0 < k → c ≡ close_brace → o ≡ out ++ c ∷ [] →
+        name_error_after x p out k t ≡ error_at p (invalid_escape o)
+    unfolding name_error_after name
+    name_error_close zero o l h s = absurd (omega arith)
+    name_error_close (suc k) o l h s = rw (e, q, s, h) refl
 
-    pub name_fault_step : (k : ℕ) (o : Text) → 0 < k → c ≢ close_brace → o ≡ out ++ c ∷ [] →
-        name_fault_behind x p out k t ≡ name_fault_behind x p o (pred k) r
-    unfolding name_fault_behind name
-    name_fault_step zero o l h s = absurd (omega arith)
-    name_fault_step (suc k) o l h s =
+    pub name_error_step : (k : ℕ) (o : Text) → 0 < k → c ≢ close_brace → o ≡ out ++ c ∷ [] →
+        name_error_after x p out k t ≡ name_error_after x p o (pred k) r
+    unfolding name_error_after name
+    name_error_step zero o l h s = absurd (omega arith)
+    name_error_step (suc k) o l h s =
         let other : (c == close_brace) ≡ false = grind (arith, nat_tests) in
         rw (e, q, other, s)
-        (longer (name x p k r) (λ w. fault_at p (invalid_escape (out ++ (w ++ codes "}")))) c
+        (longer (name x p k r) (λ w. error_at p (invalid_escape (out ++ (w ++ codes "}")))) c
         ∙ same_after (name x p k r) _ _
-        (λ w. ap (λ s. fault_at p (invalid_escape s)) (sym (append_assoc out (c ∷ []) (w ++ codes "}")))))
+        (λ w. ap (λ s. error_at p (invalid_escape s)) (sym (append_assoc out (c ∷ []) (w ++ codes "}")))))
 
-pub name_fault_from : (x : Bool) (p : ℕ) (negated : Bool) (out t : Text) → out ≡ boundary_head negated →
-    name_fault x p negated t ≡ name_fault_behind x p out (suc (length t)) t
-unfolding name_fault
-name_fault_from x p negated out t e = ap (λ o. name_fault_behind x p o (suc (length t)) t) (sym e)
+pub name_error_from : (x : Bool) (p : ℕ) (negated : Bool) (out t : Text) → out ≡ boundary_start negated →
+    name_error x p negated t ≡ name_error_after x p out (suc (length t)) t
+unfolding name_error
+name_error_from x p negated out t e = ap (λ o. name_error_after x p o (suc (length t)) t) (sym e)
 
 -- the rest of the text is shorter after a step
 pub step_length : (x : Bool) (t u r : Text) (c k : ℕ) → layout_reading (layout x t) ≡ gives tt u → u ≡ c ∷ r →

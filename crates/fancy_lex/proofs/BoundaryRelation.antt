@@ -3,26 +3,26 @@ use Rattle.std.proofs.Common.{◌≡◌, ◌≢◌, ℕ, zero, suc, ◌<◌, Boo
 use Rattle.std.proofs.Common.{Option, Some, None, refl, ap, ◌∙◌, subst, arith}
 use Rattle.std.proofs.lemmas.Bool.Decides.{nat_tests}
 use Rattle.std.specs.Borrow.{Bor}
-use Rattle.fancy_lex.specs.declared.error.Failure.{Failure}
+use Rattle.fancy_lex.specs.declared.error.ReadError.{ReadError}
 use Rattle.fancy_lex.specs.declared.escape.Assertion.{Assertion}
 use Rattle.fancy_lex.specs.declared.escape.Escaped.{Escaped}
 use Rattle.fancy_lex.specs.Boundary.{boundary_of_name, unnamed_boundary, at_count}
 use Rattle.fancy_lex.specs.BoundarySteps.{name, named_boundary, boundary}
-use Rattle.fancy_lex.specs.Boundary.{BracedName, close, character, open_layout, no_end, fault_behind, Braces, Boundary}
-use Rattle.fancy_lex.specs.Boundary.{no_brace, count, known, unknown, name_fault, comment_open_before}
+use Rattle.fancy_lex.specs.Boundary.{BracedName, close, character, open_layout, no_end, error_after, Braces, Boundary}
+use Rattle.fancy_lex.specs.Boundary.{no_brace, count, known, unknown, name_error, comment_open_before}
 use Rattle.fancy_lex.specs.Boundary.{comment_open_inside}
 use Rattle.fancy_lex.specs.Characters.{open_brace, close_brace}
 use Rattle.fancy_lex.specs.Escaped.{Escape, assertion}
 use Rattle.fancy_lex.specs.EscapeViews.{escape_of}
-use Rattle.fancy_lex.specs.Fault.{Fault}
-use Rattle.fancy_lex.specs.FaultTable.{comment_not_closed, name_of_no_boundary}
+use Rattle.fancy_lex.specs.Located.{Located}
+use Rattle.fancy_lex.specs.ErrorTable.{comment_not_closed, name_of_no_boundary}
 use Rattle.fancy_lex.specs.Layout.{Before}
-use Rattle.fancy_lex.specs.LayoutSteps.{Skipped, rest, fault, layout}
-use Rattle.fancy_lex.specs.Reading.{Reading, gives, fails, ◌>=>◌, Answers, Derives}
+use Rattle.fancy_lex.specs.LayoutSteps.{Skipped, rest, failed, layout}
+use Rattle.fancy_lex.specs.Reading.{Reading, gives, fails, ◌>=>◌, Returns, Derives}
 use Rattle.fancy_lex.specs.Text.{Text, strip}
 use Rattle.fancy_lex.proofs.BoundaryLaws.{name_open, name_unclosed, name_close, name_step}
 use Rattle.fancy_lex.proofs.LayoutLaws.{layout_sound, layout_complete, unclosed_sound, unclosed_complete, layout_length}
-use Rattle.fancy_lex.proofs.ReadingLemmas.{derives_answer, only_answer}
+use Rattle.fancy_lex.proofs.ReadingLemmas.{derives_returned, only_returned}
 use Rattle.fancy_lex.proofs.TextLemmas.{strip_is, strip_same}
 
 brace_is : (c : ℕ) → (c == close_brace) ≡ true → c ≡ close_brace
@@ -41,7 +41,7 @@ module _ (x : Bool) (p : ℕ) where
   named_more : (c : ℕ) (t u : Text) → c ≢ close_brace → Before x t (c ∷ u) → (o : Reading Text) → BracedName x p u o →
       BracedName x p t (o >=> (λ w v. gives (c ∷ w) v))
   named_more c t u d b (gives w v) h = character d b h
-  named_more c t u d b (fails e) h = fault_behind d b h
+  named_more c t u d b (fails e) h = error_after d b h
 
   module _ (k : ℕ) (more : (u : Text) → length u < k → BracedName x p u (name x p k u)) (t : Text)
       (few : length t < suc k) where
@@ -56,7 +56,7 @@ module _ (x : Bool) (p : ℕ) where
         (named_more c t u (no_brace_is c h) (layout_sound x t (c ∷ u) e) (name x p k u) (more u (omega arith)))
 
     named_at : (s : Skipped) → layout x t ≡ s → BracedName x p t (name x p (suc k) t)
-    named_at (fault q) e = rw (name_open x p k t q e) (open_layout (unclosed_sound x t q e))
+    named_at (failed q) e = rw (name_open x p k t q e) (open_layout (unclosed_sound x t q e))
     named_at (rest []) e = rw (name_unclosed x p k t e) (no_end (layout_sound x t [] e))
     named_at (rest (c ∷ u)) e = named_rest c u e (c == close_brace) refl
 
@@ -75,7 +75,7 @@ module _ (x : Bool) (p : ℕ) where
       ∙ ap (λ o. o >=> (λ w v. gives (c ∷ w) v)) (name_is k h (omega arith))
   name_is (suc k) {t} (open_layout {q} b) l = name_open x p k t q (unclosed_complete x t q b)
   name_is (suc k) {t} (no_end b) l = name_unclosed x p k t (layout_complete x t [] b)
-  name_is (suc k) {t} (fault_behind {c} {u} {e} d b h) l =
+  name_is (suc k) {t} (error_after {c} {u} {e} d b h) l =
       let i = layout_complete x t _ b in
       let short = layout_length x t (c ∷ u) i in
       name_step x p k t c u i (brace_is_not c d)
@@ -84,57 +84,57 @@ module _ (x : Bool) (p : ℕ) where
 -- ---- the boundary after its letter
 
 module _ (x : Bool) (p : ℕ) (negated : Bool) where
-  answer_open : (t : Text) (q : ℕ) → layout x t ≡ fault q → boundary x p negated t ≡ fails (comment_not_closed q)
+  result_open : (t : Text) (q : ℕ) → layout x t ≡ failed q → boundary x p negated t ≡ fails (comment_not_closed q)
   unfolding boundary
-  answer_open t q e = rw e refl
+  result_open t q e = rw e refl
 
-  answer_no_brace : (t u : Text) → layout x t ≡ rest u → strip open_brace u ≡ None →
+  result_no_brace : (t u : Text) → layout x t ≡ rest u → strip open_brace u ≡ None →
       boundary x p negated t ≡ gives (unnamed_boundary negated) t
   unfolding boundary
-  answer_no_brace t u e s = rw (e, s) refl
+  result_no_brace t u e s = rw (e, s) refl
 
-  answer_inside : (t u i : Text) (q : ℕ) → layout x t ≡ rest u → strip open_brace u ≡ Some i →
-      layout x i ≡ fault q →
+  result_inside : (t u i : Text) (q : ℕ) → layout x t ≡ rest u → strip open_brace u ≡ Some i →
+      layout x i ≡ failed q →
       boundary x p negated t ≡ fails (comment_not_closed q)
   unfolding boundary
-  answer_inside t u i q e s l = rw (e, s, l) refl
+  result_inside t u i q e s l = rw (e, s, l) refl
 
-  answer_count : (t u i v : Text) → layout x t ≡ rest u → strip open_brace u ≡ Some i → layout x i ≡ rest v →
+  result_count : (t u i v : Text) → layout x t ≡ rest u → strip open_brace u ≡ Some i → layout x i ≡ rest v →
       at_count v ≡ true → boundary x p negated t ≡ gives (unnamed_boundary negated) t
   unfolding boundary
-  answer_count t u i v e s l c = rw (e, s, l, c) refl
+  result_count t u i v e s l c = rw (e, s, l, c) refl
 
-  answer_named : (t u i v : Text) → layout x t ≡ rest u → strip open_brace u ≡ Some i → layout x i ≡ rest v →
+  result_named : (t u i v : Text) → layout x t ≡ rest u → strip open_brace u ≡ Some i → layout x i ≡ rest v →
       at_count v ≡ false → boundary x p negated t ≡ named_boundary x p negated i
   unfolding boundary
-  answer_named t u i v e s l c = rw (e, s, l, c) refl
+  result_named t u i v e s l c = rw (e, s, l, c) refl
 
-  answer_known : (i w v : Text) (a : Assertion) → name x p (suc (length i)) i ≡ gives w v →
+  result_known : (i w v : Text) (a : Assertion) → name x p (suc (length i)) i ≡ gives w v →
       boundary_of_name negated w ≡ Some a →
       named_boundary x p negated i ≡ gives (assertion a) v
   unfolding named_boundary
-  answer_known i w v a e b = rw (e, b) refl
+  result_known i w v a e b = rw (e, b) refl
 
-  answer_unknown : (i w v : Text) → name x p (suc (length i)) i ≡ gives w v → boundary_of_name negated w ≡ None →
+  result_unknown : (i w v : Text) → name x p (suc (length i)) i ≡ gives w v → boundary_of_name negated w ≡ None →
       named_boundary x p negated i ≡ fails (name_of_no_boundary p negated w)
   unfolding named_boundary
-  answer_unknown i w v e b = rw (e, b) refl
+  result_unknown i w v e b = rw (e, b) refl
 
-  answer_not_read : (i : Text) (f : Fault) → name x p (suc (length i)) i ≡ fails f →
+  result_not_read : (i : Text) (f : Located) → name x p (suc (length i)) i ≡ fails f →
       named_boundary x p negated i ≡ fails f
   unfolding named_boundary
-  answer_not_read i f e = rw e refl
+  result_not_read i f e = rw e refl
 
   -- the relation holds of the function's result
   by_name : (t i : Text) → Braces x t i false → (o : Reading Text) → name x p (suc (length i)) i ≡ o →
       BracedName x p i o →
       Boundary x p negated t (named_boundary x p negated i)
-  by_name t i b (fails f) e h = rw (answer_not_read i f e) (name_fault b h)
+  by_name t i b (fails f) e h = rw (result_not_read i f e) (name_error b h)
   by_name t i b (gives w v) e h = by_word (boundary_of_name negated w) refl where
     by_word : (a : Option Assertion) → boundary_of_name negated w ≡ a →
         Boundary x p negated t (named_boundary x p negated i)
-    by_word (Some a) s = rw (answer_known i w v a e s) (known b h s)
-    by_word None s = rw (answer_unknown i w v e s) (unknown b h s)
+    by_word (Some a) s = rw (result_known i w v a e s) (known b h s)
+    by_word None s = rw (result_unknown i w v e s) (unknown b h s)
 
   module _ (t u i : Text) (e : layout x t ≡ rest u) (s : strip open_brace u ≡ Some i) where
     braced : Before x t (open_brace ∷ i)
@@ -142,45 +142,45 @@ module _ (x : Bool) (p : ℕ) (negated : Bool) where
 
     by_count : (v : Text) → layout x i ≡ rest v → (c : Bool) → at_count v ≡ c →
         Boundary x p negated t (boundary x p negated t)
-    by_count v l true c = rw (answer_count t u i v e s l c) (count (braced, v, layout_sound x i v l, c))
+    by_count v l true c = rw (result_count t u i v e s l c) (count (braced, v, layout_sound x i v l, c))
     by_count v l false c =
         let h = by_name t i (braced, v, layout_sound x i v l, c) (name x p (suc (length i)) i) refl
         (named x p (suc (length i)) i (omega arith)) in
-        rw (answer_named t u i v e s l c) h
+        rw (result_named t u i v e s l c) h
 
     by_inside : (l : Skipped) → layout x i ≡ l → Boundary x p negated t (boundary x p negated t)
-    by_inside (fault q) l = rw (answer_inside t u i q e s l) (comment_open_inside braced (unclosed_sound x i q l))
+    by_inside (failed q) l = rw (result_inside t u i q e s l) (comment_open_inside braced (unclosed_sound x i q l))
     by_inside (rest v) l = by_count v l (at_count v) refl
 
   by_brace : (t u : Text) → layout x t ≡ rest u → (o : Option Text) → strip open_brace u ≡ o →
       Boundary x p negated t (boundary x p negated t)
-  by_brace t u e None s = rw (answer_no_brace t u e s) (no_brace (layout_sound x t u e) s)
+  by_brace t u e None s = rw (result_no_brace t u e s) (no_brace (layout_sound x t u e) s)
   by_brace t u e (Some i) s = by_inside t u i e s (layout x i) refl
 
   by_layout : (t : Text) (l : Skipped) → layout x t ≡ l → Boundary x p negated t (boundary x p negated t)
-  by_layout t (fault q) e = rw (answer_open t q e) (comment_open_before (unclosed_sound x t q e))
+  by_layout t (failed q) e = rw (result_open t q e) (comment_open_before (unclosed_sound x t q e))
   by_layout t (rest u) e = by_brace t u e (strip open_brace u) refl
 
   -- each result in the relation is the function's
-  name_answer : {i : Text} {o : Reading Text} → BracedName x p i o → name x p (suc (length i)) i ≡ o
-  name_answer {i} h = name_is x p (suc (length i)) h (omega arith)
+  name_result : {i : Text} {o : Reading Text} → BracedName x p i o → name x p (suc (length i)) i ≡ o
+  name_result {i} h = name_is x p (suc (length i)) h (omega arith)
 
   is_named : (t i : Text) → Braces x t i false → boundary x p negated t ≡ named_boundary x p negated i
   is_named t i (b, v, l, c) =
-      answer_named t (open_brace ∷ i) i v (layout_complete x t _ b) (strip_same open_brace i)
+      result_named t (open_brace ∷ i) i v (layout_complete x t _ b) (strip_same open_brace i)
       (layout_complete x i v l) c
 
   pub boundary_is : {t : Text} {o : Reading Escape} → Boundary x p negated t o → boundary x p negated t ≡ o
-  boundary_is {t} (no_brace {u} b s) = answer_no_brace t u (layout_complete x t u b) s
+  boundary_is {t} (no_brace {u} b s) = result_no_brace t u (layout_complete x t u b) s
   boundary_is {t} (count {u} (b, v, l, c)) =
-      answer_count t (open_brace ∷ u) u v (layout_complete x t _ b) (strip_same open_brace u)
+      result_count t (open_brace ∷ u) u v (layout_complete x t _ b) (strip_same open_brace u)
       (layout_complete x u v l) c
-  boundary_is {t} (known {u} {v} {w} {a} b h s) = is_named t u b ∙ answer_known u w v a (name_answer h) s
-  boundary_is {t} (unknown {u} {v} {w} b h s) = is_named t u b ∙ answer_unknown u w v (name_answer h) s
-  boundary_is {t} (name_fault {u} {e} b h) = is_named t u b ∙ answer_not_read u e (name_answer h)
-  boundary_is {t} (comment_open_before {q} b) = answer_open t q (unclosed_complete x t q b)
+  boundary_is {t} (known {u} {v} {w} {a} b h s) = is_named t u b ∙ result_known u w v a (name_result h) s
+  boundary_is {t} (unknown {u} {v} {w} b h s) = is_named t u b ∙ result_unknown u w v (name_result h) s
+  boundary_is {t} (name_error {u} {e} b h) = is_named t u b ∙ result_not_read u e (name_result h)
+  boundary_is {t} (comment_open_before {q} b) = result_open t q (unclosed_complete x t q b)
   boundary_is {t} (comment_open_inside {q} {u} b l) =
-      answer_inside t (open_brace ∷ u) u q (layout_complete x t _ b) (strip_same open_brace u)
+      result_inside t (open_brace ∷ u) u q (layout_complete x t _ b) (strip_same open_brace u)
       (unclosed_complete x u q l)
 
 pub boundary_reads : (x : Bool) (p : ℕ) (negated : Bool) (t : Text) →
@@ -189,11 +189,11 @@ boundary_reads x p negated t = by_layout x p negated t (layout x t) refl
 
 -- ---- the clauses of the reader
 
-module _ (x : Bool) (p : ℕ) (negated : Bool) (t : Text) (r : Result (Escaped × Bor (List ℕ)) Failure)
-    (g : Answers escape_of r (boundary x p negated t)) where
+module _ (x : Bool) (p : ℕ) (negated : Bool) (t : Text) (r : Result (Escaped × Bor (List ℕ)) ReadError)
+    (g : Returns escape_of r (boundary x p negated t)) where
   pub boundary_derives : Derives escape_of r (Boundary x p negated t)
-  boundary_derives = derives_answer escape_of r (Boundary x p negated t) (boundary x p negated t)
+  boundary_derives = derives_returned escape_of r (Boundary x p negated t) (boundary x p negated t)
       (boundary_reads x p negated t) g
 
-  pub boundary_only : (o : Reading Escape) → Boundary x p negated t o → Answers escape_of r o
-  boundary_only o h = only_answer escape_of r (boundary x p negated t) o (boundary_is x p negated h) g
+  pub boundary_only : (o : Reading Escape) → Boundary x p negated t o → Returns escape_of r o
+  boundary_only o h = only_returned escape_of r (boundary x p negated t) o (boundary_is x p negated h) g

@@ -8,19 +8,19 @@ use Rattle.std.proofs.lemmas.Str.{len_utf8_bounds}
 use Rattle.std.specs.Borrow.{Bor}
 use Rattle.std.specs.declared.alloc.Global.{Global}
 use Rattle.fancy_lex.specs.Characters.{backslash, open_bracket, close_bracket, caret}
-use Rattle.fancy_lex.specs.Class.{class_head, with_mark, class_from, class, escape_in_class, is_negated}
+use Rattle.fancy_lex.specs.Class.{class_start, with_symbol, class_from, class, escape_in_class, is_negated}
 use Rattle.fancy_lex.specs.Class.{is_plain_in_class, Written}
-use Rattle.fancy_lex.specs.Class.{written, fault, Class, class_items, class_items_fault, ClassItems, close, plain}
+use Rattle.fancy_lex.specs.Class.{written, failed, Class, class_items, class_items_error, ClassItems, close, plain}
 use Rattle.fancy_lex.specs.Class.{escaped, nested}
-use Rattle.fancy_lex.specs.Class.{end, plain_fault, escape_fault, escaped_fault, class_fault, nested_fault}
+use Rattle.fancy_lex.specs.Class.{end, plain_error, escape_error, escaped_error, class_error, nested_error}
 use Rattle.fancy_lex.specs.Class.{OuterClass}
 use Rattle.fancy_lex.specs.Escape.{escape}
 use Rattle.fancy_lex.specs.Escaped.{Escape}
-use Rattle.fancy_lex.specs.Fault.{Fault}
-use Rattle.fancy_lex.specs.FaultTable.{class_not_closed}
+use Rattle.fancy_lex.specs.Located.{Located}
+use Rattle.fancy_lex.specs.ErrorTable.{class_not_closed}
 use Rattle.fancy_lex.specs.Reading.{Reading, gives, fails, choose, IsReadingOrNoMemory, Derives}
 use Rattle.fancy_lex.specs.Text.{Text, bytes, strip, text_of}
-use Rattle.fancy_lex.specs.declared.error.Failure.{Failure}
+use Rattle.fancy_lex.specs.declared.error.ReadError.{ReadError}
 use Rattle.fancy_lex.specs.declared.flags.Flags.{Flags}
 use Rattle.fancy_lex.proofs.ClassLemmas.{items_end, items_plain, items_open, items_escape, pred_lt}
 use Rattle.fancy_lex.proofs.EscapeFrame.{escape_frame}
@@ -38,36 +38,36 @@ strip_bytes m [] u e = cc
 strip_bytes m (c ∷ t) u e = let same : t ≡ u = grind (arith, nat_tests) in
     subst (λ s. bytes s < bytes (c ∷ t)) same (bytes_cons c t)
 
-abbrev behind : Text → Text × Text → Text × Text
-behind out p = (out ++ p.0, p.1)
+abbrev prepend : Text → Text × Text → Text × Text
+prepend out p = (out ++ p.0, p.1)
 
-mark_behind : (m : ℕ) (out : Text) (p : Text × Text) →
-    ◌≡◌ {A = Text × Text} (with_mark m (behind out p)) (behind out (with_mark m p))
-mark_behind m out p = by_strip (strip m p.1) where
+metacharacter_prepended : (m : ℕ) (out : Text) (p : Text × Text) →
+    ◌≡◌ {A = Text × Text} (with_symbol m (prepend out p)) (prepend out (with_symbol m p))
+metacharacter_prepended m out p = by_strip (strip m p.1) where
   by_strip : (o : Option Text) → ◌≡◌ {A = Text × Text}
-      (choose {B = Text × Text} o (λ u. ((out ++ p.0) ++ m ∷ [], u)) (behind out p))
-      (behind out (choose {B = Text × Text} o (λ u. (p.0 ++ m ∷ [], u)) p))
+      (choose {B = Text × Text} o (λ u. ((out ++ p.0) ++ m ∷ [], u)) (prepend out p))
+      (prepend out (choose {B = Text × Text} o (λ u. (p.0 ++ m ∷ [], u)) p))
   by_strip None = refl
   by_strip (Some u) = ap (λ (a : Text). let z : Text × Text = (a, u) in z) (append_assoc out p.0 (m ∷ []))
 
-mark_bytes : (m : ℕ) (p : Text × Text) → bytes (with_mark m p).1 ≤ bytes p.1
-mark_bytes m p = by_strip (strip m p.1) refl where
+symbol_bytes : (m : ℕ) (p : Text × Text) → bytes (with_symbol m p).1 ≤ bytes p.1
+symbol_bytes m p = by_strip (strip m p.1) refl where
   by_strip : (o : Option Text) → strip m p.1 ≡ o →
       bytes (choose {B = Text × Text} o (λ u. (p.0 ++ m ∷ [], u)) p).1 ≤ bytes p.1
   by_strip None e = omega arith
   by_strip (Some u) e = omega (arith, strip_bytes m p.1 u e)
 
-class_head_behind : (out t : Text) → ◌≡◌ {A = Text × Text} (class_head out t) (behind out (class_head [] t))
-unfolding class_head
-class_head_behind out t =
+class_start_after : (out t : Text) → ◌≡◌ {A = Text × Text} (class_start out t) (prepend out (class_start [] t))
+unfolding class_start
+class_start_after out t =
     let start : Text × Text = (open_bracket ∷ [], t) in
-    ap (with_mark close_bracket) (mark_behind caret out start) ∙ mark_behind close_bracket out (with_mark caret start)
+    ap (with_symbol close_bracket) (metacharacter_prepended caret out start) ∙ metacharacter_prepended close_bracket out (with_symbol caret start)
 
-class_head_bytes : (t : Text) → bytes (class_head [] t).1 ≤ bytes t
-unfolding class_head
-class_head_bytes t =
+class_start_bytes : (t : Text) → bytes (class_start [] t).1 ≤ bytes t
+unfolding class_start
+class_start_bytes t =
     let start : Text × Text = (open_bracket ∷ [], t) in
-    omega (arith, mark_bytes close_bracket (with_mark caret start), mark_bytes caret start)
+    omega (arith, symbol_bytes close_bracket (with_symbol caret start), symbol_bytes caret start)
 
 -- Each result in the relation is the function's: by induction on the derivation.
 
@@ -91,10 +91,10 @@ module _ (f : Flags) where
 abbrev Runs : Flags → Reading Text → Text → ℕ → Text → Written → Type 0
 Runs f here t depth out (written w a v) =
     (j : ℕ) × (bytes v < j) × (bytes v < bytes t) × (here ≡ ended f j depth a (out ++ w) v)
-Runs f here t depth out (fault e) = here ≡ fails e
+Runs f here t depth out (failed e) = here ≡ fails e
 
 abbrev at_class : Flags → ℕ → ℕ → Bool → Text → Text → Reading Text
-at_class f k depth b out t = class_from f k depth b (class_head out t).0 (class_head out t).1
+at_class f k depth b out t = class_from f k depth b (class_start out t).0 (class_start out t).1
 
 -- one step, for which x is written, and the result of the rest
 after : (f : Flags) (here there : Reading Text) (t s : Text) (depth : ℕ) (out x : Text) → here ≡ there →
@@ -106,17 +106,17 @@ after f here there t s depth out x e l w a v (j, m, less, q) =
 not_special : (c : ℕ) → is_plain_in_class c ≡ true → (c ≢ backslash) × (c ≢ open_bracket) × (c ≢ close_bracket)
 not_special c p = (grind (arith, nat_tests), grind (arith, nat_tests), grind (arith, nat_tests))
 
-items_fails : (f : Flags) (k depth : ℕ) (b : Bool) (out t : Text) (e : Fault) →
+items_fails : (f : Flags) (k depth : ℕ) (b : Bool) (out t : Text) (e : Located) →
     escape f true t ≡ fails e → 0 < k → class_from f k depth b out (backslash ∷ t) ≡ fails e
 unfolding class_from
 items_fails f zero depth b out t e q m = absurd (omega arith)
 items_fails f (suc k) depth b out t e q m = rw q refl
 
 module _ (f : Flags) (k depth : ℕ) (b : Bool) (out t : Text) where
-  at_head : (head u : Text) → ◌≡◌ {A = Text × Text} (class_head [] t) (head, u) →
-      at_class f k depth b out t ≡ class_from f k depth b (out ++ head) u
-  at_head head u e = ap (λ (p : Text × Text). class_from f k depth b p.0 p.1)
-      (class_head_behind out t ∙ ap (behind out) e)
+  at_opening : (opening u : Text) → ◌≡◌ {A = Text × Text} (class_start [] t) (opening, u) →
+      at_class f k depth b out t ≡ class_from f k depth b (out ++ opening) u
+  at_opening opening u e = ap (λ (p : Text × Text). class_from f k depth b p.0 p.1)
+      (class_start_after out t ∙ ap (prepend out) e)
 
   plain_item : (c : ℕ) → is_plain_in_class c ≡ true → 0 < k →
       class_from f k depth b out (c ∷ t) ≡ class_from f (pred k) depth b (out ++ c ∷ []) t
@@ -126,8 +126,8 @@ module _ (f : Flags) (k depth : ℕ) (b : Bool) (out t : Text) where
   step_left : (c : ℕ) → bytes (c ∷ t) < k → bytes t < pred k
   step_left c l = pred_lt (bytes t) (bytes (c ∷ t)) k (bytes_cons c t) l
 
-head_bytes : (t head u : Text) → ◌≡◌ {A = Text × Text} (class_head [] t) (head, u) → bytes u ≤ bytes t
-head_bytes t head u e = subst (λ (p : Text × Text). bytes p.1 ≤ bytes t) e (class_head_bytes t)
+opening_bytes : (t opening u : Text) → ◌≡◌ {A = Text × Text} (class_start [] t) (opening, u) → bytes u ≤ bytes t
+opening_bytes t opening u e = subst (λ (p : Text × Text). bytes p.1 ≤ bytes t) e (class_start_bytes t)
 
 positive : (a k : ℕ) → a < k → 0 < k
 positive a k l = omega arith
@@ -135,12 +135,12 @@ positive a k l = omega arith
 mutual
   run_class : {f : Flags} {b : Bool} {t : Text} {o : Written} → Class f b t o → (k depth : ℕ) (out : Text) →
       bytes t < k → Runs f (at_class f k depth b out t) t depth out o
-  run_class {f} {b} {t} (class_items {a} {u} {v} {head} {w} e h) k depth out l =
-      let less = head_bytes t head u e in
-      after f _ _ t u depth out head (at_head f k depth b out t head u e) less w a v
-      (run_items h k depth (out ++ head) (omega (arith, less, l)))
-  run_class {f} {b} {t} (class_items_fault {u} {head} e h) k depth out l =
-      at_head f k depth b out t head u e ∙ run_items h k depth (out ++ head) (omega (arith, head_bytes t head u e, l))
+  run_class {f} {b} {t} (class_items {a} {u} {v} {opening} {w} e h) k depth out l =
+      let less = opening_bytes t opening u e in
+      after f _ _ t u depth out opening (at_opening f k depth b out t opening u e) less w a v
+      (run_items h k depth (out ++ opening) (omega (arith, less, l)))
+  run_class {f} {b} {t} (class_items_error {u} {opening} e h) k depth out l =
+      at_opening f k depth b out t opening u e ∙ run_items h k depth (out ++ opening) (omega (arith, opening_bytes t opening u e, l))
 
   run_items : {f : Flags} {b : Bool} {t : Text} {o : Written} → ClassItems f b t o →
       (k depth : ℕ) (out : Text) → bytes t < k → Runs f (class_from f k depth b out t) t depth out o
@@ -168,31 +168,31 @@ mutual
       ∙ ended_inside f j depth m (out ++ x) u)
       (omega (arith, less, bytes_cons open_bracket t)) w a v (run_items h j depth (out ++ x) more)
   run_items {f} {b} end k depth out l = items_end f k depth b out [] refl
-  run_items {f} {b} (plain_fault {c} {t} {e} p h) k depth out l =
+  run_items {f} {b} (plain_error {c} {t} {e} p h) k depth out l =
       plain_item f k depth b out t c p (positive _ k l)
       ∙ run_items h (pred k) depth (out ++ c ∷ []) (step_left f k depth b out t c l)
-  run_items {f} {b} (escape_fault {t} {e} q) k depth out l = items_fails f k depth b out t e q (positive _ k l)
-  run_items {f} {b} (escaped_fault {t} {u} {x} {e} q h) k depth out l =
+  run_items {f} {b} (escape_error {t} {e} q) k depth out l = items_fails f k depth b out t e q (positive _ k l)
+  run_items {f} {b} (escaped_error {t} {u} {x} {e} q h) k depth out l =
       items_escape f depth b out (backslash ∷ t) backslash t refl k x u (positive _ k l) refl q
       ∙ run_items h (pred k) depth (out ++ escape_in_class b x)
       (omega (arith, escape_within f true t u x q, step_left f k depth b out t backslash l))
-  run_items {f} {b} (class_fault {t} {e} h) k depth out l =
+  run_items {f} {b} (class_error {t} {e} h) k depth out l =
       items_open f depth b out (open_bracket ∷ t) open_bracket t refl k (positive _ k l) refl
       ∙ run_class h (pred k) (depth + 1) out (step_left f k depth b out t open_bracket l)
-  run_items {f} {b} (nested_fault {m} {t} {u} {x} {e} g h) k depth out l =
+  run_items {f} {b} (nested_error {m} {t} {u} {x} {e} g h) k depth out l =
       let (j, more, less, q) = run_class g (pred k) (depth + 1) out (step_left f k depth b out t open_bracket l) in
       items_open f depth b out (open_bracket ∷ t) open_bracket t refl k (positive _ k l) refl ∙ q
       ∙ ended_inside f j depth m (out ++ x) u ∙ run_items h j depth (out ++ x) more
 
 -- the function's result for a result of the relation
-abbrev answer : Written → Reading Text
-answer (written w a v) = gives w v
-answer (fault e) = fails e
+abbrev reading_of : Written → Reading Text
+reading_of (written w a v) = gives w v
+reading_of (failed e) = fails e
 
-pub class_complete : (f : Flags) (t : Text) (o : Written) → Class f false t o → class f t ≡ answer o
+pub class_complete : (f : Flags) (t : Text) (o : Written) → Class f false t o → class f t ≡ reading_of o
 unfolding class
 class_complete f t (written w a v) h = let (j, m, less, q) = run_class h (suc (bytes t)) 0 [] (omega arith) in q
-class_complete f t (fault e) h = run_class h (suc (bytes t)) 0 [] (omega arith)
+class_complete f t (failed e) h = run_class h (suc (bytes t)) 0 [] (omega arith)
 
 pub class_is : (f : Flags) (t : Text) (o : Reading Text) → OuterClass f t o → class f t ≡ o
 class_is f t (gives out v) (a, h) = class_complete f t _ h
@@ -202,7 +202,7 @@ class_is f t (fails e) h = class_complete f t _ h
 
 abbrev Less : Text → Written → Type 0
 Less t (written w a v) = bytes v < bytes t
-Less t (fault e) = Unit {0}
+Less t (failed e) = Unit {0}
 
 abbrev ReadsClass : Flags → Bool → Text → Type 0
 ReadsClass f b t = (o : Written) × ClassItems f b t o × Less t o
@@ -210,16 +210,16 @@ ReadsClass f b t = (o : Written) × ClassItems f b t o × Less t o
 abbrev ReadsShort : Flags → ℕ → Type 0
 ReadsShort f k = (b : Bool) (t : Text) → bytes t < k → ReadsClass f b t
 
-class_within : (f : Flags) (b : Bool) (t head u : Text) → ◌≡◌ {A = Text × Text} (class_head [] t) (head, u) →
+class_within : (f : Flags) (b : Bool) (t opening u : Text) → ◌≡◌ {A = Text × Text} (class_start [] t) (opening, u) →
     ReadsClass f b u → (o : Written) × Class f b t o × Less t o
-class_within f b t head u e (written w a v, h, less) =
-    (written (head ++ w) a v, class_items e h, omega (arith, less, head_bytes t head u e))
-class_within f b t head u e (fault x, h, less) = (fault x, class_items_fault e h, tt)
+class_within f b t opening u e (written w a v, h, less) =
+    (written (opening ++ w) a v, class_items e h, omega (arith, less, opening_bytes t opening u e))
+class_within f b t opening u e (failed x, h, less) = (failed x, class_items_error e h, tt)
 
 module _ (f : Flags) (k : ℕ) (reads : ReadsShort f k) (b : Bool) (t : Text) (l : bytes t < k) where
   plain_reads : (c : ℕ) → is_plain_in_class c ≡ true → ReadsClass f b t → ReadsClass f b (c ∷ t)
   plain_reads c p (written w a v, h, less) = (written (c ∷ w) a v, plain p h, omega (arith, less, bytes_cons c t))
-  plain_reads c p (fault e, h, less) = (fault e, plain_fault p h, tt)
+  plain_reads c p (failed e, h, less) = (failed e, plain_error p h, tt)
 
   escaped_reads : (e : Escape) (u : Text) → escape f true t ≡ gives e u →
       ReadsClass f (b || is_negated e) u → ReadsClass f b (backslash ∷ t)
@@ -228,28 +228,28 @@ module _ (f : Flags) (k : ℕ) (reads : ReadsShort f k) (b : Bool) (t : Text) (l
     escaped q h,
     omega (arith, less, escape_within f true t u e q, bytes_cons backslash t),
   )
-  escaped_reads e u q (fault x, h, less) = (fault x, escaped_fault q h, tt)
+  escaped_reads e u q (failed x, h, less) = (failed x, escaped_error q h, tt)
 
   escape_reads : (r : Reading Escape) → escape f true t ≡ r → ReadsClass f b (backslash ∷ t)
   escape_reads (gives e u) q = escaped_reads e u q
       (reads (b || is_negated e) u (omega (arith, escape_within f true t u e q, l)))
-  escape_reads (fails e) q = (fault e, escape_fault q, tt)
+  escape_reads (fails e) q = (failed e, escape_error q, tt)
 
-  behind_class : (x : Text) (m : Bool) (u : Text) → Class f b t (written x m u) → bytes u < bytes t →
+  after_class : (x : Text) (m : Bool) (u : Text) → Class f b t (written x m u) → bytes u < bytes t →
       ReadsClass f m u →
       ReadsClass f b (open_bracket ∷ t)
-  behind_class x m u g shorter (written w a v, h, less) =
+  after_class x m u g shorter (written w a v, h, less) =
       (written (x ++ w) a v, nested g h, omega (arith, less, shorter, bytes_cons open_bracket t))
-  behind_class x m u g shorter (fault e, h, less) = (fault e, nested_fault g h, tt)
+  after_class x m u g shorter (failed e, h, less) = (failed e, nested_error g h, tt)
 
   class_item : (o : Written) × Class f b t o × Less t o → ReadsClass f b (open_bracket ∷ t)
-  class_item (written x m u, g, less) = behind_class x m u g less (reads m u (omega (arith, less, l)))
-  class_item (fault e, g, less) = (fault e, class_fault g, tt)
+  class_item (written x m u, g, less) = after_class x m u g less (reads m u (omega (arith, less, l)))
+  class_item (failed e, g, less) = (failed e, class_error g, tt)
 
   nested_reads : ReadsClass f b (open_bracket ∷ t)
   nested_reads =
-      let p = class_head [] t in
-      class_item (class_within f b t p.0 p.1 refl (reads b p.1 (omega (arith, class_head_bytes t, l))))
+      let p = class_start [] t in
+      class_item (class_within f b t p.0 p.1 refl (reads b p.1 (omega (arith, class_start_bytes t, l))))
 
   one_more : (c : ℕ) → ReadsClass f b (c ∷ t)
   one_more c = by_backslash (cases_eq c backslash) where
@@ -271,16 +271,16 @@ module _ (f : Flags) (k : ℕ) (reads : ReadsShort f k) (b : Bool) (t : Text) (l
 
 items_read : (f : Flags) (k : ℕ) → ReadsShort f k
 items_read f zero b t l = absurd (omega arith)
-items_read f (suc k) b [] l = (fault class_not_closed, end, tt)
+items_read f (suc k) b [] l = (failed class_not_closed, end, tt)
 items_read f (suc k) b (c ∷ t) l = one_more f k (items_read f k) b t (omega (arith, l, bytes_cons c t)) c
 
-outer : (f : Flags) (t : Text) (o : Written) → Class f false t o → OuterClass f t (answer o)
+outer : (f : Flags) (t : Text) (o : Written) → Class f false t o → OuterClass f t (reading_of o)
 outer f t (written w a v) h = (a, h)
-outer f t (fault e) h = h
+outer f t (failed e) h = h
 
 pub class_reads : (f : Flags) (t : Text) → OuterClass f t (class f t)
 class_reads f t =
-    let p = class_head [] t in
+    let p = class_start [] t in
     let (o, h, less) = class_within f false t p.0 p.1 refl
     (items_read f (suc (bytes p.1)) false p.1 (omega arith)) in
     subst (OuterClass f t) (sym (class_complete f t o h)) (outer f t o h)
@@ -298,36 +298,36 @@ items_some (nested {t} g h) = (open_bracket, t, refl)
 abbrev pub before : Text → Text × Text → Text × Text
 before s p = (p.0, p.1 ++ s)
 
-mark_some : (m : ℕ) (out t : Text) (c : ℕ) (u : Text) → (with_mark m (out, t)).1 ≡ c ∷ u →
+symbol_some : (m : ℕ) (out t : Text) (c : ℕ) (u : Text) → (with_symbol m (out, t)).1 ≡ c ∷ u →
     (d : ℕ) × (r : Text) × (t ≡ d ∷ r)
-mark_some m out [] c u e = absurd cc
-mark_some m out (d ∷ r) c u e = (d, r, refl)
+symbol_some m out [] c u e = absurd cc
+symbol_some m out (d ∷ r) c u e = (d, r, refl)
 
-mark_frame : (m : ℕ) (out t s : Text) (d : ℕ) (r : Text) → t ≡ d ∷ r →
-    ◌≡◌ {A = Text × Text} (with_mark m (out, t ++ s)) (before s (with_mark m (out, t)))
-mark_frame m out t s d r e = rw e (by_test (d == m)) where
+symbol_frame : (m : ℕ) (out t s : Text) (d : ℕ) (r : Text) → t ≡ d ∷ r →
+    ◌≡◌ {A = Text × Text} (with_symbol m (out, t ++ s)) (before s (with_symbol m (out, t)))
+symbol_frame m out t s d r e = rw e (by_test (d == m)) where
   by_test : (x : Bool) → ◌≡◌ {A = Text × Text}
       (choose {B = Text × Text} (if x then Some (r ++ s) else None) (λ u. (out ++ m ∷ [], u)) (out, d ∷ (r ++ s)))
       (before s (choose {B = Text × Text} (if x then Some r else None) (λ u. (out ++ m ∷ [], u)) (out, d ∷ r)))
   by_test true = refl
   by_test false = refl
 
-pub class_head_frame : (out t s : Text) (c : ℕ) (u : Text) → (class_head out t).1 ≡ c ∷ u →
-    ◌≡◌ {A = Text × Text} (class_head out (t ++ s)) (before s (class_head out t))
-unfolding class_head
-class_head_frame out t s c u e =
-    let p = with_mark caret (out ++ open_bracket ∷ [], t) in
-    let (d, r, q) = mark_some close_bracket p.0 p.1 c u e in
-    let (d', r', q') = mark_some caret (out ++ open_bracket ∷ []) t d r q in
-    ap (with_mark close_bracket) (mark_frame caret (out ++ open_bracket ∷ []) t s d' r' q')
-    ∙ mark_frame close_bracket p.0 p.1 s d r q
+pub class_start_frame : (out t s : Text) (c : ℕ) (u : Text) → (class_start out t).1 ≡ c ∷ u →
+    ◌≡◌ {A = Text × Text} (class_start out (t ++ s)) (before s (class_start out t))
+unfolding class_start
+class_start_frame out t s c u e =
+    let p = with_symbol caret (out ++ open_bracket ∷ [], t) in
+    let (d, r, q) = symbol_some close_bracket p.0 p.1 c u e in
+    let (d', r', q') = symbol_some caret (out ++ open_bracket ∷ []) t d r q in
+    ap (with_symbol close_bracket) (symbol_frame caret (out ++ open_bracket ∷ []) t s d' r' q')
+    ∙ symbol_frame close_bracket p.0 p.1 s d r q
 
 mutual
   pub class_frame : {f : Flags} {b a : Bool} {t w v : Text} → Class f b t (written w a v) → (s : Text) →
       Class f b (t ++ s) (written w a (v ++ s))
   class_frame {t} (class_items e h) s =
       let (c, u, q) = items_some h in
-      class_items (class_head_frame [] t s c u (ap (λ (p : Text × Text). p.1) e ∙ q) ∙ ap (before s) e)
+      class_items (class_start_frame [] t s c u (ap (λ (p : Text × Text). p.1) e ∙ q) ∙ ap (before s) e)
       (items_frame h s)
 
   items_frame : {f : Flags} {b a : Bool} {t w v : Text} → ClassItems f b t (written w a v) →
@@ -339,7 +339,7 @@ mutual
 
 -- The clauses of the reader.
 
-module _ (f : Flags) (t : Text) (r : Result (String Global × Bor (List ℕ)) Failure)
+module _ (f : Flags) (t : Text) (r : Result (String Global × Bor (List ℕ)) ReadError)
     (g : IsReadingOrNoMemory text_of r (class f t)) where
   pub class_derives : Derives text_of r (OuterClass f t)
   class_derives = derives_given text_of r (OuterClass f t) (class f t) (class_reads f t) g
@@ -347,7 +347,7 @@ module _ (f : Flags) (t : Text) (r : Result (String Global × Bor (List ℕ)) Fa
   pub class_only : (o : Reading Text) → OuterClass f t o → IsReadingOrNoMemory text_of r o
   class_only o h = subst (IsReadingOrNoMemory text_of r) (class_is f t o h) g
 
-pub class_follows : (f : Flags) (t s : Text) (r : Result (String Global × Bor (List ℕ)) Failure) →
+pub class_follows : (f : Flags) (t s : Text) (r : Result (String Global × Bor (List ℕ)) ReadError) →
     IsReadingOrNoMemory text_of r (class f t) →
     IfOk r (λ p. class f (t ++ s) ≡ gives (text_of p.0) (chars p.1.now ++ s))
 class_follows f t s (Ok p) g =

@@ -3,14 +3,14 @@ use Rattle.std.proofs.Common.{◌≡◌, ◌≢◌, ℕ, zero, suc, pred, ◌+�
 use Rattle.std.proofs.Common.{refl, ap, sym, ◌∙◌, arith}
 use Rattle.std.proofs.lemmas.Bool.Decides.{nat_tests}
 use Rattle.fancy_lex.specs.Characters.{backslash, open_bracket, close_bracket}
-use Rattle.fancy_lex.specs.Class.{class_head, class_from, class, escape_in_class, is_negated}
+use Rattle.fancy_lex.specs.Class.{class_start, class_from, class, escape_in_class, is_negated}
 use Rattle.fancy_lex.specs.Escape.{escape}
 use Rattle.fancy_lex.specs.Escaped.{Escape}
-use Rattle.fancy_lex.specs.Fault.{invalid_class}
+use Rattle.fancy_lex.specs.Located.{invalid_class}
 use Rattle.fancy_lex.specs.ErrorViews.{IfFailed}
-use Rattle.fancy_lex.specs.Reading.{gives, fault_at, Reports}
+use Rattle.fancy_lex.specs.Reading.{gives, error_at, Reports}
 use Rattle.fancy_lex.specs.Text.{Text, bytes, at_end}
-use Rattle.fancy_lex.specs.declared.error.Failure.{Failure}
+use Rattle.fancy_lex.specs.declared.error.ReadError.{ReadError}
 use Rattle.fancy_lex.specs.declared.flags.Flags.{Flags}
 use Rattle.fancy_lex.proofs.ReadingLemmas.{reports_first, report_fails}
 
@@ -20,7 +20,7 @@ pred_lt a b (suc k) l m = omega arith
 
 module _ (f : Flags) where
   pub items_end : (k depth : ℕ) (seen : Bool) (out t : Text) → t ≡ [] →
-      class_from f k depth seen out t ≡ fault_at at_end invalid_class
+      class_from f k depth seen out t ≡ error_at at_end invalid_class
   unfolding class_from
   items_end zero depth seen out t e = refl
   items_end (suc k) depth seen out t e = rw e refl
@@ -33,8 +33,8 @@ module _ (f : Flags) where
     items_plain (suc k) m g h i = rw (e, class_from) (grind (arith, nat_tests))
 
     pub items_open : (k : ℕ) → 0 < k → c ≡ open_bracket →
-        class_from f k depth seen out t ≡ class_from f (pred k) (depth + 1) seen (class_head out r).0
-        (class_head out r).1
+        class_from f k depth seen out t ≡ class_from f (pred k) (depth + 1) seen (class_start out r).0
+        (class_start out r).1
     unfolding class_from
     items_open zero m g = absurd (omega arith)
     items_open (suc k) m g = rw (e, class_from, g) refl
@@ -60,22 +60,22 @@ module _ (f : Flags) where
     items_escape zero v u m g q = absurd (omega arith)
     items_escape (suc k) v u m g q = rw (e, g, class_from, q) refl
 
-    pub items_fault : (k : ℕ) (b : Failure) → 0 < k → c ≡ backslash → Reports b (escape f true r) →
-        IfFailed b (λ d p. class_from f k depth seen out t ≡ fault_at p d)
+    pub items_error : (k : ℕ) (b : ReadError) → 0 < k → c ≡ backslash → Reports b (escape f true r) →
+        IfFailed b (λ d p. class_from f k depth seen out t ≡ error_at p d)
     unfolding class_from
-    items_fault zero b m g q = absurd (omega arith)
-    items_fault (suc k) b m g q = rw (e, g, class_from) (report_fails b _ (reports_first _ _ b q))
+    items_error zero b m g q = absurd (omega arith)
+    items_error (suc k) b m g q = rw (e, g, class_from) (report_fails b _ (reports_first _ _ b q))
 
-  pub class_init : (t o out rest : Text) → o ≡ [] → ◌≡◌ {A = Text × Text} (class_head o t) (out, rest) →
+  pub class_init : (t o out rest : Text) → o ≡ [] → ◌≡◌ {A = Text × Text} (class_start o t) (out, rest) →
       class f t ≡ class_from f (suc (bytes t)) 0 false out rest
   unfolding class
   class_init t o out rest z e = ap (λ (p : Text × Text). class_from f (suc (bytes t)) 0 false p.0 p.1)
-      (ap (λ u. class_head u t) (sym z) ∙ e)
+      (ap (λ u. class_start u t) (sym z) ∙ e)
 
 -- the same for the parts that the code has
 module _ (f : Flags) (depth : ℕ) (seen : Bool) (out t : Text) (c : ℕ) (r : Text) (e : t ≡ c ∷ r) (k : ℕ)
     (some : 0 < k) where
-  pub open_step : (o u : Text) → c ≡ open_bracket → ◌≡◌ {A = Text × Text} (class_head out r) (o, u) →
+  pub open_step : (o u : Text) → c ≡ open_bracket → ◌≡◌ {A = Text × Text} (class_start out r) (o, u) →
       class_from f k depth seen out t ≡ class_from f (pred k) (depth + 1) seen o u
   open_step o u g q =
       items_open f depth seen out t c r e k some g

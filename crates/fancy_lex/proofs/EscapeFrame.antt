@@ -10,16 +10,16 @@ use Rattle.fancy_lex.specs.Characters.{◌∈◌}
 use Rattle.fancy_lex.specs.Escape.{escape, escape_at, number_escape, property, lone_escape, unknown_escape}
 use Rattle.fancy_lex.specs.EscapeReference.{group_number}
 use Rattle.fancy_lex.specs.Escaped.{Escape, delegate, literal, literal_bytes}
-use Rattle.fancy_lex.specs.Fault.{invalid_class, invalid_hex, invalid_codepoint_value, unclosed_unicode_name}
+use Rattle.fancy_lex.specs.Located.{invalid_class, invalid_hex, invalid_codepoint_value, unclosed_unicode_name}
 use Rattle.fancy_lex.specs.Hex.{hex, value, braced_value, hex_digits, fixed_digits, hex_digit, closing_brace}
 use Rattle.fancy_lex.specs.Hex.{leaf_of_value}
 use Rattle.fancy_lex.specs.Hex.{is_scalar}
 use Rattle.fancy_lex.specs.Layout.{is_blank}
-use Rattle.fancy_lex.specs.LayoutSteps.{layout, layout_from, Skipped, rest, fault, Phase, between, two, one, comment}
-use Rattle.fancy_lex.specs.LayoutSteps.{escaped, line, after_comment_head}
+use Rattle.fancy_lex.specs.LayoutSteps.{layout, layout_from, Skipped, rest, failed, Phase, between, two, one, comment}
+use Rattle.fancy_lex.specs.LayoutSteps.{escaped, line, after_comment_start}
 use Rattle.fancy_lex.specs.Property.{Property, PropertyName, read_property, name_at, property_text}
 use Rattle.fancy_lex.specs.Property as property_spec
-use Rattle.fancy_lex.specs.Reading.{Reading, gives, fails, fault_at, choose, layout_reading, ◌>=>◌}
+use Rattle.fancy_lex.specs.Reading.{Reading, gives, fails, error_at, choose, layout_reading, ◌>=>◌}
 use Rattle.fancy_lex.specs.Text.{Text, reach_of, strip, cut_at}
 use Rattle.fancy_lex.specs.declared.flags.Flags.{Flags}
 use Rattle.fancy_lex.proofs.LayoutLemmas.{between_step}
@@ -32,16 +32,16 @@ from_if true p q p' q' a z f g e = f e
 from_if false p q p' q' a z f g e = g e
 
 -- an open comment stays open with s after the text
-opened_more : (d : ℕ) (t s : Text) → is_some (after_comment_head (d ∷ t)) ≡ true →
-    is_some (after_comment_head (d ∷ (t ++ s))) ≡ true
+opened_more : (d : ℕ) (t s : Text) → is_some (after_comment_start (d ∷ t)) ≡ true →
+    is_some (after_comment_start (d ∷ (t ++ s))) ≡ true
 opened_more d [] s e = grind (arith, nat_tests)
 opened_more d (a ∷ []) s e = grind (arith, nat_tests)
 opened_more d (a ∷ b ∷ u) s e = grind (arith, nat_tests)
 
-not_opened : (d : ℕ) (t : Text) → d ≢ open_paren → is_some (after_comment_head (d ∷ t)) ≡ false
+not_opened : (d : ℕ) (t : Text) → d ≢ open_paren → is_some (after_comment_start (d ∷ t)) ≡ false
 not_opened d t h = grind (arith, nat_tests)
 
-at_paren : (x : Bool) (d : ℕ) (t : Text) → d ≡ open_paren → is_some (after_comment_head (d ∷ t)) ≡ false →
+at_paren : (x : Bool) (d : ℕ) (t : Text) → d ≡ open_paren → is_some (after_comment_start (d ∷ t)) ≡ false →
     layout_from x between (d ∷ t) ≡ rest (d ∷ t)
 at_paren x d t h q = let step = between_step x (d ∷ t) d t refl in grind (arith, nat_tests)
 
@@ -59,7 +59,7 @@ step_on x b d t =
     else if x && is_blank d then layout_from x between t
     else rest (d ∷ t)
 
-step_is : (x b : Bool) (d : ℕ) (t : Text) → is_some (after_comment_head (d ∷ t)) ≡ b →
+step_is : (x b : Bool) (d : ℕ) (t : Text) → is_some (after_comment_start (d ∷ t)) ≡ b →
     layout_from x between (d ∷ t) ≡ step_on x b d t
 step_is x b d t q = between_step x (d ∷ t) d t refl ∙ ap (λ a. step_on x a d t) q
 
@@ -68,15 +68,15 @@ module _ (x : Bool) (s : Text) (c : ℕ) (r : Text) (paren : c ≢ open_paren) w
   From st t = layout_from x st t ≡ rest (c ∷ r) → layout_from x st (t ++ s) ≡ rest ((c ∷ r) ++ s)
 
   module _ (d : ℕ) (t : Text) (rec : (st : Phase) → From st t) where
-    from_step : (b : Bool) → is_some (after_comment_head (d ∷ t)) ≡ b →
-        is_some (after_comment_head (d ∷ (t ++ s))) ≡ b → From between (d ∷ t)
+    from_step : (b : Bool) → is_some (after_comment_start (d ∷ t)) ≡ b →
+        is_some (after_comment_start (d ∷ (t ++ s))) ≡ b → From between (d ∷ t)
     from_step b q z e =
         step_is x b d (t ++ s) z
         ∙ from_if b _ _ _ _ _ _ (rec two) (from_if (x && d == hash) _ _ _ _ _ _ (rec line)
         (from_if (x && is_blank d) _ _ _ _ _ _ (rec between)
         (λ q. ap (λ (l : Text). rest (l ++ s)) (rest_same (d ∷ t) (c ∷ r) q)))) (sym (step_is x b d t q) ∙ e)
 
-    from_between : (b : Bool) → is_some (after_comment_head (d ∷ t)) ≡ b → (d ≡ open_paren) ⊎ (d ≢ open_paren) →
+    from_between : (b : Bool) → is_some (after_comment_start (d ∷ t)) ≡ b → (d ≡ open_paren) ⊎ (d ≢ open_paren) →
         From between (d ∷ t)
     from_between true q h e = from_step true q (opened_more d t s q) e
     from_between false q (inr h) e = from_step false q (not_opened d (t ++ s) h) e
@@ -135,11 +135,11 @@ firm_from c t (gives a u) there h same = ((c, t, refl, h), same)
 firm_from c t (fails e) there h k = tt
 
 -- after layout
-behind_layout : {A : Type 0} (x : Bool) (t : Text) (R : Text → Reading A) (S : Text → Text → Reading A) →
+after_layout : {A : Type 0} (x : Bool) (t : Text) (R : Text → Reading A) (S : Text → Text → Reading A) →
     ((v : Text) → Firm v (R v) (λ s. S s (v ++ s))) →
     Stays (layout_reading (layout x t) >=> (λ _ v. R v))
     (λ s. layout_reading (layout x (t ++ s)) >=> (λ _ v. S s v))
-behind_layout {A = A} x t R S firm = by_layout (layout x t) refl where
+after_layout {A = A} x t R S firm = by_layout (layout x t) refl where
   by_reading : (v : Text) → layout x t ≡ rest v → (o : Reading A) → Firm v o (λ s. S s (v ++ s)) →
       Stays o (λ s. layout_reading (layout x (t ++ s)) >=> (λ _ v. S s v))
   by_reading v e (gives a u) ((c, r, q, h), same) = λ s.
@@ -150,7 +150,7 @@ behind_layout {A = A} x t R S firm = by_layout (layout x t) refl where
   by_layout : (k : Skipped) → layout x t ≡ k →
       Stays (layout_reading k >=> (λ _ v. R v)) (λ s. layout_reading (layout x (t ++ s)) >=> (λ _ v. S s v))
   by_layout (rest v) e = by_reading v e (R v) (firm v)
-  by_layout (fault p) e = tt
+  by_layout (failed p) e = tt
 
 -- Hex codes, whose reaches h and h' are used only for errors.
 
@@ -190,7 +190,7 @@ module _ (x : Bool) (h : ℕ) (h' : Text → ℕ) where
   digits_on k some v d c t more false f = closed_firm some v (c ∷ t)
   digits_on k some v d c t more true f =
       firm_from c t _ _ (f refl)
-      (behind_layout x t (hex_digits x h k true (v * 16 + d)) (λ s u. hex_digits x (h' s) k true (v * 16 + d) u)
+      (after_layout x t (hex_digits x h k true (v * 16 + d)) (λ s u. hex_digits x (h' s) k true (v * 16 + d) u)
       (more (v * 16 + d)))
 
   digits_firm : (k : ℕ) (some : Bool) (v : ℕ) → DigitsFirm k some v
@@ -205,7 +205,7 @@ module _ (x : Bool) (h : ℕ) (h' : Text → ℕ) where
   braced_firm t =
       let other : open_brace ≢ open_paren = grind (arith, nat_tests) in
       firm_from open_brace t _ _ other
-      (behind_layout x t (hex_digits x h 8 false 0) (λ s v. hex_digits x (h' s) 8 false 0 v)
+      (after_layout x t (hex_digits x h 8 false 0) (λ s v. hex_digits x (h' s) 8 false 0 v)
       (digits_firm 8 false 0))
 
 -- the same for a reader of an optional value
@@ -260,14 +260,14 @@ module _ (x : Bool) (h : ℕ) (h' : Text → ℕ) where
       StaysSome o (λ s. fixed_digits (suc w) 0 (c ∷ (t ++ s)))
       → Firm (c ∷ t)
       (choose o (λ p. gives p.0 p.1)
-      (choose (strip open_brace (c ∷ t)) (braced_value x h) (fault_at h invalid_hex)))
+      (choose (strip open_brace (c ∷ t)) (braced_value x h) (error_at h invalid_hex)))
       (λ s. value x (h' s) (suc w) (c ∷ (t ++ s)))
   unfolding value
   value_on w c t other None e k = let test : (c == open_brace) ≡ false = grind (arith, nat_tests) in rw test tt
   value_on w c t other (Some p) e same = (
     (c, t, refl, λ z. not_both p (sym e ∙ fixed_paren w 0 c t z)),
     λ s. ap (λ o. choose o (λ (p : ℕ × Text). gives p.0 p.1)
-        (choose (strip open_brace (c ∷ (t ++ s))) (braced_value x (h' s)) (fault_at (h' s) invalid_hex))) (same s),
+        (choose (strip open_brace (c ∷ (t ++ s))) (braced_value x (h' s)) (error_at (h' s) invalid_hex))) (same s),
   )
 
   value_other : (w c : ℕ) (t : Text) → c ≢ open_brace → ValueFirm w (c ∷ t)
@@ -287,7 +287,7 @@ module _ (x : Bool) (h : ℕ) (h' : Text → ℕ) where
 
 coded_on : (h : ℕ) (b c : Bool) (y z : Escape) (t u : Text) (there other : Text → Reading Escape) → Begins t →
     ((s : Text) → there s ≡ (if b then gives y (u ++ s) else if c then gives z (u ++ s) else other s)) →
-    Firm t (if b then gives y u else if c then gives z u else fault_at h invalid_codepoint_value) there
+    Firm t (if b then gives y u else if c then gives z u else error_at h invalid_codepoint_value) there
 coded_on h true c y z t u there other front same = (front, same)
 coded_on h false true y z t u there other front same = (front, same)
 coded_on h false false y z t u there other front same = tt
@@ -297,14 +297,14 @@ coded_firm : (f : Flags) (w h : ℕ) (h' : Text → ℕ) (t : Text) (o : Reading
 unfolding leaf_of_value
 coded_firm f w h h' t (gives a u) there (front, same) =
     coded_on h (w == 2 && not f.unicode && nat_le 0x80 a && nat_le a 0xFF) (is_scalar a) (literal_bytes a)
-    (literal a f.casei) t u _ (λ s. fault_at (h' s) invalid_codepoint_value) front
+    (literal a f.casei) t u _ (λ s. error_at (h' s) invalid_codepoint_value) front
     (λ s. ap (λ o. o >=> leaf_of_value f w (h' s)) (same s))
 coded_firm f w h h' t (fails e) there k = tt
 
 hex_stays : (f : Flags) (w : ℕ) (t : Text) → Stays (hex f (suc w) t) (λ s. hex f (suc w) (t ++ s))
 unfolding hex
 hex_stays f w t =
-    behind_layout f.ignore_space t
+    after_layout f.ignore_space t
     (λ v. value f.ignore_space (reach_of v) (suc w) v >=> leaf_of_value f (suc w) (reach_of v))
     (λ s v. value f.ignore_space (reach_of v) (suc w) v >=> leaf_of_value f (suc w) (reach_of v))
     (λ v. coded_firm f (suc w) (reach_of v) (λ s. reach_of (v ++ s)) v _ _
@@ -312,9 +312,9 @@ hex_stays f w t =
 
 -- Properties.
 
-cut_stays : (mark : ℕ) (t : Text) → StaysSome (cut_at mark t) (λ s. cut_at mark (t ++ s))
-cut_stays mark [] = tt
-cut_stays mark (c ∷ t) = some_if (c == mark) _ _ _ _ (λ s. refl) (some_map (λ w. c ∷ w) _ _ (cut_stays mark t))
+cut_stays : (delimiter : ℕ) (t : Text) → StaysSome (cut_at delimiter t) (λ s. cut_at delimiter (t ++ s))
+cut_stays delimiter [] = tt
+cut_stays delimiter (c ∷ t) = some_if (c == delimiter) _ _ _ _ (λ s. refl) (some_map (λ w. c ∷ w) _ _ (cut_stays delimiter t))
 
 name_stays : (c : ℕ) (t : Text) → StaysSome (name_at (c ∷ t)) (λ s. name_at (c ∷ (t ++ s)))
 unfolding name_at
@@ -330,12 +330,12 @@ read_stays b c t = some_map (λ (w : PropertyName). let p : Property = record { 
 property_on : (f : Flags) (p q c d : ℕ) (t : Text) (o : Option (Property × Text)) →
     StaysSome o (λ s. read_property (c ∈ "P") (d ∷ (t ++ s))) →
     Stays (choose o (λ q. gives (delegate (property_text f.unicode true q.0) f.casei) q.1)
-    (fault_at p unclosed_unicode_name)) (λ s. property f true q c (d ∷ (t ++ s)))
+    (error_at p unclosed_unicode_name)) (λ s. property f true q c (d ∷ (t ++ s)))
 unfolding property
 property_on f p q c d t None h = tt
 property_on f p q c d t (Some a) same = λ s.
     ap (λ (o : Option (Property × Text)). choose o
-    (λ q. gives (delegate (property_text f.unicode true q.0) f.casei) q.1) (fault_at q unclosed_unicode_name))
+    (λ q. gives (delegate (property_text f.unicode true q.0) f.casei) q.1) (error_at q unclosed_unicode_name))
     (same s)
 
 property_stays : (f : Flags) (p q c : ℕ) (t : Text) → Stays (property f true p c t) (λ s. property f true q c (t ++ s))
@@ -346,7 +346,7 @@ property_stays f p q c (d ∷ t) = property_on f p q c d t _ (read_stays (c ∈ 
 -- The table.
 
 numbered_on : (p : ℕ) (there : Text → Reading Escape) (o : Reading ℕ) →
-    Stays (o >=> (λ k u. fault_at p invalid_class)) there
+    Stays (o >=> (λ k u. error_at p invalid_class)) there
 numbered_on p there (gives k u) = tt
 numbered_on p there (fails e) = tt
 

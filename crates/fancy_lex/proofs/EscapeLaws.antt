@@ -10,16 +10,16 @@ use Rattle.fancy_lex.specs.Characters.{open_brace, close_brace, ◌∈◌}
 use Rattle.fancy_lex.specs.Escape.{escape, escape_at, number_escape, call_escape, backref_leaf, property, outside}
 use Rattle.fancy_lex.specs.EscapeReference.{back_reference}
 use Rattle.fancy_lex.specs.Escaped.{Escape}
-use Rattle.fancy_lex.specs.Fault.{Kind, invalid_escape}
+use Rattle.fancy_lex.specs.Located.{Kind, invalid_escape}
 use Rattle.fancy_lex.specs.Hex as hexes
-use Rattle.fancy_lex.specs.LayoutSteps.{Skipped, rest, fault, layout}
+use Rattle.fancy_lex.specs.LayoutSteps.{Skipped, rest, failed, layout}
 use Rattle.fancy_lex.specs.Property.{single, braced, name_at, read_property}
-use Rattle.fancy_lex.specs.Reading.{Reading, gives, fails, fault_at, ◌>=>◌, choose, layout_reading}
+use Rattle.fancy_lex.specs.Reading.{Reading, gives, fails, error_at, ◌>=>◌, choose, layout_reading}
 use Rattle.fancy_lex.specs.Referred.{Reference}
 use Rattle.fancy_lex.specs.Text.{Text, EndsWith as Ends, bytes, strip, reach_of, cut_at}
-use Rattle.fancy_lex.proofs.LayoutLaws.{layout_cut, layout_stands}
-use Rattle.fancy_lex.proofs.LeaveLaws.{ends_whole, ends_past, ends_twice, stands_here, stands_past, Leaves, whole}
-use Rattle.fancy_lex.proofs.LeaveLaws.{whole_next, leaves_none, leaves_told, leaves_retold, leaves_past, leaves_if}
+use Rattle.fancy_lex.proofs.LayoutLaws.{layout_cut, layout_lies}
+use Rattle.fancy_lex.proofs.LeaveLaws.{ends_whole, ends_past, ends_twice, lies_at_start, lies_past, Leaves, whole}
+use Rattle.fancy_lex.proofs.LeaveLaws.{whole_next, leaves_none, leaves_given, leaves_trans, leaves_past, leaves_if}
 use Rattle.fancy_lex.proofs.LeaveLaws.{leaves_both, ends_strip, LeavesSome, ends_some, some_if}
 use Rattle.fancy_lex.proofs.LeaveLaws.{some_past, some_both, leaves}
 use Rattle.fancy_lex.proofs.ReadingLemmas.{choose_both}
@@ -45,16 +45,16 @@ some_map : {A B : Type 0} (t : Text) (o : Option (A × Text)) (f : A → B) → 
 some_map t (Some p) f l = l
 some_map t None f l = tt
 
-leaves_cut : (mark : ℕ) (t : Text) → LeavesSome t (cut_at mark t)
-leaves_cut mark [] = tt
-leaves_cut mark (c ∷ t) = at (c == mark) (leaves_cut mark t) where
+leaves_cut : (delimiter : ℕ) (t : Text) → LeavesSome t (cut_at delimiter t)
+leaves_cut delimiter [] = tt
+leaves_cut delimiter (c ∷ t) = at (c == delimiter) (leaves_cut delimiter t) where
   past : Ends (c ∷ t) t
   past = ends_past c t t (ends_whole t)
 
-  at : (b : Bool) → LeavesSome t (cut_at mark t) →
-      LeavesSome (c ∷ t) (if b then Some ([], t) else option_map (λ p. (c ∷ p.0, p.1)) (cut_at mark t))
+  at : (b : Bool) → LeavesSome t (cut_at delimiter t) →
+      LeavesSome (c ∷ t) (if b then Some ([], t) else option_map (λ p. (c ∷ p.0, p.1)) (cut_at delimiter t))
   at true l = past
-  at false l = some_past (c ∷ t) t _ past (some_map t (cut_at mark t) _ l)
+  at false l = some_past (c ∷ t) t _ past (some_map t (cut_at delimiter t) _ l)
 
 leaves_name_at : (t : Text) → LeavesSome t (name_at t)
 unfolding name_at
@@ -78,7 +78,7 @@ module _ (p : ℕ) where
   leaves_layout x t = at (layout x t) refl where
     at : (o : Skipped) → layout x t ≡ o → Leaves p t (layout_reading o)
     at (rest u) e = leaves (layout_cut x t u e)
-    at (fault q) e = leaves_none (layout_stands p x t q e)
+    at (failed q) e = leaves_none (layout_lies p x t q e)
 
 -- hex codes, which get the reach h
 module _ (h : ℕ) where
@@ -87,8 +87,8 @@ module _ (h : ℕ) where
     leaves_closed some v t = at some (strip close_brace t) refl where
       at : (some : Bool) (o : Option Text) → strip close_brace t ≡ o → Leaves h t (hexes.closing_brace h some v o)
       at true (Some u) e = leaves (ends_strip close_brace t u e)
-      at true None e = leaves_told
-      at false o e = leaves_told
+      at true None e = leaves_given
+      at false o e = leaves_given
 
     leaves_digits : (k : ℕ) (some : Bool) (v : ℕ) (t : Text) → Leaves h t (hexes.hex_digits x h k some v t)
     unfolding hexes.hex_digits
@@ -110,11 +110,11 @@ module _ (h : ℕ) where
         (λ p e. leaves (ends_some t _ p (leaves_fixed width 0 t) e))
         (choose_both (Leaves h t) (strip open_brace t) _ _
         (λ u e. leaves_past (ends_strip open_brace t u e) (leaves_braced u))
-        (leaves_told))
+        (leaves_given))
 
   module _ (f : Flags) (width : ℕ) where
-    none_at_code : {A : Type 0} {k : Kind} {t : Text} → Leaves {A = A} h t (fault_at h k)
-    none_at_code = leaves_told
+    none_at_code : {A : Type 0} {k : Kind} {t : Text} → Leaves {A = A} h t (error_at h k)
+    none_at_code = leaves_given
 
     leaves_coded : (v : ℕ) (t : Text) → Leaves h t (hexes.leaf_of_value f width h v t)
     unfolding hexes.leaf_of_value
@@ -125,28 +125,28 @@ module _ (p : ℕ) where
   unfolding hexes.hex
   leaves_hex f width t =
       leaves_both (leaves_layout p f.ignore_space t)
-      (λ _ u. leaves_retold (stands_here u)
+      (λ _ u. leaves_trans (lies_at_start u)
       (leaves_both (leaves_value (reach_of u) f.ignore_space width u) (leaves_coded (reach_of u) f width)))
 
   -- word boundaries
   module _ (x : Bool) where
-    leaves_name_behind : (k : ℕ) → ((t : Text) → Leaves p t (boundary_steps.name x p k t)) → (t : Text) →
-        Leaves p t (boundary_steps.up_to_brace (fault_at p (invalid_escape (codes "\\b{...}"))) (gives [])
+    leaves_name_after : (k : ℕ) → ((t : Text) → Leaves p t (boundary_steps.name x p k t)) → (t : Text) →
+        Leaves p t (boundary_steps.up_to_brace (error_at p (invalid_escape (codes "\\b{...}"))) (gives [])
         (λ c v. boundary_steps.name x p k v >=> (λ w v. gives (c ∷ w) v)) t)
-    leaves_name_behind k more [] = leaves_told
-    leaves_name_behind k more (c ∷ t) =
+    leaves_name_after k more [] = leaves_given
+    leaves_name_after k more (c ∷ t) =
         let past = ends_past c t t (ends_whole t) in
         leaves_if (c == close_brace) (leaves past) (leaves_past past (leaves_both (more t) (λ w v. whole v)))
 
     leaves_name : (k : ℕ) (t : Text) → Leaves p t (boundary_steps.name x p k t)
     unfolding boundary_steps.name
-    leaves_name zero t = leaves_told
-    leaves_name (suc k) t = leaves_both (leaves_layout p x t) (λ _ u. leaves_name_behind k (leaves_name k) u)
+    leaves_name zero t = leaves_given
+    leaves_name (suc k) t = leaves_both (leaves_layout p x t) (λ _ u. leaves_name_after k (leaves_name k) u)
 
     leaves_named : (negated : Bool) (t : Text) → Leaves p t (boundary_steps.named_boundary x p negated t)
     unfolding boundary_steps.named_boundary
     leaves_named negated t = leaves_both (leaves_name (suc (length t)) t)
-        (λ w u. choose_both (Leaves p u) (boundaries.boundary_of_name negated w) _ _ (λ a e. whole u) leaves_told)
+        (λ w u. choose_both (Leaves p u) (boundaries.boundary_of_name negated w) _ _ (λ a e. whole u) leaves_given)
 
     pub leaves_boundary : (negated : Bool) (t : Text) → Leaves p t (boundary_steps.boundary x p negated t)
     unfolding boundary_steps.boundary
@@ -169,15 +169,15 @@ module _ (p : ℕ) where
                 leaves_if (boundaries.at_count v) (whole t)
                 (leaves_past (ends_twice t u inside (layout_cut x t u e) (ends_strip open_brace u inside h))
                 (leaves_named negated inside))
-            braces u inside e h (fault q) i = leaves_none
-                (stands_past (ends_twice t u inside (layout_cut x t u e) (ends_strip open_brace u inside h))
-                (layout_stands p x inside q i))
-      at (fault q) e = leaves_none (layout_stands p x t q e)
+            braces u inside e h (failed q) i = leaves_none
+                (lies_past (ends_twice t u inside (layout_cut x t u e) (ends_strip open_brace u inside h))
+                (layout_lies p x inside q i))
+      at (failed q) e = leaves_none (layout_lies p x t q e)
 
 -- escapes
 module _ (f : Flags) (inside : Bool) (p : ℕ) where
-  none_here : {A : Type 0} {k : Kind} {t : Text} → Leaves {A = A} p t (fault_at p k)
-  none_here = leaves_told
+  none_here : {A : Type 0} {k : Kind} {t : Text} → Leaves {A = A} p t (error_at p k)
+  none_here = leaves_given
 
   leaves_property : (c : ℕ) (t : Text) → Leaves p t (property f inside p c t)
   unfolding property
@@ -192,19 +192,19 @@ module _ (f : Flags) (inside : Bool) (p : ℕ) where
   leaves_number_escape : (t : Text) → Leaves p t (number_escape f inside p t)
   unfolding number_escape
   leaves_number_escape t =
-      leaves_if inside (leaves_both (takes_leaves (reach_of t) 1 t (stands_here t) (takes_number t))
+      leaves_if inside (leaves_both (takes_leaves (reach_of t) 1 t (lies_at_start t) (takes_number t))
       (λ k u. none_here))
-      (leaves_backref_leaf (takes_leaves (reach_of t) 1 t (stands_here t) (takes_numbered_reference t)))
+      (leaves_backref_leaf (takes_leaves (reach_of t) 1 t (lies_at_start t) (takes_numbered_reference t)))
 
   leaves_named_reference : (t : Text) → Leaves p t (backref_leaf f (back_reference t))
   leaves_named_reference t = leaves_backref_leaf
-      (takes_leaves (reach_of t) 3 t (stands_here t) (takes_back_reference t))
+      (takes_leaves (reach_of t) 3 t (lies_at_start t) (takes_back_reference t))
 
   leaves_call : (c : ℕ) (t : Text) → Leaves p t (call_escape p c t)
   unfolding call_escape
   leaves_call c [] = none_here
   leaves_call c (d ∷ t) =
-      leaves_both (takes_leaves (reach_of (d ∷ t)) 1 (d ∷ t) (stands_here (d ∷ t)) (takes_subroutine_call (d ∷ t)))
+      leaves_both (takes_leaves (reach_of (d ∷ t)) 1 (d ∷ t) (lies_at_start (d ∷ t)) (takes_subroutine_call (d ∷ t)))
       (λ r u. whole u)
 
   boundary_here : (negated : Bool) (t : Text) → Leaves p t (boundary_steps.boundary f.ignore_space p negated t)

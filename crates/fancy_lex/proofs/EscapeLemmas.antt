@@ -2,14 +2,14 @@
 use Rattle.std.proofs.Common.{◌≡◌, ℕ, Bool, [], ◌∷◌, Option, Some, None, refl, ap, sym, ◌∙◌}
 use Rattle.fancy_lex.specs.declared.flags.Flags.{Flags}
 use Rattle.fancy_lex.specs.Characters.{◌∈◌}
-use Rattle.fancy_lex.specs.Delimited.{marked_name}
+use Rattle.fancy_lex.specs.Delimited.{delimited_name}
 use Rattle.fancy_lex.specs.Escape.{call_escape, property, unknown_escape}
-use Rattle.fancy_lex.specs.EscapeReference.{marked_call, subroutine_call}
+use Rattle.fancy_lex.specs.EscapeReference.{delimited_call, subroutine_call}
 use Rattle.fancy_lex.specs.Escaped as leaf
 use Rattle.fancy_lex.specs.Escaped.{delegate}
-use Rattle.fancy_lex.specs.Fault.{unclosed_unicode_name}
+use Rattle.fancy_lex.specs.Located.{unclosed_unicode_name}
 use Rattle.fancy_lex.specs.Property.{Property, read_property, name_at, property_text}
-use Rattle.fancy_lex.specs.Reading.{gives, fault_at}
+use Rattle.fancy_lex.specs.Reading.{gives, error_at}
 use Rattle.fancy_lex.specs.Referred.{Call}
 use Rattle.fancy_lex.specs.Text.{Text}
 
@@ -19,7 +19,7 @@ module _ (f : Flags) (inside : Bool) (p c : ℕ) (t : Text) where
   property_end e = rw e refl
 
   pub property_unclosed : (d : ℕ) (r : Text) → t ≡ d ∷ r → read_property (c ∈ "P") t ≡ None →
-      property f inside p c t ≡ fault_at p unclosed_unicode_name
+      property f inside p c t ≡ error_at p unclosed_unicode_name
   unfolding property
   property_unclosed d r e h =
       let here : read_property (c ∈ "P") (d ∷ r) ≡ None = ap (read_property (c ∈ "P")) (sym e) ∙ h in
@@ -37,7 +37,7 @@ property_read f inside p c (d ∷ r) q v h = rw h refl
 -- a call after its letter
 pub call_is : (p c : ℕ) (t : Text) (k : Call) (v : Text) → subroutine_call t ≡ gives k v →
     call_escape p c t ≡ gives (leaf.subroutine_call k) v
-unfolding call_escape subroutine_call marked_call marked_name
+unfolding call_escape subroutine_call delimited_call delimited_name
 call_is p c [] k v e = absurd cc
 call_is p c (d ∷ t) k v e = rw e refl
 

@@ -23,23 +23,23 @@ use Rattle.fancy_lex.proofs.LeaveLaws.{ends_whole, ends_past}
 use Rattle.fancy_lex.proofs.LoneLemmas.{AtRows, of_lone}
 use Rattle.fancy_lex.proofs.ReadingLemmas.{choose_both}
 use Rattle.fancy_lex.proofs.ReferenceLaws.{takes_numbered_reference, takes_back_reference, takes_subroutine_call}
-use Rattle.fancy_lex.proofs.ReferencePlaces.{IfGives, ReferenceAt, CallAt, numbered_reference_at, back_reference_at}
-use Rattle.fancy_lex.proofs.ReferencePlaces.{subroutine_call_at}
+use Rattle.fancy_lex.proofs.ReferencePositions.{IfGives, ReferenceAt, CallAt, numbered_reference_at, back_reference_at}
+use Rattle.fancy_lex.proofs.ReferencePositions.{subroutine_call_at}
 use Rattle.fancy_lex.proofs.TakeLaws.{Takes, TakesOrFails, takes, takes_less}
 
 -- p is the reach of a suffix of t that has a character or more before u
-pub record StandsBefore (t u : Text) (p : ℕ) : Type 0 where
-  pub mark : Text
-  pub ends : Ends t mark
-  pub takes : Takes 1 mark u
-  pub reach : p ≡ reach_of mark
+pub record LiesBefore (t u : Text) (p : ℕ) : Type 0 where
+  pub tail : Text
+  pub ends : Ends t tail
+  pub takes : Takes 1 tail u
+  pub reach : p ≡ reach_of tail
 
 -- the leaf of an escape of t with u after it: a byte that is not an ASCII one, a reference or call inside the escape,
 -- or another leaf
 abbrev pub IsSound : Text → Text → Escape → Type 0
 IsSound t u (literal_bytes b) = (0x80 ≤ b) × (b ≤ 0xFF)
-IsSound t u (backref r casei) = StandsBefore t u r.reach
-IsSound t u (called c) = StandsBefore t u c.reach
+IsSound t u (backref r casei) = LiesBefore t u r.reach
+IsSound t u (called c) = LiesBefore t u c.reach
 IsSound t u _ = Unit {0}
 
 -- the same for a reading of t
@@ -47,8 +47,8 @@ abbrev pub Sound : Text → Reading Escape → Type 0
 Sound t (gives e u) = IsSound t u e
 Sound t (fails e) = Unit {0}
 
-before_past : (c : ℕ) (t u : Text) (p : ℕ) → StandsBefore t u p → StandsBefore (c ∷ t) u p
-before_past c t u p h = record { mark = h.mark; ends = ends_past c t h.mark h.ends; takes = h.takes; reach = h.reach }
+before_past : (c : ℕ) (t u : Text) (p : ℕ) → LiesBefore t u p → LiesBefore (c ∷ t) u p
+before_past c t u p h = record { tail = h.tail; ends = ends_past c t h.tail h.ends; takes = h.takes; reach = h.reach }
 
 past_one : (c : ℕ) (t u : Text) (e : Escape) → IsSound t u e → IsSound (c ∷ t) u e
 past_one c t u (literal v casei) h = h
@@ -74,13 +74,13 @@ sound_both t (fails e) f h = tt
 module _ (f : Flags) where
   sound_backref_leaf : (t : Text) (o : Reading Reference) → TakesOrFails (reach_of t) 1 t o →
       IfGives (ReferenceAt (reach_of t)) o → Sound t (backref_leaf f o)
-  sound_backref_leaf t (gives r u) (takes a) e = record { mark = t; ends = ends_whole t; takes = a; reach = e }
+  sound_backref_leaf t (gives r u) (takes a) e = record { tail = t; ends = ends_whole t; takes = a; reach = e }
   sound_backref_leaf t (fails z) h e = tt
 
   sound_calling : (t : Text) (o : Reading Call) → TakesOrFails (reach_of t) 1 t o →
       IfGives (CallAt (reach_of t)) o →
       Sound t (o >=> (λ c u. gives (called c) u))
-  sound_calling t (gives c u) (takes a) e = record { mark = t; ends = ends_whole t; takes = a; reach = e }
+  sound_calling t (gives c u) (takes a) e = record { tail = t; ends = ends_whole t; takes = a; reach = e }
   sound_calling t (fails z) h e = tt
 
   sound_number_escape : (inside : Bool) (p : ℕ) (t : Text) → Sound t (number_escape f inside p t)

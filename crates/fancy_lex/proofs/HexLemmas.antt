@@ -4,11 +4,11 @@ use Rattle.std.proofs.Common.{refl, ap, ◌∙◌, arith, nat_lt}
 use Rattle.std.proofs.Math.Nat.{pow-suc, pow-le-pow_right}
 use Rattle.std.proofs.lemmas.Bool.Decides.{nat_tests}
 use Rattle.fancy_lex.specs.Characters.{close_brace}
-use Rattle.fancy_lex.specs.FaultTable.{code_not_read}
+use Rattle.fancy_lex.specs.ErrorTable.{code_not_read}
 use Rattle.fancy_lex.specs.Text.{Text, strip}
 use Rattle.fancy_lex.specs.LayoutSteps.{layout}
 use Rattle.fancy_lex.specs.Reading.{gives, fails, Says, layout_reading}
-use Rattle.fancy_lex.specs.declared.error.Failure.{Failure}
+use Rattle.fancy_lex.specs.declared.error.ReadError.{ReadError}
 use Rattle.fancy_lex.proofs.ReadingLemmas.{says_first}
 use Rattle.fancy_lex.specs.Hex.{fixed_digits, hex_digit, hex_digits, closing_brace}
 
@@ -38,10 +38,10 @@ module _ (x : Bool) (h i v : ℕ) (t : Text) where
       let some : nat_lt 0 (i + 1) ≡ true = grind (arith, nat_tests) in
       rw (one_more 8 i l, hex_digits, e, s, some) refl
 
-  pub digits_fault : (d : ℕ) (r : Text) (b : Failure) → i < 8 → hex_digit t ≡ Some (d, r) →
+  pub digits_error : (d : ℕ) (r : Text) (b : ReadError) → i < 8 → hex_digit t ≡ Some (d, r) →
       Says b (layout_reading (layout x r)) → Says b (hex_digits x h (8 - i) (nat_lt 0 i) v t)
   unfolding hex_digits
-  digits_fault d r b l e s = rw (one_more 8 i l, hex_digits, e) (says_first _ _ b s)
+  digits_error d r b l e s = rw (one_more 8 i l, hex_digits, e) (says_first _ _ b s)
 
   digits_end : i < 8 → hex_digit t ≡ None →
       hex_digits x h (8 - i) (nat_lt 0 i) v t ≡ closing_brace h (nat_lt 0 i) v (strip close_brace t)

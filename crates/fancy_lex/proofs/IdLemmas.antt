@@ -25,15 +25,15 @@ run_ends t e = rw e refl
 -- ---- the run, and the text after it
 
 -- the run after one more character c, which is an id character or not
-abbrev run_behind : ℕ → Text → Bool → Text × Text → Text × Text
-run_behind c t b p = if b then (c ∷ p.0, p.1) else ([], c ∷ t)
+abbrev run_after : ℕ → Text → Bool → Text × Text → Text × Text
+run_after c t b p = if b then (c ∷ p.0, p.1) else ([], c ∷ t)
 
 -- the run and the text after it are the whole text
 pub run_cut : (t : Text) → t ≡ (id_run t).0 ++ (id_run t).1
 unfolding id_run
 run_cut [] = refl
 run_cut (c ∷ t) = at (is_id_char c) (id_run t) (run_cut t) where
-  at : (b : Bool) (p : Text × Text) → t ≡ p.0 ++ p.1 → c ∷ t ≡ (run_behind c t b p).0 ++ (run_behind c t b p).1
+  at : (b : Bool) (p : Text × Text) → t ≡ p.0 ++ p.1 → c ∷ t ≡ (run_after c t b p).0 ++ (run_after c t b p).1
   at true p e = ap (λ u. c ∷ u) e
   at false p e = refl
 

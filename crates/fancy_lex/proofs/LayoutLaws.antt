@@ -6,14 +6,14 @@ use Rattle.std.proofs.lemmas.Bool.Decides.{nat_tests}
 use Rattle.std.proofs.lemmas.Bool.{cases_eq, false≢true}
 use Rattle.std.specs.Borrow.{Bor}
 use Rattle.fancy_lex.specs.Characters.{line_feed, hash, open_paren, close_paren, backslash}
-use Rattle.fancy_lex.specs.Text.{Text, Stands, beyond, at_end}
-use Rattle.fancy_lex.proofs.LeaveLaws.{stands_end}
+use Rattle.fancy_lex.specs.Text.{Text, LiesIn, beyond, at_end}
+use Rattle.fancy_lex.proofs.LeaveLaws.{lies_at_end}
 use Rattle.fancy_lex.specs.Layout.{InComment, nothing, plain, pair, InLine, end_line, on_line}
 use Rattle.fancy_lex.specs.Views.{skipped_of}
-use Rattle.fancy_lex.specs.Layout.{comment_head, IsUnit, Units, none, more, Stops}
+use Rattle.fancy_lex.specs.Layout.{comment_start, IsUnit, Units, none, more, Stops}
 use Rattle.fancy_lex.specs.Layout.{is_blank, OpenComment, to_end, after_backslash}
-use Rattle.fancy_lex.specs.LayoutSteps.{rest, fault, layout, layout_from, between, comment, escaped, line}
-use Rattle.fancy_lex.specs.LayoutSteps.{after_comment_head}
+use Rattle.fancy_lex.specs.LayoutSteps.{rest, failed, layout, layout_from, between, comment, escaped, line}
+use Rattle.fancy_lex.specs.LayoutSteps.{after_comment_start}
 use Rattle.fancy_lex.specs.Layout.{Unclosed, Before}
 use Rattle.fancy_lex.proofs.LayoutLemmas.{between_opened, comment_step, comment_end, escaped_end, escaped_step}
 use Rattle.fancy_lex.proofs.LayoutLemmas.{escaped_end, line_step, between_line, between_blank, between_other}
@@ -46,13 +46,13 @@ module _ (x : Bool) where
       now ∙ past_line h r
 
   past_comment : {i : Text} → InComment i → (r : Text) →
-      layout_from x between (comment_head ++ (i ++ close_paren ∷ r)) ≡ layout_from x between r
+      layout_from x between (comment_start ++ (i ++ close_paren ∷ r)) ≡ layout_from x between r
   past_comment {i} h r =
       between_opened x _ (i ++ close_paren ∷ r) refl ∙ past_inside h (close_paren ∷ r)
       ∙ comment_step x _ close_paren r refl
 
   -- a character that opens no comment
-  not_open : (c : ℕ) (r : Text) → c ≢ open_paren → after_comment_head (c ∷ r) ≡ None
+  not_open : (c : ℕ) (r : Text) → c ≢ open_paren → after_comment_start (c ∷ r) ≡ None
   not_open c r h = grind (arith, nat_tests)
 
   at_hash : x ≡ true → (r : Text) → layout_from x between (hash ∷ r) ≡ layout_from x line r
@@ -134,22 +134,22 @@ split_comment (c ∷ d ∷ t) =
       ]
     ]
 
-open_fault : (x : Bool) (t : Text) (p : ℕ) → OpenComment t p → layout_from x comment t ≡ fault p
-open_fault x t p (to_end h) = rw (← append-nil t) (past_inside x h [] ∙ comment_end x [] refl)
-open_fault x t p (after_backslash i e q h) =
+open_error : (x : Bool) (t : Text) (p : ℕ) → OpenComment t p → layout_from x comment t ≡ failed p
+open_error x t p (to_end h) = rw (← append-nil t) (past_inside x h [] ∙ comment_end x [] refl)
+open_error x t p (after_backslash i e q h) =
     rw (e, q) (past_inside x h (backslash ∷ []) ∙ comment_step x _ backslash [] refl ∙ escaped_end x [] refl)
 
 -- a text with a text after its `(?#` is `(?#` and that text
-opened_is : (t i : Text) → after_comment_head t ≡ Some i → t ≡ comment_head ++ i
+opened_is : (t i : Text) → after_comment_start t ≡ Some i → t ≡ comment_start ++ i
 opened_is [] i e = cc
 opened_is (c ∷ []) i e = grind (arith, nat_tests)
 opened_is (c ∷ d ∷ []) i e = grind (arith, nat_tests)
 opened_is (c ∷ d ∷ f ∷ r) i e = grind (arith, nat_tests)
 
-opened_cases : (t : Text) → ((i : Text) × (t ≡ comment_head ++ i)) ⊎ (after_comment_head t ≡ None)
-opened_cases t = opened_by t (after_comment_head t) refl where
-  opened_by : (t : Text) (o : Option Text) → after_comment_head t ≡ o →
-      ((i : Text) × (t ≡ comment_head ++ i)) ⊎ (after_comment_head t ≡ None)
+opened_cases : (t : Text) → ((i : Text) × (t ≡ comment_start ++ i)) ⊎ (after_comment_start t ≡ None)
+opened_cases t = opened_by t (after_comment_start t) refl where
+  opened_by : (t : Text) (o : Option Text) → after_comment_start t ≡ o →
+      ((i : Text) × (t ≡ comment_start ++ i)) ⊎ (after_comment_start t ≡ None)
   opened_by t (Some i) e = inl (i, opened_is t i e)
   opened_by t None e = inr e
 
@@ -157,25 +157,25 @@ opened_cases t = opened_by t (after_comment_head t) refl where
 data Front (x : Bool) (t : Text) : Type 0 where
   stop : Stops x t → layout_from x between t ≡ rest t → Front x t
   unit : (u r : Text) → t ≡ u ++ r → IsUnit x u r → 0 < length u → Front x t
-  open_comment : (r : Text) (p : ℕ) → t ≡ comment_head ++ r → OpenComment r p → Front x t
+  open_comment : (r : Text) (p : ℕ) → t ≡ comment_start ++ r → OpenComment r p → Front x t
 
-some_none : (t i r : Text) → after_comment_head t ≡ None → t ≡ r → after_comment_head r ≡ Some i → ⊥
-some_none t i r n e s = let same = ap after_comment_head e in cc
+some_none : (t i r : Text) → after_comment_start t ≡ None → t ≡ r → after_comment_start r ≡ Some i → ⊥
+some_none t i r n e s = let same = ap after_comment_start e in cc
 
-told_apart : (c : ℕ) → is_blank c ≡ true → is_blank c ≡ false → ⊥
-told_apart c a b = cc
+blank_apart : (c : ℕ) → is_blank c ≡ true → is_blank c ≡ false → ⊥
+blank_apart c a b = cc
 
-stops_from : (x : Bool) (t : Text) → after_comment_head t ≡ None →
+stops_from : (x : Bool) (t : Text) → after_comment_start t ≡ None →
     (x ≡ true → (c : ℕ) (r : Text) → t ≡ c ∷ r → (c ≢ hash) × (is_blank c ≡ false)) → Stops x t
 stops_from x t n others =
-    record { no_unit = no_unit; no_comment_head = λ i e. some_none t i (comment_head ++ i) n e refl } where
+    record { no_unit = no_unit; no_comment_start = λ i e. some_none t i (comment_start ++ i) n e refl } where
       no_unit : (u r : Text) → t ≡ u ++ r → IsUnit x u r → ⊥
       no_unit u r e (inl (i, h, q)) = some_none t _ _ n (e ∙ ap (λ s. s ++ r) q) refl
-      no_unit u r e (inr (on, inl (c, b, q))) = told_apart c b (others on c r (e ∙ ap (λ s. s ++ r) q)).1
+      no_unit u r e (inr (on, inl (c, b, q))) = blank_apart c b (others on c r (e ∙ ap (λ s. s ++ r) q)).1
       no_unit u r e (inr (on, inr (i, h, inl q))) = (others on hash _ (e ∙ ap (λ s. s ++ r) q)).0 refl
       no_unit u r e (inr (on, inr (i, h, inr (q, z)))) = (others on hash _ (e ∙ ap (λ s. s ++ r) q)).0 refl
 
-front_extended : (t : Text) → after_comment_head t ≡ None → Front true t
+front_extended : (t : Text) → after_comment_start t ≡ None → Front true t
 front_extended [] e = stop (stops_from true [] e (λ _ c r q. absurd (nil_cons c r q))) (between_end true [] refl)
   where
     nil_cons : (c : ℕ) (r : Text) → [] ≡ c ∷ r → ⊥
@@ -198,26 +198,26 @@ front_extended (c ∷ t) e =
       blank_or false b h =
           stop
           (stops_from true (c ∷ t) e
-          (λ _ d r q. (λ k. h (head_same d r q ∙ k), ap is_blank (sym (head_same d r q)) ∙ b)))
+          (λ _ d r q. (λ k. h (first_same d r q ∙ k), ap is_blank (sym (first_same d r q)) ∙ b)))
           (between_other true _ c t refl e refl h b) where
-            head_same : (d : ℕ) (r : Text) → c ∷ t ≡ d ∷ r → c ≡ d
-            head_same d r q = cc
+            first_same : (d : ℕ) (r : Text) → c ∷ t ≡ d ∷ r → c ≡ d
+            first_same d r q = cc
 
 front : (x : Bool) (t : Text) → Front x t
 front x t =
     elim (opened_cases t) [
       | inl (i, e) ↦ elim (split_comment i) [
-        | inl (j, r, h, q) ↦ unit (comment_head ++ (j ++ close_paren ∷ [])) r (at_comment i j r e q) (inl (j, h, refl))
+        | inl (j, r, h, q) ↦ unit (comment_start ++ (j ++ close_paren ∷ [])) r (at_comment i j r e q) (inl (j, h, refl))
             (omega arith)
         | inr (p, h) ↦ open_comment i p e h
       ]
       | inr e ↦ by_flag x e
     ] where
-      at_comment : (i j r : Text) → t ≡ comment_head ++ i → i ≡ j ++ close_paren ∷ r →
-          t ≡ (comment_head ++ (j ++ close_paren ∷ [])) ++ r
+      at_comment : (i j r : Text) → t ≡ comment_start ++ i → i ≡ j ++ close_paren ∷ r →
+          t ≡ (comment_start ++ (j ++ close_paren ∷ [])) ++ r
       at_comment i j r e q = rw (e, q, snoc) refl
 
-      by_flag : (x : Bool) → after_comment_head t ≡ None → Front x t
+      by_flag : (x : Bool) → after_comment_start t ≡ None → Front x t
       by_flag true e = front_extended t e
       by_flag false e = stop (stops_from false t e (λ h c r q. absurd (false≢true h))) (between_plain t e)
 
@@ -226,23 +226,23 @@ stop_rest x v s =
     elim (front x v) [
       | stop _ e ↦ e
       | unit u r e h _ ↦ absurd (s.no_unit u r e h)
-      | open_comment r p e h ↦ absurd (s.no_comment_head r e)
+      | open_comment r p e h ↦ absurd (s.no_comment_start r e)
     ]
 
 -- each result in the relation is the function's
 pub layout_complete : (x : Bool) (t v : Text) → Before x t v → layout_from x between t ≡ rest v
 layout_complete x t v b = rw b.cut (past_units x b.layout.units ∙ stop_rest x v b.layout.stops)
 
-pub unclosed_complete : (x : Bool) (t : Text) (p : ℕ) → Unclosed x t p → layout_from x between t ≡ fault p
+pub unclosed_complete : (x : Bool) (t : Text) (p : ℕ) → Unclosed x t p → layout_from x between t ≡ failed p
 unclosed_complete x t p b =
-    rw b.cut (past_units x b.units ∙ between_opened x _ b.r refl ∙ open_fault x b.r p b.inside)
+    rw b.cut (past_units x b.units ∙ between_opened x _ b.r refl ∙ open_error x b.r p b.inside)
 
 -- a text has layout at its front, or an unclosed comment
-abbrev Told : Bool → Text → Type 0
-Told x t = ((v : Text) × Before x t v) ⊎ ((p : ℕ) × Unclosed x t p)
+abbrev HasLayout : Bool → Text → Type 0
+HasLayout x t = ((v : Text) × Before x t v) ⊎ ((p : ℕ) × Unclosed x t p)
 
-told_more : (x : Bool) (t u r : Text) → t ≡ u ++ r → IsUnit x u r → Told x r → Told x t
-told_more x t u r e h (inl (v, b)) =
+more_layout : (x : Bool) (t u r : Text) → t ≡ u ++ r → IsUnit x u r → HasLayout x r → HasLayout x t
+more_layout x t u r e h (inl (v, b)) =
     let unit = subst (IsUnit x u) b.cut h in
     inl (
       v,
@@ -252,14 +252,14 @@ told_more x t u r e h (inl (v, b)) =
         layout = record { units = more u b.w refl unit b.layout.units; stops = b.layout.stops };
       },
     )
-told_more x t u r e h (inr (p, b)) =
+more_layout x t u r e h (inr (p, b)) =
     let unit = subst (IsUnit x u) b.cut h in
     inr (
       p,
       record {
         w = u ++ b.w;
         r = b.r;
-        cut = e ∙ ap (λ s. u ++ s) b.cut ∙ sym (append_assoc u b.w (comment_head ++ b.r));
+        cut = e ∙ ap (λ s. u ++ s) b.cut ∙ sym (append_assoc u b.w (comment_start ++ b.r));
         units = more u b.w refl unit b.units;
         inside = b.inside;
       },
@@ -268,19 +268,19 @@ told_more x t u r e h (inr (p, b)) =
 shorter : (t u r : Text) (k : ℕ) → t ≡ u ++ r → 0 < length u → length t < suc k → length r < k
 shorter t u r k e m h = omega (arith, simp length-append at (ap length e))
 
-pub layout_total : (x : Bool) (k : ℕ) (t : Text) → length t < k → Told x t
+pub layout_total : (x : Bool) (k : ℕ) (t : Text) → length t < k → HasLayout x t
 layout_total x zero t h = absurd (omega arith)
 layout_total x (suc k) t h =
     elim (front x t) [
       | stop s _ ↦ inl (t, record { w = []; cut = refl; layout = record { units = none; stops = s } })
-      | unit u r e q m ↦ told_more x t u r e q (layout_total x k r (shorter t u r k e m h))
+      | unit u r e q m ↦ more_layout x t u r e q (layout_total x k r (shorter t u r k e m h))
       | open_comment r p e q ↦ inr (p, record { w = []; r = r; cut = e; units = none; inside = q })
     ]
 
 rest_same : (v w : Text) → rest v ≡ rest w → v ≡ w
 rest_same v w e = cc
 
-apart : (v : Text) (p : ℕ) → rest v ≡ fault p → ⊥
+apart : (v : Text) (p : ℕ) → rest v ≡ failed p → ⊥
 apart v p e = cc
 
 -- so the function's result is in the relation
@@ -292,14 +292,14 @@ layout_sound x t v e =
       | inr (p, b) ↦ absurd (apart v p (sym e ∙ unclosed_complete x t p b))
     ]
 
-faults_same : (p q : ℕ) → fault p ≡ fault q → p ≡ q
-faults_same p q e = cc
+failed_same : (p q : ℕ) → failed p ≡ failed q → p ≡ q
+failed_same p q e = cc
 
-pub unclosed_sound : (x : Bool) (t : Text) (p : ℕ) → layout_from x between t ≡ fault p → Unclosed x t p
+pub unclosed_sound : (x : Bool) (t : Text) (p : ℕ) → layout_from x between t ≡ failed p → Unclosed x t p
 unclosed_sound x t p e =
     elim (layout_total x (suc (length t)) t (omega arith)) [
       | inl (v, b) ↦ absurd (apart v p (sym (layout_complete x t v b) ∙ e))
-      | inr (q, b) ↦ let same : q ≡ p = faults_same q p (sym (unclosed_complete x t q b) ∙ e) in
+      | inr (q, b) ↦ let same : q ≡ p = failed_same q p (sym (unclosed_complete x t q b) ∙ e) in
           subst (Unclosed x t) same b
     ]
 
@@ -316,8 +316,8 @@ pub layout_length : (x : Bool) (t v : Text) → layout x t ≡ rest v → length
 layout_length x t v e = let (w, cut) = layout_cut x t v e in omega (arith, simp length-append at (ap length cut))
 
 -- the error is at the end of the text, or one past it
-pub layout_stands : (p : ℕ) (x : Bool) (t : Text) (q : ℕ) → layout x t ≡ fault q → Stands p t q
-layout_stands p x t q e = place (unclosed_sound x t q e).inside where
-  place : {r : Text} {q : ℕ} → OpenComment r q → Stands p t q
-  place (to_end i) = stands_end t
-  place (after_backslash i e f j) = beyond f
+pub layout_lies : (p : ℕ) (x : Bool) (t : Text) (q : ℕ) → layout x t ≡ failed q → LiesIn p t q
+layout_lies p x t q e = position (unclosed_sound x t q e).inside where
+  position : {r : Text} {q : ℕ} → OpenComment r q → LiesIn p t q
+  position (to_end i) = lies_at_end t
+  position (after_backslash i e f j) = beyond f

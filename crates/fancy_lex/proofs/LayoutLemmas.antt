@@ -5,15 +5,15 @@ use Rattle.std.proofs.lemmas.Bool.Decides.{nat_tests}
 use Rattle.fancy_lex.specs.Characters.{line_feed, hash, open_paren, close_paren, backslash}
 use Rattle.fancy_lex.specs.Text.{Text, at_end, past_end}
 use Rattle.fancy_lex.specs.Layout.{is_blank}
-use Rattle.fancy_lex.specs.LayoutSteps.{rest, fault, layout_from, between}
-use Rattle.fancy_lex.specs.LayoutSteps.{two, comment, escaped, line, is_layout, after_comment_head}
+use Rattle.fancy_lex.specs.LayoutSteps.{rest, failed, layout_from, between}
+use Rattle.fancy_lex.specs.LayoutSteps.{two, comment, escaped, line, is_layout, after_comment_start}
 
 module _ (x : Bool) (t : Text) where
-  pub comment_end : t ≡ [] → layout_from x comment t ≡ fault at_end
+  pub comment_end : t ≡ [] → layout_from x comment t ≡ failed at_end
   unfolding layout_from
   comment_end e = ap (layout_from x comment) e
 
-  pub escaped_end : t ≡ [] → layout_from x escaped t ≡ fault past_end
+  pub escaped_end : t ≡ [] → layout_from x escaped t ≡ failed past_end
   unfolding layout_from
   escaped_end e = ap (layout_from x escaped) e
 
@@ -42,13 +42,13 @@ module _ (x : Bool) (t : Text) where
     line_step e = ap (layout_from x line) e
 
     pub between_step : t ≡ c ∷ r → layout_from x between
-        t ≡ (if is_some (after_comment_head t) then layout_from x two r else if x && c == hash then layout_from x
+        t ≡ (if is_some (after_comment_start t) then layout_from x two r else if x && c == hash then layout_from x
         line r else if x && is_blank c then layout_from x between r else rest t)
     unfolding layout_from
     between_step e = rw e refl
 
 -- `(?#` opens a comment
-pub between_opened : (x : Bool) (t i : Text) → after_comment_head t ≡ Some i →
+pub between_opened : (x : Bool) (t i : Text) → after_comment_start t ≡ Some i →
     layout_from x between t ≡ layout_from x comment i
 unfolding layout_from
 between_opened x [] i e = cc
@@ -59,13 +59,13 @@ between_opened x (c ∷ d ∷ f ∷ r) i e = grind (arith, nat_tests)
 -- ---- the tests of the code
 
 -- without the flag, only comments are layout
-pub between_plain : (t : Text) → after_comment_head t ≡ None → layout_from false between t ≡ rest t
+pub between_plain : (t : Text) → after_comment_start t ≡ None → layout_from false between t ≡ rest t
 unfolding layout_from
 between_plain [] e = refl
 between_plain (c ∷ r) e = grind (arith, nat_tests)
 
 -- the cases of a step, by the tests of the code
-module _ (x : Bool) (t : Text) (c : ℕ) (r : Text) (e : t ≡ c ∷ r) (none : after_comment_head t ≡ None)
+module _ (x : Bool) (t : Text) (c : ℕ) (r : Text) (e : t ≡ c ∷ r) (none : after_comment_start t ≡ None)
     (ignore_space : x ≡ true) where
   pub between_line : c ≡ hash → layout_from x between t ≡ layout_from x line r
   between_line h = let step = between_step x t c r e in grind (arith, nat_tests)
@@ -78,8 +78,8 @@ module _ (x : Bool) (t : Text) (c : ℕ) (r : Text) (e : t ≡ c ∷ r) (none : 
 
 -- no layout, by the first character
 module _ (x : Bool) (t : Text) (c : ℕ) (r : Text) (e : t ≡ c ∷ r) (paren : c ≢ open_paren) where
-  no_comment_head : is_some (after_comment_head (c ∷ r)) ≡ false
-  no_comment_head = grind (arith, nat_tests)
+  no_comment_start : is_some (after_comment_start (c ∷ r)) ≡ false
+  no_comment_start = grind (arith, nat_tests)
 
   by_flag : (y : Bool) → is_layout y c ≡ false →
       (if y && c == hash then layout_from x line r else if y && is_blank c then layout_from x between r else rest t)
@@ -87,7 +87,7 @@ module _ (x : Bool) (t : Text) (c : ℕ) (r : Text) (e : t ≡ c ∷ r) (paren :
   by_flag y h = grind (arith, nat_tests)
 
   pub between_no_layout : is_layout x c ≡ false → layout_from x between t ≡ rest t
-  between_no_layout h = between_step x t c r e ∙ rw (e, no_comment_head) (rw e at by_flag x h)
+  between_no_layout h = between_step x t c r e ∙ rw (e, no_comment_start) (rw e at by_flag x h)
 
 -- the same inside a comment and a line comment
 module _ (x : Bool) (t : Text) (c : ℕ) (r : Text) (e : t ≡ c ∷ r) where

@@ -11,7 +11,7 @@ pub mod IdLemmas
 pub mod AsciiLemmas
 mod NumberIds
 pub mod ReferenceLaws
-pub mod ReferencePlaces
+pub mod ReferencePositions
 -- ---- escapes
 mod HexLemmas
 mod BoundaryLemmas
@@ -26,4 +26,4 @@ pub mod EscapeFrame
 -- ---- classes
 mod ClassLemmas
 pub mod ClassLaws
-pub mod PlaceLaws
+pub mod PositionLaws

@@ -43,11 +43,11 @@ abbrev pub reads_on : Bool → ℕ → Bool
 reads_on inside c = is_ascii_digit c || (c ∈ "xuUpP" || (not inside && c ∈ "kgbB"))
 
 module _ (f : Flags) (p c : ℕ) (t : Text) where
-  by_place : (inside : Bool) → is_ascii_digit c ≡ false → (c ∈ "xuUpP") ≡ false →
+  by_position : (inside : Bool) → is_ascii_digit c ≡ false → (c ∈ "xuUpP") ≡ false →
       escape_at f inside p (c ∷ t) ≡ choose (lone_escape f inside c) (λ e. gives e t)
       (if inside then unknown_escape p c else outside f p c t)
   unfolding escape_at
-  by_place inside digit on =
+  by_position inside digit on =
       let two : (c ∈ "x") ≡ false = grind (arith, nat_tests) in
       let four : (c ∈ "u") ≡ false = grind (arith, nat_tests) in
       let eight : (c ∈ "U") ≡ false = grind (arith, nat_tests) in
@@ -65,7 +65,7 @@ module _ (f : Flags) (p c : ℕ) (t : Text) where
   -- if nothing more belongs to it, the character is the whole escape, or is no escape
   pub alone : (inside : Bool) → reads_on inside c ≡ false →
       escape_at f inside p (c ∷ t) ≡ choose (lone_escape f inside c) (λ e. gives e t) (unknown_escape p c)
-  alone true on = by_place true (grind (arith, nat_tests)) (grind (arith, nat_tests))
+  alone true on = by_position true (grind (arith, nat_tests)) (grind (arith, nat_tests))
   alone false on =
-      by_place false (grind (arith, nat_tests)) (grind (arith, nat_tests))
+      by_position false (grind (arith, nat_tests)) (grind (arith, nat_tests))
       ∙ ap (choose (lone_escape f false c) (λ e. gives e t)) (no_other (grind (arith, nat_tests)))

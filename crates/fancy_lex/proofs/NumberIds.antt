@@ -17,20 +17,20 @@ use Rattle.fancy_lex.specs.Referred.{reference_of, reference_to, target_of_name,
 use Rattle.fancy_lex.specs.Target.{by_number, by_name}
 use Rattle.fancy_lex.specs.Reading.{choose}
 use Rattle.fancy_lex.specs.Text.{Text, strip}
-use Rattle.fancy_lex.proofs.AsciiLemmas.{alphanumeric_told, other_told}
+use Rattle.fancy_lex.proofs.AsciiLemmas.{alphanumeric_id, other_id}
 use Rattle.fancy_lex.proofs.IdLemmas.{front_some, id_cut}
 use Rattle.fancy_lex.proofs.NumberLemmas.{Taken, digits_of, number_taken}
 
 -- ---- which characters are id characters
 
 id_of_digit : (c : ℕ) → is_ascii_digit c ≡ true → is_id_char c ≡ true
-id_of_digit c h = alphanumeric_told c (rw h refl)
+id_of_digit c h = alphanumeric_id c (rw h refl)
 
 sign_no_id : (c : ℕ) → (c ∈ "+-") ≡ true → is_id_char c ≡ false
 sign_no_id c h =
     let alone : is_ascii_alphanumeric c ≡ false = grind (arith, nat_tests) in
     let ascii : is_ascii c ≡ true = grind (arith, nat_tests) in
-    other_told c alone ascii ∙ grind (arith, nat_tests)
+    other_id c alone ascii ∙ grind (arith, nat_tests)
 
 -- there is no id at the front
 abbrev NoId : Text → Type 0
@@ -54,9 +54,9 @@ unfolding amount
 nothing_no_amount z e = cc
 
 -- an amount after an id
-amount_behind : (i v : Text) (z : ℤ) → amount v ≡ Some z → with_id true i v ≡ Some (id_and_amount i z)
-amount_behind i [] z h = absurd (nothing_no_amount z h)
-amount_behind i (c ∷ v) z h = rw h refl
+amount_after : (i v : Text) (z : ℤ) → amount v ≡ Some z → with_id true i v ≡ Some (id_and_amount i z)
+amount_after i [] z h = absurd (nothing_no_amount z h)
+amount_after i (c ∷ v) z h = rw h refl
 
 -- an id begins with no plus
 no_plus : (t w v : Text) → ◌≡◌ {A = Option (Text × Text)} (id t) (Some (w, v)) → strip (code "+") t ≡ None
@@ -118,7 +118,7 @@ module _ (p : ℕ) (t v : Text) (n : ℕ) (found : number t ≡ Some (n, v)) (wo
       written_reference p true t ≡ Some (reference_to p (by_number n) (Some z))
   unfolding written_reference reference_of id_reference
   level_written z h =
-      rw (digits_id (no_id_amount v z h), amount_behind (digits_of t) v z h, number_named) refl
+      rw (digits_id (no_id_amount v z h), amount_after (digits_of t) v z h, number_named) refl
 
 pub ruleset numbers_written = (number_written, level_written)
 

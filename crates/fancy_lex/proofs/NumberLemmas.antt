@@ -28,19 +28,19 @@ pub at_digit_is : (t : Text) (d : ℕ) (r : Text) → t ≡ digit_code d ∷ r �
 at_digit_is t d r e h = rw e (digit_is d h)
 
 -- the text after the digits does not depend on the digits before
-run_behind : (n m : ℕ) (t : Text) → (run n t).1 ≡ (run m t).1
+run_after : (n m : ℕ) (t : Text) → (run n t).1 ≡ (run m t).1
 unfolding run
-run_behind n m [] = refl
-run_behind n m (c ∷ t) =
+run_after n m [] = refl
+run_after n m (c ∷ t) =
     let d = c - code "0" in
-    at _ _ (is_ascii_digit c) (run_behind (n * 10 + d) (m * 10 + d) t)
+    at _ _ (is_ascii_digit c) (run_after (n * 10 + d) (m * 10 + d) t)
   where
     at : (a b : ℕ × Text) (is : Bool) → a.1 ≡ b.1 → (if is then a else (n, c ∷ t)).1 ≡ (if is then b else (m, c ∷ t)).1
     at a b true h = h
     at a b false h = refl
 
-pub behind_step : (t : Text) (d : ℕ) (r : Text) → t ≡ digit_code d ∷ r → d < 10 → (run 0 t).1 ≡ (run 0 r).1
-behind_step t d r e h = ap (λ (p : ℕ × Text). p.1) (run_first t d r e h) ∙ run_behind d 0 r
+pub after_step : (t : Text) (d : ℕ) (r : Text) → t ≡ digit_code d ∷ r → d < 10 → (run 0 t).1 ≡ (run 0 r).1
+after_step t d r e h = ap (λ (p : ℕ × Text). p.1) (run_first t d r e h) ∙ run_after d 0 r
 
 -- digits make no number smaller
 run_grows : (n : ℕ) (t : Text) → n ≤ (run n t).0
@@ -60,7 +60,7 @@ pub run_beyond : (n : ℕ) (t : Text) (d : ℕ) (r v : Text) → t ≡ digit_cod
 run_beyond n t d r v e h beyond left =
     let more = run_grows (n * 10 + d) r in (
       (run (n * 10 + d) r).0,
-      run_step n t d r e h ∙ ap (λ u. ((run (n * 10 + d) r).0, u)) (run_behind _ 0 r ∙ left),
+      run_step n t d r e h ∙ ap (λ u. ((run (n * 10 + d) r).0, u)) (run_after _ 0 r ∙ left),
       omega (arith, beyond, more),
     )
 

@@ -17,36 +17,36 @@ use Rattle.fancy_lex.specs.Property.{lowercase}
 use Rattle.fancy_lex.specs.Text.{Text, cut_at}
 
 -- the text before a delimiter
-cut_first : (mark : ℕ) (w v : Text) → NonePass (λ d. d == mark) w → cut_at mark (w ++ (mark ∷ v)) ≡ Some (w, v)
-cut_first mark [] v h = grind (arith, nat_tests)
-cut_first mark (c ∷ w) v h = rw (h.0, cut_first mark w v h.1) refl
+cut_first : (delimiter : ℕ) (w v : Text) → NonePass (λ d. d == delimiter) w → cut_at delimiter (w ++ (delimiter ∷ v)) ≡ Some (w, v)
+cut_first delimiter [] v h = grind (arith, nat_tests)
+cut_first delimiter (c ∷ w) v h = rw (h.0, cut_first delimiter w v h.1) refl
 
-cut_none : (mark : ℕ) (t : Text) → NonePass (λ d. d == mark) t → cut_at mark t ≡ None
-cut_none mark [] h = refl
-cut_none mark (c ∷ t) h = rw (h.0, cut_none mark t h.1) refl
+cut_none : (delimiter : ℕ) (t : Text) → NonePass (λ d. d == delimiter) t → cut_at delimiter t ≡ None
+cut_none delimiter [] h = refl
+cut_none delimiter (c ∷ t) h = rw (h.0, cut_none delimiter t h.1) refl
 
-pub cut_split : (mark : ℕ) (bs : List ℕ) (r : Option (Bor (List ℕ) × Bor (List ℕ))) → IsUtf8 bs → mark < 128 →
-    IsSplitOnceResult mark bs r → cut_at mark (chars bs) ≡ option_map (λ p. (chars p.0.now, chars p.1.now)) r
-cut_split mark bs None u low (cs, e, none) =
+pub cut_split : (delimiter : ℕ) (bs : List ℕ) (r : Option (Bor (List ℕ) × Bor (List ℕ))) → IsUtf8 bs → delimiter < 128 →
+    IsSplitOnceResult delimiter bs r → cut_at delimiter (chars bs) ≡ option_map (λ p. (chars p.0.now, chars p.1.now)) r
+cut_split delimiter bs None u low (cs, e, none) =
     let same = chars_from_encodes cs bs u e in
-    cut_none mark (chars bs) (subst (NonePass (λ d. d == mark)) same none)
-cut_split mark bs (Some x) u low h =
+    cut_none delimiter (chars bs) (subst (NonePass (λ d. d == delimiter)) same none)
+cut_split delimiter bs (Some x) u low h =
     let (i, j, (before, here), front, back, _, start, _) = h in
-    let cut : bs ≡ x.0.now ++ (mark ∷ x.1.now) = (split_parts mark bs (Some x) h low).0 in
-    let inside : i < length bs = rw cut (omega (arith, length-append x.0.now (mark ∷ x.1.now), start)) in
-    let is_mark : get_or bs i 0 ≡ mark = here.byte low in
+    let cut : bs ≡ x.0.now ++ (delimiter ∷ x.1.now) = (split_parts delimiter bs (Some x) h low).0 in
+    let inside : i < length bs = rw cut (omega (arith, length-append x.0.now (delimiter ∷ x.1.now), start)) in
+    let is_delimiter : get_or bs i 0 ≡ delimiter = here.byte low in
     let bound : IsCharBoundary bs i = IsCharBoundary-before_ascii bs i inside (omega arith) in
     let front_utf8 : IsUtf8 x.0.now = rw front (IsUtf8-take bs i u bound) in
-    let rest : drop i bs ≡ mark ∷ x.1.now = rw back (drop_at_char mark bs i j here low) in
-    let rest_utf8 : IsUtf8 (mark ∷ x.1.now) = rw (← rest) (IsUtf8-drop bs i u bound) in
-    let split : chars bs ≡ chars x.0.now ++ (mark ∷ chars x.1.now) =
-    ap chars cut ∙ chars-append x.0.now (mark ∷ x.1.now) front_utf8
+    let rest : drop i bs ≡ delimiter ∷ x.1.now = rw back (drop_at_char delimiter bs i j here low) in
+    let rest_utf8 : IsUtf8 (delimiter ∷ x.1.now) = rw (← rest) (IsUtf8-drop bs i u bound) in
+    let split : chars bs ≡ chars x.0.now ++ (delimiter ∷ chars x.1.now) =
+    ap chars cut ∙ chars-append x.0.now (delimiter ∷ x.1.now) front_utf8
     ∙ ap (λ t. chars x.0.now ++ t)
-    (chars_past_char (mark ∷ x.1.now) x.1.now mark rest_utf8 (rw (encode_ascii mark low) refl)) in
+    (chars_past_char (delimiter ∷ x.1.now) x.1.now delimiter rest_utf8 (rw (encode_ascii delimiter low) refl)) in
     let (cs, e, none) = before in
     let same : cs ≡ chars x.0.now = rw front (chars_from_encodes cs (take i bs) (IsUtf8-take bs i u bound) e) in
-    ap (cut_at mark) split ∙ cut_first mark (chars x.0.now) (chars x.1.now)
-    (subst (NonePass (λ d. d == mark)) same none)
+    ap (cut_at delimiter) split ∙ cut_first delimiter (chars x.0.now) (chars x.1.now)
+    (subst (NonePass (λ d. d == delimiter)) same none)
 
 -- a byte of a character that is not in ASCII stays the same
 stays : (bs : List ℕ) → ((k : ℕ) → k < length bs → 128 ≤ get_or bs k 0) → map to_ascii_lowercase bs ≡ bs

@@ -3,10 +3,10 @@ use Rattle.std.proofs.Common.{◌≡◌, ℕ, List, Option, Some, None, Result, 
 use Rattle.std.specs.Borrow.{Bor}
 use Rattle.fancy_lex.specs.Text.{Text}
 use Rattle.fancy_lex.specs.ErrorViews.{IfFailed}
-use Rattle.fancy_lex.specs.Reading.{Reading, gives, fails, fault_at, CarriesText, Says, Reads, Reports, Answers}
+use Rattle.fancy_lex.specs.Reading.{Reading, gives, fails, error_at, CarriesText, Says, Reads, Reports, Returns}
 use Rattle.fancy_lex.specs.Reading.{IsReadingOrNoMemory, Derives, choose, ◌>=>◌}
-use Rattle.fancy_lex.specs.declared.error.Failure.{Failure}
-use Rattle.fancy_lex.specs.declared.error.Failure.TheVariants.{At, OutOfMemory}
+use Rattle.fancy_lex.specs.declared.error.ReadError.{ReadError}
+use Rattle.fancy_lex.specs.declared.error.ReadError.TheVariants.{At, OutOfMemory}
 
 -- what holds in both cases holds for `choose`
 pub choose_both : {A B : Type 0} (P : B → Type 0) (o : Option A) (f : A → B) (b : B) →
@@ -16,11 +16,11 @@ choose_both P None f b g h = h
 
 module _ {A B : Type 0} (o : Reading A) (f : A → Text → Reading B) where
   -- the error of the first step is the error of both
-  pub says_first : (b : Failure) → Says b o → Says b (o >=> f)
+  pub says_first : (b : ReadError) → Says b o → Says b (o >=> f)
   says_first (At p k) e = rw e refl
   says_first OutOfMemory e = absurd e
 
-  pub reports_first : (b : Failure) → Reports b o → Reports b (o >=> f)
+  pub reports_first : (b : ReadError) → Reports b o → Reports b (o >=> f)
   reports_first (At p k) e = rw e refl
   reports_first OutOfMemory e = carried o e where
     carried : (q : Reading A) → CarriesText q → CarriesText (q >=> f)
@@ -28,34 +28,34 @@ module _ {A B : Type 0} (o : Reading A) (f : A → Text → Reading B) where
     carried (fails d) h = h
 
 -- the error is that of the reading, unless memory ran out
-pub report_fails : {A : Type 0} (b : Failure) (o : Reading A) → Reports b o → IfFailed b (λ k p. o ≡ fault_at p k)
+pub report_fails : {A : Type 0} (b : ReadError) (o : Reading A) → Reports b o → IfFailed b (λ k p. o ≡ error_at p k)
 report_fails (At p k) o e = e
 report_fails OutOfMemory o e = tt
 
 -- a reading that equals the function's result is the code's result
-pub only_answer : {A B : Type 0} (f : A → B) (r : Result (A × Bor (List ℕ)) Failure) (o q : Reading B) → o ≡ q →
-    Answers f r o → Answers f r q
-only_answer f r o q e g = subst (Answers f r) e g
+pub only_returned : {A B : Type 0} (f : A → B) (r : Result (A × Bor (List ℕ)) ReadError) (o q : Reading B) → o ≡ q →
+    Returns f r o → Returns f r q
+only_returned f r o q e g = subst (Returns f r) e g
 
 -- the code's result is the reading, unless memory ran out
-pub answers_gives : {A B : Type 0} (f : A → B) (r : Result (A × Bor (List ℕ)) Failure) (o : Reading B) → Answers f r o →
+pub returns_gives : {A B : Type 0} (f : A → B) (r : Result (A × Bor (List ℕ)) ReadError) (o : Reading B) → Returns f r o →
     IsReadingOrNoMemory f r o
-answers_gives f (Ok p) o g = g
-answers_gives f (Err e) o g = report_fails e o g
+returns_gives f (Ok p) o g = g
+returns_gives f (Err e) o g = report_fails e o g
 
 -- if the relation holds of the function's result, it holds of the code's result
-pub derives_given : {A B : Type 0} (f : A → B) (r : Result (A × Bor (List ℕ)) Failure) (R : Reading B → Type 0)
+pub derives_given : {A B : Type 0} (f : A → B) (r : Result (A × Bor (List ℕ)) ReadError) (R : Reading B → Type 0)
     (o : Reading B) → R o → IsReadingOrNoMemory f r o → Derives f r R
 derives_given f (Ok p) R o h g = subst R g h
 derives_given f (Err OutOfMemory) R o h g = tt
 derives_given f (Err (At p k)) R o h g = subst R g h
 
-pub derives_answer : {A B : Type 0} (f : A → B) (r : Result (A × Bor (List ℕ)) Failure) (R : Reading B → Type 0)
-    (o : Reading B) → R o → Answers f r o → Derives f r R
-derives_answer f r R o h g = derives_given f r R o h (answers_gives f r o g)
+pub derives_returned : {A B : Type 0} (f : A → B) (r : Result (A × Bor (List ℕ)) ReadError) (R : Reading B → Type 0)
+    (o : Reading B) → R o → Returns f r o → Derives f r R
+derives_returned f r R o h g = derives_given f r R o h (returns_gives f r o g)
 
-pub reads_answers : {A B : Type 0} (f : A → B) (r : Result (A × Bor (List ℕ)) Failure) (o : Reading B) → Reads f r o →
-    Answers f r o
-reads_answers f (Ok p) o g = g
-reads_answers f (Err OutOfMemory) o g = absurd g
-reads_answers f (Err (At p k)) o g = g
+pub reads_returns : {A B : Type 0} (f : A → B) (r : Result (A × Bor (List ℕ)) ReadError) (o : Reading B) → Reads f r o →
+    Returns f r o
+reads_returns f (Ok p) o g = g
+reads_returns f (Err OutOfMemory) o g = absurd g
+reads_returns f (Err (At p k)) o g = g

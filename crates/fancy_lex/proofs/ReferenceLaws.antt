@@ -8,10 +8,10 @@ use Rattle.std.proofs.lemmas.Bool.Decides.{nat_tests}
 use Rattle.fancy_lex.specs.Id.{nonempty_front}
 use Rattle.std.proofs.lemmas.Bool.{cond_both}
 use Prim.Native.Char.{code}
-use Rattle.fancy_lex.specs.Delimited.{name_before, marked_name, of_name}
+use Rattle.fancy_lex.specs.Delimited.{name_before, delimited_name, of_name}
 use Rattle.fancy_lex.specs.EscapeReference.{number_reading, group_number, numbered_reference, back_reference}
-use Rattle.fancy_lex.specs.EscapeReference.{written_call, marked_call, numbered_call, subroutine_call}
-use Rattle.fancy_lex.specs.FaultTable.{number_too_great}
+use Rattle.fancy_lex.specs.EscapeReference.{written_call, delimited_call, numbered_call, subroutine_call}
+use Rattle.fancy_lex.specs.ErrorTable.{number_too_great}
 use Rattle.fancy_lex.specs.Number.{number, at_digit}
 use Rattle.fancy_lex.specs.Reading.{fails, choose}
 use Rattle.fancy_lex.specs.Referred.{call_to, reference_to, name_reading, reference_by_name, written_reference}
@@ -23,43 +23,43 @@ use Rattle.fancy_lex.proofs.TakeLaws.{takes_as, takes_less}
 
 -- the text is the text before the delimiter, the delimiter, and the text after it
 abbrev pub IsCut : ℕ → Text → Option (Text × Text) → Type 0
-IsCut mark t o = IfSome o (λ p. t ≡ p.0 ++ mark ∷ p.1)
+IsCut delimiter t o = IfSome o (λ p. t ≡ p.0 ++ delimiter ∷ p.1)
 
-pub cut_is : (mark : ℕ) (t : Text) → IsCut mark t (cut_at mark t)
-cut_is mark [] = tt
-cut_is mark (c ∷ t) = at (c == mark) refl (cut_at mark t) (cut_is mark t) where
-  at : (b : Bool) → (c == mark) ≡ b → (o : Option (Text × Text)) → IsCut mark t o →
-      IsCut mark (c ∷ t) (if b then Some ([], t) else option_map (λ p. (c ∷ p.0, p.1)) o)
-  at true s o h = let same : c ≡ mark = grind (arith, nat_tests) in ap (λ d. d ∷ t) same
+pub cut_is : (delimiter : ℕ) (t : Text) → IsCut delimiter t (cut_at delimiter t)
+cut_is delimiter [] = tt
+cut_is delimiter (c ∷ t) = at (c == delimiter) refl (cut_at delimiter t) (cut_is delimiter t) where
+  at : (b : Bool) → (c == delimiter) ≡ b → (o : Option (Text × Text)) → IsCut delimiter t o →
+      IsCut delimiter (c ∷ t) (if b then Some ([], t) else option_map (λ p. (c ∷ p.0, p.1)) o)
+  at true s o h = let same : c ≡ delimiter = grind (arith, nat_tests) in ap (λ d. d ∷ t) same
   at false s None h = tt
   at false s (Some p) h = ap (λ u. c ∷ u) h
 
 -- a name and its closing delimiter
-pub takes_name : (mark : ℕ) (t : Text) → TakesSome 2 t (name_before mark t)
+pub takes_name : (delimiter : ℕ) (t : Text) → TakesSome 2 t (name_before delimiter t)
 unfolding name_before
-takes_name mark t = at (cut_at mark t) (cut_is mark t) where
-  at : (o : Option (Text × Text)) → IsCut mark t o → TakesSome 2 t (option_and_then nonempty_front o)
+takes_name delimiter t = at (cut_at delimiter t) (cut_is delimiter t) where
+  at : (o : Option (Text × Text)) → IsCut delimiter t o → TakesSome 2 t (option_and_then nonempty_front o)
   at None e = tt
   at (Some ([], v)) e = tt
   at (Some (c ∷ w, v)) e = record {
-    word = c ∷ w ++ mark ∷ [];
-    cut = e ∙ sym (append_assoc (c ∷ w) (mark ∷ []) v);
-    long = omega (arith, length-append w (mark ∷ []));
+    word = c ∷ w ++ delimiter ∷ [];
+    cut = e ∙ sym (append_assoc (c ∷ w) (delimiter ∷ []) v);
+    long = omega (arith, length-append w (delimiter ∷ []));
   }
 
 -- the same after an opening delimiter
-past_mark : (c mark : ℕ) (t : Text) → TakesSome 3 (c ∷ t) (name_before mark t)
-past_mark c mark t = at (name_before mark t) (takes_name mark t) where
+past_delimiter : (c delimiter : ℕ) (t : Text) → TakesSome 3 (c ∷ t) (name_before delimiter t)
+past_delimiter c delimiter t = at (name_before delimiter t) (takes_name delimiter t) where
   at : (o : Option (Text × Text)) → TakesSome 2 t o → TakesSome 3 (c ∷ t) o
   at None h = tt
   at (Some p) h = takes_on (omega arith) (takes_one c t) h
 
-pub takes_marked_name : (t : Text) → TakesSome 3 t (marked_name t)
-unfolding marked_name
-takes_marked_name [] = tt
-takes_marked_name (c ∷ t) =
-    cond_both (c == code "<") _ _ (TakesSome 3 (c ∷ t)) (λ _. past_mark c (code ">") t)
-    (λ _. cond_both (c == code "'") _ _ (TakesSome 3 (c ∷ t)) (λ _. past_mark c (code "'") t) (λ _. tt))
+pub takes_delimited_name : (t : Text) → TakesSome 3 t (delimited_name t)
+unfolding delimited_name
+takes_delimited_name [] = tt
+takes_delimited_name (c ∷ t) =
+    cond_both (c == code "<") _ _ (TakesSome 3 (c ∷ t)) (λ _. past_delimiter c (code ">") t)
+    (λ _. cond_both (c == code "'") _ _ (TakesSome 3 (c ∷ t)) (λ _. past_delimiter c (code "'") t) (λ _. tt))
 
 -- the value of a name is read from as many characters as the name
 module _ {A : Type 0} (k : ℕ) (t : Text) (f : Text → Option A) where
@@ -108,19 +108,19 @@ takes_numbered_reference t = takes_as (reach_of t) 1 t (λ k. reference_to (reac
 
 pub takes_back_reference : (t : Text) → TakesOrFails (reach_of t) 3 t (back_reference t)
 unfolding back_reference
-takes_back_reference t = takes_reference_by_name 3 t true (marked_name t) (takes_marked_name t)
+takes_back_reference t = takes_reference_by_name 3 t true (delimited_name t) (takes_delimited_name t)
 
 takes_numbered_call : (t : Text) → TakesOrFails (reach_of t) 1 t (numbered_call t)
 unfolding numbered_call
 takes_numbered_call t = takes_as (reach_of t) 1 t (λ k. call_to (reach_of t) (by_number k)) (takes_number t)
 
-takes_marked_call : (t : Text) → TakesOrFails (reach_of t) 3 t
-    (name_reading (reach_of t) (marked_call (reach_of t) t))
-unfolding marked_call
-takes_marked_call t = takes_by_name 3 t t (written_call (reach_of t)) (marked_name t) (takes_marked_name t)
+takes_delimited_call : (t : Text) → TakesOrFails (reach_of t) 3 t
+    (name_reading (reach_of t) (delimited_call (reach_of t) t))
+unfolding delimited_call
+takes_delimited_call t = takes_by_name 3 t t (written_call (reach_of t)) (delimited_name t) (takes_delimited_name t)
 
 pub takes_subroutine_call : (t : Text) → TakesOrFails (reach_of t) 1 t (subroutine_call t)
 unfolding subroutine_call
 takes_subroutine_call t =
     takes_if (reach_of t) 1 t (at_digit t) (takes_numbered_call t)
-    (takes_less (reach_of t) 3 t (omega arith) (takes_marked_call t))
+    (takes_less (reach_of t) 3 t (omega arith) (takes_delimited_call t))

@@ -2,11 +2,11 @@
 use Rattle.std.proofs.Common.{◌≡◌, ℕ, Bool, true, false, if◌then◌else◌, ◌+◌, ◌≤◌, [], ◌∷◌, ◌++◌, length, length-append}
 use Rattle.std.proofs.Common.{append_assoc, ap, sym, ◌∙◌, refl, subst, arith, IfSome, Option, Some, None}
 use Rattle.std.proofs.lemmas.Str.{len_utf8_bounds}
-use Rattle.fancy_lex.specs.Fault.{Fault}
+use Rattle.fancy_lex.specs.Located.{Located}
 use Rattle.fancy_lex.specs.Reading.{Reading, gives, fails, ◌>=>◌}
-use Rattle.fancy_lex.specs.Text.{Text, Stands, bytes}
+use Rattle.fancy_lex.specs.Text.{Text, LiesIn, bytes}
 use Rattle.fancy_lex.proofs.TextLemmas.{bytes-append}
-use Rattle.fancy_lex.proofs.LeaveLaws.{Leaves, leaves, faults}
+use Rattle.fancy_lex.proofs.LeaveLaws.{Leaves, leaves, errs}
 
 -- `u` is the rest of the text after a word of at least k characters
 pub record Takes (k : ℕ) (t u : Text) : Type 0 where
@@ -45,7 +45,7 @@ takes_less_some j k t (Some p) e h = record { word = h.word; cut = h.cut; long =
 -- a reading reads at least k characters, or its error is at the reach p
 pub data TakesOrFails {A : Type 0} (p k : ℕ) : Text → Reading A → Type 0 where
   takes : {t u : Text} {a : A} → Takes k t u → TakesOrFails p k t (gives a u)
-  fails_at : {t : Text} {e : Fault} → e.reach ≡ p → TakesOrFails p k t (fails e)
+  fails_at : {t : Text} {e : Located} → e.reach ≡ p → TakesOrFails p k t (fails e)
 
 module _ {A : Type 0} (p k : ℕ) (t : Text) where
   pub takes_if : {x y : Reading A} (b : Bool) → TakesOrFails p k t x → TakesOrFails p k t y →
@@ -64,9 +64,9 @@ module _ {A : Type 0} (p k : ℕ) (t : Text) where
   takes_less e (fails_at l) = fails_at l
 
   -- the rest of the text is a suffix of it
-  pub takes_leaves : {h : ℕ} {o : Reading A} → Stands h t p → TakesOrFails p k t o → Leaves h t o
-  takes_leaves stands (takes a) = leaves (a.word, a.cut)
-  takes_leaves {h} stands (fails_at e) = faults (subst (Stands h t) (sym e) stands)
+  pub takes_leaves : {h : ℕ} {o : Reading A} → LiesIn h t p → TakesOrFails p k t o → Leaves h t o
+  takes_leaves lies (takes a) = leaves (a.word, a.cut)
+  takes_leaves {h} lies (fails_at e) = errs (subst (LiesIn h t) (sym e) lies)
 
   -- for a value, at least k bytes were read
   pub takes_or_fails_bytes : {u : Text} {a : A} → TakesOrFails p k t (gives a u) → bytes u + k ≤ bytes t

@@ -132,13 +132,13 @@ pub word_stripped : (s w : List ℕ) → IsUtf8 s → IsUtf8 w → (r : Option (
 word_stripped s w u v (Some x) (n, found, rest, long) =
     let cut = ap chars found.1 ∙ chars-append w _ v in
     ap (strip_word (chars w)) cut ∙ strip_word_same (chars w) _ ∙ ap (λ t. Some (chars t)) (sym rest)
-word_stripped s w u v None lacks = by_answer (strip_word (chars w) (chars s)) refl
+word_stripped s w u v None lacks = by_result (strip_word (chars w) (chars s)) refl
   where
     spelled : (t : Text) → chars s ≡ chars w ++ t → s ≡ w ++ encodes t
     spelled t e =
         sym (encodes-chars s u) ∙ ap encodes e ∙ encodes-append (chars w) t
         ∙ ap (λ b. b ++ encodes t) (encodes-chars w v)
 
-    by_answer : (o : Option Text) → strip_word (chars w) (chars s) ≡ o → o ≡ None
-    by_answer None e = refl
-    by_answer (Some t) e = absurd (lacks (encodes t) (spelled t (strip_word_is (chars w) (chars s) t e)))
+    by_result : (o : Option Text) → strip_word (chars w) (chars s) ≡ o → o ≡ None
+    by_result None e = refl
+    by_result (Some t) e = absurd (lacks (encodes t) (spelled t (strip_word_is (chars w) (chars s) t e)))

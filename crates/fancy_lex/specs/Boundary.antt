@@ -9,8 +9,8 @@ use Rattle.fancy_lex.specs.declared.escape.Assertion.TheVariants.{LeftWordHalfBo
 use Rattle.fancy_lex.specs.declared.escape.Assertion.TheVariants.{WordBoundary, NotWordBoundary}
 use Rattle.fancy_lex.specs.Characters.{open_brace, close_brace, comma}
 use Rattle.fancy_lex.specs.Escaped.{Escape, assertion}
-use Rattle.fancy_lex.specs.Fault.{Fault}
-use Rattle.fancy_lex.specs.FaultTable.{comment_not_closed, boundary_not_closed, name_of_no_boundary}
+use Rattle.fancy_lex.specs.Located.{Located}
+use Rattle.fancy_lex.specs.ErrorTable.{comment_not_closed, boundary_not_closed, name_of_no_boundary}
 use Rattle.fancy_lex.specs.Layout.{Before, Unclosed}
 use Rattle.fancy_lex.specs.Reading.{Reading, gives, fails}
 use Rattle.fancy_lex.specs.Text.{Text, strip}
@@ -41,7 +41,7 @@ pub data BracedName (x : Bool) (p : ℕ) : Text → Reading Text → Type 0 wher
       BracedName x p t (gives (c ∷ w) v)
   open_layout : {q : ℕ} {t : Text} → Unclosed x t q → BracedName x p t (fails (comment_not_closed q))
   no_end : {t : Text} → Before x t [] → BracedName x p t (fails (boundary_not_closed p))
-  fault_behind : {c : ℕ} {t u : Text} {e : Fault} → c ≢ close_brace → Before x t (c ∷ u) →
+  error_after : {c : ℕ} {t u : Text} {e : Located} → c ≢ close_brace → Before x t (c ∷ u) →
       BracedName x p u (fails e) → BracedName x p t (fails e)
 
 -- after layout there is a brace with `u` after it; `counts` says whether `u`, after layout, begins the count of a
@@ -58,7 +58,7 @@ pub data Boundary (x : Bool) (p : ℕ) (negated : Bool) : Text → Reading Escap
       boundary_of_name negated w ≡ Some a → Boundary x p negated t (gives (assertion a) v)
   unknown : {t u v w : Text} → Braces x t u false → BracedName x p u (gives w v) → boundary_of_name negated w ≡ None →
       Boundary x p negated t (fails (name_of_no_boundary p negated w))
-  name_fault : {t u : Text} {e : Fault} → Braces x t u false → BracedName x p u (fails e) →
+  name_error : {t u : Text} {e : Located} → Braces x t u false → BracedName x p u (fails e) →
       Boundary x p negated t (fails e)
   comment_open_before : {q : ℕ} {t : Text} → Unclosed x t q → Boundary x p negated t (fails (comment_not_closed q))
   comment_open_inside : {q : ℕ} {t u : Text} → Before x t (open_brace ∷ u) → Unclosed x u q →

@@ -6,10 +6,10 @@ use Rattle.fancy_lex.specs.declared.escape.Assertion.TheVariants.{LeftWordHalfBo
 use Rattle.fancy_lex.specs.BoundarySteps.{name}
 use Rattle.fancy_lex.specs.Characters.{close_brace}
 use Rattle.fancy_lex.specs.Escaped.{Escape}
-use Rattle.fancy_lex.specs.Fault.{invalid_escape}
-use Rattle.fancy_lex.specs.FaultTable.{boundary_head}
+use Rattle.fancy_lex.specs.Located.{invalid_escape}
+use Rattle.fancy_lex.specs.ErrorTable.{boundary_start}
 use Rattle.fancy_lex.specs.LayoutSteps.{past_layout}
-use Rattle.fancy_lex.specs.Reading.{Reading, fault_at, ◌>=>◌, choose}
+use Rattle.fancy_lex.specs.Reading.{Reading, error_at, ◌>=>◌, choose}
 use Rattle.fancy_lex.specs.Text.{Text, strip}
 
 -- the text after the word and a closing brace, with layout before each character, if the text begins with them
@@ -26,9 +26,9 @@ known_boundary x t =
     (option_map (λ v. (RightWordHalfBoundary, v)) (after_name x (codes "end-half") t))))
 
 -- the error of a name that is unknown; `out` is the text that the error carries before the name
-unfoldable pub name_fault_behind : Bool → ℕ → Text → ℕ → Text → Reading Escape
-name_fault_behind x p out k t = name x p k t >=> (λ w v. fault_at p (invalid_escape (out ++ (w ++ codes "}"))))
+unfoldable pub name_error_after : Bool → ℕ → Text → ℕ → Text → Reading Escape
+name_error_after x p out k t = name x p k t >=> (λ w v. error_at p (invalid_escape (out ++ (w ++ codes "}"))))
 
 -- the same with the opening of the boundary before the name
-unfoldable pub name_fault : Bool → ℕ → Bool → Text → Reading Escape
-name_fault x p negated t = name_fault_behind x p (boundary_head negated) (suc (length t)) t
+unfoldable pub name_error : Bool → ℕ → Bool → Text → Reading Escape
+name_error x p negated t = name_error_after x p (boundary_start negated) (suc (length t)) t

@@ -3,7 +3,7 @@ use Rattle.std.specs.Prelude.{ℕ, zero, suc, Bool, ◌==◌, if◌then◌else�
 use Rattle.fancy_lex.specs.Boundary.{boundary_of_name, unnamed_boundary, at_count}
 use Rattle.fancy_lex.specs.Characters.{open_brace, close_brace}
 use Rattle.fancy_lex.specs.Escaped.{Escape, assertion}
-use Rattle.fancy_lex.specs.FaultTable.{boundary_not_closed, name_of_no_boundary}
+use Rattle.fancy_lex.specs.ErrorTable.{boundary_not_closed, name_of_no_boundary}
 use Rattle.fancy_lex.specs.LayoutSteps.{layout}
 use Rattle.fancy_lex.specs.Reading.{Reading, gives, fails, ◌>=>◌, choose, layout_reading}
 use Rattle.fancy_lex.specs.Text.{Text, strip}

@@ -5,8 +5,8 @@ use Prim.Native.Char.{code}
 use Rattle.fancy_lex.specs.Characters.{backslash, caret, open_bracket, close_bracket, ◌∈◌}
 use Rattle.fancy_lex.specs.Escape.{escape}
 use Rattle.fancy_lex.specs.Escaped.{Escape, literal, literal_bytes, delegate}
-use Rattle.fancy_lex.specs.Fault.{Fault}
-use Rattle.fancy_lex.specs.FaultTable.{class_not_closed}
+use Rattle.fancy_lex.specs.Located.{Located}
+use Rattle.fancy_lex.specs.ErrorTable.{class_not_closed}
 use Rattle.fancy_lex.specs.Property.{is_negated_set}
 use Rattle.fancy_lex.specs.Reading.{Reading, gives, fails, choose, ◌>=>◌}
 use Rattle.fancy_lex.specs.Text.{Text, bytes, strip}
@@ -49,13 +49,13 @@ abbrev pub escape_in_class : Bool → Escape → Text
 escape_in_class seen e = joint (seen && is_negated e) ++ escape_text e
 
 -- adds the delimiter to the text that is written, if the rest begins with it
-abbrev pub with_mark : ℕ → Text × Text → Text × Text
-with_mark mark p = choose {B = Text × Text} (strip mark p.1) (λ u. (p.0 ++ mark ∷ [], u)) p
+abbrev pub with_symbol : ℕ → Text × Text → Text × Text
+with_symbol symbol p = choose {B = Text × Text} (strip symbol p.1) (λ u. (p.0 ++ symbol ∷ [], u)) p
 
 -- adds the opening of a class to the text that is written: the bracket, a caret, and a closing bracket that is a plain
 -- character; returns the rest of the text too
-unfoldable pub class_head : Text → Text → Text × Text
-class_head out t = with_mark close_bracket (with_mark caret (out ++ open_bracket ∷ [], t))
+unfoldable pub class_start : Text → Text → Text × Text
+class_start out t = with_symbol close_bracket (with_symbol caret (out ++ open_bracket ∷ [], t))
 
 -- a class under these flags
 module _ (f : Flags) where
@@ -68,20 +68,20 @@ module _ (f : Flags) where
   class_from (suc k) outer seen out (c ∷ t) =
       if c == backslash then
       escape f true t >=> (λ e u. class_from k outer (seen || is_negated e) (out ++ escape_in_class seen e) u)
-      else if c == open_bracket then class_from k (outer + 1) seen (class_head out t).0 (class_head out t).1
+      else if c == open_bracket then class_from k (outer + 1) seen (class_start out t).0 (class_start out t).1
       else if c == close_bracket then (
       if outer == 0 then gives (out ++ c ∷ []) t else class_from k (outer - 1) seen (out ++ c ∷ []) t)
       else class_from k outer seen (out ++ c ∷ []) t
 
   -- the class after the bracket
   unfoldable pub class : Text → Reading Text
-  class t = class_from (suc (bytes t)) 0 false (class_head [] t).0 (class_head [] t).1
+  class t = class_from (suc (bytes t)) 0 false (class_start [] t).0 (class_start [] t).1
 
 -- the result of a class: the text that is written, whether a negated set was written by then, and the rest of the text;
 -- or an error
 pub data Written : Type 0 where
   written : Text → Bool → Text → Written
-  fault : Fault → Written
+  failed : Located → Written
 
 -- a character that is a literal in a class
 abbrev pub is_plain_in_class : ℕ → Bool
@@ -90,12 +90,12 @@ is_plain_in_class c = not (c ∈ "\\[]")
 mutual
   -- a class after its bracket; the flag says whether a negated set was written before it
   pub data Class : Flags → Bool → Text → Written → Type 0 where
-    class_items : {f : Flags} {b a : Bool} {t u v head w : Text} →
-        ◌≡◌ {A = Text × Text} (class_head [] t) (head, u) →
-        ClassItems f b u (written w a v) → Class f b t (written (head ++ w) a v)
-    class_items_fault : {f : Flags} {b : Bool} {t u head : Text} {e : Fault} →
-        ◌≡◌ {A = Text × Text} (class_head [] t) (head, u) →
-        ClassItems f b u (fault e) → Class f b t (fault e)
+    class_items : {f : Flags} {b a : Bool} {t u v opening w : Text} →
+        ◌≡◌ {A = Text × Text} (class_start [] t) (opening, u) →
+        ClassItems f b u (written w a v) → Class f b t (written (opening ++ w) a v)
+    class_items_error : {f : Flags} {b : Bool} {t u opening : Text} {e : Located} →
+        ◌≡◌ {A = Text × Text} (class_start [] t) (opening, u) →
+        ClassItems f b u (failed e) → Class f b t (failed e)
 
   -- the items of a class through its closing bracket
   pub data ClassItems : Flags → Bool → Text → Written → Type 0 where
@@ -110,20 +110,20 @@ mutual
     nested : {f : Flags} {b m a : Bool} {t u v x w : Text} → Class f b t (written x m u) →
         ClassItems f m u (written w a v) → ClassItems f b (open_bracket ∷ t) (written (x ++ w) a v)
     -- the end of the text
-    end : {f : Flags} {b : Bool} → ClassItems f b [] (fault class_not_closed)
-    plain_fault : {c : ℕ} {f : Flags} {b : Bool} {t : Text} {e : Fault} → is_plain_in_class c ≡ true →
-        ClassItems f b t (fault e) → ClassItems f b (c ∷ t) (fault e)
-    escape_fault : {f : Flags} {b : Bool} {t : Text} {e : Fault} →
-        escape f true t ≡ fails e → ClassItems f b (backslash ∷ t) (fault e)
-    escaped_fault : {f : Flags} {b : Bool} {t u : Text} {x : Escape} {e : Fault} →
+    end : {f : Flags} {b : Bool} → ClassItems f b [] (failed class_not_closed)
+    plain_error : {c : ℕ} {f : Flags} {b : Bool} {t : Text} {e : Located} → is_plain_in_class c ≡ true →
+        ClassItems f b t (failed e) → ClassItems f b (c ∷ t) (failed e)
+    escape_error : {f : Flags} {b : Bool} {t : Text} {e : Located} →
+        escape f true t ≡ fails e → ClassItems f b (backslash ∷ t) (failed e)
+    escaped_error : {f : Flags} {b : Bool} {t u : Text} {x : Escape} {e : Located} →
         escape f true t ≡ gives x u →
-        ClassItems f (b || is_negated x) u (fault e) → ClassItems f b (backslash ∷ t) (fault e)
-    class_fault : {f : Flags} {b : Bool} {t : Text} {e : Fault} →
-        Class f b t (fault e) → ClassItems f b (open_bracket ∷ t) (fault e)
-    nested_fault : {f : Flags} {b m : Bool} {t u x : Text} {e : Fault} → Class f b t (written x m u) →
-        ClassItems f m u (fault e) → ClassItems f b (open_bracket ∷ t) (fault e)
+        ClassItems f (b || is_negated x) u (failed e) → ClassItems f b (backslash ∷ t) (failed e)
+    class_error : {f : Flags} {b : Bool} {t : Text} {e : Located} →
+        Class f b t (failed e) → ClassItems f b (open_bracket ∷ t) (failed e)
+    nested_error : {f : Flags} {b m : Bool} {t u x : Text} {e : Located} → Class f b t (written x m u) →
+        ClassItems f m u (failed e) → ClassItems f b (open_bracket ∷ t) (failed e)
 
 -- the outermost class after its bracket; no negated set was written before it
 abbrev pub OuterClass : Flags → Text → Reading Text → Type 0
 OuterClass f t (gives out v) = (a : Bool) × Class f false t (written out a v)
-OuterClass f t (fails e) = Class f false t (fault e)
+OuterClass f t (fails e) = Class f false t (failed e)

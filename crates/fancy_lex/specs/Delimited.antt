@@ -8,12 +8,12 @@ use Rattle.fancy_lex.specs.Text.{Text, cut_at}
 -- a name is all the characters, one or more, before the first closing delimiter: the name, and the text after the
 -- delimiter
 unfoldable pub name_before : ℕ → Text → Option (Text × Text)
-name_before mark t = option_and_then nonempty_front (cut_at mark t)
+name_before delimiter t = option_and_then nonempty_front (cut_at delimiter t)
 
 -- the name between `<` and `>` or between two `'`, and the text after the closing delimiter
-unfoldable pub marked_name : Text → Option (Text × Text)
-marked_name [] = None
-marked_name (c ∷ t) =
+unfoldable pub delimited_name : Text → Option (Text × Text)
+delimited_name [] = None
+delimited_name (c ∷ t) =
     if c == code "<" then name_before (code ">") t
     else if c == code "'" then name_before (code "'") t
     else None

@@ -13,7 +13,7 @@ use Rattle.fancy_lex.specs.Characters.{backslash, ◌∈◌}
 use Rattle.fancy_lex.specs.EscapeReference as reference
 use Rattle.fancy_lex.specs.Escaped.{hex_class, negated_hex_class, Escape, literal, any, assertion, general_newline}
 use Rattle.fancy_lex.specs.Escaped.{keep_out, continue_from_previous_match_end, delegate, backref, subroutine_call}
-use Rattle.fancy_lex.specs.FaultTable.{backslash_at_end, letter_of_no_escape, number_in_class, property_not_closed}
+use Rattle.fancy_lex.specs.ErrorTable.{backslash_at_end, letter_of_no_escape, number_in_class, property_not_closed}
 use Rattle.fancy_lex.specs.Hex.{hex}
 use Rattle.fancy_lex.specs.Property.{read_property, property_text}
 use Rattle.fancy_lex.specs.Reading.{Reading, gives, fails, ◌>=>◌, choose}

@@ -3,9 +3,9 @@ use Rattle.std.specs.Prelude.{ℕ, ◌^◌, Bool, true, false, ◌&&◌, ◌||�
 use Rattle.std.specs.Prelude.{option_map, is_some}
 use Rattle.std.specs.Option.{option_and_then}
 use Rattle.fancy_lex.specs.Characters.{◌∈◌}
-use Rattle.fancy_lex.specs.Delimited.{marked_name, of_name}
-use Rattle.fancy_lex.specs.Fault.{Fault}
-use Rattle.fancy_lex.specs.FaultTable.{number_too_great}
+use Rattle.fancy_lex.specs.Delimited.{delimited_name, of_name}
+use Rattle.fancy_lex.specs.Located.{Located}
+use Rattle.fancy_lex.specs.ErrorTable.{number_too_great}
 use Rattle.fancy_lex.specs.IdReference.{IdReference, amount_alone, id_reference}
 use Rattle.fancy_lex.specs.Number.{at_digit, number}
 use Rattle.fancy_lex.specs.NumberText.{is_nothing, number_text}
@@ -16,7 +16,7 @@ use Rattle.fancy_lex.specs.Target.{Target, by_number, relative}
 use Rattle.fancy_lex.specs.Text.{Text, reach_of}
 
 -- the number if it fits in a word, and otherwise the error
-abbrev pub number_reading : Fault → ℕ × Text → Reading ℕ
+abbrev pub number_reading : Located → ℕ × Text → Reading ℕ
 number_reading e q = if nat_lt q.0 (2 ^ 64) then gives q.0 q.1 else fails e
 
 -- all the digits at the front, which are the number of a group; without a digit the error is the same
@@ -29,7 +29,7 @@ numbered_reference t = group_number t >=> (λ k u. gives (reference_to (reach_of
 
 -- a back reference after `\k`
 unfoldable pub back_reference : Text → Reading Reference
-back_reference t = reference_by_name (reach_of t) true (marked_name t)
+back_reference t = reference_by_name (reach_of t) true (delimited_name t)
 
 -- whether the name of a call is relative: only a sign, or a sign and a number text
 unfoldable pub is_relative : Text → Bool
@@ -50,8 +50,8 @@ unfoldable pub written_call : ℕ → Text → Option Call
 written_call p w = option_map (call_to p) (call_target w)
 
 -- the call in delimiters at the reach p
-unfoldable pub marked_call : ℕ → Text → Option (Call × Text)
-marked_call p t = of_name (written_call p) (marked_name t)
+unfoldable pub delimited_call : ℕ → Text → Option (Call × Text)
+delimited_call p t = of_name (written_call p) (delimited_name t)
 
 -- a call in digits
 unfoldable pub numbered_call : Text → Reading Call
@@ -60,4 +60,4 @@ numbered_call t = group_number t >=> (λ k u. gives (call_to (reach_of t) (by_nu
 -- a call after `\g`: all the digits there, or a name in delimiters
 unfoldable pub subroutine_call : Text → Reading Call
 subroutine_call t =
-    if at_digit t then numbered_call t else name_reading (reach_of t) (marked_call (reach_of t) t)
+    if at_digit t then numbered_call t else name_reading (reach_of t) (delimited_call (reach_of t) t)

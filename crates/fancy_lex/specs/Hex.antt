@@ -5,7 +5,7 @@ use Rattle.std.specs.Char.{digit_value}
 use Rattle.fancy_lex.specs.declared.flags.Flags.{Flags}
 use Rattle.fancy_lex.specs.Characters.{open_brace, close_brace}
 use Rattle.fancy_lex.specs.Escaped.{Escape, literal, literal_bytes}
-use Rattle.fancy_lex.specs.FaultTable.{code_not_read, code_of_no_character}
+use Rattle.fancy_lex.specs.ErrorTable.{code_not_read, code_of_no_character}
 use Rattle.fancy_lex.specs.LayoutSteps.{layout}
 use Rattle.fancy_lex.specs.Reading.{Reading, gives, fails, ◌>=>◌, choose, layout_reading}
 use Rattle.fancy_lex.specs.Text.{Text, strip, reach_of}

@@ -20,12 +20,12 @@ pub data InLine : Text → Type 0 where
   on_line : {c : ℕ} {t : Text} → c ≢ line_feed → InLine t → InLine (c ∷ t)
 
 -- the opening of a comment
-abbrev pub comment_head : Text
-comment_head = codes "(?#"
+abbrev pub comment_start : Text
+comment_start = codes "(?#"
 
 -- `(?#`, the inside of a comment, and `)`
 abbrev pub IsComment : Text → Type 0
-IsComment u = (t : Text) × InComment t × (u ≡ comment_head ++ (t ++ (close_paren ∷ [])))
+IsComment u = (t : Text) × InComment t × (u ≡ comment_start ++ (t ++ (close_paren ∷ [])))
 
 -- one blank character
 abbrev pub IsBlank : Text → Type 0
@@ -47,7 +47,7 @@ pub data Units : Bool → Text → Text → Type 0 where
 -- `v` begins neither with a unit nor with `(?#`
 pub record Stops (x : Bool) (v : Text) : Type 0 where
   pub no_unit : (u t : Text) → v ≡ u ++ t → IsUnit x u t → ⊥
-  pub no_comment_head : (t : Text) → v ≡ comment_head ++ t → ⊥
+  pub no_comment_start : (t : Text) → v ≡ comment_start ++ t → ⊥
 
 -- `w` is all the layout at its position, with `v` after it
 pub record Layout (x : Bool) (w v : Text) : Type 0 where
@@ -70,6 +70,6 @@ pub data OpenComment : Text → ℕ → Type 0 where
 pub record Unclosed (x : Bool) (t : Text) (p : ℕ) : Type 0 where
   pub w : Text
   pub r : Text
-  pub cut : t ≡ w ++ (comment_head ++ r)
-  pub units : Units x w (comment_head ++ r)
+  pub cut : t ≡ w ++ (comment_start ++ r)
+  pub units : Units x w (comment_start ++ r)
   pub inside : OpenComment r p

@@ -8,12 +8,12 @@ use Rattle.fancy_lex.specs.Text.{Text, strip, at_end, past_end}
 -- what a reader of layout returns: the rest of the text, or the reach of the error
 pub data Skipped : Type 0 where
   rest : Text → Skipped
-  fault : ℕ → Skipped
+  failed : ℕ → Skipped
 
 -- the rest of the text, if no comment is unclosed
 abbrev pub rest_of : Skipped → Option Text
 rest_of (rest t) = Some t
-rest_of (fault p) = None
+rest_of (failed p) = None
 
 -- what the reader is inside: nothing, `(?#` with two characters or one left, a comment, a pair in a comment after its
 -- backslash, or a line comment
@@ -30,15 +30,15 @@ abbrev pub is_layout : Bool → ℕ → Bool
 is_layout x c = x && (c == hash || is_blank c)
 
 -- the text after `(?#`, if the text begins with it
-abbrev pub after_comment_head : Text → Option Text
-after_comment_head t = option_and_then (strip hash) (option_and_then (strip question_mark) (strip open_paren t))
+abbrev pub after_comment_start : Text → Option Text
+after_comment_start t = option_and_then (strip hash) (option_and_then (strip question_mark) (strip open_paren t))
 
 -- the text after the rest of the layout, or the reach of the error if a comment is not closed; no text ends inside
 -- `(?#`, since all three characters are seen before the first is read
 unfoldable pub layout_from : Bool → Phase → Text → Skipped
 layout_from x between [] = rest []
 layout_from x between (c ∷ t) =
-    if is_some (after_comment_head (c ∷ t)) then layout_from x two t
+    if is_some (after_comment_start (c ∷ t)) then layout_from x two t
     else if x && c == hash then layout_from x line t
     else if x && is_blank c then layout_from x between t
     else rest (c ∷ t)
@@ -46,12 +46,12 @@ layout_from x two [] = rest []
 layout_from x two (c ∷ t) = layout_from x one t
 layout_from x one [] = rest []
 layout_from x one (c ∷ t) = layout_from x comment t
-layout_from x comment [] = fault at_end
+layout_from x comment [] = failed at_end
 layout_from x comment (c ∷ t) =
     if c == close_paren then layout_from x between t
     else if c == backslash then layout_from x escaped t
     else layout_from x comment t
-layout_from x escaped [] = fault past_end
+layout_from x escaped [] = failed past_end
 layout_from x escaped (c ∷ t) = layout_from x comment t
 layout_from x line [] = rest []
 layout_from x line (c ∷ t) = if c == line_feed then layout_from x between t else layout_from x line t

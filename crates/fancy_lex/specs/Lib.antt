@@ -4,8 +4,8 @@
 pub mod Characters
 pub mod Text
 pub mod Flags
-pub mod Fault
-pub mod FaultTable
+pub mod Located
+pub mod ErrorTable
 pub mod Reading
 -- ---- layout, numbers, names, and what the names refer to
 pub mod Layout

@@ -2,20 +2,20 @@
 use Rattle.std.specs.Prelude.{◌≡◌, ℕ, true, List, chars, Option, Some, None, Result, MatchResult}
 use Rattle.std.specs.Borrow.{Bor}
 use Rattle.fancy_lex.specs.Text.{Text}
-use Rattle.fancy_lex.specs.Fault.{Fault, Kind, carries_text}
-use Rattle.fancy_lex.specs.ErrorViews.{MatchFailure, IfFailed}
-use Rattle.fancy_lex.specs.FaultTable.{comment_not_closed}
-use Rattle.fancy_lex.specs.LayoutSteps.{Skipped, rest, fault}
-use Rattle.fancy_lex.specs.declared.error.Failure.{Failure}
+use Rattle.fancy_lex.specs.Located.{Located, Kind, carries_text}
+use Rattle.fancy_lex.specs.ErrorViews.{MatchReadError, IfFailed}
+use Rattle.fancy_lex.specs.ErrorTable.{comment_not_closed}
+use Rattle.fancy_lex.specs.LayoutSteps.{Skipped, rest, failed}
+use Rattle.fancy_lex.specs.declared.error.ReadError.{ReadError}
 
 -- a value and the rest of the text, or an error
 pub data Reading (A : Type 0) : Type 0 where
   gives : A → Text → Reading A
-  fails : Fault → Reading A
+  fails : Located → Reading A
 
 -- the error of this kind at this reach
-abbrev pub fault_at : {A : Type 0} → ℕ → Kind → Reading A
-fault_at p k = fails (record { reach = p; kind = k })
+abbrev pub error_at : {A : Type 0} → ℕ → Kind → Reading A
+error_at p k = fails (record { reach = p; kind = k })
 
 -- one step after another
 infixl 10 ◌>=>◌
@@ -29,24 +29,24 @@ choose (Some a) f b = f a
 choose None f b = b
 
 -- the value and the rest of the text, or the error if there is no value
-abbrev pub read_or : {A : Type 0} → Fault → Option (A × Text) → Reading A
+abbrev pub read_or : {A : Type 0} → Located → Option (A × Text) → Reading A
 read_or e o = choose o (λ q. gives q.0 q.1) (fails e)
 
 -- the result of reading layout: an unclosed comment is an error of the pattern
 abbrev pub layout_reading : Skipped → Reading (Unit {0})
 layout_reading (rest t) = gives tt t
-layout_reading (fault p) = fails (comment_not_closed p)
+layout_reading (failed p) = fails (comment_not_closed p)
 
 -- the code's error is that of the reading
-abbrev pub Says : {A : Type 0} → Failure → Reading A → Type 0
-Says e o = MatchFailure e ⊥ (λ k p. o ≡ fault_at p k)
+abbrev pub Says : {A : Type 0} → ReadError → Reading A → Type 0
+Says e o = MatchReadError e ⊥ (λ k p. o ≡ error_at p k)
 
 -- the code's result is the reading, with its value mapped by f
-abbrev pub Reads : {A B : Type 0} → (A → B) → Result (A × Bor (List ℕ)) Failure → Reading B → Type 0
+abbrev pub Reads : {A B : Type 0} → (A → B) → Result (A × Bor (List ℕ)) ReadError → Reading B → Type 0
 Reads f r o = MatchResult r (λ p. o ≡ gives (f p.0) (chars p.1.now)) (λ e. Says e o)
 
 -- the same for a result without a value
-abbrev pub ReadsRest : Result (Bor (List ℕ)) Failure → Reading (Unit {0}) → Type 0
+abbrev pub ReadsRest : Result (Bor (List ℕ)) ReadError → Reading (Unit {0}) → Type 0
 ReadsRest r o = MatchResult r (λ t. o ≡ gives tt (chars t.now)) (λ e. Says e o)
 
 -- the reading is an error that carries a text
@@ -55,17 +55,17 @@ CarriesText (gives a t) = ⊥
 CarriesText (fails e) = carries_text e.kind ≡ true
 
 -- the code's error is that of the reading, or memory ran out for the text that this error carries
-abbrev pub Reports : {A : Type 0} → Failure → Reading A → Type 0
-Reports e o = MatchFailure e (CarriesText o) (λ k p. o ≡ fault_at p k)
+abbrev pub Reports : {A : Type 0} → ReadError → Reading A → Type 0
+Reports e o = MatchReadError e (CarriesText o) (λ k p. o ≡ error_at p k)
 
 -- the code's result is the reading, with its value mapped by f; memory can only run out for the text of an error
-abbrev pub Answers : {A B : Type 0} → (A → B) → Result (A × Bor (List ℕ)) Failure → Reading B → Type 0
-Answers f r o = MatchResult r (λ p. o ≡ gives (f p.0) (chars p.1.now)) (λ e. Reports e o)
+abbrev pub Returns : {A B : Type 0} → (A → B) → Result (A × Bor (List ℕ)) ReadError → Reading B → Type 0
+Returns f r o = MatchResult r (λ p. o ≡ gives (f p.0) (chars p.1.now)) (λ e. Reports e o)
 
 -- the relation holds of the code's result, with its value mapped by f, unless memory ran out
-abbrev pub Derives : {A B : Type 0} → (A → B) → Result (A × Bor (List ℕ)) Failure → (Reading B → Type 0) → Type 0
-Derives f r R = MatchResult r (λ p. R (gives (f p.0) (chars p.1.now))) (λ e. IfFailed e (λ k p. R (fault_at p k)))
+abbrev pub Derives : {A B : Type 0} → (A → B) → Result (A × Bor (List ℕ)) ReadError → (Reading B → Type 0) → Type 0
+Derives f r R = MatchResult r (λ p. R (gives (f p.0) (chars p.1.now))) (λ e. IfFailed e (λ k p. R (error_at p k)))
 
 -- the code's result is the reading, with its value mapped by f, unless memory ran out
-abbrev pub IsReadingOrNoMemory : {A B : Type 0} → (A → B) → Result (A × Bor (List ℕ)) Failure → Reading B → Type 0
+abbrev pub IsReadingOrNoMemory : {A B : Type 0} → (A → B) → Result (A × Bor (List ℕ)) ReadError → Reading B → Type 0
 IsReadingOrNoMemory f r o = Derives f r (λ q. o ≡ q)

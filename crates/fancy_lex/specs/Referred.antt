@@ -1,7 +1,7 @@
 -- References: what a name or an id reference refers to, and the position of the reference.
 use Rattle.std.specs.Prelude.{ℕ, ℤ, Bool, Option, Some, None, option_map}
 use Rattle.fancy_lex.specs.Delimited.{of_name}
-use Rattle.fancy_lex.specs.FaultTable.{reference_not_read}
+use Rattle.fancy_lex.specs.ErrorTable.{reference_not_read}
 use Rattle.fancy_lex.specs.IdReference.{IdReference, id_alone, id_and_amount, amount_alone, id_reference}
 use Rattle.fancy_lex.specs.NumberText.{number_text}
 use Rattle.fancy_lex.specs.Reading.{Reading, read_or}

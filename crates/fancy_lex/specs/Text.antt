@@ -31,8 +31,8 @@ abbrev pub past_end : ℕ
 past_end = 0
 
 -- the position with this reach in a pattern of n bytes
-abbrev pub place_at : ℕ → ℕ → ℕ
-place_at n reach = n + 1 - reach
+abbrev pub position_at : ℕ → ℕ → ℕ
+position_at n reach = n + 1 - reach
 
 -- p is the position of this reach in a pattern of n bytes: the reach and the bytes before p add up to n + 1
 abbrev pub IsPositionOf : ℕ → ℕ → ℕ → Type 0
@@ -40,8 +40,8 @@ IsPositionOf n reach p = p + reach ≡ n + 1
 
 -- the text after the character, if the text begins with it
 abbrev pub strip : ℕ → Text → Option Text
-strip mark [] = None
-strip mark (c ∷ t) = if c == mark then Some t else None
+strip delimiter [] = None
+strip delimiter (c ∷ t) = if c == delimiter then Some t else None
 
 -- the text after the word, if the text begins with it
 abbrev pub strip_word : Text → Text → Option Text
@@ -50,8 +50,8 @@ strip_word (c ∷ w) t = option_and_then (strip_word w) (strip c t)
 
 -- the text before the first occurrence of the character, and the text after it
 abbrev pub cut_at : ℕ → Text → Option (Text × Text)
-cut_at mark [] = None
-cut_at mark (c ∷ t) = if c == mark then Some ([], t) else option_map (λ p. (c ∷ p.0, p.1)) (cut_at mark t)
+cut_at delimiter [] = None
+cut_at delimiter (c ∷ t) = if c == delimiter then Some ([], t) else option_map (λ p. (c ∷ p.0, p.1)) (cut_at delimiter t)
 
 -- the text ends with the other
 abbrev pub EndsWith : Text → Text → Type 0
@@ -61,9 +61,9 @@ EndsWith t end = (w : Text) × (t ≡ w ++ end)
 abbrev pub BeginsWith : Text → Text → Type 0
 BeginsWith t front = (w : Text) × (t ≡ front ++ w)
 
--- the reach of an error in a pattern that ends with t: the reach `told`, that of a suffix of t, or that of one past the
+-- the reach of an error in a pattern that ends with t: the reach `given`, that of a suffix of t, or that of one past the
 -- end
-pub data Stands (told : ℕ) (t : Text) (reach : ℕ) : Type 0 where
-  as_told : reach ≡ told → Stands told t reach
-  begins : (u : Text) → EndsWith t u → reach ≡ reach_of u → Stands told t reach
-  beyond : reach ≡ past_end → Stands told t reach
+pub data LiesIn (given : ℕ) (t : Text) (reach : ℕ) : Type 0 where
+  as_given : reach ≡ given → LiesIn given t reach
+  begins : (u : Text) → EndsWith t u → reach ≡ reach_of u → LiesIn given t reach
+  beyond : reach ≡ past_end → LiesIn given t reach

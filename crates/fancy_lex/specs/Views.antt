@@ -2,23 +2,23 @@
 use Rattle.std.specs.Prelude.{◌≡◌, ℕ, List, Option, Some, None, option_map, MatchOption, Result, Ok, Err, chars}
 use Rattle.std.specs.Prelude.{MatchResult}
 use Rattle.std.specs.Borrow.{Bor}
-use Rattle.fancy_lex.specs.LayoutSteps.{Skipped, rest, fault}
+use Rattle.fancy_lex.specs.LayoutSteps.{Skipped, rest, failed}
 use Rattle.fancy_lex.specs.Number.{number, IsWord}
 use Rattle.fancy_lex.specs.Text.{Text}
-use Rattle.fancy_lex.specs.declared.error.Failure.{Failure}
-use Rattle.fancy_lex.specs.declared.error.Failure.TheVariants.{At}
+use Rattle.fancy_lex.specs.declared.error.ReadError.{ReadError}
+use Rattle.fancy_lex.specs.declared.error.ReadError.TheVariants.{At}
 use Rattle.fancy_lex.specs.declared.error.ParseError.TheVariants.{UnclosedOpenParen}
 
 -- the text after layout, or the reach of the error
 abbrev pub skipped_of : Result (Bor (List ℕ)) ℕ → Skipped
 skipped_of (Ok r) = rest (chars r.now)
-skipped_of (Err p) = fault p
+skipped_of (Err p) = failed p
 
 -- the text after layout, or the error of an unclosed comment in it
-abbrev pub Skips : Result (Bor (List ℕ)) Failure → Skipped → Type 0
+abbrev pub Skips : Result (Bor (List ℕ)) ReadError → Skipped → Type 0
 Skips r s =
     MatchResult r (λ t. s ≡ rest (chars t.now))
-    (λ e. (p : ℕ) × (e ≡ At p UnclosedOpenParen) × (s ≡ fault p))
+    (λ e. (p : ℕ) × (e ≡ At p UnclosedOpenParen) × (s ≡ failed p))
 
 -- two parts of a text
 abbrev pub parts : Option (Bor (List ℕ) × Bor (List ℕ)) → Option (Text × Text)

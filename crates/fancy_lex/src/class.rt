@@ -4,10 +4,10 @@ ghost use Rattle.fancy_lex.specs.Class as spec;
 ghost use Rattle.fancy_lex.specs.EscapeViews.{escape_of, delegate_text};
 ghost use Rattle.fancy_lex.specs.Property.{is_negated_set};
 ghost use Rattle.fancy_lex.specs.Reading.{Reading, Derives, IsReadingOrNoMemory, gives};
-ghost use Rattle.fancy_lex.specs.ErrorViews.{StandsWithin};
+ghost use Rattle.fancy_lex.specs.ErrorViews.{LiesWithin};
 ghost use Rattle.fancy_lex.specs.Text.{Text, text_of, BeginsWith, EndsWith};
 
-use crate::error::{Failure, ParseError};
+use crate::error::{ParseError, ReadError};
 use crate::escape::{DelegateText, Escaped, escape};
 use crate::flags::Flags;
 use crate::property::{is_negated, push_property};
@@ -140,53 +140,53 @@ fn push_escape(out: &mut String, escaped: Escaped, seen: bool) -> Result<bool, A
 }
 
 /// Adds the delimiter if the text begins with it, and returns the text after it.
-fn push_mark<'a>(out: &mut String, text: &'a str, mark: char) -> Result<&'a str, AllocError>
+fn push_symbol<'a>(out: &mut String, text: &'a str, symbol: char) -> Result<&'a str, AllocError>
     ensures value { IfOk result
-        (λ r. spec.with_mark mark (text_of out.old, chars text.now) ≡ (text_of out.new, chars r.now)) }
+        (λ r. spec.with_symbol symbol (text_of out.old, chars text.now) ≡ (text_of out.new, chars r.now)) }
     ensures within { IfOk result (λ r. length r.now ≤ length text.now) }
 {
-    let Some(rest) = after(text, mark) else {
+    let Some(rest) = after(text, symbol) else {
         return Ok(text);
     };
-    push(out, mark)?;
+    push(out, symbol)?;
     Ok(rest)
 }
 
 /// Adds the opening of a class: the bracket, a caret, and a closing bracket, which is a plain character there.
-#[tactic(auto, unfolding(crate::specs::Class::class_head))]
-fn push_head<'a>(out: &mut String, text: &'a str) -> Result<&'a str, AllocError>
+#[tactic(auto, unfolding(crate::specs::Class::class_start))]
+fn push_start<'a>(out: &mut String, text: &'a str) -> Result<&'a str, AllocError>
     ensures value { IfOk result
-        (λ r. spec.class_head (text_of out.old) (chars text.now) ≡ (text_of out.new, chars r.now)) }
+        (λ r. spec.class_start (text_of out.old) (chars text.now) ≡ (text_of out.new, chars r.now)) }
     ensures within { IfOk result (λ r. length r.now ≤ length text.now) }
 {
     push(out, '[')?;
-    let text = push_mark(out, text, '^')?;
-    push_mark(out, text, ']')
+    let text = push_symbol(out, text, '^')?;
+    push_symbol(out, text, ']')
 }
 
 /// Reads a class and those nested in it through its last bracket: the text that is written, and the rest of the text.
-fn read_class(alloc: Global, text: &str, flags: Flags) -> Result<(String, &str), Failure>
+fn read_class(alloc: Global, text: &str, flags: Flags) -> Result<(String, &str), ReadError>
     ensures value { IsReadingOrNoMemory text_of result (spec.class flags (chars text.now)) }
     ensures shorter { IfOk result (λ p. length p.1.now < length text.now) }
 {
     let mut out = String::new(alloc);
-    let mut rest = push_head(&mut out, text)?;
+    let mut rest = push_start(&mut out, text)?;
     let mut outer = 0usize;
     let mut seen = false;
-    while let Some((c, behind)) = next(rest) {
+    while let Some((c, tail)) = next(rest) {
         if c == '\\' {
-            let (escaped, after) = escape(alloc, behind, flags, true)?;
+            let (escaped, after) = escape(alloc, tail, flags, true)?;
             seen = push_escape(&mut out, escaped, seen)?;
             rest = after;
             continue;
         }
         if c == '[' {
-            rest = push_head(&mut out, behind)?;
+            rest = push_start(&mut out, tail)?;
             outer += 1;
             continue;
         }
         push(&mut out, c)?;
-        rest = behind;
+        rest = tail;
         if c == ']' {
             if outer == 0 {
                 return Ok((out, rest));
@@ -194,13 +194,13 @@ fn read_class(alloc: Global, text: &str, flags: Flags) -> Result<(String, &str),
             outer -= 1;
         }
     }
-    Err(Failure::At(AT_END, ParseError::InvalidClass))
+    Err(ReadError::At(AT_END, ParseError::InvalidClass))
 }
 
 /// Parses a class after its opening bracket, in `text`, a suffix of the pattern: the text that is written for it, and
 /// the rest of the text. If the pattern ends in the class, the error is `InvalidClass` at its end; otherwise it is the
 /// error of the first escape that cannot be parsed. It does not depend on the text after the class.
-pub fn class(alloc: Global, text: &str, flags: Flags) -> Result<(String, &str), Failure>
+pub fn class(alloc: Global, text: &str, flags: Flags) -> Result<(String, &str), ReadError>
     ensures value { IsReadingOrNoMemory text_of result (spec.class flags (chars text.now)) }
     ensures derives { Derives text_of result (spec.OuterClass flags (chars text.now)) }
     ensures only { (o : Reading Text) → spec.OuterClass flags (chars text.now) o →
@@ -208,7 +208,7 @@ pub fn class(alloc: Global, text: &str, flags: Flags) -> Result<(String, &str), 
     ensures follows { (s : Text) →
         IfOk result (λ p. spec.class flags (chars text.now ++ s) ≡ gives (text_of p.0) (chars p.1.now ++ s)) }
     ensures cut { IfOk result (λ p. EndsWith (chars text.now) (chars p.1.now)) }
-    ensures place { IfErr result (λ e. StandsWithin (length text.now + 1) e) }
+    ensures position { IfErr result (λ e. LiesWithin (length text.now + 1) e) }
     ensures shorter { IfOk result (λ p. length p.1.now < length text.now) }
 {
     read_class(alloc, text, flags)

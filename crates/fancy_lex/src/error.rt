@@ -1,9 +1,9 @@
 //! Errors: why a pattern cannot be parsed.
 ghost use Rattle.std.specs.Prelude.{◌≡◌, ◌++◌, chars, false, IfOk, IsOk, Some};
-ghost use Rattle.fancy_lex.specs.Fault.{kind_text, carries_text};
+ghost use Rattle.fancy_lex.specs.Located.{kind_text, carries_text};
 ghost use Rattle.fancy_lex.specs.ErrorViews.{kind_of, error_text, error_in, SameError, error_carries_text};
 
-use crate::text::place_at;
+use crate::text::position_at;
 use std::alloc::{AllocError, AllocFailed, Global};
 use std::fmt;
 
@@ -26,7 +26,7 @@ pub enum Error {
 
 /// Why a reader stops: the error in the pattern, or out of memory.
 #[derive(Debug, Drop)]
-pub enum Failure {
+pub enum ReadError {
     /// The error in the pattern: its reach, which is the number of bytes from its position to one past the end of the
     /// pattern, and its kind.
     At(usize, ParseError),
@@ -34,14 +34,14 @@ pub enum Failure {
     OutOfMemory,
 }
 
-impl Failure {
+impl ReadError {
     /// The error of a reader in this pattern.
     pub fn in_pattern(self, pattern: &str) -> Error
         ensures { result ≡ error_in (chars pattern.now) self }
     {
         match self {
-            Failure::At(reach, kind) => Error::ParseError(place_at(pattern, reach), kind),
-            Failure::OutOfMemory => Error::OutOfMemory,
+            ReadError::At(reach, kind) => Error::ParseError(position_at(pattern, reach), kind),
+            ReadError::OutOfMemory => Error::OutOfMemory,
         }
     }
 }
@@ -143,8 +143,8 @@ impl fmt::Display for Error {
 
     fn fmt<W: fmt::Write>(&self, f: &mut fmt::Formatter<W>) -> fmt::Result {
         match self {
-            Error::ParseError(place, kind) => {
-                write!(f, "Parsing error at position {place}: {kind}")
+            Error::ParseError(position, kind) => {
+                write!(f, "Parsing error at position {position}: {kind}")
             }
             Error::OutOfMemory => f.write_str("out of memory"),
         }
@@ -197,7 +197,10 @@ impl Error {
         ensures without_memory { error_carries_text self.now ≡ false → IsOk result }
     {
         match self {
-            Error::ParseError(place, kind) => Ok(Error::ParseError(*place, kind.clone(alloc)?)),
+            Error::ParseError(position, kind) => Ok(Error::ParseError(
+                *position,
+                kind.clone(alloc)?,
+            )),
             Error::OutOfMemory => Ok(Error::OutOfMemory),
         }
     }
@@ -225,24 +228,24 @@ impl<T: Drop> From<AllocFailed<T>> for Error {
     }
 }
 
-impl From<AllocError> for Failure {
-    ghost use Rattle.fancy_lex.specs.declared.error.Failure.TheVariants.{OutOfMemory};
+impl From<AllocError> for ReadError {
+    ghost use Rattle.fancy_lex.specs.declared.error.ReadError.TheVariants.{OutOfMemory};
     ghost use Rattle.std.specs.Prelude.{◌≡◌};
 
     ghost from_gives = { λ _ e. e ≡ OutOfMemory };
 
-    fn from(_refused: AllocError) -> Failure {
-        Failure::OutOfMemory
+    fn from(_refused: AllocError) -> ReadError {
+        ReadError::OutOfMemory
     }
 }
 
-impl<T: Drop> From<AllocFailed<T>> for Failure {
-    ghost use Rattle.fancy_lex.specs.declared.error.Failure.TheVariants.{OutOfMemory};
+impl<T: Drop> From<AllocFailed<T>> for ReadError {
+    ghost use Rattle.fancy_lex.specs.declared.error.ReadError.TheVariants.{OutOfMemory};
     ghost use Rattle.std.specs.Prelude.{◌≡◌};
 
     ghost from_gives = { λ _ e. e ≡ OutOfMemory };
 
-    fn from(_refused: AllocFailed<T>) -> Failure {
-        Failure::OutOfMemory
+    fn from(_refused: AllocFailed<T>) -> ReadError {
+        ReadError::OutOfMemory
     }
 }

@@ -5,11 +5,11 @@ ghost use Rattle.fancy_lex.specs.Escape as spec;
 ghost use Rattle.fancy_lex.specs.EscapeReference as references;
 ghost use Rattle.fancy_lex.specs.Escaped as leaf;
 ghost use Rattle.fancy_lex.specs.EscapeViews.{escape_of, delegate_text};
-ghost use Rattle.fancy_lex.specs.Reading.{Reads, Answers, Reports, gives};
+ghost use Rattle.fancy_lex.specs.Reading.{Reads, Returns, Reports, gives};
 ghost use Rattle.fancy_lex.specs.Text.{Text, EndsWith, text_of};
-ghost use Rattle.fancy_lex.specs.ErrorViews.{StandsWithin};
+ghost use Rattle.fancy_lex.specs.ErrorViews.{LiesWithin};
 
-use crate::error::{Failure, ParseError};
+use crate::error::{ParseError, ReadError};
 use crate::escape::boundary::{bare_boundary, boundary};
 use crate::escape::hex::{hex, short_hex};
 use crate::escape::reference::{back_reference, group_number, numbered_reference, subroutine_call};
@@ -114,12 +114,12 @@ fn letter_name(alloc: Global, c: char) -> Result<String, AllocError>
 
 /// The error of a letter that is no escape.
 #[cold]
-fn unknown_escape(alloc: Global, c: char, reach: usize) -> Failure
+fn unknown_escape(alloc: Global, c: char, reach: usize) -> ReadError
     ensures { Reports result (spec.unknown_escape reach c) }
 {
     match letter_name(alloc, c) {
-        Ok(name) => Failure::At(reach, ParseError::InvalidEscape(name)),
-        Err(refused) => Failure::from(refused),
+        Ok(name) => ReadError::At(reach, ParseError::InvalidEscape(name)),
+        Err(refused) => ReadError::from(refused),
     }
 }
 
@@ -156,20 +156,20 @@ fn number_escape(
     flags: Flags,
     inside: bool,
     reach: usize,
-) -> Result<(Escaped<'_>, &str), Failure>
+) -> Result<(Escaped<'_>, &str), ReadError>
     ensures value { Reads escape_of result (spec.number_escape flags inside reach (chars text.now)) }
     ensures shorter { IfOk result (λ p. length p.1.now < length text.now) }
 {
     if inside {
         group_number(text)?;
-        return Err(Failure::At(reach, ParseError::InvalidClass));
+        return Err(ReadError::At(reach, ParseError::InvalidClass));
     }
     numbered_backref(text, flags)
 }
 
 /// Reads a back reference in digits.
 #[inline(always)]
-fn numbered_backref(text: &str, flags: Flags) -> Result<(Escaped<'_>, &str), Failure>
+fn numbered_backref(text: &str, flags: Flags) -> Result<(Escaped<'_>, &str), ReadError>
     ensures value { Reads escape_of result
         (spec.backref_leaf flags (references.numbered_reference (chars text.now))) }
     ensures shorter { IfOk result (λ p. length p.1.now < length text.now) }
@@ -181,7 +181,7 @@ fn numbered_backref(text: &str, flags: Flags) -> Result<(Escaped<'_>, &str), Fai
 
 /// Reads a named back reference after its letter.
 #[inline(always)]
-fn backref_escape(text: &str, flags: Flags) -> Result<(Escaped<'_>, &str), Failure>
+fn backref_escape(text: &str, flags: Flags) -> Result<(Escaped<'_>, &str), ReadError>
     ensures value { Reads escape_of result (spec.backref_leaf flags (references.back_reference (chars text.now))) }
     ensures within { IfOk result (λ p. length p.1.now ≤ length text.now) }
 {
@@ -197,8 +197,8 @@ fn call_escape<'a>(
     text: &'a str,
     letter: char,
     reach: usize,
-) -> Result<(Escaped<'a>, &'a str), Failure>
-    ensures value { Answers escape_of result (spec.call_escape reach letter (chars text.now)) }
+) -> Result<(Escaped<'a>, &'a str), ReadError>
+    ensures value { Returns escape_of result (spec.call_escape reach letter (chars text.now)) }
     ensures within { IfOk result (λ p. length p.1.now ≤ length text.now) }
 {
     if next(text).is_none() {
@@ -217,15 +217,15 @@ fn property<'a>(
     flags: Flags,
     inside: bool,
     reach: usize,
-) -> Result<(Escaped<'a>, &'a str), Failure>
-    ensures value { Answers escape_of result (spec.property flags inside reach letter (chars text.now)) }
+) -> Result<(Escaped<'a>, &'a str), ReadError>
+    ensures value { Returns escape_of result (spec.property flags inside reach letter (chars text.now)) }
     ensures within { IfOk result (λ p. length p.1.now ≤ length text.now) }
 {
     if next(text).is_none() {
         return Err(unknown_escape(alloc, letter, reach));
     }
     let Some((property, rest)) = read_property(text, letter == 'P') else {
-        return Err(Failure::At(reach, ParseError::UnclosedUnicodeName));
+        return Err(ReadError::At(reach, ParseError::UnclosedUnicodeName));
     };
     let inner = DelegateText::Property {
         property,
@@ -364,12 +364,12 @@ fn read_escape<'a>(
     flags: Flags,
     inside: bool,
     reach: usize,
-) -> Result<(Escaped<'a>, &'a str), Failure>
-    ensures value { Answers escape_of result (spec.escape_at flags inside reach (chars text.now)) }
+) -> Result<(Escaped<'a>, &'a str), ReadError>
+    ensures value { Returns escape_of result (spec.escape_at flags inside reach (chars text.now)) }
     ensures shorter { IfOk result (λ p. length p.1.now < length text.now) }
 {
     let Some((c, rest)) = next(text) else {
-        return Err(Failure::At(reach, ParseError::TrailingBackslash));
+        return Err(ReadError::At(reach, ParseError::TrailingBackslash));
     };
     match c {
         '0'..='9' => number_escape(text, flags, inside, reach),
@@ -450,10 +450,10 @@ pub fn escape<'a>(
     text: &'a str,
     flags: Flags,
     inside: bool,
-) -> Result<(Escaped<'a>, &'a str), Failure>
-    ensures value { Answers escape_of result (spec.escape flags inside (chars text.now)) }
+) -> Result<(Escaped<'a>, &'a str), ReadError>
+    ensures value { Returns escape_of result (spec.escape flags inside (chars text.now)) }
     ensures cut { IfOk result (λ p. EndsWith (chars text.now) (chars p.1.now)) }
-    ensures place { IfErr result (λ e. StandsWithin (length text.now + 2) e) }
+    ensures position { IfErr result (λ e. LiesWithin (length text.now + 2) e) }
     ensures shorter { IfOk result (λ p. length p.1.now < length text.now) }
 {
     read_escape(alloc, text, flags, inside, reach_before(text))

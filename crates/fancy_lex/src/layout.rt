@@ -3,11 +3,11 @@ ghost use Rattle.std.specs.Prelude.{◌≡◌, ℕ, ◌<◌, ◌≤◌, Bool, le
 ghost use Rattle.fancy_lex.specs.Text.{Text, EndsWith};
 ghost use Rattle.fancy_lex.specs.Layout as relation;
 ghost use Rattle.fancy_lex.specs.LayoutSteps as spec;
-ghost use Rattle.fancy_lex.specs.LayoutSteps.{rest, fault};
+ghost use Rattle.fancy_lex.specs.LayoutSteps.{rest, failed};
 ghost use Rattle.fancy_lex.specs.Views.{Skips, skipped_of};
 ghost use Rattle.fancy_lex.specs.Reading.{layout_reading, ReadsRest};
 
-use crate::error::{Failure, ParseError};
+use crate::error::{ParseError, ReadError};
 use crate::text::{AT_END, PAST_END, after, next};
 
 /// Reads a comment after its `(?#`: the text after it, or the reach of its error.
@@ -16,9 +16,9 @@ fn comment(text: &str) -> Result<&str, usize>
     ensures value { (x : Bool) →
         MatchResult result
         (λ r. spec.layout_from x spec.comment (chars text.now) ≡ spec.layout_from x spec.between (chars r.now))
-        (λ p. spec.layout_from x spec.comment (chars text.now) ≡ fault p) }
+        (λ p. spec.layout_from x spec.comment (chars text.now) ≡ failed p) }
     ensures shorter { IfOk result (λ r. length r.now < length text.now) }
-    ensures place { IfErr result (λ p. p ≤ 1) }
+    ensures position { IfErr result (λ p. p ≤ 1) }
 {
     let mut rest = text;
     while let Some((c, after)) = next(rest) {
@@ -71,8 +71,8 @@ pub fn is_layout(ignore_space: bool, c: char) -> bool
 
 /// The text after `(?#`, if the text begins with it.
 #[inline]
-fn after_comment_head(text: &str) -> Option<&str>
-    ensures value { spec.after_comment_head (chars text.now) ≡ option_map (λ r. chars r.now) result }
+fn after_comment_start(text: &str) -> Option<&str>
+    ensures value { spec.after_comment_start (chars text.now) ≡ option_map (λ r. chars r.now) result }
     ensures shorter { IfSome result (λ r. length r.now < length text.now) }
 {
     let paren = after(text, '(')?;
@@ -86,11 +86,11 @@ fn after_comment_head(text: &str) -> Option<&str>
 fn read_units(text: &str, ignore_space: bool) -> Result<&str, usize>
     ensures value { spec.layout ignore_space (chars text.now) ≡ skipped_of result }
     ensures within { IfOk result (λ r. length r.now ≤ length text.now) }
-    ensures place { IfErr result (λ p. p ≤ 1) }
+    ensures position { IfErr result (λ p. p ≤ 1) }
 {
     let mut rest = text;
     loop {
-        if let Some(inside) = after_comment_head(rest) {
+        if let Some(inside) = after_comment_start(rest) {
             rest = comment(inside)?;
             continue;
         }
@@ -126,7 +126,7 @@ pub(crate) fn begins_layout(text: &str, ignore_space: bool) -> bool
 fn read_layout(text: &str, ignore_space: bool) -> Result<&str, usize>
     ensures value { spec.layout ignore_space (chars text.now) ≡ skipped_of result }
     ensures within { IfOk result (λ r. length r.now ≤ length text.now) }
-    ensures place { IfErr result (λ p. p ≤ 1) }
+    ensures position { IfErr result (λ p. p ≤ 1) }
 {
     if begins_layout(text, ignore_space) {
         read_units(text, ignore_space)
@@ -145,9 +145,9 @@ pub fn layout(text: &str, ignore_space: bool) -> Result<&str, usize>
         (λ r. relation.Before ignore_space (chars text.now) (chars r.now))
         (λ p. relation.Unclosed ignore_space (chars text.now) p) }
     ensures only { (v : Text) → relation.Before ignore_space (chars text.now) v → skipped_of result ≡ rest v }
-    ensures only_fault { (p : ℕ) → relation.Unclosed ignore_space (chars text.now) p → skipped_of result ≡ fault p }
+    ensures only_error { (p : ℕ) → relation.Unclosed ignore_space (chars text.now) p → skipped_of result ≡ failed p }
     ensures within { IfOk result (λ r. length r.now ≤ length text.now) }
-    ensures place { IfErr result (λ p. p ≤ 1) }
+    ensures position { IfErr result (λ p. p ≤ 1) }
 {
     read_layout(text, ignore_space)
 }
@@ -161,9 +161,9 @@ pub fn past_layout(text: &str, ignore_space: bool) -> Option<&str>
     layout(text, ignore_space).ok()
 }
 
-/// Skips the layout at the front, as `layout` does, with its error as a `Failure`: UnclosedOpenParen at its reach.
+/// Skips the layout at the front, as `layout` does, with its error as a `ReadError`: UnclosedOpenParen at its reach.
 #[inline]
-pub fn skip(text: &str, ignore_space: bool) -> Result<&str, Failure>
+pub fn skip(text: &str, ignore_space: bool) -> Result<&str, ReadError>
     ensures value { ReadsRest result (layout_reading (spec.layout ignore_space (chars text.now))) }
     ensures skips { Skips result (spec.layout ignore_space (chars text.now)) }
     ensures cut { IfOk result (λ r. EndsWith (chars text.now) (chars r.now)) }
@@ -171,6 +171,6 @@ pub fn skip(text: &str, ignore_space: bool) -> Result<&str, Failure>
 {
     match layout(text, ignore_space) {
         Ok(rest) => Ok(rest),
-        Err(reach) => Err(Failure::At(reach, ParseError::UnclosedOpenParen)),
+        Err(reach) => Err(ReadError::At(reach, ParseError::UnclosedOpenParen)),
     }
 }

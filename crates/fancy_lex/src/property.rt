@@ -184,9 +184,9 @@ fn push_lowercase(out: &mut String, name: &str) -> Result<(), AllocError>
     ensures kept { BeginsWith (text_of out.new) (text_of out.old) }
 {
     let mut rest = name;
-    while let Some((c, behind)) = next(rest) {
+    while let Some((c, tail)) = next(rest) {
         push(out, c.to_ascii_lowercase())?;
-        rest = behind;
+        rest = tail;
     }
     Ok(())
 }

@@ -1,7 +1,7 @@
 //! Steps over the text, which allocate nothing, and strings that grow.
 ghost use Rattle.std.specs.Prelude.{◌≡◌, ◌+◌, ◌<◌, ◌≤◌, [], ◌∷◌, ◌++◌, length, chars, MatchOption, IfSome, option_map, is_ok, if◌then◌else◌};
 ghost use Rattle.std.specs.Str.{bytes_eq};
-ghost use Rattle.fancy_lex.specs.Text.{Text, bytes, cut_at, strip, strip_word, place_at, reach_of, text_of};
+ghost use Rattle.fancy_lex.specs.Text.{Text, bytes, cut_at, strip, strip_word, position_at, reach_of, text_of};
 ghost use Rattle.fancy_lex.specs.Views.{parts};
 
 use std::alloc::AllocError;
@@ -19,12 +19,12 @@ pub fn next(text: &str) -> Option<(char, &str)>
 
 /// The text after the character, if the text begins with it.
 #[inline(always)]
-pub fn after(text: &str, mark: char) -> Option<&str>
-    ensures value { strip mark (chars text.now) ≡ option_map (λ r. chars r.now) result }
+pub fn after(text: &str, delimiter: char) -> Option<&str>
+    ensures value { strip delimiter (chars text.now) ≡ option_map (λ r. chars r.now) result }
     ensures shorter { IfSome result (λ r. length r.now < length text.now) }
 {
     let (c, rest) = next(text)?;
-    if c == mark { Some(rest) } else { None }
+    if c == delimiter { Some(rest) } else { None }
 }
 
 /// The text after `word`, if the text begins with it.
@@ -35,13 +35,13 @@ pub fn after_word<'a>(text: &'a str, word: &str) -> Option<&'a str>
     text.strip_prefix(word)
 }
 
-/// The text before the first occurrence of `mark`, an ASCII character, and the text after it.
-pub fn split_at(text: &str, mark: char) -> Option<(&str, &str)>
-    requires { mark < 128 }
-    ensures value { cut_at mark (chars text.now) ≡ parts result }
+/// The text before the first occurrence of `delimiter`, an ASCII character, and the text after it.
+pub fn split_at(text: &str, delimiter: char) -> Option<(&str, &str)>
+    requires { delimiter < 128 }
+    ensures value { cut_at delimiter (chars text.now) ≡ parts result }
     ensures shorter { IfSome result (λ p. length p.1.now < length text.now) }
 {
-    text.split_once(mark)
+    text.split_once(delimiter)
 }
 
 /// The length of the text in bytes.
@@ -85,8 +85,8 @@ pub fn reach_before(text: &str) -> usize
 
 /// The position in the pattern that has this reach.
 #[inline]
-pub fn place_at(pattern: &str, reach: usize) -> usize
-    ensures { result ≡ place_at (bytes (chars pattern.now)) reach }
+pub fn position_at(pattern: &str, reach: usize) -> usize
+    ensures { result ≡ position_at (bytes (chars pattern.now)) reach }
 {
     (pattern.len() + 1).saturating_sub(reach)
 }

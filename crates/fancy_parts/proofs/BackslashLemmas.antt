@@ -4,15 +4,15 @@ use Rattle.std.specs.Str.{IsUtf8}
 use Rattle.std.proofs.lemmas.List.{get_or_past}
 use Rattle.std.proofs.lemmas.Str.{encodes-chars}
 use Prim.Native.Char.{code}
-use Rattle.fancy_parts.specs.Written.{is_behind_backslash}
+use Rattle.fancy_parts.specs.Written.{is_after_backslash}
 
-pub behind_place : (bs : List ℕ) (place : ℕ) → IsUtf8 bs → 0 < place →
-    nat_eq (get_or bs (place - 1) 0) (code "\\") ≡ is_behind_backslash (chars bs) place
-behind_place bs place u h = rw (encodes-chars bs u) (grind arith)
+pub after_position : (bs : List ℕ) (position : ℕ) → IsUtf8 bs → 0 < position →
+    nat_eq (get_or bs (position - 1) 0) (code "\\") ≡ is_after_backslash (chars bs) position
+after_position bs position u h = rw (encodes-chars bs u) (grind arith)
 
-pub behind_start : (bs : List ℕ) (place : ℕ) → place ≤ 0 → false ≡ is_behind_backslash (chars bs) place
-behind_start bs place h = grind arith
+pub after_start : (bs : List ℕ) (position : ℕ) → position ≤ 0 → false ≡ is_after_backslash (chars bs) position
+after_start bs position h = grind arith
 
-pub behind_end : (bs : List ℕ) (place : ℕ) → IsUtf8 bs → length bs < place →
-    false ≡ is_behind_backslash (chars bs) place
-behind_end bs place u h = rw (encodes-chars bs u, get_or_past bs (place - 1) 0 (omega arith)) (grind arith)
+pub after_end : (bs : List ℕ) (position : ℕ) → IsUtf8 bs → length bs < position →
+    false ≡ is_after_backslash (chars bs) position
+after_end bs position u h = rw (encodes-chars bs u, get_or_past bs (position - 1) 0 (omega arith)) (grind arith)

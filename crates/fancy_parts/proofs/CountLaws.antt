@@ -11,10 +11,10 @@ use Rattle.fancy_lex.proofs.NumberLemmas.{digits_of, number_taken}
 use Rattle.fancy_lex.proofs.TakeLaws.{Takes, TakesSome, takes_on, takes_one}
 use Rattle.fancy_lex.proofs.TextLemmas.{strip_is}
 use Rattle.std.proofs.lemmas.Bool.Decides.{nat_tests}
-use Rattle.fancy_lex.specs.LayoutSteps.{layout, Skipped, rest, rest_of, past_layout, fault as open_comment}
+use Rattle.fancy_lex.specs.LayoutSteps.{layout, Skipped, rest, rest_of, past_layout, failed as open_comment}
 use Rattle.fancy_lex.specs.Number.{number}
 use Rattle.fancy_lex.specs.Text.{Text, EndsWith, strip}
-use Rattle.fancy_parts.proofs.HeadLaws.{takes_strip}
+use Rattle.fancy_parts.proofs.GroupStartLaws.{takes_strip}
 use Rattle.fancy_parts.specs.Quantifier.{counts, braced_counts, counts_from, in_braces, spaced_count}
 use Rattle.fancy_parts.specs.Quantifier.{count, count_of, exact_or_range, most}
 use Rattle.fancy_parts.specs.declared.counts.Counts.{Counts}
@@ -69,18 +69,18 @@ takes_spaced x t = by_first (past_layout x t) (takes_layout x t)
 
 -- the text ends with an ASCII character and u
 pub record Closed (t u : Text) : Type 0 where
-  pub mark : ℕ
-  pub ascii : mark < 128
-  pub ends : EndsWith t (mark ∷ u)
+  pub last_char : ℕ
+  pub ascii : last_char < 128
+  pub ends : EndsWith t (last_char ∷ u)
 
 abbrev ClosesSome : Text → Option (Counts × Text) → Type 0
 ClosesSome t o = IfSome o (λ p. Closed t p.1)
 
 closed_past : {k : ℕ} {t u v : Text} → Takes k t u → Closed u v → Closed t v
 closed_past {v} a h = record {
-  mark = h.mark;
+  last_char = h.last_char;
   ascii = h.ascii;
-  ends = (a.word ++ h.ends.0, a.cut ∙ ap (λ x. a.word ++ x) h.ends.1 ∙ sym (append_assoc a.word h.ends.0 (h.mark ∷ v)));
+  ends = (a.word ++ h.ends.0, a.cut ∙ ap (λ x. a.word ++ x) h.ends.1 ∙ sym (append_assoc a.word h.ends.0 (h.last_char ∷ v)));
 }
 
 closes_past : {t u : Text} (o : Option (Counts × Text)) → Takes 0 t u → ClosesSome u o → ClosesSome t o
@@ -89,7 +89,7 @@ closes_past (Some p) a h = closed_past a h
 
 by_brace : {t : Text} (u v : Text) → Takes 0 t u → strip (code "}") u ≡ Some v → Closed t v
 by_brace u v a e =
-    closed_past a (record { mark = code "}"; ascii = omega arith; ends = ([], strip_is (code "}") u v e) })
+    closed_past a (record { last_char = code "}"; ascii = omega arith; ends = ([], strip_is (code "}") u v e) })
 
 closes_from : (x : Bool) (low : ℕ) (t : Text) → ClosesSome t (counts_from x low t)
 unfolding counts_from
@@ -132,8 +132,8 @@ closes_braces x t = by_count (spaced_count x t) (takes_spaced x t)
     by_count (Some p) h = closed p.0 p.1 (strip (code "}") p.1) refl h
 
 -- only an operator
-by_mark : (c m : ℕ) (t : Text) → m < 128 → (c == m) ≡ true → Closed (c ∷ t) t
-by_mark c m t l e = record { mark = c; ascii = grind (arith, nat_tests); ends = ([], refl) }
+by_operator : (c m : ℕ) (t : Text) → m < 128 → (c == m) ≡ true → Closed (c ∷ t) t
+by_operator c m t l e = record { last_char = c; ascii = grind (arith, nat_tests); ends = ([], refl) }
 
 -- the text after the counts is directly after their operator or closing brace
 pub closes_counts : (x : Bool) (t : Text) → ClosesSome t (counts x t)
@@ -141,9 +141,9 @@ unfolding counts
 closes_counts x [] = tt
 closes_counts x (c ∷ t) =
     let P = ClosesSome (c ∷ t) in
-    cond_both (c == code "?") _ _ P (λ e. by_mark c (code "?") t (omega arith) e) (λ _.
-    cond_both (c == code "*") _ _ P (λ e. by_mark c (code "*") t (omega arith) e) (λ _.
-    cond_both (c == code "+") _ _ P (λ e. by_mark c (code "+") t (omega arith) e) (λ _.
+    cond_both (c == code "?") _ _ P (λ e. by_operator c (code "?") t (omega arith) e) (λ _.
+    cond_both (c == code "*") _ _ P (λ e. by_operator c (code "*") t (omega arith) e) (λ _.
+    cond_both (c == code "+") _ _ P (λ e. by_operator c (code "+") t (omega arith) e) (λ _.
     cond_both (c == code "{") _ _ P
     (λ _. closes_past (braced_counts x t) (takes_less_one (takes_one c t)) (closes_braces x t)) (λ _. tt))))
   where
@@ -156,9 +156,9 @@ takes_counts x t = by_counts (counts x t) (closes_counts x t)
     by_counts : (o : Option (Counts × Text)) → ClosesSome t o → TakesSome 1 t o
     by_counts None h = tt
     by_counts (Some p) h = record {
-      word = h.ends.0 ++ h.mark ∷ [];
-      cut = h.ends.1 ∙ sym (append_assoc h.ends.0 (h.mark ∷ []) p.1);
-      long = omega (arith, length-append h.ends.0 (h.mark ∷ []));
+      word = h.ends.0 ++ h.last_char ∷ [];
+      cut = h.ends.1 ∙ sym (append_assoc h.ends.0 (h.last_char ∷ []) p.1);
+      long = omega (arith, length-append h.ends.0 (h.last_char ∷ []));
     }
 
 -- the clause of the reader

@@ -10,8 +10,8 @@ use Rattle.fancy_lex.specs.LayoutSteps.{layout}
 use Rattle.fancy_lex.specs.Reading.{Reading, gives, layout_reading, Says, Reports}
 use Rattle.fancy_lex.specs.Text.{Text, bytes}
 use Rattle.fancy_lex.specs.declared.flags.Flags.{Flags}
-use Rattle.fancy_lex.specs.declared.error.Failure.{Failure}
-use Rattle.fancy_lex.specs.declared.error.Failure.TheVariants.{At, OutOfMemory}
+use Rattle.fancy_lex.specs.declared.error.ReadError.{ReadError}
+use Rattle.fancy_lex.specs.declared.error.ReadError.TheVariants.{At, OutOfMemory}
 use Rattle.fancy_parts.specs.FlagLetters.{Letters, flags_end, flags_go_on}
 use Rattle.fancy_parts.specs.LetterSteps.{step, letters_in, letters}
 
@@ -22,16 +22,16 @@ front_read t w u e =
     rw n (ap (take (length w)) e ∙ take-append_seam w u)
 
 -- one more character is read
-pub behind_next : (t h : Text) (c : ℕ) (u : Text) → (w : Text) × (t ≡ w ++ h) → h ≡ c ∷ u → (w : Text) × (t ≡ w ++ u)
-behind_next t h c u (w, e) f = (w ++ c ∷ [], e ∙ ap (λ x. w ++ x) f ∙ sym (append_assoc w (c ∷ []) u))
+pub after_next : (t h : Text) (c : ℕ) (u : Text) → (w : Text) × (t ≡ w ++ h) → h ≡ c ∷ u → (w : Text) × (t ≡ w ++ u)
+after_next t h c u (w, e) f = (w ++ c ∷ [], e ∙ ap (λ x. w ++ x) f ∙ sym (append_assoc w (c ∷ []) u))
 
 -- more is read
-pub behind_more : (t h v u : Text) → (w : Text) × (t ≡ w ++ h) → h ≡ v ++ u → (w : Text) × (t ≡ w ++ u)
-behind_more t h v u (w, e) f = (w ++ v, e ∙ ap (λ x. w ++ x) f ∙ sym (append_assoc w v u))
+pub after_more : (t h v u : Text) → (w : Text) × (t ≡ w ++ h) → h ≡ v ++ u → (w : Text) × (t ≡ w ++ u)
+after_more t h v u (w, e) f = (w ++ v, e ∙ ap (λ x. w ++ x) f ∙ sym (append_assoc w v u))
 
-pub two_marks : chars (code "(" ∷ code "?" ∷ []) ≡ code "(" ∷ code "?" ∷ []
+pub two_chars : chars (code "(" ∷ code "?" ∷ []) ≡ code "(" ∷ code "?" ∷ []
 unfolding the_chars
-two_marks = refl
+two_chars = refl
 
 -- ---- the letters, from one layout and letter to the next
 
@@ -40,15 +40,15 @@ module _ (t : Text) (clears : Bool) (f : Flags) (u : Text) where
   abbrev before : Reading (Unit {0})
   before = layout_reading (layout f.ignore_space u)
 
-  layout_fault : (k : ℕ) (b : Failure) → Says b before → Reports b (letters_in t (suc k) clears f u)
+  layout_error : (k : ℕ) (b : ReadError) → Says b before → Reports b (letters_in t (suc k) clears f u)
   unfolding letters_in
-  layout_fault k (At p d) e = rw e refl
-  layout_fault k OutOfMemory e = absurd e
+  layout_error k (At p d) e = rw e refl
+  layout_error k OutOfMemory e = absurd e
 
-  letter_fault : (k : ℕ) (v : Text) (b : Failure) → before ≡ gives tt v → Reports b (step t clears f v) →
+  letter_error : (k : ℕ) (v : Text) (b : ReadError) → before ≡ gives tt v → Reports b (step t clears f v) →
       Reports b (letters_in t (suc k) clears f u)
   unfolding letters_in
-  letter_fault k v b e h = rw e (reports_first _ _ b h)
+  letter_error k v b e h = rw e (reports_first _ _ b h)
 
   letters_end : (k : ℕ) (v : Text) (l : Letters) (w : Text) → before ≡ gives tt v →
       step t clears f v ≡ gives (flags_end l) w →
@@ -64,20 +64,20 @@ module _ (t : Text) (clears : Bool) (f : Flags) (u : Text) where
 
   -- the same if more than m steps are left
   module _ (k m : ℕ) (some : m < k) where
-    pub in_layout_fault : (b : Failure) → Says b before → Reports b (letters_in t k clears f u)
-    in_layout_fault b e = by_steps k some
+    pub in_layout_error : (b : ReadError) → Says b before → Reports b (letters_in t k clears f u)
+    in_layout_error b e = by_steps k some
       where
         by_steps : (k : ℕ) → m < k → Reports b (letters_in t k clears f u)
         by_steps zero h = absurd (omega arith)
-        by_steps (suc k) h = layout_fault k b e
+        by_steps (suc k) h = layout_error k b e
 
     module _ (v : Text) (e : before ≡ gives tt v) where
-      pub in_letter_fault : (b : Failure) → Reports b (step t clears f v) → Reports b (letters_in t k clears f u)
-      in_letter_fault b i = by_steps k some
+      pub in_letter_error : (b : ReadError) → Reports b (step t clears f v) → Reports b (letters_in t k clears f u)
+      in_letter_error b i = by_steps k some
         where
           by_steps : (k : ℕ) → m < k → Reports b (letters_in t k clears f u)
           by_steps zero h = absurd (omega arith)
-          by_steps (suc k) h = letter_fault k v b e i
+          by_steps (suc k) h = letter_error k v b e i
 
       pub in_end : (l : Letters) (w : Text) → step t clears f v ≡ gives (flags_end l) w →
           letters_in t k clears f u ≡ gives l w

@@ -10,25 +10,25 @@ use Rattle.std.proofs.Math.Bool.{beq}
 use Rattle.std.specs.Borrow.{Bor}
 use Prim.Native.Char.{code}
 use Rattle.fancy_lex.proofs.LayoutLaws.{layout_sound, layout_complete, unclosed_sound, unclosed_complete}
-use Rattle.fancy_lex.proofs.ReadingLemmas.{derives_answer, only_answer}
+use Rattle.fancy_lex.proofs.ReadingLemmas.{derives_returned, only_returned}
 use Rattle.fancy_lex.proofs.TextLemmas.{bytes-append}
 use Rattle.fancy_lex.specs.Characters.{open_paren, hash, ◌∈◌}
-use Rattle.fancy_lex.specs.FaultTable.{comment_not_closed, group_not_closed, no_flag_letter, mode_changed}
+use Rattle.fancy_lex.specs.ErrorTable.{comment_not_closed, group_not_closed, no_flag_letter, mode_changed}
 use Rattle.fancy_lex.specs.Layout.{Units, none, more as unit_more, IsUnit, is_blank}
-use Rattle.fancy_lex.specs.LayoutSteps.{Skipped, rest, fault, layout}
+use Rattle.fancy_lex.specs.LayoutSteps.{Skipped, rest, failed, layout}
 use Rattle.fancy_lex.specs.Layout.{Before}
-use Rattle.fancy_lex.specs.Reading.{Reading, gives, fails, ◌>=>◌, Answers, Derives}
+use Rattle.fancy_lex.specs.Reading.{Reading, gives, fails, ◌>=>◌, Returns, Derives}
 use Rattle.fancy_lex.specs.Text.{Text, bytes}
-use Rattle.fancy_lex.specs.declared.error.Failure.{Failure}
+use Rattle.fancy_lex.specs.declared.error.ReadError.{ReadError}
 use Rattle.fancy_lex.specs.declared.flags.Flags.{Flags}
-use Rattle.fancy_parts.specs.FlagLetters.{Letters, setting, scope, with_letter, LetterStep, flags_end, flags_go_on}
+use Rattle.fancy_parts.specs.FlagLetters.{Letters, inline_flags, flag_group, with_letter, LetterStep, flags_end, flags_go_on}
 use Rattle.fancy_parts.specs.FlagLetters.{NoLetter, nothing_closed, nothing_scoped, second_minus, names_no_flag}
-use Rattle.fancy_parts.specs.LetterSteps.{is_first, is_behind_minus, unknown_letter, flag_or_fault, step, behind_step}
+use Rattle.fancy_parts.specs.LetterSteps.{is_first, is_after_minus, unknown_letter, flag_or_error, step, after_step}
 use Rattle.fancy_parts.specs.LetterSteps.{letters_in, letters}
 use Rattle.fancy_parts.specs.FlagLetters.{Letter, flag, same_mode, minus, parenthesis, colon, no_letter, other_mode}
-use Rattle.fancy_parts.specs.FlagLetters.{Next, LettersFrom, last, more, letter_fault, text_end, open_layout, FlagGroup}
+use Rattle.fancy_parts.specs.FlagLetters.{Next, LettersFrom, last, more, letter_error, text_end, open_layout, GroupLetters}
 use Rattle.fancy_parts.specs.FlagReads.{letters_of}
-use Rattle.fancy_parts.specs.declared.heads.letters.Letters as declared
+use Rattle.fancy_parts.specs.declared.group_starts.letters.Letters as declared
 use Rattle.fancy_parts.proofs.FlagLemmas.{front_read}
 
 abbrev one_minus : Text
@@ -54,22 +54,22 @@ front [] = nothing refl
 front (c ∷ []) =
     elim (cases_eq c (code "-")) [
       | inl e ↦ dash (ap (λ d. d ∷ []) e)
-      | inr d ↦ other (not_nil c []) (λ e. d (head_is e))
+      | inr d ↦ other (not_nil c []) (λ e. d (first_is e))
     ] where
-      head_is : c ∷ [] ≡ one_minus → c ≡ code "-"
-      head_is e = cc
+      first_is : c ∷ [] ≡ one_minus → c ≡ code "-"
+      first_is e = cc
 front (c ∷ d ∷ w) = other (not_nil c (d ∷ w)) two where
   two : c ∷ d ∷ w ≢ one_minus
   two e = cc
 
 -- the text that was read, and what `clears` says about it
-record Told (w : Text) (clears : Bool) : Type 0 where
+record ClearsAfter (w : Text) (clears : Bool) : Type 0 where
   pub is : w ≡ one_minus → clears ≡ true
   pub one : clears ≡ true → bytes w ≡ 1 → w ≡ one_minus
   pub some : clears ≡ true → w ≢ []
 
-told_start : Told [] false
-told_start = record { is = λ e. absurd (no e); one = λ e. absurd (false≢true e); some = λ e. absurd (false≢true e) }
+clears_start : ClearsAfter [] false
+clears_start = record { is = λ e. absurd (no e); one = λ e. absurd (false≢true e); some = λ e. absurd (false≢true e) }
   where
     no : [] ≡ one_minus → ⊥
     no e = cc
@@ -78,8 +78,8 @@ nil_of_bytes : (w : Text) → bytes w ≡ 0 → w ≡ []
 nil_of_bytes [] e = refl
 nil_of_bytes (c ∷ w) e = absurd (omega (arith, bytes_some c w, e))
 
-head_same : (a b : ℕ) (s t : Text) → a ∷ s ≡ b ∷ t → a ≡ b
-head_same a b s t e = cc
+first_same : (a b : ℕ) (s t : Text) → a ∷ s ≡ b ∷ t → a ≡ b
+first_same a b s t e = cc
 
 blank_no_minus : (c : ℕ) → is_blank c ≡ true → c ≢ code "-"
 blank_no_minus c b e = grind (arith, nat_tests)
@@ -89,7 +89,7 @@ not_layout : (x : Bool) (l v : Text) → Units x l v → l ≢ one_minus
 not_layout x l v none e = absurd cc
 not_layout x l v (unit_more u t cut unit h) e = by_unit unit where
   begins : (c : ℕ) (s : Text) → u ≡ c ∷ s → c ≡ code "-"
-  begins c s q = head_same c (code "-") (s ++ t) [] (sym (cut ∙ ap (λ a. a ++ t) q) ∙ e)
+  begins c s q = first_same c (code "-") (s ++ t) [] (sym (cut ∙ ap (λ a. a ++ t) q) ∙ e)
 
   not_begun : (c : ℕ) (s : Text) → (c == code "-") ≡ false → u ≡ c ∷ s → ⊥
   not_begun c s d q = let same : c ≡ code "-" = begins c s q in grind (arith, nat_tests)
@@ -110,14 +110,14 @@ alone_or_all (c ∷ w) l e = inl (keep (prefix_nil w l tail)) where
   tail : w ++ l ≡ []
   tail = cc
 
-  head : c ≡ code "-"
-  head = head_same c (code "-") (w ++ l) [] e
+  first : c ≡ code "-"
+  first = first_same c (code "-") (w ++ l) [] e
 
   keep : w ≡ [] → c ∷ w ≡ one_minus
-  keep z = rw (z, head) refl
+  keep z = rw (z, first) refl
 
 last_same : (w : Text) (c d : ℕ) → w ++ c ∷ [] ≡ d ∷ [] → c ≡ d
-last_same [] c d e = head_same c d [] [] e
+last_same [] c d e = first_same c d [] [] e
 last_same (b ∷ []) c d e = absurd (cc)
 last_same (b ∷ a ∷ w) c d e = absurd (cc)
 
@@ -134,8 +134,8 @@ at_least [] d = absurd (d refl)
 at_least (c ∷ w) d = omega (arith, bytes_some c w)
 
 -- layout after the text that was read
-told_layout : (x clears : Bool) (w l v : Text) → Told w clears → Units x l v → Told (w ++ l) clears
-told_layout x clears w l v h units = record { is = is; one = one; some = λ c e. h.some c (prefix_nil w l e) } where
+clears_layout : (x clears : Bool) (w l v : Text) → ClearsAfter w clears → Units x l v → ClearsAfter (w ++ l) clears
+clears_layout x clears w l v h units = record { is = is; one = one; some = λ c e. h.some c (prefix_nil w l e) } where
   is : w ++ l ≡ one_minus → clears ≡ true
   is e =
       elim (alone_or_all w l e) [
@@ -152,16 +152,16 @@ told_layout x clears w l v h units = record { is = is; one = one; some = λ c e.
       rw (none, alone) refl
 
 -- one more character after it
-told_more : (clears : Bool) (w : Text) (c : ℕ) → Told w clears → c ≢ code "-" → Told (w ++ c ∷ []) clears
-told_more clears w c h d = record {
+clears_more : (clears : Bool) (w : Text) (c : ℕ) → ClearsAfter w clears → c ≢ code "-" → ClearsAfter (w ++ c ∷ []) clears
+clears_more clears w c h d = record {
   is = λ e. absurd (d (last_same w c (code "-") e));
   one = λ on e. absurd (omega (arith, at_least w (h.some on), bytes-append w (c ∷ []), bytes_some c [], e));
   some = λ on e. h.some on (prefix_nil w (c ∷ []) e);
 }
 
 -- a minus after it, the first
-told_minus : (w : Text) (c : ℕ) → c ≡ code "-" → Told (w ++ c ∷ []) true
-told_minus w c d = record { is = λ e. refl; one = one; some = some } where
+clears_minus : (w : Text) (c : ℕ) → c ≡ code "-" → ClearsAfter (w ++ c ∷ []) true
+clears_minus w c d = record { is = λ e. refl; one = one; some = some } where
   some : true ≡ true → w ++ c ∷ [] ≢ []
   some on e = absurd (omega (arith, ap bytes e, bytes-append w (c ∷ []), bytes_some c [], bytes_none))
 
@@ -178,7 +178,7 @@ same_test a b e = grind (arith, nat_tests)
 other_test : (a b : ℕ) → a ≢ b → (a == b) ≡ false
 other_test a b d = grind (arith, nat_tests)
 
-module _ (t w : Text) (clears : Bool) (f : Flags) (c : ℕ) (u : Text) (told : Told w clears)
+module _ (t w : Text) (clears : Bool) (f : Flags) (c : ℕ) (u : Text) (cleared : ClearsAfter w clears)
     (cut : t ≡ w ++ (c ∷ u)) where
   sum : bytes t ≡ bytes w + bytes (c ∷ u)
   sum = ap bytes cut ∙ bytes-append w (c ∷ u)
@@ -193,35 +193,35 @@ module _ (t w : Text) (clears : Bool) (f : Flags) (c : ℕ) (u : Text) (told : T
   not_first : w ≢ [] → is_first t (c ∷ u) ≡ false
   not_first d = other_test (bytes (c ∷ u)) (bytes t) (λ e. absurd (omega (arith, at_least w d, sum, e)))
 
-  minus_at : w ≡ one_minus → is_behind_minus t clears (c ∷ u) ≡ true
+  minus_at : w ≡ one_minus → is_after_minus t clears (c ∷ u) ≡ true
   minus_at e =
       let is : (bytes (c ∷ u) + 1 == bytes t) ≡ true =
       same_test (bytes (c ∷ u) + 1) (bytes t) (omega (arith, sum, ap bytes e, bytes_minus)) in
-      rw (told.is e, is) refl
+      rw (cleared.is e, is) refl
 
-  no_minus : w ≢ one_minus → is_behind_minus t clears (c ∷ u) ≡ false
+  no_minus : w ≢ one_minus → is_after_minus t clears (c ∷ u) ≡ false
   no_minus d = by clears refl where
     by : (b : Bool) → clears ≡ b → (b && (bytes (c ∷ u) + 1 == bytes t)) ≡ false
     by false e = refl
-    by true e = other_test (bytes (c ∷ u) + 1) (bytes t) (λ q. d (told.one e (omega (arith, sum, q))))
+    by true e = other_test (bytes (c ∷ u) + 1) (bytes t) (λ q. d (cleared.one e (omega (arith, sum, q))))
 
-  closes_bad : (w ≡ []) ⊎ (w ≡ one_minus) → (is_first t (c ∷ u) || is_behind_minus t clears (c ∷ u)) ≡ true
+  closes_bad : (w ≡ []) ⊎ (w ≡ one_minus) → (is_first t (c ∷ u) || is_after_minus t clears (c ∷ u)) ≡ true
   closes_bad (inl e) = rw (first_at e) refl
   closes_bad (inr e) = rw (minus_at e) (or_true (is_first t (c ∷ u))) where
     or_true : (b : Bool) → (b || true) ≡ true
     or_true true = refl
     or_true false = refl
 
-  closes_well : w ≢ [] → w ≢ one_minus → (is_first t (c ∷ u) || is_behind_minus t clears (c ∷ u)) ≡ false
+  closes_well : w ≢ [] → w ≢ one_minus → (is_first t (c ∷ u) || is_after_minus t clears (c ∷ u)) ≡ false
   closes_well d e = rw (not_first d, no_minus e) refl
 
   -- the step, by its character
-  at_parenthesis : c ≡ code ")" → (b : Bool) → (is_first t (c ∷ u) || is_behind_minus t clears (c ∷ u)) ≡ b →
-      step t clears f (c ∷ u) ≡ (if b then unknown_letter t u else gives (flags_end (setting f)) u)
+  at_parenthesis : c ≡ code ")" → (b : Bool) → (is_first t (c ∷ u) || is_after_minus t clears (c ∷ u)) ≡ b →
+      step t clears f (c ∷ u) ≡ (if b then unknown_letter t u else gives (flags_end (inline_flags f)) u)
   at_parenthesis e b h = let is : (c == code ")") ≡ true = same_test c (code ")") e in rw (is, h) refl
 
-  at_colon : c ≡ code ":" → (b : Bool) → is_behind_minus t clears (c ∷ u) ≡ b →
-      step t clears f (c ∷ u) ≡ (if b then unknown_letter t u else gives (flags_end (scope f)) u)
+  at_colon : c ≡ code ":" → (b : Bool) → is_after_minus t clears (c ∷ u) ≡ b →
+      step t clears f (c ∷ u) ≡ (if b then unknown_letter t u else gives (flags_end (flag_group f)) u)
   at_colon e b h =
       let is : (c == code ":") ≡ true = same_test c (code ":") e in
       let a : (c == code ")") ≡ false = rw e refl in
@@ -245,7 +245,7 @@ module _ (t w : Text) (clears : Bool) (f : Flags) (c : ℕ) (u : Text) (told : T
       rw (a, d, g, is, h) refl
 
   at_other : c ≢ code ")" → c ≢ code ":" → c ≢ code "-" → c ≢ code "u" →
-      step t clears f (c ∷ u) ≡ flag_or_fault t clears u (with_letter f (not clears) c)
+      step t clears f (c ∷ u) ≡ flag_or_error t clears u (with_letter f (not clears) c)
   at_other a b d e =
       let a : (c == code ")") ≡ false = other_test c (code ")") a in
       let b : (c == code ":") ≡ false = other_test c (code ":") b in
@@ -344,15 +344,15 @@ module _ (t w : Text) (clears : Bool) (f : Flags) (c : ℕ) (u : Text) (told : T
         (grind (arith, nat_tests)) ∙ rw e refl
 
   -- what `clears` says after the letter
-  told_behind : {b : Bool} {g : Flags} {r : Text} → Letter t w clears f c u (gives (flags_go_on b g) r) →
-      Told (w ++ c ∷ []) b
-  told_behind (flag e) = told_more clears w c told no_minus_flag where
+  clears_after : {b : Bool} {g : Flags} {r : Text} → Letter t w clears f c u (gives (flags_go_on b g) r) →
+      ClearsAfter (w ++ c ∷ []) b
+  clears_after (flag e) = clears_more clears w c cleared no_minus_flag where
     no_minus_flag : c ≢ code "-"
     no_minus_flag a = let none : with_letter f (not clears) c ≡ None = rw a refl in let both = sym none ∙ e in cc
-  told_behind (same_mode a e) = told_more clears w c told no_minus_mode where
+  clears_after (same_mode a e) = clears_more clears w c cleared no_minus_mode where
     no_minus_mode : c ≢ code "-"
     no_minus_mode d = grind (arith, nat_tests)
-  told_behind (minus a e) = told_minus w c a
+  clears_after (minus a e) = clears_minus w c a
 
 -- ---- the letters, one after another
 
@@ -367,11 +367,11 @@ letter_rest (colon a d) = refl
 
 -- the text that was read of the letters before `u`
 abbrev Reached : Text → Bool → Text → Type 0
-Reached t clears u = (w : Text) × (t ≡ w ++ u) × Told w clears
+Reached t clears u = (w : Text) × (t ≡ w ++ u) × ClearsAfter w clears
 
 module _ (t : Text) where
   -- one step of the function
-  read_open : (k : ℕ) (clears : Bool) (f : Flags) (u : Text) (q : ℕ) → layout f.ignore_space u ≡ fault q →
+  read_open : (k : ℕ) (clears : Bool) (f : Flags) (u : Text) (q : ℕ) → layout f.ignore_space u ≡ failed q →
       letters_in t (suc k) clears f u ≡ fails (comment_not_closed q)
   unfolding letters_in
   read_open k clears f u q e = rw e refl
@@ -382,7 +382,7 @@ module _ (t : Text) where
   read_end k clears f u e = rw e refl
 
   read_step : (k : ℕ) (clears : Bool) (f : Flags) (u v : Text) → layout f.ignore_space u ≡ rest v →
-      letters_in t (suc k) clears f u ≡ (step t clears f v >=> behind_step (letters_in t k))
+      letters_in t (suc k) clears f u ≡ (step t clears f v >=> after_step (letters_in t k))
   unfolding letters_in
   read_step k clears f u v e = rw e refl
 
@@ -396,11 +396,11 @@ module _ (t : Text) where
     cut_at : t ≡ (at.0 ++ b.w) ++ (c ∷ v)
     cut_at = at.1 ∙ ap (λ s. at.0 ++ s) b.cut ∙ sym (append_assoc at.0 b.w (c ∷ v))
 
-    told_at : Told (at.0 ++ b.w) clears
-    told_at = told_layout f.ignore_space clears at.0 b.w (c ∷ v) at.2 b.layout.units
+    clears_at : ClearsAfter (at.0 ++ b.w) clears
+    clears_at = clears_layout f.ignore_space clears at.0 b.w (c ∷ v) at.2 b.layout.units
 
-    told_as : (w : Text) → t ≡ w ++ (c ∷ v) → Told w clears
-    told_as w e = subst (λ s. Told s clears) (append_cancel_right (at.0 ++ b.w) w (c ∷ v) (sym cut_at ∙ e)) told_at
+    clears_as : (w : Text) → t ≡ w ++ (c ∷ v) → ClearsAfter w clears
+    clears_as w e = subst (λ s. ClearsAfter s clears) (append_cancel_right (at.0 ++ b.w) w (c ∷ v) (sym cut_at ∙ e)) clears_at
 
   -- and after it
   reach_on : {clears b : Bool} {f g : Flags} {u v : Text} → Reached t clears u →
@@ -409,7 +409,7 @@ module _ (t : Text) where
   reach_on {clears} {b} {f} {g} {u} {v} at x = (
     x.w ++ x.c ∷ [],
     x.read ∙ sym (append_assoc x.w (x.c ∷ []) v),
-    told_behind t x.w clears f x.c v (told_as clears f u x.c v at x.layout x.w x.read) x.read x.letter,
+    clears_after t x.w clears f x.c v (clears_as clears f u x.c v at x.layout x.w x.read) x.read x.letter,
   )
 
   abbrev ReadShort : ℕ → Type 0
@@ -420,14 +420,14 @@ module _ (t : Text) where
   -- the function's result is in the relation
   module _ (k : ℕ) (reads : ReadShort k) (clears : Bool) (f : Flags) (u : Text) (at : Reached t clears u)
       (l : bytes u < suc k) where
-    read_behind : (c : ℕ) (v : Text) (b : Before f.ignore_space u (c ∷ v)) (q : Reading LetterStep) →
-        Letter t (at.0 ++ b.w) clears f c v q → LettersFrom t clears f u (q >=> behind_step (letters_in t k))
-    read_behind c v b q h = by q h where
+    read_after : (c : ℕ) (v : Text) (b : Before f.ignore_space u (c ∷ v)) (q : Reading LetterStep) →
+        Letter t (at.0 ++ b.w) clears f c v q → LettersFrom t clears f u (q >=> after_step (letters_in t k))
+    read_after c v b q h = by q h where
       next : (q : Reading LetterStep) → Letter t (at.0 ++ b.w) clears f c v q → Next t clears f u v q
       next q h = record { c = c; w = at.0 ++ b.w; layout = b; read = cut_at clears f u c v at b; letter = h }
 
       by : (q : Reading LetterStep) → Letter t (at.0 ++ b.w) clears f c v q →
-          LettersFrom t clears f u (q >=> behind_step (letters_in t k))
+          LettersFrom t clears f u (q >=> after_step (letters_in t k))
       by (gives (flags_end a) r) h =
           rw (letter_rest h)
           (last (next (gives (flags_end a) v)
@@ -436,16 +436,16 @@ module _ (t : Text) where
           let here = next (gives (flags_go_on d g) v)
           (subst (λ s. Letter t (at.0 ++ b.w) clears f c v (gives (flags_go_on d g) s)) (letter_rest h) h) in
           rw (letter_rest h) (more here (reads d g v (reach_on at here) (shorter b.w u c v k b.cut l)))
-      by (fails e) h = letter_fault (next (fails e) h)
+      by (fails e) h = letter_error (next (fails e) h)
 
     read_layout : (s : Skipped) → layout f.ignore_space u ≡ s →
         LettersFrom t clears f u (letters_in t (suc k) clears f u)
-    read_layout (fault q) e = rw (read_open k clears f u q e) (open_layout (unclosed_sound f.ignore_space u q e))
+    read_layout (failed q) e = rw (read_open k clears f u q e) (open_layout (unclosed_sound f.ignore_space u q e))
     read_layout (rest []) e = rw (read_end k clears f u e) (text_end (layout_sound f.ignore_space u [] e))
     read_layout (rest (c ∷ v)) e =
         let b = layout_sound f.ignore_space u (c ∷ v) e in
-        let h = letter_at t (at.0 ++ b.w) clears f c v (told_at clears f u c v at b) (cut_at clears f u c v at b) in
-        rw (read_step k clears f u (c ∷ v) e) (read_behind c v b (step t clears f (c ∷ v)) h)
+        let h = letter_at t (at.0 ++ b.w) clears f c v (clears_at clears f u c v at b) (cut_at clears f u c v at b) in
+        rw (read_step k clears f u (c ∷ v) e) (read_after c v b (step t clears f (c ∷ v)) h)
 
   letters_read : (k : ℕ) → ReadShort k
   letters_read zero clears f u at l = absurd (omega arith)
@@ -454,11 +454,11 @@ module _ (t : Text) where
   -- each result in the relation is the function's: by induction on the derivation
   step_is : {clears : Bool} {f : Flags} {u v : Text} {q : Reading LetterStep} (k : ℕ) → Reached t clears u →
       (x : Next t clears f u v q) →
-      letters_in t (suc k) clears f u ≡ (q >=> behind_step (letters_in t k))
+      letters_in t (suc k) clears f u ≡ (q >=> after_step (letters_in t k))
   step_is {clears} {f} {u} {v} {q} k at x =
       read_step k clears f u (x.c ∷ v) (layout_complete f.ignore_space u (x.c ∷ v) x.layout)
-      ∙ ap (λ o. o >=> behind_step (letters_in t k))
-      (letter_is t x.w clears f x.c v (told_as clears f u x.c v at x.layout x.w x.read) x.read x.letter)
+      ∙ ap (λ o. o >=> after_step (letters_in t k))
+      (letter_is t x.w clears f x.c v (clears_as clears f u x.c v at x.layout x.w x.read) x.read x.letter)
 
   letters_are : (k : ℕ) {clears : Bool} {f : Flags} {u : Text} {o : Reading Letters} → LettersFrom t clears f u o →
       Reached t clears u → bytes u < k → letters_in t k clears f u ≡ o
@@ -466,7 +466,7 @@ module _ (t : Text) where
   letters_are (suc k) (last x) at l = step_is k at x
   letters_are (suc k) {clears} {f} {u} (more {b} {g} {v} x h) at l =
       step_is k at x ∙ letters_are k h (reach_on at x) (shorter x.layout.w u x.c v k x.layout.cut l)
-  letters_are (suc k) (letter_fault x) at l = step_is k at x
+  letters_are (suc k) (letter_error x) at l = step_is k at x
   letters_are (suc k) {clears} {f} {u} (text_end b) at l =
       read_end k clears f u (layout_complete f.ignore_space u [] b)
   letters_are (suc k) {clears} {f} {u} (open_layout {q} b) at l =
@@ -476,22 +476,22 @@ module _ (t : Text) where
 
 module _ (f : Flags) (t : Text) where
   at_start : Reached t false t
-  at_start = ([], refl, told_start)
+  at_start = ([], refl, clears_start)
 
-  pub flag_group_reads : FlagGroup f t (letters f t)
+  pub flag_group_reads : GroupLetters f t (letters f t)
   unfolding letters
   flag_group_reads = letters_read t (suc (bytes t)) false f t at_start (omega arith)
 
-  pub flag_group_is : {o : Reading Letters} → FlagGroup f t o → letters f t ≡ o
+  pub flag_group_is : {o : Reading Letters} → GroupLetters f t o → letters f t ≡ o
   unfolding letters
   flag_group_is h = letters_are t (suc (bytes t)) h at_start (omega arith)
 
 -- ---- the clauses of the reader
 
-module _ (f : Flags) (t : Text) (r : Result (declared.Letters × Bor (List ℕ)) Failure)
-    (g : Answers letters_of r (letters f t)) where
-  pub letters_derive : Derives letters_of r (FlagGroup f t)
-  letters_derive = derives_answer letters_of r (FlagGroup f t) (letters f t) (flag_group_reads f t) g
+module _ (f : Flags) (t : Text) (r : Result (declared.Letters × Bor (List ℕ)) ReadError)
+    (g : Returns letters_of r (letters f t)) where
+  pub letters_derive : Derives letters_of r (GroupLetters f t)
+  letters_derive = derives_returned letters_of r (GroupLetters f t) (letters f t) (flag_group_reads f t) g
 
-  pub letters_only : (o : Reading Letters) → FlagGroup f t o → Answers letters_of r o
-  letters_only o h = only_answer letters_of r (letters f t) o (flag_group_is f t h) g
+  pub letters_only : (o : Reading Letters) → GroupLetters f t o → Returns letters_of r o
+  letters_only o h = only_returned letters_of r (letters f t) o (flag_group_is f t h) g

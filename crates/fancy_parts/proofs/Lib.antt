@@ -1,5 +1,5 @@
 -- ---- quantifiers, and the openings of groups
-pub mod HeadLaws
+pub mod GroupStartLaws
 pub mod CountLaws
 pub mod FlagLemmas
 pub mod LetterRelation
@@ -9,5 +9,5 @@ mod NameLemmas
 pub mod NamedLaws
 mod BackslashLemmas
 -- ---- the texts that are printed
-pub mod RoomLemmas
+pub mod CapacityLemmas
 pub mod QuoteLemmas

@@ -19,13 +19,13 @@ use Rattle.std.proofs.lemmas.Str.{inside_one}
 use Rattle.std.proofs.lemmas.Bool.Decides.{nat_tests}
 use Rattle.fancy_lex.specs.Number.{digit_code}
 use Rattle.fancy_lex.specs.Text.{Text, bytes}
-use Rattle.fancy_parts.specs.Quote.{behind_backslash, quote_as, quote, quotes, AreAsTheyStand, range, mark, counts_as}
+use Rattle.fancy_parts.specs.Quote.{after_backslash, quote_as, quote, quotes, AreUnquoted, range, operator, counts_as}
 use Rattle.fancy_parts.specs.Quote.{counts_text}
 use Rattle.fancy_parts.specs.Quantifier.{most}
-use Rattle.fancy_parts.specs.Room.{HasRoom, Appended}
+use Rattle.fancy_parts.specs.Capacity.{HasCapacity, Appended}
 use Rattle.fancy_lex.proofs.TextLemmas.{bytes-append}
-use Rattle.fancy_parts.proofs.RoomLemmas.{bytes-cons, bytes-nil, bytes_ascii, written_as, written_two}
-use Rattle.fancy_parts.proofs.RoomLemmas.{Writing, writing_as, writing_room, writing_later}
+use Rattle.fancy_parts.proofs.CapacityLemmas.{bytes-cons, bytes-nil, bytes_ascii, written_as, written_two}
+use Rattle.fancy_parts.proofs.CapacityLemmas.{Writing, writing_as, writing_capacity, writing_later}
 
 pub one_byte : (c : ℕ) → c < 128 → bytes (c ∷ []) ≡ 1
 unfolding bytes
@@ -82,39 +82,39 @@ range_both_len lo hi d e =
 
 pub ruleset range_steps = (one_byte, range_both_len, range_one, range_open, range_both)
 
-pub counts_marked : (lo hi m : ℕ) → mark lo hi ≡ Some m → counts_text lo hi ≡ m ∷ []
+pub counts_operator : (lo hi m : ℕ) → operator lo hi ≡ Some m → counts_text lo hi ≡ m ∷ []
 unfolding counts_text
-counts_marked lo hi m e = ap (counts_as lo hi) e
+counts_operator lo hi m e = ap (counts_as lo hi) e
 
-pub counts_braced : (lo hi : ℕ) → mark lo hi ≡ None → counts_text lo hi ≡ codes "{" ++ (range lo hi ++ codes "}")
+pub counts_braced : (lo hi : ℕ) → operator lo hi ≡ None → counts_text lo hi ≡ codes "{" ++ (range lo hi ++ codes "}")
 unfolding counts_text
 counts_braced lo hi e = ap (counts_as lo hi) e
 
-pub counts_braced_len : (lo hi : ℕ) → mark lo hi ≡ None → bytes (counts_text lo hi) ≡ 1 + (bytes (range lo hi) + 1)
+pub counts_braced_len : (lo hi : ℕ) → operator lo hi ≡ None → bytes (counts_text lo hi) ≡ 1 + (bytes (range lo hi) + 1)
 counts_braced_len lo hi e =
     ap bytes (counts_braced lo hi e) ∙ bytes-append (codes "{") (range lo hi ++ codes "}")
     ∙ ap (λ n. n + bytes (range lo hi ++ codes "}")) (one_byte (code "{") (omega arith))
     ∙ ap (λ n. 1 + n) (bytes-append (range lo hi) (codes "}")
     ∙ ap (λ n. bytes (range lo hi) + n) (one_byte (code "}") (omega arith)))
 
-pub ruleset counts_steps = (one_byte, counts_braced_len, counts_marked, counts_braced)
+pub ruleset counts_steps = (one_byte, counts_braced_len, counts_operator, counts_braced)
 
 -- ---- a text by its bytes
 
 -- whether the character of the byte is printed with a backslash
-abbrev pub marked : ℕ → Bool
-marked b = is_some (behind_backslash b)
+abbrev pub escaped : ℕ → Bool
+escaped b = is_some (after_backslash b)
 
-not_behind : (c : ℕ) → 128 ≤ c → behind_backslash c ≡ None
-not_behind c h = grind (arith, nat_tests)
+not_after : (c : ℕ) → 128 ≤ c → after_backslash c ≡ None
+not_after c h = grind (arith, nat_tests)
 
-behind_ascii : (c b : ℕ) → c < 128 → behind_backslash c ≡ Some b → b < 128
-behind_ascii c b h e = grind (arith, nat_tests)
+after_ascii : (c b : ℕ) → c < 128 → after_backslash c ≡ Some b → b < 128
+after_ascii c b h e = grind (arith, nat_tests)
 
 -- no byte of a character that is not in ASCII is printed with a backslash
-none_marked : (bs : List ℕ) → ((k : ℕ) → k < length bs → 128 ≤ get_or bs k 0) → count_by marked bs ≡ 0
-none_marked [] h = refl
-none_marked (b ∷ bs) h = rw (not_behind b (h 0 (omega arith))) (none_marked bs (λ k l. h (suc k) (omega arith)))
+none_escaped : (bs : List ℕ) → ((k : ℕ) → k < length bs → 128 ≤ get_or bs k 0) → count_by escaped bs ≡ 0
+none_escaped [] h = refl
+none_escaped (b ∷ bs) h = rw (not_after b (h 0 (omega arith))) (none_escaped bs (λ k l. h (suc k) (omega arith)))
 
 -- a character that is not in ASCII has no ASCII byte
 pub bytes_high : (c k : ℕ) → 128 ≤ c → k < length (encode c) → 128 ≤ get_or (encode c) k 0
@@ -126,32 +126,32 @@ bytes_high c k h l =
 two_bytes : (b c : ℕ) → b < 128 → c < 128 → bytes (b ∷ c ∷ []) ≡ 2
 two_bytes b c h k = omega (arith, bytes-cons b (c ∷ []), len_utf8_ascii b h, one_byte c k)
 
-ascii_quoted : (c : ℕ) (b : Option ℕ) → c < 128 → behind_backslash c ≡ b
+ascii_quoted : (c : ℕ) (b : Option ℕ) → c < 128 → after_backslash c ≡ b
     → 1 + (if is_some b then 1 else 0) ≡ bytes (quote_as c b)
 ascii_quoted c None h e = sym (one_byte c h)
-ascii_quoted c (Some b) h e = sym (two_bytes (code "\\") b (omega arith) (behind_ascii c b h e))
+ascii_quoted c (Some b) h e = sym (two_bytes (code "\\") b (omega arith) (after_ascii c b h e))
 
-quoted_bytes : (c : ℕ) (b : Bool) → nat_lt c 128 ≡ b → length (encode c) + count_by marked (encode c) ≡ bytes (quote c)
+quoted_bytes : (c : ℕ) (b : Bool) → nat_lt c 128 ≡ b → length (encode c) + count_by escaped (encode c) ≡ bytes (quote c)
 unfolding quote
 quoted_bytes c true e =
     let h : c < 128 = ltb-true c 128 e in
     let one = encode_ascii c h in
-    omega (arith, ap length one, ap (count_by marked) one, ascii_quoted c (behind_backslash c) h refl)
+    omega (arith, ap length one, ap (count_by escaped) one, ascii_quoted c (after_backslash c) h refl)
 quoted_bytes c false e =
     let h : 128 ≤ c = ltb-false c 128 e in
-    let itself : quote_as c (behind_backslash c) ≡ c ∷ [] = ap (quote_as c) (not_behind c h) in
-    let none = none_marked (encode c) (λ k l. bytes_high c k h l) in
+    let itself : quote_as c (after_backslash c) ≡ c ∷ [] = ap (quote_as c) (not_after c h) in
+    let none = none_escaped (encode c) (λ k l. bytes_high c k h l) in
     omega (arith, none, length-encode c, bytes-cons c [], bytes-nil, ap bytes itself)
 
-encoded_bytes : (t : Text) → length (encodes t) + count_by marked (encodes t) ≡ bytes (quotes t)
+encoded_bytes : (t : Text) → length (encodes t) + count_by escaped (encodes t) ≡ bytes (quotes t)
 encoded_bytes [] = sym bytes-nil
 encoded_bytes (c ∷ t) =
-    let marks = sum_by-append (λ b. if marked b then 1 else 0) (encode c) (encodes t) in
+    let escapes = sum_by-append (λ b. if escaped b then 1 else 0) (encode c) (encodes t) in
     let here = quoted_bytes c (nat_lt c 128) refl in
-    omega (arith, length-append (encode c) (encodes t), marks, bytes-append (quote c) (quotes t), here, encoded_bytes t)
+    omega (arith, length-append (encode c) (encodes t), escapes, bytes-append (quote c) (quotes t), here, encoded_bytes t)
 
 -- a text is printed as its bytes, and one more byte for each that needs a backslash
-pub quotes_bytes : (bs : List ℕ) → IsUtf8 bs → length bs + count_by marked bs ≡ bytes (quotes (chars bs))
+pub quotes_bytes : (bs : List ℕ) → IsUtf8 bs → length bs + count_by escaped bs ≡ bytes (quotes (chars bs))
 quotes_bytes bs u = rw (encodes-chars bs u) at (encoded_bytes (chars bs))
 
 no_bytes : (t : Text) → length (encodes t) ≡ 0 → t ≡ []
@@ -191,15 +191,15 @@ one_or_none false = refl
 
 -- it is printed as its byte, and one more byte if that needs a backslash
 pub one_counted : (bs : List ℕ) (b : ℕ) → IsUtf8 bs → 1 ≤ length bs → length bs < 2 → b ≡ get_or bs 0 0
-    → 1 + from_bool (marked b) ≡ bytes (quotes (chars bs))
+    → 1 + from_bool (escaped b) ≡ bytes (quotes (chars bs))
 one_counted [] b u l m e = absurd (omega arith)
 one_counted (d ∷ []) b u l m e =
-    omega (arith, quotes_bytes (d ∷ []) u, ap (λ n. from_bool (marked n)) e, one_or_none (marked d))
+    omega (arith, quotes_bytes (d ∷ []) u, ap (λ n. from_bool (escaped n)) e, one_or_none (escaped d))
 one_counted (d ∷ f ∷ bs) b u l m e = absurd (omega arith)
 
 -- ---- characters that are printed as themselves
 
-pub run_starts : (t : Text) → AreAsTheyStand t t
+pub run_starts : (t : Text) → AreUnquoted t t
 run_starts t = ([], refl, refl)
 
 quoted_alone : (c : ℕ) (b : Option ℕ) → is_some b ≡ false → quote_as c b ≡ c ∷ []
@@ -207,36 +207,36 @@ quoted_alone c None e = refl
 quoted_alone c (Some b) e = cc
 
 -- one more character
-pub run_grows : (t u r : Text) (c : ℕ) → u ≡ c ∷ r → is_some (behind_backslash c) ≡ false → AreAsTheyStand t u
-    → AreAsTheyStand t r
+pub run_grows : (t u r : Text) (c : ℕ) → u ≡ c ∷ r → is_some (after_backslash c) ≡ false → AreUnquoted t u
+    → AreUnquoted t r
 unfolding quote
 run_grows t u r c e n (w, cut, plain) =
-    let one : quotes (c ∷ []) ≡ c ∷ [] = ap (λ v. v ++ []) (quoted_alone c (behind_backslash c) n) in (
+    let one : quotes (c ∷ []) ≡ c ∷ [] = ap (λ v. v ++ []) (quoted_alone c (after_backslash c) n) in (
       w ++ c ∷ [],
       cut ∙ ap (λ v. w ++ v) e ∙ sym (append_assoc w (c ∷ []) r),
       flat_map-append quote w (c ∷ []) ∙ ap₂ (λ a b. a ++ b) plain one,
     )
 
 -- the characters before the rest
-run_before : (t f r : Text) → AreAsTheyStand t r → t ≡ f ++ r → quotes t ≡ f ++ quotes r
+run_before : (t f r : Text) → AreUnquoted t r → t ≡ f ++ r → quotes t ≡ f ++ quotes r
 run_before t f r (w, cut, plain) e =
     let same : w ≡ f = append_cancel_right w f r (sym cut ∙ e) in
     ap quotes cut ∙ flat_map-append quote w r ∙ ap (λ v. v ++ quotes r) (plain ∙ same)
 
 -- ---- writing a text that is quoted
 
-pub run_room : (a b : String Global) (t f r whole : Text) → AreAsTheyStand t r → t ≡ f ++ r
-    → Writing a b (quotes t) whole → HasRoom b f
-run_room a b t f r whole s e w = writing_room a b f (quotes r) whole (writing_as _ _ _ _ _ (run_before t f r s e) w)
+pub run_capacity : (a b : String Global) (t f r whole : Text) → AreUnquoted t r → t ≡ f ++ r
+    → Writing a b (quotes t) whole → HasCapacity b f
+run_capacity a b t f r whole s e w = writing_capacity a b f (quotes r) whole (writing_as _ _ _ _ _ (run_before t f r s e) w)
 
-pub run_later : (a b d : String Global) (t f r whole : Text) → AreAsTheyStand t r → t ≡ f ++ r
+pub run_later : (a b d : String Global) (t f r whole : Text) → AreUnquoted t r → t ≡ f ++ r
     → Writing a b (quotes t) whole → Appended b d f → Writing a d (quotes r) whole
 run_later a b d t f r whole s e w p =
     writing_later a b d f (quotes r) whole (writing_as _ _ _ _ _ (run_before t f r s e) w) p
 
-pub first_room : (a b : String Global) (t r whole : Text) (c : ℕ) → t ≡ c ∷ r → Writing a b (quotes t) whole
-    → HasRoom b (quote c)
-first_room a b t r whole c e w = writing_room a b (quote c) (quotes r) whole (writing_as _ _ _ _ _ (ap quotes e) w)
+pub first_capacity : (a b : String Global) (t r whole : Text) (c : ℕ) → t ≡ c ∷ r → Writing a b (quotes t) whole
+    → HasCapacity b (quote c)
+first_capacity a b t r whole c e w = writing_capacity a b (quote c) (quotes r) whole (writing_as _ _ _ _ _ (ap quotes e) w)
 
 pub first_later : (a b d : String Global) (t r whole : Text) (c : ℕ) → t ≡ c ∷ r → Writing a b (quotes t) whole
     → Appended b d (quote c) → Writing a d (quotes r) whole

@@ -3,7 +3,7 @@ use Rattle.std.specs.Prelude.{◌≡◌, ◌≢◌, ◌⊎◌, ℕ, ◌==◌, Bo
 use Rattle.std.specs.Prelude.{if◌then◌else◌}
 use Prim.Native.Char.{code}
 use Rattle.fancy_lex.specs.Characters.{◌∈◌}
-use Rattle.fancy_lex.specs.FaultTable.{comment_not_closed, group_not_closed, no_flag_letter, mode_changed}
+use Rattle.fancy_lex.specs.ErrorTable.{comment_not_closed, group_not_closed, no_flag_letter, mode_changed}
 use Rattle.fancy_lex.specs.Layout.{Before, Unclosed}
 use Rattle.fancy_lex.specs.Reading.{Reading, gives, fails}
 use Rattle.fancy_lex.specs.Text.{Text}
@@ -11,8 +11,8 @@ use Rattle.fancy_lex.specs.declared.flags.Flags.{Flags}
 
 -- the result of the letters
 pub data Letters : Type 0 where
-  setting : Flags → Letters  -- closed by a parenthesis: these flags hold from there on
-  scope : Flags → Letters  -- closed by a colon: these flags hold inside the group
+  inline_flags : Flags → Letters  -- closed by a parenthesis: these flags hold from there on
+  flag_group : Flags → Letters  -- closed by a colon: these flags hold inside the group
 
 -- the flags with the flag of this letter set or cleared; None if the letter is no flag
 abbrev pub with_letter : Flags → Bool → ℕ → Option Flags
@@ -45,8 +45,8 @@ module _ (t : Text) where
     flag : {g : _} → with_letter f (not clears) c ≡ Some g → Letter w clears f c u (gives (flags_go_on clears g) u)
     same_mode : c ≡ code "u" → f.unicode ≡ not clears → Letter w clears f c u (gives (flags_go_on clears f) u)
     minus : c ≡ code "-" → clears ≡ false → Letter w clears f c u (gives (flags_go_on true f) u)
-    parenthesis : c ≡ code ")" → w ≢ [] → w ≢ codes "-" → Letter w clears f c u (gives (flags_end (setting f)) u)
-    colon : c ≡ code ":" → w ≢ codes "-" → Letter w clears f c u (gives (flags_end (scope f)) u)
+    parenthesis : c ≡ code ")" → w ≢ [] → w ≢ codes "-" → Letter w clears f c u (gives (flags_end (inline_flags f)) u)
+    colon : c ≡ code ":" → w ≢ codes "-" → Letter w clears f c u (gives (flags_end (flag_group f)) u)
     no_letter : NoLetter w clears f c → Letter w clears f c u (fails (no_flag_letter t (w ++ c ∷ [])))
     other_mode : c ≡ code "u" → f.unicode ≡ clears → Letter w clears f c u (fails (mode_changed (c ∷ u)))
 
@@ -63,11 +63,11 @@ module _ (t : Text) where
     last : {clears f u v l : _} → Next clears f u v (gives (flags_end l) v) → LettersFrom clears f u (gives l v)
     more : {clears b f g u v o : _} → Next clears f u v (gives (flags_go_on b g) v) → LettersFrom b g v o →
         LettersFrom clears f u o
-    letter_fault : {clears f u v e : _} → Next clears f u v (fails e) → LettersFrom clears f u (fails e)
+    letter_error : {clears f u v e : _} → Next clears f u v (fails e) → LettersFrom clears f u (fails e)
     text_end : {clears u : _} {f : Flags} → Before f.ignore_space u [] → LettersFrom clears f u (fails group_not_closed)
     open_layout : {clears u q : _} {f : Flags} → Unclosed f.ignore_space u q →
         LettersFrom clears f u (fails (comment_not_closed q))
 
 -- the letters of a flag group, starting after the `(?`
-abbrev pub FlagGroup : Flags → Text → Reading Letters → Type 0
-FlagGroup f t o = LettersFrom t false f t o
+abbrev pub GroupLetters : Flags → Text → Reading Letters → Type 0
+GroupLetters f t o = LettersFrom t false f t o

@@ -1,14 +1,14 @@
 -- The results of reading flag letters, in code.
 use Rattle.fancy_parts.specs.FlagLetters as spec
-use Rattle.fancy_parts.specs.declared.heads.letters.Letters as code
-use Rattle.fancy_parts.specs.declared.heads.letters.Letters.TheVariants.{Setting, Scope}
-use Rattle.fancy_parts.specs.declared.heads.letters.LetterStep as code_step
-use Rattle.fancy_parts.specs.declared.heads.letters.LetterStep.TheVariants.{Ends, GoesOn}
+use Rattle.fancy_parts.specs.declared.group_starts.letters.Letters as code
+use Rattle.fancy_parts.specs.declared.group_starts.letters.Letters.TheVariants.{InlineFlags, FlagGroup}
+use Rattle.fancy_parts.specs.declared.group_starts.letters.LetterStep as code_step
+use Rattle.fancy_parts.specs.declared.group_starts.letters.LetterStep.TheVariants.{Ends, GoesOn}
 
 -- the letters of the code's value
 abbrev pub letters_of : code.Letters → spec.Letters
-letters_of (Setting f) = spec.setting f
-letters_of (Scope f) = spec.scope f
+letters_of (InlineFlags f) = spec.inline_flags f
+letters_of (FlagGroup f) = spec.flag_group f
 
 -- the step of the code's value
 abbrev pub step_of : code_step.LetterStep → spec.LetterStep

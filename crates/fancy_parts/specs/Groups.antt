@@ -10,7 +10,7 @@ use Rattle.fancy_parts.specs.Meaning as spec
 use Rattle.fancy_parts.specs.Ranks.{Opening, is_counted, name_cmp, named_groups}
 use Rattle.fancy_parts.specs.declared.ranks.Groups as code
 use Rattle.fancy_parts.specs.declared.ranks.Meaning as meant
-use Rattle.fancy_parts.specs.declared.ranks.Meaning.TheVariants as means
+use Rattle.fancy_parts.specs.declared.ranks.Meaning.TheVariants as refers
 use Rattle.fancy_parts.specs.declared.ranks.Role as role
 use Rattle.fancy_parts.specs.declared.ranks.Role.TheVariants as does
 
@@ -66,6 +66,6 @@ role_of does.Call = spec.call
 role_of does.Condition = spec.condition
 
 abbrev pub meaning_of : meant.Meaning → spec.Meaning
-meaning_of (means.Number n) = spec.number n
-meaning_of means.Unresolved = spec.unresolved
-meaning_of (means.Faulty k) = spec.faulty (kind_of k)
+meaning_of (refers.Number n) = spec.number n
+meaning_of refers.Unresolved = spec.unresolved
+meaning_of (refers.Invalid k) = spec.invalid (kind_of k)

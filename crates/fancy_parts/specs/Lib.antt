@@ -5,8 +5,8 @@ pub mod Quantifier
 pub mod FlagLetters
 pub mod LetterSteps
 pub mod GroupName
-pub mod NameMark
-pub mod HeadReference
+pub mod NameDelimiter
+pub mod GroupReference
 -- ---- the numbers of groups, and what references refer to
 pub mod Ranks
 pub mod Meaning
@@ -17,4 +17,4 @@ pub mod Quote
 
 pub mod FlagReads
 pub mod Groups
-pub mod Room
+pub mod Capacity

@@ -2,8 +2,8 @@
 use Rattle.std.specs.Prelude.{ℕ, ◌+◌, ◌-◌, ℤ, pos, negsuc, nat_le, Bool, false, List, [], ◌∷◌, length, slice_get}
 use Rattle.std.specs.Prelude.{Option, Some, None}
 use Rattle.std.specs.Prelude.{if◌then◌else◌}
-use Rattle.fancy_lex.specs.Fault.{Kind, Fault, carries_text}
-use Rattle.fancy_lex.specs.FaultTable.{name_of_later_group, no_such_group, of_reference}
+use Rattle.fancy_lex.specs.Located.{Kind, Located, carries_text}
+use Rattle.fancy_lex.specs.ErrorTable.{name_of_later_group, no_such_group, of_reference}
 use Rattle.fancy_lex.specs.Target.{Target, by_number, by_name, relative}
 use Rattle.fancy_lex.specs.Text.{Text}
 
@@ -17,17 +17,17 @@ pub data Role : Type 0 where
 pub data Meaning : Type 0 where
   number : ℕ → Meaning
   unresolved : Meaning
-  faulty : Kind → Meaning
+  invalid : Kind → Meaning
 
 -- whether it is an error whose kind carries a text, which has to be allocated
-abbrev pub is_fault_with_text : Meaning → Bool
-is_fault_with_text (faulty k) = carries_text k
-is_fault_with_text _ = false
+abbrev pub is_error_with_text : Meaning → Bool
+is_error_with_text (invalid k) = carries_text k
+is_error_with_text _ = false
 
 -- if there is no such group, a call stays unresolved, and any other reference is an error
 abbrev pub no_group : Role → Meaning
 no_group call = unresolved
-no_group _ = faulty no_such_group
+no_group _ = invalid no_such_group
 
 -- the group if there is one, and otherwise the meaning of no group
 abbrev pub group_or_none : Role → Option ℕ → Meaning
@@ -37,8 +37,8 @@ group_or_none role (Some n) = number n
 -- a back reference after the openings of c groups refers to one of these; it is an error before the opening of its
 -- group
 abbrev pub back_to : ℕ → Text → Option ℕ → Meaning
-back_to c name None = faulty no_such_group
-back_to c name (Some n) = if nat_le n c then number n else faulty (name_of_later_group name)
+back_to c name None = invalid no_such_group
+back_to c name (Some n) = if nat_le n c then number n else invalid (name_of_later_group name)
 
 -- the last of the numbers
 abbrev pub last_of : List ℕ → Option ℕ
@@ -51,10 +51,10 @@ only_one _ = unresolved
 
 -- what a name refers to after the openings of c groups, if the groups of the name have these numbers: the last of them,
 -- but for a call the only one
-abbrev pub means_name : Role → ℕ → Text → List ℕ → Meaning
-means_name back_reference c name ns = back_to c name (last_of ns)
-means_name call c name ns = only_one ns
-means_name condition c name ns = group_or_none condition (last_of ns)
+abbrev pub refers_to_name : Role → ℕ → Text → List ℕ → Meaning
+refers_to_name back_reference c name ns = back_to c name (last_of ns)
+refers_to_name call c name ns = only_one ns
+refers_to_name condition c name ns = group_or_none condition (last_of ns)
 
 -- +k is the k-th group that opens after the first c groups, and -k is the k-th last of those c; -(c + 1) is 0, and
 -- there is no group below 0
@@ -63,12 +63,12 @@ at_distance c (pos k) = Some (c + k)
 at_distance c (negsuc k) = if nat_le k c then Some (c - k) else None
 
 -- what a target refers to after the openings of c groups, with these numbers for each name
-abbrev pub means : (Text → List ℕ) → ℕ → Role → Target → Meaning
-means numbers_of c role (by_number n) = number n
-means numbers_of c role (by_name name) = means_name role c name (numbers_of name)
-means numbers_of c role (relative z) = group_or_none role (at_distance c z)
+abbrev pub refers_to : (Text → List ℕ) → ℕ → Role → Target → Meaning
+refers_to numbers_of c role (by_number n) = number n
+refers_to numbers_of c role (by_name name) = refers_to_name role c name (numbers_of name)
+refers_to numbers_of c role (relative z) = group_or_none role (at_distance c z)
 
 -- the error of a meaning at the reach, or otherwise the other error
-abbrev pub fault_or : Meaning → ℕ → Option Fault → Option Fault
-fault_or (faulty k) reach other = Some (of_reference reach k)
-fault_or _ reach other = other
+abbrev pub error_or : Meaning → ℕ → Option Located → Option Located
+error_or (invalid k) reach other = Some (of_reference reach k)
+error_or _ reach other = other

@@ -34,8 +34,8 @@ abbrev pub in_braces : ℕ → ℕ → Counts
 in_braces low high = record { low = low; high = high; braces = true }
 
 -- the counts of a quantifier's operator
-abbrev pub as_mark : ℕ → ℕ → Counts
-as_mark low high = record { low = low; high = high; braces = false }
+abbrev pub as_operator : ℕ → ℕ → Counts
+as_operator low high = record { low = low; high = high; braces = false }
 
 -- after the comma: a count or nothing, and the closing brace
 unfoldable pub counts_from : Bool → ℕ → Text → Option (Counts × Text)
@@ -56,8 +56,8 @@ braced_counts x t = spaced_count x t >>= λ (low, u). exact_or_range x low u (st
 unfoldable pub counts : Bool → Text → Option (Counts × Text)
 counts x [] = None
 counts x (c ∷ t) =
-    if c == code "?" then Some (as_mark 0 1, t)
-    else if c == code "*" then Some (as_mark 0 most, t)
-    else if c == code "+" then Some (as_mark 1 most, t)
+    if c == code "?" then Some (as_operator 0 1, t)
+    else if c == code "*" then Some (as_operator 0 most, t)
+    else if c == code "+" then Some (as_operator 1 most, t)
     else if c == code "{" then braced_counts x t
     else None

@@ -7,16 +7,16 @@ use Rattle.fancy_lex.specs.Text.{Text}
 use Rattle.fancy_parts.specs.Quantifier.{most}
 
 -- the characters that are literals only after a backslash
-abbrev pub marks_with_backslash : Text
-marks_with_backslash = codes "\\.+*?()|[]{}^$#"
+abbrev pub metacharacters : Text
+metacharacters = codes "\\.+*?()|[]{}^$#"
 
 -- whether the character is one of them
 abbrev pub needs_backslash : ℕ → Bool
-needs_backslash c = list_any (λ m. c == m) marks_with_backslash
+needs_backslash c = list_any (λ m. c == m) metacharacters
 
 -- what is written after a backslash for a character, if it is not written as itself
-abbrev pub behind_backslash : ℕ → Option ℕ
-behind_backslash c =
+abbrev pub after_backslash : ℕ → Option ℕ
+after_backslash c =
     if c == code "\n" then Some (code "n")
     else if c == code "\t" then Some (code "t")
     else if c == code "\r" then Some (code "r")
@@ -30,15 +30,15 @@ quote_as c (Some b) = code "\\" ∷ b ∷ []
 
 -- a character
 unfoldable pub quote : ℕ → Text
-quote c = quote_as c (behind_backslash c)
+quote c = quote_as c (after_backslash c)
 
 -- the characters of a text, one by one
 abbrev pub quotes : Text → Text
 quotes = flat_map quote
 
 -- the text before the rest is printed unchanged
-abbrev pub AreAsTheyStand : Text → Text → Type 0
-AreAsTheyStand t rest = (front : Text) × (t ≡ front ++ rest) × (quotes front ≡ front)
+abbrev pub AreUnquoted : Text → Text → Type 0
+AreUnquoted t rest = (front : Text) × (t ≡ front ++ rest) × (quotes front ≡ front)
 
 -- the text in the braces of a quantifier
 unfoldable pub range : ℕ → ℕ → Text
@@ -48,8 +48,8 @@ range lo hi =
     else decimal lo ++ (codes "," ++ decimal hi)
 
 -- the operator for a least and a greatest count
-unfoldable pub mark : ℕ → ℕ → Option ℕ
-mark lo hi =
+unfoldable pub operator : ℕ → ℕ → Option ℕ
+operator lo hi =
     if (lo == 0) && (hi == 1) then Some (code "?")
     else if (lo == 0) && (hi == most) then Some (code "*")
     else if (lo == 1) && (hi == most) then Some (code "+")
@@ -62,7 +62,7 @@ counts_as lo hi None = codes "{" ++ (range lo hi ++ codes "}")
 
 -- the least and the greatest count
 unfoldable pub counts_text : ℕ → ℕ → Text
-counts_text lo hi = counts_as lo hi (mark lo hi)
+counts_text lo hi = counts_as lo hi (operator lo hi)
 
 -- a quantifier
 abbrev pub quantifier : ℕ → ℕ → Bool → Text

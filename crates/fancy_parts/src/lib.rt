@@ -3,8 +3,8 @@
 #![tactic(auto)]
 
 pub mod counts;
-pub mod heads;
+pub mod group_starts;
 pub mod quote;
 pub mod ranks;
-pub mod room;
+pub mod reserved;
 pub mod written;

@@ -3,16 +3,16 @@ ghost use Rattle.std.specs.Prelude.{◌≡◌, ◌+◌, ◌<◌, ◌≤◌, ◌�
 ghost use Rattle.fancy_lex.specs.Number.{digit_code};
 ghost use Rattle.fancy_lex.specs.Text.{bytes};
 ghost use Rattle.fancy_parts.specs.Quote as spec;
-ghost use Rattle.fancy_parts.specs.Quote.{AreAsTheyStand};
-ghost use Rattle.fancy_parts.specs.Room.{HasRoom, Appended};
+ghost use Rattle.fancy_parts.specs.Quote.{AreUnquoted};
+ghost use Rattle.fancy_parts.specs.Capacity.{HasCapacity, Appended};
 
-use crate::room::{put, put_text};
+use crate::reserved::{put, put_text};
 use fancy_lex::text::{front, next};
 
 /// Whether the character is printed with a backslash.
 #[inline]
-fn is_marked(c: char) -> bool
-    ensures { result ≡ is_some (spec.behind_backslash c) }
+fn is_escaped(c: char) -> bool
+    ensures { result ≡ is_some (spec.after_backslash c) }
 {
     // Most characters are letters, for which this test is enough.
     if c.is_ascii_alphabetic() {
@@ -28,10 +28,10 @@ fn is_marked(c: char) -> bool
 
 /// What is written after a backslash for a character, if it is not written as itself.
 #[inline]
-pub(crate) fn behind_backslash(c: char) -> Option<char>
-    ensures { spec.behind_backslash c ≡ result }
+pub(crate) fn after_backslash(c: char) -> Option<char>
+    ensures { spec.after_backslash c ≡ result }
 {
-    if !is_marked(c) {
+    if !is_escaped(c) {
         return None;
     }
     match c {
@@ -45,29 +45,29 @@ pub(crate) fn behind_backslash(c: char) -> Option<char>
 /// Whether the character of the byte is printed with a backslash; no character of several bytes is.
 #[inline]
 fn is_quoted(byte: u8) -> bool
-    ensures { result ≡ is_some (spec.behind_backslash byte) }
+    ensures { result ≡ is_some (spec.after_backslash byte) }
 {
-    is_marked(char::from(byte))
+    is_escaped(char::from(byte))
 }
 
 /// Writes a character, with a backslash if it needs one.
 #[inline]
-#[tactic(auto, using(crate::proofs::RoomLemmas::room_steps), unfolding(crate::specs::Quote::quote))]
+#[tactic(auto, using(crate::proofs::CapacityLemmas::capacity_steps), unfolding(crate::specs::Quote::quote))]
 fn put_quote(buf: &mut String, c: char)
-    requires { HasRoom buf.old (spec.quote c) }
+    requires { HasCapacity buf.old (spec.quote c) }
     ensures { Appended buf.old buf.new (spec.quote c) }
 {
-    match behind_backslash(c) {
+    match after_backslash(c) {
         None => put(buf, c),
-        Some(letter) => put_behind_backslash(buf, letter),
+        Some(letter) => put_after_backslash(buf, letter),
     }
 }
 
 /// Writes a backslash, and what is written after it.
 #[inline(never)]
-#[tactic(auto, using(crate::proofs::RoomLemmas::room_steps))]
-fn put_behind_backslash(buf: &mut String, letter: char)
-    requires { HasRoom buf.old (codes "\\" ++ letter ∷ []) }
+#[tactic(auto, using(crate::proofs::CapacityLemmas::capacity_steps))]
+fn put_after_backslash(buf: &mut String, letter: char)
+    requires { HasCapacity buf.old (codes "\\" ++ letter ∷ []) }
     ensures { Appended buf.old buf.new (codes "\\" ++ letter ∷ []) }
 {
     put(buf, '\\');
@@ -104,7 +104,7 @@ fn runs_len(text: &str) -> usize
 /// Writes a text, with a backslash before each character that needs one.
 #[inline]
 pub fn put_quotes(buf: &mut String, text: &str)
-    requires { HasRoom buf.old (spec.quotes (chars text.now)) }
+    requires { HasCapacity buf.old (spec.quotes (chars text.now)) }
     ensures { Appended buf.old buf.new (spec.quotes (chars text.now)) }
 {
     // In the tree of a pattern a literal is one character, for which a push is shorter than a copy.
@@ -118,14 +118,14 @@ pub fn put_quotes(buf: &mut String, text: &str)
 /// The text after the characters at the front that are printed as themselves.
 #[inline]
 fn after_run(text: &str) -> &str
-    ensures { AreAsTheyStand (chars text.now) (chars result.now) }
+    ensures { AreUnquoted (chars text.now) (chars result.now) }
 {
     let mut rest = text;
-    while let Some((c, behind)) = next(rest) {
-        if behind_backslash(c).is_some() {
+    while let Some((c, after)) = next(rest) {
+        if after_backslash(c).is_some() {
             return rest;
         }
-        rest = behind;
+        rest = after;
     }
     rest
 }
@@ -133,18 +133,18 @@ fn after_run(text: &str) -> &str
 /// Writes a text, the characters that are printed as themselves in runs.
 #[inline(never)]
 fn put_runs(buf: &mut String, text: &str)
-    requires { HasRoom buf.old (spec.quotes (chars text.now)) }
+    requires { HasCapacity buf.old (spec.quotes (chars text.now)) }
     ensures { Appended buf.old buf.new (spec.quotes (chars text.now)) }
 {
     let mut rest = text;
     loop {
-        let marked = after_run(rest);
-        put_text(buf, front(rest, marked));
-        let Some((c, behind)) = next(marked) else {
+        let escaped = after_run(rest);
+        put_text(buf, front(rest, escaped));
+        let Some((c, after)) = next(escaped) else {
             return;
         };
         put_quote(buf, c);
-        rest = behind;
+        rest = after;
     }
 }
 
@@ -167,9 +167,9 @@ fn digit(n: usize) -> char
 }
 
 /// Writes a number in decimal digits.
-#[tactic(auto, using(crate::proofs::RoomLemmas::room_steps, crate::proofs::QuoteLemmas::number_steps))]
+#[tactic(auto, using(crate::proofs::CapacityLemmas::capacity_steps, crate::proofs::QuoteLemmas::number_steps))]
 pub fn put_number(buf: &mut String, n: usize)
-    requires { HasRoom buf.old (decimal n) }
+    requires { HasCapacity buf.old (decimal n) }
     ensures { Appended buf.old buf.new (decimal n) }
 {
     if n < 10 {
@@ -181,7 +181,7 @@ pub fn put_number(buf: &mut String, n: usize)
 }
 
 /// The length in bytes of a quantifier as it is printed.
-#[tactic(auto, using(crate::proofs::RoomLemmas::room_steps))]
+#[tactic(auto, using(crate::proofs::CapacityLemmas::capacity_steps))]
 pub fn quantifier_len(lo: usize, hi: usize, greedy: bool) -> usize
     ensures value { result ≡ bytes (spec.quantifier lo hi greedy) }
     ensures within { result ≤ 44 }
@@ -190,9 +190,9 @@ pub fn quantifier_len(lo: usize, hi: usize, greedy: bool) -> usize
 }
 
 /// The quantifier's operator for a least and a greatest count.
-#[tactic(auto, unfolding(crate::specs::Quote::mark))]
-pub fn mark(lo: usize, hi: usize) -> Option<char>
-    ensures { spec.mark lo hi ≡ result }
+#[tactic(auto, unfolding(crate::specs::Quote::operator))]
+pub fn operator(lo: usize, hi: usize) -> Option<char>
+    ensures { spec.operator lo hi ≡ result }
 {
     if lo == 0 && hi == 1 {
         Some('?')
@@ -206,19 +206,19 @@ pub fn mark(lo: usize, hi: usize) -> Option<char>
 }
 
 /// The length in bytes of the counts of a quantifier: an operator, or a range in braces.
-#[tactic(auto, using(crate::proofs::RoomLemmas::room_steps, crate::proofs::QuoteLemmas::counts_steps))]
+#[tactic(auto, using(crate::proofs::CapacityLemmas::capacity_steps, crate::proofs::QuoteLemmas::counts_steps))]
 fn counts_len(lo: usize, hi: usize) -> usize
     ensures value { result ≡ bytes (spec.counts_text lo hi) }
     ensures within { result ≤ 43 }
 {
-    match mark(lo, hi) {
-        Some(mark) => mark.len_utf8(),
+    match operator(lo, hi) {
+        Some(operator) => operator.len_utf8(),
         None => range_len(lo, hi) + 2,
     }
 }
 
 /// The length in bytes of the text in the braces of a range.
-#[tactic(auto, using(crate::proofs::RoomLemmas::room_steps, crate::proofs::QuoteLemmas::range_steps))]
+#[tactic(auto, using(crate::proofs::CapacityLemmas::capacity_steps, crate::proofs::QuoteLemmas::range_steps))]
 fn range_len(lo: usize, hi: usize) -> usize
     ensures value { result ≡ bytes (spec.range lo hi) }
     ensures within { result ≤ 41 }
@@ -233,9 +233,9 @@ fn range_len(lo: usize, hi: usize) -> usize
 }
 
 /// Writes a quantifier.
-#[tactic(auto, using(crate::proofs::RoomLemmas::room_steps))]
+#[tactic(auto, using(crate::proofs::CapacityLemmas::capacity_steps))]
 pub fn put_quantifier(buf: &mut String, lo: usize, hi: usize, greedy: bool)
-    requires { HasRoom buf.old (spec.quantifier lo hi greedy) }
+    requires { HasCapacity buf.old (spec.quantifier lo hi greedy) }
     ensures { Appended buf.old buf.new (spec.quantifier lo hi greedy) }
 {
     put_counts(buf, lo, hi);
@@ -245,13 +245,13 @@ pub fn put_quantifier(buf: &mut String, lo: usize, hi: usize, greedy: bool)
 }
 
 /// Writes the counts of a quantifier: an operator, or a range in braces.
-#[tactic(auto, using(crate::proofs::RoomLemmas::room_steps, crate::proofs::QuoteLemmas::counts_steps))]
+#[tactic(auto, using(crate::proofs::CapacityLemmas::capacity_steps, crate::proofs::QuoteLemmas::counts_steps))]
 fn put_counts(buf: &mut String, lo: usize, hi: usize)
-    requires { HasRoom buf.old (spec.counts_text lo hi) }
+    requires { HasCapacity buf.old (spec.counts_text lo hi) }
     ensures { Appended buf.old buf.new (spec.counts_text lo hi) }
 {
-    match mark(lo, hi) {
-        Some(mark) => put(buf, mark),
+    match operator(lo, hi) {
+        Some(operator) => put(buf, operator),
         None => {
             put(buf, '{');
             put_range(buf, lo, hi);
@@ -261,9 +261,9 @@ fn put_counts(buf: &mut String, lo: usize, hi: usize)
 }
 
 /// Writes the text in the braces of a range.
-#[tactic(auto, using(crate::proofs::RoomLemmas::room_steps, crate::proofs::QuoteLemmas::range_steps))]
+#[tactic(auto, using(crate::proofs::CapacityLemmas::capacity_steps, crate::proofs::QuoteLemmas::range_steps))]
 fn put_range(buf: &mut String, lo: usize, hi: usize)
-    requires { HasRoom buf.old (spec.range lo hi) }
+    requires { HasCapacity buf.old (spec.range lo hi) }
     ensures { Appended buf.old buf.new (spec.range lo hi) }
 {
     if lo == hi {

@@ -6,7 +6,7 @@ ghost use Rattle.fancy_lex.specs.Text.{text_of};
 ghost use Rattle.fancy_parts.specs.Groups.{groups_of, no_groups, with_group, with_number, numbers_under, entry_of};
 ghost use Rattle.fancy_parts.specs.Groups.{openings_with, groups_in, role_of, meaning_of};
 ghost use Rattle.fancy_parts.specs.Meaning as spec;
-ghost use Rattle.fancy_parts.specs.Meaning.{at_distance, is_fault_with_text, last_of, means, means_name, only_one};
+ghost use Rattle.fancy_parts.specs.Meaning.{at_distance, is_error_with_text, last_of, refers_to, refers_to_name, only_one};
 ghost use Rattle.fancy_parts.specs.Ranks.{Opening, numbers};
 
 use fancy_lex::error::ParseError;
@@ -33,7 +33,7 @@ pub enum Meaning {
     /// No group: the call stays unresolved.
     Unresolved,
     /// No group, which is an error.
-    Faulty(ParseError),
+    Invalid(ParseError),
 }
 
 /// The groups with a number that have been found so far.
@@ -107,7 +107,7 @@ fn add_number(
 }
 
 /// What a target refers to after the openings of `passed` groups. Memory is allocated only for the text of an error.
-pub fn meaning_behind(
+pub fn meaning_after(
     groups: &Groups,
     passed: usize,
     role: Role,
@@ -116,12 +116,12 @@ pub fn meaning_behind(
     requires { passed < amount_bound }
     ensures value { IfOk result
         (λ m. meaning_of m
-        ≡ means (numbers_under (groups_of groups.now).names) passed (role_of role) (view_target target.now)) }
+        ≡ refers_to (numbers_under (groups_of groups.now).names) passed (role_of role) (view_target target.now)) }
     ensures numbers { (l : List Opening) → groups_of groups.now ≡ groups_in l →
-        IfOk result (λ m. meaning_of m ≡ means (λ t. numbers t l) passed (role_of role) (view_target target.now)) }
+        IfOk result (λ m. meaning_of m ≡ refers_to (λ t. numbers t l) passed (role_of role) (view_target target.now)) }
     ensures without_memory { let numbers = numbers_under (groups_of groups.now).names in
-        let meaning = means numbers passed (role_of role) (view_target target.now) in
-        is_fault_with_text meaning ≡ false → IsOk result }
+        let meaning = refers_to numbers passed (role_of role) (view_target target.now) in
+        is_error_with_text meaning ≡ false → IsOk result }
 {
     match target {
         CaptureGroupTarget::ByNumber(number) => Ok(Meaning::Number(*number)),
@@ -141,17 +141,17 @@ fn by_name(
     numbers: &[usize],
 ) -> Result<Meaning, AllocError>
     ensures value { IfOk result
-        (λ m. meaning_of m ≡ means_name (role_of role) passed (text_of name.now) numbers.now) }
-    ensures without_memory { let meaning = means_name (role_of role) passed (text_of name.now) numbers.now in
-        is_fault_with_text meaning ≡ false → IsOk result }
+        (λ m. meaning_of m ≡ refers_to_name (role_of role) passed (text_of name.now) numbers.now) }
+    ensures without_memory { let meaning = refers_to_name (role_of role) passed (text_of name.now) numbers.now in
+        is_error_with_text meaning ≡ false → IsOk result }
 {
     match role {
         Role::Call => Ok(only(numbers)),
         Role::Condition => Ok(group_or_none(role, last(numbers))),
         Role::BackReference => match last(numbers) {
             Some(number) if number <= passed => Ok(Meaning::Number(number)),
-            Some(_) => Ok(Meaning::Faulty(ParseError::InvalidGroupNameBackref(name.clone()?))),
-            None => Ok(Meaning::Faulty(ParseError::InvalidBackref)),
+            Some(_) => Ok(Meaning::Invalid(ParseError::InvalidGroupNameBackref(name.clone()?))),
+            None => Ok(Meaning::Invalid(ParseError::InvalidBackref)),
         },
     }
 }
@@ -180,7 +180,7 @@ fn group_or_none(role: Role, number: Option<usize>) -> Meaning
     match number {
         Some(number) => Meaning::Number(number),
         None if role == Role::Call => Meaning::Unresolved,
-        None => Meaning::Faulty(ParseError::InvalidBackref),
+        None => Meaning::Invalid(ParseError::InvalidBackref),
     }
 }
 

@@ -9,28 +9,28 @@ use fancy_lex::name::CaptureGroupTarget;
 
 /// Whether a reference at this position of the pattern counts as numeric: a call by a number, and a back reference by a
 /// number directly after its backslash.
-pub fn is_numeric(pattern: &str, place: usize, role: Role, target: &CaptureGroupTarget) -> bool
-    ensures { result ≡ spec.is_numeric (chars pattern.now) place (role_of role) (view_target target.now) }
+pub fn is_numeric(pattern: &str, position: usize, role: Role, target: &CaptureGroupTarget) -> bool
+    ensures { result ≡ spec.is_numeric (chars pattern.now) position (role_of role) (view_target target.now) }
 {
     let CaptureGroupTarget::ByNumber(_) = target else {
         return false;
     };
     match role {
         Role::Call => true,
-        Role::BackReference => is_behind_backslash(pattern, place),
+        Role::BackReference => is_after_backslash(pattern, position),
         Role::Condition => false,
     }
 }
 
 /// Whether there is a backslash directly before the position.
-fn is_behind_backslash(pattern: &str, place: usize) -> bool
-    ensures { result ≡ spec.is_behind_backslash (chars pattern.now) place }
+fn is_after_backslash(pattern: &str, position: usize) -> bool
+    ensures { result ≡ spec.is_after_backslash (chars pattern.now) position }
 {
     let bytes = pattern.as_bytes();
-    if place == 0 {
+    if position == 0 {
         return false;
     }
-    let before = place - 1;
+    let before = position - 1;
     if before >= bytes.len() {
         return false;
     }

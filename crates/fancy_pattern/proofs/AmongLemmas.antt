@@ -17,14 +17,14 @@ some_if true x f o = refl
 some_if false x f None = refl
 some_if false x f (Some a) = refl
 
-pub is_some_cut : (mark : ℕ) (t : Text) → is_some (cut_at mark t) ≡ is_among mark t
-is_some_cut mark [] = refl
-is_some_cut mark (c ∷ []) =
-    some_if (c == mark) ([], []) (λ p. (c ∷ p.0, p.1)) None ∙ or-false (c == mark) ∙ same_test c mark
-is_some_cut mark (c ∷ d ∷ t) =
-    some_if (c == mark) ([], d ∷ t) (λ p. (c ∷ p.0, p.1)) (cut_at mark (d ∷ t))
-    ∙ ap (λ b. b || is_some (cut_at mark (d ∷ t))) (same_test c mark)
-    ∙ ap (λ b. (mark == c) || b) (is_some_cut mark (d ∷ t))
+pub is_some_cut : (delimiter : ℕ) (t : Text) → is_some (cut_at delimiter t) ≡ is_among delimiter t
+is_some_cut delimiter [] = refl
+is_some_cut delimiter (c ∷ []) =
+    some_if (c == delimiter) ([], []) (λ p. (c ∷ p.0, p.1)) None ∙ or-false (c == delimiter) ∙ same_test c delimiter
+is_some_cut delimiter (c ∷ d ∷ t) =
+    some_if (c == delimiter) ([], d ∷ t) (λ p. (c ∷ p.0, p.1)) (cut_at delimiter (d ∷ t))
+    ∙ ap (λ b. b || is_some (cut_at delimiter (d ∷ t))) (same_test c delimiter)
+    ∙ ap (λ b. (delimiter == c) || b) (is_some_cut delimiter (d ∷ t))
 
 pub is_some_parts : (o : Option (Bor (List ℕ) × Bor (List ℕ))) → is_some o ≡ is_some (parts o)
 is_some_parts None = refl

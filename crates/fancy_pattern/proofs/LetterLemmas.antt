@@ -40,10 +40,10 @@ by_itself : (f : Flags) (casei : Bool) (c : ℕ) → is_ordinary c ≡ true → 
 unfolding is_ordinary
 by_itself f casei c h k =
     let (letter, others) = and_parts _ _ h in
-    let (mark, more) = and_parts _ _ others in
-    let (caseless_mark, rest) = and_parts _ _ more in
+    let (symbol, more) = and_parts _ _ others in
+    let (caseless_symbol, rest) = and_parts _ _ more in
     let (layout, seen) = and_parts _ _ rest in
-    at casei (is_none _ letter) (is_false _ mark) (is_false _ caseless_mark) (is_false _ layout) (is_false _ seen) k
+    at casei (is_none _ letter) (is_false _ symbol) (is_false _ caseless_symbol) (is_false _ layout) (is_false _ seen) k
   where
     keeps : (b : Bool) → b && false ≡ false
     keeps true = refl
@@ -51,9 +51,9 @@ by_itself f casei c h k =
 
     at : (b : Bool) → letter_of c ≡ None → c ∈ "\\.+*?()|[]{}^$" ≡ false → c ∈ "\\.+*?()|[{^$" ≡ false →
         c ∈ " #" ≡ false → is_unseen c ≡ false → (b || not f.casei) ≡ true → character f b c ≡ c ∷ []
-    at true letter mark caseless_mark layout seen k = rw (caseless_mark, layout, keeps f.ignore_space, seen) refl
-    at false letter mark caseless_mark layout seen k =
-        rw (letter, mark, layout, keeps f.ignore_space, is_false f.casei k, seen) refl
+    at true letter symbol caseless_symbol layout seen k = rw (caseless_symbol, layout, keeps f.ignore_space, seen) refl
+    at false letter symbol caseless_symbol layout seen k =
+        rw (letter, symbol, layout, keeps f.ignore_space, is_false f.casei k, seen) refl
 
 pub stands_for_itself : (f : Flags) (casei : Bool) (c : ℕ) → is_ascii_alphanumeric c ≡ true →
     (casei || not f.casei) ≡ true → character f casei c ≡ c ∷ []

@@ -1,6 +1,6 @@
-pub mod SinkLemmas
+pub mod OutputLemmas
 mod LetterLemmas
-pub mod PartingLemmas
+pub mod SeparatorLemmas
 pub mod WritesLemmas
 pub mod SettledLemmas
 pub mod RowLemmas
@@ -8,6 +8,6 @@ pub mod NodeLemmas
 mod ExpressionLemmas
 mod AmongLemmas
 mod NamesLemmas
-pub mod MarksLemmas
+pub mod InfoLemmas
 mod NeedsWalk
 mod SourceWalk

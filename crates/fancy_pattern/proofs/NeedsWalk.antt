@@ -2,7 +2,7 @@
 use Rattle.std.proofs.Common.{◌≡◌, Bool, List, [], ◌∷◌, ◌++◌, refl, ap, sym, ◌∙◌, append_assoc, append-nil, length}
 use Rattle.std.proofs.Math.ListN.{set}
 use Rattle.std.specs.List.{flat_map}
-use Rattle.fancy_grammar.proofs.NeedsLemmas.{IsJoin, first_joins, both_joins, joined-behind}
+use Rattle.fancy_grammar.proofs.NeedsLemmas.{IsJoin, first_joins, both_joins, joined-after}
 use Rattle.fancy_grammar.proofs.NeedsLemmas.{needs_node, needs_next, table_node}
 use Rattle.fancy_grammar.specs.PatternNeeds.{first, both, joined, needs, needs_all}
 use Rattle.fancy_grammar.specs.PatternWalk.{needs_alone, needs_listed}
@@ -16,10 +16,10 @@ use Rattle.fancy_syntax.specs.declared.expr.Expr.{Expr}
 -- ---- what needs nothing adds nothing
 
 pub first_free : (a b : Need) → b ≡ Free → a ≡ first a b
-first_free a b e = sym (ap (first a) e ∙ first_joins.behind a)
+first_free a b e = sym (ap (first a) e ∙ first_joins.after a)
 
 pub both_free : (a b : Need) → b ≡ Free → a ≡ both a b
-both_free a b e = sym (ap (both a) e ∙ both_joins.behind a)
+both_free a b e = sym (ap (both a) e ∙ both_joins.after a)
 
 -- ---- needs that are joined so far, with some children left
 
@@ -44,7 +44,7 @@ module _ (join : Need → Need → Need) (j : IsJoin join) (o : Bool) (t : Tree)
 
   pub joining_ends : (n : Needs) (left : List Expr) → Joining join o t n left → left ≡ [] → n ≡ needs join o t
   joining_ends n left s h =
-      sym (joined-behind join j n) ∙ ap (λ es. joined join n (needs_all join o (trees_of (views es)))) (sym h) ∙ s.whole
+      sym (joined-after join j n) ∙ ap (λ es. joined join n (needs_all join o (trees_of (views es)))) (sym h) ∙ s.whole
 
 -- a tree without children
 pub leaf_joins : (join : Need → Need → Need) (j : IsJoin join) (o : Bool) (t : Tree) (n : Needs) →
@@ -81,16 +81,16 @@ module _ (o : Bool) (t : Tree) (old : List Needs) where
   listing_ends now left s h =
       sym (append-nil now) ∙ ap (λ es. now ++ flat_map (needs_listed o) (views es)) (sym h) ∙ s.whole
 
-  set_behind : (a : List Needs) (x y : Needs) (l : List Needs) → set (a ++ x ∷ l) (length a) y ≡ a ++ y ∷ l
-  set_behind [] x y l = refl
-  set_behind (z ∷ a) x y l = ap (λ m. z ∷ m) (set_behind a x y l)
+  set_after : (a : List Needs) (x y : Needs) (l : List Needs) → set (a ++ x ∷ l) (length a) y ≡ a ++ y ∷ l
+  set_after [] x y l = refl
+  set_after (z ∷ a) x y l = ap (λ m. z ∷ m) (set_after a x y l)
 
   -- with the needs of the node set in it
-  pub table_stands : (n : Needs) (now : List Needs) (left : List Expr) → Listing o t old now left → left ≡ [] →
+  pub table_complete : (n : Needs) (now : List Needs) (left : List Expr) → Listing o t old now left → left ≡ [] →
       n ≡ needs first o t → set now (length old) n ≡ old ++ needs_listed o t
-  table_stands n now left s h e =
+  table_complete n now left s h e =
       ap (λ l. set l (length old) n) (listing_ends now left s h)
-      ∙ set_behind old (needs_alone o t) n (flat_map (needs_listed o) (children t))
+      ∙ set_after old (needs_alone o t) n (flat_map (needs_listed o) (children t))
       ∙ ap (λ m. old ++ m ∷ flat_map (needs_listed o) (children t)) e
       ∙ ap (λ l. old ++ l) (sym (table_node o t))
 

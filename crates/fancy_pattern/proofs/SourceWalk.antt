@@ -13,10 +13,10 @@ use Rattle.fancy_grammar.specs.PatternLetters.{by_letter_or, plain}
 use Rattle.fancy_grammar.specs.PatternSource.{Replaced, Part, part, written_after, replaced, replaced_part}
 use Rattle.fancy_grammar.specs.PatternSource.{named_property, property_part, single_part, part_at, source_from}
 use Rattle.fancy_grammar.proofs.SourceLemmas.{source_goes_on, source_ends, part_left}
-use Rattle.fancy_pattern.specs.Sink.{Added}
+use Rattle.fancy_pattern.specs.TextOutput.{Added}
 use Rattle.fancy_pattern.specs.Source.{AddedPart, part_of, found_part}
-use Rattle.fancy_pattern.specs.declared.source.Found.{Found}
-use Rattle.fancy_pattern.proofs.SinkLemmas.{Adding, adding_as, adding_later}
+use Rattle.fancy_pattern.specs.declared.source.FoundEscape.{FoundEscape}
+use Rattle.fancy_pattern.proofs.OutputLemmas.{Adding, adding_as, adding_later}
 
 -- ---- the escapes that are found
 
@@ -33,12 +33,12 @@ replaced-append seen t (r ∷ l) k = at (strip_word (written_after seen r) t) (r
     at (Some u) h = refl
     at None h = h
 
-found_or : (a b : Option Found) → found_part (option_or a b) ≡ option_or (found_part a) (found_part b)
+found_or : (a b : Option FoundEscape) → found_part (option_or a b) ≡ option_or (found_part a) (found_part b)
 found_or (Some f) b = refl
 found_or None b = refl
 
 -- found in one list, or else in the other
-pub found_either : (seen : Bool) (t : Text) (l k : List Replaced) (r a b : Option Found) → r ≡ option_or a b →
+pub found_either : (seen : Bool) (t : Text) (l k : List Replaced) (r a b : Option FoundEscape) → r ≡ option_or a b →
     found_part a ≡ replaced_part seen l t → found_part b ≡ replaced_part seen k t →
     found_part r ≡ replaced_part seen (l ++ k) t
 found_either seen t l k r a b e p q =
@@ -105,15 +105,15 @@ single_keeps c (d ∷ t) = at (not (c == backslash)) (d ∈ "pP")
 -- a part at the start of the text
 pub record Begins (unicode seen : Bool) (text : Text) (p : Part) : Type 0 where
   pub first : ℕ
-  pub behind : Text
-  pub cut : text ≡ first ∷ behind
-  pub part : part_at unicode seen first behind ≡ p
+  pub after : Text
+  pub cut : text ≡ first ∷ after
+  pub part : part_at unicode seen first after ≡ p
 
-pub begins_replaced : (unicode seen : Bool) (c : ℕ) (t text : Text) (f : Found) → text ≡ c ∷ t →
+pub begins_replaced : (unicode seen : Bool) (c : ℕ) (t text : Text) (f : FoundEscape) → text ≡ c ∷ t →
     Some (part_of f) ≡ replaced_part seen (replaced unicode) text → Begins unicode seen text (part_of f)
 begins_replaced unicode seen c t text f e h = record {
   first = c;
-  behind = t;
+  after = t;
   cut = e;
   part = ap (λ o. choose o (λ p. p) (single_part c t)) (ap (replaced_part seen (replaced unicode)) (sym e) ∙ sym h);
 }
@@ -122,7 +122,7 @@ pub begins_single : (unicode seen : Bool) (c : ℕ) (t text : Text) → text ≡
     None ≡ replaced_part seen (replaced unicode) text → Begins unicode seen text (single_part c t)
 begins_single unicode seen c t text e h = record {
   first = c;
-  behind = t;
+  after = t;
   cut = e;
   part = ap (λ o. choose o (λ p. p) (single_part c t)) (ap (replaced_part seen (replaced unicode)) (sym e) ∙ sym h);
 }
@@ -131,15 +131,15 @@ begins_single unicode seen c t text e h = record {
 pub part_shorter : (unicode seen : Bool) (text left : Text) (p : Part) → Begins unicode seen text p → left ≡ p.rest →
     length left < length text
 part_shorter unicode seen text left p b e =
-    at (part_left unicode seen b.first b.behind)
+    at (part_left unicode seen b.first b.after)
   where
-    at : EndsWith b.behind (part_at unicode seen b.first b.behind).rest → length left < length text
+    at : EndsWith b.after (part_at unicode seen b.first b.after).rest → length left < length text
     at (w, cut) =
         omega (
           arith,
           ap length b.cut,
           ap length cut,
-          length-append w (part_at unicode seen b.first b.behind).rest,
+          length-append w (part_at unicode seen b.first b.after).rest,
           ap (λ (q : Part). length q.rest) b.part,
           ap length e,
         )
@@ -150,7 +150,7 @@ pub part_written : {S : Type 0} (holds : S → Text → Type 0) (a b d : S) (uni
     Adding holds a d (source_from unicode again 0 left) whole
 part_written holds a b d unicode seen again text left whole p s n w q =
     let on : source_from unicode seen 0 text ≡ p.source ++ source_from unicode (seen || p.negated) 0 p.rest =
-    ap (source_from unicode seen 0) s.cut ∙ source_goes_on unicode seen s.first s.behind
+    ap (source_from unicode seen 0) s.cut ∙ source_goes_on unicode seen s.first s.after
     ∙ ap (λ (x : Part). x.source ++ source_from unicode (seen || x.negated) 0 x.rest) s.part in
     adding_as holds a d (source_from unicode (seen || p.negated) 0 p.rest) _ whole
     (ap (λ b. source_from unicode b 0 p.rest) (sym n) ∙ ap (source_from unicode again 0) (sym q.rest))

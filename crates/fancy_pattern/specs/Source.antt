@@ -2,14 +2,14 @@
 use Rattle.std.specs.Prelude.{◌≡◌, chars, Option, option_map}
 use Rattle.fancy_lex.specs.Text.{Text}
 use Rattle.fancy_grammar.specs.PatternSource.{Part}
-use Rattle.fancy_pattern.specs.Sink.{Added}
-use Rattle.fancy_pattern.specs.declared.source.Found.{Found}
+use Rattle.fancy_pattern.specs.TextOutput.{Added}
+use Rattle.fancy_pattern.specs.declared.source.FoundEscape.{FoundEscape}
 
 -- an escape that was found is a part
-abbrev pub part_of : Found → Part
+abbrev pub part_of : FoundEscape → Part
 part_of f = record { source = chars f.escape.now; rest = chars f.rest.now; negated = f.negated }
 
-abbrev pub found_part : Option Found → Option Part
+abbrev pub found_part : Option FoundEscape → Option Part
 found_part r = option_map part_of r
 
 -- the part's source was added after what was written before, and the other text is left of the Delegate's text

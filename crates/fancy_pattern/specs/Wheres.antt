@@ -5,19 +5,19 @@ use Rattle.std.specs.List.{list_any}
 use Rattle.std.specs.Ordering.{nat_cmp}
 use Rattle.fancy_lex.specs.Text.{Text}
 use Rattle.fancy_grammar.specs.Depth.{max_depth}
-use Rattle.fancy_grammar.specs.Marks.{Marks}
-use Rattle.fancy_grammar.specs.Pattern.{Here, leaf_text}
+use Rattle.fancy_grammar.specs.GroupInfo.{GroupInfo}
+use Rattle.fancy_grammar.specs.Pattern.{Context, leaf_text}
 use Rattle.fancy_grammar.specs.PatternReference.{Named, is_plain_name, is_last, is_only}
 use Rattle.fancy_grammar.specs.Tree.{Tree, leaf}
 use Rattle.fancy_grammar.specs.declared.needs.Needs.{Needs}
-use Rattle.fancy_pattern.specs.declared.here.Here as code
-use Rattle.fancy_pattern.specs.declared.names.Known as known
-use Rattle.fancy_pattern.specs.declared.names.Name as name
+use Rattle.fancy_pattern.specs.declared.context.Context as code
+use Rattle.fancy_pattern.specs.declared.names.GroupNames as group_names
+use Rattle.fancy_pattern.specs.declared.names.GroupName as name
 
 -- ---- the position of a text
 
 -- the same position, before nodes with these needs
-pub record IsHere (i : code.Here) (h : Here) (l : List Needs) : Type 0 where
+pub record IsContext (i : code.Context) (h : Context) (l : List Needs) : Type 0 where
   pub flags : i.flags ≡ h.flags
   pub opened : i.opened ≡ h.opened
   pub left : i.left ≡ max_depth - h.depth
@@ -26,24 +26,24 @@ pub record IsHere (i : code.Here) (h : Here) (l : List Needs) : Type 0 where
 -- ---- names
 
 -- the name is the name in the entry, and says the same as the entry about the group n
-pub record Tells (n : ℕ) (a : name.Name) (e : Named) : Type 0 where
+pub record MatchesEntry (n : ℕ) (a : name.GroupName) (e : Named) : Type 0 where
   pub text : chars a.text.now ≡ e.0
   pub plain : a.is_plain ≡ is_plain_name e.0
   pub last : a.is_last ≡ is_last n e.1
   pub only : a.is_only ≡ is_only n e.1
 
 -- the group n has the name of the entry, or neither exists
-abbrev pub IsNameOf : ℕ → Option name.Name → Option Named → Type 0
+abbrev pub IsNameOf : ℕ → Option name.GroupName → Option Named → Type 0
 IsNameOf n None None = ⊤
-IsNameOf n (Some a) (Some e) = Tells n a e
+IsNameOf n (Some a) (Some e) = MatchesEntry n a e
 IsNameOf n _ _ = ⊥
 
 -- each group has the name that the entries give it
-pub record AreNames (b : BTreeMap ℕ name.Name) (es : List Named) : Type 0 where
+pub record AreNames (b : BTreeMap ℕ name.GroupName) (es : List Named) : Type 0 where
   pub at : (n : ℕ) → IsNameOf n (get nat_cmp b n) (find (λ e. list_any (λ k. k == n) e.1) es)
 
 -- what is known of the tree agrees with its group information
-pub record IsKnown (k : known.Known) (m : Marks) : Type 0 where
+pub record AreGroupNames (k : group_names.GroupNames) (m : GroupInfo) : Type 0 where
   pub numeric : k.is_numeric ≡ m.numeric_capture_group_references
   pub self_recursive : k.self_recursive ≡ m.self_recursive
   pub names : AreNames k.names m.named_groups
@@ -51,6 +51,6 @@ pub record IsKnown (k : known.Known) (m : Marks) : Type 0 where
 -- ---- leaves
 
 -- the text of a leaf; an empty text for a tree that holds others
-abbrev pub alone_text : Marks → Tree → Here → Text
+abbrev pub alone_text : GroupInfo → Tree → Context → Text
 alone_text m (leaf l) h = leaf_text m l h
 alone_text m t h = []

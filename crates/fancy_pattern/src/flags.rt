@@ -1,28 +1,28 @@
 //! Groups that set flags.
 ghost use Rattle.std.specs.Prelude.{◌≡◌, ◌∷◌, [], ◌++◌, codes, List, OnOk, if◌then◌else◌};
-ghost use Rattle.fancy_grammar.specs.Pattern as place;
+ghost use Rattle.fancy_grammar.specs.Pattern as pattern;
 ghost use Rattle.fancy_grammar.specs.PatternNeeds as spec;
 ghost use Rattle.fancy_grammar.specs.declared.needs.Needs.{Needs};
-ghost use Rattle.fancy_pattern.specs.Sink.{Added};
-ghost use Rattle.fancy_pattern.specs.Wheres.{IsHere};
+ghost use Rattle.fancy_pattern.specs.TextOutput.{Added};
+ghost use Rattle.fancy_pattern.specs.Wheres.{IsContext};
 
-use crate::here::Here;
+use crate::context::Context;
 use crate::needs::are_met;
-use crate::sink::{Sink, put_ascii};
+use crate::output::{TextOutput, put_ascii};
 use fancy_grammar::needs::Needs;
 use fancy_lex::flags::Flags;
 use std::alloc::AllocError;
 
 /// Writes the letter, if asked for.
-#[tactic(auto, using(crate::proofs::SinkLemmas::added_steps))]
-fn put_if<S: Sink>(out: &mut S, asked: bool, letter: char) -> Result<(), AllocError>
+#[tactic(auto, using(crate::proofs::OutputLemmas::added_steps))]
+fn put_if<S: TextOutput>(out: &mut S, asked: bool, letter: char) -> Result<(), AllocError>
     ensures { OnOk result (Added S.holds out.old out.new (if asked then letter ∷ [] else [])) }
 {
     if asked { out.put(letter) } else { Ok(()) }
 }
 
 /// Writes the letters of the flags that are set in `to` and not in `from`.
-fn put_letters_on<S: Sink>(out: &mut S, from: Flags, to: Flags) -> Result<(), AllocError>
+fn put_letters_on<S: TextOutput>(out: &mut S, from: Flags, to: Flags) -> Result<(), AllocError>
     ensures { OnOk result (Added S.holds out.old out.new (spec.letters_on from to)) }
 {
     put_if(out, to.casei && !from.casei, 'i')?;
@@ -42,7 +42,7 @@ fn turns_on(from: Flags, to: Flags) -> bool
 }
 
 /// Writes the letters that make the flags `from` the flags `to`.
-fn put_letters<S: Sink>(out: &mut S, from: Flags, to: Flags) -> Result<(), AllocError>
+fn put_letters<S: TextOutput>(out: &mut S, from: Flags, to: Flags) -> Result<(), AllocError>
     ensures { OnOk result (Added S.holds out.old out.new (spec.letters_between from to)) }
 {
     put_letters_on(out, from, to)?;
@@ -51,8 +51,8 @@ fn put_letters<S: Sink>(out: &mut S, from: Flags, to: Flags) -> Result<(), Alloc
 }
 
 /// Writes a group that changes the flags `from` to the flags `to` from there on, if they differ.
-fn put_group<S: Sink>(out: &mut S, from: Flags, to: Flags) -> Result<(), AllocError>
-    ensures { OnOk result (Added S.holds out.old out.new (spec.setting from to)) }
+fn put_group<S: TextOutput>(out: &mut S, from: Flags, to: Flags) -> Result<(), AllocError>
+    ensures { OnOk result (Added S.holds out.old out.new (spec.inline_flags from to)) }
 {
     if !turns_on(from, to) && !turns_on(to, from) {
         return Ok(());
@@ -64,37 +64,45 @@ fn put_group<S: Sink>(out: &mut S, from: Flags, to: Flags) -> Result<(), AllocEr
 
 /// Sets the flags that are needed from here on, if they are not set.
 #[inline(always)]
-pub(crate) fn put_setting<S: Sink>(
+pub(crate) fn put_inline_flags<S: TextOutput>(
     out: &mut S,
     needs: Needs,
-    here: &mut Here,
+    context: &mut Context,
 ) -> Result<(), AllocError>
     ensures { OnOk result (Added S.holds out.old out.new
-        (spec.setting here.old.flags (spec.with_needs here.old.flags needs))
-        × ((h : place.Here) (l : List Needs) → IsHere here.old h l →
-        IsHere here.new (place.under (spec.with_needs h.flags needs) h) l)) }
+        (spec.inline_flags context.old.flags (spec.with_needs context.old.flags needs))
+        × ((h : pattern.Context) (l : List Needs) → IsContext context.old h l →
+        IsContext context.new (pattern.under (spec.with_needs h.flags needs) h) l)) }
 {
-    if are_met(here.flags, needs) {
+    if are_met(context.flags, needs) {
         return Ok(());
     }
-    put_new_setting(out, needs, here)
+    put_new_flags(out, needs, context)
 }
 
 /// Sets the flags that are needed from here on.
 #[inline(never)]
-fn put_new_setting<S: Sink>(out: &mut S, needs: Needs, here: &mut Here) -> Result<(), AllocError>
+fn put_new_flags<S: TextOutput>(
+    out: &mut S,
+    needs: Needs,
+    context: &mut Context,
+) -> Result<(), AllocError>
     ensures { OnOk result (Added S.holds out.old out.new
-        (spec.setting here.old.flags (spec.with_needs here.old.flags needs))
-        × ((h : place.Here) (l : List Needs) → IsHere here.old h l →
-        IsHere here.new (place.under (spec.with_needs h.flags needs) h) l)) }
+        (spec.inline_flags context.old.flags (spec.with_needs context.old.flags needs))
+        × ((h : pattern.Context) (l : List Needs) → IsContext context.old h l →
+        IsContext context.new (pattern.under (spec.with_needs h.flags needs) h) l)) }
 {
-    let from = here.flags;
-    here.set(needs);
-    put_group(out, from, here.flags)
+    let from = context.flags;
+    context.set(needs);
+    put_group(out, from, context.flags)
 }
 
 /// Writes the opening of a group that changes the flags `from` to the flags `to`.
-fn put_scope_head<S: Sink>(out: &mut S, from: Flags, to: Flags) -> Result<(), AllocError>
+fn put_flag_group_opening<S: TextOutput>(
+    out: &mut S,
+    from: Flags,
+    to: Flags,
+) -> Result<(), AllocError>
     ensures { OnOk result (Added S.holds out.old out.new (codes "(?" ++ (spec.letters_between from to ++ codes ":"))) }
 {
     put_ascii(out, "(?")?;
@@ -103,19 +111,19 @@ fn put_scope_head<S: Sink>(out: &mut S, from: Flags, to: Flags) -> Result<(), Al
 }
 
 /// Opens a group in which the flags that are needed are set, and enters it.
-pub(crate) fn open_scope<S: Sink>(
+pub(crate) fn open_flag_group<S: TextOutput>(
     out: &mut S,
     needs: Needs,
-    here: &mut Here,
+    context: &mut Context,
 ) -> Result<(), AllocError>
     ensures { OnOk result (Added S.holds out.old out.new
-        (codes "(?" ++ (spec.letters_between here.old.flags (spec.with_needs here.old.flags needs) ++ codes ":"))
-        × ((h : place.Here) (l : List Needs) → IsHere here.old h l →
-        IsHere here.new (place.deeper (place.under (spec.with_needs h.flags needs) h)) l)) }
+        (codes "(?" ++ (spec.letters_between context.old.flags (spec.with_needs context.old.flags needs) ++ codes ":"))
+        × ((h : pattern.Context) (l : List Needs) → IsContext context.old h l →
+        IsContext context.new (pattern.deeper (pattern.under (spec.with_needs h.flags needs) h)) l)) }
 {
-    let from = here.flags;
-    here.set(needs);
-    put_scope_head(out, from, here.flags)?;
-    here.enter();
+    let from = context.flags;
+    context.set(needs);
+    put_flag_group_opening(out, from, context.flags)?;
+    context.enter();
     Ok(())
 }

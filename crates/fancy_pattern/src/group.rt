@@ -3,38 +3,46 @@ ghost use Rattle.std.specs.Prelude.{◌≡◌, ◌++◌, codes, true, nat_lt, Li
 ghost use Rattle.std.specs.List.{list_all};
 ghost use Rattle.fancy_grammar.specs.Pattern as spec;
 ghost use Rattle.fancy_grammar.specs.declared.needs.Needs.{Needs};
-ghost use Rattle.fancy_pattern.specs.Sink.{Added};
-ghost use Rattle.fancy_pattern.specs.Wheres.{IsHere};
+ghost use Rattle.fancy_pattern.specs.TextOutput.{Added};
+ghost use Rattle.fancy_pattern.specs.Wheres.{IsContext};
 
-use crate::here::Here;
-use crate::sink::{Sink, put_ascii};
+use crate::context::Context;
+use crate::output::{TextOutput, put_ascii};
 use fancy_syntax::expr::LookAround;
 use std::alloc::AllocError;
 
 /// Writes the opening of a group, and enters the group.
-pub(crate) fn open<S: Sink>(out: &mut S, head: &str, here: &mut Here) -> Result<(), AllocError>
-    requires { list_all (λ b. nat_lt b 128) head.now ≡ true }
-    ensures { OnOk result (Added S.holds out.old out.new (codes "(" ++ head.now)
-        × ((h : spec.Here) (l : List Needs) → IsHere here.old h l → IsHere here.new (spec.deeper h) l)) }
+pub(crate) fn open<S: TextOutput>(
+    out: &mut S,
+    opening: &str,
+    context: &mut Context,
+) -> Result<(), AllocError>
+    requires { list_all (λ b. nat_lt b 128) opening.now ≡ true }
+    ensures { OnOk result (Added S.holds out.old out.new (codes "(" ++ opening.now)
+        × ((h : spec.Context) (l : List Needs) → IsContext context.old h l → IsContext context.new (spec.deeper h) l)) }
 {
-    here.enter();
+    context.enter();
     out.put('(')?;
-    put_ascii(out, head)
+    put_ascii(out, opening)
 }
 
 /// Closes the group that is at `outside`, and leaves it.
-pub(crate) fn close<S: Sink>(out: &mut S, outside: &Here, here: &mut Here) -> Result<(), AllocError>
+pub(crate) fn close<S: TextOutput>(
+    out: &mut S,
+    outside: &Context,
+    context: &mut Context,
+) -> Result<(), AllocError>
     ensures { OnOk result (Added S.holds out.old out.new (codes ")")
-        × ((h e : spec.Here) (k l : List Needs) → IsHere outside.now h k → IsHere here.old e l →
-        IsHere here.new (record h { opened = e.opened }) l)) }
+        × ((h e : spec.Context) (k l : List Needs) → IsContext outside.now h k → IsContext context.old e l →
+        IsContext context.new (record h { opened = e.opened }) l)) }
 {
-    here.leave(outside);
+    context.leave(outside);
     out.put(')')
 }
 
 /// The opening of a look-around.
-pub(crate) fn look_head(look: LookAround) -> &'static str
-    ensures text { spec.look_head look ≡ result.now }
+pub(crate) fn look_opening(look: LookAround) -> &'static str
+    ensures text { spec.look_opening look ≡ result.now }
     ensures ascii { list_all (λ b. nat_lt b 128) result.now ≡ true }
 {
     match look {

@@ -1,20 +1,20 @@
 //! Trees that hold no other trees.
 ghost use Rattle.std.specs.Prelude.{◌≡◌, List, ◌++◌, codes, nat_lt, true, OnOk};
 ghost use Rattle.std.specs.List.{list_all};
-ghost use Rattle.fancy_grammar.specs.Marks.{Marks};
+ghost use Rattle.fancy_grammar.specs.GroupInfo.{GroupInfo};
 ghost use Rattle.fancy_grammar.specs.Pattern as spec;
 ghost use Rattle.fancy_grammar.specs.PatternLetters as letters;
 ghost use Rattle.fancy_grammar.specs.PatternReference as reference;
 ghost use Rattle.fancy_grammar.specs.declared.needs.Needs.{Needs};
-ghost use Rattle.fancy_pattern.specs.Sink.{Added};
+ghost use Rattle.fancy_pattern.specs.TextOutput.{Added};
 ghost use Rattle.fancy_syntax.specs.View.{view};
-ghost use Rattle.fancy_pattern.specs.Wheres.{IsHere, IsKnown, alone_text};
+ghost use Rattle.fancy_pattern.specs.Wheres.{IsContext, AreGroupNames, alone_text};
 
-use crate::here::Here;
+use crate::context::Context;
 use crate::letters::{put_bytes, put_literal};
-use crate::names::Known;
+use crate::names::GroupNames;
+use crate::output::{TextOutput, put_ascii};
 use crate::reference::{put_backref, put_backref_at_level, put_call, put_target, put_unresolved};
-use crate::sink::{Sink, put_ascii};
 use crate::source::put_delegate;
 use fancy_lex::flags::Flags;
 use fancy_syntax::expr::{Absent, Assertion, BacktrackingControlVerb, Expr};
@@ -78,24 +78,33 @@ pub(crate) fn verb_name(verb: BacktrackingControlVerb) -> &'static str
 }
 
 /// Writes any character.
-#[tactic(auto, using(crate::proofs::SinkLemmas::added_steps))]
-fn put_any<S: Sink>(out: &mut S, newline: bool, crlf: bool, flags: Flags) -> Result<(), AllocError>
+#[tactic(auto, using(crate::proofs::OutputLemmas::added_steps))]
+fn put_any<S: TextOutput>(
+    out: &mut S,
+    newline: bool,
+    crlf: bool,
+    flags: Flags,
+) -> Result<(), AllocError>
     ensures { OnOk result (Added S.holds out.old out.new (letters.any_text flags newline crlf)) }
 {
     put_ascii(out, any_text(newline, crlf, flags))
 }
 
 /// Writes an assertion.
-#[tactic(auto, using(crate::proofs::SinkLemmas::added_steps))]
-fn put_assertion<S: Sink>(out: &mut S, assertion: Assertion, flags: Flags) -> Result<(), AllocError>
+#[tactic(auto, using(crate::proofs::OutputLemmas::added_steps))]
+fn put_assertion<S: TextOutput>(
+    out: &mut S,
+    assertion: Assertion,
+    flags: Flags,
+) -> Result<(), AllocError>
     ensures { OnOk result (Added S.holds out.old out.new (letters.assertion_text flags assertion)) }
 {
     put_ascii(out, assertion_text(assertion, flags))
 }
 
 /// Writes a verb.
-#[tactic(auto, using(crate::proofs::SinkLemmas::added_steps))]
-fn put_verb<S: Sink>(out: &mut S, verb: BacktrackingControlVerb) -> Result<(), AllocError>
+#[tactic(auto, using(crate::proofs::OutputLemmas::added_steps))]
+fn put_verb<S: TextOutput>(out: &mut S, verb: BacktrackingControlVerb) -> Result<(), AllocError>
     ensures { OnOk result (Added S.holds out.old out.new (spec.parenthesized (spec.verb_name verb))) }
 {
     out.put('(')?;
@@ -104,54 +113,54 @@ fn put_verb<S: Sink>(out: &mut S, verb: BacktrackingControlVerb) -> Result<(), A
 }
 
 /// Writes a condition on a group that is not the condition of a Conditional.
-#[tactic(auto, using(crate::proofs::SinkLemmas::added_steps))]
-fn put_condition_alone<S: Sink>(
+#[tactic(auto, using(crate::proofs::OutputLemmas::added_steps))]
+fn put_condition_alone<S: TextOutput>(
     out: &mut S,
-    known: &Known,
+    names: &GroupNames,
     group: usize,
     level: Option<isize>,
 ) -> Result<(), AllocError>
-    ensures { (m : Marks) → IsKnown known.now m → OnOk result (Added S.holds out.old out.new
+    ensures { (m : GroupInfo) → AreGroupNames names.now m → OnOk result (Added S.holds out.old out.new
         (codes "(?" ++ (spec.parenthesized (reference.target_text m group level) ++ codes ")"))) }
 {
     put_ascii(out, "(?(")?;
-    put_target(out, known, group, level)?;
+    put_target(out, names, group, level)?;
     put_ascii(out, "))")
 }
 
 /// Writes a leaf once its flags are set, and nothing for a tree that holds others.
-#[tactic(auto, using(crate::proofs::SinkLemmas::added_steps))]
-pub(crate) fn put_leaf<S: Sink>(
+#[tactic(auto, using(crate::proofs::OutputLemmas::added_steps))]
+pub(crate) fn put_leaf<S: TextOutput>(
     out: &mut S,
-    known: &Known,
+    names: &GroupNames,
     leaf: &Expr,
-    here: &Here,
+    context: &Context,
 ) -> Result<(), AllocError>
-    ensures { (m : Marks) (h : spec.Here) (l : List Needs) → IsKnown known.now m → IsHere here.now h l →
+    ensures { (m : GroupInfo) (h : spec.Context) (l : List Needs) → AreGroupNames names.now m → IsContext context.now h l →
         OnOk result (Added S.holds out.old out.new (alone_text m (view leaf.now) h)) }
 {
     match leaf {
-        Expr::Any { newline, crlf } => put_any(out, *newline, *crlf, here.flags),
-        Expr::Assertion(assertion) => put_assertion(out, *assertion, here.flags),
+        Expr::Any { newline, crlf } => put_any(out, *newline, *crlf, context.flags),
+        Expr::Assertion(assertion) => put_assertion(out, *assertion, context.flags),
         Expr::GeneralNewline { .. } => put_ascii(out, r"\R"),
-        Expr::Literal { val, casei } => put_literal(out, val.as_str(), *casei, here.flags),
+        Expr::Literal { val, casei } => put_literal(out, val.as_str(), *casei, context.flags),
         Expr::LiteralBytes { bytes } => put_bytes(out, bytes.as_slice()),
-        Expr::Delegate { inner, casei } => put_delegate(out, inner.as_str(), *casei, here.flags),
+        Expr::Delegate { inner, casei } => put_delegate(out, inner.as_str(), *casei, context.flags),
         Expr::KeepOut => put_ascii(out, r"\K"),
         Expr::ContinueFromPreviousMatchEnd => put_ascii(out, r"\G"),
         Expr::BacktrackingControlVerb(verb) => put_verb(out, *verb),
         Expr::Absent(Absent::Clear) => put_ascii(out, "(?~|)"),
-        Expr::Backref { group, .. } => put_backref(out, known, *group, here.opened),
+        Expr::Backref { group, .. } => put_backref(out, names, *group, context.opened),
         Expr::BackrefWithRelativeRecursionLevel {
             group,
             relative_level,
             ..
-        } => put_backref_at_level(out, known, *group, *relative_level, here.opened),
+        } => put_backref_at_level(out, names, *group, *relative_level, context.opened),
         Expr::BackrefExistsCondition {
             group,
             relative_recursion_level,
-        } => put_condition_alone(out, known, *group, *relative_recursion_level),
-        Expr::SubroutineCall(group) => put_call(out, known, *group, here.opened),
+        } => put_condition_alone(out, names, *group, *relative_recursion_level),
+        Expr::SubroutineCall(group) => put_call(out, names, *group, context.opened),
         Expr::AstNode(node, _) => put_unresolved(out, node),
         _ => Ok(()),
     }

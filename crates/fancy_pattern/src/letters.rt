@@ -5,9 +5,9 @@ ghost use Rattle.std.specs.List.{flat_map};
 ghost use Rattle.fancy_lex.specs.Characters.{◌∈◌, backslash};
 ghost use Rattle.fancy_lex.specs.Class.{byte_text, upper_hex_digit};
 ghost use Rattle.fancy_grammar.specs.PatternLetters as spec;
-ghost use Rattle.fancy_pattern.specs.Sink.{Added};
+ghost use Rattle.fancy_pattern.specs.TextOutput.{Added};
 
-use crate::sink::{Sink, put_ascii};
+use crate::output::{TextOutput, put_ascii};
 use fancy_lex::class::upper_hex_digit;
 use fancy_lex::flags::Flags;
 use fancy_lex::text::next;
@@ -47,7 +47,7 @@ fn letter_of(c: char) -> Option<char>
 }
 
 /// Whether the character is a metacharacter outside a class, whatever is before it.
-fn is_mark(c: char) -> bool
+fn is_metacharacter(c: char) -> bool
     ensures { result ≡ (c ∈ "\\.+*?()|[{^$") }
 {
     matches!(
@@ -64,7 +64,7 @@ fn is_layout(c: char, flags: Flags) -> bool
 }
 
 /// Writes a digit of a code.
-fn put_hex_digit<S: Sink>(out: &mut S, digit: u8) -> Result<(), AllocError>
+fn put_hex_digit<S: TextOutput>(out: &mut S, digit: u8) -> Result<(), AllocError>
     requires { digit < 16 }
     ensures { OnOk result (Added S.holds out.old out.new (upper_hex_digit digit ∷ [])) }
 {
@@ -72,7 +72,7 @@ fn put_hex_digit<S: Sink>(out: &mut S, digit: u8) -> Result<(), AllocError>
 }
 
 /// Writes a byte by its code.
-fn put_byte<S: Sink>(out: &mut S, byte: u8) -> Result<(), AllocError>
+fn put_byte<S: TextOutput>(out: &mut S, byte: u8) -> Result<(), AllocError>
     ensures { OnOk result (Added S.holds out.old out.new (byte_text byte)) }
 {
     put_ascii(out, r"\x")?;
@@ -81,7 +81,7 @@ fn put_byte<S: Sink>(out: &mut S, byte: u8) -> Result<(), AllocError>
 }
 
 /// Writes four digits.
-fn put_hex_digits<S: Sink>(out: &mut S, code: u32) -> Result<(), AllocError>
+fn put_hex_digits<S: TextOutput>(out: &mut S, code: u32) -> Result<(), AllocError>
     requires { code < 65536 }
     ensures { OnOk result (Added S.holds out.old out.new
         (map upper_hex_digit (code / 4096 ∷ code / 256 % 16 ∷ code / 16 % 16 ∷ code % 16 ∷ []))) }
@@ -93,8 +93,8 @@ fn put_hex_digits<S: Sink>(out: &mut S, code: u32) -> Result<(), AllocError>
 }
 
 /// Writes a character of at most four digits by its code.
-#[tactic(auto, using(crate::proofs::SinkLemmas::added_steps))]
-fn put_code<S: Sink>(out: &mut S, c: char) -> Result<(), AllocError>
+#[tactic(auto, using(crate::proofs::OutputLemmas::added_steps))]
+fn put_code<S: TextOutput>(out: &mut S, c: char) -> Result<(), AllocError>
     requires { c < 65536 }
     ensures { OnOk result (Added S.holds out.old out.new (spec.coded c)) }
 {
@@ -107,7 +107,7 @@ fn put_code<S: Sink>(out: &mut S, c: char) -> Result<(), AllocError>
 }
 
 /// Writes a visible character, or the code of an invisible one.
-fn put_plain<S: Sink>(out: &mut S, c: char) -> Result<(), AllocError>
+fn put_plain<S: TextOutput>(out: &mut S, c: char) -> Result<(), AllocError>
     ensures { OnOk result (Added S.holds out.old out.new (spec.plain c)) }
 {
     if is_unseen(c) {
@@ -118,8 +118,8 @@ fn put_plain<S: Sink>(out: &mut S, c: char) -> Result<(), AllocError>
 }
 
 /// Writes the character after a backslash.
-#[tactic(auto, using(crate::proofs::SinkLemmas::added_steps))]
-fn put_behind_backslash<S: Sink>(out: &mut S, c: char) -> Result<(), AllocError>
+#[tactic(auto, using(crate::proofs::OutputLemmas::added_steps))]
+fn put_after_backslash<S: TextOutput>(out: &mut S, c: char) -> Result<(), AllocError>
     ensures { OnOk result (Added S.holds out.old out.new (backslash ∷ c ∷ [])) }
 {
     out.put('\\')?;
@@ -127,20 +127,20 @@ fn put_behind_backslash<S: Sink>(out: &mut S, c: char) -> Result<(), AllocError>
 }
 
 /// Writes a character of a class.
-pub(crate) fn put_class_character<S: Sink>(out: &mut S, c: char) -> Result<(), AllocError>
+pub(crate) fn put_class_character<S: TextOutput>(out: &mut S, c: char) -> Result<(), AllocError>
     ensures { OnOk result (Added S.holds out.old out.new (spec.by_letter_or c (spec.plain c))) }
 {
     match letter_of(c) {
-        Some(letter) => put_behind_backslash(out, letter),
+        Some(letter) => put_after_backslash(out, letter),
         None => put_plain(out, c),
     }
 }
 
 /// Writes a character of a case-insensitive Literal.
-fn put_caseless<S: Sink>(out: &mut S, c: char, flags: Flags) -> Result<(), AllocError>
+fn put_caseless<S: TextOutput>(out: &mut S, c: char, flags: Flags) -> Result<(), AllocError>
     ensures { OnOk result (Added S.holds out.old out.new (spec.character flags true c)) }
 {
-    if is_mark(c) || is_layout(c, flags) {
+    if is_metacharacter(c) || is_layout(c, flags) {
         put_code(out, c)
     } else {
         put_plain(out, c)
@@ -148,14 +148,14 @@ fn put_caseless<S: Sink>(out: &mut S, c: char, flags: Flags) -> Result<(), Alloc
 }
 
 /// Writes a character of a case-sensitive Literal.
-fn put_cased<S: Sink>(out: &mut S, c: char, flags: Flags) -> Result<(), AllocError>
+fn put_cased<S: TextOutput>(out: &mut S, c: char, flags: Flags) -> Result<(), AllocError>
     ensures { OnOk result (Added S.holds out.old out.new (spec.character flags false c)) }
 {
     if let Some(letter) = letter_of(c) {
-        return put_behind_backslash(out, letter);
+        return put_after_backslash(out, letter);
     }
-    if is_mark(c) || c == ']' || c == '}' || is_layout(c, flags) || flags.casei {
-        put_behind_backslash(out, c)
+    if is_metacharacter(c) || c == ']' || c == '}' || is_layout(c, flags) || flags.casei {
+        put_after_backslash(out, c)
     } else {
         put_plain(out, c)
     }
@@ -171,8 +171,13 @@ fn is_itself(c: char, casei: bool, flags: Flags) -> bool
 }
 
 /// Writes a character of a Literal.
-#[tactic(auto, using(crate::proofs::SinkLemmas::added_steps))]
-fn put_character<S: Sink>(out: &mut S, c: char, casei: bool, flags: Flags) -> Result<(), AllocError>
+#[tactic(auto, using(crate::proofs::OutputLemmas::added_steps))]
+fn put_character<S: TextOutput>(
+    out: &mut S,
+    c: char,
+    casei: bool,
+    flags: Flags,
+) -> Result<(), AllocError>
     ensures { OnOk result (Added S.holds out.old out.new (spec.character flags casei c)) }
 {
     if is_itself(c, casei, flags) {
@@ -186,7 +191,7 @@ fn put_character<S: Sink>(out: &mut S, c: char, casei: bool, flags: Flags) -> Re
 }
 
 /// Writes a Literal.
-pub(crate) fn put_literal<S: Sink>(
+pub(crate) fn put_literal<S: TextOutput>(
     out: &mut S,
     val: &str,
     casei: bool,
@@ -195,15 +200,15 @@ pub(crate) fn put_literal<S: Sink>(
     ensures { OnOk result (Added S.holds out.old out.new (flat_map (spec.character flags casei) (chars val.now))) }
 {
     let mut rest = val;
-    while let Some((c, behind)) = next(rest) {
+    while let Some((c, after)) = next(rest) {
         put_character(out, c, casei, flags)?;
-        rest = behind;
+        rest = after;
     }
     Ok(())
 }
 
 /// Writes bytes by their codes.
-pub(crate) fn put_bytes<S: Sink>(out: &mut S, bytes: &[u8]) -> Result<(), AllocError>
+pub(crate) fn put_bytes<S: TextOutput>(out: &mut S, bytes: &[u8]) -> Result<(), AllocError>
     ensures { OnOk result (Added S.holds out.old out.new (flat_map byte_text bytes.now)) }
 {
     for byte in bytes {

@@ -16,26 +16,26 @@ ghost use Rattle.fancy_lex.specs.Text.{text_of};
 ghost use Rattle.fancy_grammar.specs.Pattern.{pattern_text};
 ghost use Rattle.fancy_grammar.specs.OfPattern.{IsOfPattern};
 ghost use Rattle.fancy_grammar.specs.ReadAs.{IsReadAs};
-ghost use Rattle.fancy_syntax.specs.Answer.{marks_of};
+ghost use Rattle.fancy_syntax.specs.InfoViews.{info_of};
 ghost use Rattle.fancy_syntax.specs.View.{view};
 
+mod context;
 mod flags;
 mod group;
-mod here;
 mod leaf;
 mod letters;
 mod names;
 mod needs;
-mod parting;
+mod output;
 mod quantifier;
 mod reference;
 mod same;
-mod sink;
+mod separator;
 mod source;
 mod write;
 
-use crate::here::Here;
-use crate::names::Known;
+use crate::context::Context;
+use crate::names::GroupNames;
 use crate::needs::push_needs;
 use crate::same::is_read_as;
 use crate::write::put_pattern;
@@ -51,14 +51,14 @@ use std::alloc::{AllocError, Global};
 /// returned. Returns `AllocError` if out of memory.
 pub fn to_pattern(alloc: Global, tree: &ExprTree, flags: u32) -> Result<Option<String>, AllocError>
     ensures text { IfOk result (λ t. IfSome t (λ s.
-        text_of s ≡ pattern_text (flags_of flags) (view tree.now.expr) (marks_of tree.now))) }
+        text_of s ≡ pattern_text (flags_of flags) (view tree.now.expr) (info_of tree.now))) }
     ensures reads_back { IfOk result (λ t. IfSome t (λ s.
-        IsReadAs (flags_of flags) (text_of s) (view tree.now.expr) (marks_of tree.now))) }
+        IsReadAs (flags_of flags) (text_of s) (view tree.now.expr) (info_of tree.now))) }
     ensures none { IfOk result (λ t. IfNone t
-        (IsReadAs (flags_of flags) (pattern_text (flags_of flags) (view tree.now.expr) (marks_of tree.now))
-        (view tree.now.expr) (marks_of tree.now) → ⊥)) }
+        (IsReadAs (flags_of flags) (pattern_text (flags_of flags) (view tree.now.expr) (info_of tree.now))
+        (view tree.now.expr) (info_of tree.now) → ⊥)) }
     ensures parsed { IfOk result (λ t. IfNone t
-        (IsOfPattern (flags_of flags) (view tree.now.expr) (marks_of tree.now) → ⊥)) }
+        (IsOfPattern (flags_of flags) (view tree.now.expr) (info_of tree.now) → ⊥)) }
 {
     let text = text_of_tree(alloc, tree, Flags::from_bits(flags))?;
     if is_read_as(alloc, text.as_str(), flags, tree)? {
@@ -74,14 +74,14 @@ const FIRST_CAPACITY: usize = 32;
 /// The tree's text. It is written to a string with an initial capacity of more than a byte per node, which grows from
 /// there. The returned string owns memory only for the text.
 fn text_of_tree(alloc: Global, tree: &ExprTree, flags: Flags) -> Result<String, AllocError>
-    ensures { IfOk result (λ s. text_of s ≡ pattern_text flags (view tree.now.expr) (marks_of tree.now)) }
+    ensures { IfOk result (λ s. text_of s ≡ pattern_text flags (view tree.now.expr) (info_of tree.now)) }
 {
-    let known = Known::new(alloc, tree)?;
+    let names = GroupNames::new(alloc, tree)?;
     let mut listed = Vec::with_capacity(alloc, FIRST_CAPACITY)?;
     let needs = push_needs(&mut listed, &tree.expr, flags.oniguruma_mode)?;
-    let here = Here::at_start(flags, listed.as_slice());
+    let context = Context::at_start(flags, listed.as_slice());
     let capacity = listed.len().saturating_add(FIRST_CAPACITY);
     let mut text = String::with_capacity(alloc, capacity)?;
-    put_pattern(&mut text, &known, &tree.expr, needs.common, here)?;
+    put_pattern(&mut text, &names, &tree.expr, needs.common, context)?;
     String::from_str(alloc, text.as_str())
 }

@@ -3,11 +3,11 @@ ghost use Rattle.std.specs.Prelude.{◌≡◌, ℕ, List, [], ◌∷◌, ◌++�
 ghost use Rattle.std.specs.BTreeMap.{get};
 ghost use Rattle.std.specs.Option.{option_or};
 ghost use Rattle.std.specs.Ordering.{nat_cmp};
-ghost use Rattle.fancy_grammar.specs.Marks.{Marks};
+ghost use Rattle.fancy_grammar.specs.GroupInfo.{GroupInfo};
 ghost use Rattle.fancy_grammar.specs.PatternReference as spec;
 ghost use Rattle.fancy_grammar.specs.PatternReference.{Named};
-ghost use Rattle.fancy_syntax.specs.Answer.{marks_of};
-ghost use Rattle.fancy_pattern.specs.Wheres.{AreNames, IsKnown, IsNameOf};
+ghost use Rattle.fancy_syntax.specs.InfoViews.{info_of};
+ghost use Rattle.fancy_pattern.specs.Wheres.{AreNames, AreGroupNames, IsNameOf};
 
 use fancy_lex::name::id::id_reference;
 use fancy_lex::name::number_text::number_text;
@@ -17,7 +17,7 @@ use std::collections::BTreeMap;
 
 /// A group's name.
 #[derive(Clone, Copy, Drop)]
-pub(crate) struct Name<'a> {
+pub(crate) struct GroupName<'a> {
     /// The name.
     pub(crate) text: &'a str,
     /// Whether it is an id, and not the text of a number.
@@ -30,9 +30,9 @@ pub(crate) struct Name<'a> {
 
 /// What the text of a tree depends on besides the tree.
 #[derive(Drop)]
-pub(crate) struct Known<'a> {
+pub(crate) struct GroupNames<'a> {
     /// The name of each group that has one, by the number of the group.
-    names: BTreeMap<usize, Name<'a>>,
+    names: BTreeMap<usize, GroupName<'a>>,
     /// Whether some reference is written as a number; then each is.
     pub(crate) is_numeric: bool,
     /// Whether some call is by the number 0.
@@ -68,9 +68,9 @@ fn is_only(number: usize, numbers: &[usize]) -> bool
 
 /// Adds the name of the group with this number, if it has no name yet.
 fn add_number<'a>(
-    names: &mut BTreeMap<usize, Name<'a>>,
+    names: &mut BTreeMap<usize, GroupName<'a>>,
     number: usize,
-    name: Name<'a>,
+    name: GroupName<'a>,
 ) -> Result<(), AllocError>
     ensures { IfOk result (λ _. (n : ℕ) → get nat_cmp names.new n
         ≡ option_or (get nat_cmp names.old n) (if number == n then Some name.entry else None)) }
@@ -83,7 +83,7 @@ fn add_number<'a>(
 
 /// Adds the name for each of the numbers that has no name yet.
 fn add_name<'a>(
-    names: &mut BTreeMap<usize, Name<'a>>,
+    names: &mut BTreeMap<usize, GroupName<'a>>,
     text: &'a str,
     numbers: &[usize],
 ) -> Result<(), AllocError>
@@ -92,7 +92,7 @@ fn add_name<'a>(
 {
     let is_plain = is_plain_name(text);
     for number in numbers {
-        let name = Name {
+        let name = GroupName {
             text,
             is_plain,
             is_last: is_last(*number, numbers),
@@ -103,16 +103,16 @@ fn add_name<'a>(
     Ok(())
 }
 
-impl<'a> Known<'a> {
+impl<'a> GroupNames<'a> {
     /// What is known of the tree.
-    pub(crate) fn new(alloc: Global, tree: &'a ExprTree) -> Result<Known<'a>, AllocError>
-        ensures { IfOk result (λ k. IsKnown k (marks_of tree.now)) }
+    pub(crate) fn new(alloc: Global, tree: &'a ExprTree) -> Result<GroupNames<'a>, AllocError>
+        ensures { IfOk result (λ k. AreGroupNames k (info_of tree.now)) }
     {
         let mut names = BTreeMap::new(alloc);
         for (name, numbers) in &tree.named_groups {
             add_name(&mut names, name.as_str(), numbers.as_slice())?;
         }
-        Ok(Known {
+        Ok(GroupNames {
             names,
             is_numeric: tree.numeric_capture_group_references,
             self_recursive: tree.self_recursive,
@@ -120,15 +120,15 @@ impl<'a> Known<'a> {
     }
 
     /// The name of the group.
-    pub(crate) fn name_of(&self, group: usize) -> Option<Name<'a>>
-        ensures { (m : Marks) → IsKnown self.now m → IsNameOf group result (spec.name_of m group) }
+    pub(crate) fn name_of(&self, group: usize) -> Option<GroupName<'a>>
+        ensures { (m : GroupInfo) → AreGroupNames self.now m → IsNameOf group result (spec.name_of m group) }
     {
         self.names.get(&group).copied()
     }
 
     /// The group's name, if references are written by names, and one by this name refers to the group.
     pub(crate) fn last_name(&self, group: usize) -> Option<&'a str>
-        ensures { (m : Marks) → IsKnown self.now m →
+        ensures { (m : GroupInfo) → AreGroupNames self.now m →
             option_map (λ t. chars t.now) result ≡ spec.fit_name m (spec.is_last group) group }
     {
         let name = self.name_of(group)?;
@@ -141,7 +141,7 @@ impl<'a> Known<'a> {
 
     /// The group's name, if references are written by names, and only this group has the name.
     pub(crate) fn only_name(&self, group: usize) -> Option<&'a str>
-        ensures { (m : Marks) → IsKnown self.now m →
+        ensures { (m : GroupInfo) → AreGroupNames self.now m →
             option_map (λ t. chars t.now) result ≡ spec.fit_name m (spec.is_only group) group }
     {
         let name = self.name_of(group)?;

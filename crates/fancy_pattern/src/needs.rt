@@ -6,7 +6,7 @@ ghost use Rattle.fancy_grammar.specs.PatternNeeds as spec;
 ghost use Rattle.fancy_grammar.specs.PatternWalk.{needs_alone, needs_listed};
 ghost use Rattle.fancy_syntax.specs.View.{view};
 
-use crate::parting::is_text;
+use crate::separator::is_text;
 use fancy_grammar::needs::{Need, Needs};
 use fancy_lex::flags::Flags;
 use fancy_lex::text::next;
@@ -51,11 +51,11 @@ fn are_kept_by_backslash(text: &str, oniguruma_mode: bool) -> bool
     ensures { result ≡ list_all (spec.is_kept_by_backslash oniguruma_mode) (chars text.now) }
 {
     let mut rest = text;
-    while let Some((c, behind)) = next(rest) {
+    while let Some((c, after)) = next(rest) {
         if c.is_ascii_alphanumeric() || !oniguruma_mode && (c == '<' || c == '>') {
             return false;
         }
-        rest = behind;
+        rest = after;
     }
     true
 }
@@ -249,8 +249,8 @@ pub(crate) fn push_needs(
         let below = push_needs(list, child, oniguruma_mode)?;
         needs.join(&below);
     }
-    if let Some(place) = list.get_mut(at) {
-        *place = needs.first;
+    if let Some(slot) = list.get_mut(at) {
+        *slot = needs.first;
     }
     Ok(needs)
 }

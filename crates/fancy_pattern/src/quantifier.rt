@@ -4,12 +4,12 @@ ghost use Rattle.std.specs.List.{list_all};
 ghost use Rattle.fancy_parts.specs.Quote.{range, counts_as};
 ghost use Rattle.fancy_grammar.specs.Depth.{max_depth};
 ghost use Rattle.fancy_grammar.specs.PatternQuantifier as spec;
-ghost use Rattle.fancy_pattern.specs.Sink.{Added};
+ghost use Rattle.fancy_pattern.specs.TextOutput.{Added};
 ghost use Rattle.fancy_syntax.specs.View.{view};
 
-use crate::sink::{Sink, put_ascii};
+use crate::output::{TextOutput, put_ascii};
 use fancy_lex::flags::Flags;
-use fancy_parts::quote::mark;
+use fancy_parts::quote::operator;
 use fancy_syntax::expr::Expr;
 use std::alloc::AllocError;
 
@@ -59,8 +59,8 @@ pub(crate) fn most_quantifiers(flags: Flags, left: usize) -> usize
 }
 
 /// Writes the contents of the braces of a quantifier.
-#[tactic(auto, using(crate::proofs::SinkLemmas::added_steps, fancy_parts::proofs::QuoteLemmas::range_steps))]
-fn put_range<S: Sink>(out: &mut S, lo: usize, hi: usize) -> Result<(), AllocError>
+#[tactic(auto, using(crate::proofs::OutputLemmas::added_steps, fancy_parts::proofs::QuoteLemmas::range_steps))]
+fn put_range<S: TextOutput>(out: &mut S, lo: usize, hi: usize) -> Result<(), AllocError>
     ensures { OnOk result (Added S.holds out.old out.new (range lo hi)) }
 {
     if lo == hi {
@@ -77,25 +77,25 @@ fn put_range<S: Sink>(out: &mut S, lo: usize, hi: usize) -> Result<(), AllocErro
 
 /// The operator that remains for the counts if the quantifier is adjacent to another: `?` and `+` would belong to that
 /// one.
-fn mark_left(adjacent: bool, mark: Option<char>) -> Option<char>
-    ensures { spec.mark_left adjacent mark ≡ result }
+fn operator_left(adjacent: bool, operator: Option<char>) -> Option<char>
+    ensures { spec.operator_left adjacent operator ≡ result }
 {
-    match mark {
+    match operator {
         Some(c) if adjacent && c != '*' => None,
-        _ => mark,
+        _ => operator,
     }
 }
 
 /// Writes the operator, or the counts in braces if there is none.
-fn put_counts<S: Sink>(
+fn put_counts<S: TextOutput>(
     out: &mut S,
     lo: usize,
     hi: usize,
-    mark: Option<char>,
+    operator: Option<char>,
 ) -> Result<(), AllocError>
-    ensures { OnOk result (Added S.holds out.old out.new (counts_as lo hi mark)) }
+    ensures { OnOk result (Added S.holds out.old out.new (counts_as lo hi operator)) }
 {
-    match mark {
+    match operator {
         Some(c) => out.put(c),
         None => {
             out.put('{')?;
@@ -106,7 +106,7 @@ fn put_counts<S: Sink>(
 }
 
 /// Writes the counts in braces, swapped.
-fn put_swapped<S: Sink>(out: &mut S, lo: usize, hi: usize) -> Result<(), AllocError>
+fn put_swapped<S: TextOutput>(out: &mut S, lo: usize, hi: usize) -> Result<(), AllocError>
     ensures { OnOk result (Added S.holds out.old out.new
         (codes "{" ++ (decimal hi ++ (codes "," ++ (decimal lo ++ codes "}"))))) }
 {
@@ -118,23 +118,23 @@ fn put_swapped<S: Sink>(out: &mut S, lo: usize, hi: usize) -> Result<(), AllocEr
 }
 
 /// `?` if the quantifier is not greedy, or under SWAP_GREED if it is.
-fn lazy_mark(flags: Flags, greedy: bool) -> &'static str
-    ensures text { spec.lazy_mark flags greedy ≡ result.now }
+fn lazy_operator(flags: Flags, greedy: bool) -> &'static str
+    ensures text { spec.lazy_operator flags greedy ≡ result.now }
     ensures ascii { list_all (λ b. nat_lt b 128) result.now ≡ true }
 {
     if greedy == flags.swap_greed { "?" } else { "" }
 }
 
 /// `+` if the quantifier is possessive.
-fn possessive_mark(possessive: bool) -> &'static str
-    ensures text { spec.possessive_mark possessive ≡ result.now }
+fn possessive_operator(possessive: bool) -> &'static str
+    ensures text { spec.possessive_operator possessive ≡ result.now }
     ensures ascii { list_all (λ b. nat_lt b 128) result.now ≡ true }
 {
     if possessive { "+" } else { "" }
 }
 
 /// Writes a quantifier, which may be adjacent to another.
-pub(crate) fn put_quantifier<S: Sink>(
+pub(crate) fn put_quantifier<S: TextOutput>(
     out: &mut S,
     quantifier: Quantifier,
     adjacent: bool,
@@ -149,13 +149,13 @@ pub(crate) fn put_quantifier<S: Sink>(
         greedy,
         possessive,
     } = quantifier;
-    let mark = mark_left(adjacent, mark(lo, hi));
-    let lazy = lazy_mark(flags, greedy);
-    if flags.oniguruma_mode && possessive && mark.is_none() {
+    let operator = operator_left(adjacent, operator(lo, hi));
+    let lazy = lazy_operator(flags, greedy);
+    if flags.oniguruma_mode && possessive && operator.is_none() {
         put_swapped(out, lo, hi)?;
         return put_ascii(out, lazy);
     }
-    put_counts(out, lo, hi, mark)?;
+    put_counts(out, lo, hi, operator)?;
     put_ascii(out, lazy)?;
-    put_ascii(out, possessive_mark(possessive))
+    put_ascii(out, possessive_operator(possessive))
 }

@@ -4,15 +4,15 @@ ghost use Rattle.std.specs.List.{list_all};
 ghost use Rattle.fancy_lex.specs.Characters.{◌∈◌, is_among};
 ghost use Rattle.fancy_lex.specs.NameViews.{view_target};
 ghost use Rattle.fancy_grammar.specs.Label.{ast_call};
-ghost use Rattle.fancy_grammar.specs.Marks.{Marks};
-ghost use Rattle.fancy_grammar.specs.Pattern.{Here};
+ghost use Rattle.fancy_grammar.specs.GroupInfo.{GroupInfo};
+ghost use Rattle.fancy_grammar.specs.Pattern.{Context};
 ghost use Rattle.fancy_grammar.specs.PatternReference as spec;
-ghost use Rattle.fancy_pattern.specs.Sink.{Added};
+ghost use Rattle.fancy_pattern.specs.TextOutput.{Added};
 ghost use Rattle.fancy_syntax.specs.View.{view_ast};
-ghost use Rattle.fancy_pattern.specs.Wheres.{IsKnown, alone_text};
+ghost use Rattle.fancy_pattern.specs.Wheres.{AreGroupNames, alone_text};
 
-use crate::names::Known;
-use crate::sink::{Sink, put_ascii};
+use crate::names::GroupNames;
+use crate::output::{TextOutput, put_ascii};
 use fancy_lex::escape::reference::is_relative;
 use fancy_lex::text::{next, split_at};
 use fancy_syntax::expr::{AstNode, CaptureGroupTarget};
@@ -26,8 +26,8 @@ fn sign(amount: isize) -> char
 }
 
 /// Writes a number with its sign.
-#[tactic(auto, using(crate::proofs::SinkLemmas::added_steps))]
-fn put_signed<S: Sink>(out: &mut S, amount: isize) -> Result<(), AllocError>
+#[tactic(auto, using(crate::proofs::OutputLemmas::added_steps))]
+fn put_signed<S: TextOutput>(out: &mut S, amount: isize) -> Result<(), AllocError>
     ensures { OnOk result (Added S.holds out.old out.new (spec.signed amount)) }
 {
     out.put(sign(amount))?;
@@ -35,8 +35,8 @@ fn put_signed<S: Sink>(out: &mut S, amount: isize) -> Result<(), AllocError>
 }
 
 /// Writes a level with its sign, if there is one.
-#[tactic(auto, using(crate::proofs::SinkLemmas::added_steps))]
-fn put_level<S: Sink>(out: &mut S, level: Option<isize>) -> Result<(), AllocError>
+#[tactic(auto, using(crate::proofs::OutputLemmas::added_steps))]
+fn put_level<S: TextOutput>(out: &mut S, level: Option<isize>) -> Result<(), AllocError>
     ensures { OnOk result (Added S.holds out.old out.new (spec.level_text level)) }
 {
     match level {
@@ -46,25 +46,25 @@ fn put_level<S: Sink>(out: &mut S, level: Option<isize>) -> Result<(), AllocErro
 }
 
 /// Writes a text between delimiters, after an opening.
-#[tactic(auto, using(crate::proofs::SinkLemmas::added_steps))]
-fn put_marked<S: Sink>(out: &mut S, head: &str, text: &str) -> Result<(), AllocError>
-    requires { list_all (λ b. nat_lt b 128) head.now ≡ true }
-    ensures { OnOk result (Added S.holds out.old out.new (spec.marked head.now (chars text.now))) }
+#[tactic(auto, using(crate::proofs::OutputLemmas::added_steps))]
+fn put_delimited<S: TextOutput>(out: &mut S, opening: &str, text: &str) -> Result<(), AllocError>
+    requires { list_all (λ b. nat_lt b 128) opening.now ≡ true }
+    ensures { OnOk result (Added S.holds out.old out.new (spec.delimited opening.now (chars text.now))) }
 {
-    put_ascii(out, head)?;
+    put_ascii(out, opening)?;
     out.put('<')?;
     out.put_text(text)?;
     out.put('>')
 }
 
 /// Writes a text between quotes, after an opening.
-#[tactic(auto, using(crate::proofs::SinkLemmas::added_steps))]
-fn put_quoted<S: Sink>(out: &mut S, head: &str, text: &str) -> Result<(), AllocError>
-    requires { list_all (λ b. nat_lt b 128) head.now ≡ true }
+#[tactic(auto, using(crate::proofs::OutputLemmas::added_steps))]
+fn put_quoted<S: TextOutput>(out: &mut S, opening: &str, text: &str) -> Result<(), AllocError>
+    requires { list_all (λ b. nat_lt b 128) opening.now ≡ true }
     ensures { OnOk result (Added S.holds out.old out.new
-        (head.now ++ (codes "'" ++ (chars text.now ++ codes "'")))) }
+        (opening.now ++ (codes "'" ++ (chars text.now ++ codes "'")))) }
 {
-    put_ascii(out, head)?;
+    put_ascii(out, opening)?;
     out.put('\'')?;
     out.put_text(text)?;
     out.put('\'')
@@ -72,68 +72,68 @@ fn put_quoted<S: Sink>(out: &mut S, head: &str, text: &str) -> Result<(), AllocE
 
 /// Writes the target of a back reference: the group's name if it refers to this group and the group opened before, or
 /// else its number.
-#[tactic(auto, using(crate::proofs::SinkLemmas::added_steps))]
-fn put_group<S: Sink>(
+#[tactic(auto, using(crate::proofs::OutputLemmas::added_steps))]
+fn put_group<S: TextOutput>(
     out: &mut S,
-    known: &Known,
+    names: &GroupNames,
     group: usize,
     opened: usize,
 ) -> Result<(), AllocError>
-    ensures { (m : Marks) → IsKnown known.now m →
+    ensures { (m : GroupInfo) → AreGroupNames names.now m →
         OnOk result (Added S.holds out.old out.new (spec.backref_name m opened group)) }
 {
-    match known.last_name(group) {
+    match names.last_name(group) {
         Some(name) if group <= opened => out.put_text(name),
         _ => out.put_number(group),
     }
 }
 
 /// Writes a back reference.
-#[tactic(auto, using(crate::proofs::SinkLemmas::added_steps))]
-pub(crate) fn put_backref<S: Sink>(
+#[tactic(auto, using(crate::proofs::OutputLemmas::added_steps))]
+pub(crate) fn put_backref<S: TextOutput>(
     out: &mut S,
-    known: &Known,
+    names: &GroupNames,
     group: usize,
     opened: usize,
 ) -> Result<(), AllocError>
-    ensures { (m : Marks) → IsKnown known.now m →
+    ensures { (m : GroupInfo) → AreGroupNames names.now m →
         OnOk result (Added S.holds out.old out.new (spec.backref_text m opened group)) }
 {
-    if known.is_numeric {
+    if names.is_numeric {
         out.put('\\')?;
         return out.put_number(group);
     }
     put_ascii(out, r"\k<")?;
-    put_group(out, known, group, opened)?;
+    put_group(out, names, group, opened)?;
     out.put('>')
 }
 
 /// Writes a back reference at a level.
-#[tactic(auto, using(crate::proofs::SinkLemmas::added_steps))]
-pub(crate) fn put_backref_at_level<S: Sink>(
+#[tactic(auto, using(crate::proofs::OutputLemmas::added_steps))]
+pub(crate) fn put_backref_at_level<S: TextOutput>(
     out: &mut S,
-    known: &Known,
+    names: &GroupNames,
     group: usize,
     level: isize,
     opened: usize,
 ) -> Result<(), AllocError>
-    ensures { (m : Marks) → IsKnown known.now m →
+    ensures { (m : GroupInfo) → AreGroupNames names.now m →
         OnOk result (Added S.holds out.old out.new (spec.backref_at_level_text m opened group level)) }
 {
     put_ascii(out, r"\k<")?;
-    put_group(out, known, group, opened)?;
+    put_group(out, names, group, opened)?;
     put_signed(out, level)?;
     out.put('>')
 }
 
 /// Writes a name and a level between delimiters.
-#[tactic(auto, using(crate::proofs::SinkLemmas::added_steps))]
-fn put_name_at_level<S: Sink>(
+#[tactic(auto, using(crate::proofs::OutputLemmas::added_steps))]
+fn put_name_at_level<S: TextOutput>(
     out: &mut S,
     name: &str,
     level: Option<isize>,
 ) -> Result<(), AllocError>
-    ensures { OnOk result (Added S.holds out.old out.new (spec.marked [] (chars name.now ++ spec.level_text level))) }
+    ensures { OnOk result (Added S.holds out.old out.new (spec.delimited [] (chars name.now ++ spec.level_text level))) }
 {
     out.put('<')?;
     out.put_text(name)?;
@@ -142,8 +142,8 @@ fn put_name_at_level<S: Sink>(
 }
 
 /// Writes a number and a level.
-#[tactic(auto, using(crate::proofs::SinkLemmas::added_steps))]
-fn put_number_at_level<S: Sink>(
+#[tactic(auto, using(crate::proofs::OutputLemmas::added_steps))]
+fn put_number_at_level<S: TextOutput>(
     out: &mut S,
     group: usize,
     level: Option<isize>,
@@ -155,25 +155,25 @@ fn put_number_at_level<S: Sink>(
 }
 
 /// Writes the target of a condition on a group.
-#[tactic(auto, using(crate::proofs::SinkLemmas::added_steps))]
-pub(crate) fn put_target<S: Sink>(
+#[tactic(auto, using(crate::proofs::OutputLemmas::added_steps))]
+pub(crate) fn put_target<S: TextOutput>(
     out: &mut S,
-    known: &Known,
+    names: &GroupNames,
     group: usize,
     level: Option<isize>,
 ) -> Result<(), AllocError>
-    ensures { (m : Marks) → IsKnown known.now m →
+    ensures { (m : GroupInfo) → AreGroupNames names.now m →
         OnOk result (Added S.holds out.old out.new (spec.target_text m group level)) }
 {
-    match known.last_name(group) {
+    match names.last_name(group) {
         Some(name) => put_name_at_level(out, name, level),
         None => put_number_at_level(out, group, level),
     }
 }
 
 /// Writes a group by its distance: that many groups forward or back.
-#[tactic(auto, using(crate::proofs::SinkLemmas::added_steps))]
-fn put_distance<S: Sink>(out: &mut S, opened: usize, group: usize) -> Result<(), AllocError>
+#[tactic(auto, using(crate::proofs::OutputLemmas::added_steps))]
+fn put_distance<S: TextOutput>(out: &mut S, opened: usize, group: usize) -> Result<(), AllocError>
     ensures { OnOk result (Added S.holds out.old out.new (spec.distance opened group)) }
 {
     if opened < group {
@@ -187,52 +187,52 @@ fn put_distance<S: Sink>(out: &mut S, opened: usize, group: usize) -> Result<(),
 
 /// Writes the target of a call: the number if some reference is a number, or 0 if some call was; else a name that only
 /// this group has, or the distance.
-#[tactic(auto, using(crate::proofs::SinkLemmas::added_steps))]
-fn put_called<S: Sink>(
+#[tactic(auto, using(crate::proofs::OutputLemmas::added_steps))]
+fn put_called<S: TextOutput>(
     out: &mut S,
-    known: &Known,
+    names: &GroupNames,
     group: usize,
     opened: usize,
 ) -> Result<(), AllocError>
-    ensures { (m : Marks) → IsKnown known.now m →
+    ensures { (m : GroupInfo) → AreGroupNames names.now m →
         OnOk result (Added S.holds out.old out.new (spec.call_name m opened group)) }
 {
-    if known.is_numeric && (group > 0 || known.self_recursive) {
+    if names.is_numeric && (group > 0 || names.self_recursive) {
         return out.put_number(group);
     }
-    match known.only_name(group) {
+    match names.only_name(group) {
         Some(name) => out.put_text(name),
         None => put_distance(out, opened, group),
     }
 }
 
 /// Writes a call.
-#[tactic(auto, using(crate::proofs::SinkLemmas::added_steps))]
-pub(crate) fn put_call<S: Sink>(
+#[tactic(auto, using(crate::proofs::OutputLemmas::added_steps))]
+pub(crate) fn put_call<S: TextOutput>(
     out: &mut S,
-    known: &Known,
+    names: &GroupNames,
     group: usize,
     opened: usize,
 ) -> Result<(), AllocError>
-    ensures { (m : Marks) → IsKnown known.now m →
+    ensures { (m : GroupInfo) → AreGroupNames names.now m →
         OnOk result (Added S.holds out.old out.new (spec.call_text m opened group)) }
 {
     put_ascii(out, r"\g<")?;
-    put_called(out, known, group, opened)?;
+    put_called(out, names, group, opened)?;
     out.put('>')
 }
 
 /// Whether the text contains the delimiter, an ASCII character.
-fn has(text: &str, mark: char) -> bool
-    requires { mark < 128 }
-    ensures { result ≡ is_among mark (chars text.now) }
+fn has(text: &str, delimiter: char) -> bool
+    requires { delimiter < 128 }
+    ensures { result ≡ is_among delimiter (chars text.now) }
 {
-    split_at(text, mark).is_some()
+    split_at(text, delimiter).is_some()
 }
 
 /// Writes a call by name in the form of a group.
-#[tactic(auto, using(crate::proofs::SinkLemmas::added_steps))]
-fn put_grouped_call<S: Sink>(out: &mut S, name: &str) -> Result<(), AllocError>
+#[tactic(auto, using(crate::proofs::OutputLemmas::added_steps))]
+fn put_grouped_call<S: TextOutput>(out: &mut S, name: &str) -> Result<(), AllocError>
     ensures { OnOk result (Added S.holds out.old out.new (codes "(?P>" ++ (chars name.now ++ codes ")"))) }
 {
     put_ascii(out, "(?P>")?;
@@ -241,13 +241,13 @@ fn put_grouped_call<S: Sink>(out: &mut S, name: &str) -> Result<(), AllocError>
 }
 
 /// Writes a call by a name that refers to no group, or to several.
-fn put_call_by_name<S: Sink>(out: &mut S, name: &str) -> Result<(), AllocError>
+fn put_call_by_name<S: TextOutput>(out: &mut S, name: &str) -> Result<(), AllocError>
     ensures { OnOk result (Added S.holds out.old out.new (spec.unresolved_call_by_name (chars name.now))) }
 {
     if is_relative(name) {
         put_grouped_call(out, name)
     } else if !has(name, '>') {
-        put_marked(out, r"\g", name)
+        put_delimited(out, r"\g", name)
     } else if !has(name, '\'') {
         put_quoted(out, r"\g", name)
     } else {
@@ -256,9 +256,9 @@ fn put_call_by_name<S: Sink>(out: &mut S, name: &str) -> Result<(), AllocError>
 }
 
 /// Writes a call by a relative number.
-#[tactic(auto, using(crate::proofs::SinkLemmas::added_steps))]
-fn put_call_by_amount<S: Sink>(out: &mut S, amount: isize) -> Result<(), AllocError>
-    ensures { OnOk result (Added S.holds out.old out.new (spec.marked (codes "\\g") (spec.signed amount))) }
+#[tactic(auto, using(crate::proofs::OutputLemmas::added_steps))]
+fn put_call_by_amount<S: TextOutput>(out: &mut S, amount: isize) -> Result<(), AllocError>
+    ensures { OnOk result (Added S.holds out.old out.new (spec.delimited (codes "\\g") (spec.signed amount))) }
 {
     put_ascii(out, r"\g<")?;
     put_signed(out, amount)?;
@@ -266,9 +266,9 @@ fn put_call_by_amount<S: Sink>(out: &mut S, amount: isize) -> Result<(), AllocEr
 }
 
 /// Writes a call by number.
-#[tactic(auto, using(crate::proofs::SinkLemmas::added_steps))]
-fn put_call_by_number<S: Sink>(out: &mut S, group: usize) -> Result<(), AllocError>
-    ensures { OnOk result (Added S.holds out.old out.new (spec.marked (codes "\\g") (decimal group))) }
+#[tactic(auto, using(crate::proofs::OutputLemmas::added_steps))]
+fn put_call_by_number<S: TextOutput>(out: &mut S, group: usize) -> Result<(), AllocError>
+    ensures { OnOk result (Added S.holds out.old out.new (spec.delimited (codes "\\g") (decimal group))) }
 {
     put_ascii(out, r"\g<")?;
     out.put_number(group)?;
@@ -276,7 +276,10 @@ fn put_call_by_number<S: Sink>(out: &mut S, group: usize) -> Result<(), AllocErr
 }
 
 /// Writes a call with this target that refers to no group.
-fn put_unresolved_call<S: Sink>(out: &mut S, target: &CaptureGroupTarget) -> Result<(), AllocError>
+fn put_unresolved_call<S: TextOutput>(
+    out: &mut S,
+    target: &CaptureGroupTarget,
+) -> Result<(), AllocError>
     ensures { OnOk result (Added S.holds out.old out.new (spec.unresolved_text (ast_call (view_target target.now)))) }
 {
     match target {
@@ -287,10 +290,10 @@ fn put_unresolved_call<S: Sink>(out: &mut S, target: &CaptureGroupTarget) -> Res
 }
 
 /// Writes a call that refers to no group.
-#[tactic(auto, using(crate::proofs::SinkLemmas::added_steps))]
-pub(crate) fn put_unresolved<S: Sink>(out: &mut S, node: &AstNode) -> Result<(), AllocError>
-    ensures { (m : Marks) (h : Here) (place : ℕ) →
-        OnOk result (Added S.holds out.old out.new (alone_text m (view_ast node.now place) h)) }
+#[tactic(auto, using(crate::proofs::OutputLemmas::added_steps))]
+pub(crate) fn put_unresolved<S: TextOutput>(out: &mut S, node: &AstNode) -> Result<(), AllocError>
+    ensures { (m : GroupInfo) (h : Context) (position : ℕ) →
+        OnOk result (Added S.holds out.old out.new (alone_text m (view_ast node.now position) h)) }
 {
     match node {
         AstNode::SubroutineCall(target) => put_unresolved_call(out, target),
@@ -301,7 +304,7 @@ pub(crate) fn put_unresolved<S: Sink>(out: &mut S, node: &AstNode) -> Result<(),
 }
 
 /// The characters before a group's name: before `=` and `!`, a single `<` would begin a look-behind.
-fn name_mark(first: char) -> &'static str
+fn name_prefix(first: char) -> &'static str
     ensures text { (if first ∈ "=!" then codes "?P" else codes "?") ≡ result.now }
     ensures ascii { list_all (λ b. nat_lt b 128) result.now ≡ true }
 {
@@ -313,8 +316,8 @@ fn name_mark(first: char) -> &'static str
 }
 
 /// Writes the opening of a capturing group with this name.
-fn put_name_head<S: Sink>(out: &mut S, name: &str) -> Result<(), AllocError>
-    ensures { OnOk result (Added S.holds out.old out.new (spec.name_head (chars name.now))) }
+fn put_name_opening<S: TextOutput>(out: &mut S, name: &str) -> Result<(), AllocError>
+    ensures { OnOk result (Added S.holds out.old out.new (spec.name_opening (chars name.now))) }
 {
     let Some((first, _)) = next(name) else {
         return Ok(());
@@ -322,21 +325,21 @@ fn put_name_head<S: Sink>(out: &mut S, name: &str) -> Result<(), AllocError>
     if has(name, '>') {
         return put_quoted(out, "?", name);
     }
-    put_marked(out, name_mark(first), name)
+    put_delimited(out, name_prefix(first), name)
 }
 
 /// Writes what follows the parenthesis of a capturing group.
-#[tactic(auto, using(crate::proofs::SinkLemmas::added_steps))]
-pub(crate) fn put_group_head<S: Sink>(
+#[tactic(auto, using(crate::proofs::OutputLemmas::added_steps))]
+pub(crate) fn put_group_opening<S: TextOutput>(
     out: &mut S,
-    known: &Known,
+    names: &GroupNames,
     group: usize,
 ) -> Result<(), AllocError>
-    ensures { (m : Marks) → IsKnown known.now m →
-        OnOk result (Added S.holds out.old out.new (spec.group_head m group)) }
+    ensures { (m : GroupInfo) → AreGroupNames names.now m →
+        OnOk result (Added S.holds out.old out.new (spec.group_opening m group)) }
 {
-    match known.name_of(group) {
-        Some(name) => put_name_head(out, name.text),
+    match names.name_of(group) {
+        Some(name) => put_name_opening(out, name.text),
         None => Ok(()),
     }
 }

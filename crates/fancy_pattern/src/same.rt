@@ -6,11 +6,11 @@ ghost use Rattle.fancy_lex.specs.Flags.{flags_of};
 ghost use Rattle.fancy_lex.specs.Text.{Text};
 ghost use Rattle.fancy_lex.specs.declared.flags.Flags.{Flags};
 ghost use Rattle.fancy_parts.specs.Groups.{entry_of};
-ghost use Rattle.fancy_grammar.specs.Answer.{IsTreeOf, IsOnlyFault};
-ghost use Rattle.fancy_grammar.specs.Marks.{Marks};
-ghost use Rattle.fancy_grammar.specs.ReadAs.{IsReadAs, unplaced};
+ghost use Rattle.fancy_grammar.specs.ParseResult.{IsTreeOf, IsOnlyError};
+ghost use Rattle.fancy_grammar.specs.GroupInfo.{GroupInfo};
+ghost use Rattle.fancy_grammar.specs.ReadAs.{IsReadAs, unpositioned};
 ghost use Rattle.fancy_grammar.specs.Tree.{Tree};
-ghost use Rattle.fancy_syntax.specs.Answer.{marks_of};
+ghost use Rattle.fancy_syntax.specs.InfoViews.{info_of};
 ghost use Rattle.fancy_syntax.specs.View.{view};
 
 use fancy_lex::error::Error;
@@ -55,8 +55,8 @@ fn have_same_numbers(a: &ExprTree, b: &ExprTree) -> bool
 }
 
 /// Whether the group information of the trees is the same.
-fn have_same_marks(a: &ExprTree, b: &ExprTree) -> bool
-    ensures { Decides result (marks_of a.now ≡ marks_of b.now) }
+fn have_same_info(a: &ExprTree, b: &ExprTree) -> bool
+    ensures { Decides result (info_of a.now ≡ info_of b.now) }
 {
     if !have_same_names(a, b) {
         return false;
@@ -71,20 +71,20 @@ fn have_same_marks(a: &ExprTree, b: &ExprTree) -> bool
 }
 
 /// Whether the trees are equal except for positions, with the same group information.
-fn is_same_answer(a: &ExprTree, b: &ExprTree) -> bool
+fn is_same_result(a: &ExprTree, b: &ExprTree) -> bool
     ensures { Decides result
-        ((unplaced (view a.now.expr) ≡ unplaced (view b.now.expr)) × (marks_of a.now ≡ marks_of b.now)) }
+        ((unpositioned (view a.now.expr) ≡ unpositioned (view b.now.expr)) × (info_of a.now ≡ info_of b.now)) }
 {
-    if !have_same_marks(a, b) {
+    if !have_same_info(a, b) {
         return false;
     }
-    a.expr.is_same_but_for_places(&b.expr)
+    a.expr.is_same_but_for_positions(&b.expr)
 }
 
 /// Whether a text is read that was refused with this error: it is not, unless memory ran out.
 fn is_read_after(error: Error) -> Result<bool, AllocError>
-    ensures { (f : Flags) (text : Text) → IsOnlyFault error f text →
-        IfOk result (λ b. (b ≡ false) × ((t : Tree) (m : Marks) → IsTreeOf f text t m → ⊥)) }
+    ensures { (f : Flags) (text : Text) → IsOnlyError error f text →
+        IfOk result (λ b. (b ≡ false) × ((t : Tree) (m : GroupInfo) → IsTreeOf f text t m → ⊥)) }
 {
     match error {
         Error::OutOfMemory => Err(AllocError),
@@ -100,10 +100,10 @@ pub(crate) fn is_read_as(
     tree: &ExprTree,
 ) -> Result<bool, AllocError>
     ensures { IfOk result (λ b. Decides b
-        (IsReadAs (flags_of flags) (chars text.now) (view tree.now.expr) (marks_of tree.now))) }
+        (IsReadAs (flags_of flags) (chars text.now) (view tree.now.expr) (info_of tree.now))) }
 {
     match Expr::parse_tree_with_flags(alloc, text, flags) {
-        Ok(read) => Ok(is_same_answer(&read, tree)),
+        Ok(read) => Ok(is_same_result(&read, tree)),
         Err(error) => is_read_after(error),
     }
 }

@@ -6,19 +6,19 @@ ghost use Rattle.fancy_lex.specs.Class.{joint};
 ghost use Rattle.fancy_lex.specs.Property as property;
 ghost use Rattle.fancy_lex.specs.Text.{Text, strip_word};
 ghost use Rattle.fancy_grammar.specs.PatternSource as spec;
-ghost use Rattle.fancy_pattern.specs.Sink.{Added};
+ghost use Rattle.fancy_pattern.specs.TextOutput.{Added};
 ghost use Rattle.fancy_pattern.specs.Source.{AddedPart, found_part};
 
 use crate::letters::put_class_character;
-use crate::parting::is_text;
-use crate::sink::{Sink, put_ascii};
+use crate::output::{TextOutput, put_ascii};
+use crate::separator::is_text;
 use fancy_lex::flags::Flags;
 use fancy_lex::text::{after, after_word, next, split_at};
 use std::alloc::AllocError;
 
 /// An escape, if the text begins with what the reader writes for it.
 #[derive(Clone, Copy)]
-struct Found<'a> {
+struct FoundEscape<'a> {
     /// The escape.
     escape: &'static str,
     /// The text after what the reader writes for it.
@@ -28,12 +28,12 @@ struct Found<'a> {
 }
 
 /// The escape, if the text begins with the items that the reader writes for it.
-fn items<'a>(text: &'a str, written: &'static str, escape: &'static str) -> Option<Found<'a>>
+fn items<'a>(text: &'a str, written: &'static str, escape: &'static str) -> Option<FoundEscape<'a>>
     ensures { (seen : Bool) → found_part result
         ≡ spec.replaced_part seen (spec.items (chars written.now) (chars escape.now) ∷ []) (chars text.now) }
 {
     let rest = after_word(text, written)?;
-    Some(Found {
+    Some(FoundEscape {
         escape,
         rest,
         negated: false,
@@ -58,13 +58,13 @@ fn negated_set<'a>(
     seen: bool,
     written: &'static str,
     escape: &'static str,
-) -> Option<Found<'a>>
+) -> Option<FoundEscape<'a>>
     ensures { found_part result
         ≡ spec.replaced_part seen (spec.negated_set (chars written.now) (chars escape.now) ∷ []) (chars text.now) }
 {
     let set = after_joint(text, seen)?;
     let rest = after_word(set, written)?;
-    Some(Found {
+    Some(FoundEscape {
         escape,
         rest,
         negated: true,
@@ -72,7 +72,7 @@ fn negated_set<'a>(
 }
 
 /// The escape at the front, with UNICODE set, if no other source is written as this text.
-fn replaced_with_unicode(text: &str, seen: bool) -> Option<Found<'_>>
+fn replaced_with_unicode(text: &str, seen: bool) -> Option<FoundEscape<'_>>
     ensures { found_part result ≡ spec.replaced_part seen (spec.replaced true) (chars text.now) }
 {
     items(text, r"\p{Zs}\x09", r"\p{blank}")
@@ -84,7 +84,7 @@ fn replaced_with_unicode(text: &str, seen: bool) -> Option<Found<'_>>
 }
 
 /// The escape at the front, if no other source is written as this text.
-fn replaced(text: &str, unicode: bool, seen: bool) -> Option<Found<'_>>
+fn replaced(text: &str, unicode: bool, seen: bool) -> Option<FoundEscape<'_>>
     ensures { found_part result ≡ spec.replaced_part seen (spec.replaced unicode) (chars text.now) }
 {
     if unicode {
@@ -102,7 +102,7 @@ fn may_be_replaced(c: char) -> bool
 }
 
 /// The escape at the front of a text that begins with the character.
-fn replaced_at(c: char, text: &str, unicode: bool, seen: bool) -> Option<Found<'_>>
+fn replaced_at(c: char, text: &str, unicode: bool, seen: bool) -> Option<FoundEscape<'_>>
     ensures { (t : Text) → chars text.now ≡ c ∷ t →
         found_part result ≡ spec.replaced_part seen (spec.replaced unicode) (chars text.now) }
 {
@@ -122,7 +122,7 @@ fn letter(upper: bool) -> &'static str
 }
 
 /// Writes a property by its name: the reader removes one caret, and changes the case of the letter.
-fn put_property<S: Sink>(out: &mut S, upper: bool, name: &str) -> Result<(), AllocError>
+fn put_property<S: TextOutput>(out: &mut S, upper: bool, name: &str) -> Result<(), AllocError>
     ensures { OnOk result (Added S.holds out.old out.new (spec.named_property upper (chars name.now))) }
 {
     put_property_front(out, upper, name)?;
@@ -130,7 +130,7 @@ fn put_property<S: Sink>(out: &mut S, upper: bool, name: &str) -> Result<(), All
 }
 
 /// Writes what is before the closing brace of a property.
-fn put_property_front<S: Sink>(out: &mut S, upper: bool, name: &str) -> Result<(), AllocError>
+fn put_property_front<S: TextOutput>(out: &mut S, upper: bool, name: &str) -> Result<(), AllocError>
     ensures { OnOk result (Added S.holds out.old out.new (spec.named_front upper (chars name.now))) }
 {
     match after(name, '^') {
@@ -148,7 +148,7 @@ fn put_property_front<S: Sink>(out: &mut S, upper: bool, name: &str) -> Result<(
 }
 
 /// Writes what follows the letter of a property, and returns the rest.
-fn put_property_at<'a, S: Sink>(
+fn put_property_at<'a, S: TextOutput>(
     out: &mut S,
     upper: bool,
     text: &'a str,
@@ -165,9 +165,9 @@ fn put_property_at<'a, S: Sink>(
         return Ok(rest);
     }
     match split_at(rest, '}') {
-        Some((name, behind)) => {
+        Some((name, tail)) => {
             put_property(out, upper, name)?;
-            Ok(behind)
+            Ok(tail)
         }
         None => {
             put_ascii(out, letter(upper))?;
@@ -177,44 +177,44 @@ fn put_property_at<'a, S: Sink>(
 }
 
 /// Writes a character, or a backslash and what belongs to it, and returns the rest.
-fn put_unit<'a, S: Sink>(out: &mut S, c: char, rest: &'a str) -> Result<&'a str, AllocError>
+fn put_unit<'a, S: TextOutput>(out: &mut S, c: char, rest: &'a str) -> Result<&'a str, AllocError>
     ensures { IfOk result (λ r. AddedPart S.holds out.old out.new (spec.single_part c (chars rest.now)) (chars r.now)) }
 {
     if c == '\\'
-        && let Some((letter, behind)) = next(rest)
+        && let Some((letter, tail)) = next(rest)
     {
         if letter == 'p' || letter == 'P' {
-            return put_property_at(out, letter == 'P', behind);
+            return put_property_at(out, letter == 'P', tail);
         }
         out.put(c)?;
         out.put(letter)?;
-        return Ok(behind);
+        return Ok(tail);
     }
     put_class_character(out, c)?;
     Ok(rest)
 }
 
 /// Writes a source that the reader turns into this text.
-fn put_source<S: Sink>(out: &mut S, text: &str, unicode: bool) -> Result<(), AllocError>
+fn put_source<S: TextOutput>(out: &mut S, text: &str, unicode: bool) -> Result<(), AllocError>
     ensures { OnOk result (Added S.holds out.old out.new (spec.source unicode (chars text.now))) }
 {
     let mut rest = text;
     let mut seen = false;
-    while let Some((c, behind)) = next(rest) {
+    while let Some((c, tail)) = next(rest) {
         match replaced_at(c, rest, unicode, seen) {
             Some(found) => {
                 out.put_text(found.escape)?;
                 seen |= found.negated;
                 rest = found.rest;
             }
-            None => rest = put_unit(out, c, behind)?,
+            None => rest = put_unit(out, c, tail)?,
         }
     }
     Ok(())
 }
 
 /// Writes a Delegate.
-pub(crate) fn put_delegate<S: Sink>(
+pub(crate) fn put_delegate<S: TextOutput>(
     out: &mut S,
     inner: &str,
     casei: bool,

@@ -4,33 +4,33 @@ ghost use Rattle.std.specs.List.{list_all};
 ghost use Rattle.fancy_lex.specs.Number.{at_digit};
 ghost use Rattle.fancy_lex.specs.declared.flags.Flags.{Flags};
 ghost use Rattle.fancy_grammar.specs.Join.{is_empty};
-ghost use Rattle.fancy_grammar.specs.Marks.{Marks};
+ghost use Rattle.fancy_grammar.specs.GroupInfo.{GroupInfo};
 ghost use Rattle.fancy_grammar.specs.Pattern as spec;
 ghost use Rattle.fancy_grammar.specs.PatternNeeds.{first, both, needs, needs_all};
 ghost use Rattle.fancy_grammar.specs.PatternQuantifier as spec_quantifier;
-ghost use Rattle.fancy_grammar.specs.PatternReference.{group_head};
+ghost use Rattle.fancy_grammar.specs.PatternReference.{group_opening};
 ghost use Rattle.fancy_grammar.specs.Quantified as spec_quantified;
-ghost use Rattle.fancy_grammar.specs.PatternWalk.{needs_listed, all_listed, behind_all};
+ghost use Rattle.fancy_grammar.specs.PatternWalk.{needs_listed, all_listed, after_all};
 ghost use Rattle.fancy_grammar.specs.Tree.{concat, alt, look_around, atomic_group, trees_of};
 ghost use Rattle.fancy_grammar.specs.declared.needs.Needs.{Needs};
 ghost use Rattle.fancy_grammar.specs.declared.precedence.Precedence.TheVariants.{Whole, Branch, Piece};
-ghost use Rattle.fancy_pattern.specs.Sink.{Added, Changed};
+ghost use Rattle.fancy_pattern.specs.TextOutput.{Added, Changed};
 ghost use Rattle.fancy_syntax.specs.View.{view, views};
-ghost use Rattle.fancy_pattern.specs.Wheres.{IsHere, IsKnown, alone_text};
-ghost use Rattle.fancy_pattern.specs.Writers.{Writes, WritesSettled, needs_below, takes_setting};
-ghost use Rattle.fancy_pattern.specs.Writers.{is_conditional, is_expression, parts_text, branches_needs, choice_text, behind_branches};
+ghost use Rattle.fancy_pattern.specs.Wheres.{IsContext, AreGroupNames, alone_text};
+ghost use Rattle.fancy_pattern.specs.Writers.{Writes, WritesSettled, needs_below, takes_inline_flags};
+ghost use Rattle.fancy_pattern.specs.Writers.{is_conditional, is_expression, parts_text, branches_needs, choice_text, after_branches};
 
-use crate::flags::{open_scope, put_setting};
-use crate::group::{close, look_head, open};
-use crate::here::Here;
+use crate::context::Context;
+use crate::flags::{open_flag_group, put_inline_flags};
+use crate::group::{close, look_opening, open};
 use crate::leaf::{put_leaf, verb_name};
-use crate::names::Known;
-use crate::parting::Parting;
+use crate::names::GroupNames;
+use crate::output::{TextOutput, put_ascii};
 use crate::quantifier::{
     Quantifier, is_possessive, is_quantified, most_quantifiers, put_quantifier,
 };
-use crate::reference::{put_group_head, put_target};
-use crate::sink::{Sink, put_ascii};
+use crate::reference::{put_group_opening, put_target};
+use crate::separator::Separator;
 use fancy_grammar::needs::Needs;
 use fancy_grammar::precedence::Precedence;
 use fancy_lex::flags::Flags;
@@ -39,51 +39,51 @@ use fancy_syntax::expr::{Absent, Expr, LookAround};
 use std::alloc::AllocError;
 
 /// Writes the whole text, after the flags that all leaves need.
-pub(crate) fn put_pattern<S: Sink>(
+pub(crate) fn put_pattern<S: TextOutput>(
     out: &mut S,
-    known: &Known,
+    names: &GroupNames,
     tree: &Expr,
     agreed: Needs,
-    here: Here,
+    context: Context,
 ) -> Result<(), AllocError>
-    ensures { (m : Marks) (f : Flags) → IsKnown known.now m →
+    ensures { (m : GroupInfo) (f : Flags) → AreGroupNames names.now m →
         agreed ≡ needs both f.oniguruma_mode (view tree.now) →
-        IsHere here.entry (record { flags = f; opened = 0; depth = 0 }) (needs_listed f.oniguruma_mode (view tree.now)) →
+        IsContext context.entry (record { flags = f; opened = 0; depth = 0 }) (needs_listed f.oniguruma_mode (view tree.now)) →
         OnOk result (Added S.holds out.old out.new (spec.pattern_text f (view tree.now) m)) }
 {
-    let mut here = here;
-    put_setting(out, agreed, &mut here)?;
-    put_tree(out, known, tree, Precedence::Whole, &mut here)
+    let mut context = context;
+    put_inline_flags(out, agreed, &mut context)?;
+    put_tree(out, names, tree, Precedence::Whole, &mut context)
 }
 
 /// Writes a tree's text at its position, and moves to the position of what follows.
 #[cycle(write)]
-fn put_tree<S: Sink>(
+fn put_tree<S: TextOutput>(
     out: &mut S,
-    known: &Known,
+    names: &GroupNames,
     tree: &Expr,
     precedence: Precedence,
-    here: &mut Here,
+    context: &mut Context,
 ) -> Result<(), AllocError>
-    ensures { (m : Marks) → IsKnown known.now m → OnOk result (Writes S.holds out.old out.new here.old here.new
+    ensures { (m : GroupInfo) → AreGroupNames names.now m → OnOk result (Writes S.holds out.old out.new context.old context.new
         (λ o. needs_listed o (view tree.now)) (spec.written m (view tree.now) precedence)
-        (spec.behind (view tree.now) precedence)) }
+        (spec.after (view tree.now) precedence)) }
 {
-    let needs = here.next_node();
+    let needs = context.next_node();
     match tree {
         Expr::Empty => put_empty(out, precedence),
-        Expr::Concat(pieces) => put_concat(out, known, pieces, precedence, needs, here),
-        Expr::Alt(branches) => put_alt(out, known, branches, precedence, needs, here),
+        Expr::Concat(pieces) => put_concat(out, names, pieces, precedence, needs, context),
+        Expr::Alt(branches) => put_alt(out, names, branches, precedence, needs, context),
         _ => {
-            put_setting(out, needs, here)?;
-            put_settled(out, known, tree, precedence, here)
+            put_inline_flags(out, needs, context)?;
+            put_settled(out, names, tree, precedence, context)
         }
     }
 }
 
 /// Writes an Empty: as a group, if several pieces are not allowed there.
-#[tactic(auto, using(crate::proofs::SinkLemmas::added_steps))]
-fn put_empty<S: Sink>(out: &mut S, precedence: Precedence) -> Result<(), AllocError>
+#[tactic(auto, using(crate::proofs::OutputLemmas::added_steps))]
+fn put_empty<S: TextOutput>(out: &mut S, precedence: Precedence) -> Result<(), AllocError>
     ensures { OnOk result (Added S.holds out.old out.new (if spec.takes_pieces precedence then [] else codes "()")) }
 {
     if takes_pieces(precedence) {
@@ -122,151 +122,151 @@ fn is_last_operand(precedence: Precedence) -> bool
 }
 
 /// How many quantifiers are allowed before the quantifier of a tree at this precedence.
-fn room(precedence: Precedence, here: &Here) -> usize
-    ensures { (h : spec.Here) (l : List Needs) → IsHere here.now h l → result ≡ spec.room precedence h }
+fn allowed(precedence: Precedence, context: &Context) -> usize
+    ensures { (h : spec.Context) (l : List Needs) → IsContext context.now h l → result ≡ spec.allowed precedence h }
 {
     match precedence {
-        Precedence::Operand(room) if room > 0 => room - 1,
-        _ => most_quantifiers(here.flags, here.left).saturating_sub(1),
+        Precedence::Operand(allowed) if allowed > 0 => allowed - 1,
+        _ => most_quantifiers(context.flags, context.left).saturating_sub(1),
     }
 }
 
 /// Writes a Concat, in a group of its own if several pieces are not allowed there.
 #[cycle(write)]
-fn put_concat<S: Sink>(
+fn put_concat<S: TextOutput>(
     out: &mut S,
-    known: &Known,
+    names: &GroupNames,
     pieces: &[Expr],
     precedence: Precedence,
     needs: Needs,
-    here: &mut Here,
+    context: &mut Context,
 ) -> Result<(), AllocError>
-    ensures { (m : Marks) → IsKnown known.now m →
-        needs ≡ needs_all first here.old.flags.oniguruma_mode (trees_of (views pieces.now)) →
-        OnOk result (Writes S.holds out.old out.new here.old here.new (λ o. all_listed o (trees_of (views pieces.now)))
-        (spec.in_scope_unless (spec.takes_pieces precedence) (concat (trees_of (views pieces.now)))
+    ensures { (m : GroupInfo) → AreGroupNames names.now m →
+        needs ≡ needs_all first context.old.flags.oniguruma_mode (trees_of (views pieces.now)) →
+        OnOk result (Writes S.holds out.old out.new context.old context.new (λ o. all_listed o (trees_of (views pieces.now)))
+        (spec.in_flag_group_unless (spec.takes_pieces precedence) (concat (trees_of (views pieces.now)))
         (spec.written_all m false (trees_of (views pieces.now))))
-        (spec.behind (concat (trees_of (views pieces.now))) precedence)) }
+        (spec.after (concat (trees_of (views pieces.now))) precedence)) }
 {
     if takes_pieces(precedence) {
-        return put_pieces(out, known, pieces, here);
+        return put_pieces(out, names, pieces, context);
     }
-    let outside = *here;
-    open_scope(out, needs, here)?;
-    put_pieces(out, known, pieces, here)?;
-    close(out, &outside, here)
+    let outside = *context;
+    open_flag_group(out, needs, context)?;
+    put_pieces(out, names, pieces, context)?;
+    close(out, &outside, context)
 }
 
 /// Writes trees one after the other. A text that begins with a digit is separated from a reference in digits before it.
 #[cycle(write)]
-fn put_pieces<S: Sink>(
+fn put_pieces<S: TextOutput>(
     out: &mut S,
-    known: &Known,
+    names: &GroupNames,
     pieces: &[Expr],
-    here: &mut Here,
+    context: &mut Context,
 ) -> Result<(), AllocError>
-    ensures { (m : Marks) → IsKnown known.now m → OnOk result (Writes S.holds out.old out.new here.old here.new
+    ensures { (m : GroupInfo) → AreGroupNames names.now m → OnOk result (Writes S.holds out.old out.new context.old context.new
         (λ o. all_listed o (trees_of (views pieces.now))) (spec.written_all m false (trees_of (views pieces.now)))
-        (behind_all (trees_of (views pieces.now)) Piece)) }
+        (after_all (trees_of (views pieces.now)) Piece)) }
 {
-    let mut behind_digits = false;
+    let mut after_digits = false;
     for piece in pieces {
-        let place = out.len();
-        put_tree(out, known, piece, Precedence::Piece, here)?;
-        part_behind_digits(out, place, behind_digits)?;
-        behind_digits = is_in_digits(known, piece);
+        let position = out.len();
+        put_tree(out, names, piece, Precedence::Piece, context)?;
+        part_after_digits(out, position, after_digits)?;
+        after_digits = is_in_digits(names, piece);
     }
     Ok(())
 }
 
 /// Separates what was written from the position on from the reference in digits before it, if there is one.
-fn part_behind_digits<S: Sink>(
+fn part_after_digits<S: TextOutput>(
     out: &mut S,
-    place: usize,
-    behind_digits: bool,
+    position: usize,
+    after_digits: bool,
 ) -> Result<(), AllocError>
-    ensures { OnOk result (Changed S.holds out.old out.new place (λ u. spec.parted_if (behind_digits && at_digit u) u)) }
+    ensures { OnOk result (Changed S.holds out.old out.new position (λ u. spec.parted_if (after_digits && at_digit u) u)) }
 {
-    if behind_digits {
-        out.part(place, Parting::Number)
+    if after_digits {
+        out.part(position, Separator::Number)
     } else {
         Ok(())
     }
 }
 
 /// Whether the tree is a reference in digits.
-fn is_in_digits(known: &Known, tree: &Expr) -> bool
-    ensures { (m : Marks) → IsKnown known.now m → result ≡ spec.is_in_digits m (view tree.now) }
+fn is_in_digits(names: &GroupNames, tree: &Expr) -> bool
+    ensures { (m : GroupInfo) → AreGroupNames names.now m → result ≡ spec.is_in_digits m (view tree.now) }
 {
-    known.is_numeric && matches!(tree, Expr::Backref { .. })
+    names.is_numeric && matches!(tree, Expr::Backref { .. })
 }
 
 /// Writes an Alt, in a group of its own if several branches are not allowed there.
 #[cycle(write)]
-fn put_alt<S: Sink>(
+fn put_alt<S: TextOutput>(
     out: &mut S,
-    known: &Known,
+    names: &GroupNames,
     branches: &[Expr],
     precedence: Precedence,
     needs: Needs,
-    here: &mut Here,
+    context: &mut Context,
 ) -> Result<(), AllocError>
-    ensures { (m : Marks) → IsKnown known.now m →
-        needs ≡ needs_all first here.old.flags.oniguruma_mode (trees_of (views branches.now)) →
-        OnOk result (Writes S.holds out.old out.new here.old here.new (λ o. all_listed o (trees_of (views branches.now)))
-        (spec.in_scope_unless (spec.takes_branches precedence) (alt (trees_of (views branches.now)))
+    ensures { (m : GroupInfo) → AreGroupNames names.now m →
+        needs ≡ needs_all first context.old.flags.oniguruma_mode (trees_of (views branches.now)) →
+        OnOk result (Writes S.holds out.old out.new context.old context.new (λ o. all_listed o (trees_of (views branches.now)))
+        (spec.in_flag_group_unless (spec.takes_branches precedence) (alt (trees_of (views branches.now)))
         (spec.written_branches m (trees_of (views branches.now))))
-        (spec.behind (alt (trees_of (views branches.now))) precedence)) }
+        (spec.after (alt (trees_of (views branches.now))) precedence)) }
 {
     if takes_branches(precedence) {
-        return put_branches(out, known, branches, here);
+        return put_branches(out, names, branches, context);
     }
-    let outside = *here;
-    open_scope(out, needs, here)?;
-    put_branches(out, known, branches, here)?;
-    close(out, &outside, here)
+    let outside = *context;
+    open_flag_group(out, needs, context)?;
+    put_branches(out, names, branches, context)?;
+    close(out, &outside, context)
 }
 
 /// Writes trees with bars between them.
 #[cycle(write)]
-fn put_branches<S: Sink>(
+fn put_branches<S: TextOutput>(
     out: &mut S,
-    known: &Known,
+    names: &GroupNames,
     branches: &[Expr],
-    here: &mut Here,
+    context: &mut Context,
 ) -> Result<(), AllocError>
-    ensures { (m : Marks) → IsKnown known.now m → OnOk result (Writes S.holds out.old out.new here.old here.new
+    ensures { (m : GroupInfo) → AreGroupNames names.now m → OnOk result (Writes S.holds out.old out.new context.old context.new
         (λ o. all_listed o (trees_of (views branches.now))) (spec.written_branches m (trees_of (views branches.now)))
-        (behind_all (trees_of (views branches.now)) Branch)) }
+        (after_all (trees_of (views branches.now)) Branch)) }
 {
     let [first, others @ ..] = branches else {
         return Ok(());
     };
-    put_tree(out, known, first, Precedence::Branch, here)?;
+    put_tree(out, names, first, Precedence::Branch, context)?;
     for branch in others {
         out.put('|')?;
-        put_tree(out, known, branch, Precedence::Branch, here)?;
+        put_tree(out, names, branch, Precedence::Branch, context)?;
     }
     Ok(())
 }
 
 /// Writes any other tree once its flags are set.
 #[cycle(write)]
-fn put_settled<S: Sink>(
+fn put_settled<S: TextOutput>(
     out: &mut S,
-    known: &Known,
+    names: &GroupNames,
     tree: &Expr,
     precedence: Precedence,
-    here: &mut Here,
+    context: &mut Context,
 ) -> Result<(), AllocError>
-    requires { takes_setting (view tree.now) ≡ true }
-    ensures { (m : Marks) → IsKnown known.now m → OnOk result
-        (WritesSettled S.holds out.old out.new here.old here.new m (view tree.now) precedence) }
+    requires { takes_inline_flags (view tree.now) ≡ true }
+    ensures { (m : GroupInfo) → AreGroupNames names.now m → OnOk result
+        (WritesSettled S.holds out.old out.new context.old context.new m (view tree.now) precedence) }
 {
     match tree {
-        Expr::Group(child) => put_group(out, known, child, here),
+        Expr::Group(child) => put_group(out, names, child, context),
         Expr::LookAround(child, look) => put_look_around(
-            out, known, child, *look, precedence, here,
+            out, names, child, *look, precedence, context,
         ),
         Expr::Repeat {
             child,
@@ -280,21 +280,21 @@ fn put_settled<S: Sink>(
                 greedy: *greedy,
                 possessive: false,
             };
-            put_repeat(out, known, child, quantifier, precedence, here)
+            put_repeat(out, names, child, quantifier, precedence, context)
         }
-        Expr::AtomicGroup(child) => put_atomic(out, known, child, precedence, here),
+        Expr::AtomicGroup(child) => put_atomic(out, names, child, precedence, context),
         Expr::DefineGroup { definitions } => put_in_group(
             out,
-            known,
+            names,
             "?(DEFINE)",
             definitions,
-            here,
+            context,
         ),
-        Expr::Conditional { .. } => put_conditional(out, known, tree, here),
-        Expr::Absent(Absent::Repeater(child)) => put_repeater(out, known, child, here),
-        Expr::Absent(Absent::Expression { .. }) => put_expression(out, known, tree, here),
-        Expr::Absent(Absent::Stopper(child)) => put_stopper(out, known, child, here),
-        _ => put_leaf_at(out, known, tree, precedence, here),
+        Expr::Conditional { .. } => put_conditional(out, names, tree, context),
+        Expr::Absent(Absent::Repeater(child)) => put_repeater(out, names, child, context),
+        Expr::Absent(Absent::Expression { .. }) => put_expression(out, names, tree, context),
+        Expr::Absent(Absent::Stopper(child)) => put_stopper(out, names, child, context),
+        _ => put_leaf_at(out, names, tree, precedence, context),
     }
 }
 
@@ -306,102 +306,102 @@ fn needs_group(tree: &Expr, precedence: Precedence, flags: Flags) -> bool
 }
 
 /// Writes a leaf, in a group if a quantifier follows that the leaf cannot take.
-fn put_leaf_at<S: Sink>(
+fn put_leaf_at<S: TextOutput>(
     out: &mut S,
-    known: &Known,
+    names: &GroupNames,
     leaf: &Expr,
     precedence: Precedence,
-    here: &mut Here,
+    context: &mut Context,
 ) -> Result<(), AllocError>
-    ensures { (m : Marks) → IsKnown known.now m → OnOk result (Writes S.holds out.old out.new here.old here.new (λ o. [])
+    ensures { (m : GroupInfo) → AreGroupNames names.now m → OnOk result (Writes S.holds out.old out.new context.old context.new (λ o. [])
         (spec.as_atom (view leaf.now) precedence (alone_text m (view leaf.now))) (λ h. h)) }
 {
-    if needs_group(leaf, precedence, here.flags) {
-        let outside = *here;
-        open(out, "", here)?;
-        put_leaf(out, known, leaf, here)?;
-        return close(out, &outside, here);
+    if needs_group(leaf, precedence, context.flags) {
+        let outside = *context;
+        open(out, "", context)?;
+        put_leaf(out, names, leaf, context)?;
+        return close(out, &outside, context);
     }
-    put_leaf(out, known, leaf, here)
+    put_leaf(out, names, leaf, context)
 }
 
 /// Writes a tree in a group with this opening.
 #[cycle(write)]
-fn put_in_group<S: Sink>(
+fn put_in_group<S: TextOutput>(
     out: &mut S,
-    known: &Known,
-    head: &str,
+    names: &GroupNames,
+    opening: &str,
     child: &Expr,
-    here: &mut Here,
+    context: &mut Context,
 ) -> Result<(), AllocError>
-    requires { list_all (λ b. nat_lt b 128) head.now ≡ true }
-    ensures { (m : Marks) → IsKnown known.now m → OnOk result (Writes S.holds out.old out.new here.old here.new
-        (λ o. needs_listed o (view child.now)) (spec.in_parens head.now (spec.written m (view child.now) Whole))
+    requires { list_all (λ b. nat_lt b 128) opening.now ≡ true }
+    ensures { (m : GroupInfo) → AreGroupNames names.now m → OnOk result (Writes S.holds out.old out.new context.old context.new
+        (λ o. needs_listed o (view child.now)) (spec.in_parens opening.now (spec.written m (view child.now) Whole))
         (spec.past_groups (spec.group_count (view child.now)))) }
 {
-    let outside = *here;
-    open(out, head, here)?;
-    put_tree(out, known, child, Precedence::Whole, here)?;
-    close(out, &outside, here)
+    let outside = *context;
+    open(out, opening, context)?;
+    put_tree(out, names, child, Precedence::Whole, context)?;
+    close(out, &outside, context)
 }
 
 /// Writes a look-around, in a group if a quantifier follows.
 #[cycle(write)]
-fn put_look_around<S: Sink>(
+fn put_look_around<S: TextOutput>(
     out: &mut S,
-    known: &Known,
+    names: &GroupNames,
     child: &Expr,
     look: LookAround,
     precedence: Precedence,
-    here: &mut Here,
+    context: &mut Context,
 ) -> Result<(), AllocError>
-    ensures { (m : Marks) → IsKnown known.now m → OnOk result (Writes S.holds out.old out.new here.old here.new
+    ensures { (m : GroupInfo) → AreGroupNames names.now m → OnOk result (Writes S.holds out.old out.new context.old context.new
         (λ o. needs_listed o (view child.now))
         (spec.as_atom (look_around (view child.now) look) precedence
-        (spec.in_parens (spec.look_head look) (spec.written m (view child.now) Whole)))
+        (spec.in_parens (spec.look_opening look) (spec.written m (view child.now) Whole)))
         (spec.past_groups (spec.group_count (view child.now)))) }
 {
     if is_operand(precedence) {
-        let outside = *here;
-        open(out, "", here)?;
-        put_in_group(out, known, look_head(look), child, here)?;
-        return close(out, &outside, here);
+        let outside = *context;
+        open(out, "", context)?;
+        put_in_group(out, names, look_opening(look), child, context)?;
+        return close(out, &outside, context);
     }
-    put_in_group(out, known, look_head(look), child, here)
+    put_in_group(out, names, look_opening(look), child, context)
 }
 
 /// Writes a capturing group.
 #[cycle(write)]
-fn put_group<S: Sink>(
+fn put_group<S: TextOutput>(
     out: &mut S,
-    known: &Known,
+    names: &GroupNames,
     child: &Expr,
-    here: &mut Here,
+    context: &mut Context,
 ) -> Result<(), AllocError>
-    ensures { (m : Marks) → IsKnown known.now m → OnOk result (Writes S.holds out.old out.new here.old here.new
+    ensures { (m : GroupInfo) → AreGroupNames names.now m → OnOk result (Writes S.holds out.old out.new context.old context.new
         (λ o. needs_listed o (view child.now))
-        (λ h. spec.in_parens (group_head m (h.opened + 1)) (spec.written m (view child.now) Whole) (spec.past_groups 1 h))
+        (λ h. spec.in_parens (group_opening m (h.opened + 1)) (spec.written m (view child.now) Whole) (spec.past_groups 1 h))
         (spec.past_groups (spec.group_count (view child.now) + 1))) }
 {
-    let outside = *here;
-    open(out, "", here)?;
-    here.count_opening()?;
-    put_group_head(out, known, here.opened)?;
-    put_tree(out, known, child, Precedence::Whole, here)?;
-    close(out, &outside, here)
+    let outside = *context;
+    open(out, "", context)?;
+    context.count_opening()?;
+    put_group_opening(out, names, context.opened)?;
+    put_tree(out, names, child, Precedence::Whole, context)?;
+    close(out, &outside, context)
 }
 
 /// Writes a Repeat, in a group if no quantifier is allowed before the one that follows.
 #[cycle(write)]
-fn put_repeat<S: Sink>(
+fn put_repeat<S: TextOutput>(
     out: &mut S,
-    known: &Known,
+    names: &GroupNames,
     child: &Expr,
     quantifier: Quantifier,
     precedence: Precedence,
-    here: &mut Here,
+    context: &mut Context,
 ) -> Result<(), AllocError>
-    ensures { (m : Marks) → IsKnown known.now m → OnOk result (Writes S.holds out.old out.new here.old here.new
+    ensures { (m : GroupInfo) → AreGroupNames names.now m → OnOk result (Writes S.holds out.old out.new context.old context.new
         (λ o. needs_listed o (view child.now))
         (spec.in_parens_if (spec.is_last_operand precedence) (codes "?:")
         (spec.repeated quantifier.possessive (view child.now) quantifier.lo quantifier.hi quantifier.greedy
@@ -409,9 +409,9 @@ fn put_repeat<S: Sink>(
         (spec.past_groups (spec.group_count (view child.now)))) }
 {
     if is_last_operand(precedence) {
-        return put_quantified_in_group(out, known, "?:", child, quantifier, here);
+        return put_quantified_in_group(out, names, "?:", child, quantifier, context);
     }
-    put_quantified(out, known, child, quantifier, precedence, here)
+    put_quantified(out, names, child, quantifier, precedence, context)
 }
 
 /// Whether an atomic group of a Repeat with these counts is written as a group: no quantifier is read as such a group,
@@ -424,15 +424,15 @@ fn needs_atomic_group(lo: usize, hi: usize, precedence: Precedence, flags: Flags
 
 /// Writes an AtomicGroup. That of a Repeat is written as a possessive quantifier, if one is read as such a group.
 #[cycle(write)]
-fn put_atomic<S: Sink>(
+fn put_atomic<S: TextOutput>(
     out: &mut S,
-    known: &Known,
+    names: &GroupNames,
     child: &Expr,
     precedence: Precedence,
-    here: &mut Here,
+    context: &mut Context,
 ) -> Result<(), AllocError>
-    ensures { (m : Marks) → IsKnown known.now m → OnOk result
-        (WritesSettled S.holds out.old out.new here.old here.new m (atomic_group (view child.now)) precedence) }
+    ensures { (m : GroupInfo) → AreGroupNames names.now m → OnOk result
+        (WritesSettled S.holds out.old out.new context.old context.new m (atomic_group (view child.now)) precedence) }
 {
     let Expr::Repeat {
         child: repeated,
@@ -441,10 +441,10 @@ fn put_atomic<S: Sink>(
         greedy,
     } = child
     else {
-        return put_in_group(out, known, "?>", child, here);
+        return put_in_group(out, names, "?>", child, context);
     };
-    let grouped = needs_atomic_group(*lo, *hi, precedence, here.flags);
-    here.pass_node();
+    let grouped = needs_atomic_group(*lo, *hi, precedence, context.flags);
+    context.pass_node();
     let mut quantifier = Quantifier {
         lo: *lo,
         hi: *hi,
@@ -453,117 +453,117 @@ fn put_atomic<S: Sink>(
     };
     if grouped {
         quantifier.possessive = false;
-        return put_quantified_in_group(out, known, "?>", repeated, quantifier, here);
+        return put_quantified_in_group(out, names, "?>", repeated, quantifier, context);
     }
-    put_quantified(out, known, repeated, quantifier, precedence, here)
+    put_quantified(out, names, repeated, quantifier, precedence, context)
 }
 
 /// Writes a tree and the quantifier after it, in a group with this opening.
 #[cycle(write)]
-fn put_quantified_in_group<S: Sink>(
+fn put_quantified_in_group<S: TextOutput>(
     out: &mut S,
-    known: &Known,
-    head: &str,
+    names: &GroupNames,
+    opening: &str,
     child: &Expr,
     quantifier: Quantifier,
-    here: &mut Here,
+    context: &mut Context,
 ) -> Result<(), AllocError>
-    requires { list_all (λ b. nat_lt b 128) head.now ≡ true }
-    ensures { (m : Marks) → IsKnown known.now m → OnOk result (Writes S.holds out.old out.new here.old here.new
+    requires { list_all (λ b. nat_lt b 128) opening.now ≡ true }
+    ensures { (m : GroupInfo) → AreGroupNames names.now m → OnOk result (Writes S.holds out.old out.new context.old context.new
         (λ o. needs_listed o (view child.now))
-        (spec.in_parens head.now (spec.repeated quantifier.possessive (view child.now) quantifier.lo quantifier.hi quantifier.greedy
+        (spec.in_parens opening.now (spec.repeated quantifier.possessive (view child.now) quantifier.lo quantifier.hi quantifier.greedy
         (spec.written m (view child.now)) Whole))
         (spec.past_groups (spec.group_count (view child.now)))) }
 {
-    let outside = *here;
-    open(out, head, here)?;
-    put_quantified(out, known, child, quantifier, Precedence::Whole, here)?;
-    close(out, &outside, here)
+    let outside = *context;
+    open(out, opening, context)?;
+    put_quantified(out, names, child, quantifier, Precedence::Whole, context)?;
+    close(out, &outside, context)
 }
 
 /// Whether the quantifier of the tree directly follows another.
-fn is_adjacent(room: usize, child: &Expr, flags: Flags) -> bool
-    ensures { result ≡ (nat_lt 0 room && spec_quantifier.is_quantified flags (view child.now)) }
+fn is_adjacent(allowed: usize, child: &Expr, flags: Flags) -> bool
+    ensures { result ≡ (nat_lt 0 allowed && spec_quantifier.is_quantified flags (view child.now)) }
 {
-    room > 0 && is_quantified(child, flags)
+    allowed > 0 && is_quantified(child, flags)
 }
 
 /// Writes a tree and the quantifier after it.
 #[cycle(write)]
-fn put_quantified<S: Sink>(
+fn put_quantified<S: TextOutput>(
     out: &mut S,
-    known: &Known,
+    names: &GroupNames,
     child: &Expr,
     quantifier: Quantifier,
     precedence: Precedence,
-    here: &mut Here,
+    context: &mut Context,
 ) -> Result<(), AllocError>
-    ensures { (m : Marks) → IsKnown known.now m → OnOk result (Writes S.holds out.old out.new here.old here.new
+    ensures { (m : GroupInfo) → AreGroupNames names.now m → OnOk result (Writes S.holds out.old out.new context.old context.new
         (λ o. needs_listed o (view child.now)) (spec.repeated quantifier.possessive (view child.now) quantifier.lo quantifier.hi quantifier.greedy
         (spec.written m (view child.now)) precedence)
         (spec.past_groups (spec.group_count (view child.now)))) }
 {
-    let outside = *here;
-    let room = room(precedence, &outside);
-    let adjacent = is_adjacent(room, child, outside.flags);
-    put_tree(out, known, child, Precedence::Operand(room), here)?;
-    here.leave(&outside);
+    let outside = *context;
+    let allowed = allowed(precedence, &outside);
+    let adjacent = is_adjacent(allowed, child, outside.flags);
+    put_tree(out, names, child, Precedence::Operand(allowed), context)?;
+    context.leave(&outside);
     put_quantifier(out, quantifier, adjacent, outside.flags)
 }
 
 /// Writes a Conditional.
 #[cycle(write)]
-fn put_conditional<S: Sink>(
+fn put_conditional<S: TextOutput>(
     out: &mut S,
-    known: &Known,
+    names: &GroupNames,
     tree: &Expr,
-    here: &mut Here,
+    context: &mut Context,
 ) -> Result<(), AllocError>
-    ensures { (m : Marks) → IsKnown known.now m → is_conditional (view tree.now) ≡ true →
-        OnOk result (Writes S.holds out.old out.new here.old here.new
+    ensures { (m : GroupInfo) → AreGroupNames names.now m → is_conditional (view tree.now) ≡ true →
+        OnOk result (Writes S.holds out.old out.new context.old context.new
         (λ o. needs_below o (view tree.now)) (parts_text m (view tree.now))
         (spec.past_groups (spec.group_count (view tree.now)))) }
 {
     let Expr::Conditional { condition, .. } = tree else {
         return Ok(());
     };
-    let outside = *here;
-    open(out, "?(", here)?;
-    put_condition(out, known, condition, here)?;
+    let outside = *context;
+    open(out, "?(", context)?;
+    put_condition(out, names, condition, context)?;
     out.put(')')?;
-    put_choice(out, known, tree, here)?;
-    close(out, &outside, here)
+    put_choice(out, names, tree, context)?;
+    close(out, &outside, context)
 }
 
 /// Writes a condition.
 #[cycle(write)]
-fn put_condition<S: Sink>(
+fn put_condition<S: TextOutput>(
     out: &mut S,
-    known: &Known,
+    names: &GroupNames,
     condition: &Expr,
-    here: &mut Here,
+    context: &mut Context,
 ) -> Result<(), AllocError>
-    ensures { (m : Marks) → IsKnown known.now m → OnOk result (Writes S.holds out.old out.new here.old here.new
+    ensures { (m : GroupInfo) → AreGroupNames names.now m → OnOk result (Writes S.holds out.old out.new context.old context.new
         (λ o. needs_listed o (view condition.now))
         (λ h. spec.condition_text m (view condition.now) (spec.written m (view condition.now) Whole h))
-        (spec.behind (view condition.now) Whole)) }
+        (spec.after (view condition.now) Whole)) }
 {
     match condition {
         Expr::BackrefExistsCondition {
             group,
             relative_recursion_level,
         } => {
-            here.pass_node();
-            put_target(out, known, *group, *relative_recursion_level)
+            context.pass_node();
+            put_target(out, names, *group, *relative_recursion_level)
         }
         Expr::BacktrackingControlVerb(verb) => {
-            here.pass_node();
+            context.pass_node();
             put_ascii(out, verb_name(*verb))
         }
         _ => {
-            let place = out.len();
-            put_tree(out, known, condition, Precedence::Whole, here)?;
-            out.part(place, Parting::Condition)
+            let position = out.len();
+            put_tree(out, names, condition, Precedence::Whole, context)?;
+            out.part(position, Separator::Condition)
         }
     }
 }
@@ -584,15 +584,15 @@ fn needs_bar(true_branch: &Expr, false_branch: &Expr) -> bool
 
 /// Writes the branches of a Conditional.
 #[cycle(write)]
-fn put_choice<S: Sink>(
+fn put_choice<S: TextOutput>(
     out: &mut S,
-    known: &Known,
+    names: &GroupNames,
     tree: &Expr,
-    here: &mut Here,
+    context: &mut Context,
 ) -> Result<(), AllocError>
-    ensures { (m : Marks) → IsKnown known.now m → is_conditional (view tree.now) ≡ true →
-        OnOk result (Writes S.holds out.old out.new here.old here.new
-        (λ o. branches_needs o (view tree.now)) (choice_text m (view tree.now)) (behind_branches (view tree.now))) }
+    ensures { (m : GroupInfo) → AreGroupNames names.now m → is_conditional (view tree.now) ≡ true →
+        OnOk result (Writes S.holds out.old out.new context.old context.new
+        (λ o. branches_needs o (view tree.now)) (choice_text m (view tree.now)) (after_branches (view tree.now))) }
 {
     let Expr::Conditional {
         true_branch,
@@ -603,50 +603,50 @@ fn put_choice<S: Sink>(
         return Ok(());
     };
     if are_empty(true_branch, false_branch) {
-        here.pass_node();
-        here.pass_node();
+        context.pass_node();
+        context.pass_node();
         return put_ascii(out, "()");
     }
-    put_tree(out, known, true_branch, Precedence::Branch, here)?;
+    put_tree(out, names, true_branch, Precedence::Branch, context)?;
     if !needs_bar(true_branch, false_branch) {
-        here.pass_node();
+        context.pass_node();
         return Ok(());
     }
     out.put('|')?;
-    put_tree(out, known, false_branch, Precedence::Whole, here)
+    put_tree(out, names, false_branch, Precedence::Whole, context)
 }
 
 /// Writes an absent repeater. If a bar came first, it would be another absent form.
 #[cycle(write)]
-fn put_repeater<S: Sink>(
+fn put_repeater<S: TextOutput>(
     out: &mut S,
-    known: &Known,
+    names: &GroupNames,
     child: &Expr,
-    here: &mut Here,
+    context: &mut Context,
 ) -> Result<(), AllocError>
-    ensures { (m : Marks) → IsKnown known.now m → OnOk result (Writes S.holds out.old out.new here.old here.new
+    ensures { (m : GroupInfo) → AreGroupNames names.now m → OnOk result (Writes S.holds out.old out.new context.old context.new
         (λ o. needs_listed o (view child.now))
         (spec.in_parens (codes "?~") (λ h. spec.repeater_text (spec.written m (view child.now) Whole h)))
         (spec.past_groups (spec.group_count (view child.now)))) }
 {
-    let outside = *here;
-    open(out, "?~", here)?;
-    let place = out.len();
-    put_tree(out, known, child, Precedence::Whole, here)?;
-    out.part(place, Parting::Absent)?;
-    close(out, &outside, here)
+    let outside = *context;
+    open(out, "?~", context)?;
+    let position = out.len();
+    put_tree(out, names, child, Precedence::Whole, context)?;
+    out.part(position, Separator::Absent)?;
+    close(out, &outside, context)
 }
 
 /// Writes an absent expression of two parts.
 #[cycle(write)]
-fn put_expression<S: Sink>(
+fn put_expression<S: TextOutput>(
     out: &mut S,
-    known: &Known,
+    names: &GroupNames,
     tree: &Expr,
-    here: &mut Here,
+    context: &mut Context,
 ) -> Result<(), AllocError>
-    ensures { (m : Marks) → IsKnown known.now m → is_expression (view tree.now) ≡ true →
-        OnOk result (Writes S.holds out.old out.new here.old here.new
+    ensures { (m : GroupInfo) → AreGroupNames names.now m → is_expression (view tree.now) ≡ true →
+        OnOk result (Writes S.holds out.old out.new context.old context.new
         (λ o. needs_below o (view tree.now)) (parts_text m (view tree.now))
         (spec.past_groups (spec.group_count (view tree.now)))) }
 {
@@ -656,19 +656,19 @@ fn put_expression<S: Sink>(
     let Absent::Expression { absent, exp } = parts else {
         return Ok(());
     };
-    let outside = *here;
-    open(out, "?~|", here)?;
-    put_tree(out, known, absent, Precedence::Branch, here)?;
+    let outside = *context;
+    open(out, "?~|", context)?;
+    put_tree(out, names, absent, Precedence::Branch, context)?;
     out.put('|')?;
-    put_tree(out, known, exp, Precedence::Branch, here)?;
-    close(out, &outside, here)
+    put_tree(out, names, exp, Precedence::Branch, context)?;
+    close(out, &outside, context)
 }
 
 /// Writes an empty group, if nothing was written from the position on.
-fn fill<S: Sink>(out: &mut S, place: usize) -> Result<(), AllocError>
-    ensures { OnOk result (Changed S.holds out.old out.new place spec.stopper_text) }
+fn fill<S: TextOutput>(out: &mut S, position: usize) -> Result<(), AllocError>
+    ensures { OnOk result (Changed S.holds out.old out.new position spec.stopper_text) }
 {
-    if out.len() == place {
+    if out.len() == position {
         put_ascii(out, "()")
     } else {
         Ok(())
@@ -677,21 +677,21 @@ fn fill<S: Sink>(out: &mut S, place: usize) -> Result<(), AllocError>
 
 /// Writes an absent stopper. Without a text it would be a clear.
 #[cycle(write)]
-fn put_stopper<S: Sink>(
+fn put_stopper<S: TextOutput>(
     out: &mut S,
-    known: &Known,
+    names: &GroupNames,
     child: &Expr,
-    here: &mut Here,
+    context: &mut Context,
 ) -> Result<(), AllocError>
-    ensures { (m : Marks) → IsKnown known.now m → OnOk result (Writes S.holds out.old out.new here.old here.new
+    ensures { (m : GroupInfo) → AreGroupNames names.now m → OnOk result (Writes S.holds out.old out.new context.old context.new
         (λ o. needs_listed o (view child.now))
         (spec.in_parens (codes "?~|") (λ h. spec.stopper_text (spec.written m (view child.now) Branch h)))
         (spec.past_groups (spec.group_count (view child.now)))) }
 {
-    let outside = *here;
-    open(out, "?~|", here)?;
-    let place = out.len();
-    put_tree(out, known, child, Precedence::Branch, here)?;
-    fill(out, place)?;
-    close(out, &outside, here)
+    let outside = *context;
+    open(out, "?~|", context)?;
+    let position = out.len();
+    put_tree(out, names, child, Precedence::Branch, context)?;
+    fill(out, position)?;
+    close(out, &outside, context)
 }

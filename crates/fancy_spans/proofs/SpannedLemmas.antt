@@ -5,7 +5,7 @@ use Rattle.std.proofs.Math.ListN.{set}
 use Rattle.std.proofs.Math.Seq.{take-append_seam, drop-append_seam}
 use Rattle.std.proofs.lemmas.List.{take-append-drop}
 use Rattle.std.specs.List.{AllByRecursion, flat_map}
-use Rattle.fancy_grammar.specs.Answered.{IsAnswered, IsAnsweredNode}
+use Rattle.fancy_grammar.specs.ParsedTree.{IsParsedTree, IsParsedTreeNode}
 use Rattle.fancy_grammar.specs.Label as label
 use Rattle.fancy_grammar.specs.Preorder.{preorder, preorder_all}
 use Rattle.fancy_grammar.specs.Tree.{Tree, leaf, over, row, Trees, no_trees, more_trees, list_of, children}
@@ -24,7 +24,7 @@ sizes_listed (more_trees t ts) = ap (λ l. sizes t ++ l) (sizes_listed ts)
 pub sizes_node : (t : Tree) →
     sizes t ≡ suc (length (flat_map sizes (children t))) ∷ flat_map sizes (children t)
 sizes_node (leaf l) = refl
-sizes_node (over (label.ast_group name place) t) = refl
+sizes_node (over (label.ast_group name position) t) = refl
 sizes_node (over w t) = ap (λ l. suc (length l) ∷ l) (sym (append-nil (sizes t)))
 sizes_node (row r ts) = ap (λ l. suc (length l) ∷ l) (sizes_listed ts)
 
@@ -39,17 +39,17 @@ both_halves P (x ∷ l) m (f, g) = let (a, b) = both_halves P l m g in ((f, a), 
 
 -- in a parsed tree every node counts
 mutual
-  many_sizes : (t : Tree) → IsAnswered t → length (sizes t) ≡ length (preorder t)
+  many_sizes : (t : Tree) → IsParsedTree t → length (sizes t) ≡ length (preorder t)
   many_sizes (leaf l) h = refl
-  many_sizes (over (label.ast_group name place) t) h = absurd h.0
+  many_sizes (over (label.ast_group name position) t) h = absurd h.0
   many_sizes (over w t) h = ap suc (many_sizes t h.1)
   many_sizes (row r ts) h = ap suc (all_many_sizes ts h.1)
 
-  all_many_sizes : (ts : Trees) → AllByRecursion IsAnsweredNode (preorder_all ts) →
+  all_many_sizes : (ts : Trees) → AllByRecursion IsParsedTreeNode (preorder_all ts) →
       length (sizes_all ts) ≡ length (preorder_all ts)
   all_many_sizes no_trees h = refl
   all_many_sizes (more_trees t ts) h =
-      let (f, g) = both_halves IsAnsweredNode (preorder t) (preorder_all ts) h in
+      let (f, g) = both_halves IsParsedTreeNode (preorder t) (preorder_all ts) h in
       omega (
         arith,
         length-append (sizes t) (sizes_all ts),
@@ -59,7 +59,7 @@ mutual
       )
 
 -- a node of a parsed tree that has as many spans as nodes
-pub whole_of_nodes : (p : Spanned) → p.sizes ≡ sizes (view p.expr) → IsAnswered (view p.expr) →
+pub whole_of_nodes : (p : Spanned) → p.sizes ≡ sizes (view p.expr) → IsParsedTree (view p.expr) →
     length p.spans ≡ length (preorder (view p.expr)) → IsWhole p
 whole_of_nodes p s a n = record {
   sized = s;
@@ -91,18 +91,18 @@ module _ (t : Tree) (old : List ℕ) where
   counting_ends now left s h =
       sym (append-nil now) ∙ ap (λ es. now ++ flat_map sizes (views es)) (sym h) ∙ s.whole
 
-  set_behind : (a : List ℕ) (x y : ℕ) (l : List ℕ) → set (a ++ x ∷ l) (length a) y ≡ a ++ y ∷ l
-  set_behind [] x y l = refl
-  set_behind (z ∷ a) x y l = ap (λ m. z ∷ m) (set_behind a x y l)
+  set_after : (a : List ℕ) (x y : ℕ) (l : List ℕ) → set (a ++ x ∷ l) (length a) y ≡ a ++ y ∷ l
+  set_after [] x y l = refl
+  set_after (z ∷ a) x y l = ap (λ m. z ∷ m) (set_after a x y l)
 
   -- with the number of the node itself in its position
-  pub counting_stands : (now : List ℕ) (left : List Expr) (n : ℕ) → Counting t old now left → left ≡ [] →
+  pub counting_complete : (now : List ℕ) (left : List Expr) (n : ℕ) → Counting t old now left → left ≡ [] →
       n ≡ length now - length old → set now (length old) n ≡ old ++ sizes t
-  counting_stands now left n s h e =
+  counting_complete now left n s h e =
       let rest = flat_map sizes (children t) in
       let is : now ≡ old ++ 0 ∷ rest = counting_ends now left s h in
       let many : n ≡ suc (length rest) = omega (arith, e, ap length is, length-append old (0 ∷ rest)) in
-      ap (λ l. set l (length old) n) is ∙ set_behind old 0 n rest
+      ap (λ l. set l (length old) n) is ∙ set_after old 0 n rest
       ∙ ap (λ m. old ++ m ∷ rest) many ∙ ap (λ l. old ++ l) (sym (sizes_node t))
 
 -- ---- children side by side

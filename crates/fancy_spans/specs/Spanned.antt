@@ -15,7 +15,7 @@ use Rattle.fancy_spans.specs.declared.SpannedTree.{SpannedTree}
 abbrev mutual
   pub sizes : Tree → List ℕ
   sizes (leaf l) = 1 ∷ []
-  sizes (over (label.ast_group name place) t) = 1 ∷ []
+  sizes (over (label.ast_group name position) t) = 1 ∷ []
   sizes (over w t) = suc (length (sizes t)) ∷ sizes t
   sizes (row r ts) = suc (length (sizes_all ts)) ∷ sizes_all ts
 

@@ -6,13 +6,13 @@ ghost use Rattle.std.specs.Iterator.{YieldsFirstBy, item_count};
 ghost use Rattle.std.specs.List.{AllByRecursion, flat_map};
 ghost use Rattle.std.specs.Str.Pattern.{GetsRange};
 ghost use Rattle.fancy_lex.specs.Flags.{flags_of};
-ghost use Rattle.fancy_grammar.specs.Answer.{IsTreeOf, IsFaultOf, IsOnlyFault, IsPlacedIn};
-ghost use Rattle.fancy_grammar.specs.Answered.{IsAnsweredWith, HasGroupsOf, IsSmall};
+ghost use Rattle.fancy_grammar.specs.ParseResult.{IsTreeOf, IsErrorOf, IsOnlyError, IsPositionedIn};
+ghost use Rattle.fancy_grammar.specs.ParsedTree.{IsParsedTreeWith, HasGroupsOf, IsSmall};
 ghost use Rattle.fancy_grammar.specs.Grammar.{DerivesTree};
 ghost use Rattle.fancy_grammar.specs.Preorder.{preorder};
 ghost use Rattle.fancy_grammar.specs.Spans.{AreSpansOf, IsCutOut, Nests};
 ghost use Rattle.fancy_grammar.specs.Tree.{children};
-ghost use Rattle.fancy_syntax.specs.Answer.{marks_of};
+ghost use Rattle.fancy_syntax.specs.InfoViews.{info_of};
 ghost use Rattle.fancy_syntax.specs.Children.{children_of};
 ghost use Rattle.fancy_spans.specs.Spanned as spec;
 ghost use Rattle.fancy_spans.specs.Spanned.{IsWhole, spanned_of, spanned_of_tree, remaining_spanned, side_by_side};
@@ -47,12 +47,12 @@ impl SpannedTree {
     /// ```
     pub fn parse(alloc: Global, re: &str, flags: u32) -> Result<SpannedTree>
         ensures found { IfOk result (λ t. IsTreeOf (flags_of flags) (chars re.now) (view t.tree.expr)
-            (marks_of t.tree)) }
+            (info_of t.tree)) }
         ensures only { IfOk result (λ t. (e : _) (m : _) → IsTreeOf (flags_of flags) (chars re.now) e m → (e ≡
-            view t.tree.expr) × (m ≡ marks_of t.tree)) }
-        ensures exact { IfOk result (λ t. (k : _) (p : _) → IsFaultOf (flags_of flags) (chars re.now) k p → ⊥) }
+            view t.tree.expr) × (m ≡ info_of t.tree)) }
+        ensures exact { IfOk result (λ t. (k : _) (p : _) → IsErrorOf (flags_of flags) (chars re.now) k p → ⊥) }
         ensures bounds { IfOk result (λ t. IsSmall (view t.tree.expr) (length re.now)) }
-        ensures answered { IfOk result (λ t. IsAnsweredWith (view t.tree.expr) (marks_of t.tree)) }
+        ensures returned { IfOk result (λ t. IsParsedTreeWith (view t.tree.expr) (info_of t.tree)) }
         ensures groups { IfOk result (λ t. (r : _) → DerivesTree (flags_of flags) (chars re.now) r →
             HasGroupsOf (flags_of flags) (chars re.now) r (view t.tree.expr)) }
         ensures sized { IfOk result (λ t. (spanned_of_tree t).sizes ≡ spec.sizes (view t.tree.expr)) }
@@ -63,8 +63,8 @@ impl SpannedTree {
         ensures nested { IfOk result (λ t. Nests 0 (length re.now) (view t.tree.expr) (spans_of t.spans)) }
         ensures cut { IfOk result (λ t. AllByRecursion (IsCutOut re.now) (spans_of t.spans)) }
         ensures whole { IfOk result (λ t. IsWhole (spanned_of_tree t)) }
-        ensures fault { IfErr result (λ e. IsOnlyFault e (flags_of flags) (chars re.now)) }
-        ensures place { IfErr result (λ e. IsPlacedIn e re.now) }
+        ensures error { IfErr result (λ e. IsOnlyError e (flags_of flags) (chars re.now)) }
+        ensures position { IfErr result (λ e. IsPositionedIn e re.now) }
     {
         let (tree, spans) = Expr::parse_tree_with_spans(alloc, re, flags)?;
         let sizes = all_sizes(alloc, &tree.expr, spans.len())?;

@@ -1,6 +1,6 @@
 -- Two trees of different variants are not equal, with or without their positions.
 use Rattle.std.proofs.Common.{◌≡◌, ℕ, Bool, true, false, ◌∙◌, refl, ap, sym, subst}
-use Rattle.fancy_grammar.specs.Placed.{placed}
+use Rattle.fancy_grammar.specs.Positioned.{positioned}
 use Rattle.fancy_grammar.specs.Same.{same}
 use Rattle.fancy_grammar.specs.Label as label
 use Rattle.fancy_grammar.proofs.SameLaws.{same-Decides}
@@ -54,33 +54,33 @@ is_absent (row label.expression ts) = true
 is_absent _ = false
 
 abbrev is_read : Tree → Bool
-is_read (leaf (label.ast_node r place)) = true
-is_read (over (label.ast_group name place) t) = true
+is_read (leaf (label.ast_node r position)) = true
+is_read (over (label.ast_group name position) t) = true
 is_read _ = false
 
-absent_step_is : (p : Bool) (a : Absent-F Tree (ℕ → Tree) Tree) → is_absent (placed p (absent_step a)) ≡ true
+absent_step_is : (p : Bool) (a : Absent-F Tree (ℕ → Tree) Tree) → is_absent (positioned p (absent_step a)) ≡ true
 absent_step_is p (Absent-F.Repeater t) = refl
 absent_step_is p _ = refl
 
-absent_is : (p : Bool) (a : Absent) → is_absent (placed p (view_absent a)) ≡ true
+absent_is : (p : Bool) (a : Absent) → is_absent (positioned p (view_absent a)) ≡ true
 absent_is p a =
-    ap (λ t. is_absent (placed p t)) (fold_out-Absent Tree (ℕ → Tree) Tree absent_step ast_step expr_step a)
+    ap (λ t. is_absent (positioned p t)) (fold_out-Absent Tree (ℕ → Tree) Tree absent_step ast_step expr_step a)
     ∙ absent_step_is p (map-Absent Absent AstNode Expr Tree (ℕ → Tree) Tree view_absent view_ast view (out-Absent a))
 
 -- the tree is a node as it is read, and no absent form
 abbrev pub IsRead : Bool → Tree → Type 0
-IsRead p t = (is_read (placed p t) ≡ true) × (is_absent (placed p t) ≡ false)
+IsRead p t = (is_read (positioned p t) ≡ true) × (is_absent (positioned p t) ≡ false)
 
-node_step_is : (p : Bool) (n : AstNode-F Tree (ℕ → Tree) Tree) (place : ℕ) → IsRead p (ast_step n place)
-node_step_is p (AstNode-F.AstGroup name inner) place = (refl, refl)
-node_step_is p _ place = (refl, refl)
+node_step_is : (p : Bool) (n : AstNode-F Tree (ℕ → Tree) Tree) (position : ℕ) → IsRead p (ast_step n position)
+node_step_is p (AstNode-F.AstGroup name inner) position = (refl, refl)
+node_step_is p _ position = (refl, refl)
 
-node_is : (p : Bool) (n : AstNode) (place : ℕ) → IsRead p (view_ast n place)
-node_is p n place =
-    subst (λ f. IsRead p (f place))
+node_is : (p : Bool) (n : AstNode) (position : ℕ) → IsRead p (view_ast n position)
+node_is p n position =
+    subst (λ f. IsRead p (f position))
     (sym (fold_out-AstNode Tree (ℕ → Tree) Tree absent_step ast_step expr_step n))
     (node_step_is p
-    (map-AstNode Absent AstNode Expr Tree (ℕ → Tree) Tree view_absent view_ast view (out-AstNode n)) place)
+    (map-AstNode Absent AstNode Expr Tree (ℕ → Tree) Tree view_absent view_ast view (out-AstNode n)) position)
 
 false_unless : (b : Bool) → (b ≡ true → ⊥) → false ≡ b
 false_unless true h = absurd (h refl)
@@ -92,7 +92,7 @@ differ f s t b c e g h =
     false_unless (same s t) (λ i. h (sym e ∙ ap f ((same-Decides s t).0 i) ∙ g))
 
 levels_apart : (p : Bool) (u v : Expr-F Absent AstNode Expr) → Other u (roll-Expr v) →
-    false ≡ same (placed p (seen u)) (placed p (seen v))
+    false ≡ same (positioned p (seen u)) (positioned p (seen v))
 levels_apart p Expr-F.Empty Expr-F.Empty h = absurd (h variant.rolls-Empty)
 levels_apart p (Expr-F.Any _ _) (Expr-F.Any a b) h = absurd (h a b (variant.rolls-Any a b))
 levels_apart p (Expr-F.Assertion _) (Expr-F.Assertion a) h = absurd (h a (variant.rolls-Assertion a))
@@ -127,20 +127,20 @@ levels_apart p (Expr-F.Absent a) (Expr-F.AstNode n q) h =
     differ is_absent _ _ true false (absent_is p a) (node_is p n q).1 (λ e. cc)
 levels_apart p (Expr-F.AstNode n q) (Expr-F.Absent a) h =
     differ is_absent _ _ false true (node_is p n q).1 (absent_is p a) (λ e. cc)
-levels_apart p (Expr-F.Absent a) v h = differ is_absent _ (placed p (seen v)) true false (absent_is p a) refl (λ e. cc)
-levels_apart p u (Expr-F.Absent a) h = differ is_absent (placed p (seen u)) _ false true refl (absent_is p a) (λ e. cc)
+levels_apart p (Expr-F.Absent a) v h = differ is_absent _ (positioned p (seen v)) true false (absent_is p a) refl (λ e. cc)
+levels_apart p u (Expr-F.Absent a) h = differ is_absent (positioned p (seen u)) _ false true refl (absent_is p a) (λ e. cc)
 levels_apart p (Expr-F.AstNode n q) v h =
-    differ is_read _ (placed p (seen v)) true false (node_is p n q).0 refl (λ e. cc)
+    differ is_read _ (positioned p (seen v)) true false (node_is p n q).0 refl (λ e. cc)
 levels_apart p u (Expr-F.AstNode n q) h =
-    differ is_read (placed p (seen u)) _ false true refl (node_is p n q).0 (λ e. cc)
+    differ is_read (positioned p (seen u)) _ false true refl (node_is p n q).0 (λ e. cc)
 levels_apart p _ _ h = refl
 
 seen_out : (x : Expr) → view x ≡ seen (out-Expr x)
 seen_out x = fold_out-Expr Tree (ℕ → Tree) Tree absent_step ast_step expr_step x
 
 pub apart : (p : Bool) (x y : Expr) (u : Expr-F Absent AstNode Expr) → out-Expr x ≡ u → Other u y →
-    false ≡ same (placed p (view x)) (placed p (view y))
+    false ≡ same (positioned p (view x)) (positioned p (view y))
 apart p x y u is other =
     levels_apart p u (out-Expr y) (subst (Other u) (sym (roll-out-Expr y)) other)
-    ∙ ap (λ t. same (placed p t) (placed p (seen (out-Expr y)))) (sym (seen_out x ∙ ap seen is))
-    ∙ ap (λ t. same (placed p (view x)) (placed p t)) (sym (seen_out y))
+    ∙ ap (λ t. same (positioned p t) (positioned p (seen (out-Expr y)))) (sym (seen_out x ∙ ap seen is))
+    ∙ ap (λ t. same (positioned p (view x)) (positioned p t)) (sym (seen_out y))

@@ -24,6 +24,6 @@ children_Alt e v h = ap (λ x. children (view x)) h ∙ ap children (view_Alt v)
 
 pub leaf_children : (t : Tree) → is_leaf t ≡ true → children t ≡ []
 leaf_children (leaf l) h = refl
-leaf_children (over (label.ast_group name place) t) h = refl
+leaf_children (over (label.ast_group name position) t) h = refl
 leaf_children (over w t) h = absurd (false≢true h)
 leaf_children (row r ts) h = absurd (false≢true h)

@@ -21,7 +21,7 @@ levels_member (more_trees t ts) (suc i) d h = omega (arith, levels_member ts i d
 
 levels_child : (t : Tree) (i : ℕ) (d : Tree) → i < length (children t) → levels (get_or (children t) i d) < levels t
 levels_child (leaf l) i d h = absurd (omega arith)
-levels_child (over (label.ast_group name place) t) i d h = absurd (omega arith)
+levels_child (over (label.ast_group name position) t) i d h = absurd (omega arith)
 levels_child (over w t) zero d h = omega arith
 levels_child (over w t) (suc i) d h = absurd (omega arith)
 levels_child (row r ts) i d h = omega (arith, levels_member ts i d h)
@@ -41,8 +41,8 @@ levels_of_given e c all values trees among = levels_of_child e c (ap views (sym 
 
 -- ---- the children that are left
 
-among_head : (c : Expr) (cs : List Expr) → IsAmong (c ∷ cs) c
-among_head c cs = (0, (omega arith, refl))
+among_first : (c : Expr) (cs : List Expr) → IsAmong (c ∷ cs) c
+among_first c cs = (0, (omega arith, refl))
 
 among_tail : (c d : Expr) (cs : List Expr) → IsAmong cs d → IsAmong (c ∷ cs) d
 among_tail c d cs (i, (h, is)) = (suc i, (omega arith, is))
@@ -54,8 +54,8 @@ pub record Within (e : Expr) (left : List Expr) : Type 0 where
 pub within_start : (e : Expr) (left : List Expr) → left ≡ children_of e → Within e left
 within_start e left h = record { inside = λ c a. subst (λ es. IsAmong es c) h a }
 
-pub within_head : (e c : Expr) (left more : List Expr) → Within e left → left ≡ c ∷ more → IsAmong (children_of e) c
-within_head e c left more s h = s.inside c (subst (λ es. IsAmong es c) (sym h) (among_head c more))
+pub within_first : (e c : Expr) (left more : List Expr) → Within e left → left ≡ c ∷ more → IsAmong (children_of e) c
+within_first e c left more s h = s.inside c (subst (λ es. IsAmong es c) (sym h) (among_first c more))
 
 pub within_next : (e c : Expr) (left more : List Expr) → Within e left → left ≡ c ∷ more → Within e more
 within_next e c left more s h = record {
@@ -85,9 +85,9 @@ sweep_start P e left h = record {
   done_or_left = λ c a. inl (subst (λ es. IsAmong es c) (sym h) a);
 }
 
-pub sweep_head : (P : Expr → Type 0) (e c : Expr) (left more : List Expr) → Sweep P e left → left ≡ c ∷ more →
+pub sweep_first : (P : Expr → Type 0) (e c : Expr) (left more : List Expr) → Sweep P e left → left ≡ c ∷ more →
     IsAmong (children_of e) c
-sweep_head P e c left more s h = s.inside c (subst (λ es. IsAmong es c) (sym h) (among_head c more))
+sweep_first P e c left more s h = s.inside c (subst (λ es. IsAmong es c) (sym h) (among_first c more))
 
 sweep_case : (P : Expr → Type 0) (c d : Expr) (more : List Expr) → HoldsFrom P c →
     IsAmong (c ∷ more) d ⊎ HoldsFrom P d → IsAmong more d ⊎ HoldsFrom P d

@@ -10,11 +10,11 @@ mod TreesLemmas
 mod StepLemmas
 mod MachineLemmas
 mod PlainLaws
-mod RoomLemmas
+mod StackLemmas
 mod ShownLemmas
 mod TreeLemmas
-mod NotingLemmas
-mod NotingLaws
+mod RecordingLemmas
+mod RecordingLaws
 -- ---- the resolver
 pub mod WalkLemmas
 pub mod NoItems

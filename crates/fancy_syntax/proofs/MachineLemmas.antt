@@ -6,44 +6,44 @@ use Rattle.std.proofs.lemmas.Bool.Decides.{nat_tests}
 use Rattle.std.proofs.lemmas.List.{length_push, append_assoc}
 use Prim.Native.Char.{code}
 use Rattle.fancy_lex.specs.Characters.{bar}
-use Rattle.fancy_lex.specs.Fault.{Kind}
-use Rattle.fancy_lex.specs.FaultTable.{bar_for_close_paren, body_wanting}
-use Rattle.fancy_lex.specs.LayoutSteps.{rest, fault as open_comment}
+use Rattle.fancy_lex.specs.Located.{Kind}
+use Rattle.fancy_lex.specs.ErrorTable.{bar_for_close_paren, body_missing}
+use Rattle.fancy_lex.specs.LayoutSteps.{rest, failed as open_comment}
 use Rattle.fancy_lex.specs.Text.{Text, bytes, reach_of, strip}
-use Rattle.fancy_lex.specs.declared.error.Failure.{Failure}
+use Rattle.fancy_lex.specs.declared.error.ReadError.{ReadError}
 use Rattle.fancy_lex.specs.declared.flags.Flags.{Flags}
-use Rattle.fancy_lex.specs.declared.error.Failure.TheVariants.{At}
+use Rattle.fancy_lex.specs.declared.error.ReadError.TheVariants.{At}
 use Rattle.fancy_lex.specs.declared.error.ParseError.TheVariants.{UnclosedOpenParen}
-use Rattle.fancy_grammar.specs.Grammar.{Alternation, alternation, Branches, last, branch_fault, Branch, branch, stop}
-use Rattle.fancy_grammar.specs.Grammar.{piece_fault, Piece, piece, layout_fault, Atom, atom, Inside, inside, the_body}
-use Rattle.fancy_grammar.specs.Grammar.{condition_fault, two_branches, one_branch, absent_fault, closed, closed_at}
-use Rattle.fancy_grammar.specs.Grammar.{more, next, restored, conditional_behind, clear_or_stopper, Pieces, Branches}
+use Rattle.fancy_grammar.specs.Grammar.{Alternation, alternation, Branches, last, branch_error, Branch, branch, stop}
+use Rattle.fancy_grammar.specs.Grammar.{piece_error, Piece, piece, layout_error, Atom, atom, Inside, inside, the_body}
+use Rattle.fancy_grammar.specs.Grammar.{condition_error, two_branches, one_branch, absent_error, closed, closed_at}
+use Rattle.fancy_grammar.specs.Grammar.{more, next, restored, conditional_after, clear_or_stopper, Pieces, Branches}
 use Rattle.fancy_grammar.specs.Grammar as grammar
 use Rattle.fancy_grammar.specs.Join.{solid, one_or, choice, is_empty}
 use Rattle.fancy_grammar.specs.Spans.{end_of}
 use Rattle.fancy_syntax.specs.Log.{Log, part_begun, branch_begun, branch_ended, atom_closed}
-use Rattle.fancy_syntax.specs.Noting.{PieceTo, PiecesTo, BranchTo, BranchesTo, AlternationTo, piece_noted, pieces_noted}
-use Rattle.fancy_syntax.specs.Noting.{branches_noted, atom_noted, inside_noted, quants_noted, group_noted}
-use Rattle.fancy_syntax.specs.Noting.{conditional_noted, stopper_noted, choice_noted, added}
+use Rattle.fancy_syntax.specs.Recording.{PieceTo, PiecesTo, BranchTo, BranchesTo, AlternationTo, piece_recorded, pieces_recorded}
+use Rattle.fancy_syntax.specs.Recording.{branches_recorded, atom_recorded, inside_recorded, quants_recorded, group_recorded}
+use Rattle.fancy_syntax.specs.Recording.{conditional_recorded, stopper_recorded, choice_recorded, added}
 use Rattle.fancy_syntax.specs.View.{view}
-use Rattle.fancy_grammar.specs.Ahead.{Ahead, nothing, read, ahead}
+use Rattle.fancy_grammar.specs.AtomStart.{AtomStart, nothing, read, atom_start}
 use Rattle.fancy_grammar.specs.Grammar.{a_nothing, a_read}
-use Rattle.fancy_syntax.specs.Log.{leaf_noted, left_out}
-use Rattle.fancy_syntax.specs.Machine.{IsNotedPlain}
-use Rattle.fancy_syntax.specs.Noting.{ahead_noted, skipped_noted, step_noted}
-use Rattle.fancy_syntax.specs.Machine.{part_noted, close_noted, taken_noted}
+use Rattle.fancy_syntax.specs.Log.{leaf_recorded, left_out}
+use Rattle.fancy_syntax.specs.Machine.{IsRecordedPlain}
+use Rattle.fancy_syntax.specs.Recording.{start_recorded, skipped_recorded, step_recorded}
+use Rattle.fancy_syntax.specs.Machine.{part_recorded, close_recorded, taken_recorded}
 use Rattle.fancy_syntax.specs.Machine.{OpenPart, top, group, condition, body, first, second, part_of, holds_one}
-use Rattle.fancy_syntax.specs.Machine.{is_second, opened_by_bar, branches_at_bar, IsFaultOfBar, Part, OpensPart}
+use Rattle.fancy_syntax.specs.Machine.{is_second, opened_by_bar, branches_at_bar, IsErrorOfBar, Part, OpensPart}
 use Rattle.fancy_syntax.specs.Machine.{a_group}
-use Rattle.fancy_syntax.specs.Machine.{a_condition, a_body, behind_condition, a_branch, behind_branch, lacks_body}
+use Rattle.fancy_syntax.specs.Machine.{a_condition, a_body, after_condition, a_branch, after_branch, lacks_body}
 use Rattle.fancy_syntax.specs.Machine.{node_of_part, goes_on, ended_part, Began, GivesStep, GivesPiece, ReadSoFar}
 use Rattle.fancy_syntax.specs.Machine.{OpenGroups, Running}
 use Rattle.fancy_syntax.specs.Machine.{outermost, inner, HoldsTrees, IsStep, OpensBelow, Takes}
 use Rattle.fancy_grammar.specs.Depth.{max_depth}
-use Rattle.fancy_grammar.specs.Head.{group_node}
+use Rattle.fancy_grammar.specs.GroupKind.{group_node}
 use Rattle.fancy_grammar.specs.Quantified.{quants}
 use Rattle.fancy_grammar.specs.Errors.{IsErrorAmong}
-use Rattle.fancy_grammar.specs.State.{ends, skipped, State, at, Outcome, done, fault, faulted, and_then, seen_through}
+use Rattle.fancy_grammar.specs.State.{ends, skipped, State, at, Outcome, done, failed, failed_with, and_then, seen_through}
 use Rattle.fancy_grammar.specs.Tree.{Tree, concat, empty, expression}
 use Rattle.fancy_syntax.specs.declared.grammar.frame.Frame.{Frame}
 use Rattle.fancy_syntax.specs.declared.grammar.step.Step.{Step}
@@ -52,96 +52,96 @@ use Rattle.fancy_lex.proofs.TextLemmas.{strip_is}
 use Rattle.fancy_grammar.proofs.OutcomeLemmas.{IsErrorAmong-map, before-nil, before-push}
 use Rattle.fancy_grammar.proofs.OutcomeLemmas.{trees_before, solid-append, piece_as}
 use Rattle.fancy_grammar.proofs.ReadLaws.{piece_read}
-use Rattle.fancy_grammar.proofs.Slices.{here, on, strip_slice}
+use Rattle.fancy_grammar.proofs.Slices.{current, on, strip_slice}
 
 -- ---- a step
 
 -- an atom, with the log before and the log after
 abbrev AtomTo : ℕ → State → Outcome Tree → Log → Log → Type 0
-AtomTo d s o l m = (a : Atom d s o) × (atom_noted a l ≡ m)
+AtomTo d s o l m = (a : Atom d s o) × (atom_recorded a l ≡ m)
 
 -- an atom after layout is a piece under its quantifiers
 pub piece_to : {d : ℕ} {s : State} {u : Text} {q o : Outcome Tree} {l m n : Log} → skipped s ≡ rest u →
-    AtomTo d (at s u) q l m → and_then q (quants d (bytes s.rest)) ≡ o → quants_noted (bytes s.rest) q m ≡ n →
+    AtomTo d (at s u) q l m → and_then q (quants d (bytes s.rest)) ≡ o → quants_recorded (bytes s.rest) q m ≡ n →
     PieceTo d s o l n
 piece_to {d} {s} {q} {l} {n} i (a, h) e j =
-    subst (λ o. PieceTo d s o l n) e (piece i a, ap (quants_noted (bytes s.rest) q) h ∙ j)
+    subst (λ o. PieceTo d s o l n) e (piece i a, ap (quants_recorded (bytes s.rest) q) h ∙ j)
 
 pub steps_piece : {d left : ℕ} (s : State) {t : State} {u : Text} {a : Tree} {l m : Log} (n : Log)
-    (r : Result Step Failure) (v : State) → left ≡ bytes s.rest → skipped s ≡ rest u →
-    AtomTo d (at s u) (done a t) l m → GivesPiece r (quants d left a t) v → quants_noted left (done a t) m ≡ n →
+    (r : Result Step ReadError) (v : State) → left ≡ bytes s.rest → skipped s ≡ rest u →
+    AtomTo d (at s u) (done a t) l m → GivesPiece r (quants d left a t) v → quants_recorded left (done a t) m ≡ n →
     GivesStep r d s l v n
 steps_piece {d} {left} s {t} {u} {a} {l} {m} n (Ok (step.Piece tree)) v i k x h j =
     piece_to k x (subst (λ z. quants d z a t ≡ done (view tree) v) i h)
-    (subst (λ z. quants_noted z (done a t) m ≡ n) i j)
-steps_piece s n (Ok (step.Open opener)) v i k x h j = absurd h
+    (subst (λ z. quants_recorded z (done a t) m ≡ n) i j)
+steps_piece s n (Ok (step.Open open_group)) v i k x h j = absurd h
 steps_piece {d} {left} s {t} {a = tree} n (Err e) v i k (x, y) h j =
     IsErrorAmong-map (λ o. quants d left tree t ≡ o) (Piece d s) e
-    (λ c p g. piece_as k x (subst (λ z. quants d z tree t ≡ fault c p) i g)) h
+    (λ c p g. piece_as k x (subst (λ z. quants d z tree t ≡ failed c p) i g)) h
 
 -- the start of the atom decides what a step records
-pub step_ahead : (d : ℕ) (s : State) {u : Text} {k : Ahead} (l : Log) → skipped s ≡ rest u → ahead d (at s u) ≡ k →
-    step_noted d s l ≡ ahead_noted (bytes s.rest) (at s u) k l
-step_ahead d s {u} l i e =
-    ap (λ z. skipped_noted d s z l) i ∙ ap (λ k. ahead_noted (bytes s.rest) (at s u) k l) e
+pub step_start : (d : ℕ) (s : State) {u : Text} {k : AtomStart} (l : Log) → skipped s ≡ rest u → atom_start d (at s u) ≡ k →
+    step_recorded d s l ≡ start_recorded (bytes s.rest) (at s u) k l
+step_start d s {u} l i e =
+    ap (λ z. skipped_recorded d s z l) i ∙ ap (λ k. start_recorded (bytes s.rest) (at s u) k l) e
 
-pub read_noted : (d left : ℕ) (s : State) {t : State} {u : Text} {a : Tree} (l : Log) → left ≡ bytes s.rest →
-    skipped s ≡ rest u → ahead d (at s u) ≡ read (done a t) →
-    quants_noted left (done a t) (leaf_noted (reach_of u) (reach_of t.rest) l) ≡ step_noted d s l
-read_noted d left s {t} {u} {a} l i k e =
-    sym (step_ahead d s l k e
-    ∙ ap (λ z. quants_noted z (done a t) (leaf_noted (reach_of u) (reach_of t.rest) l)) (sym i))
+pub read_recorded : (d left : ℕ) (s : State) {t : State} {u : Text} {a : Tree} (l : Log) → left ≡ bytes s.rest →
+    skipped s ≡ rest u → atom_start d (at s u) ≡ read (done a t) →
+    quants_recorded left (done a t) (leaf_recorded (reach_of u) (reach_of t.rest) l) ≡ step_recorded d s l
+read_recorded d left s {t} {u} {a} l i k e =
+    sym (step_start d s l k e
+    ∙ ap (λ z. quants_recorded z (done a t) (leaf_recorded (reach_of u) (reach_of t.rest) l)) (sym i))
 
-pub nothing_noted : (d left : ℕ) (s : State) {u : Text} (l : Log) → left ≡ bytes s.rest →
-    skipped s ≡ rest u → ahead d (at s u) ≡ nothing →
-    quants_noted left (done empty (at s u)) (leaf_noted (reach_of u) (reach_of u) l) ≡ step_noted d s l
-nothing_noted d left s {u} l i k e =
-    sym (step_ahead d s l k e
-    ∙ ap (λ z. quants_noted z (done empty (at s u)) (leaf_noted (reach_of u) (reach_of u) l)) (sym i))
+pub nothing_recorded : (d left : ℕ) (s : State) {u : Text} (l : Log) → left ≡ bytes s.rest →
+    skipped s ≡ rest u → atom_start d (at s u) ≡ nothing →
+    quants_recorded left (done empty (at s u)) (leaf_recorded (reach_of u) (reach_of u) l) ≡ step_recorded d s l
+nothing_recorded d left s {u} l i k e =
+    sym (step_start d s l k e
+    ∙ ap (λ z. quants_recorded z (done empty (at s u)) (leaf_recorded (reach_of u) (reach_of u) l)) (sym i))
 
 -- a step that reads a whole atom, or none
-pub steps_read : (d left : ℕ) (s : State) {t : State} {u : Text} {a : Tree} (l : Log) (r : Result Step Failure)
-    (v : State) → left ≡ bytes s.rest → skipped s ≡ rest u → ahead d (at s u) ≡ read (done a t) →
-    GivesPiece r (quants d left a t) v → GivesStep r d s l v (step_noted d s l)
+pub steps_read : (d left : ℕ) (s : State) {t : State} {u : Text} {a : Tree} (l : Log) (r : Result Step ReadError)
+    (v : State) → left ≡ bytes s.rest → skipped s ≡ rest u → atom_start d (at s u) ≡ read (done a t) →
+    GivesPiece r (quants d left a t) v → GivesStep r d s l v (step_recorded d s l)
 steps_read d left s l r v i k e h =
-    steps_piece {d = d} {left = left} s (step_noted d s l) r v i k (atom e a_read, refl) h (read_noted d left s l i k e)
+    steps_piece {d = d} {left = left} s (step_recorded d s l) r v i k (atom e a_read, refl) h (read_recorded d left s l i k e)
 
-pub steps_nothing : (d left : ℕ) (s : State) {u : Text} (l : Log) (r : Result Step Failure)
-    (v : State) → left ≡ bytes s.rest → skipped s ≡ rest u → ahead d (at s u) ≡ nothing →
-    GivesPiece r (quants d left empty (at s u)) v → GivesStep r d s l v (step_noted d s l)
+pub steps_nothing : (d left : ℕ) (s : State) {u : Text} (l : Log) (r : Result Step ReadError)
+    (v : State) → left ≡ bytes s.rest → skipped s ≡ rest u → atom_start d (at s u) ≡ nothing →
+    GivesPiece r (quants d left empty (at s u)) v → GivesStep r d s l v (step_recorded d s l)
 steps_nothing d left s l r v i k e h =
-    steps_piece {d = d} {left = left} s (step_noted d s l) r v i k (atom e a_nothing, refl) h (nothing_noted d left s l i k e)
+    steps_piece {d = d} {left = left} s (step_recorded d s l) r v i k (atom e a_nothing, refl) h (nothing_recorded d left s l i k e)
 
 -- a step that opens a part
-pub steps_open : {d : ℕ} {s t : State} {u : Text} {k : Ahead} {p : OpenPart} {l : Log} → skipped s ≡ rest u →
-    ahead d (at s u) ≡ k → OpensPart d s l p t (ahead_noted (bytes s.rest) (at s u) k l) →
-    OpensPart d s l p t (step_noted d s l)
-steps_open {d} {s} {t} {p} {l} i e h = subst (OpensPart d s l p t) (sym (step_ahead d s l i e)) h
+pub steps_open : {d : ℕ} {s t : State} {u : Text} {k : AtomStart} {p : OpenPart} {l : Log} → skipped s ≡ rest u →
+    atom_start d (at s u) ≡ k → OpensPart d s l p t (start_recorded (bytes s.rest) (at s u) k l) →
+    OpensPart d s l p t (step_recorded d s l)
+steps_open {d} {s} {t} {p} {l} i e h = subst (OpensPart d s l p t) (sym (step_start d s l i e)) h
 
 -- an error in the layout before a piece is the error of the piece
-pub steps_layout : (d : ℕ) (s : State) {p : ℕ} (e : Failure) → e ≡ At p UnclosedOpenParen →
+pub steps_layout : (d : ℕ) (s : State) {p : ℕ} (e : ReadError) → e ≡ At p UnclosedOpenParen →
     skipped s ≡ open_comment p → IsErrorAmong e (Piece d s)
-steps_layout d s e i l = rw i (layout_fault l)
+steps_layout d s e i l = rw i (layout_error l)
 
 -- ---- open parts
 
 -- an error inside is the error of the piece
-pub opens_fault : {d p : ℕ} {s v : State} {k : Kind} {o : OpenPart} {l m : Log} (n : Log) → OpensPart d s l o v m →
-    Part o (d + 1) v (fault k p) m n → Piece d s (fault k p)
-opens_fault n (a_group l e) (r, x) = piece l (atom e (grammar.a_group (inside r)))
-opens_fault n (a_condition l e) (r, x) = piece l (atom e (condition_fault (inside r)))
-opens_fault n (a_body l e) (r, x) = piece l (atom e (grammar.a_body (the_body r)))
-opens_fault n (behind_condition (a_condition l e) i) (r, x) = piece l (atom e (grammar.a_condition i (the_body r)))
-opens_fault n (a_branch l e) (r, x) = piece l (atom e (absent_fault r))
-opens_fault n (behind_branch (a_branch l e) b f) (r, x) = piece l (atom e (two_branches b f r))
+pub opens_error : {d p : ℕ} {s v : State} {k : Kind} {o : OpenPart} {l m : Log} (n : Log) → OpensPart d s l o v m →
+    Part o (d + 1) v (failed k p) m n → Piece d s (failed k p)
+opens_error n (a_group l e) (r, x) = piece l (atom e (grammar.a_group (inside r)))
+opens_error n (a_condition l e) (r, x) = piece l (atom e (condition_error (inside r)))
+opens_error n (a_body l e) (r, x) = piece l (atom e (grammar.a_body (the_body r)))
+opens_error n (after_condition (a_condition l e) i) (r, x) = piece l (atom e (grammar.a_condition i (the_body r)))
+opens_error n (a_branch l e) (r, x) = piece l (atom e (absent_error r))
+opens_error n (after_branch (a_branch l e) b f) (r, x) = piece l (atom e (two_branches b f r))
 
 -- a closing parenthesis is taken whatever the tree
 closed_through : (f : Tree → Tree) (r : Tree) (s : State) → seen_through f (closed r s) ≡ closed (f r) s
 closed_through f r s = by_text s.rest
   where
     by_test : (u : Text) (b : Bool) →
-        seen_through f (if b then done r (at s u) else faulted (bar_for_close_paren s.rest))
-        ≡ (if b then done (f r) (at s u) else faulted (bar_for_close_paren s.rest))
+        seen_through f (if b then done r (at s u) else failed_with (bar_for_close_paren s.rest))
+        ≡ (if b then done (f r) (at s u) else failed_with (bar_for_close_paren s.rest))
     by_test u true = refl
     by_test u false = refl
 
@@ -150,7 +150,7 @@ closed_through f r s = by_text s.rest
     by_text (c ∷ u) = by_test u (c == code ")")
 
 pub ended_without_body : (p : OpenPart) (r : Tree) (s : State) → lacks_body p s ≡ true →
-    ended_part p r s ≡ faulted (body_wanting s.rest)
+    ended_part p r s ≡ failed_with (body_missing s.rest)
 ended_without_body p r s e = rw e refl
 
 pub ended_closed : (p : OpenPart) (r : Tree) (s : State) → lacks_body p s ≡ false →
@@ -172,13 +172,13 @@ opens_ended : {d : ℕ} {s v : State} {p : OpenPart} {l m : Log} (n : Log) (r : 
     Part p (d + 1) v (done r w) m n → goes_on p ≡ false →
     MayEnd p w → (t : Text) × (skipped s ≡ rest t)
     × AtomTo d (at s t) (restored s.flags (ended_part p r w)) l
-    (part_noted p r (reach_of w.rest) (end_of (ended_part p r w)) n)
+    (part_recorded p r (reach_of w.rest) (end_of (ended_part p r w)) n)
 opens_ended {d} {s} {l} n q w (a_group {u} {h} i e) (r, x) g f = (
   u,
   i,
-  closed_to s.flags (group_node h (reach_of u)) q w (λ o. group_noted h (end_of o) n) l (
+  closed_to s.flags (group_node h (reach_of u)) q w (λ o. group_recorded h (end_of o) n) l (
     atom e (grammar.a_group (inside r)),
-    ap (group_noted h (end_of (seen_through (group_node h (reach_of u)) (closed q w)))) x,
+    ap (group_recorded h (end_of (seen_through (group_node h (reach_of u)) (closed q w)))) x,
   ),
 )
 opens_ended n q w (a_condition i e) r g f = absurd (true≢false g)
@@ -187,23 +187,23 @@ opens_ended n q w (a_body {t} {u} {c} i e) (r, x) g f = (
   i,
   (
     atom e (grammar.a_body (the_body r)),
-    ap (conditional_noted q (reach_of w.rest) (end_of (conditional_behind c (bytes t.rest) q w))) x,
+    ap (conditional_recorded q (reach_of w.rest) (end_of (conditional_after c (bytes t.rest) q w))) x,
   ),
 )
-opens_ended n q w (behind_condition {v} {c} (a_condition {u} i e) j) (r, x) g f = (
+opens_ended n q w (after_condition {v} {c} (a_condition {u} i e) j) (r, x) g f = (
   u,
   i,
   (
     atom e (grammar.a_condition j (the_body r)),
-    ap (conditional_noted q (reach_of w.rest) (end_of (conditional_behind c (bytes v.rest) q w))) x,
+    ap (conditional_recorded q (reach_of w.rest) (end_of (conditional_after c (bytes v.rest) q w))) x,
   ),
 )
 opens_ended n q w (a_branch {u} i e) (r, x) g f = (
   u,
   i,
-  (atom e (one_branch r (f refl refl)), ap (stopper_noted q (end_of (closed (clear_or_stopper q) w))) x),
+  (atom e (one_branch r (f refl refl)), ap (stopper_recorded q (end_of (closed (clear_or_stopper q) w))) x),
 )
-opens_ended n q w (behind_branch {a} (a_branch {u} i e) b j) (r, x) g f = (
+opens_ended n q w (after_branch {a} (a_branch {u} i e) b j) (r, x) g f = (
   u,
   i,
   (atom e (two_branches b j r), ap (atom_closed (end_of (closed (expression a q) w)) false) x),
@@ -214,72 +214,72 @@ pub condition_ended : {d : ℕ} {s v t : State} {p : OpenPart} {c : Tree} {l m :
     OpensPart d s l p v m → Part p (d + 1) v (done r w) m n → goes_on p ≡ true →
     ended_part p r w ≡ done c t → OpensPart d s l (body c (bytes t.rest)) t (part_begun (reach_of t.rest) n)
 condition_ended {d} {s} {v} {t} {c} {l} {m} n r w (a_condition i e) (x, y) g h =
-    let (z, k) = subst (λ o. (a : Inside d v o) × (inside_noted a m ≡ n)) h (inside x, y) in
+    let (z, k) = subst (λ o. (a : Inside d v o) × (inside_recorded a m ≡ n)) h (inside x, y) in
     subst (λ n. OpensPart d s l (body c (bytes t.rest)) t (part_begun (reach_of t.rest) n)) k
-    (behind_condition (a_condition i e) z)
+    (after_condition (a_condition i e) z)
 condition_ended n r w (a_group l e) x g h = absurd (true≢false (sym g))
 condition_ended n r w (a_body l e) x g h = absurd (true≢false (sym g))
-condition_ended n r w (behind_condition x y) z g h = absurd (true≢false (sym g))
+condition_ended n r w (after_condition x y) z g h = absurd (true≢false (sym g))
 condition_ended n r w (a_branch l e) x g h = absurd (true≢false (sym g))
-condition_ended n r w (behind_branch x y z) a g h = absurd (true≢false (sym g))
+condition_ended n r w (after_branch x y z) a g h = absurd (true≢false (sym g))
 
 -- an error at the end of a part is the error of the piece
-pub ended_fault : {d q : ℕ} {s v : State} {k : Kind} {p : OpenPart} {l m : Log} (n : Log) (r : Tree) (w : State) →
+pub ended_error : {d q : ℕ} {s v : State} {k : Kind} {p : OpenPart} {l m : Log} (n : Log) (r : Tree) (w : State) →
     OpensPart d s l p v m → Part p (d + 1) v (done r w) m n →
-    MayEnd p w → ended_part p r w ≡ fault k q → Piece d s (fault k q)
-ended_fault {d} {q} {s} {k} {p} {l} n r w x y f h = by_goes (goes_on p) refl
+    MayEnd p w → ended_part p r w ≡ failed k q → Piece d s (failed k q)
+ended_error {d} {q} {s} {k} {p} {l} n r w x y f h = by_goes (goes_on p) refl
   where
     of_condition : {v : State} {p : OpenPart} {m : Log} → OpensPart d s l p v m → Part p (d + 1) v (done r w) m n →
-        goes_on p ≡ true → ended_part p r w ≡ fault k q → Piece d s (fault k q)
+        goes_on p ≡ true → ended_part p r w ≡ failed k q → Piece d s (failed k q)
     of_condition {v} (a_condition l e) (x, y) g h =
-        piece l (atom e (condition_fault (subst (Inside d v) h (inside x))))
+        piece l (atom e (condition_error (subst (Inside d v) h (inside x))))
     of_condition (a_group l e) x g h = absurd (true≢false (sym g))
     of_condition (a_body l e) x g h = absurd (true≢false (sym g))
-    of_condition (behind_condition x y) z g h = absurd (true≢false (sym g))
+    of_condition (after_condition x y) z g h = absurd (true≢false (sym g))
     of_condition (a_branch l e) x g h = absurd (true≢false (sym g))
-    of_condition (behind_branch x y z) a g h = absurd (true≢false (sym g))
+    of_condition (after_branch x y z) a g h = absurd (true≢false (sym g))
 
-    by_goes : (b : Bool) → goes_on p ≡ b → Piece d s (fault k q)
+    by_goes : (b : Bool) → goes_on p ≡ b → Piece d s (failed k q)
     by_goes true g = of_condition x y g h
     by_goes false g =
         let (u, i, a) = opens_ended n r w x y g f in piece i (subst (Atom d (at s u)) (ap (restored s.flags) h) a.0)
 
 -- the log when the open part ends with the atom, or continues
 pub close_ends : (left : ℕ) (flags : Flags) (p : OpenPart) (r : Tree) (w : State) (n : Log) {a : Tree} {t : State} →
-    ended_part p r w ≡ done a t → goes_on p ≡ false → close_noted left flags p r w n
-    ≡ quants_noted left (done a (record t { flags = flags })) (part_noted p r (reach_of w.rest) (reach_of t.rest) n)
+    ended_part p r w ≡ done a t → goes_on p ≡ false → close_recorded left flags p r w n
+    ≡ quants_recorded left (done a (record t { flags = flags })) (part_recorded p r (reach_of w.rest) (reach_of t.rest) n)
 close_ends left flags p r w n e g = rw (e, g) refl
 
 pub close_goes_on : (left : ℕ) (flags : Flags) (p : OpenPart) (r : Tree) (w : State) (n : Log) {a : Tree}
-    {t : State} → ended_part p r w ≡ done a t → goes_on p ≡ true → close_noted left flags p r w n
-    ≡ part_begun (reach_of t.rest) (part_noted p r (reach_of w.rest) (reach_of t.rest) n)
+    {t : State} → ended_part p r w ≡ done a t → goes_on p ≡ true → close_recorded left flags p r w n
+    ≡ part_begun (reach_of t.rest) (part_recorded p r (reach_of w.rest) (reach_of t.rest) n)
 close_goes_on left flags p r w n e g = rw (e, g) refl
 
 -- the atom that ends with a part, under its quantifiers
 pub closes : {d left : ℕ} {s v t : State} {a : Tree} {p : OpenPart} {l m : Log} (n : Log) (flags : Flags) (r : Tree)
-    (w : State) (q : Result Step Failure) (z : State) → OpensPart d s l p v m →
+    (w : State) (q : Result Step ReadError) (z : State) → OpensPart d s l p v m →
     Part p (d + 1) v (done r w) m n → goes_on p ≡ false → strip bar w.rest ≡ None → ended_part p r w ≡ done a t →
     left ≡ bytes s.rest → flags ≡ s.flags →
     GivesPiece q (quants d left a (record t { flags = s.flags })) z →
-    GivesStep q d s l z (close_noted left flags p r w n)
+    GivesStep q d s l z (close_recorded left flags p r w n)
 closes {d} {left} {s} {t} {a} {p} {l} n flags r w q z x y g f h i j e =
     let (u, c, b) = opens_ended n r w x y g (λ _ _. f) in
-    let m = part_noted p r (reach_of w.rest) (reach_of t.rest) n in
-    steps_piece s (close_noted left flags p r w n) q z i c (subst (λ o. AtomTo d (at s u) (restored s.flags o) l
-    (part_noted p r (reach_of w.rest) (end_of o) n)) h b) e
-    (sym (close_ends left flags p r w n h g ∙ ap (λ f. quants_noted left (done a (record t { flags = f })) m) j))
+    let m = part_recorded p r (reach_of w.rest) (reach_of t.rest) n in
+    steps_piece s (close_recorded left flags p r w n) q z i c (subst (λ o. AtomTo d (at s u) (restored s.flags o) l
+    (part_recorded p r (reach_of w.rest) (end_of o) n)) h b) e
+    (sym (close_ends left flags p r w n h g ∙ ap (λ f. quants_recorded left (done a (record t { flags = f })) m) j))
 
 -- if it continues, what comes next
 pub closes_condition : {d : ℕ} {s v t : State} {c : Tree} {p : OpenPart} {l m : Log} (left : ℕ) (n : Log) (flags : Flags)
     (r : Tree) (w : State) → OpensPart d s l p v m →
     Part p (d + 1) v (done r w) m n → goes_on p ≡ true → ended_part p r w ≡ done c t →
-    OpensPart d s l (body c (bytes t.rest)) t (close_noted left flags p r w n)
+    OpensPart d s l (body c (bytes t.rest)) t (close_recorded left flags p r w n)
 closes_condition {d} {s} {t} {c} {p} {l} left n flags r w x y g h =
     subst (OpensPart d s l (body c (bytes t.rest)) t)
     (sym (close_goes_on left flags p r w n h g ∙ ap (part_begun (reach_of t.rest)) (of_condition p g)))
     (condition_ended n r w x y g h)
   where
-    of_condition : (p : OpenPart) → goes_on p ≡ true → part_noted p r (reach_of w.rest) (reach_of t.rest) n ≡ n
+    of_condition : (p : OpenPart) → goes_on p ≡ true → part_recorded p r (reach_of w.rest) (reach_of t.rest) n ≡ n
     of_condition condition g = refl
     of_condition top g = absurd (true≢false (sym g))
     of_condition (group h q) g = absurd (true≢false (sym g))
@@ -299,18 +299,18 @@ reading_new d p s l bs ps e f = record {
   branch = λ o m b. rw before-nil b;
   all = λ o m b. rw (e, before-nil) b;
   one = λ _. (refl, e, refl);
-  slice = here s.rest;
+  slice = current s.rest;
 }
 
 -- one more piece, or one more branch
 next_to : {d : ℕ} {s t : State} {r : Tree} {l m n : Log} (o : Outcome (List Tree)) → ends s.rest ≡ false →
     PieceTo d s (done r t) l m → PiecesTo d t o (added r m) n → PiecesTo d s (trees_before (r ∷ []) o) l n
-next_to {r} o e (a, x) (b, y) = (next e a b, ap (λ m. pieces_noted b (added r m)) x ∙ y)
+next_to {r} o e (a, x) (b, y) = (next e a b, ap (λ m. pieces_recorded b (added r m)) x ∙ y)
 
 more_to : {d : ℕ} {s t : State} {u : Text} {r : Tree} {l m n : Log} (o : Outcome (List Tree)) →
     BranchTo d s (done r t) l m → strip bar t.rest ≡ Some u →
     BranchesTo d (at t u) o (branch_begun (reach_of u) m) n → BranchesTo d s (trees_before (r ∷ []) o) l n
-more_to {u} o (a, x) e (b, y) = (more a e b, ap (λ m. branches_noted b (branch_begun (reach_of u) m)) x ∙ y)
+more_to {u} o (a, x) e (b, y) = (more a e b, ap (λ m. branches_recorded b (branch_begun (reach_of u) m)) x ∙ y)
 
 reading_piece : {d : ℕ} {p : OpenPart} {s t v : State} {r : Tree} {bs ps : List Tree} {l m n : Log}
     (cs qs : List Tree) → ReadSoFar d p s l bs ps t m → ends t.rest ≡ false →
@@ -373,7 +373,7 @@ reading_bar {d} {s} {t} {u} {bs} {ps} {l} {m} cs qs h k e f i j = record {
 
 -- the log when the open part ends at t with these branches and pieces
 abbrev pub choice_closed : List Tree → List Tree → State → Log → Log
-choice_closed bs ps t l = choice_noted (bs ++ joined ps ∷ []) (reach_of t.rest) (branch_closed ps t l)
+choice_closed bs ps t l = choice_recorded (bs ++ joined ps ∷ []) (reach_of t.rest) (branch_closed ps t l)
 
 reading_alternation : {d : ℕ} {p : OpenPart} {s t : State} {bs ps : List Tree} {l m : Log} →
     ReadSoFar d p s l bs ps t m → ends t.rest ≡ true → strip bar t.rest ≡ None →
@@ -381,7 +381,7 @@ reading_alternation : {d : ℕ} {p : OpenPart} {s t : State} {bs ps : List Tree}
 reading_alternation {t} {bs} {ps} h e f =
     let (b, x) = reading_branch h e in
     let (a, y) = h.all _ _ (last b f, x) in
-    (alternation a, ap (choice_noted (bs ++ joined ps ∷ []) (reach_of t.rest)) y)
+    (alternation a, ap (choice_recorded (bs ++ joined ps ∷ []) (reach_of t.rest)) y)
 
 -- the open part ends at t
 reading_end : {d : ℕ} {s t : State} {bs ps : List Tree} {l m : Log} (p : OpenPart) → ReadSoFar d p s l bs ps t m →
@@ -398,32 +398,32 @@ reading_end {d} {s} {t} {ps} {l} {m} (second a) h e f =
     subst (λ c. BranchTo d s (done (choice (c ++ joined ps ∷ [])) t) l (choice_closed c ps t m)) (sym (h.one refl).1)
     (reading_one h refl e)
 
-reading_branch_fault : {d q : ℕ} {p : OpenPart} {s t : State} {k : Kind} {bs ps : List Tree} {l m : Log}
+reading_branch_error : {d q : ℕ} {p : OpenPart} {s t : State} {k : Kind} {bs ps : List Tree} {l m : Log}
     (h : ReadSoFar d p s l bs ps t m) → ends t.rest ≡ false →
-    Piece d t (fault k q) → (n : Log) × BranchTo d h.begin (fault k q) h.before n
-reading_branch_fault {q} {k} {m} h e a =
-    let (p, x) = h.branch (fault k q) (piece_noted a m) (piece_fault e a, refl) in (_, (branch p, x))
+    Piece d t (failed k q) → (n : Log) × BranchTo d h.begin (failed k q) h.before n
+reading_branch_error {q} {k} {m} h e a =
+    let (p, x) = h.branch (failed k q) (piece_recorded a m) (piece_error e a, refl) in (_, (branch p, x))
 
-reading_fault : {d q : ℕ} {s t : State} {k : Kind} {bs ps : List Tree} {l m : Log} (p : OpenPart) →
+reading_error : {d q : ℕ} {s t : State} {k : Kind} {bs ps : List Tree} {l m : Log} (p : OpenPart) →
     ReadSoFar d p s l bs ps t m → ends t.rest ≡ false →
-    Piece d t (fault k q) → (n : Log) × Part p d s (fault k q) l n
-reading_fault {d} {q} {s} {k} {bs} {l} p h e a = by_part p h.one
+    Piece d t (failed k q) → (n : Log) × Part p d s (failed k q) l n
+reading_error {d} {q} {s} {k} {bs} {l} p h e a = by_part p h.one
   where
-    f : (n : Log) × BranchTo d h.begin (fault k q) h.before n
-    f = reading_branch_fault h e a
+    f : (n : Log) × BranchTo d h.begin (failed k q) h.before n
+    f = reading_branch_error h e a
 
-    several : (n : Log) × AlternationTo d s (fault k q) l n
-    several = let (b, x) = h.all (fault k q) f.0 (branch_fault f.1.0, f.1.1) in (_, (alternation b, x))
+    several : (n : Log) × AlternationTo d s (failed k q) l n
+    several = let (b, x) = h.all (failed k q) f.0 (branch_error f.1.0, f.1.1) in (_, (alternation b, x))
 
-    only : (h.begin ≡ s) × (bs ≡ []) × (h.before ≡ l) → (n : Log) × BranchTo d s (fault k q) l n
+    only : (h.begin ≡ s) × (bs ≡ []) × (h.before ≡ l) → (n : Log) × BranchTo d s (failed k q) l n
     only i = (
       f.0,
-      subst (λ l. BranchTo d s (fault k q) l f.0) i.2
-          (subst (λ (x : State). BranchTo d x (fault k q) h.before f.0) i.0 f.1),
+      subst (λ l. BranchTo d s (failed k q) l f.0) i.2
+          (subst (λ (x : State). BranchTo d x (failed k q) h.before f.0) i.0 f.1),
     )
 
     by_part : (p : OpenPart) → (holds_one p ≡ true → (h.begin ≡ s) × (bs ≡ []) × (h.before ≡ l)) →
-        (n : Log) × Part p d s (fault k q) l n
+        (n : Log) × Part p d s (failed k q) l n
     by_part top i = several
     by_part (group _ _) i = several
     by_part condition i = several
@@ -434,12 +434,12 @@ reading_fault {d} {q} {s} {k} {bs} {l} p h e a = by_part p h.one
 -- ---- the stack of open groups
 
 -- an error in the innermost part is the error of the whole text
-levels_fault : {start : State} {none : Log} {d p : ℕ} {s : State} {k : Kind} {fs : List Frame} {ts : List Tree}
+levels_error : {start : State} {none : Log} {d p : ℕ} {s : State} {k : Kind} {fs : List Frame} {ts : List Tree}
     {o : OpenPart} {l : Log} (n : Log) → OpenGroups start none fs ts o d s l →
-    Part o d s (fault k p) l n → Alternation 0 start (fault k p)
-levels_fault n outermost (r, x) = r
-levels_fault n (inner f e x l h i m j) r =
-    let (k, y) = reading_fault (part_of f.opener) h m (opens_fault n j r) in levels_fault k l y
+    Part o d s (failed k p) l n → Alternation 0 start (failed k p)
+levels_error n outermost (r, x) = r
+levels_error n (inner f e x l h i m j) r =
+    let (k, y) = reading_error (part_of f.open_group) h m (opens_error n j r) in levels_error k l y
 
 push-not_nil : {A : Type 0} (l : List A) (x : A) → [] ≡ l ++ x ∷ [] → ⊥
 push-not_nil [] x e = cc
@@ -465,18 +465,18 @@ record Outer (start : State) (none : Log) (gs : List Frame) (g : Frame) (ts : Li
   depth : ℕ
   begin : State
   before : Log
-  here : State
-  noted : Log
+  current : State
+  recorded : Log
   below : List Tree
   branches : List Tree
   pieces : List Tree
   deeper : d ≡ depth + 1
   holds : HoldsTrees g ts below branches pieces
-  levels : OpenGroups start none gs below (part_of g.opener) depth begin before
-  reading : ReadSoFar depth (part_of g.opener) begin before branches pieces here noted
-  began : Began g here
-  more : ends here.rest ≡ false
-  opens : OpensPart depth here noted o s l
+  levels : OpenGroups start none gs below (part_of g.open_group) depth begin before
+  reading : ReadSoFar depth (part_of g.open_group) begin before branches pieces current recorded
+  began : Began g current
+  more : ends current.rest ≡ false
+  opens : OpensPart depth current recorded o s l
 
 levels_pop : {start : State} {none : Log} (gs : List Frame) (g : Frame) {d : ℕ} {s : State} {fs : List Frame}
     {ts : List Tree} {o : OpenPart} {l : Log} → OpenGroups start none fs ts o d s l →
@@ -488,16 +488,16 @@ levels_pop {start} {none} gs g {ts} (inner {d} {s} {l = c} {t} {m} {frames} {bel
       depth = d;
       begin = s;
       before = c;
-      here = t;
-      noted = m;
+      current = t;
+      recorded = m;
       below = below;
       branches = branches;
       pieces = pieces;
       deeper = refl;
       holds = subst (λ (y : Frame). HoldsTrees y ts below branches pieces) p.1 x;
-      levels = subst (λ (y : Frame). OpenGroups start none gs below (part_of y.opener) d s c) p.1
-          (subst (λ y. OpenGroups start none y below (part_of f.opener) d s c) p.0 l);
-      reading = subst (λ (y : Frame). ReadSoFar d (part_of y.opener) s c branches pieces t m) p.1 h;
+      levels = subst (λ (y : Frame). OpenGroups start none gs below (part_of y.open_group) d s c) p.1
+          (subst (λ y. OpenGroups start none y below (part_of f.open_group) d s c) p.0 l);
+      reading = subst (λ (y : Frame). ReadSoFar d (part_of y.open_group) s c branches pieces t m) p.1 h;
       began = subst (λ (y : Frame). Began y t) p.1 a;
       more = w;
       opens = j;
@@ -512,7 +512,7 @@ holds_new g trees i j =
     let n = append-nil trees in (sym (append-nil (trees ++ []) ∙ n), i, j ∙ ap length (sym n))
 
 pub running_start : (start : State) (none : Log) (stack : List Frame) (f : Frame) (trees : List Tree) → stack ≡ [] →
-    trees ≡ [] → f.branches ≡ 0 → f.pieces ≡ 0 → part_of f.opener ≡ top → Running start none stack f trees start none
+    trees ≡ [] → f.branches ≡ 0 → f.pieces ≡ 0 → part_of f.open_group ≡ top → Running start none stack f trees start none
 running_start start none stack f trees e x i j k = record {
   depth = 0;
   begin = start;
@@ -543,13 +543,13 @@ running_began left flags h = record {
   reading = h.reading;
 }
 
-pub running_fault : {start t : State} {none l : Log} {stack : List Frame} {f : Frame} {trees : List Tree} {p : ℕ}
+pub running_error : {start t : State} {none l : Log} {stack : List Frame} {f : Frame} {trees : List Tree} {p : ℕ}
     {k : Kind} (h : Running start none stack f trees t l) → ends t.rest ≡ false →
-    Piece (length stack) t (fault k p) → Alternation 0 start (fault k p)
-running_fault {t} {f} {p} {k} h e a =
-    let (n, x) = reading_fault (part_of f.opener) h.reading e
-    (subst (λ d. Piece d t (fault k p)) (sym h.is_depth) a) in
-    levels_fault n h.levels x
+    Piece (length stack) t (failed k p) → Alternation 0 start (failed k p)
+running_error {t} {f} {p} {k} h e a =
+    let (n, x) = reading_error (part_of f.open_group) h.reading e
+    (subst (λ d. Piece d t (failed k p)) (sym h.is_depth) a) in
+    levels_error n h.levels x
 
 pub running_piece : {start t v : State} {none l m : Log} {stack : List Frame} {f : Frame} {trees : List Tree} {r : Tree}
     (all : List Tree) → Running start none stack f trees t l → ends t.rest ≡ false →
@@ -574,24 +574,24 @@ running_piece {t} {v} {l} {m} {r} all h e a i = record {
 
 -- a leaf that a look ahead reads
 pub running_leaf : {start t : State} {none l : Log} {stack : List Frame} {f : Frame} {trees : List Tree} {u : Text}
-    {r : Tree} (all : List Tree) → Running start none stack f trees t l → IsNotedPlain t r u →
+    {r : Tree} (all : List Tree) → Running start none stack f trees t l → IsRecordedPlain t r u →
     all ≡ trees ++ solid (r ∷ []) →
-    Running start none stack f all (at t u) (leaf_noted (reach_of t.rest) (reach_of u) l)
+    Running start none stack f all (at t u) (leaf_recorded (reach_of t.rest) (reach_of u) l)
 running_leaf {start} {t} {none} {l} {stack} {f} {u} {r} all h p e =
-    let m = leaf_noted (reach_of t.rest) (reach_of u) l in
+    let m = leaf_recorded (reach_of t.rest) (reach_of u) l in
     subst (Running start none stack f all (at t u)) (ap (λ b. if b then left_out m else m) p.solid)
     (running_piece all h p.more (p.piece _ l) e)
 
 -- a leaf after others, if it is no Empty
 pub added_leaf : (r : Tree) (a b x y : ℕ) (l : Log) → is_empty r ≡ false → a ≡ x → b ≡ y →
-    added r (leaf_noted a b l) ≡ leaf_noted x y l
+    added r (leaf_recorded a b l) ≡ leaf_recorded x y l
 added_leaf r a b x y l e i j = rw (i, j, e) refl
 
 -- a part is opened in the piece that began there
 running_open : {start t v : State} {none l m : Log} {stack : List Frame} {f : Frame} {trees : List Tree} {o : OpenPart}
     (all : List Frame) (g : Frame) → Running start none stack f trees t l →
     Began f t → ends t.rest ≡ false → OpensPart (length stack) t l o v m → all ≡ stack ++ f ∷ [] →
-    part_of g.opener ≡ o → g.branches ≡ length trees → g.pieces ≡ length trees → Running start none all g trees v m
+    part_of g.open_group ≡ o → g.branches ≡ length trees → g.pieces ≡ length trees → Running start none all g trees v m
 running_open {t} {v} {l = c} {m} {stack} {f} {trees} {o} all g h b e a i j k l = record {
   depth = h.depth + 1;
   begin = v;
@@ -610,9 +610,9 @@ running_open {t} {v} {l = c} {m} {stack} {f} {trees} {o} all g h b e a i j k l =
 pub running_step : {start t v : State} {none l : Log} {stack all : List Frame} {f g : Frame} {trees ts : List Tree}
     (m : Log) (made : Step) → Running start none stack f trees t l → Began f t → ends t.rest ≡ false →
     IsStep (length stack) t l made v m → Takes made stack f trees all g ts →
-    Running start none all g ts v (taken_noted made m)
+    Running start none all g ts v (taken_recorded made m)
 running_step {ts} m (step.Piece tree) h b e a i = rw (i.0, i.1) (running_piece ts h e a i.2)
-running_step {all} {g} m (step.Open opener) h b e a i =
+running_step {all} {g} m (step.Open open_group) h b e a i =
     rw i.1 (running_open all g h b e a i.0 (ap part_of i.2) i.3 i.4)
 
 -- after it, no more groups are open than allowed
@@ -620,13 +620,13 @@ pub step_below : (made : Step) (stack all : List Frame) (f g : Frame) (trees ts 
     OpensBelow made (length stack) → length stack < max_depth → Takes made stack f trees all g ts →
     length all < max_depth
 step_below (step.Piece tree) stack all f g trees ts b d i = rw i.0 d
-step_below (step.Open opener) stack all f g trees ts b d i =
+step_below (step.Open open_group) stack all f g trees ts b d i =
     omega (arith, b, ap length i.0, length_push stack f)
 
 -- if a group was closed, another may be opened
 pub opens_below : (d : ℕ) (made : Step) → d + 1 < max_depth → OpensBelow made d
 opens_below d (step.Piece tree) h = tt
-opens_below d (step.Open opener) h = h
+opens_below d (step.Open open_group) h = h
 
 -- after a bar, the second branch of an absent expression is open
 levels_bar : {d : ℕ} {start s t : State} {none l m : Log} {u : Text} {a : Tree} {fs : List Frame} {ts : List Tree} →
@@ -635,22 +635,22 @@ levels_bar : {d : ℕ} {start s t : State} {none l m : Log} {u : Text} {a : Tree
     OpenGroups start none fs ts (second a) d (at t u) (branch_begun (reach_of u) m)
 levels_bar {start} {t} {none} {u} {a} {fs} {ts} (inner {d} f i l h m j x y) (b, z) e =
     subst (λ m. OpenGroups start none fs ts (second a) (d + 1) (at t u) (branch_begun (reach_of u) m)) z
-    (inner f i l h m j x (behind_branch y b e))
+    (inner f i l h m j x (after_branch y b e))
 
 pub running_bar : {start t : State} {none l : Log} {u : Text} {stack : List Frame} {f : Frame} {trees : List Tree}
     (all : List Tree) (g : Frame) (h : Running start none stack f trees t l) → ends t.rest ≡ true →
-    strip bar t.rest ≡ Some u → is_second (part_of f.opener) ≡ false →
-    part_of g.opener ≡ opened_by_bar (part_of f.opener) (joined h.pieces) →
-    HoldsTrees g all h.below (branches_at_bar (part_of f.opener) h.branches (joined h.pieces)) [] →
+    strip bar t.rest ≡ Some u → is_second (part_of f.open_group) ≡ false →
+    part_of g.open_group ≡ opened_by_bar (part_of f.open_group) (joined h.pieces) →
+    HoldsTrees g all h.below (branches_at_bar (part_of f.open_group) h.branches (joined h.pieces)) [] →
     Running start none stack g all (at t u) (branch_begun (reach_of u) (branch_closed h.pieces t l))
 running_bar {start} {t} {none} {l = c} {u} {stack} {f} all g h e b x i j =
-    by_open (part_of f.opener) h.levels h.reading x i j
+    by_open (part_of f.open_group) h.levels h.reading x i j
   where
     n : Log
     n = branch_begun (reach_of u) (branch_closed h.pieces t c)
 
     ordinary : {p : OpenPart} → holds_one p ≡ false → OpenGroups start none stack h.below p h.depth h.begin h.before →
-        ReadSoFar h.depth p h.begin h.before h.branches h.pieces t c → part_of g.opener ≡ p →
+        ReadSoFar h.depth p h.begin h.before h.branches h.pieces t c → part_of g.open_group ≡ p →
         HoldsTrees g all h.below (h.branches ++ joined h.pieces ∷ []) [] → Running start none stack g all (at t u) n
     ordinary z l r i j = record {
       depth = h.depth;
@@ -667,7 +667,7 @@ running_bar {start} {t} {none} {l = c} {u} {stack} {f} all g h e b x i j =
 
     by_open : (p : OpenPart) → OpenGroups start none stack h.below p h.depth h.begin h.before →
         ReadSoFar h.depth p h.begin h.before h.branches h.pieces t c →
-        is_second p ≡ false → part_of g.opener ≡ opened_by_bar p (joined h.pieces) →
+        is_second p ≡ false → part_of g.open_group ≡ opened_by_bar p (joined h.pieces) →
         HoldsTrees g all h.below (branches_at_bar p h.branches (joined h.pieces)) [] →
         Running start none stack g all (at t u) n
     by_open top l r x i j = ordinary refl l r i j
@@ -697,43 +697,43 @@ closed_here r t c u e h n =
     by_bar : ends (c ∷ u) ≡ true → strip bar (c ∷ u) ≡ None → (c == code ")") ≡ true
     by_bar h n = grind (arith, nat_tests)
 
-    same : (b : Bool) → b ≡ true → (if b then done r (at t u) else faulted (bar_for_close_paren t.rest))
+    same : (b : Bool) → b ≡ true → (if b then done r (at t u) else failed_with (bar_for_close_paren t.rest))
         ≡ done r (at t u)
     same true i = refl
     same false i = absurd (true≢false (sym i))
 
 -- a character other than the closing parenthesis follows
 closed_other : (r : Tree) (t : State) (c : ℕ) (u : Text) → t.rest ≡ c ∷ u → c ≢ code ")" →
-    closed r t ≡ faulted (bar_for_close_paren t.rest)
+    closed r t ≡ failed_with (bar_for_close_paren t.rest)
 closed_other r t c u e h = ap (closed_at r t) e ∙ other (c == code ")") (search (tests, rules))
   where
-    other : (b : Bool) → b ≡ false → (if b then done r (at t u) else faulted (bar_for_close_paren t.rest))
-        ≡ faulted (bar_for_close_paren t.rest)
+    other : (b : Bool) → b ≡ false → (if b then done r (at t u) else failed_with (bar_for_close_paren t.rest))
+        ≡ failed_with (bar_for_close_paren t.rest)
     other true i = absurd (true≢false i)
     other false i = refl
 
 bar_does_not_close : bar ≢ code ")"
 bar_does_not_close e = omega (arith, e)
 
-second_fault : {d p : ℕ} {start s t : State} {none l m : Log} {k : Kind} {a r : Tree} {fs : List Frame}
+second_error : {d p : ℕ} {start s t : State} {none l m : Log} {k : Kind} {a r : Tree} {fs : List Frame}
     {ts : List Tree} → OpenGroups start none fs ts (second a) d s l → BranchTo d s (done r t) l m →
-    closed (expression a r) t ≡ fault k p → Alternation 0 start (fault k p)
-second_fault {t} {a} {r} (inner f i y l h m j x) b e =
-    let (n, z) = reading_fault (part_of f.opener) h j (ended_fault _ r t x b (λ _ z. absurd (true≢false z)) e) in
-    levels_fault n l z
+    closed (expression a r) t ≡ failed k p → Alternation 0 start (failed k p)
+second_error {t} {a} {r} (inner f i y l h m j x) b e =
+    let (n, z) = reading_error (part_of f.open_group) h j (ended_error _ r t x b (λ _ z. absurd (true≢false z)) e) in
+    levels_error n l z
 
-pub running_bar_fault : {start t : State} {none l : Log} {u : Text} {stack : List Frame} {f : Frame}
+pub running_bar_error : {start t : State} {none l : Log} {u : Text} {stack : List Frame} {f : Frame}
     {trees : List Tree} (o : Outcome Tree) → Running start none stack f trees t l →
-    ends t.rest ≡ true → strip bar t.rest ≡ Some u → IsFaultOfBar (part_of f.opener) t.rest o →
+    ends t.rest ≡ true → strip bar t.rest ≡ Some u → IsErrorOfBar (part_of f.open_group) t.rest o →
     Alternation 0 start o
-running_bar_fault {start} {t} {none} {l = c} {u} {stack} {f} o h e b x = by_open (part_of f.opener) h.levels h.reading x
+running_bar_error {start} {t} {none} {l = c} {u} {stack} {f} o h e b x = by_open (part_of f.open_group) h.levels h.reading x
   where
     by_open : (p : OpenPart) → OpenGroups start none stack h.below p h.depth h.begin h.before →
         ReadSoFar h.depth p h.begin h.before h.branches h.pieces t c →
-        IsFaultOfBar p t.rest o → Alternation 0 start o
+        IsErrorOfBar p t.rest o → Alternation 0 start o
     by_open (second a) l r x =
         subst (Alternation 0 start) (sym x)
-        (second_fault l (reading_one r refl e)
+        (second_error l (reading_one r refl e)
         (closed_other (expression a (joined h.pieces)) t bar u (strip_is bar t.rest u b)
         bar_does_not_close))
     by_open top l r x = absurd x
@@ -757,30 +757,30 @@ running_end {start} {t} {none} {l} r h e a i j =
 -- the context of the part that is to be closed
 pub record Closing (start : State) (none : Log) (stack : List Frame) (g : Frame) (trees : List Tree) (o : OpenPart)
     (r : Tree) (t : State) (n : Log) : Type 0 where
-  pub here : State
-  pub noted : Log
+  pub current : State
+  pub recorded : Log
   pub inside : State
   pub before : Log
-  pub outer : Running start none stack g trees here noted
-  pub began : Began g here
-  pub more : ends here.rest ≡ false
-  pub opens : OpensPart (length stack) here noted o inside before
+  pub outer : Running start none stack g trees current recorded
+  pub began : Began g current
+  pub more : ends current.rest ≡ false
+  pub opens : OpensPart (length stack) current recorded o inside before
   pub whole : Part o (length stack + 1) inside (done r t) before n
 
 pub running_closing : {start t : State} {none l : Log} {all : List Frame} {f : Frame} {trees : List Tree}
-    (stack : List Frame) (g : Frame) (below : List Tree) (r : Tree) (q : OpenPart) → q ≡ part_of f.opener →
+    (stack : List Frame) (g : Frame) (below : List Tree) (r : Tree) (q : OpenPart) → q ≡ part_of f.open_group →
     (h : Running start none all f trees t l) → ends t.rest ≡ true → strip bar t.rest ≡ None →
     r ≡ choice (h.branches ++ joined h.pieces ∷ []) → below ≡ h.below → all ≡ stack ++ g ∷ [] →
     Closing start none stack g below q r t (choice_closed h.branches h.pieces t l)
 running_closing {t} {l} {f} stack g below r q z h e a i k j =
     let o = levels_pop stack g h.levels j in
     let m : o.depth ≡ length stack = omega (arith, o.deeper, h.is_depth, ap length j, length_push stack g) in
-    let opens : OpensPart (length stack) o.here o.noted q h.begin h.before =
-    rw z (subst (λ d. OpensPart d o.here o.noted (part_of f.opener) h.begin h.before) m o.opens) in
+    let opens : OpensPart (length stack) o.current o.recorded q h.begin h.before =
+    rw z (subst (λ d. OpensPart d o.current o.recorded (part_of f.open_group) h.begin h.before) m o.opens) in
     let n = choice_closed h.branches h.pieces t l in
     record {
-      here = o.here;
-      noted = o.noted;
+      current = o.current;
+      recorded = o.recorded;
       inside = h.begin;
       before = h.before;
       outer = record {
@@ -798,7 +798,7 @@ running_closing {t} {l} {f} stack g below r q z h e a i k j =
       began = o.began;
       more = o.more;
       opens = opens;
-      whole = rw (z, i) (subst (λ d. Part (part_of f.opener) d h.begin
+      whole = rw (z, i) (subst (λ d. Part (part_of f.open_group) d h.begin
           (done (choice (h.branches ++ joined h.pieces ∷ [])) t) h.before n) (o.deeper ∙ ap (λ d. d + 1) m)
-          (reading_end (part_of f.opener) h.reading e a));
+          (reading_end (part_of f.open_group) h.reading e a));
     }

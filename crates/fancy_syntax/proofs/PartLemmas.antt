@@ -1,20 +1,20 @@
 -- The items of the nodes that have several children.
 use Rattle.std.proofs.Common.{◌≡◌, ◌+◌, ◌≤◌, ◌++◌, ◌||◌, List, Bool, arith, length, ap, sym, ◌∙◌, rules, Option, Box}
 use Rattle.std.proofs.Common.{Global, Result, append-nil, refl}
-use Rattle.fancy_lex.specs.declared.error.Failure.{Failure}
+use Rattle.fancy_lex.specs.declared.error.ReadError.{ReadError}
 use Rattle.fancy_parts.specs.Groups.{Groups}
 use Rattle.fancy_grammar.specs.Items.{Item, items, openings_in}
 use Rattle.fancy_grammar.specs.Tree.{conditional, expression}
-use Rattle.fancy_syntax.specs.Notes.{has_items, IsErrorNoted, Walks}
+use Rattle.fancy_syntax.specs.Records.{has_items, IsErrorRecorded, Walks}
 use Rattle.fancy_syntax.specs.View.{view, view_absent}
-use Rattle.fancy_grammar.specs.Walk.{Known, Progress, groups_after, progress_after, resolved_by}
+use Rattle.fancy_grammar.specs.Walk.{Resolver, Progress, groups_after, progress_after, resolved_by}
 use Rattle.fancy_syntax.specs.declared.expr.Absent.{Absent, Expression}
 use Rattle.fancy_syntax.specs.declared.expr.Expr.{Expr, Conditional, the_lemmas}
-use Rattle.fancy_syntax.specs.declared.resolve.notes.Progress as code
-use Rattle.fancy_syntax.specs.declared.resolve.notes.Stopped.{Stopped}
+use Rattle.fancy_syntax.specs.declared.resolve.records.Progress as code
+use Rattle.fancy_syntax.specs.declared.resolve.records.Stopped.{Stopped}
 use Rattle.fancy_grammar.proofs.ItemLemmas.{length_openings, counted}
 use Rattle.fancy_syntax.proofs.NoItems.{met_append}
-use Rattle.fancy_syntax.proofs.WalkLemmas.{found_le, noted_le, noted_passed, noted_append, error_kept, walk_ends}
+use Rattle.fancy_syntax.proofs.WalkLemmas.{found_le, recorded_le, recorded_passed, recorded_append, error_kept, walk_ends}
 
 -- the items are those of two trees, or of three
 pub record Two (l : List Item) (x y : Expr) : Type 0 where
@@ -39,9 +39,9 @@ three_parts {c} {t} {f} h i j k = record {
 }
 
 -- the same for boxes that are borrowed
-pub three_lent : {e : Expr} {c t f x y z : Box Expr Global} → e ≡ Conditional c t f → x ≡ c → y ≡ t → z ≡ f →
+pub three_borrowed : {e : Expr} {c t f x y z : Box Expr Global} → e ≡ Conditional c t f → x ≡ c → y ≡ t → z ≡ f →
     Three (items (view e)) x.value y.value z.value
-three_lent h i j k =
+three_borrowed h i j k =
     let value = λ (b : Box Expr Global). b.value in three_parts h (ap value i) (ap value j) (ap value k)
 
 pub two_parts : {e : Absent} {x y : Expr} {a b : Box Expr Global} → e ≡ Expression a b → x ≡ a.value → y ≡ b.value →
@@ -84,61 +84,61 @@ pub third_found : {l : List Item} {x y z : Expr} (named : Bool) (r s t : Groups)
     t.total + length (openings_in (items (view z))) ≤ r.total + length (openings_in l)
 third_found {x} {y} named r s t p e f = omega (arith, three_found named r s p e, found_le named s t (items (view y)) f)
 
-pub two_noted : {l : List Item} {x y : Expr} (k : Known) (r s : Progress) → Two l x y →
+pub two_recorded : {l : List Item} {x y : Expr} (k : Resolver) (r s : Progress) → Two l x y →
     s ≡ progress_after k r (items (view x)) →
     s.passed + length (openings_in (items (view y))) ≤ r.passed + length (openings_in l)
-two_noted {x} k r s p e = omega (arith, two_count p, noted_le k r s (items (view x)) e)
+two_recorded {x} k r s p e = omega (arith, two_count p, recorded_le k r s (items (view x)) e)
 
-pub three_noted : {l : List Item} {x y z : Expr} (k : Known) (r s : Progress) → Three l x y z →
+pub three_recorded : {l : List Item} {x y z : Expr} (k : Resolver) (r s : Progress) → Three l x y z →
     s ≡ progress_after k r (items (view x)) →
     s.passed + (length (openings_in (items (view y))) + length (openings_in (items (view z)))) ≤ r.passed + length
     (openings_in l)
-three_noted {x} k r s p e = omega (arith, three_count p, noted_le k r s (items (view x)) e)
+three_recorded {x} k r s p e = omega (arith, three_count p, recorded_le k r s (items (view x)) e)
 
-pub third_noted : {l : List Item} {x y z : Expr} (k : Known) (r s t : Progress) → Three l x y z →
+pub third_recorded : {l : List Item} {x y z : Expr} (k : Resolver) (r s t : Progress) → Three l x y z →
     s ≡ progress_after k r (items (view x)) →
     t ≡ progress_after k s (items (view y)) →
     t.passed + length (openings_in (items (view z))) ≤ r.passed + length (openings_in l)
-third_noted {x} {y} k r s t p e f = omega (arith, three_noted k r s p e, noted_le k s t (items (view y)) f)
+third_recorded {x} {y} k r s t p e f = omega (arith, three_recorded k r s p e, recorded_le k s t (items (view y)) f)
 
 -- the error of a walk over one of the parts is that of the walk over all
 
-pub three_error : {l : List Item} {x y z : Expr} (k : Known) (r : Progress) (e : Option Failure) → Three l x y z →
-    IsErrorNoted e (progress_after k r (items (view x))).fault → IsErrorNoted e (progress_after k r l).fault
+pub three_error : {l : List Item} {x y z : Expr} (k : Resolver) (r : Progress) (e : Option ReadError) → Three l x y z →
+    IsErrorRecorded e (progress_after k r (items (view x))).error → IsErrorRecorded e (progress_after k r l).error
 three_error {x} k r e p h = rw p.is (error_kept k r e (items (view x)) _ h)
 
-pub third_error : {l : List Item} {x y z : Expr} (k : Known) (r s : Progress) (e : Option Failure) → Three l x y z →
-    s ≡ progress_after k r (items (view x)) → IsErrorNoted e (progress_after k s (items (view y))).fault →
-    IsErrorNoted e (progress_after k r l).fault
+pub third_error : {l : List Item} {x y z : Expr} (k : Resolver) (r s : Progress) (e : Option ReadError) → Three l x y z →
+    s ≡ progress_after k r (items (view x)) → IsErrorRecorded e (progress_after k s (items (view y))).error →
+    IsErrorRecorded e (progress_after k r l).error
 third_error {x} {y} {z} k r s e p f h =
-    rw (p.is, noted_append k r (items (view x)) _, ← f) (error_kept k s e (items (view y)) (items (view z)) h)
+    rw (p.is, recorded_append k r (items (view x)) _, ← f) (error_kept k s e (items (view y)) (items (view z)) h)
 
 -- a walk that resolves the last part, after the groups of the parts before it, ends a walk that resolves all
 
-pub two_resolved : {A : Type 0} {e : Absent} {a b : Box Expr Global} (k : Known) (r s : Progress) (o : Result A Stopped)
+pub two_resolved : {A : Type 0} {e : Absent} {a b : Box Expr Global} (k : Resolver) (r s : Progress) (o : Result A Stopped)
     (after : code.Progress) (x y : Box Expr Global) → e ≡ Expression a b →
     s ≡ progress_after k r (items (view a.value)) → view x.value ≡ resolved_by k r.passed (view a.value) →
     Walks o k s (items (view b.value)) after (λ _. view y.value ≡ resolved_by k s.passed (view b.value)) →
     Walks o k r (items (view_absent e)) after
     (λ _. view_absent (Expression x y) ≡ resolved_by k r.passed (view_absent e))
 two_resolved {a} {b} k r s o after x y h f first w =
-    let one = noted_passed k r s (items (view a.value)) f in
+    let one = recorded_passed k r s (items (view a.value)) f in
     let parts = two_parts h refl refl in
     walk_ends o k r s _ (items (view a.value)) (items (view b.value)) after _ _ parts.is f
     (λ _ second. view_expression x y
     ∙ (λ n. expression (first n) ((second ∙ ap (λ c. resolved_by k c (view b.value)) one) n))
     ∙ sym (ap (resolved_by k r.passed) (ap view_absent h ∙ view_expression a b))) w
 
-pub three_resolved : {A : Type 0} {e : Expr} {c t f u v w : Box Expr Global} (k : Known) (p q s : Progress)
+pub three_resolved : {A : Type 0} {e : Expr} {c t f u v w : Box Expr Global} (k : Resolver) (p q s : Progress)
     (o : Result A Stopped) (after : code.Progress) (x y z : Box Expr Global) → e ≡ Conditional c t f → u ≡ c → v ≡ t →
     w ≡ f → q ≡ progress_after k p (items (view u.value)) → s ≡ progress_after k q (items (view v.value)) →
     view x.value ≡ resolved_by k p.passed (view u.value) → view y.value ≡ resolved_by k q.passed (view v.value) →
     Walks o k s (items (view w.value)) after (λ _. view z.value ≡ resolved_by k s.passed (view w.value)) →
     Walks o k p (items (view e)) after (λ _. view (Conditional x y z) ≡ resolved_by k p.passed (view e))
 three_resolved {u} {v} {w} k p q s o after x y z h i j l a b first second rest =
-    let one = noted_passed k p q (items (view u.value)) a in
-    let two = noted_passed k q s (items (view v.value)) b ∙ ap (λ c. c + counted k.named (items (view v.value))) one in
-    let parts = three_lent h i j l in
+    let one = recorded_passed k p q (items (view u.value)) a in
+    let two = recorded_passed k q s (items (view v.value)) b ∙ ap (λ c. c + counted k.named (items (view v.value))) one in
+    let parts = three_borrowed h i j l in
     let same = h ∙ (λ n. Conditional (sym i n) (sym j n) (sym l n)) in
     walk_ends o k p q _ (items (view u.value)) (items (view v.value) ++ items (view w.value)) after _ _ parts.is a
     (λ _ third. view_conditional x y z

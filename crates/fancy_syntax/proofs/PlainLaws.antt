@@ -7,7 +7,7 @@ use Rattle.fancy_lex.specs.Escaped as escaped
 use Rattle.fancy_lex.specs.LayoutSteps.{is_layout}
 use Rattle.fancy_lex.specs.Reading.{gives}
 use Rattle.fancy_lex.specs.Text.{Text, bytes, reach_of}
-use Rattle.fancy_grammar.specs.Ahead.{leaf_node}
+use Rattle.fancy_grammar.specs.AtomStart.{leaf_node}
 use Rattle.fancy_grammar.specs.Grammar.{atom, a_read}
 use Rattle.fancy_grammar.specs.Join.{is_empty}
 use Rattle.fancy_grammar.specs.Plain.{is_special, is_suffix}
@@ -18,50 +18,50 @@ use Rattle.fancy_grammar.specs.Tree.{Tree, literal}
 use Rattle.fancy_grammar.proofs.PlainLemmas.{unmoved, not_open, not_paren, no_layout, no_end, is_leaf, no_counts}
 use Rattle.fancy_grammar.proofs.PlainLemmas.{no_quant, no_layout_at_end, no_counts_at_end, no_quant_at_end, unquantified}
 use Rattle.fancy_grammar.proofs.PlainLemmas.{backslash_no_layout, is_escape}
-use Rattle.fancy_syntax.specs.Log.{Log, leaf_noted}
-use Rattle.fancy_syntax.specs.Machine.{IsNotedPlain}
-use Rattle.fancy_syntax.specs.Noting.{quant_noted, adjacent_noted, quants_noted}
+use Rattle.fancy_syntax.specs.Log.{Log, leaf_recorded}
+use Rattle.fancy_syntax.specs.Machine.{IsRecordedPlain}
+use Rattle.fancy_syntax.specs.Recording.{quant_recorded, adjacent_recorded, quants_recorded}
 use Rattle.fancy_syntax.proofs.MachineLemmas.{piece_to}
-use Rattle.fancy_syntax.proofs.NotingLemmas.{noted_ends}
+use Rattle.fancy_syntax.proofs.RecordingLemmas.{recorded_ends}
 
 -- if no quantifier follows, none is recorded
-none_noted : (left : ℕ) (a : Tree) (s : State) (l : Log) → ((k : ℕ) → quant k a s ≡ done a s) →
-    quant_noted a s l ≡ l → quants_noted left (done a s) l ≡ l
-none_noted left a s l e h =
-    ap (λ o. if_done o (λ b t. if t.flags.oniguruma_mode then adjacent_noted max_adjacent b t m else m) m) (e left)
-    ∙ either s.flags.oniguruma_mode (noted_ends max_adjacent a s m (e (bytes s.rest)) (unmoved s) ∙ ap (quant_noted a s) h ∙ h) h
+none_recorded : (left : ℕ) (a : Tree) (s : State) (l : Log) → ((k : ℕ) → quant k a s ≡ done a s) →
+    quant_recorded a s l ≡ l → quants_recorded left (done a s) l ≡ l
+none_recorded left a s l e h =
+    ap (λ o. if_done o (λ b t. if t.flags.oniguruma_mode then adjacent_recorded max_adjacent b t m else m) m) (e left)
+    ∙ either s.flags.oniguruma_mode (recorded_ends max_adjacent a s m (e (bytes s.rest)) (unmoved s) ∙ ap (quant_recorded a s) h ∙ h) h
   where
     m : Log
-    m = quant_noted a s l
+    m = quant_recorded a s l
 
     either : (b : Bool) {n k : Log} → n ≡ l → k ≡ l → (if b then n else k) ≡ l
     either true i j = i
     either false i j = j
 
-pub unquantified_noted_at_end : (s : State) (left : ℕ) (a : Tree) (l : Log) → s.rest ≡ [] →
-    quants_noted left (done a s) l ≡ l
-unquantified_noted_at_end s left a l e =
-    subst (λ t. quants_noted left (done a (at s t)) l ≡ l) (sym e)
-    (none_noted left a (at s []) l (λ k. no_quant_at_end k a s)
+pub unquantified_recorded_at_end : (s : State) (left : ℕ) (a : Tree) (l : Log) → s.rest ≡ [] →
+    quants_recorded left (done a s) l ≡ l
+unquantified_recorded_at_end s left a l e =
+    subst (λ t. quants_recorded left (done a (at s t)) l ≡ l) (sym e)
+    (none_recorded left a (at s []) l (λ k. no_quant_at_end k a s)
     (rw (no_layout_at_end s.flags.ignore_space, no_counts_at_end s.flags.ignore_space) refl))
 
-pub unquantified_noted : (s : State) (c : ℕ) (t : Text) (left : ℕ) (a : Tree) (l : Log) → s.rest ≡ c ∷ t →
-    is_layout s.flags.ignore_space c ≡ false → is_suffix c ≡ false → quants_noted left (done a s) l ≡ l
-unquantified_noted s c t left a l e x h =
-    subst (λ u. quants_noted left (done a (at s u)) l ≡ l) (sym e)
-    (none_noted left a (at s (c ∷ t)) l (λ k. no_quant k c a s t x h)
+pub unquantified_recorded : (s : State) (c : ℕ) (t : Text) (left : ℕ) (a : Tree) (l : Log) → s.rest ≡ c ∷ t →
+    is_layout s.flags.ignore_space c ≡ false → is_suffix c ≡ false → quants_recorded left (done a s) l ≡ l
+unquantified_recorded s c t left a l e x h =
+    subst (λ u. quants_recorded left (done a (at s u)) l ≡ l) (sym e)
+    (none_recorded left a (at s (c ∷ t)) l (λ k. no_quant k c a s t x h)
     (rw (no_layout c s.flags.ignore_space t (not_paren c h) x, no_counts c s.flags.ignore_space t h) refl))
 
-pub is_noted_plain : (s : State) (c d : ℕ) (t u : Text) → is_layout s.flags.ignore_space c ≡ false →
+pub is_recorded_plain : (s : State) (c d : ℕ) (t u : Text) → is_layout s.flags.ignore_space c ≡ false →
     is_layout s.flags.ignore_space d ≡ false →
     s.rest ≡ c ∷ t → t ≡ d ∷ u → is_special c ≡ false → is_suffix d ≡ false →
-    IsNotedPlain s (literal (c ∷ []) s.flags.casei) t
-is_noted_plain s c d t u x y e f h k = record {
+    IsRecordedPlain s (literal (c ∷ []) s.flags.casei) t
+is_recorded_plain s c d t u x y e f h k = record {
   more = ap ends e ∙ no_end c t h;
   piece = λ b l.
       piece_to (rw e (no_layout c s.flags.ignore_space t (not_open c h) x))
       (atom (is_leaf b c s t h) a_read, refl) (unquantified (at s t) d u b _ _ f y k)
-      (unquantified_noted (at s t) d u _ _ _ f y k ∙ ap (λ z. leaf_noted (reach_of z) (reach_of t) l) (sym e));
+      (unquantified_recorded (at s t) d u _ _ _ f y k ∙ ap (λ z. leaf_recorded (reach_of z) (reach_of t) l) (sym e));
   solid = refl;
 }
 
@@ -77,15 +77,15 @@ leaf_is_solid (escaped.delegate t casei) = refl
 leaf_is_solid (escaped.backref r casei) = refl
 leaf_is_solid (escaped.subroutine_call c) = refl
 
-pub is_noted_escape : (s : State) (t u : Text) (e : Escape) → s.rest ≡ backslash ∷ t →
+pub is_recorded_escape : (s : State) (t u : Text) (e : Escape) → s.rest ≡ backslash ∷ t →
     escape s.flags false t ≡ gives e u →
     ((d left : ℕ) (a : Tree) → quants d left a (at s u) ≡ done a (at s u)) →
-    ((left : ℕ) (a : Tree) (l : Log) → quants_noted left (done a (at s u)) l ≡ l) → IsNotedPlain s (leaf_node e) u
-is_noted_escape s t u e i h q n = record {
+    ((left : ℕ) (a : Tree) (l : Log) → quants_recorded left (done a (at s u)) l ≡ l) → IsRecordedPlain s (leaf_node e) u
+is_recorded_escape s t u e i h q n = record {
   more = ap ends i;
   piece = λ b l. piece_to (rw i (no_layout backslash s.flags.ignore_space t refl
       (backslash_no_layout s.flags.ignore_space)))
       (atom (is_escape b s t u e h) a_read, refl) (q b _ _)
-      (n _ _ _ ∙ ap (λ z. leaf_noted (reach_of z) (reach_of u) l) (sym i));
+      (n _ _ _ ∙ ap (λ z. leaf_recorded (reach_of z) (reach_of u) l) (sym i));
   solid = leaf_is_solid e;
 }

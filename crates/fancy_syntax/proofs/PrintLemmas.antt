@@ -9,10 +9,10 @@ use Rattle.std.proofs.lemmas.Str.{encodes-chars, encodes-append, IsUtf8-string_b
 use Rattle.std.proofs.lemmas.Bool.Decides.{nat_tests}
 use Rattle.std.proofs.lemmas.List.{drop_all}
 use Rattle.fancy_lex.specs.Text.{Text, text_of, bytes}
-use Rattle.fancy_parts.specs.Room.{HasRoom, Appended}
+use Rattle.fancy_parts.specs.Capacity.{HasCapacity, Appended}
 use Rattle.fancy_lex.proofs.TextLemmas.{bytes-append, bytes_chars}
-use Rattle.fancy_parts.proofs.RoomLemmas.{bytes-cons, bytes-nil, room_front, then_written, written_three}
-use Rattle.fancy_parts.proofs.RoomLemmas.{nothing_written}
+use Rattle.fancy_parts.proofs.CapacityLemmas.{bytes-cons, bytes-nil, capacity_front, then_written, written_three}
+use Rattle.fancy_parts.proofs.CapacityLemmas.{nothing_written}
 use Rattle.fancy_grammar.specs.Tree.{Tree, Trees, no_trees, more_trees, literal, trees_of}
 use Rattle.fancy_grammar.specs.Printed.{grouped, caseless, is_long, printed, operand_text, printed_all}
 use Rattle.fancy_grammar.specs.Printed.{printed_branches}
@@ -191,12 +191,12 @@ there_is (e ∷ es) zero h = (e, refl)
 there_is (e ∷ es) (suc i) h = there_is es i (omega arith)
 
 -- capacity for the branches from i on is capacity for the bar
-pub bar_room : (b : String Global) (es : List Expr) (i : ℕ) → i < length es → HasRoom b (branches es i) →
-    HasRoom b (asked (nat_lt 0 i) (codes "|"))
-bar_room b es i h room =
+pub bar_capacity : (b : String Global) (es : List Expr) (i : ℕ) → i < length es → HasCapacity b (branches es i) →
+    HasCapacity b (asked (nat_lt 0 i) (codes "|"))
+bar_capacity b es i h reserved =
     let (e, is) = there_is es i h in
-    room_front b (asked (nat_lt 0 i) (codes "|")) (printed (view e) 1 ++ branches es (i + 1))
-    (subst (λ t. HasRoom b t) (branches_step es i e h is) room)
+    capacity_front b (asked (nat_lt 0 i) (codes "|")) (printed (view e) 1 ++ branches es (i + 1))
+    (subst (λ t. HasCapacity b t) (branches_step es i e h is) reserved)
 
 pub branches_end : (es : List Expr) (i : ℕ) → length es ≤ i → branches es i ≡ []
 branches_end es zero h = ap printed_branches (left_end es zero h)

@@ -11,18 +11,18 @@ pub mod Writes
 -- ---- reading: the grammar, the groups that references refer to, and the results
 pub use Rattle.fancy_grammar.specs.Depth
 pub use Rattle.fancy_grammar.specs.State
-pub use Rattle.fancy_grammar.specs.Head
+pub use Rattle.fancy_grammar.specs.GroupKind
 pub use Rattle.fancy_grammar.specs.Verb
-pub use Rattle.fancy_grammar.specs.Ahead
+pub use Rattle.fancy_grammar.specs.AtomStart
 pub use Rattle.fancy_grammar.specs.Join
 pub use Rattle.fancy_grammar.specs.Quantified
 pub use Rattle.fancy_grammar.specs.Grammar
 pub use Rattle.fancy_grammar.specs.Items
 pub use Rattle.fancy_grammar.specs.Resolved
-pub use Rattle.fancy_grammar.specs.Marks
-pub mod Answer
+pub use Rattle.fancy_grammar.specs.GroupInfo
+pub mod InfoViews
 pub use Rattle.fancy_grammar.specs.Preorder
-pub use Rattle.fancy_grammar.specs.Answered
+pub use Rattle.fancy_grammar.specs.ParsedTree
 -- ---- the positions of the nodes
 pub use Rattle.fancy_grammar.specs.Spans
 pub mod SpanViews
@@ -39,10 +39,10 @@ pub use Rattle.fancy_grammar.specs.ReadBack
 pub mod Reads
 pub mod Parsed
 pub mod Machine
-pub mod Room
+pub mod StackCapacity
 pub mod Log
 pub mod LogViews
-pub mod Noting
-pub mod NotedWhole
+pub mod Recording
+pub mod RecordedWhole
 -- ---- the resolver's walks
-pub mod Notes
+pub mod Records

@@ -6,26 +6,26 @@ use Rattle.std.specs.List.{slice_get, slice_index_or}
 use Rattle.fancy_lex.specs.Text.{reach_of}
 use Rattle.fancy_grammar.specs.Spans.{Span, condition_span}
 use Rattle.fancy_grammar.specs.State.{State}
-use Rattle.fancy_syntax.specs.declared.grammar.noted.FirstBar.{FirstBar}
-use Rattle.fancy_syntax.specs.declared.grammar.noted.Last.{Last}
-use Rattle.fancy_syntax.specs.declared.grammar.noted.Noted.{Noted}
-use Rattle.fancy_syntax.specs.declared.grammar.noted.Open.{Open}
+use Rattle.fancy_syntax.specs.declared.grammar.recorded.FirstBar.{FirstBar}
+use Rattle.fancy_syntax.specs.declared.grammar.recorded.Last.{Last}
+use Rattle.fancy_syntax.specs.declared.grammar.recorded.RecordedNode.{RecordedNode}
+use Rattle.fancy_syntax.specs.declared.grammar.recorded.Open.{Open}
 
 -- the nodes that have been read, each tree in preorder; the open atoms, with the innermost one separate; the last piece
 pub record Log : Type 0 where
-  pub noted : List Noted
+  pub recorded : List RecordedNode
   pub around : List Open
   pub open_atom : Open
   pub last : Last
 
 -- a node that is neither a group without a name nor an Alt that the grammar reads
-abbrev pub plain : ℕ → ℕ → Noted
+abbrev pub plain : ℕ → ℕ → RecordedNode
 plain start end = record { start = start; end = end; unnamed = false; bar = None }
 
 -- the log before anything is read of a text that begins at the reach
 abbrev pub started : ℕ → Log
 started start = record {
-  noted = [];
+  recorded = [];
   around = [];
   open_atom = record {
     start = start;
@@ -40,28 +40,28 @@ started start = record {
 }
 
 -- the span of the node, in reaches
-abbrev pub reaches : Noted → Span
+abbrev pub reaches : RecordedNode → Span
 reaches x = record { start = x.start; end = x.end }
 
 -- the reaches of the nodes of the parsed tree; if only named groups have a number, the other groups have no node
-abbrev pub shown : Bool → List Noted → List Span
+abbrev pub shown : Bool → List RecordedNode → List Span
 shown named [] = []
 shown named (x ∷ xs) = if named && x.unnamed then shown named xs else reaches x ∷ shown named xs
 
 -- a node inserted after that many others, or after all if there are fewer
-abbrev pub put : ℕ → Noted → Log → Log
-put height x l = record l { noted = insert l.noted (min height (length l.noted)) x }
+abbrev pub put : ℕ → RecordedNode → Log → Log
+put height x l = record l { recorded = insert l.recorded (min height (length l.recorded)) x }
 
 -- ---- leaves and quantifiers
 
-abbrev pub leaf_noted : ℕ → ℕ → Log → Log
-leaf_noted start end l = record l {
-  noted = l.noted ++ plain start end ∷ [];
-  last = record { start = start; height = length l.noted };
+abbrev pub leaf_recorded : ℕ → ℕ → Log → Log
+leaf_recorded start end l = record l {
+  recorded = l.recorded ++ plain start end ∷ [];
+  last = record { start = start; height = length l.recorded };
 }
 
 abbrev pub left_out : Log → Log
-left_out l = record l { noted = take l.last.height l.noted }
+left_out l = record l { recorded = take l.last.height l.recorded }
 
 -- the last piece in a node that ends at the reach
 abbrev pub under_node : ℕ → Log → Log
@@ -78,10 +78,10 @@ part_begun start l = record l {
     start = l.open_atom.start;
     height = l.open_atom.height;
     part = start;
-    branches = length l.noted;
+    branches = length l.recorded;
     bar = None;
     branch = start;
-    pieces = length l.noted;
+    pieces = length l.recorded;
   };
 }
 
@@ -90,7 +90,7 @@ atom_opened start l = record l {
   around = l.around ++ l.open_atom ∷ [];
   open_atom = record {
     start = start;
-    height = length l.noted;
+    height = length l.recorded;
     part = l.open_atom.part;
     branches = l.open_atom.branches;
     bar = l.open_atom.bar;
@@ -107,14 +107,14 @@ opened start inside l = part_begun inside (atom_opened start l)
 abbrev pub body_opened : State → State → Log → Log
 body_opened s t l =
     let p = condition_span s t in
-    part_begun (reach_of t.rest) (leaf_noted p.start p.end (opened (reach_of s.rest) (reach_of t.rest) l))
+    part_begun (reach_of t.rest) (leaf_recorded p.start p.end (opened (reach_of s.rest) (reach_of t.rest) l))
 
 -- the open atom becomes the last piece, and the atom around it is the open one
 abbrev pub atom_ended : Log → Log
 atom_ended l =
     let outer = length l.around - 1 in
     record {
-      noted = l.noted;
+      recorded = l.recorded;
       around = take outer l.around;
       open_atom = slice_index_or l.around outer l.open_atom;
       last = record { start = l.open_atom.start; height = l.open_atom.height };
@@ -129,7 +129,7 @@ atom_closed end unnamed l = atom_ended
 -- the first bar of a part: the earlier one if there is one; else this bar, after which a branch begins at the reach,
 -- and before which the branch has that many nodes
 abbrev pub first_bar : Option FirstBar → ℕ → ℕ → FirstBar
-first_bar None start nodes = record { behind = start; nodes = nodes }
+first_bar None start nodes = record { past = start; nodes = nodes }
 first_bar (Some b) start nodes = b
 
 abbrev pub branch_begun : ℕ → Log → Log
@@ -139,9 +139,9 @@ branch_begun start l = record l {
     height = l.open_atom.height;
     part = l.open_atom.part;
     branches = l.open_atom.branches;
-    bar = Some (first_bar l.open_atom.bar start (length l.noted - l.open_atom.branches));
+    bar = Some (first_bar l.open_atom.bar start (length l.recorded - l.open_atom.branches));
     branch = start;
-    pieces = length l.noted;
+    pieces = length l.recorded;
   };
 }
 
@@ -156,21 +156,21 @@ choice_ended end l = put l.open_atom.branches
 -- ---- the body of a conditional
 
 -- for an Alt of that many branches, which was removed: if several follow its first bar, an Alt of these is inserted
-abbrev pub others_put : ℕ → Noted → Option FirstBar → Log → Log
+abbrev pub others_put : ℕ → RecordedNode → Option FirstBar → Log → Log
 others_put branches alt None l = l
 others_put branches alt (Some b) l =
-    if nat_lt branches 3 then l else put (l.open_atom.branches + b.nodes) (plain b.behind alt.end) l
+    if nat_lt branches 3 then l else put (l.open_atom.branches + b.nodes) (plain b.past alt.end) l
 
-abbrev pub alt_split : ℕ → Option Noted → Log → Log
+abbrev pub alt_split : ℕ → Option RecordedNode → Log → Log
 alt_split branches None l = l
 alt_split branches (Some alt) l =
-    others_put branches alt alt.bar (record l { noted = remove l.noted l.open_atom.branches })
+    others_put branches alt alt.bar (record l { recorded = remove l.recorded l.open_atom.branches })
 
 abbrev pub body_split : ℕ → Log → Log
-body_split branches l = alt_split branches (slice_get l.noted l.open_atom.branches) l
+body_split branches l = alt_split branches (slice_get l.recorded l.open_atom.branches) l
 
 abbrev pub branch_lacked : ℕ → Log → Log
-branch_lacked end l = record l { noted = l.noted ++ plain end end ∷ [] }
+branch_lacked end l = record l { recorded = l.recorded ++ plain end end ∷ [] }
 
 abbrev pub part_dropped : Log → Log
-part_dropped l = record l { noted = take l.open_atom.branches l.noted }
+part_dropped l = record l { recorded = take l.open_atom.branches l.recorded }

@@ -6,8 +6,8 @@ use Rattle.fancy_syntax.specs.Log.{Log, shown}
 use Rattle.fancy_syntax.specs.declared.grammar.spans.Spans.{Spans}
 
 abbrev pub log_of : Spans → Log
-log_of s = record { noted = s.noted.items; around = s.around.items; open_atom = s.open; last = s.last }
+log_of s = record { recorded = s.recorded.items; around = s.around.items; open_atom = s.open; last = s.last }
 
 -- the spans that are returned for the log; with `named`, only named groups have a number
-abbrev pub answered_spans : Text → Bool → Log → List spec.Span
-answered_spans text named l = map (spec.placed (bytes text)) (shown named l.noted)
+abbrev pub returned_spans : Text → Bool → Log → List spec.Span
+returned_spans text named l = map (spec.positioned (bytes text)) (shown named l.recorded)

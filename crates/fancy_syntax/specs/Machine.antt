@@ -2,31 +2,31 @@
 use Rattle.std.specs.Prelude.{◌≡◌, ℕ, ◌+◌, ◌<◌, ◌==◌, ◌&&◌, not, if◌then◌else◌, Bool, true, false, List, []}
 use Rattle.std.specs.Prelude.{◌∷◌, ◌++◌, length, Some, Result, MatchResult, ⊤}
 use Rattle.fancy_lex.specs.Characters.{bar}
-use Rattle.fancy_lex.specs.FaultTable.{bar_for_close_paren, body_wanting}
+use Rattle.fancy_lex.specs.ErrorTable.{bar_for_close_paren, body_missing}
 use Rattle.fancy_lex.specs.LayoutSteps.{rest}
 use Rattle.fancy_lex.specs.Text.{Text, bytes, reach_of, strip}
-use Rattle.fancy_lex.specs.declared.error.Failure.{Failure}
+use Rattle.fancy_lex.specs.declared.error.ReadError.{ReadError}
 use Rattle.fancy_lex.specs.declared.flags.Flags.{Flags}
-use Rattle.fancy_grammar.specs.Ahead.{ahead}
+use Rattle.fancy_grammar.specs.AtomStart.{atom_start}
 use Rattle.fancy_grammar.specs.Depth.{max_depth}
-use Rattle.fancy_grammar.specs.Ahead as seen
+use Rattle.fancy_grammar.specs.AtomStart as seen
 use Rattle.fancy_grammar.specs.Grammar.{Branch, Piece, Inside, closed, is_condition}
 use Rattle.fancy_grammar.specs.Grammar.{branches_of, conditional_of, clear_or_stopper}
-use Rattle.fancy_grammar.specs.Head.{Head, group_node}
+use Rattle.fancy_grammar.specs.GroupKind.{GroupKind, group_node}
 use Rattle.fancy_grammar.specs.Join.{solid, is_empty}
 use Rattle.fancy_grammar.specs.Slices.{Slice}
 use Rattle.fancy_grammar.specs.Spans.{if_done}
-use Rattle.fancy_syntax.specs.Log.{Log, leaf_noted, opened, body_opened, part_begun, branch_begun, atom_closed}
-use Rattle.fancy_syntax.specs.Noting.{PieceTo, PiecesTo, BranchTo, BranchesTo, AlternationTo, inside_noted, branch_noted}
-use Rattle.fancy_syntax.specs.Noting.{group_noted, conditional_noted, stopper_noted, quants_noted, added}
-use Rattle.fancy_syntax.specs.Parsed.{head_of, state}
+use Rattle.fancy_syntax.specs.Log.{Log, leaf_recorded, opened, body_opened, part_begun, branch_begun, atom_closed}
+use Rattle.fancy_syntax.specs.Recording.{PieceTo, PiecesTo, BranchTo, BranchesTo, AlternationTo, inside_recorded, branch_recorded}
+use Rattle.fancy_syntax.specs.Recording.{group_recorded, conditional_recorded, stopper_recorded, quants_recorded, added}
+use Rattle.fancy_syntax.specs.Parsed.{group_kind, state}
 use Rattle.fancy_grammar.specs.Errors.{IsErrorAmong}
-use Rattle.fancy_grammar.specs.State.{ends, skipped, State, at, Outcome, done, faulted, seen_through}
+use Rattle.fancy_grammar.specs.State.{ends, skipped, State, at, Outcome, done, failed_with, seen_through}
 use Rattle.fancy_grammar.specs.Tree.{Tree, expression}
 use Rattle.fancy_syntax.specs.View.{view, views}
 use Rattle.fancy_syntax.specs.declared.grammar.frame.Frame.{Frame}
-use Rattle.fancy_syntax.specs.declared.grammar.frame.Opener.{Opener}
-use Rattle.fancy_syntax.specs.declared.grammar.frame.Opener.TheVariants as opener
+use Rattle.fancy_syntax.specs.declared.grammar.frame.OpenGroup.{OpenGroup}
+use Rattle.fancy_syntax.specs.declared.grammar.frame.OpenGroup.TheVariants as open_group
 use Rattle.fancy_syntax.specs.declared.grammar.parser.Parser.{Parser}
 use Rattle.fancy_syntax.specs.declared.grammar.step.Step.{Step}
 use Rattle.fancy_syntax.specs.declared.grammar.step.Step.TheVariants as step
@@ -34,19 +34,19 @@ use Rattle.fancy_syntax.specs.declared.grammar.step.Step.TheVariants as step
 -- an open part
 pub data OpenPart : Type 0 where
   top : OpenPart  -- the whole text
-  group : Head → ℕ → OpenPart  -- a group that opens at the reach
+  group : GroupKind → ℕ → OpenPart  -- a group that opens at the reach
   condition : OpenPart  -- the condition of a conditional
   body : Tree → ℕ → OpenPart  -- the body of a conditional with this condition; that many bytes were left at its start
   first : OpenPart  -- the branch after `(?~|`
   second : Tree → OpenPart  -- the branch after that branch and a bar
 
-abbrev pub part_of : Opener → OpenPart
-part_of opener.Top = top
-part_of (opener.Group head reach) = group (head_of head) reach
-part_of opener.Condition = condition
-part_of (opener.Body c left) = body (view c.value) left
-part_of opener.First = first
-part_of (opener.Second a) = second (view a.value)
+abbrev pub part_of : OpenGroup → OpenPart
+part_of open_group.Top = top
+part_of (open_group.Group kind reach) = group (group_kind kind) reach
+part_of open_group.Condition = condition
+part_of (open_group.Body c left) = body (view c.value) left
+part_of open_group.First = first
+part_of (open_group.Second a) = second (view a.value)
 
 -- whether the part holds a single branch, not an alternation
 abbrev pub holds_one : OpenPart → Bool
@@ -69,9 +69,9 @@ branches_at_bar first l a = l
 branches_at_bar _ l a = l ++ a ∷ []
 
 -- the error at a bar after the second branch of an absent expression, which allows none
-abbrev pub IsFaultOfBar : OpenPart → Text → Outcome Tree → Type 0
-IsFaultOfBar (second a) t o = o ≡ faulted (bar_for_close_paren t)
-IsFaultOfBar _ t o = ⊥
+abbrev pub IsErrorOfBar : OpenPart → Text → Outcome Tree → Type 0
+IsErrorOfBar (second a) t o = o ≡ failed_with (bar_for_close_paren t)
+IsErrorOfBar _ t o = ⊥
 
 -- the outcome of reading the open part; the record goes from the first log to the second
 abbrev pub Part : OpenPart → ℕ → State → Outcome Tree → Log → Log → Type 0
@@ -85,19 +85,19 @@ Part (body c left) d s o l m = AlternationTo d s o l m
 -- a piece at s opens this part, and the contents of the part begin at t; l is the log before, and the last argument the
 -- log after
 pub data OpensPart : ℕ → State → Log → OpenPart → State → Log → Type 0 where
-  a_group : {d s l t u h : _} → skipped s ≡ rest u → ahead d (at s u) ≡ seen.with_head h t →
+  a_group : {d s l t u h : _} → skipped s ≡ rest u → atom_start d (at s u) ≡ seen.of_kind h t →
       OpensPart d s l (group h (reach_of u)) t (opened (reach_of u) (reach_of t.rest) l)
-  a_condition : {d s l t u : _} → skipped s ≡ rest u → ahead d (at s u) ≡ seen.condition t →
+  a_condition : {d s l t u : _} → skipped s ≡ rest u → atom_start d (at s u) ≡ seen.condition t →
       OpensPart d s l condition t (opened (reach_of u) (reach_of t.rest) l)
-  a_body : {d s l t u c : _} → skipped s ≡ rest u → ahead d (at s u) ≡ seen.body c t →
+  a_body : {d s l t u c : _} → skipped s ≡ rest u → atom_start d (at s u) ≡ seen.body c t →
       OpensPart d s l (body c (bytes t.rest)) t (body_opened (at s u) t l)
-  behind_condition : {d s l t m v c : _} → OpensPart d s l condition t m → (i : Inside d t (done c v)) →
-      OpensPart d s l (body c (bytes v.rest)) v (part_begun (reach_of v.rest) (inside_noted i m))
-  a_branch : {d s l t u : _} → skipped s ≡ rest u → ahead d (at s u) ≡ seen.absent_branch t →
+  after_condition : {d s l t m v c : _} → OpensPart d s l condition t m → (i : Inside d t (done c v)) →
+      OpensPart d s l (body c (bytes v.rest)) v (part_begun (reach_of v.rest) (inside_recorded i m))
+  a_branch : {d s l t u : _} → skipped s ≡ rest u → atom_start d (at s u) ≡ seen.absent_branch t →
       OpensPart d s l first t (opened (reach_of u) (reach_of t.rest) l)
-  behind_branch : {d s l t m v u a : _} → OpensPart d s l first t m → (b : Branch (d + 1) t (done a v)) →
+  after_branch : {d s l t m v u a : _} → OpensPart d s l first t m → (b : Branch (d + 1) t (done a v)) →
       strip bar v.rest ≡ Some u →
-      OpensPart d s l (second a) (at v u) (branch_begun (reach_of u) (branch_noted b m))
+      OpensPart d s l (second a) (at v u) (branch_begun (reach_of u) (branch_recorded b m))
 
 -- the body of a conditional is missing: it takes no byte, and the condition needs a body
 abbrev pub lacks_body : OpenPart → State → Bool
@@ -121,60 +121,60 @@ goes_on _ = false
 -- the outcome when the part ends with the tree r at s
 abbrev pub ended_part : OpenPart → Tree → State → Outcome Tree
 ended_part p r s =
-    if lacks_body p s then faulted (body_wanting s.rest)
+    if lacks_body p s then failed_with (body_missing s.rest)
     else closed (node_of_part p r) s
 
 -- the log when the part ends with the tree r; its parenthesis begins at the first reach and ends at the second
-abbrev pub part_noted : OpenPart → Tree → ℕ → ℕ → Log → Log
-part_noted top r paren end l = l
-part_noted (group h p) r paren end l = group_noted h end l
-part_noted condition r paren end l = l
-part_noted (body c left) r paren end l = conditional_noted r paren end l
-part_noted first r paren end l = stopper_noted r end l
-part_noted (second a) r paren end l = atom_closed end false l
+abbrev pub part_recorded : OpenPart → Tree → ℕ → ℕ → Log → Log
+part_recorded top r paren end l = l
+part_recorded (group h p) r paren end l = group_recorded h end l
+part_recorded condition r paren end l = l
+part_recorded (body c left) r paren end l = conditional_recorded r paren end l
+part_recorded first r paren end l = stopper_recorded r end l
+part_recorded (second a) r paren end l = atom_closed end false l
 
 -- the same with what follows: the body of a conditional begins, or quantifiers are read under the flags from before the
 -- piece
-abbrev pub close_noted : ℕ → Flags → OpenPart → Tree → State → Log → Log
-close_noted left flags p r s l = if_done (ended_part p r s) (λ a t.
-    let m = part_noted p r (reach_of s.rest) (reach_of t.rest) l in
+abbrev pub close_recorded : ℕ → Flags → OpenPart → Tree → State → Log → Log
+close_recorded left flags p r s l = if_done (ended_part p r s) (λ a t.
+    let m = part_recorded p r (reach_of s.rest) (reach_of t.rest) l in
     if goes_on p then part_begun (reach_of t.rest) m
-    else quants_noted left (done a (record t { flags = flags })) m) l
+    else quants_recorded left (done a (record t { flags = flags })) m) l
 
 -- a group is opened only if one may open inside d groups
 abbrev pub OpensBelow : Step → ℕ → Type 0
 OpensBelow (step.Piece piece) d = ⊤
-OpensBelow (step.Open opener) d = d + 1 < max_depth
+OpensBelow (step.Open open_group) d = d + 1 < max_depth
 
 -- a step from s reads a piece, or opens a part of one, and ends at t; the record goes from l to m
 abbrev pub IsStep : ℕ → State → Log → Step → State → Log → Type 0
 IsStep d s l (step.Piece piece) t m = PieceTo d s (done (view piece) t) l m
-IsStep d s l (step.Open opener) t m = OpensPart d s l (part_of opener) t m
+IsStep d s l (step.Open open_group) t m = OpensPart d s l (part_of open_group) t m
 
 -- the stack, the innermost group and all trees after a step: one more tree, or one more group in which nothing is read
 -- yet
 abbrev pub Takes : Step → List Frame → Frame → List Tree → List Frame → Frame → List Tree → Type 0
 Takes (step.Piece piece) fs f ts gs g us = (gs ≡ fs) × (g ≡ f) × (us ≡ ts ++ solid (view piece ∷ []))
-Takes (step.Open opener) fs f ts gs g us =
+Takes (step.Open open_group) fs f ts gs g us =
     (gs ≡ fs ++ f ∷ []) × (us ≡ ts) ×
-    (g.opener ≡ opener) × (g.branches ≡ length ts) × (g.pieces ≡ length ts)
+    (g.open_group ≡ open_group) × (g.branches ≡ length ts) × (g.pieces ≡ length ts)
 
 -- the log after a step was taken: an Empty is left out
-abbrev pub taken_noted : Step → Log → Log
-taken_noted (step.Piece piece) l = added (view piece) l
-taken_noted (step.Open opener) l = l
+abbrev pub taken_recorded : Step → Log → Log
+taken_recorded (step.Piece piece) l = added (view piece) l
+taken_recorded (step.Open open_group) l = l
 
 -- a step from s to t, recorded from l to m, or the error of a piece at s
-abbrev pub GivesStep : Result Step Failure → ℕ → State → Log → State → Log → Type 0
+abbrev pub GivesStep : Result Step ReadError → ℕ → State → Log → State → Log → Type 0
 GivesStep r d s l t m = MatchResult r (λ p. IsStep d s l p t m) (λ e. IsErrorAmong e (Piece d s))
 
 -- the step reads a piece, with this outcome
 abbrev pub IsPiece : Step → State → Outcome Tree → Type 0
 IsPiece (step.Piece piece) t o = o ≡ done (view piece) t
-IsPiece (step.Open opener) t o = ⊥
+IsPiece (step.Open open_group) t o = ⊥
 
 -- the result, a step that reads a piece up to t or an error, is the outcome
-abbrev pub GivesPiece : Result Step Failure → Outcome Tree → State → Type 0
+abbrev pub GivesPiece : Result Step ReadError → Outcome Tree → State → Type 0
 GivesPiece r o t = MatchResult r (λ p. IsPiece p t o) (λ e. IsErrorAmong e (λ q. o ≡ q))
 
 -- what has been read of a part that begins at s: its branches, and the pieces of the branch that is open at t; the
@@ -207,8 +207,8 @@ HoldsTrees f trees below branches pieces =
 pub data OpenGroups (start : State) (none : Log) : List Frame → List Tree → OpenPart → ℕ → State → Log → Type 0 where
   outermost : OpenGroups start none [] [] top 0 start none
   inner : {d s l t m v n p all frames trees below branches pieces : _} (f : Frame) → all ≡ frames ++ f ∷ [] →
-      HoldsTrees f trees below branches pieces → OpenGroups start none frames below (part_of f.opener) d s l →
-      ReadSoFar d (part_of f.opener) s l branches pieces t m → Began f t → ends t.rest ≡ false →
+      HoldsTrees f trees below branches pieces → OpenGroups start none frames below (part_of f.open_group) d s l →
+      ReadSoFar d (part_of f.open_group) s l branches pieces t m → Began f t → ends t.rest ≡ false →
       OpensPart d t m p v n → OpenGroups start none all trees p (d + 1) v n
 
 -- what has been read of a text that begins at `start`, up to t: the frames, the trees that they hold, and the frame on
@@ -223,19 +223,19 @@ pub record Running (start : State) (none : Log) (stack : List Frame) (f : Frame)
   pub pieces : List Tree
   pub is_depth : depth ≡ length stack
   pub holds : HoldsTrees f trees below branches pieces
-  pub levels : OpenGroups start none stack below (part_of f.opener) depth begin before
-  pub reading : ReadSoFar depth (part_of f.opener) begin before branches pieces t l
+  pub levels : OpenGroups start none stack below (part_of f.open_group) depth begin before
+  pub reading : ReadSoFar depth (part_of f.open_group) begin before branches pieces t l
 
 -- the same for the fields of the parser
 abbrev pub HasRead : State → Log → Parser → Log → Type 0
-HasRead start none r l = Running start none r.stack.items r.frame (views r.trees.items) (state r.here) l
+HasRead start none r l = Running start none r.stack.items r.frame (views r.trees.items) (state r.current) l
 
 -- the same, and P holds of the log
 abbrev pub HasReadTo : State → Log → Parser → (Log → Type 0) → Type 0
 HasReadTo start none r P = (l : Log) × HasRead start none r l × P l
 
 -- the leaf r is at s and is a piece at any depth, recorded only as a leaf, and t follows it
-pub record IsNotedPlain (s : State) (r : Tree) (t : Text) : Type 0 where
+pub record IsRecordedPlain (s : State) (r : Tree) (t : Text) : Type 0 where
   pub more : ends s.rest ≡ false
-  pub piece : (d : ℕ) (l : Log) → PieceTo d s (done r (at s t)) l (leaf_noted (reach_of s.rest) (reach_of t) l)
+  pub piece : (d : ℕ) (l : Log) → PieceTo d s (done r (at s t)) l (leaf_recorded (reach_of s.rest) (reach_of t) l)
   pub solid : is_empty r ≡ false

@@ -22,11 +22,11 @@ absent_step Absent-F.Clear = clear
 
 -- the node at its position
 abbrev pub ast_step : AstNode-F Tree (ℕ → Tree) Tree → ℕ → Tree
-ast_step (AstNode-F.AstGroup name inner) place = ast_group (option_map text_of name) place inner.value
-ast_step (AstNode-F.AstNode::Backref t casei level) place = ast_node (ast_backref (view_target t) casei level) place
-ast_step (AstNode-F.AstNode::SubroutineCall t) place = ast_node (ast_call (view_target t)) place
-ast_step (AstNode-F.AstNode::BackrefExistsCondition t level) place =
-    ast_node (ast_condition (view_target t) level) place
+ast_step (AstNode-F.AstGroup name inner) position = ast_group (option_map text_of name) position inner.value
+ast_step (AstNode-F.AstNode::Backref t casei level) position = ast_node (ast_backref (view_target t) casei level) position
+ast_step (AstNode-F.AstNode::SubroutineCall t) position = ast_node (ast_call (view_target t)) position
+ast_step (AstNode-F.AstNode::BackrefExistsCondition t level) position =
+    ast_node (ast_condition (view_target t) level) position
 
 abbrev pub expr_step : Expr-F Tree (ℕ → Tree) Tree → Tree
 expr_step Expr-F.Empty = empty
@@ -52,7 +52,7 @@ expr_step (Expr-F.Expr::SubroutineCall n) = subroutine_call n
 expr_step (Expr-F.BacktrackingControlVerb v) = verb v
 expr_step (Expr-F.Absent a) = a
 expr_step (Expr-F.DefineGroup t) = define_group t.value
-expr_step (Expr-F.AstNode n place) = n place
+expr_step (Expr-F.AstNode n position) = n position
 
 abbrev pub view : Expr → Tree
 view = fold-Expr Tree (ℕ → Tree) Tree absent_step ast_step expr_step

@@ -4,22 +4,22 @@ ghost use Rattle.fancy_grammar.specs.Grammar as spec;
 ghost use Rattle.fancy_grammar.specs.State.{done};
 ghost use Rattle.fancy_lex.specs.Text.{reach_of};
 ghost use Rattle.fancy_syntax.specs.Log.{Log, started};
-ghost use Rattle.fancy_syntax.specs.NotedWhole.{IsNotedWhole};
-ghost use Rattle.fancy_syntax.specs.Noting.{AlternationTo};
+ghost use Rattle.fancy_syntax.specs.RecordedWhole.{IsRecordedWhole};
+ghost use Rattle.fancy_syntax.specs.Recording.{AlternationTo};
 ghost use Rattle.fancy_syntax.specs.Parsed.{state, IsTreeRead};
 ghost use Rattle.fancy_syntax.specs.View.{view};
 ghost use Rattle.fancy_syntax.specs.Reads.{ReadsWhole};
 
-mod ahead;
 mod atom;
+mod atom_start;
 mod conditional;
-mod fault;
+mod error;
 mod frame;
 mod group;
-pub(crate) mod noted;
 mod parser;
 mod plain;
 pub(crate) mod quantified;
+pub(crate) mod recorded;
 mod reference;
 pub(crate) mod spanning;
 pub(crate) mod spans;
@@ -28,11 +28,11 @@ mod step;
 mod trees;
 
 use crate::expr::Expr;
-use crate::grammar::fault::general;
+use crate::grammar::error::general;
 use crate::grammar::parser::Parser;
 use crate::grammar::spanning::Spanning;
 use crate::grammar::state::{State, is_end};
-use fancy_lex::error::Failure;
+use fancy_lex::error::ReadError;
 use fancy_lex::flags::Flags;
 use fancy_lex::text::{after, next, reach};
 use std::alloc::Global;
@@ -45,17 +45,17 @@ pub(crate) fn parse<S: Spanning>(
     text: &str,
     flags: Flags,
     spans: &mut S,
-) -> Result<Expr, Failure>
+) -> Result<Expr, ReadError>
     ensures reads { ReadsWhole result flags (chars text.now) }
-    ensures spans { (l : Log) → l ≡ started (reach_of (chars text.now)) → S.notes spans.old l →
-        IfOk result (λ e. (m : Log) × S.notes spans.new m × IsNotedWhole flags (chars text.now) (view e) m) }
+    ensures spans { (l : Log) → l ≡ started (reach_of (chars text.now)) → S.records spans.old l →
+        IfOk result (λ e. (m : Log) × S.records spans.new m × IsRecordedWhole flags (chars text.now) (view e) m) }
 {
-    let (tree, here) = alternation(alloc, State { flags, rest: text }, spans)?;
-    match next(here.rest) {
+    let (tree, current) = alternation(alloc, State { flags, rest: text }, spans)?;
+    match next(current.rest) {
         None => Ok(tree),
         Some(_) => {
             drop(tree);
-            Err(general(alloc, "end of string not reached", reach(here.rest)))
+            Err(general(alloc, "end of string not reached", reach(current.rest)))
         }
     }
 }
@@ -65,10 +65,10 @@ fn alternation<'a, S: Spanning>(
     alloc: Global,
     start: State<'a>,
     spans: &mut S,
-) -> Result<(Expr, State<'a>), Failure>
+) -> Result<(Expr, State<'a>), ReadError>
     ensures value { IsTreeRead result (spec.Alternation 0 (state start.entry)) }
     ensures within { IfOk result (λ p. length p.1.rest.now ≤ length start.entry.rest.now) }
-    ensures spans { (l : Log) → S.notes spans.old l → IfOk result (λ p. (m : Log) × S.notes spans.new m
+    ensures spans { (l : Log) → S.records spans.old l → IfOk result (λ p. (m : Log) × S.records spans.new m
         × AlternationTo 0 (state start.entry) (done (view p.0) (state p.1)) l m) }
 {
     let mut parser = Parser::new(alloc, start)?;
@@ -76,13 +76,13 @@ fn alternation<'a, S: Spanning>(
         if parser.add_leaf(alloc, spans)? {
             continue;
         }
-        let rest = parser.here.rest;
+        let rest = parser.current.rest;
         if !is_end(rest) {
             parser.step(alloc, spans)?;
-        } else if let Some(behind) = after(rest, '|') {
-            parser.bar(alloc, behind, spans)?;
+        } else if let Some(tail) = after(rest, '|') {
+            parser.bar(alloc, tail, spans)?;
         } else if let Some(tree) = parser.close(alloc, spans)? {
-            return Ok((tree, parser.here));
+            return Ok((tree, parser.current));
         }
     }
 }

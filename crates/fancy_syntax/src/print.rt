@@ -79,7 +79,7 @@ impl Expr {
         ensures same_text { printable (view self.now) ≡ true → too_deep (view self.now) precedence ≡ None →
             (s : Tree) (q : ℕ) (u : Bool) → printable s ≡ true → printed (view self.now) precedence ≡ printed s q →
             normal u (view self.now) ≡ normal u s }
-        ensures room { string_len buf.old + bytes (printed (view self.now) precedence) ≤ string_capacity buf.old →
+        ensures reserved { string_len buf.old + bytes (printed (view self.now) precedence) ≤ string_capacity buf.old →
             IsOk result }
         ensures nothing_to_print { printed (view self.now) precedence ≡ [] → IsOk result }
     {

@@ -4,14 +4,14 @@ ghost use Rattle.std.specs.Prelude.{◌≡◌, chars, length, IfOk, IfErr};
 ghost use Rattle.fancy_lex.specs.ErrorViews.{error_in};
 ghost use Rattle.fancy_lex.specs.Flags.{flags_of, unicode_alone};
 ghost use Rattle.fancy_lex.specs.Text.{reach_of};
-ghost use Rattle.fancy_grammar.specs.Answer.{IsTreeOf, IsFaultOf, IsOnlyFault, IsPlacedIn};
-ghost use Rattle.fancy_syntax.specs.Answer.{marks_of};
-ghost use Rattle.fancy_grammar.specs.Answered.{IsAnsweredWith, HasGroupsOf, IsSmall};
+ghost use Rattle.fancy_grammar.specs.ParseResult.{IsTreeOf, IsErrorOf, IsOnlyError, IsPositionedIn};
+ghost use Rattle.fancy_syntax.specs.InfoViews.{info_of};
+ghost use Rattle.fancy_grammar.specs.ParsedTree.{IsParsedTreeWith, HasGroupsOf, IsSmall};
 ghost use Rattle.fancy_grammar.specs.Grammar.{DerivesTree};
 ghost use Rattle.fancy_grammar.specs.Preorder.{preorder};
 ghost use Rattle.fancy_grammar.specs.Spans.{AreSpansOf, IsCutOut, Nests};
 ghost use Rattle.fancy_syntax.specs.Log.{Log, started};
-ghost use Rattle.fancy_syntax.specs.LogViews.{answered_spans};
+ghost use Rattle.fancy_syntax.specs.LogViews.{returned_spans};
 ghost use Rattle.fancy_syntax.specs.SpanViews.{spans_of};
 ghost use Rattle.fancy_syntax.specs.View.{view};
 
@@ -21,7 +21,7 @@ use crate::grammar::spanning::{NoSpans, Spanning};
 use crate::grammar::spans::Spans;
 use crate::resolve::resolve;
 use crate::span::Span;
-use fancy_lex::error::{Failure, Result};
+use fancy_lex::error::{ReadError, Result};
 use fancy_lex::flags::{FLAG_UNICODE, Flags};
 use fancy_lex::text::reach;
 use std::alloc::{AllocError, Global};
@@ -59,7 +59,7 @@ impl ExprTree {
     /// Returns an equal tree with equal group information, or `AllocError` if out of memory.
     pub fn clone(&self, alloc: Global) -> std::result::Result<Self, AllocError>
         ensures tree { IfOk result (λ t. view t.expr ≡ view self.now.expr) }
-        ensures marks { IfOk result (λ t. marks_of t ≡ marks_of self.now) }
+        ensures group_info { IfOk result (λ t. info_of t ≡ info_of self.now) }
     {
         Ok(ExprTree {
             backrefs: self.backrefs.clone()?,
@@ -88,21 +88,21 @@ impl Expr {
     /// let groups = tree.total_groups; // 1
     /// ```
     pub fn parse_tree_with_flags(alloc: Global, re: &str, flags: u32) -> Result<ExprTree>
-        ensures found { IfOk result (λ t. IsTreeOf (flags_of flags) (chars re.now) (view t.expr) (marks_of t)) }
+        ensures found { IfOk result (λ t. IsTreeOf (flags_of flags) (chars re.now) (view t.expr) (info_of t)) }
         ensures only { IfOk result (λ t. (e : _) (m : _) → IsTreeOf (flags_of flags) (chars re.now) e m → (e ≡
-            view t.expr) × (m ≡ marks_of t)) }
-        ensures exact { IfOk result (λ t. (k : _) (p : _) → IsFaultOf (flags_of flags) (chars re.now) k p → ⊥) }
+            view t.expr) × (m ≡ info_of t)) }
+        ensures exact { IfOk result (λ t. (k : _) (p : _) → IsErrorOf (flags_of flags) (chars re.now) k p → ⊥) }
         ensures bounds { IfOk result (λ t. IsSmall (view t.expr) (length re.now)) }
-        ensures answered { IfOk result (λ t. IsAnsweredWith (view t.expr) (marks_of t)) }
+        ensures returned { IfOk result (λ t. IsParsedTreeWith (view t.expr) (info_of t)) }
         ensures groups { IfOk result (λ t. (r : _) → DerivesTree (flags_of flags) (chars re.now) r →
             HasGroupsOf (flags_of flags) (chars re.now) r (view t.expr)) }
-        ensures fault { IfErr result (λ e. IsOnlyFault e (flags_of flags) (chars re.now)) }
-        ensures place { IfErr result (λ e. IsPlacedIn e re.now) }
+        ensures error { IfErr result (λ e. IsOnlyError e (flags_of flags) (chars re.now)) }
+        ensures position { IfErr result (λ e. IsPositionedIn e re.now) }
     {
         let flags = Flags::from_bits(flags);
         match read(alloc, re, flags, &mut NoSpans) {
             Ok(tree) => Ok(tree),
-            Err(failure) => Err(failure.in_pattern(re)),
+            Err(error) => Err(error.in_pattern(re)),
         }
     }
 
@@ -119,12 +119,12 @@ impl Expr {
         re: &str,
         flags: u32,
     ) -> Result<(ExprTree, Vec<Span>)>
-        ensures found { IfOk result (λ p. IsTreeOf (flags_of flags) (chars re.now) (view p.0.expr) (marks_of p.0)) }
+        ensures found { IfOk result (λ p. IsTreeOf (flags_of flags) (chars re.now) (view p.0.expr) (info_of p.0)) }
         ensures only { IfOk result (λ p. (e : _) (m : _) → IsTreeOf (flags_of flags) (chars re.now) e m → (e ≡
-            view p.0.expr) × (m ≡ marks_of p.0)) }
-        ensures exact { IfOk result (λ p. (k : _) (q : _) → IsFaultOf (flags_of flags) (chars re.now) k q → ⊥) }
+            view p.0.expr) × (m ≡ info_of p.0)) }
+        ensures exact { IfOk result (λ p. (k : _) (q : _) → IsErrorOf (flags_of flags) (chars re.now) k q → ⊥) }
         ensures bounds { IfOk result (λ p. IsSmall (view p.0.expr) (length re.now)) }
-        ensures answered { IfOk result (λ p. IsAnsweredWith (view p.0.expr) (marks_of p.0)) }
+        ensures returned { IfOk result (λ p. IsParsedTreeWith (view p.0.expr) (info_of p.0)) }
         ensures groups { IfOk result (λ p. (r : _) → DerivesTree (flags_of flags) (chars re.now) r →
             HasGroupsOf (flags_of flags) (chars re.now) r (view p.0.expr)) }
         ensures spans { IfOk result (λ p. AreSpansOf (flags_of flags) (chars re.now) (spans_of p.1)) }
@@ -133,13 +133,13 @@ impl Expr {
         ensures each { IfOk result (λ p. length p.1.items ≡ length (preorder (view p.0.expr))) }
         ensures nested { IfOk result (λ p. Nests 0 (length re.now) (view p.0.expr) (spans_of p.1)) }
         ensures cut { IfOk result (λ p. AllByRecursion (IsCutOut re.now) (spans_of p.1)) }
-        ensures fault { IfErr result (λ e. IsOnlyFault e (flags_of flags) (chars re.now)) }
-        ensures place { IfErr result (λ e. IsPlacedIn e re.now) }
+        ensures error { IfErr result (λ e. IsOnlyError e (flags_of flags) (chars re.now)) }
+        ensures position { IfErr result (λ e. IsPositionedIn e re.now) }
     {
         let flags = Flags::from_bits(flags);
         match read_with_spans(alloc, re, flags) {
             Ok(found) => Ok(found),
-            Err(failure) => Err(failure.in_pattern(re)),
+            Err(error) => Err(error.in_pattern(re)),
         }
     }
 
@@ -150,16 +150,16 @@ impl Expr {
     /// let has_year = tree.named_groups.contains_key("year"); // true
     /// ```
     pub fn parse_tree(alloc: Global, re: &str) -> Result<ExprTree>
-        ensures found { IfOk result (λ t. IsTreeOf unicode_alone (chars re.now) (view t.expr) (marks_of t)) }
+        ensures found { IfOk result (λ t. IsTreeOf unicode_alone (chars re.now) (view t.expr) (info_of t)) }
         ensures only { IfOk result (λ t. (e : _) (m : _) → IsTreeOf unicode_alone (chars re.now) e m →
-            (e ≡ view t.expr) × (m ≡ marks_of t)) }
-        ensures exact { IfOk result (λ t. (k : _) (p : _) → IsFaultOf unicode_alone (chars re.now) k p → ⊥) }
+            (e ≡ view t.expr) × (m ≡ info_of t)) }
+        ensures exact { IfOk result (λ t. (k : _) (p : _) → IsErrorOf unicode_alone (chars re.now) k p → ⊥) }
         ensures bounds { IfOk result (λ t. IsSmall (view t.expr) (length re.now)) }
-        ensures answered { IfOk result (λ t. IsAnsweredWith (view t.expr) (marks_of t)) }
+        ensures returned { IfOk result (λ t. IsParsedTreeWith (view t.expr) (info_of t)) }
         ensures groups { IfOk result (λ t. (r : _) → DerivesTree unicode_alone (chars re.now) r →
             HasGroupsOf unicode_alone (chars re.now) r (view t.expr)) }
-        ensures fault { IfErr result (λ e. IsOnlyFault e unicode_alone (chars re.now)) }
-        ensures place { IfErr result (λ e. IsPlacedIn e re.now) }
+        ensures error { IfErr result (λ e. IsOnlyError e unicode_alone (chars re.now)) }
+        ensures position { IfErr result (λ e. IsPositionedIn e re.now) }
     {
         Expr::parse_tree_with_flags(alloc, re, FLAG_UNICODE)
     }
@@ -172,13 +172,13 @@ fn read<S: Spanning>(
     re: &str,
     flags: Flags,
     spans: &mut S,
-) -> std::result::Result<ExprTree, Failure>
-    ensures found { IfOk result (λ t. IsTreeOf flags (chars re.now) (view t.expr) (marks_of t)) }
-    ensures fault { IfErr result (λ e. IsOnlyFault (error_in (chars re.now) e) flags (chars re.now)) }
-    ensures place { IfErr result (λ e. IsPlacedIn (error_in (chars re.now) e) re.now) }
-    ensures spans { (l : Log) → l ≡ started (reach_of (chars re.now)) → S.notes spans.old l →
-        IfOk result (λ t. (m : Log) × S.notes spans.new m × AreSpansOf flags (chars re.now)
-        (answered_spans (chars re.now) (marks_of t).numbered_groups_ignored m)) }
+) -> std::result::Result<ExprTree, ReadError>
+    ensures found { IfOk result (λ t. IsTreeOf flags (chars re.now) (view t.expr) (info_of t)) }
+    ensures error { IfErr result (λ e. IsOnlyError (error_in (chars re.now) e) flags (chars re.now)) }
+    ensures position { IfErr result (λ e. IsPositionedIn (error_in (chars re.now) e) re.now) }
+    ensures spans { (l : Log) → l ≡ started (reach_of (chars re.now)) → S.records spans.old l →
+        IfOk result (λ t. (m : Log) × S.records spans.new m × AreSpansOf flags (chars re.now)
+        (returned_spans (chars re.now) (info_of t).numbered_groups_ignored m)) }
 {
     let raw = parse(alloc, re, flags, spans)?;
     resolve(alloc, raw, re, flags)
@@ -189,14 +189,14 @@ fn read_with_spans(
     alloc: Global,
     re: &str,
     flags: Flags,
-) -> std::result::Result<(ExprTree, Vec<Span>), Failure>
-    ensures found { IfOk result (λ p. IsTreeOf flags (chars re.now) (view p.0.expr) (marks_of p.0)) }
-    ensures fault { IfErr result (λ e. IsOnlyFault (error_in (chars re.now) e) flags (chars re.now)) }
-    ensures place { IfErr result (λ e. IsPlacedIn (error_in (chars re.now) e) re.now) }
+) -> std::result::Result<(ExprTree, Vec<Span>), ReadError>
+    ensures found { IfOk result (λ p. IsTreeOf flags (chars re.now) (view p.0.expr) (info_of p.0)) }
+    ensures error { IfErr result (λ e. IsOnlyError (error_in (chars re.now) e) flags (chars re.now)) }
+    ensures position { IfErr result (λ e. IsPositionedIn (error_in (chars re.now) e) re.now) }
     ensures spans { IfOk result (λ p. AreSpansOf flags (chars re.now) (spans_of p.1)) }
 {
-    let mut noted = Spans::new(alloc, reach(re));
-    let tree = read(alloc, re, flags, &mut noted)?;
-    let spans = noted.answered(alloc, re, tree.numbered_groups_ignored)?;
+    let mut recorded = Spans::new(alloc, reach(re));
+    let tree = read(alloc, re, flags, &mut recorded)?;
+    let spans = recorded.returned(alloc, re, tree.numbered_groups_ignored)?;
     Ok((tree, spans))
 }

@@ -1,5 +1,5 @@
 //! How near trees come to the bound on their levels, 832.
-use crate::tests::{is_answer, run_refusing};
+use crate::tests::{is_result, run_refusing};
 use std::alloc::{AllocError, Global};
 use std::str;
 
@@ -57,8 +57,8 @@ fn bounds_of_deepest(alloc: Global) -> Result<(usize, usize, usize), AllocError>
 fn is_deepest(alloc: Global) -> Result<bool, AllocError> {
     let mut pattern = deepest(alloc)?;
     pattern.push('*')?;
-    let fault = "Parsing error at position 876: Pattern too deeply nested\n";
-    is_answer(alloc, &["o", pattern.as_str()], 1, "", fault)
+    let error = "Parsing error at position 876: Pattern too deeply nested\n";
+    is_result(alloc, &["o", pattern.as_str()], 1, "", error)
 }
 
 /// 20 levels less than the bound, which counts four adjacent quantifiers at each depth: at depths 60 to 63 there are

@@ -115,7 +115,7 @@ const LEFT_OVER: &str =
 const USAGE: &str = "usage: fre FLAGS PATTERN\n";
 
 /// Words, and the status, the output and the error of a run on them.
-static ANSWERS: [(&[&str], u8, &str, &str); 12] = [
+static RESULTS: [(&[&str], u8, &str, &str); 12] = [
     (&["u", "(a|b)c*"], 0, ACCEPTED, ""),
     (&["u", r"(?<n>x)\k<n>"], 0, NAMED, ""),
     (&["u", ""], 0, EMPTY, ""),
@@ -136,17 +136,17 @@ static ANSWERS: [(&[&str], u8, &str, &str); 12] = [
 ];
 
 #[test]
-fn answers(rt: HostRuntime) -> Result<(), AllocError> {
-    for (words, status, out, err) in ANSWERS.iter() {
+fn results(rt: HostRuntime) -> Result<(), AllocError> {
+    for (words, status, out, err) in RESULTS.iter() {
         assert!(rt;
-            is_answer(rt.alloc(), words, *status, out, err)?,
+            is_result(rt.alloc(), words, *status, out, err)?,
             "{words:?}"
         );
     }
     Ok(())
 }
 
-pub(crate) fn is_answer(
+pub(crate) fn is_result(
     alloc: Global,
     words: &[&str],
     status: u8,
@@ -174,7 +174,7 @@ static WRITES: [(&[&str], bool, u8, &str, &str); 3] = [
 
 /// Whether the run whose write is refused says so, and has written a beginning; none where no write was refused, and
 /// then it ended well.
-fn tells_of_write(run: &Run, status: u8, out: &str, err: &str) -> Option<bool> {
+fn reports_write(run: &Run, status: u8, out: &str, err: &str) -> Option<bool> {
     if !run.out.has_refused && !run.err.has_refused && run.status == status {
         return None;
     }
@@ -204,7 +204,7 @@ fn writes(
             false => run_refusing(alloc, words, refused, None)?,
             true => run_refusing(alloc, words, None, refused)?,
         };
-        match tells_of_write(&run, status, out, err) {
+        match reports_write(&run, status, out, err) {
             Some(true) => {}
             Some(false) => return Ok(None),
             None => return Ok(Some(number)),

@@ -1,11 +1,11 @@
 -- The arguments of the program, and what its exit status says about them.
 use Rattle.std.specs.Prelude.{ℕ, List, [], ◌∷◌, String}
 use Rattle.std.specs.declared.alloc.Global.{Global}
-use Rattle.fancy_lex.specs.Fault.{Kind}
+use Rattle.fancy_lex.specs.Located.{Kind}
 use Rattle.fancy_lex.specs.Text.{Text, text_of}
 use Rattle.fancy_lex.specs.declared.flags.Flags.{Flags}
-use Rattle.fancy_syntax.specs.Answer.{IsTreeOf, IsFaultOf}
-use Rattle.fancy_syntax.specs.Marks.{Marks}
+use Rattle.fancy_syntax.specs.InfoViews.{IsTreeOf, IsErrorOf}
+use Rattle.fancy_syntax.specs.GroupInfo.{GroupInfo}
 use Rattle.fancy_syntax.specs.Tree.{Tree}
 use Rattle.fre_program.specs.FlagWord.{NamesFlags, named_flags}
 
@@ -21,8 +21,8 @@ OfWords P _ = ⊥
 
 -- the pattern has a tree under the flags
 abbrev pub HasTree : Flags → Text → Type 0
-HasTree f pattern = (t : Tree) × (m : Marks) × IsTreeOf f pattern t m
+HasTree f pattern = (t : Tree) × (m : GroupInfo) × IsTreeOf f pattern t m
 
 -- the pattern has an error under the flags
-abbrev pub HasFault : Flags → Text → Type 0
-HasFault f pattern = (k : Kind) × (place : ℕ) × IsFaultOf f pattern k place
+abbrev pub HasError : Flags → Text → Type 0
+HasError f pattern = (k : Kind) × (position : ℕ) × IsErrorOf f pattern k position

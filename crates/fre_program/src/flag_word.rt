@@ -38,9 +38,9 @@ fn letters(word: &str) -> Option<u32>
 {
     let mut flags = 0;
     let mut rest = word;
-    while let Some((letter, behind)) = next(rest) {
+    while let Some((letter, after)) = next(rest) {
         flags |= flag_of(letter)?;
-        rest = behind;
+        rest = after;
     }
     Some(flags)
 }
@@ -52,8 +52,8 @@ pub fn flags_named(word: &str) -> Option<u32>
     ensures { MatchOption result (NamesFlags (chars word.now) → ⊥) (λ bits. NamesFlags (chars word.now) ×
         (flags_of bits ≡ named_flags (chars word.now))) }
 {
-    let (first, behind) = next(word)?;
-    if first == '-' && next(behind).is_none() {
+    let (first, after) = next(word)?;
+    if first == '-' && next(after).is_none() {
         return Some(0);
     }
     letters(word)

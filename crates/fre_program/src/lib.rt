@@ -2,7 +2,7 @@
 //! The tests of this crate are in `fre`, and recorded outputs in `conformance`.
 #![tactic(auto)]
 
-mod fault;
+mod error;
 pub mod flag_word;
 pub mod hex;
 pub mod names;

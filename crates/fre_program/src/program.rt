@@ -1,11 +1,11 @@
 //! A run of the program.
 ghost use Rattle.std.specs.Prelude.{◌≡◌, ◌≤◌, chars, IfOk, Ok, MatchOption};
 ghost use Rattle.fancy_lex.specs.Flags.{flags_of};
-ghost use Rattle.fre_program.specs.Words.{IsWellFormed, OfWords, HasTree, HasFault};
+ghost use Rattle.fre_program.specs.Words.{IsWellFormed, OfWords, HasTree, HasError};
 
-use crate::fault::Fault;
+use crate::error::ProgramError;
 use crate::flag_word::flags_named;
-use crate::report::{write_marks, write_nodes, write_text};
+use crate::report::{write_group_info, write_nodes, write_text};
 use fancy_syntax::{Error, Expr, ExprTree, WHOLE};
 use std::alloc::{AllocError, Global};
 use std::io::Write;
@@ -29,37 +29,37 @@ fn named_by(words: &[String]) -> Option<(u32, &str)>
 }
 
 /// Writes the tree, its group information and its text.
-fn accept<O: Write>(alloc: Global, out: &mut O, tree: &ExprTree) -> Result<Verdict, Fault>
+fn accept<O: Write>(alloc: Global, out: &mut O, tree: &ExprTree) -> Result<Verdict, ProgramError>
     ensures { IfOk result (λ verdict. verdict ≡ Verdict.Accepted) }
 {
     let text = tree.expr.print(alloc, WHOLE)?;
     write_nodes(out, &tree.expr, 0)?;
-    write_marks(out, tree)?;
+    write_group_info(out, tree)?;
     write_text(out, text.as_deref())?;
     out.flush()?;
     Ok(Verdict::Accepted)
 }
 
 /// Reads the pattern, and writes its tree on `out` or its error on `err`.
-fn answer<O: Write, E: Write>(
+fn run_pattern<O: Write, E: Write>(
     alloc: Global,
     pattern: &str,
     flags: u32,
     out: &mut O,
     err: &mut E,
-) -> Result<Verdict, Fault>
+) -> Result<Verdict, ProgramError>
     ensures accepted { result ≡ Ok Verdict.Accepted → HasTree (flags_of flags) (chars pattern.now) }
-    ensures refused { result ≡ Ok Verdict.Refused → HasFault (flags_of flags) (chars pattern.now) }
+    ensures refused { result ≡ Ok Verdict.Refused → HasError (flags_of flags) (chars pattern.now) }
 {
     match Expr::parse_tree_with_flags(alloc, pattern, flags) {
         Ok(tree) => accept(alloc, out, &tree),
-        Err(Error::OutOfMemory) => Err(Fault::Memory(AllocError)),
+        Err(Error::OutOfMemory) => Err(ProgramError::Memory(AllocError)),
         Err(refusal) => refuse(err, &refusal),
     }
 }
 
 /// Writes why the pattern is refused.
-fn refuse<E: Write>(err: &mut E, refusal: &Error) -> Result<Verdict, Fault>
+fn refuse<E: Write>(err: &mut E, refusal: &Error) -> Result<Verdict, ProgramError>
     ensures { IfOk result (λ verdict. verdict ≡ Verdict.Refused) }
 {
     writeln!(err, "{refusal}")?;
@@ -67,16 +67,16 @@ fn refuse<E: Write>(err: &mut E, refusal: &Error) -> Result<Verdict, Fault>
 }
 
 /// Writes the usage on `err`.
-fn explain<E: Write>(err: &mut E) -> Result<(), Fault> {
-    writeln!(err, "{}", Fault::Usage)?;
+fn explain<E: Write>(err: &mut E) -> Result<(), ProgramError> {
+    writeln!(err, "{}", ProgramError::Usage)?;
     Ok(())
 }
 
 /// Tries to write why the run has no result.
-fn give_up<E: Write>(err: &mut E, fault: Fault) -> u8
+fn give_up<E: Write>(err: &mut E, error: ProgramError) -> u8
     ensures { result ≡ 3 }
 {
-    let _ = writeln!(err, "{fault}");
+    let _ = writeln!(err, "{error}");
     3
 }
 
@@ -85,7 +85,7 @@ fn give_up<E: Write>(err: &mut E, fault: Fault) -> u8
 pub fn out_of_memory<E: Write>(err: &mut E) -> u8
     ensures status { result ≡ 3 }
 {
-    give_up(err, Fault::Memory(AllocError))
+    give_up(err, ProgramError::Memory(AllocError))
 }
 
 /// Runs the program on its arguments, without its name, and returns the exit status: 0 if the pattern is accepted, with
@@ -94,19 +94,19 @@ pub fn out_of_memory<E: Write>(err: &mut E) -> u8
 /// then have part of the output.
 pub fn fre_run<O: Write, E: Write>(alloc: Global, words: &[String], out: &mut O, err: &mut E) -> u8
     ensures accepted { result ≡ 0 → OfWords HasTree words.now }
-    ensures refused { result ≡ 1 → OfWords HasFault words.now }
+    ensures refused { result ≡ 1 → OfWords HasError words.now }
     ensures misused { result ≡ 2 → IsWellFormed words.now → ⊥ }
     ensures status { result ≤ 3 }
 {
     let Some((flags, pattern)) = named_by(words) else {
         return match explain(err) {
             Ok(()) => 2,
-            Err(fault) => give_up(err, fault),
+            Err(error) => give_up(err, error),
         };
     };
-    match answer(alloc, pattern, flags, out, err) {
+    match run_pattern(alloc, pattern, flags, out, err) {
         Ok(Verdict::Accepted) => 0,
         Ok(Verdict::Refused) => 1,
-        Err(fault) => give_up(err, fault),
+        Err(error) => give_up(err, error),
     }
 }

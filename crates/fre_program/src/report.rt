@@ -77,9 +77,9 @@ impl fmt::Display for NamedGroups<'_> {
 
 /// The target of a reference.
 #[derive(Clone, Copy)]
-struct Target<'a>(&'a CaptureGroupTarget);
+struct ShownTarget<'a>(&'a CaptureGroupTarget);
 
-impl fmt::Display for Target<'_> {
+impl fmt::Display for ShownTarget<'_> {
     fn fmt<W: fmt::Write>(&self, f: &mut fmt::Formatter<W>) -> fmt::Result {
         match self.0 {
             CaptureGroupTarget::ByNumber(number) => write!(f, "number:{number}"),
@@ -121,8 +121,8 @@ fn write_reference_fields<W: fmt::Write>(f: &mut fmt::Formatter<W>, node: &Expr)
             relative_recursion_level,
         } => { write!(f, " {group} {}", OrNone(*relative_recursion_level)) }
         Expr::SubroutineCall(group) => write!(f, " {group}"),
-        Expr::AstNode(AstNode::SubroutineCall(target), place) => {
-            write!(f, " SubroutineCall {} {place}", Target(target))
+        Expr::AstNode(AstNode::SubroutineCall(target), position) => {
+            write!(f, " SubroutineCall {} {position}", ShownTarget(target))
         }
         Expr::Empty
         | Expr::Any { .. }
@@ -187,7 +187,7 @@ pub(crate) fn write_nodes<O: Write>(out: &mut O, tree: &Expr, level: usize) -> i
 }
 
 /// Writes the line of the tree's group information.
-pub(crate) fn write_marks<O: Write>(out: &mut O, tree: &ExprTree) -> io::Result<()> {
+pub(crate) fn write_group_info<O: Write>(out: &mut O, tree: &ExprTree) -> io::Result<()> {
     write!(
         out,
         "marks groups={} backrefs={}",

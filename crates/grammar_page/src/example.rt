@@ -12,7 +12,7 @@ use std::alloc::Global;
 pub(crate) struct Example<'a> {
     pub(crate) pattern: &'a str,
     /// The tree, the kind of the error, or the text.
-    pub(crate) said: &'a str,
+    pub(crate) expected: &'a str,
     /// The cell that it is in, with the position of an error.
     pub(crate) cell: &'a str,
 }
@@ -30,11 +30,13 @@ impl Example<'_> {
     /// Whether the pattern has this tree, or this error.
     fn reads(&self, alloc: Global, flags: u32) -> Result<bool> {
         match Expr::parse_tree_with_flags(alloc, self.pattern, flags) {
-            Ok(tree) => Ok(format!(in alloc; "{}", Notation(&tree.expr))?.as_str() == self.said),
+            Ok(tree) => Ok(
+                format!(in alloc; "{}", Notation(&tree.expr))?.as_str() == self.expected,
+            ),
             Err(Error::OutOfMemory) => bail!("out of memory"),
             Err(Error::ParseError(position, kind)) => {
                 let kind = format!(in alloc; "{kind:?}")?;
-                Ok(is_named(&kind, self.said) && self.position() == Some(position))
+                Ok(is_named(&kind, self.expected) && self.position() == Some(position))
             }
         }
     }
@@ -47,7 +49,7 @@ impl Example<'_> {
             Err(Error::ParseError(..)) => return Ok(false),
         };
         Ok(match to_pattern(alloc, &tree, flags)? {
-            Some(text) => text.as_str() == self.said,
+            Some(text) => text.as_str() == self.expected,
             None => false,
         })
     }

@@ -16,7 +16,7 @@ use std::{env, fs};
 
 /// How many examples were run.
 #[derive(Clone, Copy)]
-struct Counts {
+struct ExampleCounts {
     right: usize,
     wrong: usize,
 }
@@ -29,15 +29,15 @@ fn run_cell(
     column: Column,
     cell: &str,
     flags: u32,
-) -> Result<Counts> {
-    let mut counts = Counts { right: 0, wrong: 0 };
+) -> Result<ExampleCounts> {
+    let mut counts = ExampleCounts { right: 0, wrong: 0 };
     let patterns = spans(alloc, row.first().context("no cell")?)?;
     let found = spans(alloc, cell)?;
     for (i, pattern) in patterns.iter().enumerate() {
         let own = if found.len() == patterns.len() { i } else { 0 };
         let example = Example {
             pattern,
-            said: found.get(own).context("nothing is said")?,
+            expected: found.get(own).context("nothing is said")?,
             cell,
         };
         if example.is_right(alloc, column, flags)? {
@@ -50,8 +50,8 @@ fn run_cell(
 }
 
 /// Runs the examples of a row.
-fn run_row(alloc: Global, table: &Table, row: &[String]) -> Result<Counts> {
-    let mut counts = Counts { right: 0, wrong: 0 };
+fn run_row(alloc: Global, table: &Table, row: &[String]) -> Result<ExampleCounts> {
+    let mut counts = ExampleCounts { right: 0, wrong: 0 };
     for (column, cell) in table.columns.iter().zip(row) {
         if let Column::Words = column {
             continue;
@@ -66,7 +66,7 @@ fn run_row(alloc: Global, table: &Table, row: &[String]) -> Result<Counts> {
 /// Runs the examples of a page, and writes their counts.
 fn run(rt: &(impl Files + Print + AllocGlobal), name: &str) -> Result<()> {
     let text = fs::read_to_string(rt, name).context(format_args!("reading {name}"))?;
-    let mut counts = Counts { right: 0, wrong: 0 };
+    let mut counts = ExampleCounts { right: 0, wrong: 0 };
     let mut table = Table::none(rt.alloc());
     for line in text.lines() {
         let row = cells(rt.alloc(), line)?;

@@ -17,8 +17,8 @@ pub(crate) enum Column {
 }
 
 /// The column with this head beside patterns; none for a head that is not known, so that no example is left out unseen.
-fn column_headed(head: &str) -> Option<Column> {
-    Some(match head {
+fn column_headed(header: &str) -> Option<Column> {
+    Some(match header {
         "reads as" | "is returned as" | "is returned here as" | "outside it" => Column::Reading(0),
         "in Oniguruma mode" => Column::Reading(FLAG_ONIGURUMA_MODE),
         "its text under `FLAG_UNICODE`" => Column::Writing(0),
@@ -70,11 +70,11 @@ impl Table {
     }
 
     /// Begins a table with this head. Where its first column has no patterns, the others have only words.
-    fn begin(&mut self, head: &[String]) -> Result<()> {
-        let first = head.first().context("no head")?;
+    fn begin(&mut self, header: &[String]) -> Result<()> {
+        let first = header.first().context("no head")?;
         let has_patterns = first.starts_with("pattern");
         self.columns.push(Column::Words)?;
-        for cell in head.iter().skip(1) {
+        for cell in header.iter().skip(1) {
             self.columns.push(if has_patterns {
                 column_headed(cell).context(format_args!("an unknown head: {cell}"))?
             } else {

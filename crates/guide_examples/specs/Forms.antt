@@ -2,8 +2,8 @@
 use Rattle.std.specs.Prelude.{◌≡◌, ℕ, List, false, chars, encode_utf8_all}
 use Rattle.fancy_lex.specs.Text.{Text}
 use Rattle.fancy_lex.specs.declared.flags.Flags.{Flags}
-use Rattle.fancy_syntax.specs.Answer.{IsTreeOf}
-use Rattle.fancy_syntax.specs.Marks.{Marks}
+use Rattle.fancy_syntax.specs.InfoViews.{IsTreeOf}
+use Rattle.fancy_syntax.specs.GroupInfo.{GroupInfo}
 use Rattle.fancy_syntax.specs.Printable.{printable}
 use Rattle.fancy_syntax.specs.Printed.{printed}
 use Rattle.fancy_syntax.specs.ReadBack.{IsReadBack}
@@ -12,13 +12,13 @@ use Rattle.fancy_syntax.specs.declared.print.TheConstants.{WHOLE}
 
 -- the bytes are the text of the pattern's tree; it reads as the tree in normal form, or is refused for its depth alone
 abbrev pub IsFormOf : Flags → Text → List ℕ → Type 0
-IsFormOf f pattern w = (t : Tree) × (m : Marks) × IsTreeOf f pattern t m × (w ≡ encode_utf8_all (printed t WHOLE))
+IsFormOf f pattern w = (t : Tree) × (m : GroupInfo) × IsTreeOf f pattern t m × (w ≡ encode_utf8_all (printed t WHOLE))
     × IsReadBack t WHOLE (chars w)
 
 -- the pattern has a tree that is not printable
 abbrev pub HasNoForm : Flags → Text → Type 0
-HasNoForm f pattern = (t : Tree) × (m : Marks) × IsTreeOf f pattern t m × (printable t ≡ false)
+HasNoForm f pattern = (t : Tree) × (m : GroupInfo) × IsTreeOf f pattern t m × (printable t ≡ false)
 
 -- the text has a tree with the marks that the pattern's tree has
-abbrev pub HasMarksOf : Flags → Text → Text → Type 0
-HasMarksOf f pattern text = (t : Tree) × (u : Tree) × (m : Marks) × IsTreeOf f pattern t m × IsTreeOf f text u m
+abbrev pub HasInfoOf : Flags → Text → Text → Type 0
+HasInfoOf f pattern text = (t : Tree) × (u : Tree) × (m : GroupInfo) × IsTreeOf f pattern t m × IsTreeOf f text u m

@@ -1,7 +1,7 @@
 //! A tree that is changed.
 ghost use Rattle.std.specs.Prelude.{chars, string_bytes, IfOk, IfSome};
 ghost use Rattle.fancy_lex.specs.Flags.{flags_of};
-ghost use Rattle.guide_examples.specs.Forms.{HasMarksOf};
+ghost use Rattle.guide_examples.specs.Forms.{HasInfoOf};
 
 use fancy_pattern::to_pattern;
 use fancy_syntax::{Error, Expr, FLAG_UNICODE};
@@ -26,8 +26,8 @@ pub fn with_child(
     i: usize,
     new: Expr,
 ) -> Result<Option<String>, Error>
-    ensures marks { IfOk result (λ text. IfSome text (λ s.
-        HasMarksOf (flags_of FLAG_UNICODE) (chars pattern.now) (chars (string_bytes s)))) }
+    ensures group_info { IfOk result (λ text. IfSome text (λ s.
+        HasInfoOf (flags_of FLAG_UNICODE) (chars pattern.now) (chars (string_bytes s)))) }
 {
     let mut tree = Expr::parse_tree_with_flags(alloc, pattern, FLAG_UNICODE)?;
     if !replace_child(&mut tree.expr, i, new) {

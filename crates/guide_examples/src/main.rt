@@ -56,7 +56,7 @@ fn show_twice(rt: &HostRuntime, tree: &Expr) -> Result<()> {
     Ok(())
 }
 
-fn show_marks(rt: &HostRuntime, tree: &ExprTree) -> Result<()> {
+fn show_info(rt: &HostRuntime, tree: &ExprTree) -> Result<()> {
     println!(rt;
         "  repeats without a bound: {}",
         repeats_without_bound(&tree.expr)
@@ -70,7 +70,7 @@ fn show_marks(rt: &HostRuntime, tree: &ExprTree) -> Result<()> {
 
 fn show_tree(rt: &HostRuntime, tree: &ExprTree) -> Result<()> {
     show_literals(rt, &tree.expr)?;
-    show_marks(rt, tree)?;
+    show_info(rt, tree)?;
     show_twice(rt, &tree.expr)
 }
 

@@ -1,9 +1,9 @@
 //! Callers with contracts of their own, which rest on those of the library.
 ghost use Rattle.std.specs.Prelude.{◌≡◌, chars, length, string_bytes, IfOk, MatchOption};
 ghost use Rattle.fancy_lex.specs.Flags.{flags_of};
-ghost use Rattle.fancy_syntax.specs.Answer.{IsTreeOf};
-ghost use Rattle.fancy_syntax.specs.Answered.{groups};
-ghost use Rattle.fancy_syntax.specs.Marks.{Marks};
+ghost use Rattle.fancy_syntax.specs.InfoViews.{IsTreeOf};
+ghost use Rattle.fancy_syntax.specs.ParsedTree.{groups};
+ghost use Rattle.fancy_syntax.specs.GroupInfo.{GroupInfo};
 ghost use Rattle.fancy_syntax.specs.Tree.{Tree};
 ghost use Rattle.guide_examples.specs.Forms.{IsFormOf, HasNoForm};
 
@@ -21,7 +21,7 @@ pub fn formatted(alloc: Global, pattern: &str) -> Result<Option<String>, Error>
 
 /// How many capturing groups the pattern has.
 pub fn group_count(alloc: Global, pattern: &str) -> Result<usize, Error>
-    ensures tree { IfOk result (λ n. (t : Tree) × (m : Marks) ×
+    ensures tree { IfOk result (λ n. (t : Tree) × (m : GroupInfo) ×
         IsTreeOf (flags_of FLAG_UNICODE) (chars pattern.now) t m) }
     ensures count { IfOk result (λ n. (t : _) (m : _) → IsTreeOf (flags_of FLAG_UNICODE) (chars pattern.now) t m →
         length (groups t) ≡ n) }

@@ -1,5 +1,5 @@
 //! Patterns that are read, and trees that are printed.
-use crate::questions::{Question, Row, first_wrong};
+use crate::questions::{Question, QuestionRow, first_wrong};
 use crate::trees::Source;
 use fancy_syntax::error::{Error, ParseError};
 use fancy_syntax::expr::Expr;
@@ -34,7 +34,7 @@ pub(crate) fn reads_as(
 }
 
 /// Trees by hand, and what reads as them with Unicode alone.
-static READ: [Row; 3] = [
+static READ: [QuestionRow; 3] = [
     (Source::Empty, Question::ReadsAs("", 0), true),
     (Source::EmptyOrEmpty, Question::ReadsAs("|", 0), true),
     (
@@ -59,7 +59,7 @@ fn put(alloc: Global, tree: &Expr, precedence: u8, text: &mut String) -> Result<
 }
 
 /// Whether the tree's text is put behind `start`. Where memory is refused for it, `start` is what stands there.
-pub(crate) fn is_put_behind(
+pub(crate) fn is_put_after(
     alloc: Global,
     tree: &Expr,
     precedence: u8,
@@ -67,25 +67,25 @@ pub(crate) fn is_put_behind(
     wanted: &str,
 ) -> Result<bool, AllocError> {
     let mut text = String::from_str(alloc, start)?;
-    let answer = put(alloc, tree, precedence, &mut text);
-    is_text(text.as_str(), answer, start, wanted)
+    let outcome = put(alloc, tree, precedence, &mut text);
+    is_text(text.as_str(), outcome, start, wanted)
 }
 
 fn is_text(
     text: &str,
-    answer: Result<(), AllocError>,
+    outcome: Result<(), AllocError>,
     start: &str,
     wanted: &str,
 ) -> Result<bool, AllocError> {
-    if answer.is_err() && text != start {
+    if outcome.is_err() && text != start {
         return Ok(false);
     }
-    answer?;
+    outcome?;
     Ok(text.strip_prefix(start) == Some(wanted))
 }
 
 /// The text is appended, and reads as the tree.
-static PRINTED: [Row; 8] = [
+static PRINTED: [QuestionRow; 8] = [
     (
         Source::Pattern("(?:ab){2,3}", FLAG_UNICODE),
         Question::HasText(WHOLE, "", "(?:ab){2,3}"),
@@ -135,7 +135,7 @@ fn text_is_appended_and_read_again(rt: HostRuntime) -> Result<(), Error> {
 }
 
 /// Trees whose texts read as others.
-static REPEATED: [Row; 5] = [
+static REPEATED: [QuestionRow; 5] = [
     (
         Source::RepeatedLiteral("ab", false),
         Question::HasText(WHOLE, "x", "(?:ab)*"),
@@ -164,7 +164,7 @@ static REPEATED: [Row; 5] = [
 ];
 
 #[test]
-fn a_repeated_literal_stands_in_a_group(rt: HostRuntime) -> Result<(), Error> {
+fn a_repeated_literal_is_in_a_group(rt: HostRuntime) -> Result<(), Error> {
     assert_eq!(rt; first_wrong(rt.alloc(), &REPEATED)?, None);
     Ok(())
 }
@@ -234,7 +234,7 @@ pub(crate) fn nests_once(alloc: Global, tree: &Expr) -> Result<bool, Error> {
 }
 
 /// A tree for each kind of group that is printed; in each one such group nests.
-static ONE_PRINTED_GROUP: [Row; 11] = [
+static ONE_PRINTED_GROUP: [QuestionRow; 11] = [
     (
         Source::Pattern("[e]", FLAG_CASEI),
         Question::NestsOnce,
@@ -272,7 +272,7 @@ fn less_than_64_printed_groups_nest(rt: HostRuntime) -> Result<(), Error> {
 
 /// Trees are not printable where a text reads as another tree, nor where a delegate is not one whole class or class
 /// escape.
-static PRINTABLE: [Row; 10] = [
+static PRINTABLE: [QuestionRow; 10] = [
     (Source::RepeatedNothing, Question::Printable, false),
     (
         Source::RepeatedLiteral("", false),

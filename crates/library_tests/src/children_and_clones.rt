@@ -6,8 +6,8 @@ use fancy_syntax::expr::Expr;
 use std::alloc::{AllocError, Global};
 
 /// Whether the letter is the one of this place, counted from 1: a, b, c.
-fn is_letter_at(val: &str, place: usize) -> bool {
-    match place {
+fn is_letter_at(val: &str, position: usize) -> bool {
+    match position {
         1 => val == "a",
         2 => val == "b",
         _ => val == "c",

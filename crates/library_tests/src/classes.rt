@@ -1,10 +1,10 @@
 //! Classes: those that no recorded pattern of `conformance` has alone.
 use crate::readers::Reader::Class;
-use crate::readers::{Row, first_wrong};
+use crate::readers::{ReaderRow, first_wrong};
 use fancy_lex::flags::{FLAG_IGNORE_SPACE, FLAG_UNICODE};
 use std::alloc::AllocError;
 
-static ROWS: [Row; 7] = [
+static ROWS: [ReaderRow; 7] = [
     // what is written for classes
     (Class(FLAG_UNICODE), "[]a]b", "[]a] then b"),
     (Class(FLAG_UNICODE), "[^]a]b", "[^]a] then b"),

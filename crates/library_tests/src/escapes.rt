@@ -1,6 +1,6 @@
 //! Escapes outside a class: those that no recorded pattern of `conformance` has alone.
 use crate::readers::Reader::Escape;
-use crate::readers::{Row, first_wrong};
+use crate::readers::{ReaderRow, first_wrong};
 use fancy_lex::flags::{
     FLAG_CASEI, FLAG_CRLF, FLAG_IGNORE_SPACE, FLAG_ONIGURUMA_MODE, FLAG_UNICODE,
 };
@@ -8,7 +8,7 @@ use std::alloc::AllocError;
 
 const SPACED: u32 = FLAG_UNICODE | FLAG_IGNORE_SPACE;
 
-static ROWS: [Row; 8] = [
+static ROWS: [ReaderRow; 8] = [
     // what escapes stand for
     (
         Escape(FLAG_UNICODE),

@@ -1,5 +1,5 @@
 //! What nodes are, at the top of a tree and below it.
-use crate::questions::{Question, Row, first_wrong};
+use crate::questions::{Question, QuestionRow, first_wrong};
 use crate::trees::Source;
 use fancy_syntax::error::Error;
 use fancy_syntax::expr::{Absent, BacktrackingControlVerb as Verb, Expr, LookAround};
@@ -55,7 +55,7 @@ fn absent(form: &Absent) -> &'static str {
 const TOWER: &str = r"(?>|(a)|\K)";
 
 /// Only proper descendants are asked.
-static BELOW: [Row; 6] = [
+static BELOW: [QuestionRow; 6] = [
     (
         Source::Pattern("(a)", FLAG_UNICODE),
         Question::Below("group"),

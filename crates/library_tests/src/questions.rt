@@ -1,5 +1,5 @@
 //! Questions of one tree. What owns a tree is dear to prove, so one function alone does it for all questions.
-use crate::calls::{is_put_behind, nests_once, reads_as};
+use crate::calls::{is_put_after, nests_once, reads_as};
 use crate::nodes::has_below;
 use crate::trees::{Source, tree_of};
 use fancy_syntax::error::Error;
@@ -18,13 +18,13 @@ pub(crate) enum Question {
 }
 
 /// Where a tree comes from, a question of it, and the answer.
-pub(crate) type Row = (Source, Question, bool);
+pub(crate) type QuestionRow = (Source, Question, bool);
 
-fn answer(alloc: Global, tree: &Expr, question: &Question) -> Result<bool, Error> {
+fn evaluate(alloc: Global, tree: &Expr, question: &Question) -> Result<bool, Error> {
     match question {
         Question::Printable => Ok(tree.is_printable(alloc)?),
         Question::NestsOnce => nests_once(alloc, tree),
-        Question::HasText(precedence, start, text) => Ok(is_put_behind(
+        Question::HasText(precedence, start, text) => Ok(is_put_after(
             alloc,
             tree,
             *precedence,
@@ -38,11 +38,11 @@ fn answer(alloc: Global, tree: &Expr, question: &Question) -> Result<bool, Error
 
 fn ask(alloc: Global, source: &Source, question: &Question) -> Result<bool, Error> {
     let tree = tree_of(alloc, source)?;
-    answer(alloc, &tree, question)
+    evaluate(alloc, &tree, question)
 }
 
 /// The number of the first row whose answer is another.
-pub(crate) fn first_wrong(alloc: Global, rows: &[Row]) -> Result<Option<usize>, Error> {
+pub(crate) fn first_wrong(alloc: Global, rows: &[QuestionRow]) -> Result<Option<usize>, Error> {
     for (i, (source, question, wanted)) in rows.iter().enumerate() {
         if ask(alloc, source, question)? != *wanted {
             return Ok(Some(i));

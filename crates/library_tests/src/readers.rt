@@ -1,15 +1,15 @@
 //! What the readers say of a pattern, and what they leave of it; or the fault.
 use crate::{classes, escapes, references};
 use fancy_lex::class::{class, push_delegate};
-use fancy_lex::error::Failure;
+use fancy_lex::error::ReadError;
 use fancy_lex::escape::reference::{back_reference, numbered_reference, subroutine_call};
 use fancy_lex::escape::{Escaped, escape};
 use fancy_lex::flags::Flags;
 use fancy_lex::name::CaptureGroupTarget;
 use fancy_lex::name::target::{Call, Reference, Target};
-use fancy_lex::text::{after, after_word, place_at};
-use fancy_parts::heads::names::{ClosingMark, group_name};
-use fancy_parts::heads::references::{condition_target, named_call, named_reference};
+use fancy_lex::text::{after, after_word, position_at};
+use fancy_parts::group_starts::names::{ClosingDelimiter, group_name};
+use fancy_parts::group_starts::references::{condition_target, named_call, named_reference};
 use std::alloc::{AllocError, Global};
 use std::fmt;
 
@@ -24,12 +24,12 @@ pub(crate) enum Reader {
 }
 
 /// A reader, a pattern, and what the reader says of it.
-pub(crate) type Row = (Reader, &'static str, &'static str);
+pub(crate) type ReaderRow = (Reader, &'static str, &'static str);
 
 /// What was read; of a reference or a call also its place. What a delegate or a class is written as stands in memory of
 /// its own.
 #[derive(Drop)]
-enum Found<'a> {
+enum ReadItem<'a> {
     Nothing,
     Escape(Escaped<'a>),
     Delegate(String, bool),
@@ -39,18 +39,18 @@ enum Found<'a> {
     Call(Call<'a>, usize),
 }
 
-impl fmt::Display for Found<'_> {
+impl fmt::Display for ReadItem<'_> {
     fn fmt<W: fmt::Write>(&self, f: &mut fmt::Formatter<W>) -> fmt::Result {
         match self {
-            Found::Nothing => f.write_str("nothing"),
-            Found::Escape(escaped) => write_escaped(f, escaped),
-            Found::Delegate(text, casei) => write!(f, "Delegate {text} {casei}"),
-            Found::Class(text) => write!(f, "{text}"),
-            Found::Name(name) => write!(f, "{name}"),
-            Found::Reference(Reference { target, level, .. }, place) => {
-                write!(f, "{target:?} {level:?} at {place}")
+            ReadItem::Nothing => f.write_str("nothing"),
+            ReadItem::Escape(escaped) => write_escaped(f, escaped),
+            ReadItem::Delegate(text, casei) => write!(f, "Delegate {text} {casei}"),
+            ReadItem::Class(text) => write!(f, "{text}"),
+            ReadItem::Name(name) => write!(f, "{name}"),
+            ReadItem::Reference(Reference { target, level, .. }, position) => {
+                write!(f, "{target:?} {level:?} at {position}")
             }
-            Found::Call(Call { target, .. }, place) => write!(f, "{target:?} at {place}"),
+            ReadItem::Call(Call { target, .. }, position) => write!(f, "{target:?} at {position}"),
         }
     }
 }
@@ -65,61 +65,61 @@ fn write_escaped<W: fmt::Write>(f: &mut fmt::Formatter<W>, escaped: &Escaped) ->
 }
 
 /// What is read, and what is left.
-type Answer<'a> = Result<(Found<'a>, &'a str), Failure>;
+type ReadResult<'a> = Result<(ReadItem<'a>, &'a str), ReadError>;
 
-fn read_escape(alloc: Global, pattern: &str, flags: u32) -> Answer<'_> {
+fn read_escape(alloc: Global, pattern: &str, flags: u32) -> ReadResult<'_> {
     let Some((_, text)) = pattern.split_once('\\') else {
-        return Ok((Found::Nothing, pattern));
+        return Ok((ReadItem::Nothing, pattern));
     };
     let flags = Flags::from_bits(flags);
     let (escaped, rest) = escape(alloc, text, flags, false)?;
     let Escaped::Delegate { inner, casei } = escaped else {
-        return Ok((Found::Escape(escaped), rest));
+        return Ok((ReadItem::Escape(escaped), rest));
     };
     let mut text = String::new(alloc);
     push_delegate(&mut text, inner)?;
-    Ok((Found::Delegate(text, casei), rest))
+    Ok((ReadItem::Delegate(text, casei), rest))
 }
 
-fn read_class(alloc: Global, pattern: &str, flags: u32) -> Answer<'_> {
+fn read_class(alloc: Global, pattern: &str, flags: u32) -> ReadResult<'_> {
     let Some(text) = after(pattern, '[') else {
-        return Ok((Found::Nothing, pattern));
+        return Ok((ReadItem::Nothing, pattern));
     };
     let (written, rest) = class(alloc, text, Flags::from_bits(flags))?;
-    Ok((Found::Class(written), rest))
+    Ok((ReadItem::Class(written), rest))
 }
 
-fn read_name(pattern: &str) -> Answer<'_> {
-    let Some(head) = after(pattern, '(').and_then(|head| after(head, '?')) else {
-        return Ok((Found::Nothing, pattern));
+fn read_name(pattern: &str) -> ReadResult<'_> {
+    let Some(inside) = after(pattern, '(').and_then(|inside| after(inside, '?')) else {
+        return Ok((ReadItem::Nothing, pattern));
     };
-    let (name, rest) = if let Some(text) = after(head, '\'') {
-        group_name(head, ClosingMark::Quote, text)?
-    } else if let Some(text) = after_word(head, "P<").or_else(|| after(head, '<')) {
-        group_name(head, ClosingMark::Angle, text)?
+    let (name, rest) = if let Some(text) = after(inside, '\'') {
+        group_name(inside, ClosingDelimiter::Quote, text)?
+    } else if let Some(text) = after_word(inside, "P<").or_else(|| after(inside, '<')) {
+        group_name(inside, ClosingDelimiter::Angle, text)?
     } else {
-        return Ok((Found::Nothing, pattern));
+        return Ok((ReadItem::Nothing, pattern));
     };
-    Ok((Found::Name(name), rest))
+    Ok((ReadItem::Name(name), rest))
 }
 
 fn reference<'a>(
     pattern: &str,
     (reference, rest): (Reference<'a>, &'a str),
-) -> (Found<'a>, &'a str) {
-    let place = place_at(pattern, reference.reach);
-    (Found::Reference(reference, place), rest)
+) -> (ReadItem<'a>, &'a str) {
+    let position = position_at(pattern, reference.reach);
+    (ReadItem::Reference(reference, position), rest)
 }
 
-fn call<'a>(pattern: &str, (call, rest): (Call<'a>, &'a str)) -> (Found<'a>, &'a str) {
-    let place = place_at(pattern, call.reach);
-    (Found::Call(call, place), rest)
+fn call<'a>(pattern: &str, (call, rest): (Call<'a>, &'a str)) -> (ReadItem<'a>, &'a str) {
+    let position = position_at(pattern, call.reach);
+    (ReadItem::Call(call, position), rest)
 }
 
 /// Reads the first reference that opens so.
-fn read_reference<'a>(pattern: &'a str, opening: &str) -> Answer<'a> {
+fn read_reference<'a>(pattern: &'a str, opening: &str) -> ReadResult<'a> {
     let Some((_, text)) = pattern.split_once(opening) else {
-        return Ok((Found::Nothing, pattern));
+        return Ok((ReadItem::Nothing, pattern));
     };
     Ok(match opening {
         r"\k" => reference(pattern, back_reference(text)?),

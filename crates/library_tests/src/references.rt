@@ -1,6 +1,6 @@
 //! Names and references: what no recorded result of `conformance` shows.
 use crate::readers::Reader::{Name, Reference};
-use crate::readers::{Row, first_wrong};
+use crate::readers::{ReaderRow, first_wrong};
 use std::alloc::AllocError;
 
 const NAMELESS_AT_2: &str = "Parsing error at position 2: Could not parse group name";
@@ -9,7 +9,7 @@ const NAMELESS_AT_3: &str = "Parsing error at position 3: Could not parse group 
 
 const NAMELESS_AT_4: &str = "Parsing error at position 4: Could not parse group name";
 
-static ROWS: [Row; 33] = [
+static ROWS: [ReaderRow; 33] = [
     // what references say
     (
         Reference(r"\k"),

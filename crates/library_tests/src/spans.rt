@@ -173,7 +173,7 @@ fn first_other(alloc: Global) -> Result<Option<usize>, Error> {
 }
 
 #[test]
-fn parse_tree_with_spans_returns_where_nodes_stand(rt: HostRuntime) -> Result<(), Error> {
+fn parse_tree_with_spans_returns_where_nodes_are(rt: HostRuntime) -> Result<(), Error> {
     assert_eq!(rt; first_other(rt.alloc())?, None);
     Ok(())
 }

@@ -1,15 +1,15 @@
 //! `patterns SUBCOMMAND ..` checks, shows and formats patterns, as `patterns --help` says.
 #![tactic(auto)]
 
-mod answer;
+mod execute;
 mod files;
 mod rules;
 mod words;
 
-use answer::answer;
+use execute::execute;
 use files::Host;
 use patterns_program::progress::{System, Terminals};
-use patterns_text::fault::{Fault, give_up};
+use patterns_text::error::{RunError, give_up};
 use patterns_text::paint::{Paint, Paints};
 use std::alloc::AllocError;
 use std::env::VarError;
@@ -48,13 +48,13 @@ fn run(rt: &HostRuntime) -> io::Result<u8> {
     let mut out = BufWriter::new(rt.alloc(), rt.stdout())?;
     let host = Host { rt };
     let auto = paints_of(rt, host.terminals())?;
-    Ok(answer(rt.alloc(), auto, &words, &host, &mut out, &mut rt.stderr()))
+    Ok(execute(rt.alloc(), auto, &words, &host, &mut out, &mut rt.stderr()))
 }
 
 fn main(rt: HostRuntime) -> ExitCode {
     match run(&rt) {
         Ok(status) => ExitCode::from(status),
-        Err(_) => ExitCode::from(give_up(&mut rt.stderr(), Fault::Memory(AllocError))),
+        Err(_) => ExitCode::from(give_up(&mut rt.stderr(), RunError::Memory(AllocError))),
     }
 }
 

@@ -87,25 +87,25 @@ impl System for Memory<'_> {
 #[derive(Drop)]
 pub(crate) struct Limited {
     pub(crate) text: Vec<u8>,
-    room: usize,
+    capacity: usize,
 }
 
 impl Limited {
-    pub(crate) fn new(alloc: Global, room: usize) -> Limited {
+    pub(crate) fn new(alloc: Global, capacity: usize) -> Limited {
         Limited {
             text: Vec::new(alloc),
-            room,
+            capacity,
         }
     }
 }
 
 impl Write for Limited {
     fn write(&mut self, bytes: &[u8]) -> io::Result<usize> {
-        let Some(left) = self.room.checked_sub(bytes.len()) else {
+        let Some(left) = self.capacity.checked_sub(bytes.len()) else {
             return Err(io::Error::from(ErrorKind::BrokenPipe));
         };
         self.text.extend_from_slice(bytes)?;
-        self.room = left;
+        self.capacity = left;
         Ok(bytes.len())
     }
 

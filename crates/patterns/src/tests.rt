@@ -1,6 +1,6 @@
 //! What no run from outside shows: a reader and writers that fail, and colours on one terminal alone. What the program
 //! writes is compared by `.ci/patterns` with the folder `data`.
-use crate::answer::answer;
+use crate::execute::execute;
 use crate::memory::{Limited, Memory};
 use patterns_text::paint::{Paint, Paints};
 use std::alloc::Global;
@@ -8,7 +8,7 @@ use std::test::Fail;
 
 /// What a run came to: its status, and what was written on the two outputs.
 #[derive(Drop)]
-struct Ending {
+struct TestRun {
     status: u8,
     out: Limited,
     err: Limited,
@@ -16,14 +16,14 @@ struct Ending {
 
 /// Runs the program on the words and the standard input `(`, where so many bytes can be written on each output, and
 /// `auto` says which has colours.
-fn run(alloc: Global, auto: Paints, words: &[&str], room: usize) -> Result<Ending, Fail> {
+fn run(alloc: Global, auto: Paints, words: &[&str], capacity: usize) -> Result<TestRun, Fail> {
     let mut owned = Vec::new(alloc);
     for word in words {
         owned.push(String::from_str(alloc, word)?)?;
     }
-    let mut out = Limited::new(alloc, room);
-    let mut err = Limited::new(alloc, room);
-    let status = answer(
+    let mut out = Limited::new(alloc, capacity);
+    let mut err = Limited::new(alloc, capacity);
+    let status = execute(
         alloc,
         auto,
         &owned,
@@ -31,7 +31,7 @@ fn run(alloc: Global, auto: Paints, words: &[&str], room: usize) -> Result<Endin
         &mut out,
         &mut err,
     );
-    Ok(Ending { status, out, err })
+    Ok(TestRun { status, out, err })
 }
 
 const MIXED: &str = "mixed:2:2: Opening parenthesis without closing parenthesis
@@ -43,20 +43,20 @@ a)b
 ";
 
 /// Whether a run whose output takes so many bytes says that it cannot write, and has written a beginning.
-fn tells_of_write(alloc: Global, room: usize) -> Result<bool, Fail> {
+fn reports_write(alloc: Global, capacity: usize) -> Result<bool, Fail> {
     let run = run(
         alloc,
         Paints::both(Paint::Plain),
         &["patterns", "check", "mixed"],
-        room,
+        capacity,
     )?;
     Ok(run.status == 3 && MIXED.as_bytes().starts_with(&run.out.text))
 }
 
 #[test]
 fn refused_writes(rt: HostRuntime) -> Result<(), Fail> {
-    for room in 0..MIXED.len() {
-        assert!(rt; tells_of_write(rt.alloc(), room)?, "{room} bytes");
+    for capacity in 0..MIXED.len() {
+        assert!(rt; reports_write(rt.alloc(), capacity)?, "{capacity} bytes");
     }
     Ok(())
 }

@@ -2,7 +2,7 @@
 use clap::{Arg, ArgAction, ArgMatches, Command};
 use fre_program::flag_word::flags_named;
 use patterns_picture::picture::Canvas;
-use patterns_program::form::Form;
+use patterns_program::form::FileFormat;
 use patterns_program::lines::Ending;
 use patterns_program::objects::Report;
 use patterns_program::printing::Comments;
@@ -48,8 +48,7 @@ const KEYS_HELP: &str =
 
 const JSON_HELP: &str = "Writes JSON, one object per line, to standard output";
 
-const QUIET_HELP: &str =
-    "Shows neither progress nor the final summary on standard error";
+const QUIET_HELP: &str = "Shows neither progress nor the final summary on standard error";
 
 const COLOR_HELP: &str =
     "When to write colours: always, never, or auto, which is to a terminal unless the environment variable NO_COLOR is \
@@ -364,13 +363,13 @@ fn ending_chosen(matches: &ArgMatches<'_>) -> Ending {
 }
 
 /// How the files have patterns, as the arguments choose.
-pub(crate) fn form_chosen<'a>(matches: &ArgMatches<'a>) -> Form<'a> {
+pub(crate) fn form_chosen<'a>(matches: &ArgMatches<'a>) -> FileFormat<'a> {
     if matches.get_flag("textmate") {
-        return Form::Values(Keys::TextMate);
+        return FileFormat::Values(Keys::TextMate);
     }
     match matches.get_str("keys") {
-        Some(names) => Form::Values(Keys::Named(names)),
-        None => Form::Records(ending_chosen(matches)),
+        Some(names) => FileFormat::Values(Keys::Named(names)),
+        None => FileFormat::Records(ending_chosen(matches)),
     }
 }
 

@@ -16,22 +16,22 @@ use Rattle.patterns_lint.specs.Targets.{is_unresolved_call}
 -- what holds of each node that is as it was read
 ast_cases : (f : Tree → Bool) (b : Bool) → ((r : AstReference) (p : ℕ) → f (ast_node r p) ≡ b) →
     ((name : Option (List ℕ)) (p : ℕ) (t : Tree) → f (ast_group name p t) ≡ b) →
-    (v : AstNode-F Absent ast.AstNode Expr) (place : ℕ) →
-    f (ast_step (map-AstNode Absent ast.AstNode Expr Tree (ℕ → Tree) Tree view_absent view_ast view v) place) ≡ b
-ast_cases f b h k (AstNode-F.AstGroup name inner) place = k _ place _
-ast_cases f b h k (AstNode-F.AstNode::Backref t casei level) place = h _ place
-ast_cases f b h k (AstNode-F.AstNode::SubroutineCall t) place = h _ place
-ast_cases f b h k (AstNode-F.AstNode::BackrefExistsCondition t level) place = h _ place
+    (v : AstNode-F Absent ast.AstNode Expr) (position : ℕ) →
+    f (ast_step (map-AstNode Absent ast.AstNode Expr Tree (ℕ → Tree) Tree view_absent view_ast view v) position) ≡ b
+ast_cases f b h k (AstNode-F.AstGroup name inner) position = k _ position _
+ast_cases f b h k (AstNode-F.AstNode::Backref t casei level) position = h _ position
+ast_cases f b h k (AstNode-F.AstNode::SubroutineCall t) position = h _ position
+ast_cases f b h k (AstNode-F.AstNode::BackrefExistsCondition t level) position = h _ position
 
 of_ast : (f : Tree → Bool) (b : Bool) → ((r : AstReference) (p : ℕ) → f (ast_node r p) ≡ b) →
     ((name : Option (List ℕ)) (p : ℕ) (t : Tree) → f (ast_group name p t) ≡ b) →
-    (n : ast.AstNode) (place : ℕ) → f (view_ast n place) ≡ b
-of_ast f b h k n place =
-    ap (λ g. f (g place)) (fold_out-AstNode Tree (ℕ → Tree) Tree absent_step ast_step expr_step n)
-    ∙ ast_cases f b h k (out-AstNode n) place
+    (n : ast.AstNode) (position : ℕ) → f (view_ast n position) ≡ b
+of_ast f b h k n position =
+    ap (λ g. f (g position)) (fold_out-AstNode Tree (ℕ → Tree) Tree absent_step ast_step expr_step n)
+    ∙ ast_cases f b h k (out-AstNode n) position
 
-pub view_AstNode : (n : ast.AstNode) (place : ℕ) → view (AstNode n place) ≡ view_ast n place
-view_AstNode n place = search (rules, the_lemmas)
+pub view_AstNode : (n : ast.AstNode) (position : ℕ) → view (AstNode n position) ≡ view_ast n position
+view_AstNode n position = search (rules, the_lemmas)
 
 pub ast_only_empty : (n : ast.AstNode) (p : ℕ) → matches_only_empty (view_ast n p) ≡ false
 ast_only_empty n p = of_ast matches_only_empty false (λ r q. refl) (λ name q t. refl) n p

@@ -73,7 +73,7 @@ abbrev mutual
   pub has_group : Tree → Bool
   has_group (leaf l) = false
   has_group (over label.group t) = true
-  has_group (over (label.ast_group name place) t) = false
+  has_group (over (label.ast_group name position) t) = false
   has_group (over w t) = has_group t
   has_group (row r ts) = any_has_group ts
 

@@ -18,6 +18,6 @@ missing_group _ _ = None
 -- read
 abbrev pub is_unresolved_call : ℕ → Tree → Bool
 is_unresolved_call total (subroutine_call n) = nat_lt total n
-is_unresolved_call total (ast_node r place) = true
-is_unresolved_call total (ast_group name place t) = true
+is_unresolved_call total (ast_node r position) = true
+is_unresolved_call total (ast_group name position t) = true
 is_unresolved_call _ _ = false

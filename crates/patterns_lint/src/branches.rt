@@ -164,10 +164,10 @@ impl Earlier {
         earlier: &[Expr],
         branch: &Expr,
         whole: Fingerprint,
-        here: Situation,
+        situation: Situation,
     ) -> Option<Problem<'static>> {
         if let Expr::Empty = branch {
-            let may_be_empty = here.is_last || here.has_calls && earlier.is_empty();
+            let may_be_empty = situation.is_last || situation.has_calls && earlier.is_empty();
             return if may_be_empty {
                 None
             } else {
@@ -179,7 +179,7 @@ impl Earlier {
                 earlier: i.saturating_add(1),
             });
         }
-        if !here.is_at_end || here.has_calls {
+        if !situation.is_at_end || situation.has_calls {
             return None;
         }
         let i = self.beginning_of(earlier, branch)?;

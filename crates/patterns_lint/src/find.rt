@@ -2,7 +2,7 @@
 use crate::flags::useless_flags;
 use crate::problem::Found;
 use crate::references::{Ways, follow};
-use crate::scan::{About, scan};
+use crate::scan::{PatternInfo, scan};
 use crate::walk::Walk;
 use fancy_spans::SpannedTree;
 use patterns_text::subject::Subject;
@@ -20,7 +20,7 @@ pub fn problems<'a>(
         pattern,
     } = subject;
     let tree = &parsed.tree;
-    let about = About {
+    let about = PatternInfo {
         alloc,
         pattern,
         total: tree.total_groups,

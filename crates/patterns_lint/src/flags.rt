@@ -40,8 +40,8 @@ fn with(flags: Flags, letter: char, on: bool) -> Flags {
 }
 
 /// The text after the name that begins the text, and after its closing mark.
-fn after_name(text: &str, mark: char) -> &str {
-    match text.split_once(mark) {
+fn after_name(text: &str, delimiter: char) -> &str {
+    match text.split_once(delimiter) {
         Some((_, rest)) => rest,
         None => "",
     }
@@ -49,7 +49,7 @@ fn after_name(text: &str, mark: char) -> &str {
 
 /// A reading of a pattern's groups.
 #[derive(Drop)]
-struct Reading<'a> {
+struct GroupReader<'a> {
     pattern: &'a str,
     rest: &'a str,
     /// The leaves that are still to come.
@@ -62,7 +62,7 @@ struct Reading<'a> {
     found: Vec<Found<'static>>,
 }
 
-impl<'a> Reading<'a> {
+impl<'a> GroupReader<'a> {
     /// The position of the text.
     fn position(&self, text: &str) -> usize {
         self.pattern.len().saturating_sub(text.len())
@@ -78,12 +78,12 @@ impl<'a> Reading<'a> {
         let Some((leaf, more)) = self.leaves.split_first() else {
             return false;
         };
-        let here = self.position(self.rest);
-        if here < leaf.start {
+        let at = self.position(self.rest);
+        if at < leaf.start {
             return false;
         }
         self.leaves = more;
-        if here < leaf.end {
+        if at < leaf.end {
             self.rest = self.pattern.get(leaf.end..).unwrap_or("");
             self.opens_condition = false;
         }
@@ -137,10 +137,10 @@ impl<'a> Reading<'a> {
         let mut flags = self.flags;
         let mut rest = text;
         for _ in 0..text.len() {
-            let Some((c, behind)) = next(self.past_layout(rest, flags)) else {
+            let Some((c, tail)) = next(self.past_layout(rest, flags)) else {
                 break;
             };
-            rest = behind;
+            rest = tail;
             match c {
                 ')' => {
                     self.flags = flags;
@@ -160,7 +160,7 @@ impl<'a> Reading<'a> {
     }
 
     /// Reads what stands after a parenthesis and a question mark.
-    fn head(&mut self, text: &'a str) -> Result<(), AllocError> {
+    fn opening(&mut self, text: &'a str) -> Result<(), AllocError> {
         let Some((c, rest)) = next(text) else {
             return self.open(text);
         };
@@ -192,7 +192,7 @@ impl<'a> Reading<'a> {
             '(' => {
                 let inside = self.past_layout(rest, self.flags);
                 match after(inside, '?') {
-                    Some(head) => self.head(head),
+                    Some(opening) => self.opening(opening),
                     None => self.open(inside),
                 }
             }
@@ -215,7 +215,7 @@ pub(crate) fn useless_flags(
     leaves: &[Span],
     flags: u32,
 ) -> Result<Vec<Found<'static>>, AllocError> {
-    let mut reading = Reading {
+    let mut reading = GroupReader {
         pattern,
         rest: pattern,
         leaves,

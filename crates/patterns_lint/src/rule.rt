@@ -2,7 +2,7 @@
 ghost use Rattle.std.specs.Prelude.{◌≡◌, IfSome};
 ghost use Rattle.patterns_lint.specs.Rules.{rule_name};
 
-use patterns_text::fault::Fault;
+use patterns_text::error::RunError;
 use std::io::Write;
 
 /// A rule: what may be wrong with a pattern that is accepted.
@@ -58,7 +58,7 @@ pub static RULES: [Rule; 14] = [
 
 /// What is said of a rule.
 #[derive(Clone, Copy)]
-struct About {
+struct RuleInfo {
     name: &'static str,
     what: &'static str,
     example: &'static str,
@@ -67,89 +67,89 @@ struct About {
 
 impl Rule {
     /// What is said of the rule.
-    fn about(self) -> About
+    fn about(self) -> RuleInfo
         ensures name { result.name.now ≡ rule_name self }
     {
         match self {
-            Rule::MissingGroup => About {
+            Rule::MissingGroup => RuleInfo {
                 name: "missing-group",
                 what: "a back reference or a condition on a group that the pattern does not have",
                 example: r"(a)\2",
                 help: "it never matches: correct the number, or remove it",
             },
-            Rule::UselessBackreference => About {
+            Rule::UselessBackreference => RuleInfo {
                 name: "useless-backreference",
                 what: "a back reference to a group that cannot have matched yet",
                 example: r"\1(a)",
                 help: "move it after the group, or make it a subroutine call",
             },
-            Rule::UnresolvedCall => About {
+            Rule::UnresolvedCall => RuleInfo {
                 name: "unresolved-call",
                 what: "a subroutine call that refers to no group, or is by a name that several groups have",
                 example: r"(?<a>x)\g<b>",
                 help: "call a group by its number, or by a name that one group has",
             },
-            Rule::DuplicateGroupName => About {
+            Rule::DuplicateGroupName => RuleInfo {
                 name: "duplicate-group-name",
                 what: "a name of several groups that can take part in the same match",
                 example: r"(?<a>x)(?<a>y)",
                 help: "give each group a name of its own; a reference by the name means the last group",
             },
-            Rule::UnusedCapturingGroup => About {
+            Rule::UnusedCapturingGroup => RuleInfo {
                 name: "unused-capturing-group",
                 what: "a group without a name that nothing refers to, beside groups with a name (off by default)",
                 example: r"(?<a>x)(y)",
                 help: "give it a name, or write it as (?:...)",
             },
-            Rule::DuplicateBranch => About {
+            Rule::DuplicateBranch => RuleInfo {
                 name: "duplicate-branch",
                 what: "a branch that is equal to an earlier one",
                 example: r"a|b|a",
                 help: "remove it",
             },
-            Rule::UnreachableBranch => About {
+            Rule::UnreachableBranch => RuleInfo {
                 name: "unreachable-branch",
                 what: "a branch that begins with the whole of an earlier one, if nothing follows the alternation",
                 example: r"get|getter",
                 help: "put it before the earlier branch, or remove it",
             },
-            Rule::EmptyBranch => About {
+            Rule::EmptyBranch => RuleInfo {
                 name: "empty-branch",
                 what: "an empty branch before another",
                 example: r"a||b",
                 help: "remove a bar, or put the empty branch last",
             },
-            Rule::QuantifiedAssertion => About {
+            Rule::QuantifiedAssertion => RuleInfo {
                 name: "quantified-assertion",
                 what: "a quantifier on what matches only the empty text",
                 example: r"(?:^|\b)*a",
                 help: "remove the quantifier",
             },
-            Rule::EmptyLoop => About {
+            Rule::EmptyLoop => RuleInfo {
                 name: "empty-loop",
                 what: "an unlimited quantifier on what can match the empty text",
                 example: r"(?:a*)*",
                 help: "let each repetition match at least one character",
             },
-            Rule::UselessQuantifier => About {
+            Rule::UselessQuantifier => RuleInfo {
                 name: "useless-quantifier",
                 what: "a quantifier that repeats exactly once",
                 example: r"a{1}",
                 help: "remove the quantifier",
             },
-            Rule::ZeroQuantifier => About {
+            Rule::ZeroQuantifier => RuleInfo {
                 name: "zero-quantifier",
                 what: "a quantifier that repeats zero times",
                 example: r"ab{0}",
                 help: "remove the quantifier with its operand",
             },
-            Rule::UselessFlag => About {
+            Rule::UselessFlag => RuleInfo {
                 name: "useless-flag",
                 what: "a flag that is set although it is set already",
                 example: r"(?i)a(?i:b)",
                 help: "remove the flag",
             },
-            Rule::SingleCharacterClass => About {
+            Rule::SingleCharacterClass => RuleInfo {
                 name: "single-character-class",
                 what: "a class of one letter or digit",
                 example: r"[a]b",
@@ -189,9 +189,9 @@ impl Rule {
 }
 
 /// Writes the rules to `out`, a line each: the name, what the rule reports, and an example.
-pub fn write_rules<O: Write>(out: &mut O) -> Result<(), Fault> {
+pub fn write_rules<O: Write>(out: &mut O) -> Result<(), RunError> {
     for rule in RULES.iter() {
-        let About {
+        let RuleInfo {
             name,
             what,
             example,

@@ -13,7 +13,7 @@ use std::alloc::{AllocError, Global};
 
 /// What the rules know of the pattern.
 #[derive(Clone, Copy)]
-pub(crate) struct About<'a> {
+pub(crate) struct PatternInfo<'a> {
     pub(crate) alloc: Global,
     pub(crate) pattern: &'a str,
     /// How many groups have a number.
@@ -23,7 +23,7 @@ pub(crate) struct About<'a> {
 }
 
 /// What is wrong with the node itself.
-fn node_problem(tree: &Expr, span: Span, about: About<'_>) -> Option<Problem<'static>> {
+fn node_problem(tree: &Expr, span: Span, about: PatternInfo<'_>) -> Option<Problem<'static>> {
     let before = about.pattern.get(..span.start).unwrap_or("");
     if is_single_character_class(tree, before) {
         return Some(Problem::SingleCharacterClass);
@@ -101,16 +101,16 @@ fn is_child_at_end(tree: &Expr, index: usize, is_at_end: bool) -> bool {
 
 /// The branches of an alternation, and those before the next one; no branches of another node.
 #[derive(Drop)]
-struct Branches<'b> {
+struct AltBranches<'b> {
     all: &'b [Expr],
     earlier: Earlier,
     is_at_end: bool,
     has_calls: bool,
 }
 
-impl<'b> Branches<'b> {
+impl<'b> AltBranches<'b> {
     /// Those of the node.
-    fn of(tree: &'b Expr, about: About<'_>, is_at_end: bool) -> Branches<'b> {
+    fn of(tree: &'b Expr, about: PatternInfo<'_>, is_at_end: bool) -> AltBranches<'b> {
         let all: &[Expr] = match tree {
             Expr::Alt(branches) => branches,
             Expr::Empty
@@ -137,7 +137,7 @@ impl<'b> Branches<'b> {
             | Expr::DefineGroup { .. }
             | Expr::AstNode(..) => &[],
         };
-        Branches {
+        AltBranches {
             all,
             earlier: Earlier::none(about.alloc),
             is_at_end,
@@ -150,14 +150,14 @@ impl<'b> Branches<'b> {
         let Some(branch) = self.all.get(i) else {
             return Ok(None);
         };
-        let here = Situation {
+        let situation = Situation {
             is_last: i.saturating_add(1) == self.all.len(),
             is_at_end: self.is_at_end,
             has_calls: self.has_calls,
         };
         let before = self.all.get(..i).unwrap_or(&[]);
         let whole = Fingerprint::of(branch);
-        let problem = self.earlier.problem(before, branch, whole, here);
+        let problem = self.earlier.problem(before, branch, whole, situation);
         self.earlier.add(i, branch, whole)?;
         Ok(problem)
     }
@@ -167,7 +167,7 @@ impl<'b> Branches<'b> {
 fn look_at<'a>(
     node: SpannedNode<'_>,
     walk: &mut Walk<'a>,
-    about: About<'_>,
+    about: PatternInfo<'_>,
 ) -> Result<(), AllocError> {
     if let Some(problem) = node_problem(node.expr(), node.span(), about) {
         walk.report(node.span(), problem)?;
@@ -183,11 +183,11 @@ fn look_at<'a>(
 pub(crate) fn scan<'a>(
     node: SpannedNode<'_>,
     walk: &mut Walk<'a>,
-    about: About<'_>,
+    about: PatternInfo<'_>,
     is_at_end: bool,
 ) -> Result<(), AllocError> {
     look_at(node, walk, about)?;
-    let mut branches = Branches::of(node.expr(), about, is_at_end);
+    let mut branches = AltBranches::of(node.expr(), about, is_at_end);
     let mut index = 0usize;
     for child in node.children() {
         if let Some(problem) = branches.next_problem(index)? {

@@ -6,7 +6,7 @@ use crate::text::columns;
 use fancy_spans::{SpannedNode, SpannedTree};
 use fancy_syntax::expr::Expr;
 use fancy_syntax::span::Span;
-use patterns_text::fault::Fault;
+use patterns_text::error::RunError;
 use patterns_text::subject::Subject;
 use std::alloc::AllocError;
 
@@ -149,7 +149,7 @@ impl<'a> Layout<'a> {
         parsed: &'a SpannedTree,
         left: usize,
         top: usize,
-    ) -> Result<Layout<'a>, Fault> {
+    ) -> Result<Layout<'a>, RunError> {
         let mut layout = Layout {
             nodes: Vec::with_capacity(subject.alloc, parsed.spans.len())?,
             pattern: subject.pattern,
@@ -213,7 +213,7 @@ impl<'a> Layout<'a> {
         words: &mut Words<'_>,
         children: usize,
         content: Size,
-    ) -> Result<Size, Fault> {
+    ) -> Result<Size, RunError> {
         let len = self.nodes.len();
         let Some(drawn) = self.nodes.get_mut(index) else {
             return Ok(content);
@@ -262,7 +262,7 @@ fn measure<'a>(
     layout: &mut Layout<'a>,
     words: &mut Words<'_>,
     node: SpannedNode<'a>,
-) -> Result<(Shape, Size), Fault> {
+) -> Result<(Shape, Size), RunError> {
     let index = layout.begin(node)?;
     let shape = Shape::of(node.expr());
     let mut content = Size::EMPTY;

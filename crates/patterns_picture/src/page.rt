@@ -3,7 +3,7 @@ use crate::svg::write_picture;
 use crate::text::{Xml, XmlLines};
 use fancy_spans::SpannedTree;
 use patterns_text::drawing::{Look, Style, write_tree};
-use patterns_text::fault::Fault;
+use patterns_text::error::RunError;
 use patterns_text::listing::{Lead, write_numbered, write_references};
 use patterns_text::names::Names;
 use patterns_text::nodes::nodes_of;
@@ -11,7 +11,7 @@ use patterns_text::subject::Subject;
 use std::io::Write;
 use std::{io, str};
 
-const HEAD: &str = "<style>
+const PAGE_STYLE: &str = "<style>
 body { font: 16px system-ui, sans-serif; margin: 24px; color: #1f2328; background: #fff }
 pre { font: 14px ui-monospace, Menlo, 'DejaVu Sans Mono', 'Liberation Mono', monospace; overflow-x: auto }
 h2 { font-size: 18px }
@@ -31,7 +31,7 @@ fn write_groups<O: Write>(
     subject: Subject<'_>,
     parsed: &SpannedTree,
     out: &mut O,
-) -> Result<(), Fault> {
+) -> Result<(), RunError> {
     let Subject { alloc, pattern, .. } = subject;
     let names = Names::of(alloc, &parsed.tree)?;
     let nodes = nodes_of(alloc, parsed)?;
@@ -47,7 +47,7 @@ fn write_drawn_tree<O: Write>(
     subject: Subject<'_>,
     parsed: &SpannedTree,
     out: &mut O,
-) -> Result<(), Fault> {
+) -> Result<(), RunError> {
     let look = Look {
         style: Style::Lines,
         has_spans: false,
@@ -63,13 +63,13 @@ pub(crate) fn write_page<O: Write>(
     subject: Subject<'_>,
     parsed: &SpannedTree,
     out: &mut O,
-) -> Result<(), Fault> {
+) -> Result<(), RunError> {
     out.write_all(
         b"<!DOCTYPE html>\n<html xmlns=\"http://www.w3.org/1999/xhtml\" lang=\"en\">\n<head>\n",
     )?;
     out.write_all(b"<meta charset=\"utf-8\"/>\n")?;
     writeln!(out, "<title>{}</title>", Xml(subject.pattern))?;
-    out.write_all(HEAD.as_bytes())?;
+    out.write_all(PAGE_STYLE.as_bytes())?;
     out.write_all(b"</head>\n<body>\n<div class=\"wide\">\n")?;
     write_picture(subject, parsed, out)?;
     out.write_all(b"</div>\n")?;

@@ -1,13 +1,13 @@
 //! The subcommand `picture`: a pattern's tree as a railroad diagram.
 ghost use Rattle.std.specs.Prelude.{◌≡◌, ◌≤◌, ◌⊎◌, chars, Ok, IfOk};
 ghost use Rattle.fancy_lex.specs.Flags.{flags_of};
-ghost use Rattle.fre_program.specs.Words.{HasTree, HasFault};
+ghost use Rattle.fre_program.specs.Words.{HasTree, HasError};
 ghost use Rattle.patterns_text.specs.Subject.{IsAccepted, IsRefused};
 
 use crate::page::write_page;
 use crate::svg::write_picture;
 use fancy_spans::SpannedTree;
-use patterns_text::fault::{Fault, give_up};
+use patterns_text::error::{RunError, give_up};
 use patterns_text::subject::Subject;
 use std::alloc::Global;
 use std::io::Write;
@@ -27,7 +27,7 @@ fn write<O: Write>(
     canvas: Canvas,
     parsed: &SpannedTree,
     out: &mut O,
-) -> Result<(), Fault> {
+) -> Result<(), RunError> {
     match canvas {
         Canvas::Svg => write_picture(subject, parsed, out)?,
         Canvas::Page => write_page(subject, parsed, out)?,
@@ -37,12 +37,12 @@ fn write<O: Write>(
 }
 
 /// Writes the picture of the pattern on `out`, or on `err` where and why it is refused.
-fn answer<O: Write, E: Write>(
+fn draw_or_report<O: Write, E: Write>(
     subject: Subject<'_>,
     canvas: Canvas,
     out: &mut O,
     err: &mut E,
-) -> Result<u8, Fault>
+) -> Result<u8, RunError>
     ensures read { result ≡ Ok 0 → IsAccepted subject.entry }
     ensures refused { result ≡ Ok 1 → IsRefused subject.entry }
     ensures status { IfOk result (λ n. n ≤ 1) }
@@ -71,12 +71,12 @@ pub fn draw_picture<O: Write, E: Write>(
     err: &mut E,
 ) -> u8
     ensures read { result ≡ 0 → HasTree (flags_of flags) (chars pattern.now) }
-    ensures refused { result ≡ 1 → HasFault (flags_of flags) (chars pattern.now) }
+    ensures refused { result ≡ 1 → HasError (flags_of flags) (chars pattern.now) }
     ensures status { (result ≡ 0) ⊎ ((result ≡ 1) ⊎ (result ≡ 3)) }
 {
     let subject = Subject::of_argument(alloc, flags, pattern);
-    match answer(subject, canvas, out, err) {
+    match draw_or_report(subject, canvas, out, err) {
         Ok(status) => status,
-        Err(fault) => give_up(err, fault),
+        Err(error) => give_up(err, error),
     }
 }

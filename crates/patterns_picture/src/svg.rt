@@ -11,7 +11,7 @@ use fancy_spans::SpannedTree;
 use fancy_syntax::expr::Expr;
 use fancy_syntax::span::Span;
 use patterns_text::drawing::role;
-use patterns_text::fault::Fault;
+use patterns_text::error::RunError;
 use patterns_text::names::Names;
 use patterns_text::subject::Subject;
 use std::io;
@@ -226,7 +226,7 @@ fn write_box<O: Write>(out: &mut O, node: &Drawn<'_>) -> io::Result<()> {
 }
 
 impl<'a> Picture<'a> {
-    fn of(subject: Subject<'a>, parsed: &'a SpannedTree) -> Result<Picture<'a>, Fault> {
+    fn of(subject: Subject<'a>, parsed: &'a SpannedTree) -> Result<Picture<'a>, RunError> {
         let Subject { alloc, pattern, .. } = subject;
         let mut words = Words::new(alloc, Names::of(alloc, &parsed.tree)?, pattern);
         let left = MARGIN + SIDE;
@@ -277,7 +277,7 @@ impl<'a> Picture<'a> {
         out: &mut O,
         index: usize,
         node: &Drawn<'_>,
-    ) -> Result<(), Fault> {
+    ) -> Result<(), RunError> {
         writeln!(
             out,
             "<path class=\"area\" d=\"{}\"/>",
@@ -303,7 +303,7 @@ impl<'a> Picture<'a> {
         out: &mut O,
         index: usize,
         node: &Drawn<'_>,
-    ) -> Result<(), Fault> {
+    ) -> Result<(), RunError> {
         let link = referred(node.node).filter(|number| *number <= self.total);
         if let Some(number) = link {
             writeln!(out, "<a href=\"#group{number}\">")?;
@@ -321,7 +321,7 @@ impl<'a> Picture<'a> {
     }
 
     /// Writes all nodes.
-    fn write_nodes<O: Write>(&mut self, out: &mut O) -> Result<(), Fault> {
+    fn write_nodes<O: Write>(&mut self, out: &mut O) -> Result<(), RunError> {
         for index in 0..self.layout.nodes.len() {
             if let Some(node) = self.layout.nodes.get(index).copied() {
                 self.write_node(out, index, &node)?;
@@ -347,7 +347,7 @@ impl<'a> Picture<'a> {
         )
     }
 
-    fn write<O: Write>(&mut self, out: &mut O) -> Result<(), Fault> {
+    fn write<O: Write>(&mut self, out: &mut O) -> Result<(), RunError> {
         let (right, _) = self.layout.corner();
         let end = right.saturating_add(SIDE).max(self.grid.right());
         let width = end.saturating_add(MARGIN);
@@ -376,6 +376,6 @@ pub(crate) fn write_picture<O: Write>(
     subject: Subject<'_>,
     parsed: &SpannedTree,
     out: &mut O,
-) -> Result<(), Fault> {
+) -> Result<(), RunError> {
     Picture::of(subject, parsed)?.write(out)
 }

@@ -1,7 +1,7 @@
 -- The names of the kinds of errors.
 use Rattle.std.specs.Prelude.{ℕ, List, codes}
-use Rattle.fancy_lex.specs.Fault.{Kind}
-use Rattle.fancy_lex.specs.Fault as kind
+use Rattle.fancy_lex.specs.Located.{Kind}
+use Rattle.fancy_lex.specs.Located as kind
 
 -- the name of a kind, as `ParseError` has it
 abbrev pub code_of : Kind → List ℕ

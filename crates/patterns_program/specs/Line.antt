@@ -6,8 +6,8 @@ use Prim.Native.Char.{code}
 use Rattle.fancy_lex.specs.declared.flags.Flags.{Flags}
 use Rattle.fancy_grammar.specs.Pattern.{pattern_text}
 use Rattle.fancy_grammar.specs.ReadAs.{IsReadAs}
-use Rattle.fancy_syntax.specs.Answer.{IsTreeOf}
-use Rattle.fancy_syntax.specs.Marks.{Marks}
+use Rattle.fancy_syntax.specs.InfoViews.{IsTreeOf}
+use Rattle.fancy_syntax.specs.GroupInfo.{GroupInfo}
 use Rattle.fancy_syntax.specs.Tree.{Tree}
 use Rattle.patterns_program.specs.declared.printing.Comments.{Comments}
 use Rattle.patterns_program.specs.declared.printing.Comments.TheVariants as kept
@@ -28,23 +28,23 @@ MayKeep comments pattern = (comments ≡ kept.Keep) × (list_any (λ b. b == cod
 
 -- the bytes are the tree's text, for the line of the pattern: under the flags it is read as the tree with its marks, and
 -- it stands in a line
-pub record IsLineOf (f : Flags) (pattern : List ℕ) (t : Tree) (m : Marks) (w : List ℕ) : Type 0 where
+pub record IsLineOf (f : Flags) (pattern : List ℕ) (t : Tree) (m : GroupInfo) (w : List ℕ) : Type 0 where
   pub utf8 : IsUtf8 w
   pub is : chars w ≡ pattern_text f t m
   pub reads : IsReadAs f (chars w) t m
   pub unbroken : breaks_line w pattern ≡ false
 
 -- the tree's text would break the line of the pattern
-abbrev pub HasNoLine : Flags → List ℕ → Tree → Marks → Type 0
+abbrev pub HasNoLine : Flags → List ℕ → Tree → GroupInfo → Type 0
 HasNoLine f pattern t m = breaks_line (encode_utf8_all (pattern_text f t m)) pattern ≡ true
 
 -- the pattern is the line of its tree, or its tree has none: it is written as it is
 abbrev pub Stays : Flags → List ℕ → Type 0
 Stays f pattern =
-    (t : Tree) × (m : Marks) × IsTreeOf f (chars pattern) t m
+    (t : Tree) × (m : GroupInfo) × IsTreeOf f (chars pattern) t m
     × (IsLineOf f pattern t m pattern ⊎ HasNoLine f pattern t m)
 
 -- the line of the pattern's tree is another: it is written otherwise
 abbrev pub Changes : Flags → List ℕ → Type 0
 Changes f pattern =
-    (t : Tree) × (m : Marks) × (w : List ℕ) × IsTreeOf f (chars pattern) t m × IsLineOf f pattern t m w × (w ≢ pattern)
+    (t : Tree) × (m : GroupInfo) × (w : List ℕ) × IsTreeOf f (chars pattern) t m × IsLineOf f pattern t m w × (w ≢ pattern)

@@ -5,11 +5,14 @@ ghost use Rattle.patterns_text.specs.Subject.{IsAccepted, IsRefused};
 
 use crate::outcome::Outcome;
 use crate::reporter::{Reporter, parse};
-use patterns_text::fault::Fault;
+use patterns_text::error::RunError;
 use patterns_text::subject::Subject;
 
 /// Reports the error of the pattern, if it is refused.
-pub(crate) fn check<R: Reporter>(subject: Subject<'_>, reporter: &mut R) -> Result<Outcome, Fault>
+pub(crate) fn check<R: Reporter>(
+    subject: Subject<'_>,
+    reporter: &mut R,
+) -> Result<Outcome, RunError>
     ensures good { result ≡ Ok Outcome.Good → IsAccepted subject.entry }
     ensures refused { result ≡ Ok Outcome.Refused → IsRefused subject.entry }
     ensures read { result ≡ Ok Outcome.Unread → ⊥ }

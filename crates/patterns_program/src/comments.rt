@@ -50,9 +50,9 @@ fn in_class(class: &str) -> Option<usize> {
     let mut is_escaped = false;
     for (i, c) in class.char_indices() {
         if is_escaped && matches!(c, 'x' | 'u' | 'U') {
-            let behind = i.saturating_add(1);
-            if let Some(found) = in_hexadecimal(class.get(behind..)?) {
-                return Some(found.saturating_add(behind));
+            let after = i.saturating_add(1);
+            if let Some(found) = in_hexadecimal(class.get(after..)?) {
+                return Some(found.saturating_add(after));
             }
         }
         is_escaped = c == '\\' && !is_escaped;
@@ -84,14 +84,18 @@ fn in_leaf(leaf: &Expr, text: &str) -> Option<usize> {
 /// The mark before a group's name, the name, and the mark after it, where the span is that of a group with a name.
 fn name_span(pattern: &str, group: Span) -> Span {
     let inside = pattern.get(group.start.saturating_add(1)..).unwrap_or("");
-    let (_, head) = split_layout(inside);
-    let opening = head.find(['<', '\'']).unwrap_or(0);
-    let marked = head.get(opening..).unwrap_or("");
-    let mark = if marked.starts_with('<') { '>' } else { '\'' };
-    let name = marked.get(1..).unwrap_or("");
-    let rest = name.split_once(mark).map_or("", |parts| parts.1);
+    let (_, group_text) = split_layout(inside);
+    let opening = group_text.find(['<', '\'']).unwrap_or(0);
+    let delimited = group_text.get(opening..).unwrap_or("");
+    let delimiter = if delimited.starts_with('<') {
+        '>'
+    } else {
+        '\''
+    };
+    let name = delimited.get(1..).unwrap_or("");
+    let rest = name.split_once(delimiter).map_or("", |parts| parts.1);
     Span {
-        start: pattern.len().saturating_sub(marked.len()),
+        start: pattern.len().saturating_sub(delimited.len()),
         end: pattern.len().saturating_sub(rest.len()),
     }
 }

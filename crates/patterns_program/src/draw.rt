@@ -1,20 +1,20 @@
 //! The subcommand `tree`: a pattern's tree, and its group information.
 ghost use Rattle.std.specs.Prelude.{◌≡◌, ◌≤◌, ◌⊎◌, chars, Ok, IfOk};
 ghost use Rattle.fancy_lex.specs.Flags.{flags_of};
-ghost use Rattle.fre_program.specs.Words.{HasTree, HasFault};
+ghost use Rattle.fre_program.specs.Words.{HasTree, HasError};
 ghost use Rattle.patterns_text.specs.Subject.{IsAccepted, IsRefused};
 
 use crate::objects::Json;
 use crate::reporter::{Reporter, parse};
 use crate::text::Text;
 use patterns_text::drawing::Look;
-use patterns_text::fault::{Fault, give_up};
+use patterns_text::error::{RunError, give_up};
 use patterns_text::subject::Subject;
 use std::alloc::Global;
 use std::io::Write;
 
 /// Reports the tree of the pattern, or its error if it is refused.
-fn answer<R: Reporter>(subject: Subject<'_>, reporter: &mut R) -> Result<u8, Fault>
+fn report_tree<R: Reporter>(subject: Subject<'_>, reporter: &mut R) -> Result<u8, RunError>
     ensures read { result ≡ Ok 0 → IsAccepted subject.entry }
     ensures refused { result ≡ Ok 1 → IsRefused subject.entry }
     ensures status { IfOk result (λ n. n ≤ 1) }
@@ -40,13 +40,13 @@ pub fn draw_tree<O: Write, E: Write>(
     err: &mut E,
 ) -> u8
     ensures read { result ≡ 0 → HasTree (flags_of flags) (chars pattern.now) }
-    ensures refused { result ≡ 1 → HasFault (flags_of flags) (chars pattern.now) }
+    ensures refused { result ≡ 1 → HasError (flags_of flags) (chars pattern.now) }
     ensures status { (result ≡ 0) ⊎ ((result ≡ 1) ⊎ (result ≡ 3)) }
 {
     let subject = Subject::of_argument(alloc, flags, pattern);
-    match answer(subject, &mut Text::drawn(out, err, look)) {
+    match report_tree(subject, &mut Text::drawn(out, err, look)) {
         Ok(status) => status,
-        Err(fault) => give_up(err, fault),
+        Err(error) => give_up(err, error),
     }
 }
 
@@ -61,12 +61,12 @@ pub fn write_tree<O: Write, E: Write>(
     err: &mut E,
 ) -> u8
     ensures read { result ≡ 0 → HasTree (flags_of flags) (chars pattern.now) }
-    ensures refused { result ≡ 1 → HasFault (flags_of flags) (chars pattern.now) }
+    ensures refused { result ≡ 1 → HasError (flags_of flags) (chars pattern.now) }
     ensures status { (result ≡ 0) ⊎ ((result ≡ 1) ⊎ (result ≡ 3)) }
 {
     let subject = Subject::of_argument(alloc, flags, pattern);
-    match answer(subject, &mut Json { out }) {
+    match report_tree(subject, &mut Json { out }) {
         Ok(status) => status,
-        Err(fault) => give_up(err, fault),
+        Err(error) => give_up(err, error),
     }
 }

@@ -4,19 +4,19 @@ use crate::values::keys::Keys;
 
 /// How a file has patterns.
 #[derive(Clone, Copy)]
-pub enum Form<'a> {
+pub enum FileFormat<'a> {
     /// It consists of them; each ends so.
     Records(Ending),
     /// It is JSON, and its texts under these keys are patterns.
     Values(Keys<'a>),
 }
 
-impl Form<'_> {
+impl FileFormat<'_> {
     /// What a pattern ends with that is written. One that is a text of JSON ends with its line.
     pub(crate) fn ending(self) -> Ending {
         match self {
-            Form::Records(ending) => ending,
-            Form::Values(_) => Ending::Line,
+            FileFormat::Records(ending) => ending,
+            FileFormat::Values(_) => Ending::Line,
         }
     }
 }

@@ -5,14 +5,14 @@ ghost use Rattle.patterns_text.specs.Subject.{IsAccepted, IsRefused};
 
 use crate::outcome::Outcome;
 use crate::reporter::{Reporter, parse};
-use patterns_text::fault::Fault;
+use patterns_text::error::RunError;
 use patterns_text::subject::Subject;
 
 /// Reports the groups of the pattern and what its references and calls refer to, or its error if it is refused.
 pub(crate) fn list_groups<R: Reporter>(
     subject: Subject<'_>,
     reporter: &mut R,
-) -> Result<Outcome, Fault>
+) -> Result<Outcome, RunError>
     ensures good { result ≡ Ok Outcome.Good → IsAccepted subject.entry }
     ensures refused { result ≡ Ok Outcome.Refused → IsRefused subject.entry }
     ensures read { result ≡ Ok Outcome.Unread → ⊥ }

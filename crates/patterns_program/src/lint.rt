@@ -11,7 +11,7 @@ use crate::tally::Tally;
 use patterns_lint::chosen::{Chosen, Level};
 use patterns_lint::find::problems;
 use patterns_lint::problem::Found;
-use patterns_text::fault::Fault;
+use patterns_text::error::RunError;
 use patterns_text::subject::Subject;
 
 /// Counts the likely mistakes, and returns whether the rule of one is denied.
@@ -33,7 +33,7 @@ pub(crate) fn lint<R: Reporter>(
     chosen: &Chosen,
     reporter: &mut R,
     tally: &mut Tally,
-) -> Result<Outcome, Fault>
+) -> Result<Outcome, RunError>
     ensures good { result ≡ Ok Outcome.Good → IsAccepted subject.entry }
     ensures refused { result ≡ Ok Outcome.Refused → IsRefused subject.entry ⊎ Contains chosen.now.levels Level.Deny }
     ensures read { result ≡ Ok Outcome.Unread → ⊥ }

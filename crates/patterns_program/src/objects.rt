@@ -1,23 +1,23 @@
 //! Reports as JSON, an object a line.
 mod code;
+mod group_fields;
 mod line;
-mod marks;
 mod node;
-mod places;
+mod positions;
 mod problem;
 
 use crate::objects::code::code;
+use crate::objects::group_fields::{write_group_info, write_groups, write_references};
 use crate::objects::line::{begin, finish, write_span, write_text};
-use crate::objects::marks::{write_groups, write_marks, write_references};
 use crate::objects::node::write_node;
-use crate::objects::places::Places;
+use crate::objects::positions::Positions;
 use crate::objects::problem::{write_omitted, write_problem};
 use crate::reporter::{MAX_REPORTS, Reporter};
 use fancy_spans::SpannedTree;
 use fancy_syntax::span::Span;
 use patterns_lint::chosen::Chosen;
 use patterns_lint::problem::Found;
-use patterns_text::fault::Fault;
+use patterns_text::error::RunError;
 use patterns_text::nodes::nodes_of;
 use patterns_text::subject::{Refusal, Subject};
 use std::io::Write;
@@ -39,14 +39,14 @@ pub(crate) struct Json<'a, O> {
 
 impl<O: Write> Reporter for Json<'_, O> {
     /// The span is empty, and is at most at the end of the pattern.
-    fn error(&mut self, subject: Subject<'_>, refusal: &Refusal) -> Result<(), Fault> {
+    fn error(&mut self, subject: Subject<'_>, refusal: &Refusal) -> Result<(), RunError> {
         let Subject { alloc, pattern, .. } = subject;
         let start = refusal.position.min(pattern.len());
         let kind = &refusal.kind;
         let mut writer = begin(subject, "error")?;
         write_span(
             &mut writer,
-            &Places::of(alloc, pattern)?,
+            &Positions::of(alloc, pattern)?,
             Span { start, end: start },
         )?;
         write_text(&mut writer, "code", code(kind))?;
@@ -63,39 +63,39 @@ impl<O: Write> Reporter for Json<'_, O> {
         subject: Subject<'_>,
         chosen: &Chosen,
         found: &[Found<'_>],
-    ) -> Result<(), Fault> {
-        let places = Places::of(subject.alloc, subject.pattern)?;
+    ) -> Result<(), RunError> {
+        let positions = Positions::of(subject.alloc, subject.pattern)?;
         for one in found.iter().take(MAX_REPORTS) {
             let level = chosen.level(one.problem.rule());
-            write_problem(subject, &places, level, *one, self.out)?;
+            write_problem(subject, &positions, level, *one, self.out)?;
         }
         write_omitted(subject, found.len().saturating_sub(MAX_REPORTS), self.out)
     }
 
-    fn groups(&mut self, subject: Subject<'_>, parsed: &SpannedTree) -> Result<(), Fault> {
+    fn groups(&mut self, subject: Subject<'_>, parsed: &SpannedTree) -> Result<(), RunError> {
         let Subject { alloc, pattern, .. } = subject;
-        let places = Places::of(alloc, pattern)?;
+        let positions = Positions::of(alloc, pattern)?;
         let nodes = nodes_of(alloc, parsed)?;
         let mut writer = begin(subject, "groups")?;
-        write_groups(alloc, &mut writer, &places, &nodes, &parsed.tree)?;
-        write_references(&mut writer, &places, &nodes)?;
-        write_marks(&mut writer, &parsed.tree)?;
+        write_groups(alloc, &mut writer, &positions, &nodes, &parsed.tree)?;
+        write_references(&mut writer, &positions, &nodes)?;
+        write_group_info(&mut writer, &parsed.tree)?;
         finish(writer, self.out)
     }
 
-    fn tree(&mut self, subject: Subject<'_>, parsed: &SpannedTree) -> Result<(), Fault> {
+    fn tree(&mut self, subject: Subject<'_>, parsed: &SpannedTree) -> Result<(), RunError> {
         let Subject { alloc, pattern, .. } = subject;
-        let places = Places::of(alloc, pattern)?;
+        let positions = Positions::of(alloc, pattern)?;
         let nodes = nodes_of(alloc, parsed)?;
         let mut writer = begin(subject, "tree")?;
         writer.key("tree")?;
-        write_node(&mut writer, &places, parsed.root())?;
-        write_groups(alloc, &mut writer, &places, &nodes, &parsed.tree)?;
-        write_marks(&mut writer, &parsed.tree)?;
+        write_node(&mut writer, &positions, parsed.root())?;
+        write_groups(alloc, &mut writer, &positions, &nodes, &parsed.tree)?;
+        write_group_info(&mut writer, &parsed.tree)?;
         finish(writer, self.out)
     }
 
-    fn flush(&mut self) -> Result<(), Fault> {
+    fn flush(&mut self) -> Result<(), RunError> {
         self.out.flush()?;
         Ok(())
     }

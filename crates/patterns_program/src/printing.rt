@@ -2,7 +2,7 @@
 ghost use Rattle.std.specs.Bool.{OnTrue};
 ghost use Rattle.std.specs.Prelude.{◌≡◌, ◌⊎◌, chars, string_bytes, Ok, IfOk, IfSome, IfNone};
 ghost use Rattle.fancy_lex.specs.Flags.{flags_of};
-ghost use Rattle.fancy_syntax.specs.Answer.{IsTreeOf, marks_of};
+ghost use Rattle.fancy_syntax.specs.InfoViews.{IsTreeOf, info_of};
 ghost use Rattle.fancy_syntax.specs.View.{view};
 ghost use Rattle.patterns_program.specs.Line as spec;
 ghost use Rattle.patterns_program.specs.Line.{IsLineOf, HasNoLine, MayKeep, Stays, Changes};
@@ -19,9 +19,9 @@ use crate::text::Text;
 use fancy_pattern::to_pattern;
 use fancy_spans::SpannedTree;
 use fancy_syntax::tree::ExprTree;
-use patterns_text::fault::Fault;
+use patterns_text::error::RunError;
 use patterns_text::paint::Ink;
-use patterns_text::place::write_refusal;
+use patterns_text::position::write_refusal;
 use patterns_text::subject::Subject;
 use std::alloc::Global;
 use std::io;
@@ -64,12 +64,12 @@ fn text_of(
     flags: u32,
     pattern: &str,
     tree: &ExprTree,
-) -> Result<Option<String>, Fault>
+) -> Result<Option<String>, RunError>
     ensures some { IfOk result (λ text. IfSome text (λ s.
-        IsLineOf (flags_of flags) pattern.now (view tree.now.expr) (marks_of tree.now) (string_bytes s))) }
+        IsLineOf (flags_of flags) pattern.now (view tree.now.expr) (info_of tree.now) (string_bytes s))) }
     ensures none { IfOk result (λ text. IfNone text
-        (IsTreeOf (flags_of flags) (chars pattern.now) (view tree.now.expr) (marks_of tree.now) →
-        HasNoLine (flags_of flags) pattern.now (view tree.now.expr) (marks_of tree.now))) }
+        (IsTreeOf (flags_of flags) (chars pattern.now) (view tree.now.expr) (info_of tree.now) →
+        HasNoLine (flags_of flags) pattern.now (view tree.now.expr) (info_of tree.now))) }
 {
     let Some(text) = to_pattern(alloc, tree, flags)? else {
         return Ok(None);
@@ -92,7 +92,7 @@ fn keeps_comment<E: Write>(
     parsed: &SpannedTree,
     comments: Comments,
     err: &mut E,
-) -> Result<bool, Fault>
+) -> Result<bool, RunError>
     ensures { IfOk result (λ keeps. OnTrue keeps (MayKeep comments subject.entry.pattern.now)) }
 {
     if comments == Comments::Drop || !subject.pattern.as_bytes().contains(&b'#') {
@@ -112,7 +112,7 @@ pub(crate) fn format_pattern<O: Write, E: Write>(
     ending: Ending,
     comments: Comments,
     text: &mut Text<'_, O, E>,
-) -> Result<Outcome, Fault>
+) -> Result<Outcome, RunError>
     ensures good { result ≡ Ok Outcome.Good → IsAccepted subject.entry }
     ensures refused { result ≡ Ok Outcome.Refused → IsRefused subject.entry
         ⊎ MayKeep comments subject.entry.pattern.now }
@@ -154,7 +154,7 @@ pub(crate) fn is_formatted<O: Write, E: Write>(
     comments: Comments,
     text: &mut Text<'_, O, E>,
     tally: &mut Tally,
-) -> Result<Outcome, Fault>
+) -> Result<Outcome, RunError>
     ensures good { result ≡ Ok Outcome.Good → Stays (flags_of subject.entry.flags) subject.entry.pattern.now }
     ensures refused { result ≡ Ok Outcome.Refused → let given = subject.entry in IsRefused given
         ⊎ (MayKeep comments given.pattern.now ⊎ Changes (flags_of given.flags) given.pattern.now) }

@@ -5,13 +5,13 @@ ghost use Rattle.patterns_text.specs.Subject.{IsAccepted, IsRefused, IsParsedAs}
 use fancy_spans::SpannedTree;
 use patterns_lint::chosen::Chosen;
 use patterns_lint::problem::Found;
-use patterns_text::fault::Fault;
+use patterns_text::error::RunError;
 use patterns_text::subject::{Refusal, Subject};
 
 /// What writes reports on patterns.
 pub(crate) trait Reporter {
     /// Writes where and why the pattern is refused.
-    fn error(&mut self, subject: Subject<'_>, refusal: &Refusal) -> Result<(), Fault>;
+    fn error(&mut self, subject: Subject<'_>, refusal: &Refusal) -> Result<(), RunError>;
 
     /// Writes the likely mistakes in the pattern, or the first ones and how many more there are. Each is of a rule that is
     /// not silent.
@@ -20,16 +20,16 @@ pub(crate) trait Reporter {
         subject: Subject<'_>,
         chosen: &Chosen,
         found: &[Found<'_>],
-    ) -> Result<(), Fault>;
+    ) -> Result<(), RunError>;
 
     /// Writes the groups of the pattern, and what its references and calls refer to.
-    fn groups(&mut self, subject: Subject<'_>, parsed: &SpannedTree) -> Result<(), Fault>;
+    fn groups(&mut self, subject: Subject<'_>, parsed: &SpannedTree) -> Result<(), RunError>;
 
     /// Writes the tree of the pattern, and its group information.
-    fn tree(&mut self, subject: Subject<'_>, parsed: &SpannedTree) -> Result<(), Fault>;
+    fn tree(&mut self, subject: Subject<'_>, parsed: &SpannedTree) -> Result<(), RunError>;
 
     /// Flushes the output.
-    fn flush(&mut self) -> Result<(), Fault>;
+    fn flush(&mut self) -> Result<(), RunError>;
 }
 
 /// How many likely mistakes are reported of a pattern. Each report shows the pattern's line, which may be long.
@@ -39,10 +39,10 @@ pub(crate) const MAX_REPORTS: usize = 100;
 pub(crate) fn parse<R: Reporter>(
     subject: Subject<'_>,
     reporter: &mut R,
-) -> Result<Option<SpannedTree>, Fault>
-    ensures read { IfOk result (λ answer. OnSome answer (IsAccepted subject.entry)) }
-    ensures tree { IfOk result (λ answer. IfSome answer (λ t. IsParsedAs subject.entry t.tree)) }
-    ensures refused { IfOk result (λ answer. IfNone answer (IsRefused subject.entry)) }
+) -> Result<Option<SpannedTree>, RunError>
+    ensures read { IfOk result (λ reading. OnSome reading (IsAccepted subject.entry)) }
+    ensures tree { IfOk result (λ reading. IfSome reading (λ t. IsParsedAs subject.entry t.tree)) }
+    ensures refused { IfOk result (λ reading. IfNone reading (IsRefused subject.entry)) }
 {
     match subject.parse()? {
         Ok(parsed) => Ok(Some(parsed)),

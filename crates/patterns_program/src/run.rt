@@ -2,7 +2,7 @@
 ghost use Rattle.std.specs.Prelude.{◌≤◌};
 
 use crate::check::check;
-use crate::form::Form;
+use crate::form::FileFormat;
 use crate::groups::list_groups;
 use crate::lines::{lines_in, next_record};
 use crate::lint::lint;
@@ -18,9 +18,9 @@ use crate::values::trail::Trail;
 use crate::values::values_of;
 use json::Scratch;
 use patterns_lint::chosen::Chosen;
-use patterns_text::fault::{Fault, give_up};
+use patterns_text::error::{RunError, give_up};
 use patterns_text::paint::Paints;
-use patterns_text::place::{Location, Spot};
+use patterns_text::position::{Location, Spot};
 use patterns_text::subject::Subject;
 use std::alloc::{AllocError, Global};
 use std::io::{BufRead, ErrorKind, Write};
@@ -54,7 +54,7 @@ pub enum Verb {
 pub struct Job<'a> {
     pub verb: Verb,
     pub flags: u32,
-    pub form: Form<'a>,
+    pub form: FileFormat<'a>,
     /// Whether the run says neither how far it is nor, at its end, what became of the patterns.
     pub is_quiet: bool,
     pub paints: Paints,
@@ -89,22 +89,22 @@ fn located<'a>(job: Job<'_>, file: &'a str, spot: Spot<'a>) -> Location<'a> {
 }
 
 /// Says that a file cannot be opened, or not be read further; gives up if that is because memory ran out.
-fn unread<E: Write>(file: &str, error: io::Error, err: &mut E) -> Result<Outcome, Fault> {
+fn unread<E: Write>(file: &str, error: io::Error, err: &mut E) -> Result<Outcome, RunError> {
     if error.kind() == ErrorKind::OutOfMemory {
-        return Err(Fault::Memory(AllocError));
+        return Err(RunError::Memory(AllocError));
     }
     writeln!(err, "patterns: {file}: {error}")?;
     Ok(Outcome::Unread)
 }
 
 /// Does the verb's work on a pattern.
-fn answer<O: Write, E: Write>(
+fn process<O: Write, E: Write>(
     subject: Subject<'_>,
     job: Job<'_>,
     out: &mut O,
     err: &mut E,
     tally: &mut Tally,
-) -> Result<Outcome, Fault> {
+) -> Result<Outcome, RunError> {
     let verb = job.verb;
     match verb {
         Verb::Check => check(subject, &mut Text::new(out, err, verb.errors())),
@@ -141,14 +141,14 @@ fn answer<O: Write, E: Write>(
 }
 
 /// The same, on a screen.
-fn answer_on<C: Clock, O: Write, E: Write>(
+fn process_on<C: Clock, O: Write, E: Write>(
     subject: Subject<'_>,
     job: Job<'_>,
     screen: &mut Screen<'_, C, O, E>,
     tally: &mut Tally,
-) -> Result<Outcome, Fault> {
+) -> Result<Outcome, RunError> {
     let Screen { out, err, .. } = screen;
-    answer(subject, job, out, err, tally)
+    process(subject, job, out, err, tally)
 }
 
 /// A run over files.
@@ -172,20 +172,24 @@ impl<C: Clock, O: Write, E: Write> FileRun<'_, C, O, E> {
     }
 
     /// Does the verb's work on a pattern.
-    fn answer_pattern<'p>(&mut self, pattern: &'p str, at: Location<'p>) -> Result<Outcome, Fault> {
+    fn process_pattern<'p>(
+        &mut self,
+        pattern: &'p str,
+        at: Location<'p>,
+    ) -> Result<Outcome, RunError> {
         let subject = Subject {
             alloc: self.alloc,
             flags: self.job.flags,
             at,
             pattern,
         };
-        answer_on(subject, self.job, &mut self.screen, &mut self.tally)
+        process_on(subject, self.job, &mut self.screen, &mut self.tally)
     }
 
     /// Does the verb's work on a line.
-    fn answer_line<'p>(&mut self, line: &'p [u8], at: Location<'p>) -> Result<Outcome, Fault> {
+    fn process_line<'p>(&mut self, line: &'p [u8], at: Location<'p>) -> Result<Outcome, RunError> {
         match str::from_utf8(line) {
-            Ok(pattern) => self.answer_pattern(pattern, at),
+            Ok(pattern) => self.process_pattern(pattern, at),
             Err(_) => {
                 self.pass_over(at, line)?;
                 Ok(Outcome::Unread)
@@ -200,7 +204,11 @@ impl<C: Clock, O: Write, E: Write> FileRun<'_, C, O, E> {
     }
 
     /// Does the verb's work on each line of a reader.
-    fn answer_lines<R: BufRead>(&mut self, file: &str, reader: &mut R) -> Result<Outcome, Fault> {
+    fn process_lines<R: BufRead>(
+        &mut self,
+        file: &str,
+        reader: &mut R,
+    ) -> Result<Outcome, RunError> {
         let mut buffer = Vec::new(self.alloc);
         let mut outcome = Outcome::Good;
         let mut line = 1u64;
@@ -208,7 +216,7 @@ impl<C: Clock, O: Write, E: Write> FileRun<'_, C, O, E> {
             match next_record(reader, self.job.form.ending(), &mut buffer) {
                 Ok(Some(text)) => {
                     let at = located(self.job, file, Spot::Line(line));
-                    let found = self.answer_line(text, at)?;
+                    let found = self.process_line(text, at)?;
                     line = line.saturating_add(lines_in(text));
                     outcome = outcome.and(found);
                     self.count(found, text.len())?;
@@ -221,12 +229,12 @@ impl<C: Clock, O: Write, E: Write> FileRun<'_, C, O, E> {
     }
 
     /// Does the verb's work on each text under the keys in the JSON of a reader.
-    fn answer_values<R: BufRead>(
+    fn process_values<R: BufRead>(
         &mut self,
         keys: Keys<'_>,
         file: &str,
         reader: &mut R,
-    ) -> Result<Outcome, Fault> {
+    ) -> Result<Outcome, RunError> {
         let mut bytes = Vec::new(self.alloc);
         if let Err(error) = reader.read_to_end(&mut bytes) {
             return unread(file, error, &mut self.screen.err);
@@ -241,7 +249,7 @@ impl<C: Clock, O: Write, E: Write> FileRun<'_, C, O, E> {
         for node in values.nodes() {
             if let Some((spot, pattern)) = trail.pattern(*node, keys) {
                 let at = located(self.job, file, spot);
-                let found = self.answer_pattern(pattern, at)?;
+                let found = self.process_pattern(pattern, at)?;
                 outcome = outcome.and(found);
                 self.count(found, pattern.len())?;
             }
@@ -251,33 +259,41 @@ impl<C: Clock, O: Write, E: Write> FileRun<'_, C, O, E> {
     }
 
     /// Does the verb's work on each pattern of a reader.
-    fn answer_reader<R: BufRead>(&mut self, file: &str, reader: &mut R) -> Result<Outcome, Fault> {
+    fn process_reader<R: BufRead>(
+        &mut self,
+        file: &str,
+        reader: &mut R,
+    ) -> Result<Outcome, RunError> {
         match self.job.form {
-            Form::Records(_) => self.answer_lines(file, reader),
-            Form::Values(keys) => self.answer_values(keys, file, reader),
+            FileFormat::Records(_) => self.process_lines(file, reader),
+            FileFormat::Values(keys) => self.process_values(keys, file, reader),
         }
     }
 
     /// Does the verb's work on each pattern of a file.
-    fn answer_file<S: Sources>(&mut self, file: &str, sources: &S) -> Result<Outcome, Fault> {
+    fn process_file<S: Sources>(&mut self, file: &str, sources: &S) -> Result<Outcome, RunError> {
         if file == STANDARD_INPUT {
             return match sources.input() {
-                Ok(mut input) => self.answer_reader(file, &mut input),
+                Ok(mut input) => self.process_reader(file, &mut input),
                 Err(error) => unread(file, error, &mut self.screen.err),
             };
         }
         match sources.open(file) {
-            Ok(mut opened) => self.answer_reader(file, &mut opened),
+            Ok(mut opened) => self.process_reader(file, &mut opened),
             Err(error) => unread(file, error, &mut self.screen.err),
         }
     }
 
     /// Does the verb's work on each pattern of each file, and sees that it is written.
-    fn answer_files<S: Sources>(&mut self, files: &[&str], sources: &S) -> Result<Outcome, Fault> {
+    fn process_files<S: Sources>(
+        &mut self,
+        files: &[&str],
+        sources: &S,
+    ) -> Result<Outcome, RunError> {
         let mut outcome = Outcome::Good;
         for (done, file) in files.iter().enumerate() {
             self.screen.begin_file(done, &self.tally)?;
-            outcome = outcome.and(self.answer_file(file, sources)?);
+            outcome = outcome.and(self.process_file(file, sources)?);
         }
         self.screen.out.flush()?;
         if !self.job.is_quiet {
@@ -313,8 +329,8 @@ pub fn run<S: System, O: Write, E: Write>(
         screen: Screen::new(sources, job.is_quiet, files.len(), out, err),
         tally: Tally::new(),
     };
-    match work.answer_files(files, sources) {
+    match work.process_files(files, sources) {
         Ok(outcome) => outcome.status(),
-        Err(fault) => give_up(&mut work.screen.err, fault),
+        Err(error) => give_up(&mut work.screen.err, error),
     }
 }

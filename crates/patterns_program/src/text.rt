@@ -7,7 +7,7 @@ use fancy_spans::SpannedTree;
 use patterns_lint::chosen::Chosen;
 use patterns_lint::problem::Found;
 use patterns_text::drawing::{Look, Style, write_tree};
-use patterns_text::fault::Fault;
+use patterns_text::error::RunError;
 use patterns_text::listing::{Lead, write_at, write_numbered, write_references};
 use patterns_text::names::Names;
 use patterns_text::nodes::nodes_of;
@@ -58,7 +58,7 @@ impl<'a, O: Write, E: Write> Text<'a, O, E> {
 }
 
 impl<O: Write, E: Write> Reporter for Text<'_, O, E> {
-    fn error(&mut self, subject: Subject<'_>, refusal: &Refusal) -> Result<(), Fault> {
+    fn error(&mut self, subject: Subject<'_>, refusal: &Refusal) -> Result<(), RunError> {
         match self.errors {
             Stream::Out => refusal.write(self.out, subject)?,
             Stream::Err => refusal.write(self.err, subject)?,
@@ -71,7 +71,7 @@ impl<O: Write, E: Write> Reporter for Text<'_, O, E> {
         subject: Subject<'_>,
         chosen: &Chosen,
         found: &[Found<'_>],
-    ) -> Result<(), Fault> {
+    ) -> Result<(), RunError> {
         for one in found.iter().take(MAX_REPORTS) {
             let level = chosen.level(one.problem.rule());
             write_report(self.out, subject, level, *one)?;
@@ -80,7 +80,7 @@ impl<O: Write, E: Write> Reporter for Text<'_, O, E> {
         Ok(())
     }
 
-    fn groups(&mut self, subject: Subject<'_>, parsed: &SpannedTree) -> Result<(), Fault> {
+    fn groups(&mut self, subject: Subject<'_>, parsed: &SpannedTree) -> Result<(), RunError> {
         let Subject {
             alloc,
             at,
@@ -100,11 +100,11 @@ impl<O: Write, E: Write> Reporter for Text<'_, O, E> {
         Ok(())
     }
 
-    fn tree(&mut self, subject: Subject<'_>, parsed: &SpannedTree) -> Result<(), Fault> {
+    fn tree(&mut self, subject: Subject<'_>, parsed: &SpannedTree) -> Result<(), RunError> {
         write_tree(subject, self.look, parsed, self.out)
     }
 
-    fn flush(&mut self) -> Result<(), Fault> {
+    fn flush(&mut self) -> Result<(), RunError> {
         self.out.flush()?;
         Ok(())
     }

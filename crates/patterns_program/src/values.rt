@@ -5,7 +5,7 @@ pub(crate) mod trail;
 
 use crate::values::refusal::{write_not_text, write_refusal, write_too_long};
 use json::{Error, Scratch, Tape};
-use patterns_text::fault::Fault;
+use patterns_text::error::RunError;
 use std::alloc::{AllocError, Global};
 use std::io::Write;
 use std::str;
@@ -17,7 +17,7 @@ pub(crate) fn values_of<'a, E: Write>(
     bytes: &'a [u8],
     scratch: &'a mut Scratch,
     err: &mut E,
-) -> Result<Option<Tape<'a>>, Fault> {
+) -> Result<Option<Tape<'a>>, RunError> {
     let text = match str::from_utf8(bytes) {
         Ok(text) => text,
         Err(error) => {
@@ -27,7 +27,7 @@ pub(crate) fn values_of<'a, E: Write>(
     };
     match Tape::parse(text, scratch, Vec::new(alloc)) {
         Ok(values) => return Ok(Some(values)),
-        Err(Error::OutOfMemory) => return Err(Fault::Memory(AllocError)),
+        Err(Error::OutOfMemory) => return Err(RunError::Memory(AllocError)),
         Err(Error::TooLong) => write_too_long(err, file)?,
         Err(Error::Invalid | Error::DuplicateKey) => write_refusal(alloc, err, file, text)?,
     }

@@ -1,10 +1,10 @@
 -- Patterns that are reported on.
 use Rattle.std.specs.Prelude.{chars}
 use Rattle.fancy_lex.specs.Flags.{flags_of}
-use Rattle.fancy_syntax.specs.Answer.{IsTreeOf, marks_of}
+use Rattle.fancy_syntax.specs.InfoViews.{IsTreeOf, info_of}
 use Rattle.fancy_syntax.specs.View.{view}
 use Rattle.fancy_syntax.specs.declared.tree.ExprTree.{ExprTree}
-use Rattle.fre_program.specs.Words.{HasTree, HasFault}
+use Rattle.fre_program.specs.Words.{HasTree, HasError}
 use Rattle.patterns_text.specs.declared.subject.Subject.{Subject}
 
 -- the pattern has a tree under its flags
@@ -13,8 +13,8 @@ IsAccepted s = HasTree (flags_of s.flags) (chars s.pattern.now)
 
 -- the pattern has an error under its flags
 abbrev pub IsRefused : Subject → Type 0
-IsRefused s = HasFault (flags_of s.flags) (chars s.pattern.now)
+IsRefused s = HasError (flags_of s.flags) (chars s.pattern.now)
 
 -- the tree and its group information are those of the pattern under its flags
 abbrev pub IsParsedAs : Subject → ExprTree → Type 0
-IsParsedAs s t = IsTreeOf (flags_of s.flags) (chars s.pattern.now) (view t.expr) (marks_of t)
+IsParsedAs s t = IsTreeOf (flags_of s.flags) (chars s.pattern.now) (view t.expr) (info_of t)

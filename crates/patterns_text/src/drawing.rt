@@ -1,6 +1,6 @@
 //! A pattern's tree, drawn with branches.
-use crate::fault::Fault;
-use crate::marks::write_marks;
+use crate::error::RunError;
+use crate::group_info::write_group_info;
 use crate::names::Names;
 use crate::subject::Subject;
 use crate::words::{Held, Visible, is_reference, write_reference};
@@ -28,7 +28,7 @@ pub struct Look {
 
 /// What stands before a node: for each level from the first whether the node that it runs through is the last there.
 #[derive(Clone, Copy)]
-struct Branches<'a> {
+struct BranchLines<'a> {
     style: Style,
     lasts: &'a [bool],
 }
@@ -54,7 +54,7 @@ impl Style {
     }
 }
 
-impl fmt::Display for Branches<'_> {
+impl fmt::Display for BranchLines<'_> {
     fn fmt<W: fmt::Write>(&self, f: &mut fmt::Formatter<W>) -> fmt::Result {
         let Some((own, above)) = self.lasts.split_last() else {
             return Ok(());
@@ -114,7 +114,7 @@ impl Drawing<'_> {
         role: &str,
         node: SpannedNode<'_>,
     ) -> io::Result<()> {
-        let branches = Branches {
+        let branches = BranchLines {
             style: self.look.style,
             lasts: &self.lasts,
         };
@@ -167,7 +167,7 @@ fn draw<O: Write>(
     drawing: &mut Drawing<'_>,
     as_what: &str,
     node: SpannedNode<'_>,
-) -> Result<(), Fault> {
+) -> Result<(), RunError> {
     drawing.write_line(out, as_what, node)?;
     let mut following = node.expr().children_iter().count();
     for child in node.children() {
@@ -185,7 +185,7 @@ pub fn write_tree<O: Write>(
     look: Look,
     parsed: &SpannedTree,
     out: &mut O,
-) -> Result<(), Fault> {
+) -> Result<(), RunError> {
     let mut drawing = Drawing {
         look,
         pattern: subject.pattern,
@@ -194,7 +194,7 @@ pub fn write_tree<O: Write>(
         lasts: Vec::new(subject.alloc),
     };
     draw(out, &mut drawing, "", parsed.root())?;
-    write_marks(out, &parsed.tree)?;
+    write_group_info(out, &parsed.tree)?;
     out.flush()?;
     Ok(())
 }

@@ -2,13 +2,13 @@
 #![tactic(auto)]
 
 pub mod drawing;
-pub mod fault;
+pub mod error;
+pub mod group_info;
 pub mod listing;
-pub mod marks;
 pub mod names;
 pub mod nodes;
 pub mod paint;
 pub mod path;
-pub mod place;
+pub mod position;
 pub mod subject;
 pub mod words;

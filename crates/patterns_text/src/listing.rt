@@ -1,7 +1,7 @@
 //! A pattern's groups, and what its references and calls refer to, a line each.
 use crate::names::Names;
 use crate::paint::Ink;
-use crate::place::{Columns, Location};
+use crate::position::{Columns, Location};
 use crate::words::{is_reference, write_reference};
 use fancy_spans::SpannedNode;
 use fancy_syntax::expr::Expr;

@@ -15,8 +15,8 @@ impl<'a> Names<'a> {
         let mut by_number = vec![in alloc; None; tree.total_groups.saturating_add(1)]?;
         for (name, numbers) in &tree.named_groups {
             for number in numbers {
-                if let Some(place) = by_number.get_mut(*number) {
-                    *place = Some(name.as_str());
+                if let Some(slot) = by_number.get_mut(*number) {
+                    *slot = Some(name.as_str());
                 }
             }
         }

@@ -3,7 +3,7 @@ use std::fmt;
 
 /// A step from a value of JSON to one that it holds.
 #[derive(Clone, Copy)]
-pub enum Step<'a> {
+pub enum PathStep<'a> {
     /// From an object to what it has under this key.
     Member(&'a str),
     /// From an array to its item at this index, counted from 0.
@@ -13,7 +13,7 @@ pub enum Step<'a> {
 /// The steps from the root of JSON to a value.
 #[derive(Clone, Copy)]
 pub struct Path<'a> {
-    pub steps: &'a [Step<'a>],
+    pub steps: &'a [PathStep<'a>],
 }
 
 /// Whether the key is written without quotes: it consists of letters and digits of ASCII, `_` and `-`.
@@ -47,10 +47,10 @@ impl fmt::Display for Path<'_> {
     fn fmt<W: fmt::Write>(&self, f: &mut fmt::Formatter<W>) -> fmt::Result {
         for (i, step) in self.steps.iter().enumerate() {
             match step {
-                Step::Item(index) => write!(f, "[{index}]")?,
-                Step::Member(key) if !is_plain(key) => write!(f, "[{}]", Quoted(key))?,
-                Step::Member(key) if i == 0 => f.write_str(key)?,
-                Step::Member(key) => write!(f, ".{key}")?,
+                PathStep::Item(index) => write!(f, "[{index}]")?,
+                PathStep::Member(key) if !is_plain(key) => write!(f, "[{}]", Quoted(key))?,
+                PathStep::Member(key) if i == 0 => f.write_str(key)?,
+                PathStep::Member(key) => write!(f, ".{key}")?,
             }
         }
         Ok(())

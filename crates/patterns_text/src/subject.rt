@@ -1,11 +1,11 @@
 //! Patterns that are reported on.
 ghost use Rattle.std.specs.Prelude.{◌≡◌, chars, IfOk, OnOk, OnErr};
 ghost use Rattle.fancy_lex.specs.Flags.{flags_of};
-ghost use Rattle.fre_program.specs.Words.{HasTree, HasFault};
+ghost use Rattle.fre_program.specs.Words.{HasTree, HasError};
 ghost use Rattle.patterns_text.specs.Subject.{IsAccepted, IsRefused, IsParsedAs};
 
-use crate::fault::Fault;
-use crate::place::{Location, write_refusal};
+use crate::error::RunError;
+use crate::position::{Location, write_refusal};
 use fancy_lex::error::ParseError;
 use fancy_spans::SpannedTree;
 use fancy_syntax::error::Error;
@@ -44,7 +44,7 @@ impl<'a> Subject<'a> {
         ensures flags { result.flags ≡ flags }
         ensures pattern { result.pattern ≡ pattern.entry }
         ensures accepted { IsAccepted result → HasTree (flags_of flags) (chars pattern.now) }
-        ensures refused { IsRefused result → HasFault (flags_of flags) (chars pattern.now) }
+        ensures refused { IsRefused result → HasError (flags_of flags) (chars pattern.now) }
     {
         Subject {
             alloc,
@@ -56,7 +56,7 @@ impl<'a> Subject<'a> {
 
     /// The tree of the pattern with its group information and its spans, or why the pattern is refused. Any other error is
     /// that memory ran out.
-    pub fn parse(self) -> Result<Result<SpannedTree, Refusal>, Fault>
+    pub fn parse(self) -> Result<Result<SpannedTree, Refusal>, RunError>
         ensures read { IfOk result (λ parsed. OnOk parsed (IsAccepted self.entry)) }
         ensures tree { IfOk result (λ parsed. IfOk parsed (λ t. IsParsedAs self.entry t.tree)) }
         ensures refused { IfOk result (λ parsed. OnErr parsed (IsRefused self.entry)) }
@@ -64,7 +64,7 @@ impl<'a> Subject<'a> {
         match SpannedTree::parse(self.alloc, self.pattern, self.flags) {
             Ok(parsed) => Ok(Ok(parsed)),
             Err(Error::ParseError(position, kind)) => Ok(Err(Refusal { position, kind })),
-            Err(Error::OutOfMemory) => Err(Fault::Memory(AllocError)),
+            Err(Error::OutOfMemory) => Err(RunError::Memory(AllocError)),
         }
     }
 }

@@ -1,6 +1,6 @@
 //! Nodes described for people.
 use crate::names::Names;
-use crate::place::Cut;
+use crate::position::Cut;
 use fancy_lex::escape::Assertion;
 use fancy_lex::name::CaptureGroupTarget;
 use fancy_syntax::expr::{Absent, AstNode, BacktrackingControlVerb, Expr, LookAround};
@@ -149,9 +149,9 @@ impl fmt::Display for Times {
 
 /// The recursion level of a reference, if it has one.
 #[derive(Clone, Copy)]
-struct Level(Option<isize>);
+struct LevelWords(Option<isize>);
 
-impl fmt::Display for Level {
+impl fmt::Display for LevelWords {
     fn fmt<W: fmt::Write>(&self, f: &mut fmt::Formatter<W>) -> fmt::Result {
         match self.0 {
             Some(level) => write!(f, ", at recursion level {level:+}"),
@@ -162,9 +162,9 @@ impl fmt::Display for Level {
 
 /// The target of an unresolved call, as it is written.
 #[derive(Clone, Copy)]
-struct Target<'a>(&'a CaptureGroupTarget);
+struct WrittenTarget<'a>(&'a CaptureGroupTarget);
 
-impl fmt::Display for Target<'_> {
+impl fmt::Display for WrittenTarget<'_> {
     fn fmt<W: fmt::Write>(&self, f: &mut fmt::Formatter<W>) -> fmt::Result {
         match self.0 {
             CaptureGroupTarget::ByNumber(number) => write!(f, "{number}"),
@@ -191,7 +191,7 @@ pub fn write_reference<O: Write>(
             relative_level,
             casei,
         } => {
-            let level = Level(Some(*relative_level));
+            let level = LevelWords(Some(*relative_level));
             let case = case_words(*casei);
             write!(
                 out,
@@ -203,14 +203,14 @@ pub fn write_reference<O: Write>(
             group,
             relative_recursion_level,
         } => {
-            let level = Level(*relative_recursion_level);
+            let level = LevelWords(*relative_recursion_level);
             write!(out, "condition on {}{level}", names.group(*group))
         }
         Expr::SubroutineCall(0) => write!(out, "call of the whole pattern"),
         Expr::SubroutineCall(group) => write!(out, "call of {}", names.group(*group)),
-        Expr::AstNode(AstNode::SubroutineCall(target), place) => {
-            let at = Cut::at(pattern, *place);
-            write!(out, r"unresolved call \g<{}>, {at}", Target(target))
+        Expr::AstNode(AstNode::SubroutineCall(target), position) => {
+            let at = Cut::at(pattern, *position);
+            write!(out, r"unresolved call \g<{}>, {at}", WrittenTarget(target))
         }
         Expr::Empty
         | Expr::Any { .. }

@@ -5,7 +5,7 @@ mod samples;
 
 use fancy_syntax::flags::FLAG_UNICODE;
 use patterns_picture::picture::{Canvas, draw_picture};
-use patterns_text::fault::{Fault, give_up};
+use patterns_text::error::{RunError, give_up};
 use samples::{DATE, SAMPLES};
 use std::alloc::AllocError;
 use std::io;
@@ -46,7 +46,7 @@ fn run(rt: &HostRuntime) -> io::Result<u8> {
 fn main(rt: HostRuntime) -> ExitCode {
     match run(&rt) {
         Ok(status) => ExitCode::from(status),
-        Err(_) => ExitCode::from(give_up(&mut rt.stderr(), Fault::Memory(AllocError))),
+        Err(_) => ExitCode::from(give_up(&mut rt.stderr(), RunError::Memory(AllocError))),
     }
 }
 

@@ -41,8 +41,8 @@ fn has_size(alloc: Global, pattern: &str, width: usize, height: usize) -> Result
     );
     let size = format!(in alloc; " width=\"{width}\" height=\"{height}\" ")?;
     let text = str::from_utf8(&out)?;
-    let head = text.lines().next().unwrap_or("");
-    Ok(status == 0 && head.contains(size.as_str()))
+    let first_line = text.lines().next().unwrap_or("");
+    Ok(status == 0 && first_line.contains(size.as_str()))
 }
 
 #[test]
@@ -102,8 +102,8 @@ fn page(rt: HostRuntime) -> Result<(), Fail> {
 /// A write that fails is told.
 #[test]
 fn refused_write(rt: HostRuntime) -> Result<(), Fail> {
-    let mut room = [0; 100];
-    let mut out: &mut [u8] = &mut room;
+    let mut buffer = [0; 100];
+    let mut out: &mut [u8] = &mut buffer;
     let mut err = Vec::new(rt.alloc());
     let status = draw_picture(
         rt.alloc(),

@@ -6,47 +6,47 @@ use Rattle.std.specs.Prelude.{◌==◌, not, nat_lt, nat_le, ◌&&◌, codes}
 use Rattle.std.proofs.lemmas.Bool.{cond_both}
 use Prim.Native.Char.{code}
 use Rattle.fancy_lex.proofs.ReadingLemmas.{choose_both}
-use Rattle.fancy_lex.proofs.ReferencePlaces.{IfGives}
+use Rattle.fancy_lex.proofs.ReferencePositions.{IfGives}
 use Rattle.fancy_lex.specs.Class.{class}
 use Rattle.fancy_lex.specs.Escape.{escape}
 use Rattle.fancy_lex.specs.Escaped as escaped
 use Rattle.fancy_lex.specs.Escaped.{Escape}
-use Rattle.fancy_lex.specs.LayoutSteps.{Skipped, rest, fault as open_comment}
+use Rattle.fancy_lex.specs.LayoutSteps.{Skipped, rest, failed as open_comment}
 use Rattle.fancy_lex.specs.Reading.{Reading, gives, fails}
 use Rattle.fancy_lex.specs.Referred.{Reference}
-use Rattle.fancy_lex.specs.Text.{Text, bytes, place_at, strip, strip_word, reach_of}
+use Rattle.fancy_lex.specs.Text.{Text, bytes, position_at, strip, strip_word, reach_of}
 use Rattle.fancy_lex.specs.declared.escape.Assertion.{Assertion}
 use Rattle.fancy_lex.specs.declared.escape.Assertion.TheVariants.{StartLine, StartLineOniguruma}
 use Rattle.fancy_lex.specs.declared.flags.Flags.{Flags}
-use Rattle.fancy_parts.specs.FlagLetters.{Letters, setting, scope as scoped}
+use Rattle.fancy_parts.specs.FlagLetters.{Letters, inline_flags, flag_group as scoped}
 use Rattle.fancy_parts.specs.GroupName.{group_name}
-use Rattle.fancy_parts.specs.HeadReference.{named_reference, named_call, begins_target, condition_target}
+use Rattle.fancy_parts.specs.GroupReference.{named_reference, named_call, begins_target, condition_target}
 use Rattle.fancy_parts.specs.LetterSteps.{letters}
 use Rattle.fancy_parts.specs.Quantifier.{counts}
 use Rattle.fancy_parts.specs.declared.counts.Counts.{Counts}
-use Rattle.fancy_grammar.specs.Ahead.{Ahead, nothing, read, with_head, condition, body, absent_branch, ahead, ahead_of}
-use Rattle.fancy_grammar.specs.Ahead.{start_anchor, end_anchor, leaf_node, leaf_outcome, leaf_of}
-use Rattle.fancy_grammar.specs.Ahead.{backref_node, call_node, is_before_nothing, named_ahead, target_ahead}
-use Rattle.fancy_grammar.specs.Ahead.{flags_ahead}
-use Rattle.fancy_grammar.specs.Ahead.{condition_ahead, repeater_ahead, behind_question, group_ahead}
-use Rattle.fancy_grammar.specs.Ahead.{behind_layout}
+use Rattle.fancy_grammar.specs.AtomStart.{AtomStart, nothing, read, of_kind, condition, body, absent_branch, atom_start, start_of}
+use Rattle.fancy_grammar.specs.AtomStart.{start_anchor, end_anchor, leaf_node, leaf_outcome, leaf_of}
+use Rattle.fancy_grammar.specs.AtomStart.{backref_node, call_node, is_before_nothing, named_start, target_start}
+use Rattle.fancy_grammar.specs.AtomStart.{flags_start}
+use Rattle.fancy_grammar.specs.AtomStart.{condition_start, repeater_start, after_question, group_start}
+use Rattle.fancy_grammar.specs.AtomStart.{after_layout}
 use Rattle.fancy_grammar.specs.Depth.{max_depth}
-use Rattle.fancy_grammar.specs.Grammar.{Alternation, alternation, Branches, last, more, branch_fault, Branch, branch}
-use Rattle.fancy_grammar.specs.Grammar.{Pieces, stop, next, piece_fault, Piece, piece, layout_fault, Atom, atom, AtomOf}
-use Rattle.fancy_grammar.specs.Grammar.{a_nothing, a_read, a_group, a_condition, condition_fault, a_body, two_branches}
-use Rattle.fancy_grammar.specs.Grammar.{one_branch, absent_fault, Inside, inside, Body, the_body, Whole, whole}
+use Rattle.fancy_grammar.specs.Grammar.{Alternation, alternation, Branches, last, more, branch_error, Branch, branch}
+use Rattle.fancy_grammar.specs.Grammar.{Pieces, stop, next, piece_error, Piece, piece, layout_error, Atom, atom, AtomOf}
+use Rattle.fancy_grammar.specs.Grammar.{a_nothing, a_read, a_group, a_condition, condition_error, a_body, two_branches}
+use Rattle.fancy_grammar.specs.Grammar.{one_branch, absent_error, Inside, inside, Body, the_body, Whole, whole}
 use Rattle.fancy_grammar.specs.Grammar.{closed, closed_at, ended, ended_at, branches_of, conditional_of, DerivesTree}
-use Rattle.fancy_grammar.specs.Grammar.{conditional_behind, is_condition, clear_or_stopper, behind_atom, restored}
-use Rattle.fancy_grammar.specs.Head.{capture}
+use Rattle.fancy_grammar.specs.Grammar.{conditional_after, is_condition, clear_or_stopper, after_atom, restored}
+use Rattle.fancy_grammar.specs.GroupKind.{capture}
 use Rattle.fancy_grammar.specs.Label as label
 use Rattle.fancy_grammar.specs.Quantified.{quants, adjacent, max_adjacent, is_unmoved, quant, quant_at, with_counts}
-use Rattle.fancy_grammar.specs.Quantified.{suffix, suffix_at, behind_lazy, may_be_possessive, is_repeatable, is_dropped}
+use Rattle.fancy_grammar.specs.Quantified.{suffix, suffix_at, after_lazy, may_be_possessive, is_repeatable, is_dropped}
 use Rattle.fancy_grammar.specs.Quantified.{Suffix}
-use Rattle.fancy_grammar.specs.State.{skipped, State, at, Outcome, done, fault}
+use Rattle.fancy_grammar.specs.State.{skipped, State, at, Outcome, done, failed}
 use Rattle.fancy_grammar.specs.Tree.{Tree, leaf, expression}
 use Rattle.fancy_grammar.specs.Verb.{verb_at}
 use Rattle.fancy_grammar.proofs.OutcomeLemmas.{Holds, then_holds}
-use Rattle.fancy_grammar.proofs.Parsed.Nodes.{IsParsed, AreParsed, IsHeadParsed, by_escape, by_class, join_parsed}
+use Rattle.fancy_grammar.proofs.Parsed.Nodes.{IsParsed, AreParsed, IsKindParsed, by_escape, by_class, join_parsed}
 use Rattle.fancy_grammar.proofs.Parsed.Nodes.{choice_parsed, quantified_parsed, node_parsed, conditional_parsed}
 use Rattle.fancy_grammar.proofs.Parsed.Nodes.{branches_parsed, expression_parsed, stopper_parsed}
 use Rattle.fancy_grammar.proofs.Parsed.Readers.{IsSameMode, IsModeOf, letters_mode, IfWords}
@@ -56,15 +56,15 @@ use Rattle.std.proofs.Common.{ℤ, ◌++◌, ap₂, append_assoc, arith}
 use Rattle.std.proofs.lemmas.Bool.Decides.{nat_tests}
 use Rattle.fancy_lex.specs.Characters.{bar, backslash}
 use Rattle.fancy_lex.specs.Referred.{Call}
-use Rattle.fancy_lex.specs.Text.{place_at}
-use Rattle.fancy_parts.specs.Written.{is_behind_backslash}
+use Rattle.fancy_lex.specs.Text.{position_at}
+use Rattle.fancy_parts.specs.Written.{is_after_backslash}
 use Rattle.fancy_grammar.specs.Slices.{Slice}
-use Rattle.fancy_grammar.proofs.AheadLaws.{AheadReads, ahead_reads}
-use Rattle.fancy_grammar.proofs.Slices.{here, on, strip_slice, skipped_slice}
+use Rattle.fancy_grammar.proofs.AtomStartLaws.{StartReads, start_reads}
+use Rattle.fancy_grammar.proofs.Slices.{current, on, strip_slice, skipped_slice}
 use Rattle.fancy_grammar.proofs.ReadLaws.{branch_read, piece_read, inside_read}
-use Rattle.fancy_grammar.proofs.Pattern.References.{behind_letter}
+use Rattle.fancy_grammar.proofs.Pattern.References.{after_letter}
 use Rattle.fancy_grammar.proofs.Pattern.Needed.{IsLineOfMode}
-use Rattle.fancy_grammar.proofs.Parsed.Escapes.{IsBehindLetter, is_start_of_line, IsOfMode, escape_mode}
+use Rattle.fancy_grammar.proofs.Parsed.Escapes.{IsAfterLetter, is_start_of_line, IsOfMode, escape_mode}
 use Rattle.fancy_grammar.proofs.Parsed.Targets.{IsReferenceRead, IsCallRead, condition_target_read}
 use Rattle.fancy_grammar.proofs.Parsed.Targets.{named_reference_read}
 use Rattle.fancy_grammar.proofs.Parsed.Targets.{named_reference_plain, named_call_read}
@@ -116,13 +116,13 @@ module _ (f : Flags) (text : Text) where
       W : Outcome Suffix → Type 0
       W = Holds (λ (m : Suffix) v. IsSameMode f v.flags)
 
-      behind_mark : (lazy : Bool) (t : Text) → W (behind_lazy w c lazy t)
-      behind_mark lazy t =
+      after_operator : (lazy : Bool) (t : Text) → W (after_lazy w c lazy t)
+      after_operator lazy t =
           cond_both (may_be_possessive w.flags c) _ _ W
           (λ _. choose_both W (strip (code "+") t) _ _ (λ u e. h) h) (λ _. h)
 
       by_layout : (j : Skipped) → W (suffix_at w c j)
-      by_layout (rest t) = choose_both W (strip (code "?") t) _ _ (λ u e. behind_mark true u) (behind_mark false t)
+      by_layout (rest t) = choose_both W (strip (code "?") t) _ _ (λ u e. after_operator true u) (after_operator false t)
       by_layout (open_comment p) = tt
 
   quant_part : (left : ℕ) (a : Tree) (t : State) → IsPart f text a t → P (quant left a t)
@@ -132,16 +132,16 @@ module _ (f : Flags) (text : Text) where
       by_counts : (v : Text) (o : Option (Counts × Text)) → IfWords o → P (with_counts left a (at t v) o)
       by_counts v None w = record { mode = h.mode; parsed = h.parsed }
       by_counts v (Some (c, u)) w =
-          let marks = suffix_mode (at t u) c h.mode in
+          let operators = suffix_mode (at t u) c h.mode in
           let M = λ (m : Suffix) (v : State). IsSameMode f v.flags in
           cond_both (is_repeatable t.flags a) _ _ P
-          (λ e. then_holds M (IsPart f text) (suffix (at t u) c) _ marks (λ m x k. record {
+          (λ e. then_holds M (IsPart f text) (suffix (at t u) c) _ operators (λ m x k. record {
             mode = k;
             parsed = quantified_parsed f text t.flags c m a (same_oniguruma t.flags h.mode)
                 (mode_repeatable a f t.flags (sym (same_oniguruma t.flags h.mode)) ∙ e) w h.parsed;
           })) (λ _.
           cond_both (is_dropped t.flags left a u) _ _ P
-          (λ _. then_holds M (IsPart f text) (suffix (at t u) c) _ marks
+          (λ _. then_holds M (IsPart f text) (suffix (at t u) c) _ operators
           (λ m x k. record { mode = k; parsed = h.parsed }))
           (λ _. tt))
 
@@ -182,7 +182,7 @@ module _ (f : Flags) (text : Text) where
       by_text (c ∷ u) = tt
 
   conditional_part : (c r : Tree) (left : ℕ) (v : State) → IsParsed f text c → IsPart f text r v →
-      P (conditional_behind c left r v)
+      P (conditional_after c left r v)
   conditional_part c r left v k h =
       let each = branches_parsed f text r h.parsed in
       cond_both (bytes v.rest == left && not (is_condition c)) _ _ P (λ _. tt)
@@ -193,33 +193,33 @@ module _ (f : Flags) (text : Text) where
 
   -- ---- the start of an atom
 
-  abbrev AheadParsed : Ahead → Type 0
-  AheadParsed nothing = Unit {0}
-  AheadParsed (read o) = P o
-  AheadParsed (with_head h t) = IsSameMode f t.flags × IsHeadParsed f text h
-  AheadParsed (condition t) = IsSameMode f t.flags
-  AheadParsed (body c t) = IsSameMode f t.flags × IsParsed f text c
-  AheadParsed (absent_branch t) = IsSameMode f t.flags
+  abbrev StartParsed : AtomStart → Type 0
+  StartParsed nothing = Unit {0}
+  StartParsed (read o) = P o
+  StartParsed (of_kind h t) = IsSameMode f t.flags × IsKindParsed f text h
+  StartParsed (condition t) = IsSameMode f t.flags
+  StartParsed (body c t) = IsSameMode f t.flags × IsParsed f text c
+  StartParsed (absent_branch t) = IsSameMode f t.flags
 
   -- a reference with a level comes after the letter of its escape
-  behind_no_backslash : (t : Text) → Slice text (backslash ∷ t) → (p : ℕ) → IsBehindLetter t p →
-      is_behind_backslash text (place_at (bytes text) p) ≡ false
-  behind_no_backslash [] i p h = absurd h
-  behind_no_backslash (c ∷ u) i p h =
+  after_no_backslash : (t : Text) → Slice text (backslash ∷ t) → (p : ℕ) → IsAfterLetter t p →
+      is_after_backslash text (position_at (bytes text) p) ≡ false
+  after_no_backslash [] i p h = absurd h
+  after_no_backslash (c ∷ u) i p h =
       let is : text ≡ (i.word ++ (backslash ∷ [])) ++ (code "k" ∷ u)
       = i.cut ∙ (ap (λ d. i.word ++ (backslash ∷ d ∷ u)) h.0
       ∙ sym (append_assoc i.word (backslash ∷ []) (code "k" ∷ u))) in
-      ap₂ (λ (s : Text) (q : ℕ). is_behind_backslash s (place_at (bytes s) q)) is h.1
-      ∙ behind_letter (i.word ++ (backslash ∷ [])) u
+      ap₂ (λ (s : Text) (q : ℕ). is_after_backslash s (position_at (bytes s) q)) is h.1
+      ∙ after_letter (i.word ++ (backslash ∷ [])) u
 
   escape_part : (s : State) (t : Text) → IsSameMode f s.flags → Slice text (backslash ∷ t) →
       P (leaf_outcome leaf_node s (escape s.flags false t))
   escape_part s t m i = by_reading (escape s.flags false t) refl (escape_mode s.flags t)
     where
-      levelled : (o : Option ℤ) (p : ℕ) → IfSome o (λ z. IsBehindLetter t p) →
-          IfSome o (λ z. is_behind_backslash text (place_at (bytes text) p) ≡ false)
+      levelled : (o : Option ℤ) (p : ℕ) → IfSome o (λ z. IsAfterLetter t p) →
+          IfSome o (λ z. is_after_backslash text (position_at (bytes text) p) ≡ false)
       levelled None p h = tt
-      levelled (Some z) p h = behind_no_backslash t i p h
+      levelled (Some z) p h = after_no_backslash t i p h
 
       by_reading : (o : Reading Escape) → escape s.flags false t ≡ o → IfGives (IsOfMode s.flags t) o →
           P (leaf_outcome leaf_node s o)
@@ -264,20 +264,20 @@ module _ (f : Flags) (text : Text) where
       is_backslash : (c == code "\\") ≡ true → c ≡ backslash
       is_backslash e = grind (arith, nat_tests)
 
-  letters_part : (s : State) (t : Text) → IsSameMode f s.flags → AheadParsed (flags_ahead (letters s.flags t))
+  letters_part : (s : State) (t : Text) → IsSameMode f s.flags → StartParsed (flags_start (letters s.flags t))
   letters_part s t m = by_reading (letters s.flags t) (letters_mode s.flags t)
     where
-      by_reading : (o : Reading Letters) → IfGives (IsModeOf s.flags) o → AheadParsed (flags_ahead o)
-      by_reading (gives (setting g) u) h = record { mode = h ∙ m; parsed = (tt, tt) }
+      by_reading : (o : Reading Letters) → IfGives (IsModeOf s.flags) o → StartParsed (flags_start o)
+      by_reading (gives (inline_flags g) u) h = record { mode = h ∙ m; parsed = (tt, tt) }
       by_reading (gives (scoped g) u) h = (h ∙ m, tt)
       by_reading (fails e) h = tt
 
-  named_part : (s : State) (mark : ℕ) (t u : Text) → IsSameMode f s.flags →
-      ((w : Text) → IsFreeOf mark w → IsHeadParsed f text (capture (Some w))) →
-      AheadParsed (named_ahead s (group_name mark t u))
-  named_part s mark t u m k = by_reading (group_name mark t u) (name_free mark t u)
+  named_part : (s : State) (delimiter : ℕ) (t u : Text) → IsSameMode f s.flags →
+      ((w : Text) → IsFreeOf delimiter w → IsKindParsed f text (capture (Some w))) →
+      StartParsed (named_start s (group_name delimiter t u))
+  named_part s delimiter t u m k = by_reading (group_name delimiter t u) (name_free delimiter t u)
     where
-      by_reading : (o : Reading Text) → IfGives (IsFreeOf mark) o → AheadParsed (named_ahead s o)
+      by_reading : (o : Reading Text) → IfGives (IsFreeOf delimiter) o → StartParsed (named_start s o)
       by_reading (gives w v) h = (m, k w h)
       by_reading (fails e) h = tt
 
@@ -290,7 +290,7 @@ module _ (f : Flags) (text : Text) where
       (
         h.0,
         h.1,
-        subst (λ o. IfSome o (λ z. is_behind_backslash text (place_at (bytes text) r.reach) ≡ false))
+        subst (λ o. IfSome o (λ z. is_after_backslash text (position_at (bytes text) r.reach) ≡ false))
             (sym e) tt,
       ),
       tt,
@@ -304,25 +304,25 @@ module _ (f : Flags) (text : Text) where
   call_part s (fails e) h m = tt
 
   target_part : (s : State) (o : Reading Reference) → IfGives IsReferenceRead o → IsSameMode f s.flags →
-      AheadParsed (target_ahead s o)
+      StartParsed (target_start s o)
   target_part s (gives r u) h m = (m, ((h.0, h.1), tt))
   target_part s (fails e) h m = tt
 
-  condition_part : (s : State) (t : Text) → IsSameMode f s.flags → AheadParsed (condition_ahead s t)
+  condition_part : (s : State) (t : Text) → IsSameMode f s.flags → StartParsed (condition_start s t)
   condition_part s [] m = tt
   condition_part s (c ∷ t) m =
-      cond_both (begins_target (c ∷ t)) _ _ AheadParsed
+      cond_both (begins_target (c ∷ t)) _ _ StartParsed
       (λ _. target_part s (condition_target (c ∷ t)) (condition_target_read (c ∷ t)) m) (λ _.
-      cond_both (c == code "*") _ _ AheadParsed
-      (λ _. choose_both AheadParsed (verb_at t) _ _ (λ p e. (m, (tt, tt))) tt) (λ _. m))
+      cond_both (c == code "*") _ _ StartParsed
+      (λ _. choose_both StartParsed (verb_at t) _ _ (λ p e. (m, (tt, tt))) tt) (λ _. m))
 
-  repeater_part : (s : State) (t : Text) → IsSameMode f s.flags → AheadParsed (repeater_ahead s t)
+  repeater_part : (s : State) (t : Text) → IsSameMode f s.flags → StartParsed (repeater_start s t)
   repeater_part s [] m = tt
   repeater_part s (c ∷ t) m = (m, tt)
 
-  question_part : (s : State) (t : Text) → IsSameMode f s.flags → AheadParsed (behind_question s t)
+  question_part : (s : State) (t : Text) → IsSameMode f s.flags → StartParsed (after_question s t)
   question_part s t m =
-      let Q = AheadParsed in
+      let Q = StartParsed in
       choose_both Q (strip_word (codes "=") t) _ _ (λ u e. (m, tt)) (
       choose_both Q (strip_word (codes "!") t) _ _ (λ u e. (m, tt)) (
       choose_both Q (strip_word (codes "<=") t) _ _ (λ u e. (m, tt)) (
@@ -341,37 +341,37 @@ module _ (f : Flags) (text : Text) where
       choose_both Q (strip_word (codes "(") t) _ _ (λ u e. condition_part s u m)
       (letters_part s t m))))))))))))))
 
-  group_part : (s : State) (t : Text) → IsSameMode f s.flags → AheadParsed (group_ahead s t)
+  group_part : (s : State) (t : Text) → IsSameMode f s.flags → StartParsed (group_start s t)
   group_part s t m =
-      choose_both AheadParsed (strip_word (codes "?") t) _ _ (λ u e. question_part s u m) (
-      choose_both AheadParsed (strip_word (codes "*") t) _ _
-      (λ u e. choose_both AheadParsed (verb_at u) _ _ (λ p i. record { mode = m; parsed = (tt, tt) }) tt) (m, tt))
+      choose_both StartParsed (strip_word (codes "?") t) _ _ (λ u e. question_part s u m) (
+      choose_both StartParsed (strip_word (codes "*") t) _ _
+      (λ u e. choose_both StartParsed (verb_at u) _ _ (λ p i. record { mode = m; parsed = (tt, tt) }) tt) (m, tt))
 
-  behind_part : (s : State) (k : Skipped) → IsSameMode f s.flags → AheadParsed (behind_layout s k)
-  behind_part s (rest u) m = group_part s u m
-  behind_part s (open_comment p) m = tt
+  after_part : (s : State) (k : Skipped) → IsSameMode f s.flags → StartParsed (after_layout s k)
+  after_part s (rest u) m = group_part s u m
+  after_part s (open_comment p) m = tt
 
-  ahead_part : (d : ℕ) (s : State) → IsSameMode f s.flags → Slice text s.rest → AheadParsed (ahead d s)
-  unfolding ahead
-  ahead_part d s m i = by_text s.rest i
+  start_part : (d : ℕ) (s : State) → IsSameMode f s.flags → Slice text s.rest → StartParsed (atom_start d s)
+  unfolding atom_start
+  start_part d s m i = by_text s.rest i
     where
-      by_text : (t : Text) → Slice text t → AheadParsed (ahead_of d s t)
+      by_text : (t : Text) → Slice text t → StartParsed (start_of d s t)
       by_text [] i = tt
       by_text (c ∷ t) i =
-          cond_both (c == code "(") _ _ AheadParsed (λ _.
-          cond_both (nat_le max_depth (d + 1)) _ _ AheadParsed (λ _. tt)
-          (λ _. behind_part s (skipped (at s t)) m)) (λ _.
-          cond_both (is_before_nothing c) _ _ AheadParsed (λ _. tt) (λ _. leaf_part s c t m i))
+          cond_both (c == code "(") _ _ StartParsed (λ _.
+          cond_both (nat_le max_depth (d + 1)) _ _ StartParsed (λ _. tt)
+          (λ _. after_part s (skipped (at s t)) m)) (λ _.
+          cond_both (is_before_nothing c) _ _ StartParsed (λ _. tt) (λ _. leaf_part s c t m i))
 
   -- after an atom the flags from before it hold, or those that it sets
   restored_part : (g : Flags) (q : Outcome Tree) → IsSameMode f g → P q → P (restored g q)
   restored_part g (done r t) m h = record { mode = m; parsed = h.parsed }
-  restored_part g (fault k p) m h = tt
+  restored_part g (failed k p) m h = tt
 
-  atom_flags : (k : Ahead) (g : Flags) (q : Outcome Tree) → IsSameMode f g → P q → P (behind_atom k g q)
+  atom_flags : (k : AtomStart) (g : Flags) (q : Outcome Tree) → IsSameMode f g → P q → P (after_atom k g q)
   atom_flags nothing g q m h = h
   atom_flags (read o) g q m h = h
-  atom_flags (with_head a s) g q m h = restored_part g q m h
+  atom_flags (of_kind a s) g q m h = restored_part g q m h
   atom_flags (condition s) g q m h = restored_part g q m h
   atom_flags (body c s) g q m h = restored_part g q m h
   atom_flags (absent_branch s) g q m h = restored_part g q m h
@@ -393,7 +393,7 @@ module _ (f : Flags) (text : Text) where
         let next = on (on i (branch_read b).span.slice) (strip_slice bar t.rest u e) in
         then_holds (AreParts f text) (AreParts f text) q _ (branches_part n h.mode next)
         (λ l v k. record { mode = k.mode; parsed = (h.parsed, k.parsed) })
-    branches_part (branch_fault b) m i = tt
+    branches_part (branch_error b) m i = tt
 
     branch_part : {d : ℕ} {s : State} {o : Outcome Tree} → Branch d s o → IsSameMode f s.flags →
         Slice text s.rest → P o
@@ -408,30 +408,30 @@ module _ (f : Flags) (text : Text) where
         let h = piece_part a m i in
         then_holds (AreParts f text) (AreParts f text) q _ (pieces_part n h.mode (on i (piece_read a).span.slice))
         (λ l v k. record { mode = k.mode; parsed = (h.parsed, k.parsed) })
-    pieces_part (piece_fault e a) m i = tt
+    pieces_part (piece_error e a) m i = tt
 
     piece_part : {d : ℕ} {s : State} {o : Outcome Tree} → Piece d s o → IsSameMode f s.flags → Slice text s.rest → P o
     piece_part (piece {d} {s} {u} {q} l x) m i =
         then_holds (IsPart f text) (IsPart f text) q _ (atom_part x m (on i (skipped_slice s u l)))
         (λ a t h. quants_part d (bytes s.rest) a t h)
-    piece_part (layout_fault l) m i = tt
+    piece_part (layout_error l) m i = tt
 
     atom_part : {d : ℕ} {s : State} {o : Outcome Tree} → Atom d s o → IsSameMode f s.flags → Slice text s.rest → P o
     atom_part (atom {d} {s} {e} {q} is a) m i =
         atom_flags e s.flags q m
-        (of_part a (subst AheadParsed is (ahead_part d s m i)) (subst (AheadReads s) is (ahead_reads d s)) m i)
+        (of_part a (subst StartParsed is (start_part d s m i)) (subst (StartReads s) is (start_reads d s)) m i)
 
-    of_part : {k : Ahead} {d : ℕ} {s : State} {o : Outcome Tree} → AtomOf k d s o → AheadParsed k → AheadReads s k →
+    of_part : {k : AtomStart} {d : ℕ} {s : State} {o : Outcome Tree} → AtomOf k d s o → StartParsed k → StartReads s k →
         IsSameMode f s.flags → Slice text s.rest → P o
     of_part a_nothing h x m i = record { mode = m; parsed = (tt, tt) }
     of_part a_read h x m i = h
-    of_part (a_group {s} {h = head} {q} n) h x m i =
+    of_part (a_group {s} {h = kind} {q} n) h x m i =
         then_holds (IsPart f text) (IsPart f text) q _ (inside_part n h.0 (on i x.0))
-        (λ r v k. record { mode = k.mode; parsed = node_parsed f text head (reach_of s.rest) r h.1 k.parsed })
+        (λ r v k. record { mode = k.mode; parsed = node_parsed f text kind (reach_of s.rest) r h.1 k.parsed })
     of_part (a_condition n b) h x m i =
         let c = inside_part n h (on i x.0) in
         body_part b c.mode c.parsed (on (on i x.0) (inside_read n).span.slice)
-    of_part (condition_fault n) h x m i = tt
+    of_part (condition_error n) h x m i = tt
     of_part (a_body n) h x m i = body_part n h.0 h.1 (on i x.0.slice)
     of_part (two_branches {v} {u} {a} {q} b e n) h x m i =
         let c = branch_part b h (on i x.0) in
@@ -444,7 +444,7 @@ module _ (f : Flags) (text : Text) where
     of_part (one_branch {v} {a} b e) h x m i =
         let c = branch_part b h (on i x.0) in
         closed_part (clear_or_stopper a) v (record { mode = c.mode; parsed = stopper_parsed f text a c.parsed })
-    of_part (absent_fault b) h x m i = tt
+    of_part (absent_error b) h x m i = tt
 
     inside_part : {d : ℕ} {s : State} {o : Outcome Tree} → Inside d s o → IsSameMode f s.flags → Slice text s.rest → P o
     inside_part (inside {q} a) m i =
@@ -458,7 +458,7 @@ module _ (f : Flags) (text : Text) where
 
   whole_part : {o : Outcome Tree} → Whole f text o → P o
   whole_part (whole {q} a) =
-      then_holds (IsPart f text) (IsPart f text) q _ (alternation_part a refl (here text)) (λ r t h. ended_part r t h)
+      then_holds (IsPart f text) (IsPart f text) q _ (alternation_part a refl (current text)) (λ r t h. ended_part r t h)
 
 -- each node of the raw tree of a text is such a node
 pub derived_parsed : {f : Flags} {text : Text} {r : Tree} → DerivesTree f text r → IsParsed f text r

@@ -12,7 +12,7 @@ use Rattle.std.proofs.lemmas.Bool.Decides.{nat_tests}
 use Prim.Native.Char.{code}
 use Rattle.fancy_lex.proofs.LoneLemmas.{AtRows, of_lone}
 use Rattle.fancy_lex.proofs.ReadingLemmas.{choose_both}
-use Rattle.fancy_lex.proofs.ReferencePlaces.{IfGives}
+use Rattle.fancy_lex.proofs.ReferencePositions.{IfGives}
 use Rattle.fancy_lex.specs.Boundary as boundaries
 use Rattle.fancy_lex.specs.BoundarySteps as boundary_steps
 use Rattle.fancy_lex.specs.Characters.{open_brace, ◌∈◌}
@@ -30,7 +30,7 @@ use Rattle.fancy_lex.specs.declared.escape.Assertion.{Assertion}
 use Rattle.fancy_lex.specs.declared.escape.Assertion.TheVariants.{StartLine, StartLineOniguruma, LeftWordBoundary}
 use Rattle.fancy_lex.specs.declared.escape.Assertion.TheVariants.{RightWordBoundary}
 use Rattle.fancy_lex.specs.declared.flags.Flags.{Flags}
-use Rattle.fancy_lex.proofs.ReferencePlaces.{ReferenceAt, back_reference_at}
+use Rattle.fancy_lex.proofs.ReferencePositions.{ReferenceAt, back_reference_at}
 use Rattle.fancy_lex.specs.Referred.{Reference, Call}
 use Rattle.fancy_grammar.proofs.Parsed.Readers.{gives_both, gives_after}
 use Rattle.fancy_grammar.proofs.Parsed.Targets.{IsReferenceRead, IsCallRead, numbered_reference_read}
@@ -45,12 +45,12 @@ is_start_of_line (StartLineOniguruma crlf) = true
 is_start_of_line _ = false
 
 -- a reference with a level is just after the letter of `\k`, at the front of the text
-abbrev pub IsBehindLetter : Text → ℕ → Type 0
-IsBehindLetter [] p = ⊥
-IsBehindLetter (c ∷ t) p = (c ≡ code "k") × (p ≡ reach_of t)
+abbrev pub IsAfterLetter : Text → ℕ → Type 0
+IsAfterLetter [] p = ⊥
+IsAfterLetter (c ∷ t) p = (c ≡ code "k") × (p ≡ reach_of t)
 
-abbrev pub IsLevelBehind : Text → Reference → Type 0
-IsLevelBehind t r = IfSome r.level (λ z. IsBehindLetter t r.reach)
+abbrev pub IsLevelAfter : Text → Reference → Type 0
+IsLevelAfter t r = IfSome r.level (λ z. IsAfterLetter t r.reach)
 
 -- what an escape of the text requires of the flags: a byte is read without UNICODE, a general new line records UNICODE,
 -- and no assertion is the start of a line; and what it refers to
@@ -58,7 +58,7 @@ abbrev pub IsOfMode : Flags → Text → Escape → Type 0
 IsOfMode f t (literal_bytes b) = f.unicode ≡ false
 IsOfMode f t (general_newline unicode) = f.unicode ≡ unicode
 IsOfMode f t (assertion a) = is_start_of_line a ≡ false
-IsOfMode f t (backref r casei) = IsReferenceRead r × IsLevelBehind t r
+IsOfMode f t (backref r casei) = IsReferenceRead r × IsLevelAfter t r
 IsOfMode f t (subroutine_call c) = IsCallRead c.target
 IsOfMode f t _ = Unit {0}
 
@@ -142,7 +142,7 @@ module _ (f : Flags) (whole : Text) where
       (λ r u. gives (backref r f.casei) u)
       (both_given IsReferenceRead (λ r. r.level ≡ None) (numbered_reference t) (numbered_reference_read t)
       (numbered_plain t))
-      (λ r u h. (h.0, subst (λ o. IfSome o (λ z. IsBehindLetter whole r.reach)) (sym h.1) tt))
+      (λ r u h. (h.0, subst (λ o. IfSome o (λ z. IsAfterLetter whole r.reach)) (sym h.1) tt))
 
   property_mode : (p c : ℕ) (t : Text) → Sound (property f false p c t)
   unfolding property
@@ -164,11 +164,11 @@ module _ (f : Flags) (whole : Text) where
       is_letter : (c ∈ "k") ≡ true → c ≡ code "k"
       is_letter e = grind (arith, nat_tests)
 
-      at_letter : (c ∈ "k") ≡ true → (r : Reference) → r.reach ≡ reach_of t → IsLevelBehind whole r
+      at_letter : (c ∈ "k") ≡ true → (r : Reference) → r.reach ≡ reach_of t → IsLevelAfter whole r
       at_letter e r i =
-          subst (λ s. IfSome r.level (λ z. IsBehindLetter s r.reach)) (sym is) (by_level r.level)
+          subst (λ s. IfSome r.level (λ z. IsAfterLetter s r.reach)) (sym is) (by_level r.level)
         where
-          by_level : (o : Option ℤ) → IfSome o (λ z. IsBehindLetter (c ∷ t) r.reach)
+          by_level : (o : Option ℤ) → IfSome o (λ z. IsAfterLetter (c ∷ t) r.reach)
           by_level None = tt
           by_level (Some z) = (is_letter e, i)
 

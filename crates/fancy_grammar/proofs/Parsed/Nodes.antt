@@ -9,12 +9,12 @@ use Rattle.fancy_lex.specs.Class.{class}
 use Rattle.fancy_lex.specs.Escape.{escape}
 use Rattle.fancy_lex.specs.Escaped as escaped
 use Rattle.fancy_lex.specs.Reading.{gives}
-use Rattle.fancy_lex.specs.Text.{Text, bytes, place_at}
+use Rattle.fancy_lex.specs.Text.{Text, bytes, position_at}
 use Rattle.fancy_lex.specs.declared.flags.Flags.{Flags}
-use Rattle.fancy_parts.specs.Written.{is_behind_backslash}
+use Rattle.fancy_parts.specs.Written.{is_after_backslash}
 use Rattle.fancy_parts.specs.declared.counts.Counts.{Counts}
 use Rattle.fancy_grammar.specs.Grammar.{branches_of, conditional_of, clear_or_stopper}
-use Rattle.fancy_grammar.specs.Head.{Head, capture, scope, look, atomic, define, repeater, group_node}
+use Rattle.fancy_grammar.specs.GroupKind.{GroupKind, capture, flag_group, look, atomic, define, repeater, group_node}
 use Rattle.fancy_grammar.specs.Join.{join, choice, solid, is_empty, one_or}
 use Rattle.fancy_grammar.specs.Label as label
 use Rattle.fancy_grammar.specs.Label.{AstReference, ast_backref, ast_call, ast_condition}
@@ -57,7 +57,7 @@ AreBranched _ = ⊥
 abbrev pub IsAstRead : Text → AstReference → ℕ → Type 0
 IsAstRead text (ast_backref t casei level) p =
     IsTargetRead t × IfSome level IsLevelWritable
-    × IfSome level (λ z. is_behind_backslash text (place_at (bytes text) p) ≡ false)
+    × IfSome level (λ z. is_after_backslash text (position_at (bytes text) p) ≡ false)
 IsAstRead text (ast_call t) p = IsCallRead t
 IsAstRead text (ast_condition t level) p = IsTargetRead t × IfSome level IsLevelWritable
 
@@ -141,13 +141,13 @@ module _ (f : Flags) (text : Text) where
       (λ _. ((r, w.0, w.1, ordered), h)))
 
   -- the name in the opening of a group can be written
-  abbrev pub IsHeadParsed : Head → Type 0
-  IsHeadParsed (capture name) = IfSome name IsNameWritable
-  IsHeadParsed _ = Unit {0}
+  abbrev pub IsKindParsed : GroupKind → Type 0
+  IsKindParsed (capture name) = IfSome name IsNameWritable
+  IsKindParsed _ = Unit {0}
 
-  pub node_parsed : (h : Head) (p : ℕ) (r : Tree) → IsHeadParsed h → IsParsed r → IsParsed (group_node h p r)
+  pub node_parsed : (h : GroupKind) (p : ℕ) (r : Tree) → IsKindParsed h → IsParsed r → IsParsed (group_node h p r)
   node_parsed (capture name) p r n i = (n, i)
-  node_parsed scope p r n i = i
+  node_parsed flag_group p r n i = i
   node_parsed (look l) p r n i = (tt, i)
   node_parsed atomic p r n i = (tt, i)
   node_parsed define p r n i = (tt, i)

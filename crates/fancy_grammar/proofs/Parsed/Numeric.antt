@@ -5,22 +5,22 @@ use Rattle.std.proofs.lemmas.Bool.Decides.{nat_tests}
 use Rattle.std.proofs.Math.Bool.{or-true}
 use Rattle.std.specs.List.{AllByRecursion, list_any}
 use Rattle.fancy_lex.specs.Target.{by_number, by_name, relative}
-use Rattle.fancy_lex.specs.Text.{Text, bytes, place_at}
+use Rattle.fancy_lex.specs.Text.{Text, bytes, position_at}
 use Rattle.fancy_lex.specs.declared.flags.Flags.{Flags}
-use Rattle.fancy_parts.specs.Meaning.{Meaning, means}
+use Rattle.fancy_parts.specs.Meaning.{Meaning, refers_to}
 use Rattle.fancy_parts.specs.Ranks.{is_counted}
 use Rattle.fancy_parts.specs.Written.{is_numeric}
 use Rattle.fancy_grammar.specs.Items.{meanings_in, role_of, target_of}
 use Rattle.fancy_grammar.specs.Label as label
 use Rattle.fancy_grammar.specs.Label.{AstReference, ast_backref, ast_call, ast_condition}
-use Rattle.fancy_grammar.specs.Marks.{Marks, is_call_of_all}
+use Rattle.fancy_grammar.specs.GroupInfo.{GroupInfo, is_call_of_all}
 use Rattle.fancy_grammar.specs.Resolved.{resolved_in}
 use Rattle.fancy_grammar.specs.Tree.{Tree, leaf, ast_node, ast_group}
 use Rattle.fancy_grammar.specs.Writable.{is_numbered, is_numbered_call_of_all}
 use Rattle.fancy_grammar.proofs.PreorderLaws.{kept, kept_if, items_of_all}
 use Rattle.fancy_grammar.proofs.Parsed.Targets.{both_right}
 use Rattle.fancy_grammar.proofs.Parsed.Nodes.{IsParsedNode, IsAstRead}
-use Rattle.fancy_grammar.proofs.Parsed.References.{IsMarkedNode}
+use Rattle.fancy_grammar.proofs.Parsed.References.{IsNumericNode}
 
 -- ---- booleans
 
@@ -59,7 +59,7 @@ self_so numeric self n e =
     by_test true e h = absurd cc
     by_test false e h = h
 
-module _ (m : Marks) where
+module _ (m : GroupInfo) where
   pub numbered_by : (l : List Tree) → list_any (is_numbered m) l ≡ true → m.numeric_capture_group_references ≡ true
   numbered_by l e = any_gives (is_numbered m) (m.numeric_capture_group_references ≡ true) node l e
     where
@@ -77,7 +77,7 @@ module _ (m : Marks) where
 
 -- ---- nodes and what they resolve to
 
-module _ (f : Flags) (m : Marks) (text : Text) (z : ℕ) (named : Bool) (u : Text → List ℕ) where
+module _ (f : Flags) (m : GroupInfo) (text : Text) (z : ℕ) (named : Bool) (u : Text → List ℕ) where
   abbrev there : ℕ → Tree → Tree
   there = resolved_in z named u
 
@@ -89,7 +89,7 @@ module _ (f : Flags) (m : Marks) (text : Text) (z : ℕ) (named : Bool) (u : Tex
   meant c l = meanings_in named u c (items_of_all l)
 
   abbrev pub is_written : AstReference × ℕ × Meaning → Bool
-  is_written x = is_numeric text (place_at (bytes text) x.1) (role_of x.0) (target_of x.0)
+  is_written x = is_numeric text (position_at (bytes text) x.1) (role_of x.0) (target_of x.0)
 
   abbrev pub is_of_all : AstReference × ℕ × Meaning → Bool
   is_of_all x = is_call_of_all (role_of x.0) (target_of x.0)
@@ -97,19 +97,19 @@ module _ (f : Flags) (m : Marks) (text : Text) (z : ℕ) (named : Bool) (u : Tex
   abbrev Parsed : List Tree → Type 0
   Parsed = AllByRecursion (IsParsedNode f text)
 
-  abbrev Marked : List Tree → Type 0
-  Marked = AllByRecursion (IsMarkedNode m)
+  abbrev AllNumeric : List Tree → Type 0
+  AllNumeric = AllByRecursion (IsNumericNode m)
 
   -- by the group information, each call with a number is written with it
-  marked_here : (r : AstReference) (p : ℕ) (k : Meaning) → (is_written (r, p, k) ≡ true →
+  numeric_at : (r : AstReference) (p : ℕ) (k : Meaning) → (is_written (r, p, k) ≡ true →
       m.numeric_capture_group_references ≡ true) → (is_of_all (r, p, k) ≡ true → m.self_recursive ≡ true) →
-      IsMarkedNode m (ast_node r p)
-  marked_here (ast_call (by_number n)) p k f g =
+      IsNumericNode m (ast_node r p)
+  numeric_at (ast_call (by_number n)) p k f g =
       called_so m.numeric_capture_group_references m.self_recursive n (f refl) g
-  marked_here (ast_call (by_name w)) p k f g = tt
-  marked_here (ast_call (relative y)) p k f g = tt
-  marked_here (ast_backref t casei level) p k f g = tt
-  marked_here (ast_condition t level) p k f g = tt
+  numeric_at (ast_call (by_name w)) p k f g = tt
+  numeric_at (ast_call (relative y)) p k f g = tt
+  numeric_at (ast_backref t casei level) p k f g = tt
+  numeric_at (ast_condition t level) p k f g = tt
 
   or_left : (a b : Bool) → a ≡ true → (a || b) ≡ true
   or_left a b e = rw e refl
@@ -117,30 +117,30 @@ module _ (f : Flags) (m : Marks) (text : Text) (z : ℕ) (named : Bool) (u : Tex
   or_right : (a b : Bool) → b ≡ true → (a || b) ≡ true
   or_right a b e = rw e (or-true a)
 
-  pub marked_nodes : (c : ℕ) (l : List Tree) → (list_any is_written (meant c l) ≡ true →
+  pub numeric_nodes : (c : ℕ) (l : List Tree) → (list_any is_written (meant c l) ≡ true →
       m.numeric_capture_group_references ≡ true) →
-      (list_any is_of_all (meant c l) ≡ true → m.self_recursive ≡ true) → Marked l
-  marked_nodes c [] f g = tt
-  marked_nodes c (ast_group name p t ∷ l) f g = (
+      (list_any is_of_all (meant c l) ≡ true → m.self_recursive ≡ true) → AllNumeric l
+  numeric_nodes c [] f g = tt
+  numeric_nodes c (ast_group name p t ∷ l) f g = (
     tt,
     (elim (is_counted named name) as (λ b. (list_any is_written (meant (if b then c + 1 else c) l) ≡ true →
         m.numeric_capture_group_references ≡ true) →
-        (list_any is_of_all (meant (if b then c + 1 else c) l) ≡ true → m.self_recursive ≡ true) → Marked l) [
-          | true ↦ λ f g. marked_nodes (c + 1) l f g
-          | false ↦ λ f g. marked_nodes c l f g
+        (list_any is_of_all (meant (if b then c + 1 else c) l) ≡ true → m.self_recursive ≡ true) → AllNumeric l) [
+          | true ↦ λ f g. numeric_nodes (c + 1) l f g
+          | false ↦ λ f g. numeric_nodes c l f g
         ]) f g,
   )
-  marked_nodes c (ast_node r p ∷ l) f g =
-      let k = means u c (role_of r) (target_of r) in (
-        marked_here r p k (λ e. f (or_left (is_written (r, p, k)) _ e)) (λ e. g (or_left (is_of_all (r, p, k)) _ e)),
-        marked_nodes c l (λ e. f (or_right (is_written (r, p, k)) _ e)) (λ e. g (or_right (is_of_all (r, p, k)) _ e)),
+  numeric_nodes c (ast_node r p ∷ l) f g =
+      let k = refers_to u c (role_of r) (target_of r) in (
+        numeric_at r p k (λ e. f (or_left (is_written (r, p, k)) _ e)) (λ e. g (or_left (is_of_all (r, p, k)) _ e)),
+        numeric_nodes c l (λ e. f (or_right (is_written (r, p, k)) _ e)) (λ e. g (or_right (is_of_all (r, p, k)) _ e)),
       )
-  marked_nodes c (_ ∷ l) f g = (tt, marked_nodes c l f g)
+  numeric_nodes c (_ ∷ l) f g = (tt, numeric_nodes c l f g)
 
   -- if a reference counts as written with a number, so does a node
   numbered_here : m.numeric_capture_group_references ≡ true → (c : ℕ) (r : AstReference) (p : ℕ) →
-      IsAstRead text r p → IsMarkedNode m (ast_node r p) →
-      is_numeric text (place_at (bytes text) p) (role_of r) (target_of r) ≡ true →
+      IsAstRead text r p → IsNumericNode m (ast_node r p) →
+      is_numeric text (position_at (bytes text) p) (role_of r) (target_of r) ≡ true →
       is_numbered m (there c (ast_node r p)) ≡ true
   numbered_here b c (ast_backref (by_number n) casei None) p h k e = b
   numbered_here b c (ast_backref (by_number n) casei (Some y)) p h k e = absurd-here (sym h.2 ∙ e)
@@ -156,7 +156,7 @@ module _ (f : Flags) (m : Marks) (text : Text) (z : ℕ) (named : Bool) (u : Tex
   numbered_here b c (ast_condition (by_name w) level) p h k e = absurd cc
   numbered_here b c (ast_condition (relative y) level) p h k e = absurd cc
 
-  pub numbered_some : m.numeric_capture_group_references ≡ true → (c : ℕ) (l : List Tree) → Parsed l → Marked l →
+  pub numbered_some : m.numeric_capture_group_references ≡ true → (c : ℕ) (l : List Tree) → Parsed l → AllNumeric l →
       list_any is_written (meant c l) ≡ true → list_any (is_numbered m) (kept_here c l) ≡ true
   numbered_some b c [] h k e = absurd cc
   numbered_some b c (ast_group name p t ∷ l) h k e =
@@ -166,13 +166,13 @@ module _ (f : Flags) (m : Marks) (text : Text) (z : ℕ) (named : Bool) (u : Tex
         | false ↦ λ e. numbered_some b c l h.1 k.1 e
       ]) e
   numbered_some b c (ast_node r p ∷ l) h k e =
-      or_step (is_numeric text (place_at (bytes text) p) (role_of r) (target_of r)) (list_any is_written (meant c l))
+      or_step (is_numeric text (position_at (bytes text) p) (role_of r) (target_of r)) (list_any is_written (meant c l))
       (is_numbered m (there c (ast_node r p))) (list_any (is_numbered m) (kept_here c l))
       (numbered_here b c r p h.0 k.0) (numbered_some b c l h.1 k.1) e
   numbered_some b c (x ∷ l) h k e = or_right (is_numbered m (there c x)) _ (numbered_some b c l h.1 k.1 e)
 
   -- if a reference calls all, so does a node
-  called_here : (c : ℕ) (r : AstReference) (p : ℕ) → IsMarkedNode m (ast_node r p) →
+  called_here : (c : ℕ) (r : AstReference) (p : ℕ) → IsNumericNode m (ast_node r p) →
       is_call_of_all (role_of r) (target_of r) ≡ true → is_numbered_call_of_all m (there c (ast_node r p)) ≡ true
   called_here c (ast_call (by_number n)) p k e = rw (k, e) refl
   called_here c (ast_call (by_name w)) p k e = absurd cc
@@ -180,7 +180,7 @@ module _ (f : Flags) (m : Marks) (text : Text) (z : ℕ) (named : Bool) (u : Tex
   called_here c (ast_backref t casei level) p k e = absurd cc
   called_here c (ast_condition t level) p k e = absurd cc
 
-  pub called_some : (c : ℕ) (l : List Tree) → Marked l → list_any is_of_all (meant c l) ≡ true →
+  pub called_some : (c : ℕ) (l : List Tree) → AllNumeric l → list_any is_of_all (meant c l) ≡ true →
       list_any (is_numbered_call_of_all m) (kept_here c l) ≡ true
   called_some c [] k e = absurd cc
   called_some c (ast_group name p t ∷ l) k e =

@@ -9,19 +9,19 @@ use Rattle.std.proofs.lemmas.Bool.{cond_both}
 use Rattle.std.proofs.lemmas.Bool.Decides.{nat_tests}
 use Rattle.std.proofs.Math.Bool.{beq}
 use Prim.Native.Char.{code}
-use Rattle.fancy_lex.proofs.ReferencePlaces.{IfGives}
+use Rattle.fancy_lex.proofs.ReferencePositions.{IfGives}
 use Rattle.fancy_lex.specs.Characters.{is_among}
 use Rattle.fancy_lex.specs.Delimited.{name_before}
-use Rattle.fancy_lex.specs.FaultTable.{group_not_named}
+use Rattle.fancy_lex.specs.ErrorTable.{group_not_named}
 use Rattle.fancy_lex.specs.Id.{nonempty_front}
 use Rattle.fancy_lex.specs.LayoutSteps.{layout, past_layout}
 use Rattle.fancy_lex.specs.Number.{number}
 use Rattle.fancy_lex.specs.Reading.{Reading, gives, fails, ◌>=>◌, layout_reading, read_or}
 use Rattle.fancy_lex.specs.Text.{Text, strip, bytes, cut_at}
 use Rattle.fancy_lex.specs.declared.flags.Flags.{Flags}
-use Rattle.fancy_parts.specs.FlagLetters.{Letters, setting, scope, LetterStep, flags_end, flags_go_on, with_letter}
+use Rattle.fancy_parts.specs.FlagLetters.{Letters, inline_flags, flag_group, LetterStep, flags_end, flags_go_on, with_letter}
 use Rattle.fancy_parts.specs.GroupName.{group_name}
-use Rattle.fancy_parts.specs.LetterSteps.{step, unknown_letter, flag_or_fault, behind_step, letters_in, letters}
+use Rattle.fancy_parts.specs.LetterSteps.{step, unknown_letter, flag_or_error, after_step, letters_in, letters}
 use Rattle.fancy_parts.specs.Quantifier.{counts, braced_counts, counts_from, in_braces, spaced_count, count}
 use Rattle.fancy_parts.specs.Quantifier.{count_of, exact_or_range, most}
 use Rattle.fancy_parts.specs.declared.counts.Counts.{Counts}
@@ -58,8 +58,8 @@ IsSameMode f g = unlettered g ≡ unlettered f
 
 -- so do the flags that letters set
 abbrev pub IsModeOf : Flags → Letters → Type 0
-IsModeOf f (setting g) = IsSameMode f g
-IsModeOf f (scope g) = IsSameMode f g
+IsModeOf f (inline_flags g) = IsSameMode f g
+IsModeOf f (flag_group g) = IsSameMode f g
 
 abbrev IsStepOf : Flags → LetterStep → Type 0
 IsStepOf f (flags_end l) = IsModeOf f l
@@ -81,16 +81,16 @@ module _ (t : Text) where
   step_mode f g h clears (c ∷ u) =
       let P = IfGives (IsStepOf f) in
       cond_both (c == code ")") _ _ P
-      (λ _. cond_both _ (unknown_letter t u) (gives (flags_end (setting g)) u) P (λ _. tt) (λ _. h)) (λ _.
+      (λ _. cond_both _ (unknown_letter t u) (gives (flags_end (inline_flags g)) u) P (λ _. tt) (λ _. h)) (λ _.
       cond_both (c == code ":") _ _ P
-      (λ _. cond_both _ (unknown_letter t u) (gives (flags_end (scope g)) u) P (λ _. tt) (λ _. h)) (λ _.
+      (λ _. cond_both _ (unknown_letter t u) (gives (flags_end (flag_group g)) u) P (λ _. tt) (λ _. h)) (λ _.
       cond_both (c == code "-") _ _ P
       (λ _. cond_both clears (unknown_letter t u) (gives (flags_go_on true g) u) P (λ _. tt) (λ _. h)) (λ _.
       cond_both (c == code "u") _ _ P (λ _. cond_both (beq clears g.unicode) _ _ P (λ _. tt) (λ _. h))
       (λ _. by_letter (with_letter g (not clears) c) (letter_mode g (not clears) c)))))
     where
       by_letter : (o : Option Flags) → IfSome o (λ k. IsSameMode g k) →
-          IfGives (IsStepOf f) (flag_or_fault t clears u o)
+          IfGives (IsStepOf f) (flag_or_error t clears u o)
       by_letter None k = tt
       by_letter (Some j) k = k ∙ h
 
@@ -101,13 +101,13 @@ module _ (t : Text) where
   letters_in_mode (suc k) f g h clears u =
       gives_after (IsModeOf f) (layout_reading (layout g.ignore_space u)) _ (λ _ v.
       gives_both (IsStepOf f) (IsModeOf f) (step t clears g v) _ (step_mode f g h clears v)
-      (λ s w i. behind s w i (λ b j x e. letters_in_mode k f j e b x)))
+      (λ s w i. after s w i (λ b j x e. letters_in_mode k f j e b x)))
     where
-      behind : (s : LetterStep) (w : Text) → IsStepOf f s →
+      after : (s : LetterStep) (w : Text) → IsStepOf f s →
           ((b : Bool) (j : Flags) (x : Text) → IsSameMode f j → IfGives (IsModeOf f) (letters_in t k b j x)) →
-          IfGives (IsModeOf f) (behind_step (letters_in t k) s w)
-      behind (flags_end l) w i more = i
-      behind (flags_go_on b j) w i more = more b j w i
+          IfGives (IsModeOf f) (after_step (letters_in t k) s w)
+      after (flags_end l) w i more = i
+      after (flags_go_on b j) w i more = more b j w i
 
 -- the letters of a flag group keep the mode
 pub letters_mode : (f : Flags) (t : Text) → IfGives (IsModeOf f) (letters f t)
@@ -211,22 +211,22 @@ counts_words x (c ∷ t) =
 
 -- the text is not empty, and does not contain the delimiter
 abbrev pub IsFreeOf : ℕ → Text → Type 0
-IsFreeOf mark [] = ⊥
-IsFreeOf mark (c ∷ w) = is_among mark (c ∷ w) ≡ false
+IsFreeOf delimiter [] = ⊥
+IsFreeOf delimiter (c ∷ w) = is_among delimiter (c ∷ w) ≡ false
 
 -- what is cut off the front does not contain it
 abbrev IfFree : ℕ → Option (Text × Text) → Type 0
-IfFree mark o = IfSome o (λ p. is_among mark p.0 ≡ false)
+IfFree delimiter o = IfSome o (λ p. is_among delimiter p.0 ≡ false)
 
-none_before : (mark : ℕ) (t : Text) → IfFree mark (cut_at mark t)
-none_before mark [] = tt
-none_before mark (c ∷ t) = by_test (c == mark) refl (cut_at mark t) (none_before mark t)
+none_before : (delimiter : ℕ) (t : Text) → IfFree delimiter (cut_at delimiter t)
+none_before delimiter [] = tt
+none_before delimiter (c ∷ t) = by_test (c == delimiter) refl (cut_at delimiter t) (none_before delimiter t)
   where
-    other : (c == mark) ≡ false → (mark == c) ≡ false
+    other : (c == delimiter) ≡ false → (delimiter == c) ≡ false
     other e = grind (arith, nat_tests)
 
-    by_test : (b : Bool) → (c == mark) ≡ b → (o : Option (Text × Text)) → IfFree mark o →
-        IfFree mark (if b then Some ([], t) else option_map (λ p. (c ∷ p.0, p.1)) o)
+    by_test : (b : Bool) → (c == delimiter) ≡ b → (o : Option (Text × Text)) → IfFree delimiter o →
+        IfFree delimiter (if b then Some ([], t) else option_map (λ p. (c ∷ p.0, p.1)) o)
     by_test true e o h = refl
     by_test false e None h = tt
     by_test false e (Some ([], u)) h = other e
@@ -234,23 +234,23 @@ none_before mark (c ∷ t) = by_test (c == mark) refl (cut_at mark t) (none_befo
 
 -- neither does a name
 abbrev pub IfNameFree : ℕ → Option (Text × Text) → Type 0
-IfNameFree mark o = IfSome o (λ p. IsFreeOf mark p.0)
+IfNameFree delimiter o = IfSome o (λ p. IsFreeOf delimiter p.0)
 
-pub before_free : (mark : ℕ) (t : Text) → IfNameFree mark (name_before mark t)
+pub before_free : (delimiter : ℕ) (t : Text) → IfNameFree delimiter (name_before delimiter t)
 unfolding name_before
-before_free mark t = by_cut (cut_at mark t) (none_before mark t)
+before_free delimiter t = by_cut (cut_at delimiter t) (none_before delimiter t)
   where
-    by_cut : (o : Option (Text × Text)) → IfFree mark o → IfNameFree mark (option_and_then nonempty_front o)
+    by_cut : (o : Option (Text × Text)) → IfFree delimiter o → IfNameFree delimiter (option_and_then nonempty_front o)
     by_cut None h = tt
     by_cut (Some ([], v)) h = tt
     by_cut (Some (c ∷ w, v)) h = h
 
 -- nor the name of a group
-pub name_free : (mark : ℕ) (t u : Text) → IfGives (IsFreeOf mark) (group_name mark t u)
+pub name_free : (delimiter : ℕ) (t u : Text) → IfGives (IsFreeOf delimiter) (group_name delimiter t u)
 unfolding group_name
-name_free mark t u = by_name (name_before mark u) (before_free mark u)
+name_free delimiter t u = by_name (name_before delimiter u) (before_free delimiter u)
   where
-    by_name : (o : Option (Text × Text)) → IfNameFree mark o → IfGives (IsFreeOf mark) (read_or (group_not_named t) o)
+    by_name : (o : Option (Text × Text)) → IfNameFree delimiter o → IfGives (IsFreeOf delimiter) (read_or (group_not_named t) o)
     by_name None h = tt
     by_name (Some (w, v)) h = h
 

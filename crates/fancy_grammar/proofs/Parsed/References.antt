@@ -12,23 +12,23 @@ use Rattle.fancy_lex.specs.NumberText.{number_text}
 use Rattle.fancy_lex.specs.Target.{Target, by_number, by_name, relative}
 use Rattle.fancy_lex.specs.Text.{Text}
 use Rattle.fancy_lex.specs.declared.flags.Flags.{Flags}
-use Rattle.fancy_parts.specs.Meaning.{Meaning, number, unresolved, faulty, means, last_of, only_one, at_distance}
+use Rattle.fancy_parts.specs.Meaning.{Meaning, number, unresolved, invalid, refers_to, last_of, only_one, at_distance}
 use Rattle.fancy_parts.specs.Meaning.{back_to}
 use Rattle.fancy_parts.specs.Meaning.{call, back_reference, condition, group_or_none, no_group, Role}
 use Rattle.fancy_parts.specs.Ranks.{Opening, is_counted, numbered_openings_in, numbers}
-use Rattle.fancy_grammar.specs.Answered.{IsAnsweredNode, AscendingNumbers}
+use Rattle.fancy_grammar.specs.ParsedTree.{IsParsedTreeNode, AscendingNumbers}
 use Rattle.fancy_grammar.specs.Items.{Item, opening, reference, items, items_all, openings_in, role_of}
 use Rattle.fancy_grammar.specs.Items.{target_of}
 use Rattle.fancy_grammar.specs.Label as label
 use Rattle.fancy_grammar.specs.Label.{Leaf, AstReference, ast_backref, ast_call, ast_condition}
-use Rattle.fancy_grammar.specs.Marks.{Marks}
+use Rattle.fancy_grammar.specs.GroupInfo.{GroupInfo}
 use Rattle.fancy_grammar.specs.Ordered.{DescendingReaches, reach_of_item}
 use Rattle.fancy_grammar.specs.Pattern.{group_count, group_count_all}
 use Rattle.fancy_grammar.specs.Preorder.{preorder, preorder_all}
 use Rattle.fancy_grammar.specs.Resolved.{resolved_in, resolved_all, reference_node}
 use Rattle.fancy_grammar.specs.Tree.{Tree, leaf, over, row, Trees, no_trees, more_trees, group, ast_node, ast_group}
 use Rattle.fancy_grammar.specs.Writable.{IsWritableLeaf, IsCallWritable, IsLevelWritable, IsCalledName, IsCalledTarget}
-use Rattle.fancy_grammar.specs.Writable.{numbers_told, is_called_by_number}
+use Rattle.fancy_grammar.specs.Writable.{info_numbers, is_called_by_number}
 use Rattle.fancy_grammar.proofs.ItemLemmas.{openings_append, counted}
 use Rattle.fancy_grammar.proofs.NamedNumbers.{ascend_from}
 use Rattle.fancy_grammar.proofs.TreeLaws.{IsReadNode}
@@ -101,7 +101,7 @@ is_reference (label.backref n casei) = true
 is_reference (label.backref_at_level n level casei) = true
 is_reference (label.backref_exists n level) = true
 is_reference (label.subroutine_call n) = true
-is_reference (label.ast_node r place) = true
+is_reference (label.ast_node r position) = true
 is_reference _ = false
 
 abbrev pub Where : Bool → Type 0 → Type 0
@@ -110,21 +110,21 @@ Where false P = Unit {0}
 
 abbrev mutual
   -- after the openings of c groups, what references resolve to can be written
-  pub AreReferencesWritable : Flags → Marks → ℕ → Tree → Type 0
+  pub AreReferencesWritable : Flags → GroupInfo → ℕ → Tree → Type 0
   AreReferencesWritable f m c (leaf l) = Where (is_reference l) (IsWritableLeaf f m c l)
   AreReferencesWritable f m c (over label.group t) = AreReferencesWritable f m (c + 1) t
   AreReferencesWritable f m c (over w t) = AreReferencesWritable f m c t
   AreReferencesWritable f m c (row r ts) = AreAllReferencesWritable f m c ts
 
-  pub AreAllReferencesWritable : Flags → Marks → ℕ → Trees → Type 0
+  pub AreAllReferencesWritable : Flags → GroupInfo → ℕ → Trees → Type 0
   AreAllReferencesWritable f m c no_trees = Unit {0}
   AreAllReferencesWritable f m c (more_trees t ts) =
       AreReferencesWritable f m c t × AreAllReferencesWritable f m (c + group_count t) ts
 
 -- a call with a number is written with it
-abbrev pub IsMarkedNode : Marks → Tree → Type 0
-IsMarkedNode m (leaf (label.ast_node (ast_call (by_number n)) p)) = is_called_by_number m n ≡ true
-IsMarkedNode m _ = Unit {0}
+abbrev pub IsNumericNode : GroupInfo → Tree → Type 0
+IsNumericNode m (leaf (label.ast_node (ast_call (by_number n)) p)) = is_called_by_number m n ≡ true
+IsNumericNode m _ = Unit {0}
 
 call_by_either : (b : Bool) (c n : ℕ) → n < 2 ^ 64 → n - c < amount_bound → c + 1 - n < amount_bound →
     IsCallWritable b c n
@@ -145,19 +145,19 @@ called_name (c ∷ w) e (between r h) = (e, λ k. absurd-here (sym (by_both (is_
     absurd-here e = absurd cc
 called_name (c ∷ w) e (in_parens h) = (e, λ k. h)
 
-module _ (f : Flags) (m : Marks) (text : Text) (z : ℕ) (named : Bool) (u : Text → List ℕ) (total : ℕ)
+module _ (f : Flags) (m : GroupInfo) (text : Text) (z : ℕ) (named : Bool) (u : Text → List ℕ) (total : ℕ)
     (small : total < 2 ^ 63) (among : (w : Text) → AllByRecursion (IsNumberOf total) (u w))
-    (same : (w : Text) → numbers_told m w ≡ u w) where
+    (same : (w : Text) → info_numbers m w ≡ u w) where
   abbrev there : ℕ → Tree → Tree
   there = resolved_in z named u
 
-  abbrev Answered : Tree → Type 0
-  Answered x = AllByRecursion IsAnsweredNode (preorder x)
+  abbrev ParsedTree : Tree → Type 0
+  ParsedTree x = AllByRecursion IsParsedTreeNode (preorder x)
 
   -- the node that the reference resolves to can be written
   abbrev Comes : ℕ → Meaning → AstReference → ℕ → Type 0
   Comes c k r p =
-      Answered (reference_node z k r p) → AreReferencesWritable f m c (reference_node z k r p)
+      ParsedTree (reference_node z k r p) → AreReferencesWritable f m c (reference_node z k r p)
 
   -- ---- back references and conditions
 
@@ -200,12 +200,12 @@ module _ (f : Flags) (m : Marks) (text : Text) (z : ℕ) (named : Bool) (u : Tex
   back_word c w None h = tt
   back_word c w (Some n) h = cond_both (nat_le n c) _ _ (IfNumber IsWord) (λ _. h) (λ _. tt)
 
-  back_meaning : (c : ℕ) (t : Target) → c ≤ total → IsTargetRead t → IfNumber IsWord (means u c back_reference t)
+  back_meaning : (c : ℕ) (t : Target) → c ≤ total → IsTargetRead t → IfNumber IsWord (refers_to u c back_reference t)
   back_meaning c (by_number n) h k = k
   back_meaning c (by_name w) h k = back_word c w (last_of (u w)) (some_word (last_of (u w)) (last_number w))
   back_meaning c (relative y) h k = group_word back_reference (at_distance c y) tt (distance_word c y h k)
 
-  condition_meaning : (c : ℕ) (t : Target) → c ≤ total → IsTargetRead t → IfNumber IsWord (means u c condition t)
+  condition_meaning : (c : ℕ) (t : Target) → c ≤ total → IsTargetRead t → IfNumber IsWord (refers_to u c condition t)
   condition_meaning c (by_number n) h k = k
   condition_meaning c (by_name w) h k =
       group_word condition (last_of (u w)) tt (some_word (last_of (u w)) (last_number w))
@@ -215,13 +215,13 @@ module _ (f : Flags) (m : Marks) (text : Text) (z : ℕ) (named : Bool) (u : Tex
       IfSome level IsLevelWritable → Comes c k (ast_backref t casei level) p
   by_back c p (number n) t casei level h l a = back_comes c n p t casei level h l a
   by_back c p unresolved t casei level h l a = absurd cc
-  by_back c p (faulty j) t casei level h l a = absurd cc
+  by_back c p (invalid j) t casei level h l a = absurd cc
 
   by_condition : (c p : ℕ) (k : Meaning) (t : Target) (level : Option ℤ) → IfNumber IsWord k →
       IfSome level IsLevelWritable → Comes c k (ast_condition t level) p
   by_condition c p (number n) t level h l a = (h, l)
   by_condition c p unresolved t level h l a = absurd cc
-  by_condition c p (faulty j) t level h l a = absurd cc
+  by_condition c p (invalid j) t level h l a = absurd cc
 
   -- ---- calls
 
@@ -244,28 +244,28 @@ module _ (f : Flags) (m : Marks) (text : Text) (z : ℕ) (named : Bool) (u : Tex
       (omega (arith, small, h), omega (arith, less), omega (arith, less, l))) (λ _. tt)
 
   -- what it means by the group information
-  means_so : (c : ℕ) (t : Target) → means (numbers_told m) c call t ≡ means u c call t
-  means_so c t = λ i. means (λ w. same w i) c call t
+  refers_so : (c : ℕ) (t : Target) → refers_to (info_numbers m) c call t ≡ refers_to u c call t
+  refers_so c t = λ i. refers_to (λ w. same w i) c call t
 
-  call_comes : (c p : ℕ) (k : Meaning) (t : Target) → means u c call t ≡ k → IfNumber (IsNear c) k → IsCalledTarget t →
+  call_comes : (c p : ℕ) (k : Meaning) (t : Target) → refers_to u c call t ≡ k → IfNumber (IsNear c) k → IsCalledTarget t →
       Comes c k (ast_call t) p
   call_comes c p (number n) t e h i a = near_word (is_called_by_number m n) c n h
-  call_comes c p unresolved t e h i a = (i, means_so c t ∙ e)
-  call_comes c p (faulty j) t e h i a = absurd-call t e
+  call_comes c p unresolved t e h i a = (i, refers_so c t ∙ e)
+  call_comes c p (invalid j) t e h i a = absurd-call t e
     where
-      none_faulty : (l : List ℕ) → only_one l ≡ faulty j → ⊥
-      none_faulty [] e = cc
-      none_faulty (n ∷ []) e = cc
-      none_faulty (n ∷ o ∷ l) e = cc
+      none_invalid : (l : List ℕ) → only_one l ≡ invalid j → ⊥
+      none_invalid [] e = cc
+      none_invalid (n ∷ []) e = cc
+      none_invalid (n ∷ o ∷ l) e = cc
 
-      distance_faulty : (o : Option ℕ) → group_or_none call o ≡ faulty j → ⊥
-      distance_faulty None e = cc
-      distance_faulty (Some n) e = cc
+      distance_invalid : (o : Option ℕ) → group_or_none call o ≡ invalid j → ⊥
+      distance_invalid None e = cc
+      distance_invalid (Some n) e = cc
 
-      absurd-call : {A : Type 0} (t : Target) → means u c call t ≡ faulty j → A
+      absurd-call : {A : Type 0} (t : Target) → refers_to u c call t ≡ invalid j → A
       absurd-call (by_number n) e = absurd cc
-      absurd-call (by_name w) e = absurd (none_faulty (u w) e)
-      absurd-call (relative y) e = absurd (distance_faulty (at_distance c y) e)
+      absurd-call (by_name w) e = absurd (none_invalid (u w) e)
+      absurd-call (relative y) e = absurd (distance_invalid (at_distance c y) e)
 
   near_one : (c : ℕ) (l : List ℕ) → c ≤ total → AllByRecursion (IsNumberOf total) l → IfNumber (IsNear c) (only_one l)
   near_one c [] h k = tt
@@ -276,26 +276,26 @@ module _ (f : Flags) (m : Marks) (text : Text) (z : ℕ) (named : Bool) (u : Tex
   near_group c None h = tt
   near_group c (Some n) h = h
 
-  by_call : (c p : ℕ) (t : Target) → c ≤ total → IsCallRead t → IsMarkedNode m (ast_node (ast_call t) p) →
-      Comes c (means u c call t) (ast_call t) p
+  by_call : (c p : ℕ) (t : Target) → c ≤ total → IsCallRead t → IsNumericNode m (ast_node (ast_call t) p) →
+      Comes c (refers_to u c call t) (ast_call t) p
   by_call c p (by_number n) h k b a = subst (λ q. IsCallWritable q c n) (sym b) k
   by_call c p (by_name w) h k b a =
-      call_comes c p (means u c call (by_name w)) (by_name w) refl (near_one c (u w) h (among w))
+      call_comes c p (refers_to u c call (by_name w)) (by_name w) refl (near_one c (u w) h (among w))
       (called_name w k.0 k.1) a
   by_call c p (relative y) h k b a =
-      call_comes c p (means u c call (relative y)) (relative y) refl
+      call_comes c p (refers_to u c call (relative y)) (relative y) refl
       (near_group c (at_distance c y) (near_distance c y h k)) k a
 
   -- ---- trees
 
   reference_met : (c : ℕ) (r : AstReference) (p : ℕ) → c ≤ total → IsAstRead text r p →
-      IsMarkedNode m (ast_node r p) → Answered (there c (ast_node r p)) →
+      IsNumericNode m (ast_node r p) → ParsedTree (there c (ast_node r p)) →
       AreReferencesWritable f m c (there c (ast_node r p))
   reference_met c (ast_backref t casei level) p h k b a =
-      by_back c p (means u c back_reference t) t casei level (back_meaning c t h k.0) k.1 a
+      by_back c p (refers_to u c back_reference t) t casei level (back_meaning c t h k.0) k.1 a
   reference_met c (ast_call t) p h k b a = by_call c p t h k b a
   reference_met c (ast_condition t level) p h k b a =
-      by_condition c p (means u c condition t) t level (condition_meaning c t h k.0) k.1 a
+      by_condition c p (refers_to u c condition t) t level (condition_meaning c t h k.0) k.1 a
 
   reference_count : (k : Meaning) (r : AstReference) (p : ℕ) → group_count (reference_node z k r p) ≡ 0
   reference_count (number n) (ast_backref t casei None) p = refl
@@ -303,7 +303,7 @@ module _ (f : Flags) (m : Marks) (text : Text) (z : ℕ) (named : Bool) (u : Tex
   reference_count (number n) (ast_call t) p = refl
   reference_count (number n) (ast_condition t level) p = refl
   reference_count unresolved r p = refl
-  reference_count (faulty j) r p = refl
+  reference_count (invalid j) r p = refl
 
   -- it has as many groups as have a number
   mutual
@@ -317,7 +317,7 @@ module _ (f : Flags) (m : Marks) (text : Text) (z : ℕ) (named : Bool) (u : Tex
           | true ↦ omega (arith, count_there (c + 1) t h.1)
           | false ↦ count_there c t h.1
         ]
-    count_there c (ast_node r p) h = reference_count (means u c (role_of r) (target_of r)) r p
+    count_there c (ast_node r p) h = reference_count (refers_to u c (role_of r) (target_of r)) r p
     count_there c (leaf l) h = refl
     count_there c (over label.group t) h = absurd h.0
     count_there c (over _ t) h = count_there c t h.1
@@ -334,12 +334,12 @@ module _ (f : Flags) (m : Marks) (text : Text) (z : ℕ) (named : Bool) (u : Tex
 
   mutual
     pub met : (c : ℕ) (r : Tree) → AllByRecursion (IsParsedNode f text) (preorder r) →
-        AllByRecursion IsReadNode (preorder r) → AllByRecursion (IsMarkedNode m) (preorder r) →
-        Answered (there c r) → c + counted named (items r) ≤ total → AreReferencesWritable f m c (there c r)
+        AllByRecursion IsReadNode (preorder r) → AllByRecursion (IsNumericNode m) (preorder r) →
+        ParsedTree (there c r) → c + counted named (items r) ≤ total → AreReferencesWritable f m c (there c r)
     met c (ast_group name p t) h i k a l =
         let o : Opening = record { reach = p; name = name } in
         let n = numbered_openings_in named (openings_in (items t)) in
-        (elim (is_counted named name) as (λ b. Answered (if b then group (there (c + 1) t) else there c t) →
+        (elim (is_counted named name) as (λ b. ParsedTree (if b then group (there (c + 1) t) else there c t) →
         c + length (if b then o ∷ n else n) ≤ total →
         AreReferencesWritable f m c (if b then group (there (c + 1) t) else there c t)) [
           | true ↦ λ a l. met (c + 1) t h.1 i.1 k.1 a.1 (omega (arith, l))
@@ -356,17 +356,17 @@ module _ (f : Flags) (m : Marks) (text : Text) (z : ℕ) (named : Bool) (u : Tex
     met c (row r ts) h i k a l = all_met c ts h.1 i.1 k.1 a.1 l
 
     all_met : (c : ℕ) (ts : Trees) → AllByRecursion (IsParsedNode f text) (preorder_all ts) →
-        AllByRecursion IsReadNode (preorder_all ts) → AllByRecursion (IsMarkedNode m) (preorder_all ts) →
-        AllByRecursion IsAnsweredNode (preorder_all (resolved_all z named u c ts)) →
+        AllByRecursion IsReadNode (preorder_all ts) → AllByRecursion (IsNumericNode m) (preorder_all ts) →
+        AllByRecursion IsParsedTreeNode (preorder_all (resolved_all z named u c ts)) →
         c + counted named (items_all ts) ≤ total → AreAllReferencesWritable f m c (resolved_all z named u c ts)
     all_met c no_trees h i k a l = tt
     all_met c (more_trees t ts) h i k a l =
         let (h0, h1) = each_split (IsParsedNode f text) (preorder t) (preorder_all ts) h in
         let (i0, i1) = each_split IsReadNode (preorder t) (preorder_all ts) i in
-        let (k0, k1) = each_split (IsMarkedNode m) (preorder t) (preorder_all ts) k in
+        let (k0, k1) = each_split (IsNumericNode m) (preorder t) (preorder_all ts) k in
         let next = c + counted named (items t) in
         let (a0, a1) =
-        each_split IsAnsweredNode (preorder (there c t)) (preorder_all (resolved_all z named u next ts)) a in
+        each_split IsParsedTreeNode (preorder (there c t)) (preorder_all (resolved_all z named u next ts)) a in
         let both = counted_append named (items t) (items_all ts) in (
           met c t h0 i0 k0 a0 (omega (arith, l, both)),
           subst (λ n. AreAllReferencesWritable f m (c + n) (resolved_all z named u next ts)) (sym (count_there c t i0))

@@ -9,11 +9,11 @@ use Rattle.std.proofs.lemmas.Bool.{cond_both}
 use Rattle.std.proofs.lemmas.Bool.Decides.{nat_tests}
 use Prim.Native.Char.{code}
 use Rattle.fancy_lex.proofs.ReadingLemmas.{choose_both}
-use Rattle.fancy_lex.proofs.ReferencePlaces.{IfGives, named_at}
+use Rattle.fancy_lex.proofs.ReferencePositions.{IfGives, named_at}
 use Rattle.fancy_lex.specs.Characters.{close_paren, ◌∈◌}
-use Rattle.fancy_lex.specs.Delimited.{name_before, marked_name, of_name}
+use Rattle.fancy_lex.specs.Delimited.{name_before, delimited_name, of_name}
 use Rattle.fancy_lex.specs.EscapeReference.{group_number, numbered_reference, back_reference, call_target, written_call}
-use Rattle.fancy_lex.specs.EscapeReference.{marked_call, numbered_call, subroutine_call, relative_target}
+use Rattle.fancy_lex.specs.EscapeReference.{delimited_call, numbered_call, subroutine_call, relative_target}
 use Rattle.fancy_lex.specs.EscapeReference.{is_relative}
 use Rattle.fancy_lex.specs.Id.{id}
 use Rattle.fancy_lex.specs.IdReference.{IdReference, id_alone, id_and_amount, amount_alone, id_reference, amount}
@@ -25,7 +25,7 @@ use Rattle.fancy_lex.specs.Referred.{Reference, Call, call_to, reference_of, wri
 use Rattle.fancy_lex.specs.Referred.{name_reading, reference_by_name, target_of_name, number_or_name}
 use Rattle.fancy_lex.specs.Target.{Target, by_number, by_name, relative}
 use Rattle.fancy_lex.specs.Text.{Text, reach_of, strip}
-use Rattle.fancy_parts.specs.HeadReference.{named_reference, named_call, condition_target, condition_name, call_of}
+use Rattle.fancy_parts.specs.GroupReference.{named_reference, named_call, condition_target, condition_name, call_of}
 use Rattle.fancy_grammar.specs.Writable.{IsLevelWritable, IsNameWritable}
 use Rattle.fancy_grammar.proofs.Parsed.Readers.{gives_both, IsFreeOf, IfNameFree, before_free, angled_writable}
 use Rattle.fancy_grammar.proofs.Parsed.Readers.{quoted_writable}
@@ -114,16 +114,16 @@ IfId o = IfSome o IsIdRead
 id_read : (amounts : Bool) (t : Text) → IfId (id_reference amounts t)
 unfolding id_reference
 id_read amounts t =
-    choose_both IfId (id t) (λ q. with_id amounts q.0 q.1) _ (λ q _. behind_id q.0 q.1)
+    choose_both IfId (id t) (λ q. with_id amounts q.0 q.1) _ (λ q _. after_id q.0 q.1)
     (cond_both amounts _ _ IfId (λ _. alone (amount t) (amount_level t)) (λ _. tt))
   where
     with_amount : (i : Text) (o : Option ℤ) → IfLevel o → IfId (option_map (id_and_amount i) o)
     with_amount i None h = tt
     with_amount i (Some z) h = h
 
-    behind_id : (i v : Text) → IfId (with_id amounts i v)
-    behind_id i [] = tt
-    behind_id i (c ∷ v) =
+    after_id : (i v : Text) → IfId (with_id amounts i v)
+    after_id i [] = tt
+    after_id i (c ∷ v) =
         cond_both amounts _ _ IfId (λ _. with_amount i (amount (c ∷ v)) (amount_level (c ∷ v))) (λ _. tt)
 
     alone : (o : Option ℤ) → IfLevel o → IfId (option_and_then without_id o)
@@ -172,7 +172,7 @@ numbered_reference_read t =
 
 pub back_reference_read : (t : Text) → IfGives IsReferenceRead (back_reference t)
 unfolding back_reference
-back_reference_read t = named_read (reach_of t) true (marked_name t)
+back_reference_read t = named_read (reach_of t) true (delimited_name t)
 
 pub named_reference_read : (t : Text) → IfGives IsReferenceRead (named_reference t)
 unfolding named_reference
@@ -230,10 +230,10 @@ call_target_read w h =
 abbrev pub IfNamed : Option (Text × Text) → Type 0
 IfNamed o = IfSome o (λ q. IsNameWritable q.0)
 
-pub marked_writable : (t : Text) → IfNamed (marked_name t)
-unfolding marked_name
-marked_writable [] = tt
-marked_writable (c ∷ t) =
+pub delimited_writable : (t : Text) → IfNamed (delimited_name t)
+unfolding delimited_name
+delimited_writable [] = tt
+delimited_writable (c ∷ t) =
     cond_both (c == code "<") _ _ IfNamed (λ _. by_angle (name_before (code ">") t) (before_free (code ">") t)) (λ _.
     cond_both (c == code "'") _ _ IfNamed (λ _. by_quote (name_before (code "'") t) (before_free (code "'") t))
     (λ _. tt))
@@ -246,9 +246,9 @@ marked_writable (c ∷ t) =
     by_quote None h = tt
     by_quote (Some (w, u)) h = quoted_writable w h
 
-marked_call_read : (p : ℕ) (t : Text) → IfGives IsCall (name_reading p (marked_call p t))
-unfolding marked_call written_call
-marked_call_read p t = by_name (marked_name t) (marked_writable t)
+delimited_call_read : (p : ℕ) (t : Text) → IfGives IsCall (name_reading p (delimited_call p t))
+unfolding delimited_call written_call
+delimited_call_read p t = by_name (delimited_name t) (delimited_writable t)
   where
     by_target : (u : Text) (o : Option Target) → IfSome o IsCallRead →
         IfGives IsCall (name_reading p (option_map (λ (a : Call). (a, u)) (option_map (call_to p) o)))
@@ -264,7 +264,7 @@ unfolding subroutine_call numbered_call
 subroutine_call_read t =
     cond_both (at_digit t) _ _ (IfGives IsCall)
     (λ _. gives_both IsWord IsCall (group_number t) _ (group_word t) (λ k u h. h))
-    (λ _. marked_call_read (reach_of t) t)
+    (λ _. delimited_call_read (reach_of t) t)
 
 pub named_call_read : (t : Text) → IfGives IsCall (named_call t)
 unfolding named_call

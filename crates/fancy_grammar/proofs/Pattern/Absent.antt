@@ -7,14 +7,14 @@ use Rattle.std.specs.List.{starts_with}
 use Prim.Native.Char.{code}
 use Rattle.fancy_lex.specs.Text.{Text, bytes}
 use Rattle.fancy_lex.specs.declared.flags.Flags.{Flags}
-use Rattle.fancy_grammar.specs.Ahead.{nothing, with_head, ahead, behind_question}
+use Rattle.fancy_grammar.specs.AtomStart.{nothing, of_kind, atom_start, after_question}
 use Rattle.fancy_grammar.specs.Depth.{max_depth}
 use Rattle.fancy_grammar.specs.Grammar.{Alternation, next, atom, a_nothing, a_group, inside, two_branches, one_branch}
-use Rattle.fancy_grammar.specs.Head as head
+use Rattle.fancy_grammar.specs.GroupKind as kind
 use Rattle.fancy_grammar.specs.Join.{is_empty}
 use Rattle.fancy_grammar.specs.Label as label
-use Rattle.fancy_grammar.specs.Marks.{Marks}
-use Rattle.fancy_grammar.specs.Pattern.{Here, under, past_groups, deeper, group_count, in_parens, behind, written}
+use Rattle.fancy_grammar.specs.GroupInfo.{GroupInfo}
+use Rattle.fancy_grammar.specs.Pattern.{Context, under, past_groups, deeper, group_count, in_parens, after, written}
 use Rattle.fancy_grammar.specs.Pattern.{repeater_text, stopper_text}
 use Rattle.fancy_grammar.specs.PatternDepth.{Fits}
 use Rattle.fancy_grammar.specs.PatternNeeds.{settled}
@@ -25,7 +25,7 @@ use Rattle.fancy_grammar.specs.declared.precedence.Precedence.TheVariants.{Whole
 use Rattle.fancy_grammar.proofs.OutcomeLemmas.{piece_as}
 use Rattle.fancy_grammar.proofs.Pattern.Becomes.{Becomes, row_becomes, stays_solid, in_longer}
 use Rattle.fancy_grammar.proofs.Pattern.Cases.{ReadsTree}
-use Rattle.fancy_grammar.proofs.Pattern.Groups.{parens_text, question_at, over_becomes, whole_behind}
+use Rattle.fancy_grammar.proofs.Pattern.Groups.{parens_text, question_at, over_becomes, whole_after}
 use Rattle.fancy_grammar.proofs.Pattern.Induction.{MayBeLeft, by_left, by_atom}
 use Rattle.fancy_grammar.proofs.Pattern.Groups.{bare_branch, begins_nothing, reads_nothing}
 use Rattle.fancy_grammar.proofs.Pattern.Rules.{Begins, Stops, begins_by, stops_bar, ends_close, AtomAt, BranchAt}
@@ -38,12 +38,12 @@ use Rattle.fancy_lex.proofs.LeaveLaws.{ends_twice}
 
 -- ---- after an empty comment
 
-nothing_at : (d : ℕ) (f : Flags) (s : Text) → ahead d (st f (code "|" ∷ s)) ≡ nothing
-unfolding ahead
+nothing_at : (d : ℕ) (f : Flags) (s : Text) → atom_start d (st f (code "|" ∷ s)) ≡ nothing
+unfolding atom_start
 nothing_at d f s = refl
 
 -- a text that begins with a bar is read the same after the comment
-comment_whole : (μ : Marks) (h : Here) (s v : Text) (g : Flags) (x : Tree) →
+comment_whole : (μ : GroupInfo) (h : Context) (s v : Text) (g : Flags) (x : Tree) →
     WholeAt μ h (code "|" ∷ s) g v x → WholeAt μ h (codes "(?#)|" ++ s) g v x
 comment_whole μ h s v g x w =
     let t = codes "(?#)|" ++ s in
@@ -51,7 +51,7 @@ comment_whole μ h s v g x w =
     record {
       tree = w.tree;
       derives =
-          whole_behind h.depth (st h.flags bar) (st h.flags t)
+          whole_after h.depth (st h.flags bar) (st h.flags t)
           (λ q p. next refl
           (piece_as (comment_passed h.flags.ignore_space bar ∙ (stops_bar h.flags.ignore_space s).clear.no_layout)
           (atom (nothing_at h.depth h.flags s) a_nothing)
@@ -64,7 +64,7 @@ comment_whole μ h s v g x w =
 -- ---- a repeater
 
 -- the text begins with no bar; an empty comment comes first if one is needed
-record Parted (μ : Marks) (h : Here) (t v : Text) (g : Flags) (x : Tree) : Type 0 where
+record Parted (μ : GroupInfo) (h : Context) (t v : Text) (g : Flags) (x : Tree) : Type 0 where
   first : ℕ
   others : Text
   is : t ≡ first ∷ others
@@ -72,7 +72,7 @@ record Parted (μ : Marks) (h : Here) (t v : Text) (g : Flags) (x : Tree) : Type
   reads : WholeAt μ h t g v x
 
 tilde_at : (s : State) (c : ℕ) (u : Text) → (c == code "|") ≡ false →
-    behind_question s (code "~" ∷ c ∷ u) ≡ with_head head.repeater (st s.flags (c ∷ u))
+    after_question s (code "~" ∷ c ∷ u) ≡ of_kind kind.repeater (st s.flags (c ∷ u))
 tilde_at s c u e = rw e refl
 
 starts_bar : (t : Text) → starts_with nat_eq (code "|" ∷ t) (codes "|") ≡ true
@@ -81,18 +81,18 @@ starts_bar t = refl
 starts_other : (c : ℕ) (t : Text) → (c ≢ code "|") → starts_with nat_eq (c ∷ t) (codes "|") ≡ false
 starts_other c t h = rw (ne_eqb (code "|") c (λ e. h (sym e))) refl
 
-module _ (μ : Marks) (h : Here) (v : Text) (g : Flags) (x : Tree) where
+module _ (μ : GroupInfo) (h : Context) (v : Text) (g : Flags) (x : Tree) where
   abbrev PartedIf : Bool → Text → Type 0
   PartedIf b t = Parted μ h ((if b then codes "(?#)" ++ t else t) ++ code ")" ∷ v) (code ")" ∷ v) g x
 
-  abbrev ReadsHere : Text → Type 0
-  ReadsHere t = WholeAt μ h (t ++ code ")" ∷ v) g (code ")" ∷ v) x
+  abbrev ReadsInParens : Text → Type 0
+  ReadsInParens t = WholeAt μ h (t ++ code ")" ∷ v) g (code ")" ∷ v) x
 
-  parted_nothing : (b : Bool) → false ≡ b → ReadsHere [] → PartedIf b []
+  parted_nothing : (b : Bool) → false ≡ b → ReadsInParens [] → PartedIf b []
   parted_nothing true e w = absurd (false≢true e)
   parted_nothing false e w = record { first = code ")"; others = v; is = refl; no_bar = refl; reads = w }
 
-  parted_bar : (b : Bool) (t : Text) → true ≡ b → ReadsHere (code "|" ∷ t) → PartedIf b (code "|" ∷ t)
+  parted_bar : (b : Bool) (t : Text) → true ≡ b → ReadsInParens (code "|" ∷ t) → PartedIf b (code "|" ∷ t)
   parted_bar true t e w = record {
     first = code "(";
     others = codes "?#)|" ++ (t ++ code ")" ∷ v);
@@ -102,21 +102,21 @@ module _ (μ : Marks) (h : Here) (v : Text) (g : Flags) (x : Tree) where
   }
   parted_bar false t e w = absurd (false≢true (sym e))
 
-  parted_other : (b : Bool) (c : ℕ) (t : Text) → (c ≢ code "|") → false ≡ b → ReadsHere (c ∷ t) → PartedIf b (c ∷ t)
+  parted_other : (b : Bool) (c : ℕ) (t : Text) → (c ≢ code "|") → false ≡ b → ReadsInParens (c ∷ t) → PartedIf b (c ∷ t)
   parted_other true c t h e w = absurd (false≢true e)
   parted_other false c t h e w =
       record { first = c; others = t ++ code ")" ∷ v; is = refl; no_bar = ne_eqb c (code "|") h; reads = w }
 
-  parted : (t : Text) → ReadsHere t → PartedIf (starts_with nat_eq t (codes "|")) t
+  parted : (t : Text) → ReadsInParens t → PartedIf (starts_with nat_eq t (codes "|")) t
   parted [] w = parted_nothing (starts_with nat_eq [] (codes "|")) refl w
   parted (c ∷ t) w =
       ⊎_elim
-      (λ e. subst (λ c. ReadsHere (c ∷ t) → PartedIf (starts_with nat_eq (c ∷ t) (codes "|")) (c ∷ t)) (sym e)
+      (λ e. subst (λ c. ReadsInParens (c ∷ t) → PartedIf (starts_with nat_eq (c ∷ t) (codes "|")) (c ∷ t)) (sym e)
       (parted_bar (starts_with nat_eq (code "|" ∷ t) (codes "|")) t (sym (starts_bar t))) w)
       (λ e. parted_other (starts_with nat_eq (c ∷ t) (codes "|")) c t e (sym (starts_other c t e)) w)
       (cases_eq c (code "|"))
 
-repeater_at : (μ : Marks) (h : Here) (u : Text) (g : Flags) (v : Text) (x : Tree) → h.depth + 1 < max_depth →
+repeater_at : (μ : GroupInfo) (h : Context) (u : Text) (g : Flags) (v : Text) (x : Tree) → h.depth + 1 < max_depth →
     Parted μ (deeper h) u (code ")" ∷ v) g x → AtomAt μ h (codes "(?~" ++ u) v (over label.repeater x)
 repeater_at μ h u g v x l p =
     subst (λ z. AtomAt μ h (codes "(?~" ++ z) v (over label.repeater x)) (sym p.is)
@@ -140,7 +140,7 @@ stopper_same : (x : Bool) (t : Text) → Begins x (t ++ []) → stopper_text t �
 stopper_same x [] b = absurd (false≢true (sym b.goes))
 stopper_same x (c ∷ t) b = refl
 
-stopper_at : (μ : Marks) (h : Here) (t v : Text) (g : Flags) (x : Tree) → h.depth + 1 < max_depth →
+stopper_at : (μ : GroupInfo) (h : Context) (t v : Text) (g : Flags) (x : Tree) → h.depth + 1 < max_depth →
     (b : BranchAt μ (deeper h) t g (code ")" ∷ v) x) → is_empty b.tree ≡ false →
     AtomAt μ h (codes "(?~|" ++ t) v (over label.stopper x)
 stopper_at μ h t v g x l b solid =
@@ -156,7 +156,7 @@ stopper_at μ h t v g x l b solid =
 
 -- ---- an absent expression
 
-expression_at : (μ : Marks) (h : Here) (t u v : Text) (f g : Flags) (a e : Tree) → h.depth + 1 < max_depth →
+expression_at : (μ : GroupInfo) (h : Context) (t u v : Text) (f g : Flags) (a e : Tree) → h.depth + 1 < max_depth →
     BranchAt μ (deeper h) t f (code "|" ∷ u) a →
     BranchAt μ (past_groups (group_count a) (under f (deeper h))) u g (code ")" ∷ v) e →
     AtomAt μ h (codes "(?~|" ++ t) v (row label.expression (more_trees a (more_trees e no_trees)))
@@ -177,7 +177,7 @@ expression_at μ h t u v f g a e l b d = record {
 
 -- ---- the trees
 
-module _ (μ : Marks) (h : Here) where
+module _ (μ : GroupInfo) (h : Context) where
   begins_absent : (u : Text) → Begins h.flags.ignore_space (codes "(?~" ++ u)
   begins_absent u = begins_by h.flags.ignore_space (code "(") _ refl refl refl refl
 
@@ -187,7 +187,7 @@ module _ (μ : Marks) (h : Here) where
       let x = over label.repeater t in
       let i = under (settled h.flags t) h in
       let w = written μ t Whole (deeper i) in
-      let text = λ (j : Here). repeater_text (written μ t Whole j) in
+      let text = λ (j : Context). repeater_text (written μ t Whole j) in
       let s = in_parens (codes "?~") text i in
       let same = parens_text (codes "?~") text i in
       by_atom μ x h refl (Fits x Whole h) (Fits x Whole h) s _ (λ d. d.0)
@@ -203,7 +203,7 @@ module _ (μ : Marks) (h : Here) where
       let x = over label.stopper t in
       let i = under (settled h.flags t) h in
       let w = written μ t Branch (deeper i) in
-      let text = λ (j : Here). stopper_text (written μ t Branch j) in
+      let text = λ (j : Context). stopper_text (written μ t Branch j) in
       let s = in_parens (codes "?~|") text i in
       let same = parens_text (codes "?~|") text i in
       let bare = λ (d : Fits x Whole h). stopper_same h.flags.ignore_space w (r.branch_begins d.1.1.1 solid []) in
@@ -217,7 +217,7 @@ module _ (μ : Marks) (h : Here) where
   nothing_stopper : μ.numbered_groups_ignored ≡ true → ReadsTree μ (over label.stopper empty) h
   nothing_stopper ignored =
       let x = over label.stopper empty in
-      let text = λ (j : Here). codes "()" in
+      let text = λ (j : Context). codes "()" in
       by_atom μ x h refl (Fits x Whole h) (Fits x Whole h) (in_parens (codes "?~|") text h) _ (λ d. d.0)
       (λ _ v. begins_absent _)
       (λ d v k _. let b = bare_branch μ (deeper h) (codes "()" ++ code ")" ∷ v) (code ")" ∷ v) empty
@@ -234,17 +234,17 @@ module _ (μ : Marks) (h : Here) where
   -- the second branch follows the first
   pub expression_reads : (a e : Tree) → let x = row label.expression (more_trees a (more_trees e no_trees)) in
       let i = deeper (under (settled h.flags x) h) in
-      (behind a Branch i).flags.ignore_space ≡ h.flags.ignore_space → ReadsTree μ a i →
-      ReadsTree μ e (behind a Branch i) → ReadsTree μ x h
+      (after a Branch i).flags.ignore_space ≡ h.flags.ignore_space → ReadsTree μ a i →
+      ReadsTree μ e (after a Branch i) → ReadsTree μ x h
   expression_reads a e space r q =
       let x = row label.expression (more_trees a (more_trees e no_trees)) in
       let i = under (settled h.flags x) h in
-      let text = λ (j : Here).
-      written μ a Branch j ++ (codes "|" ++ written μ e Branch (behind a Branch j)) in
+      let text = λ (j : Context).
+      written μ a Branch j ++ (codes "|" ++ written μ e Branch (after a Branch j)) in
       let s = in_parens (codes "?~|") text i in
       let same = parens_text (codes "?~|") text i in
       let first = written μ a Branch (deeper i) in
-      let second = λ (v : Text). written μ e Branch (behind a Branch (deeper i)) ++ code ")" ∷ v in
+      let second = λ (v : Text). written μ e Branch (after a Branch (deeper i)) ++ code ")" ∷ v in
       by_atom μ x h refl (Fits x Whole h) (Fits x Whole h) s _ (λ d. d.0)
       (λ _ v. subst (Begins h.flags.ignore_space) (sym (same v)) (begins_absent _))
       (λ d v k _. subst (λ z. AtomAt μ i z v x)

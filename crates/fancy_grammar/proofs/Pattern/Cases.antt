@@ -12,19 +12,19 @@ use Rattle.fancy_lex.specs.Text.{Text}
 use Rattle.fancy_lex.specs.declared.escape.Assertion.{Assertion}
 use Rattle.fancy_lex.specs.declared.escape.Assertion.TheVariants.{StartLine, StartLineOniguruma}
 use Rattle.fancy_lex.specs.declared.flags.Flags.{Flags}
-use Rattle.fancy_grammar.specs.Ahead.{with_head, ahead}
-use Rattle.fancy_grammar.specs.Head.{look, capture}
+use Rattle.fancy_grammar.specs.AtomStart.{of_kind, atom_start}
+use Rattle.fancy_grammar.specs.GroupKind.{look, capture}
 use Rattle.fancy_grammar.specs.Join.{is_empty}
 use Rattle.fancy_grammar.specs.Label as label
 use Rattle.fancy_grammar.specs.Label.{Leaf}
-use Rattle.fancy_grammar.specs.Marks.{Marks}
-use Rattle.fancy_grammar.specs.Pattern.{Here, under, past_groups, deeper, in_parens, after_setting, as_atom}
-use Rattle.fancy_grammar.specs.Pattern.{flags_behind, written, leaf_text}
-use Rattle.fancy_grammar.specs.Pattern.{look_head}
-use Rattle.fancy_grammar.specs.PatternDepth.{MayOpen, MayOpenIf, FitsInParens, FitsInParensIf, FitsAfterSetting}
+use Rattle.fancy_grammar.specs.GroupInfo.{GroupInfo}
+use Rattle.fancy_grammar.specs.Pattern.{Context, under, past_groups, deeper, in_parens, after_inline_flags, as_atom}
+use Rattle.fancy_grammar.specs.Pattern.{flags_after, written, leaf_text}
+use Rattle.fancy_grammar.specs.Pattern.{look_opening}
+use Rattle.fancy_grammar.specs.PatternDepth.{MayOpen, MayOpenIf, FitsInParens, FitsInParensIf, FitsAfterInlineFlags}
 use Rattle.fancy_grammar.specs.PatternDepth.{FitsAsAtom, is_in_parens, Fits}
-use Rattle.fancy_grammar.specs.PatternNeeds.{settled, setting}
-use Rattle.fancy_grammar.specs.PatternReference.{Named, name_of, name_head, group_head, target_text}
+use Rattle.fancy_grammar.specs.PatternNeeds.{settled, inline_flags}
+use Rattle.fancy_grammar.specs.PatternReference.{Named, name_of, name_opening, group_opening, target_text}
 use Rattle.fancy_grammar.specs.Quantified.{is_repeatable}
 use Rattle.fancy_grammar.specs.Tree.{Tree, leaf, over}
 use Rattle.fancy_grammar.specs.Writable.{IsLike, IsWritableLeaf, IsNameWritable, name_at}
@@ -35,7 +35,7 @@ use Rattle.fancy_grammar.specs.declared.kinds.LookAround.TheVariants.{LookBehind
 use Rattle.fancy_grammar.specs.declared.precedence.Precedence.{Precedence}
 use Rattle.fancy_grammar.specs.declared.precedence.Precedence.TheVariants.{Whole, Branch, Piece, Operand}
 use Rattle.fancy_grammar.proofs.Pattern.Groups.{parens_text, question_at, reads_look, reads_atomic}
-use Rattle.fancy_grammar.proofs.Pattern.Groups.{reads_define, reads_group, capture_at, head_read}
+use Rattle.fancy_grammar.proofs.Pattern.Groups.{reads_define, reads_group, capture_at, opening_read}
 use Rattle.fancy_grammar.proofs.Pattern.Induction.{ReadsBy}
 use Rattle.fancy_grammar.proofs.Pattern.Induction.{by_atom, by_nothing}
 use Rattle.fancy_grammar.proofs.Pattern.Leaves.{LeafAt, literal_at, byte_at, keep_at, continue_at, newline_at, any_at}
@@ -47,41 +47,41 @@ use Rattle.fancy_grammar.proofs.ReadBack.ClearLemmas.{not_asking}
 use Rattle.fancy_grammar.proofs.ReadBack.RuleLemmas.{st}
 use Rattle.fancy_lex.specs.Characters.{◌∈◌, is_among}
 use Rattle.fancy_lex.specs.Reading.{choose}
-use Rattle.fancy_grammar.proofs.Pattern.Becomes.{numbers_told}
+use Rattle.fancy_grammar.proofs.Pattern.Becomes.{info_numbers}
 use Rattle.fancy_grammar.proofs.Pattern.Conditions.{condition_at, exists_at}
 use Rattle.fancy_grammar.proofs.Pattern.References.{backref_at, call_at, level_at}
 use Rattle.fancy_grammar.proofs.Pattern.Unresolved.{unresolved_at}
 
-module _ (μ : Marks) where
-  abbrev pub ReadsTree : Tree → Here → Type 0
+module _ (μ : GroupInfo) where
+  abbrev pub ReadsTree : Tree → Context → Type 0
   ReadsTree t h =
       ReadsBy μ t h (Fits t Whole h) (Fits t Branch h) (Fits t Piece h) (Fits t (Operand zero) h) (written μ t Whole h)
       (written μ t Branch h) (written μ t Piece h) (written μ t (Operand zero) h)
-      (flags_behind t Whole h.flags) (flags_behind t Branch h.flags)
+      (flags_after t Whole h.flags) (flags_after t Branch h.flags)
 
   -- ---- leaves
 
   -- where a leaf fits, by itself and under a quantifier
-  abbrev FitsAlone : Leaf → Here → Type 0
-  FitsAlone l h = FitsAfterSetting (leaf l) (MayOpenIf (is_in_parens l)) h
+  abbrev FitsAlone : Leaf → Context → Type 0
+  FitsAlone l h = FitsAfterInlineFlags (leaf l) (MayOpenIf (is_in_parens l)) h
 
-  abbrev FitsUnder : Leaf → Here → Type 0
-  FitsUnder l h = FitsAfterSetting (leaf l) (FitsAsAtom (leaf l) (Operand zero) (MayOpenIf (is_in_parens l))) h
+  abbrev FitsUnder : Leaf → Context → Type 0
+  FitsUnder l h = FitsAfterInlineFlags (leaf l) (FitsAsAtom (leaf l) (Operand zero) (MayOpenIf (is_in_parens l))) h
 
   -- the leaf's text is read as the leaf in a group, if the leaf cannot be repeated
-  abbrev BareLeaf : Leaf → Here → Type 0
+  abbrev BareLeaf : Leaf → Context → Type 0
   BareLeaf l h =
       let i = deeper (under (settled h.flags (leaf l)) h) in
       is_repeatable i.flags (leaf l) ≡ false → MayOpenIf (is_in_parens l) i → LeafAt μ i (leaf_text μ l i) l
 
-  leaf_by : (l : Leaf) (h : Here) → is_empty (leaf l) ≡ false →
+  leaf_by : (l : Leaf) (h : Context) → is_empty (leaf l) ≡ false →
       (MayOpenIf (is_in_parens l) h →
       LeafAt μ (under (settled h.flags (leaf l)) h) (leaf_text μ l (under (settled h.flags (leaf l)) h)) l) →
       BareLeaf l h →
       ReadsBy μ (leaf l) h (FitsAlone l h) (FitsAlone l h) (FitsAlone l h) (FitsUnder l h)
-      (after_setting (leaf l) (leaf_text μ l) h) (after_setting (leaf l) (leaf_text μ l) h)
-      (after_setting (leaf l) (leaf_text μ l) h)
-      (after_setting (leaf l) (as_atom (leaf l) (Operand zero) (leaf_text μ l)) h) (settled h.flags (leaf l))
+      (after_inline_flags (leaf l) (leaf_text μ l) h) (after_inline_flags (leaf l) (leaf_text μ l) h)
+      (after_inline_flags (leaf l) (leaf_text μ l) h)
+      (after_inline_flags (leaf l) (as_atom (leaf l) (Operand zero) (leaf_text μ l)) h) (settled h.flags (leaf l))
       (settled h.flags (leaf l))
   leaf_by l h e a bare =
       let g = settled h.flags (leaf l) in
@@ -90,15 +90,15 @@ module _ (μ : Marks) where
       (λ x. (a x.1).reads) refl
       (λ r. let not_so = ap not (sym (like_repeatable (leaf l) h.flags g refl) ∙ r) in (
         λ x. (x.0, subst (λ b. FitsInParensIf b (λ q. MayOpenIf (is_in_parens l)) (Operand zero) i) not_so x.1),
-        ap (λ w. setting h.flags g ++ w) (cond-false _ _ _ not_so),
+        ap (λ w. inline_flags h.flags g ++ w) (cond-false _ _ _ not_so),
       ))
       (λ x r q. let so : not (is_repeatable g (leaf l)) ≡ true
       = ap not (sym (like_repeatable (leaf l) h.flags g refl) ∙ r) in
       let inner = λ (x : FitsUnder l h).
       bare (sym (like_repeatable (leaf l) h.flags g refl) ∙ r)
       (subst (λ b. FitsInParensIf b (λ q. MayOpenIf (is_in_parens l)) (Operand zero) i) so x.1).1 in
-      subst (λ w. ((v : Text) → Begins h.flags.ignore_space ((setting h.flags g ++ w) ++ v))
-      × (settled h.flags (leaf l) ≡ h.flags → (v : Text) → BareAt μ h ((setting h.flags g ++ w) ++ v) v (leaf l)))
+      subst (λ w. ((v : Text) → Begins h.flags.ignore_space ((inline_flags h.flags g ++ w) ++ v))
+      × (settled h.flags (leaf l) ≡ h.flags → (v : Text) → BareAt μ h ((inline_flags h.flags g ++ w) ++ v) v (leaf l)))
       (sym (cond-true _ _ _ so))
       (bare_by μ (leaf l) h e (FitsUnder l h) (leaf_text μ l (deeper i))
       (λ x. (subst (λ b. FitsInParensIf b (λ q. MayOpenIf (is_in_parens l)) (Operand zero) i) so x.1).0)
@@ -110,8 +110,8 @@ module _ (μ : Marks) where
   of_mode f g c (StartLineOniguruma crlf) e k = e ∙ k
   of_mode f g c _ e k = tt
 
-  pub leaf_reads : ((k : ℕ) → IfSome (name_of μ k) (λ e. e.1 ≡ numbers_told μ e.0)) →
-      (f : Flags) (l : Leaf) (h : Here) → IsLike f h.flags →
+  pub leaf_reads : ((k : ℕ) → IfSome (name_of μ k) (λ e. e.1 ≡ info_numbers μ e.0)) →
+      (f : Flags) (l : Leaf) (h : Context) → IsLike f h.flags →
       IsWritableLeaf f μ h.opened l → ReadsTree (leaf l) h
   leaf_reads numbered f label.empty h like k = by_nothing μ h _ _ _ _ (λ d. d refl) (λ d. d refl)
   leaf_reads numbered f (label.any a b) h like k =
@@ -171,31 +171,31 @@ module _ (μ : Marks) where
       leaf_by (label.backref_exists n level) h refl
       (λ d. exists_at μ h (target_text μ n level) n level (condition_at μ h n (d refl) level (numbered n) k.0 k.1))
       (λ e. absurd (true≢false e))
-  leaf_reads numbered f (label.ast_node (label.ast_call t) place) h like k =
-      leaf_by (label.ast_node (label.ast_call t) place) h refl (λ d. unresolved_at μ h t place d k.0 k.1)
+  leaf_reads numbered f (label.ast_node (label.ast_call t) position) h like k =
+      leaf_by (label.ast_node (label.ast_call t) position) h refl (λ d. unresolved_at μ h t position d k.0 k.1)
       (λ e. absurd (true≢false e))
   leaf_reads numbered f _ h like k = absurd k
 
   -- ---- groups
 
   begins_open : (x : Bool) (s : Text) → Clear x s → Begins x (code "(" ∷ s)
-  begins_open x s c = begins_by x (code "(") s (not_asking s (no_question s c.no_mark)) refl refl refl
+  begins_open x s c = begins_by x (code "(") s (not_asking s (no_question s c.no_quantifier)) refl refl refl
 
-  module _ (t : Tree) (h : Here) where
+  module _ (t : Tree) (h : Context) where
     -- a group with the name in the group information
-    group_head_read : MayOpen h → (o : Option Named) → IfSome o (λ e. IsNameWritable e.0) → (f : Flags) (u : Text) →
+    group_opening_read : MayOpen h → (o : Option Named) → IfSome o (λ e. IsNameWritable e.0) → (f : Flags) (u : Text) →
         Clear f.ignore_space u →
-        ahead h.depth (st f (code "(" ∷ (choose o (λ e. name_head e.0) [] ++ u)))
-        ≡ with_head (capture (option_map (λ e. e.0) o)) (st f u)
-    group_head_read d None k f u c = capture_at h.depth f u d c
-    group_head_read d (Some ([], l)) k f u c = absurd k
-    group_head_read d (Some (z ∷ w, l)) k f u c = head_read h.depth f z w u d k
+        atom_start h.depth (st f (code "(" ∷ (choose o (λ e. name_opening e.0) [] ++ u)))
+        ≡ of_kind (capture (option_map (λ e. e.0) o)) (st f u)
+    group_opening_read d None k f u c = capture_at h.depth f u d c
+    group_opening_read d (Some ([], l)) k f u c = absurd k
+    group_opening_read d (Some (z ∷ w, l)) k f u c = opening_read h.depth f z w u d k
 
-    begins_head : (o : Option Named) → IfSome o (λ e. IsNameWritable e.0) → (x : Bool) (u : Text) → Clear x u →
-        Begins x (code "(" ∷ (choose o (λ e. name_head e.0) [] ++ u))
-    begins_head None k x u c = begins_open x u c
-    begins_head (Some ([], l)) k x u c = absurd k
-    begins_head (Some (z ∷ w, l)) k x u c =
+    begins_opening : (o : Option Named) → IfSome o (λ e. IsNameWritable e.0) → (x : Bool) (u : Text) → Clear x u →
+        Begins x (code "(" ∷ (choose o (λ e. name_opening e.0) [] ++ u))
+    begins_opening None k x u c = begins_open x u c
+    begins_opening (Some ([], l)) k x u c = absurd k
+    begins_opening (Some (z ∷ w, l)) k x u c =
         cond_both (is_among (code ">") (z ∷ w)) _ _ (λ r. Begins x (code "(" ∷ (r ++ u)))
         (λ _. begins_by x (code "(") _ refl refl refl refl)
         (λ _. cond_both (z ∈ "=!") _ _ (λ r. Begins x (code "(" ∷ ((r ++ (codes "<" ++ ((z ∷ w) ++ codes ">"))) ++ u)))
@@ -206,41 +206,41 @@ module _ (μ : Marks) where
         ReadsTree t (deeper (past_groups 1 (under (settled h.flags t) h))) → ReadsTree (over label.group t) h
     group_reads named counted r =
         let i = under (settled h.flags t) h in
-        let head = group_head μ (h.opened + 1) in
-        let s = in_parens head (written μ t Whole) (past_groups 1 i) in
+        let opening = group_opening μ (h.opened + 1) in
+        let s = in_parens opening (written μ t Whole) (past_groups 1 i) in
         let inside = λ (v : Text). written μ t Whole (deeper (past_groups 1 i)) ++ code ")" ∷ v in
         let fits = Fits (over label.group t) Whole h in
         let clear = λ (d : fits) (v : Text).
         r.whole_clear d.1.1 (code ")" ∷ v) (ends_close h.flags.ignore_space v).stops.clear in
-        let same = parens_text head (written μ t Whole) (past_groups 1 i) in
+        let same = parens_text opening (written μ t Whole) (past_groups 1 i) in
         by_atom μ (over label.group t) h refl fits fits s _ (λ d. d.0)
         (λ d v. subst (Begins h.flags.ignore_space) (sym (same v))
-        (begins_head (name_of μ (h.opened + 1)) named h.flags.ignore_space (inside v) (clear d v)))
+        (begins_opening (name_of μ (h.opened + 1)) named h.flags.ignore_space (inside v) (clear d v)))
         (λ d v k _. subst (λ w. AtomAt μ i w v (over label.group t)) (sym (same v))
         (reads_group μ i _ _ _ (inside v) v t
-        (group_head_read d.1.0 (name_of μ (h.opened + 1)) named i.flags (inside v) (clear d v)) refl counted
+        (group_opening_read d.1.0 (name_of μ (h.opened + 1)) named i.flags (inside v) (clear d v)) refl counted
         (r.whole d.1.1 (code ")" ∷ v) (ends_close h.flags.ignore_space v))))
         refl (λ e. ((λ d. d), refl)) (λ _ e. absurd (true≢false e))
 
-    begins_look : (x : Bool) (l : LookAround) (u : Text) → Begins x (code "(" ∷ (look_head l ++ u))
+    begins_look : (x : Bool) (l : LookAround) (u : Text) → Begins x (code "(" ∷ (look_opening l ++ u))
     begins_look x LookAhead u = begins_by x (code "(") _ refl refl refl refl
     begins_look x LookAheadNeg u = begins_by x (code "(") _ refl refl refl refl
     begins_look x LookBehind u = begins_by x (code "(") _ refl refl refl refl
     begins_look x LookBehindNeg u = begins_by x (code "(") _ refl refl refl refl
 
     -- its text, where a group may open
-    look_atom : (l : LookAround) (i : Here) → MayOpen i → (v : Text) →
-        WholeAt μ (deeper i) (written μ t Whole (deeper i) ++ code ")" ∷ v) (flags_behind t Whole i.flags)
+    look_atom : (l : LookAround) (i : Context) → MayOpen i → (v : Text) →
+        WholeAt μ (deeper i) (written μ t Whole (deeper i) ++ code ")" ∷ v) (flags_after t Whole i.flags)
         (code ")" ∷ v) t →
-        AtomAt μ i (in_parens (look_head l) (written μ t Whole) i ++ v) v (over (label.look_around l) t)
+        AtomAt μ i (in_parens (look_opening l) (written μ t Whole) i ++ v) v (over (label.look_around l) t)
     look_atom l i d v w =
         subst (λ z. AtomAt μ i z v (over (label.look_around l) t))
-        (sym (parens_text (look_head l) (written μ t Whole) i v))
+        (sym (parens_text (look_opening l) (written μ t Whole) i v))
         (reads_look μ i l _ _ (written μ t Whole (deeper i) ++ code ")" ∷ v) v t
         (look_ahead_in d i.flags l (written μ t Whole (deeper i) ++ code ")" ∷ v)) w)
       where
         look_ahead_in : MayOpen i → (f : Flags) (l : LookAround) (u : Text) →
-            ahead i.depth (st f (code "(" ∷ (look_head l ++ u))) ≡ with_head (look l) (st f u)
+            atom_start i.depth (st f (code "(" ∷ (look_opening l ++ u))) ≡ of_kind (look l) (st f u)
         look_ahead_in d f LookAhead u = question_at i.depth f (code "=" ∷ u) d
         look_ahead_in d f LookAheadNeg u = question_at i.depth f (code "!" ∷ u) d
         look_ahead_in d f LookBehind u = question_at i.depth f (codes "<=" ++ u) d
@@ -251,10 +251,10 @@ module _ (μ : Marks) where
     look_reads l r r2 =
         let i = under (settled h.flags t) h in
         let x = over (label.look_around l) t in
-        let text = in_parens (look_head l) (written μ t Whole) in
+        let text = in_parens (look_opening l) (written μ t Whole) in
         let fits = λ (p : Precedence). Fits x p h in
-        let begins = λ (j : Here) (v : Text).
-        subst (Begins h.flags.ignore_space) (sym (parens_text (look_head l) (written μ t Whole) j v))
+        let begins = λ (j : Context) (v : Text).
+        subst (Begins h.flags.ignore_space) (sym (parens_text (look_opening l) (written μ t Whole) j v))
         (begins_look h.flags.ignore_space l (written μ t Whole (deeper j) ++ code ")" ∷ v)) in
         let close = λ (v : Text). ends_close h.flags.ignore_space v in
         by_atom μ x h refl (fits Whole) (fits (Operand zero)) (text i) _ (λ d. d.0)
@@ -281,18 +281,18 @@ module _ (μ : Marks) where
 
     -- an atomic group that does not come from a quantifier
     pub atomic_by : ReadsTree t (deeper (under (settled h.flags t) h)) →
-        let fits = FitsAfterSetting t (FitsInParens (Fits t Whole)) h in
+        let fits = FitsAfterInlineFlags t (FitsInParens (Fits t Whole)) h in
         ReadsBy μ (over label.atomic_group t) h fits fits fits fits
-        (after_setting t (in_parens (codes "?>") (written μ t Whole)) h)
-        (after_setting t (in_parens (codes "?>") (written μ t Whole)) h)
-        (after_setting t (in_parens (codes "?>") (written μ t Whole)) h)
-        (after_setting t (in_parens (codes "?>") (written μ t Whole)) h) (settled h.flags t) (settled h.flags t)
+        (after_inline_flags t (in_parens (codes "?>") (written μ t Whole)) h)
+        (after_inline_flags t (in_parens (codes "?>") (written μ t Whole)) h)
+        (after_inline_flags t (in_parens (codes "?>") (written μ t Whole)) h)
+        (after_inline_flags t (in_parens (codes "?>") (written μ t Whole)) h) (settled h.flags t) (settled h.flags t)
     atomic_by r =
         let i = under (settled h.flags t) h in
         let s = in_parens (codes "?>") (written μ t Whole) i in
         let inside = λ (v : Text). written μ t Whole (deeper i) ++ code ")" ∷ v in
         let same = parens_text (codes "?>") (written μ t Whole) i in
-        let fits = FitsAfterSetting t (FitsInParens (Fits t Whole)) h in
+        let fits = FitsAfterInlineFlags t (FitsInParens (Fits t Whole)) h in
         by_atom μ (over label.atomic_group t) h refl fits fits s _ (λ d. d.0)
         (λ _ v. subst (Begins h.flags.ignore_space) (sym (same v))
         (begins_by h.flags.ignore_space (code "(") _ refl refl refl refl))

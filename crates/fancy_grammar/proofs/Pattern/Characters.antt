@@ -93,7 +93,7 @@ small_literal f p c s h =
     small : (u : Bool) → nat_le 0x80 c ≡ false → is_scalar c ≡ true →
         (if 2 == 2 && not u && nat_le 0x80 c && nat_le c 0xFF then gives (escaped.literal_bytes c) s
         else if is_scalar c then gives (escaped.literal c f.casei) s
-        else Rattle.fancy_lex.specs.Reading.fails (Rattle.fancy_lex.specs.FaultTable.code_of_no_character p))
+        else Rattle.fancy_lex.specs.Reading.fails (Rattle.fancy_lex.specs.ErrorTable.code_of_no_character p))
         ≡ gives (escaped.literal c f.casei) s
     small true l k = rw k refl
     small false l k = rw (l, k) refl
@@ -274,15 +274,15 @@ abbrev pub CaseFits : Flags → Bool → ℕ → Type 0
 CaseFits f true c = f.casei ≡ true
 CaseFits f false c = f.casei ≡ true → is_kept_by_backslash f.oniguruma_mode c ≡ true
 
-mark_small : (c : ℕ) → c ∈ "\\.+*?()|[{^$" ≡ true → (c < 0x10000) × (is_scalar c ≡ true)
-mark_small c h = grind (arith, nat_tests)
+metacharacter_small : (c : ℕ) → c ∈ "\\.+*?()|[{^$" ≡ true → (c < 0x10000) × (is_scalar c ≡ true)
+metacharacter_small c h = grind (arith, nat_tests)
 
 blank_small : (x : Bool) (c : ℕ) → x && c ∈ " #" ≡ true → (c < 0x10000) × (is_scalar c ≡ true)
 blank_small true c h = grind (arith, nat_tests)
 blank_small false c h = absurd (false≢true h)
 
-mark_kept : (c : ℕ) → c ∈ "\\.+*?()|[]{}^$" ≡ true → is_kept_by_backslash false c ≡ true
-mark_kept c h =
+metacharacter_kept : (c : ℕ) → c ∈ "\\.+*?()|[]{}^$" ≡ true → is_kept_by_backslash false c ≡ true
+metacharacter_kept c h =
     each_among (λ c. is_kept_by_backslash false c ≡ true) (codes "\\.+*?()|[]{}^$") c
     (also refl (also refl (also refl (also refl (also refl (also refl (also refl (also refl (also refl (also refl (also
     refl
@@ -293,15 +293,15 @@ blank_kept true c h =
     each_among (λ c. is_kept_by_backslash false c ≡ true) (codes " #") c (also refl (also refl no_more)) h
 blank_kept false c h = absurd (false≢true h)
 
-fewer_marks : (c : ℕ) → c ∈ "\\.+*?()|[]{}^$" ≡ false → c ∈ "\\.+*?()|[{^$" ≡ false
-fewer_marks c h = grind (arith, nat_tests)
+fewer_metacharacters : (c : ℕ) → c ∈ "\\.+*?()|[]{}^$" ≡ false → c ∈ "\\.+*?()|[{^$" ≡ false
+fewer_metacharacters c h = grind (arith, nat_tests)
 
 pub character_spells : (f : Flags) (casei : Bool) (c : ℕ) → CaseFits f casei c → Spells f casei c (character f casei c)
 character_spells f true c h =
     let with_case : (t : Text) → Spells f f.casei c t → Spells f true c t = λ t s. subst (λ b. Spells f b c t) h s in
     cond_both (c ∈ "\\.+*?()|[{^$" || letters.is_layout f c) _ _ (Spells f true c)
     (λ e. let (a, b) : (c < 0x10000) × (is_scalar c ≡ true)
-    = ⊎_elim (λ m. mark_small c m) (λ m. blank_small f.ignore_space c m)
+    = ⊎_elim (λ m. metacharacter_small c m) (λ m. blank_small f.ignore_space c m)
     (or_cases (c ∈ "\\.+*?()|[{^$") (letters.is_layout f c) e) in
     with_case _ (coded_spells f c a b))
     (λ e. let (a, b) = or_parts (c ∈ "\\.+*?()|[{^$") _ e in with_case _ (plain_spells f c a b))
@@ -309,10 +309,10 @@ character_spells f false c h =
     choose_both (Spells f false c) (letter_of c) _ _ (λ d e. by_escape (escapes_letter false f c d e))
     (cond_both (c ∈ "\\.+*?()|[]{}^$" || (letters.is_layout f c || f.casei)) _ _ (Spells f false c)
     (λ e. by_escape
-    (⊎_elim (λ m. reads_kept f c (mark_kept c m))
+    (⊎_elim (λ m. reads_kept f c (metacharacter_kept c m))
     (λ m. ⊎_elim (λ b. reads_kept f c (blank_kept f.ignore_space c b)) (λ b. reads_by_backslash f c (h b))
     (or_cases (letters.is_layout f c) f.casei m))
     (or_cases (c ∈ "\\.+*?()|[]{}^$") _ e)))
     (λ e. let (a, b) = or_parts (c ∈ "\\.+*?()|[]{}^$") _ e in
     let (k, i) = or_parts (letters.is_layout f c) f.casei b in
-    subst (λ b. Spells f b c (plain c)) i (plain_spells f c (fewer_marks c a) k)))
+    subst (λ b. Spells f b c (plain c)) i (plain_spells f c (fewer_metacharacters c a) k)))

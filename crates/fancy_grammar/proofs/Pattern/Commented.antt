@@ -8,28 +8,28 @@ use Rattle.fancy_lex.specs.Class.{class}
 use Rattle.fancy_lex.specs.Escape.{escape}
 use Rattle.fancy_lex.specs.Escaped as escaped
 use Rattle.fancy_lex.specs.Escaped.{Escape}
-use Rattle.fancy_lex.specs.LayoutSteps.{Skipped, rest, fault as open_comment}
+use Rattle.fancy_lex.specs.LayoutSteps.{Skipped, rest, failed as open_comment}
 use Rattle.fancy_lex.specs.Reading.{Reading, gives, fails}
 use Rattle.fancy_lex.specs.Text.{Text, bytes}
 use Rattle.fancy_lex.specs.declared.flags.Flags.{Flags}
 use Rattle.fancy_parts.specs.Quantifier.{counts}
 use Rattle.fancy_parts.specs.declared.counts.Counts.{Counts}
-use Rattle.fancy_grammar.specs.Ahead.{ahead, nothing, is_before_nothing, leaf_of, leaf_node, leaf_outcome}
-use Rattle.fancy_grammar.specs.Grammar.{Alternation, alternation, Branches, last, more, branch_fault, Branch, branch}
-use Rattle.fancy_grammar.specs.Grammar.{Pieces, stop, next, piece_fault, Piece, piece, layout_fault, Atom, atom}
+use Rattle.fancy_grammar.specs.AtomStart.{atom_start, nothing, is_before_nothing, leaf_of, leaf_node, leaf_outcome}
+use Rattle.fancy_grammar.specs.Grammar.{Alternation, alternation, Branches, last, more, branch_error, Branch, branch}
+use Rattle.fancy_grammar.specs.Grammar.{Pieces, stop, next, piece_error, Piece, piece, layout_error, Atom, atom}
 use Rattle.fancy_grammar.specs.Grammar.{a_nothing, a_read}
 use Rattle.fancy_grammar.specs.Join.{is_empty}
-use Rattle.fancy_grammar.specs.Marks.{Marks}
-use Rattle.fancy_grammar.specs.Pattern.{Here}
+use Rattle.fancy_grammar.specs.GroupInfo.{GroupInfo}
+use Rattle.fancy_grammar.specs.Pattern.{Context}
 use Rattle.fancy_grammar.specs.Quantified.{is_repeatable, is_dropped, quant, quant_at, quants, with_counts}
 use Rattle.fancy_grammar.specs.Quantified.{adjacent, max_adjacent}
-use Rattle.fancy_grammar.specs.State.{State, at, skipped, Outcome, done, fault, and_then, ends}
+use Rattle.fancy_grammar.specs.State.{State, at, skipped, Outcome, done, failed, and_then, ends}
 use Rattle.fancy_grammar.specs.Tree.{Tree, empty, delegate}
 use Rattle.fancy_grammar.proofs.OutcomeLemmas.{Holds, piece_as}
 use Rattle.fancy_grammar.proofs.Pattern.Becomes.{in_longer}
 use Rattle.fancy_grammar.proofs.Pattern.Rules.{Clear, WholeAt, comment_passed, quants_one, quant_none}
 use Rattle.fancy_grammar.proofs.ReadBack.RuleLemmas.{st, leaf_at}
-use Rattle.fancy_grammar.proofs.Unique.{same_layout, layout_or_fault, atom_unique}
+use Rattle.fancy_grammar.proofs.Unique.{same_layout, layout_or_failed, atom_unique}
 
 -- ---- where a piece began matters only for an Empty
 
@@ -96,15 +96,15 @@ module _ (d : ℕ) (f : Flags) (c : ℕ) (t : Text) (k : Clear f.ignore_space (c
       λ l m. let one = λ (n : ℕ). quants_one d n f empty empty (c ∷ t) (c ∷ t) k (quant_none n f empty (c ∷ t) k) in
       one l ∙ sym (one m)
 
-  nothing_ahead : is_before_nothing c ≡ true → ahead d (st f (c ∷ t)) ≡ nothing
-  unfolding ahead
-  nothing_ahead b = cond-false _ _ _ e ∙ cond-true _ _ _ b
+  nothing_starts : is_before_nothing c ≡ true → atom_start d (st f (c ∷ t)) ≡ nothing
+  unfolding atom_start
+  nothing_starts b = cond-false _ _ _ e ∙ cond-true _ _ _ b
 
   atom_keeps : {q : Outcome Tree} → Atom d (st f (c ∷ t)) q → FromAnywhere q
   atom_keeps a = by_test (is_before_nothing c) refl a
     where
       by_test : (b : Bool) → is_before_nothing c ≡ b → {q : Outcome Tree} → Atom d (st f (c ∷ t)) q → FromAnywhere q
-      by_test true b a = subst FromAnywhere (atom_unique (atom (nothing_ahead b) a_nothing) a refl) nothing_keeps
+      by_test true b a = subst FromAnywhere (atom_unique (atom (nothing_starts b) a_nothing) a refl) nothing_keeps
       by_test false b a = subst FromAnywhere (atom_unique (atom (leaf_at d f c t e b) a_read) a refl) character_keeps
 
   -- ---- the alternation
@@ -119,7 +119,7 @@ module _ (d : ℕ) (f : Flags) (c : ℕ) (t : Text) (k : Clear f.ignore_space (c
     quants_past : (q : Outcome Tree) → FromAnywhere q →
         and_then q (quants d (bytes (codes "(?#)" ++ c ∷ t))) ≡ and_then q (quants d (bytes (c ∷ t)))
     quants_past (done a s) h = h _ _
-    quants_past (fault k p) h = refl
+    quants_past (failed k p) h = refl
 
     piece_from : (s : State) → s ≡ st f (c ∷ t) → {q : Outcome Tree} → Piece d s q → Piece d commented q
     piece_from s same (piece {u = w} {q} l a) =
@@ -127,12 +127,12 @@ module _ (d : ℕ) (f : Flags) (c : ℕ) (t : Text) (k : Clear f.ignore_space (c
         = subst (λ z. Atom d z q) (λ i. record { flags = (same i).flags; rest = same_layout l clear same i }) a in
         piece_as past a2
         (quants_past q (atom_keeps a2) ∙ ap (λ (z : State). and_then q (quants d (bytes z.rest))) (sym same))
-    piece_from s same (layout_fault l) = absurd (layout_or_fault clear l (sym same))
+    piece_from s same (layout_error l) = absurd (layout_or_failed clear l (sym same))
 
     pieces_from : (s : State) → s ≡ st f (c ∷ t) → {q : Outcome (List Tree)} → Pieces d s q → Pieces d commented q
     pieces_from s same (stop e) = absurd (false≢true (sym go ∙ (ap (λ (z : State). ends z.rest) (sym same) ∙ e)))
     pieces_from s same (next e p m) = next refl (piece_from s same p) m
-    pieces_from s same (piece_fault e p) = piece_fault refl (piece_from s same p)
+    pieces_from s same (piece_error e p) = piece_error refl (piece_from s same p)
 
     branch_from : (s : State) → s ≡ st f (c ∷ t) → {q : Outcome Tree} → Branch d s q → Branch d commented q
     branch_from s same (branch p) = branch (pieces_from s same p)
@@ -140,14 +140,14 @@ module _ (d : ℕ) (f : Flags) (c : ℕ) (t : Text) (k : Clear f.ignore_space (c
     branches_from : (s : State) → s ≡ st f (c ∷ t) → {q : Outcome (List Tree)} → Branches d s q → Branches d commented q
     branches_from s same (last b e) = last (branch_from s same b) e
     branches_from s same (more b e r) = more (branch_from s same b) e r
-    branches_from s same (branch_fault b) = branch_fault (branch_from s same b)
+    branches_from s same (branch_error b) = branch_error (branch_from s same b)
 
     alternation_from : (s : State) → s ≡ st f (c ∷ t) → {q : Outcome Tree} → Alternation d s q →
         Alternation d commented q
     alternation_from s same (alternation b) = alternation (branches_from s same b)
 
 -- a text that begins with no parenthesis is read the same after the comment
-pub commented_whole : (μ : Marks) (h : Here) (c : ℕ) (t v : Text) (g : Flags) (x : Tree) →
+pub commented_whole : (μ : GroupInfo) (h : Context) (c : ℕ) (t v : Text) (g : Flags) (x : Tree) →
     (c == code "(") ≡ false → ends (c ∷ t) ≡ false →
     Clear h.flags.ignore_space (c ∷ t) → WholeAt μ h (c ∷ t) g v x → WholeAt μ h (codes "(?#)" ++ c ∷ t) g v x
 commented_whole μ h c t v g x e go clear w = record {

@@ -9,18 +9,18 @@ use Rattle.std.specs.Cmp.Lexicographic.{bytes_decides}
 use Rattle.std.specs.List.{list_all}
 use Rattle.std.specs.Str.{bytes_eq}
 use Prim.Native.Char.{code}
-use Rattle.fancy_lex.specs.FaultTable.{unknown_verb}
+use Rattle.fancy_lex.specs.ErrorTable.{unknown_verb}
 use Rattle.fancy_lex.specs.LayoutSteps.{is_layout}
 use Rattle.fancy_lex.specs.Reading.{choose}
 use Rattle.fancy_lex.specs.Text.{Text, strip_word}
 use Rattle.fancy_lex.specs.declared.flags.Flags.{Flags}
 use Rattle.fancy_lex.proofs.TextLemmas.{strip_word_is}
-use Rattle.fancy_parts.specs.HeadReference.{begins_target}
-use Rattle.fancy_grammar.specs.Ahead.{ahead, condition, body, refused}
+use Rattle.fancy_parts.specs.GroupReference.{begins_target}
+use Rattle.fancy_grammar.specs.AtomStart.{atom_start, condition, body, refused}
 use Rattle.fancy_grammar.specs.Grammar.{atom, a_condition, a_body, inside}
 use Rattle.fancy_grammar.specs.Label as label
-use Rattle.fancy_grammar.specs.Marks.{Marks}
-use Rattle.fancy_grammar.specs.Pattern.{Here, past_groups, deeper, written, flags_behind, condition_text, verb_name}
+use Rattle.fancy_grammar.specs.GroupInfo.{GroupInfo}
+use Rattle.fancy_grammar.specs.Pattern.{Context, past_groups, deeper, written, flags_after, condition_text, verb_name}
 use Rattle.fancy_grammar.specs.Pattern.{parted_if}
 use Rattle.fancy_grammar.specs.PatternDepth.{MayOpen, Fits, FitsAsCondition}
 use Rattle.fancy_grammar.specs.PatternReference.{name_of}
@@ -32,48 +32,48 @@ use Rattle.fancy_grammar.specs.Writable.{AreNodesWritable}
 use Rattle.fancy_grammar.specs.declared.kinds.BacktrackingControlVerb.{BacktrackingControlVerb}
 use Rattle.fancy_grammar.specs.declared.kinds.BacktrackingControlVerb.TheVariants.{Fail, Accept, Commit, Skip, Prune}
 use Rattle.fancy_grammar.specs.declared.precedence.Precedence.TheVariants.{Whole}
-use Rattle.fancy_grammar.proofs.Pattern.Becomes.{numbers_told}
+use Rattle.fancy_grammar.proofs.Pattern.Becomes.{info_numbers}
 use Rattle.fancy_grammar.proofs.Pattern.Cases.{ReadsTree}
 use Rattle.fancy_grammar.proofs.Pattern.Characters.{itself}
 use Rattle.fancy_grammar.proofs.Pattern.Commented.{commented_whole}
 use Rattle.fancy_grammar.proofs.Pattern.Conditionals.{Before}
 use Rattle.fancy_grammar.proofs.Pattern.Conditions.{ConditionAt, condition_at}
 use Rattle.fancy_grammar.proofs.Pattern.Groups.{question_at}
-use Rattle.fancy_grammar.proofs.Pattern.Leaves.{marks, some_verb, reads_spelled, begins_spelled, fail_read, accept_read}
+use Rattle.fancy_grammar.proofs.Pattern.Leaves.{is_metacharacter, some_verb, reads_spelled, begins_spelled, fail_read, accept_read}
 use Rattle.fancy_grammar.proofs.Pattern.Leaves.{commit_read, skip_read, prune_read}
 use Rattle.fancy_grammar.proofs.Pattern.Rules.{Clear, Stops, ends_close, WholeAt, Rest, no_more, lead, reads_branch}
 use Rattle.fancy_grammar.proofs.Pattern.Rules.{reads_only}
-use Rattle.fancy_grammar.proofs.ReadBack.ClearLemmas.{no_mark_is}
+use Rattle.fancy_grammar.proofs.ReadBack.ClearLemmas.{no_quantifier_is}
 use Rattle.fancy_grammar.proofs.ReadBack.RuleLemmas.{st}
 use Rattle.fancy_grammar.proofs.Unique.{alternation_unique, state_of}
 
 -- ---- letters
 
 abbrev is_letter : ℕ → Bool
-is_letter c = not (marks c) && not (is_layout true c)
+is_letter c = not (is_metacharacter c) && not (is_layout true c)
 
 not_not : (b : Bool) → not b ≡ true → b ≡ false
 not_not false h = refl
 not_not true h = absurd (false≢true h)
 
-module _ (μ : Marks) where
+module _ (μ : GroupInfo) where
   letters_clear : (x : Bool) (w v : Text) (f : Flags) → f.ignore_space ≡ x → list_all is_letter w ≡ true → Clear x v →
       Clear x (w ++ v)
   letters_clear x [] v f e h c = c
   letters_clear x (d ∷ w) v f e h c =
       let (a, b) = and_parts (is_letter d) (list_all is_letter w) h in
-      let (m, k) = and_parts (not (marks d)) (not (is_layout true d)) a in
+      let (m, k) = and_parts (not (is_metacharacter d)) (not (is_layout true d)) a in
       let layout : is_layout f.ignore_space d ≡ false = ap (λ y. f.ignore_space && y) (not_not _ k) ∙ and-false _ in
       subst (λ x. Clear x (d ∷ (w ++ v))) e
       (begins_spelled f f.casei d (d ∷ []) (w ++ v) (itself refl (not_not _ m) layout)).clear
 
-  letters_rest : (h : Here) (w v : Text) → list_all is_letter w ≡ true →
+  letters_rest : (h : Context) (w v : Text) → list_all is_letter w ≡ true →
       Stops h.flags.ignore_space v →
       Rest μ h (w ++ v) h.flags v (map (λ c. leaf (label.literal (c ∷ []) h.flags.casei)) w)
   letters_rest h [] v e s = no_more μ h v s
   letters_rest h (c ∷ w) v e s =
       let (a, b) = and_parts (is_letter c) (list_all is_letter w) e in
-      let (m, k) = and_parts (not (marks c)) (not (is_layout true c)) a in
+      let (m, k) = and_parts (not (is_metacharacter c)) (not (is_layout true c)) a in
       let layout : is_layout h.flags.ignore_space c ≡ false
       = ap (λ y. h.flags.ignore_space && y) (not_not _ k) ∙ and-false _ in
       let spelled = itself refl (not_not _ m) layout in
@@ -83,7 +83,7 @@ module _ (μ : Marks) where
       (reads_spelled μ h h.flags.casei c (c ∷ []) (w ++ v) spelled) (letters_rest (past_groups 0 h) w v b s)
 
   -- an alternation that is no such word does not continue such a word
-  no_word : (h : Here) (w t z : Text) (g : Flags) (x : Tree) →
+  no_word : (h : Context) (w t z : Text) (g : Flags) (x : Tree) →
       list_all is_letter w ≡ true → (t ≡ w → ⊥) → WholeAt μ h (t ++ code ")" ∷ z) g (code ")" ∷ z) x →
       strip_word (w ++ codes ")") (t ++ code ")" ∷ z) ≡ None
   no_word h w t z g x letters other a = by_option (strip_word (w ++ codes ")") (t ++ code ")" ∷ z)) refl
@@ -106,19 +106,19 @@ module _ (μ : Marks) where
 
 -- ---- the target of a condition
 
-module _ (μ : Marks) (i : Here) (d : MayOpen i) where
+module _ (μ : GroupInfo) (i : Context) (d : MayOpen i) where
   on_group : (s : Text) (n : ℕ) (level : Option ℤ) → ConditionAt μ i s n level →
       Before μ i s i.flags (leaf (label.backref_exists n level))
   on_group s n level c = record {
     node = c.node;
     becomes = c.becomes;
-    leads = λ z v r f y. atom (c.stands z) (a_body y);
+    leads = λ z v r f y. atom (c.starts z) (a_body y);
   }
 
-  verb_stands : (t z : Text) (b : BacktrackingControlVerb) → verb_at (t ++ z) ≡ some_verb b z →
-      ahead i.depth (st i.flags (codes "(?(*" ++ (t ++ z))) ≡ body (leaf (label.verb b)) (st i.flags z)
+  verb_is : (t z : Text) (b : BacktrackingControlVerb) → verb_at (t ++ z) ≡ some_verb b z →
+      atom_start i.depth (st i.flags (codes "(?(*" ++ (t ++ z))) ≡ body (leaf (label.verb b)) (st i.flags z)
   unfolding begins_target
-  verb_stands t z b e =
+  verb_is t z b e =
       question_at i.depth i.flags (codes "(*" ++ (t ++ z)) d
       ∙ ap (λ o. choose o (λ p. body (leaf (label.verb p.0)) (st i.flags p.1))
       (refused (unknown_verb (code "*" ∷ (t ++ z))))) e
@@ -127,44 +127,44 @@ module _ (μ : Marks) (i : Here) (d : MayOpen i) where
   on_verb b = record {
     node = λ z. leaf (label.verb b);
     becomes = λ z. record { is = λ n u e. refl; count = refl; groups = tt };
-    leads = λ z v r f y. atom (stands b z) (a_body y);
+    leads = λ z v r f y. atom (starts b z) (a_body y);
   }
     where
-      stands : (b : BacktrackingControlVerb) (z : Text) →
-          ahead i.depth (st i.flags (codes "(?(" ++ (verb_name b ++ code ")" ∷ z)))
+      starts : (b : BacktrackingControlVerb) (z : Text) →
+          atom_start i.depth (st i.flags (codes "(?(" ++ (verb_name b ++ code ")" ∷ z)))
           ≡ body (leaf (label.verb b)) (st i.flags z)
-      stands Fail z = verb_stands (codes "FAIL)") z Fail (fail_read z)
-      stands Accept z = verb_stands (codes "ACCEPT)") z Accept (accept_read z)
-      stands Commit z = verb_stands (codes "COMMIT)") z Commit (commit_read z)
-      stands Skip z = verb_stands (codes "SKIP)") z Skip (skip_read z)
-      stands Prune z = verb_stands (codes "PRUNE)") z Prune (prune_read z)
+      starts Fail z = verb_is (codes "FAIL)") z Fail (fail_read z)
+      starts Accept z = verb_is (codes "ACCEPT)") z Accept (accept_read z)
+      starts Commit z = verb_is (codes "COMMIT)") z Commit (commit_read z)
+      starts Skip z = verb_is (codes "SKIP)") z Skip (skip_read z)
+      starts Prune z = verb_is (codes "PRUNE)") z Prune (prune_read z)
 
   -- what begins neither `DEFINE` nor a target nor a verb is an alternation
-  alternation_ahead : (c : ℕ) (t : Text) → strip_word (codes "DEFINE)") (c ∷ t) ≡ None → begins_target (c ∷ t) ≡ false →
-      (c == code "*") ≡ false → ahead i.depth (st i.flags (codes "(?(" ++ c ∷ t)) ≡ condition (st i.flags (c ∷ t))
-  alternation_ahead c t e b m = question_at i.depth i.flags (code "(" ∷ c ∷ t) d ∙ rw (e, b, m) refl
+  alternation_starts : (c : ℕ) (t : Text) → strip_word (codes "DEFINE)") (c ∷ t) ≡ None → begins_target (c ∷ t) ≡ false →
+      (c == code "*") ≡ false → atom_start i.depth (st i.flags (codes "(?(" ++ c ∷ t)) ≡ condition (st i.flags (c ∷ t))
+  alternation_starts c t e b m = question_at i.depth i.flags (code "(" ∷ c ∷ t) d ∙ rw (e, b, m) refl
 
-  nothing_ahead : (z : Text) →
-      ahead i.depth (st i.flags (codes "(?()" ++ z)) ≡ condition (st i.flags (code ")" ∷ z))
+  nothing_starts : (z : Text) →
+      atom_start i.depth (st i.flags (codes "(?()" ++ z)) ≡ condition (st i.flags (code ")" ∷ z))
   unfolding begins_target
-  nothing_ahead z = question_at i.depth i.flags (codes "()" ++ z) d
+  nothing_starts z = question_at i.depth i.flags (codes "()" ++ z) d
 
-  comment_ahead : (z : Text) →
-      ahead i.depth (st i.flags (codes "(?((?#)" ++ z)) ≡ condition (st i.flags (codes "(?#)" ++ z))
+  comment_starts : (z : Text) →
+      atom_start i.depth (st i.flags (codes "(?((?#)" ++ z)) ≡ condition (st i.flags (codes "(?#)" ++ z))
   unfolding begins_target
-  comment_ahead z = question_at i.depth i.flags (codes "((?#)" ++ z) d
+  comment_starts z = question_at i.depth i.flags (codes "((?#)" ++ z) d
 
   module _ (g : Flags) (x : Tree) where
     abbrev WholeBefore : Text → Type 0
     WholeBefore s = (z : Text) → WholeAt μ (deeper i) (s ++ code ")" ∷ z) g (code ")" ∷ z) x
 
     as_alternation : (s : Text) (w : WholeBefore s) → ((z : Text) →
-        ahead i.depth (st i.flags (codes "(?(" ++ (s ++ code ")" ∷ z))) ≡ condition (st i.flags (s ++ code ")" ∷ z))) →
+        atom_start i.depth (st i.flags (codes "(?(" ++ (s ++ code ")" ∷ z))) ≡ condition (st i.flags (s ++ code ")" ∷ z))) →
         Before μ i s g x
-    as_alternation s w stands = record {
+    as_alternation s w starts = record {
       node = λ z. (w z).tree;
       becomes = λ z. (w z).becomes;
-      leads = λ z v r f y. atom (stands z) (a_condition (inside (w z).derives) y);
+      leads = λ z v r f y. atom (starts z) (a_condition (inside (w z).derives) y);
     }
 
     target_first : (c : ℕ) (t : Text) → begins_target (c ∷ t) ≡ true →
@@ -196,30 +196,30 @@ module _ (μ : Marks) (i : Here) (d : MayOpen i) where
         (begins_target s || bytes_eq s (codes "DEFINE")) ≡ b → Before μ i (parted_if b s) g x
     unfolding begins_target
     on_alternation [] k w true e = absurd (false≢true e)
-    on_alternation [] k w false e = as_alternation [] w nothing_ahead
+    on_alternation [] k w false e = as_alternation [] w nothing_starts
     on_alternation (c ∷ t) k w true e =
         as_alternation (codes "(?#)" ++ c ∷ t)
         (λ z. let (a, b) = commented_first c t e (code ")" ∷ z) in
         commented_whole μ (deeper i) c (t ++ code ")" ∷ z) (code ")" ∷ z) g x a b (k z) (w z))
-        (λ z. comment_ahead ((c ∷ t) ++ code ")" ∷ z))
+        (λ z. comment_starts ((c ∷ t) ++ code ")" ∷ z))
     on_alternation (c ∷ t) k w false e =
         let (a, b) = or_parts (begins_target (c ∷ t)) (bytes_eq (c ∷ t) (codes "DEFINE")) e in
         as_alternation (c ∷ t) w
-        (λ z. alternation_ahead c (t ++ code ")" ∷ z)
+        (λ z. alternation_starts c (t ++ code ")" ∷ z)
         (no_word μ (deeper i) (codes "DEFINE") (c ∷ t) z g x refl
         (λ q. false≢true (sym b ∙ (bytes_decides (c ∷ t) (codes "DEFINE")).1 q)) (w z))
-        (same_target c (t ++ code ")" ∷ z) t ∙ a) (no_mark_is c (k z).no_mark).star)
+        (same_target c (t ++ code ")" ∷ z) t ∙ a) (no_quantifier_is c (k z).no_quantifier).star)
 
 -- ---- a condition of any kind
 
-module _ (μ : Marks) (f : Flags) (numbered : (k : ℕ) → IfSome (name_of μ k) (λ e. e.1 ≡ numbers_told μ e.0)) where
-  pub before_of : (c : Tree) (i : Here) → AreNodesWritable f μ i.opened c →
+module _ (μ : GroupInfo) (f : Flags) (numbered : (k : ℕ) → IfSome (name_of μ k) (λ e. e.1 ≡ info_numbers μ e.0)) where
+  pub before_of : (c : Tree) (i : Context) → AreNodesWritable f μ i.opened c →
       ReadsTree μ c (deeper i) → MayOpen i → FitsAsCondition c (Fits c Whole (deeper i)) →
-      Before μ i (condition_text μ c (written μ c Whole (deeper i))) (flags_behind c Whole i.flags) c
+      Before μ i (condition_text μ c (written μ c Whole (deeper i))) (flags_after c Whole i.flags) c
   before_of (leaf (label.backref_exists n level)) i k r d fits =
       on_group μ i d _ n level (condition_at μ i n d level (numbered n) k.0 k.1)
   before_of (leaf (label.verb b)) i k r d fits = on_verb μ i d b
   before_of c i k r d fits =
-      on_alternation μ i d (flags_behind c Whole i.flags) c (written μ c Whole (deeper i))
+      on_alternation μ i d (flags_after c Whole i.flags) c (written μ c Whole (deeper i))
       (λ z. r.whole_clear fits (code ")" ∷ z) (ends_close i.flags.ignore_space z).stops.clear)
       (λ z. r.whole fits (code ")" ∷ z) (ends_close i.flags.ignore_space z)) _ refl

@@ -9,15 +9,15 @@ use Prim.Native.Char.{code}
 use Rattle.fancy_lex.specs.Text.{Text, bytes, EndsWith}
 use Rattle.fancy_lex.specs.declared.flags.Flags.{Flags}
 use Rattle.fancy_lex.proofs.TextLemmas.{bytes-append}
-use Rattle.fancy_grammar.specs.Grammar.{Alternation, alternation, Branches, last, more, branch_fault, Body, the_body}
+use Rattle.fancy_grammar.specs.Grammar.{Alternation, alternation, Branches, last, more, branch_error, Body, the_body}
 use Rattle.fancy_grammar.specs.Grammar.{Atom, is_condition, branches_of, conditional_of}
-use Rattle.fancy_grammar.specs.Grammar.{conditional_behind, closed}
+use Rattle.fancy_grammar.specs.Grammar.{conditional_after, closed}
 use Rattle.fancy_grammar.specs.Items.{items}
 use Rattle.fancy_grammar.specs.Join.{is_empty, choice}
 use Rattle.fancy_grammar.specs.Label as label
-use Rattle.fancy_grammar.specs.Pattern.{Here, under, past_groups, deeper, group_count, is_alt, behind, written}
+use Rattle.fancy_grammar.specs.Pattern.{Context, under, past_groups, deeper, group_count, is_alt, after, written}
 use Rattle.fancy_grammar.specs.Pattern.{branches_text, in_parens, parenthesized, condition_text}
-use Rattle.fancy_grammar.specs.Pattern.{flags_behind}
+use Rattle.fancy_grammar.specs.Pattern.{flags_after}
 use Rattle.fancy_grammar.specs.PatternDepth.{MayOpen, MayOpenIf, Fits, FitsAsCondition}
 use Rattle.fancy_grammar.specs.Depth.{max_depth}
 use Rattle.fancy_grammar.proofs.Pattern.Groups.{bare_branch, begins_nothing, reads_nothing}
@@ -25,19 +25,19 @@ use Rattle.fancy_grammar.proofs.Pattern.Induction.{by_left}
 use Rattle.std.proofs.lemmas.Bool.{and_parts, cond-true}
 use Rattle.std.proofs.Common.{◌<◌}
 use Rattle.fancy_grammar.specs.PatternNeeds.{settled}
-use Rattle.fancy_grammar.specs.Marks.{Marks}
+use Rattle.fancy_grammar.specs.GroupInfo.{GroupInfo}
 use Rattle.fancy_grammar.proofs.Pattern.Groups.{parens_text}
 use Rattle.fancy_grammar.proofs.Pattern.Induction.{by_atom}
 use Rattle.fancy_grammar.specs.Resolved.{resolved_in}
-use Rattle.fancy_grammar.specs.State.{State, Outcome, done, fault, seen_through}
+use Rattle.fancy_grammar.specs.State.{State, Outcome, done, failed, seen_through}
 use Rattle.fancy_grammar.specs.Tree.{Tree, leaf, row, empty, conditional, ast_group}
 use Rattle.fancy_grammar.specs.Tree.{ast_node, trees_of, list_of}
-use Rattle.fancy_grammar.proofs.Pattern.Becomes.{Becomes, row_becomes, AreGroups, becomes_plain, numbers_told}
+use Rattle.fancy_grammar.proofs.Pattern.Becomes.{Becomes, row_becomes, AreGroups, becomes_plain, info_numbers}
 use Rattle.fancy_grammar.proofs.Pattern.Becomes.{is_raw_group, stays_solid}
 use Rattle.std.proofs.Math.Bool.{and-false}
 use Rattle.std.proofs.lemmas.Bool.{true≢false}
-use Rattle.fancy_grammar.proofs.Pattern.Becomes.{node_told, in_longer, meaning_told}
-use Rattle.fancy_grammar.proofs.Pattern.Unplaced.{alt_unplaced}
+use Rattle.fancy_grammar.proofs.Pattern.Becomes.{node_determined, in_longer, info_meaning}
+use Rattle.fancy_grammar.proofs.Pattern.Unpositioned.{alt_unpositioned}
 use Rattle.fancy_grammar.proofs.Pattern.Rules.{Begins, begins_by, AtomAt, BranchAt, WholeAt, stops_bar, ends_close}
 use Rattle.fancy_grammar.specs.declared.precedence.Precedence.TheVariants.{Whole, Branch as BranchAlone}
 use Rattle.fancy_grammar.proofs.Pattern.Cases.{ReadsTree}
@@ -55,20 +55,20 @@ HasSome _ = Unit {0}
 
 one_more : (r : Tree) (q : Outcome (List Tree)) → HasSome (seen_through (r ∷◌) q)
 one_more r (done l s) = tt
-one_more r (fault k p) = tt
+one_more r (failed k p) = tt
 
 some_branches : {d : ℕ} {s : State} {q : Outcome (List Tree)} → Branches d s q → HasSome q
 some_branches (last b e) = tt
 some_branches (more {r} {q} b e m) = one_more r q
-some_branches (branch_fault b) = tt
+some_branches (branch_error b) = tt
 
 tree_in : Tree → Outcome Tree → Tree
 tree_in x (done r s) = r
-tree_in x (fault k p) = x
+tree_in x (failed k p) = x
 
 state_in : State → Outcome Tree → State
 state_in x (done r s) = s
-state_in x (fault k p) = x
+state_in x (failed k p) = x
 
 -- the branches of an alternation that was read
 record Others (d : ℕ) (s : State) (r : Tree) (t : State) : Type 0 where
@@ -87,7 +87,7 @@ others_of d s r t (done (x ∷ l) u) e b h = record {
   derives = subst (λ w. Branches d s (done (x ∷ l) w)) (sym (ap (state_in t) e)) b;
   is = sym (ap (tree_in r) e);
 }
-others_of d s r t (fault k p) e b h = absurd cc
+others_of d s r t (failed k p) e b h = absurd cc
 
 others : {d : ℕ} {s : State} {r : Tree} {t : State} → Alternation d s (done r t) → Others d s r t
 others {d} {s} {r} {t} a = let (q, e, b) = alternation_of a in others_of d s r t q e b (some_branches b)
@@ -100,11 +100,11 @@ one_solid true true p q x y h = absurd (true≢false h)
 one_solid true false p q x y h = ap (λ q. p && q) (y refl) ∙ and-false p
 one_solid false b p q x y h = ap (λ p. p && q) (x refl)
 
-raw_alt : (μ : Marks) (s : Text) (r : Tree) (c : ℕ) → is_raw_group r ≡ false → AreGroups μ s c (items r) →
-    is_alt (resolved_in 0 μ.numbered_groups_ignored (numbers_told μ) c r) ≡ is_alt r
+raw_alt : (μ : GroupInfo) (s : Text) (r : Tree) (c : ℕ) → is_raw_group r ≡ false → AreGroups μ s c (items r) →
+    is_alt (resolved_in 0 μ.numbered_groups_ignored (info_numbers μ) c r) ≡ is_alt r
 raw_alt μ s (ast_group m p t) c g h = absurd (true≢false g)
 raw_alt μ s (ast_node r p) c g h =
-    node_told is_alt false (meaning_told μ c r) r p (λ n i. refl) (λ n l i. refl) (λ n. refl) (λ n l. refl) (λ q. refl)
+    node_determined is_alt false (info_meaning μ c r) r p (λ n i. refl) (λ n l i. refl) (λ n. refl) (λ n l. refl) (λ q. refl)
     h.0
 raw_alt μ s (row label.concat ts) c g h = refl
 raw_alt μ s (row label.alt ts) c g h = refl
@@ -112,15 +112,15 @@ raw_alt μ s (row label.expression ts) c g h = refl
 raw_alt μ s (row label.conditional ts) c g h = refl
 raw_alt μ s _ c g h = refl
 
-stays_one : (μ : Marks) (s : Text) (c : ℕ) (r x : Tree) → Becomes μ s c r x → is_alt x ≡ false → is_alt r ≡ false
+stays_one : (μ : GroupInfo) (s : Text) (c : ℕ) (r x : Tree) → Becomes μ s c r x → is_alt x ≡ false → is_alt r ≡ false
 stays_one μ s c (ast_group m p t) x b e = refl
 stays_one μ s c r x b e = at r refl b
   where
     at : (r : Tree) → is_raw_group r ≡ false → Becomes μ s c r x → is_alt r ≡ false
     at r g b =
-        let resolves = resolved_in 0 μ.numbered_groups_ignored (numbers_told μ) c r in
+        let resolves = resolved_in 0 μ.numbered_groups_ignored (info_numbers μ) c r in
         sym (raw_alt μ s r c g b.groups)
-        ∙ (sym (alt_unplaced resolves) ∙ (ap is_alt (becomes_plain μ s c r x b) ∙ (alt_unplaced x ∙ e)))
+        ∙ (sym (alt_unpositioned resolves) ∙ (ap is_alt (becomes_plain μ s c r x b) ∙ (alt_unpositioned x ∙ e)))
 
 -- what is no Alt is one branch
 abbrev OneBranch : Tree → Type 0
@@ -147,27 +147,27 @@ bar_left t u v =
     (omega (arith, bytes-append t (code "|" ∷ (u ++ v)), bytes-append u v))
 
 -- the body of a conditional with the raw condition k is read as these branches
-record BodyAt (μ : Marks) (d : ℕ) (k : Tree) (j : Here) (s v : Text) (t e : Tree) : Type 0 where
-  after : Flags
+record BodyAt (μ : GroupInfo) (d : ℕ) (k : Tree) (j : Context) (s v : Text) (t e : Tree) : Type 0 where
+  end_flags : Flags
   one : Tree
   other : Tree
-  derives : Body d k (st j.flags s) (done (conditional_of k one other) (st after v))
+  derives : Body d k (st j.flags s) (done (conditional_of k one other) (st end_flags v))
   one_becomes : Becomes μ s j.opened one t
   other_becomes : Becomes μ s (j.opened + group_count t) other e
   solid : (is_empty one && is_empty other) ≡ false
 
 closed_body : (k r : Tree) (left : ℕ) (g : Flags) (v : Text) (a b : Tree) →
     (bytes (code ")" ∷ v) == left) ≡ false → ◌≡◌ {A = Tree × Tree} (branches_of r) (a, b) →
-    conditional_behind k left r (st g (code ")" ∷ v)) ≡ done (conditional_of k a b) (st g v)
+    conditional_after k left r (st g (code ")" ∷ v)) ≡ done (conditional_of k a b) (st g v)
 closed_body k r left g v a b e is =
     cond-false _ _ _ (ap (λ y. y && not (is_condition k)) e)
     ∙ ap (λ (p : Tree × Tree). closed (conditional_of k p.0 p.1) (st g (code ")" ∷ v))) is
 
 -- inside a group at depth d, after n groups with a number
-abbrev within : ℕ → Flags → ℕ → Here
+abbrev within : ℕ → Flags → ℕ → Context
 within d f n = record { flags = f; opened = n; depth = d + 1 }
 
-two_body : (μ : Marks) (d : ℕ) (k : Tree) (f : Flags) (n : ℕ) (t u v : Text) (g i : Flags) (x e : Tree) →
+two_body : (μ : GroupInfo) (d : ℕ) (k : Tree) (f : Flags) (n : ℕ) (t u v : Text) (g i : Flags) (x e : Tree) →
     (is_empty x && is_empty e) ≡ false →
     BranchAt μ (within d f n) (t ++ code "|" ∷ (u ++ code ")" ∷ v)) g (code "|" ∷ (u ++ code ")" ∷ v)) x →
     WholeAt μ (past_groups (group_count x) (under g (within d f n))) (u ++ code ")" ∷ v) i (code ")" ∷ v) e →
@@ -179,7 +179,7 @@ two_body μ d k f n t u v g i x e some b w =
     let other = choice (list_of (trees_of rest)) in
     let same : other ≡ w.tree = ap choice (listed_trees rest) ∙ o.is in
     record {
-      after = i;
+      end_flags = i;
       one = b.tree;
       other = other;
       derives =
@@ -199,12 +199,12 @@ two_body μ d k f n t u v g i x e some b w =
           (λ q. ap is_empty same ∙ stays_solid μ _ _ w.tree e w.becomes q) some;
     }
 
-one_body : (μ : Marks) (d : ℕ) (k : Tree) (f : Flags) (n : ℕ) (t v : Text) (g : Flags) (x : Tree) (c : ℕ) (u : Text) →
+one_body : (μ : GroupInfo) (d : ℕ) (k : Tree) (f : Flags) (n : ℕ) (t v : Text) (g : Flags) (x : Tree) (c : ℕ) (u : Text) →
     t ≡ c ∷ u → is_alt x ≡ false →
     (b : BranchAt μ (within d f n) (t ++ code ")" ∷ v) g (code ")" ∷ v) x) → is_empty b.tree ≡ false →
     BodyAt μ d k (within d f n) (t ++ code ")" ∷ v) v x (leaf label.empty)
 one_body μ d k f n t v g x c u e a b solid = record {
-  after = g;
+  end_flags = g;
   one = b.tree;
   other = empty;
   derives =
@@ -218,7 +218,7 @@ one_body μ d k f n t v g x c u e a b solid = record {
 }
 
 -- two Empties, the first in a group without a number
-nothing_body : (μ : Marks) (d : ℕ) (k : Tree) (f : Flags) (n : ℕ) (v : Text) →
+nothing_body : (μ : GroupInfo) (d : ℕ) (k : Tree) (f : Flags) (n : ℕ) (v : Text) →
     d + 1 + 1 < max_depth → μ.numbered_groups_ignored ≡ true →
     BodyAt μ d k (within d f n) (codes "()" ++ code ")" ∷ v) v (leaf label.empty) (leaf label.empty)
 nothing_body μ d k f n v l ignored =
@@ -238,15 +238,15 @@ empty_is : (x : Tree) → is_empty x ≡ true → leaf label.empty ≡ x
 empty_is (leaf label.empty) e = refl
 empty_is _ e = absurd cc
 
-module _ (μ : Marks) (d : ℕ) (k : Tree) (f : Flags) (c : ℕ) (t e : Tree) (v : Text)
+module _ (μ : GroupInfo) (d : ℕ) (k : Tree) (f : Flags) (c : ℕ) (t e : Tree) (v : Text)
     (solid : (is_empty t && is_empty e) ≡ false) (r : ReadsTree μ t (within d f c))
-    (q : ReadsTree μ e (behind t BranchAlone (within d f c))) (first_fits : Fits t BranchAlone (within d f c))
-    (second_fits : Fits e Whole (behind t BranchAlone (within d f c))) where
+    (q : ReadsTree μ e (after t BranchAlone (within d f c))) (first_fits : Fits t BranchAlone (within d f c))
+    (second_fits : Fits e Whole (after t BranchAlone (within d f c))) where
   abbrev first_text : Text
   first_text = written μ t BranchAlone (within d f c)
 
   abbrev second_text : Text
-  second_text = written μ e Whole (behind t BranchAlone (within d f c))
+  second_text = written μ e Whole (after t BranchAlone (within d f c))
 
   abbrev text_if : Bool → Text
   text_if b = first_text ++ (if b then codes "|" ++ second_text else [])
@@ -275,15 +275,15 @@ module _ (μ : Marks) (d : ℕ) (k : Tree) (f : Flags) (c : ℕ) (t e : Tree) (v
       subst (λ s. BodyAt μ d k (within d f c) (s ++ code ")" ∷ v) v t e) (sym (cond-false _ _ _ solid))
       (body_if (not (is_empty e) || is_alt t) refl)
 
-module _ (μ : Marks) (d : ℕ) (k : Tree) (f : Flags) (c : ℕ) (t e : Tree) (v : Text)
+module _ (μ : GroupInfo) (d : ℕ) (k : Tree) (f : Flags) (c : ℕ) (t e : Tree) (v : Text)
     (left : μ.numbered_groups_ignored ≡ false → (is_empty t && is_empty e) ≡ false)
     (fits : MayOpenIf (is_empty t && is_empty e) (within d f c)) (r : ReadsTree μ t (within d f c))
-    (q : ReadsTree μ e (behind t BranchAlone (within d f c))) (first_fits : Fits t BranchAlone (within d f c))
-    (second_fits : Fits e Whole (behind t BranchAlone (within d f c))) where
+    (q : ReadsTree μ e (after t BranchAlone (within d f c))) (first_fits : Fits t BranchAlone (within d f c))
+    (second_fits : Fits e Whole (after t BranchAlone (within d f c))) where
   abbrev both_text : Text
   both_text =
       branches_text t e (written μ t BranchAlone (within d f c))
-      (written μ e Whole (behind t BranchAlone (within d f c)))
+      (written μ e Whole (after t BranchAlone (within d f c)))
 
   body_at : BodyAt μ d k (within d f c) (both_text ++ code ")" ∷ v) v t e
   body_at = by_test (is_empty t && is_empty e) refl
@@ -302,7 +302,7 @@ module _ (μ : Marks) (d : ℕ) (k : Tree) (f : Flags) (c : ℕ) (t e : Tree) (v
 -- ---- a condition before a body
 
 -- after `(?(`, the text and a closing parenthesis are read as the condition, and these flags hold after it
-pub record Before (μ : Marks) (i : Here) (s : Text) (g : Flags) (c : Tree) : Type 0 where
+pub record Before (μ : GroupInfo) (i : Context) (s : Text) (g : Flags) (c : Tree) : Type 0 where
   pub node : Text → Tree
   pub becomes : (z : Text) → Becomes μ (s ++ code ")" ∷ z) i.opened (node z) c
   pub leads : (z v : Text) (r : Tree) (f : Flags) → Body i.depth (node z) (st g z) (done r (st f v)) →
@@ -313,8 +313,8 @@ regroup c b r =
     append_assoc (code "(" ∷ (c ++ code ")" ∷ [])) b r
     ∙ ap (λ z. code "(" ∷ z) (append_assoc c (code ")" ∷ []) (b ++ r))
 
-module _ (μ : Marks) where
-  with_body : (i : Here) (s z v : Text) (g : Flags) (c t e : Tree) → (b : Before μ i s g c) →
+module _ (μ : GroupInfo) where
+  with_body : (i : Context) (s z v : Text) (g : Flags) (c t e : Tree) → (b : Before μ i s g c) →
       BodyAt μ i.depth (b.node z) (within i.depth g (i.opened + group_count c)) z v t e →
       AtomAt μ i (codes "(?(" ++ (s ++ code ")" ∷ z)) v (conditional c t e)
   with_body i s z v g c t e b y =
@@ -325,7 +325,7 @@ module _ (μ : Marks) where
       = (codes "(?(" ++ (s ++ codes ")"), sym (ap (λ w. codes "(?(" ++ w) (append_assoc s (codes ")") z))) in
       record {
         tree = conditional_of (b.node z) y.one y.other;
-        derives = b.leads z v _ y.after y.derives;
+        derives = b.leads z v _ y.end_flags y.derives;
         becomes =
             subst (λ r. Becomes μ all i.opened r (conditional c t e)) (sym is)
             (row_becomes μ _ label.conditional (b.node z ∷ y.one ∷ y.other ∷ []) (c ∷ t ∷ e ∷ []) i.opened (
@@ -337,25 +337,25 @@ module _ (μ : Marks) where
             ));
       }
 
-  pub conditional_reads : (h : Here) (c t e : Tree) →
+  pub conditional_reads : (h : Context) (c t e : Tree) →
       (μ.numbered_groups_ignored ≡ false → (is_empty t && is_empty e) ≡ false) →
       let j = under (settled h.flags (conditional c t e)) h in let i = deeper j in
       (MayOpen j → FitsAsCondition c (Fits c Whole i) →
-      Before μ j (condition_text μ c (written μ c Whole i)) (flags_behind c Whole j.flags) c) →
-      ReadsTree μ t (behind c Whole i) → ReadsTree μ e (behind t BranchAlone (behind c Whole i)) →
+      Before μ j (condition_text μ c (written μ c Whole i)) (flags_after c Whole j.flags) c) →
+      ReadsTree μ t (after c Whole i) → ReadsTree μ e (after t BranchAlone (after c Whole i)) →
       ReadsTree μ (conditional c t e) h
   conditional_reads h c t e left before q u =
       let x = conditional c t e in
       let i = under (settled h.flags x) h in
-      let j = behind c Whole (deeper i) in
-      let text = λ (k : Here).
+      let j = after c Whole (deeper i) in
+      let text = λ (k : Context).
       parenthesized (condition_text μ c (written μ c Whole k))
-      ++ branches_text t e (written μ t BranchAlone (behind c Whole k))
-      (written μ e Whole (behind t BranchAlone (behind c Whole k))) in
+      ++ branches_text t e (written μ t BranchAlone (after c Whole k))
+      (written μ e Whole (after t BranchAlone (after c Whole k))) in
       let s = condition_text μ c (written μ c Whole (deeper i)) in
       let all = in_parens (codes "?") text i in
       let same = parens_text (codes "?") text i in
-      let b = branches_text t e (written μ t BranchAlone j) (written μ e Whole (behind t BranchAlone j)) in
+      let b = branches_text t e (written μ t BranchAlone j) (written μ e Whole (after t BranchAlone j)) in
       let whole_text = λ (v : Text). same v ∙ ap (λ z. codes "(?" ++ z) (regroup s b (code ")" ∷ v)) in
       by_atom μ x h refl (Fits x Whole h) (Fits x Whole h) all _ (λ d. d.0)
       (λ _ v. subst (Begins h.flags.ignore_space) (sym (same v))

@@ -17,28 +17,28 @@ use Rattle.fancy_lex.specs.Id.{is_id_char}
 use Rattle.fancy_lex.specs.Reading.{gives}
 use Rattle.fancy_lex.specs.Referred.{reference_to, target_of_name, written_reference, reference_by_name}
 use Rattle.fancy_lex.specs.Target.{Target, by_number, by_name, relative}
-use Rattle.fancy_lex.specs.Text.{Text, reach_of, bytes, place_at}
+use Rattle.fancy_lex.specs.Text.{Text, reach_of, bytes, position_at}
 use Rattle.fancy_lex.specs.declared.flags.Flags.{Flags}
 use Rattle.fancy_lex.proofs.ReadingLemmas.{choose_both}
-use Rattle.fancy_parts.specs.HeadReference.{begins_target, condition_target, condition_name}
-use Rattle.fancy_parts.specs.Meaning.{condition, number, means, group_or_none}
+use Rattle.fancy_parts.specs.GroupReference.{begins_target, condition_target, condition_name}
+use Rattle.fancy_parts.specs.Meaning.{condition, number, refers_to, group_or_none}
 use Rattle.fancy_parts.specs.Written.{is_numeric}
-use Rattle.fancy_grammar.specs.Ahead.{ahead, body, target_ahead}
+use Rattle.fancy_grammar.specs.AtomStart.{atom_start, body, target_start}
 use Rattle.fancy_grammar.specs.Depth.{max_depth}
 use Rattle.fancy_grammar.specs.Grammar.{alternation, last, branch, stop, Body, the_body, atom, a_body, is_condition}
-use Rattle.fancy_grammar.specs.Grammar.{conditional_behind}
+use Rattle.fancy_grammar.specs.Grammar.{conditional_after}
 use Rattle.fancy_grammar.specs.Label as label
 use Rattle.fancy_grammar.specs.Label.{ast_condition}
-use Rattle.fancy_grammar.specs.Marks.{Marks}
-use Rattle.fancy_grammar.specs.Pattern.{Here, parenthesized}
-use Rattle.fancy_grammar.specs.PatternReference.{name_of, fit_name, is_last, target_text, marked, level_text}
+use Rattle.fancy_grammar.specs.GroupInfo.{GroupInfo}
+use Rattle.fancy_grammar.specs.Pattern.{Context, parenthesized}
+use Rattle.fancy_grammar.specs.PatternReference.{name_of, fit_name, is_last, target_text, delimited, level_text}
 use Rattle.fancy_grammar.specs.State.{done}
 use Rattle.fancy_grammar.specs.Tree.{Tree, leaf, ast_node}
 use Rattle.fancy_grammar.specs.Writable.{IsLevelWritable}
-use Rattle.fancy_grammar.proofs.Pattern.Becomes.{Becomes, numbers_told, in_longer}
+use Rattle.fancy_grammar.proofs.Pattern.Becomes.{Becomes, info_numbers, in_longer}
 use Rattle.fancy_grammar.proofs.Pattern.Groups.{question_at, cut_before}
 use Rattle.fancy_grammar.proofs.Pattern.Leaves.{LeafAt}
-use Rattle.fancy_grammar.proofs.Pattern.Names.{marked_read, written_level, number_written, digits_without, both_unmarked}
+use Rattle.fancy_grammar.proofs.Pattern.Names.{delimited_read, written_level, number_written, digits_without, both_undelimited}
 use Rattle.fancy_grammar.proofs.Pattern.Names.{level_written, digit_ids, number_target, written_as}
 use Rattle.fancy_grammar.proofs.Pattern.References.{reference_becomes, fits, last_is, reference_text}
 use Rattle.fancy_grammar.proofs.Pattern.Rules.{begins_by, AtomAt}
@@ -53,12 +53,12 @@ module _ (level : Option ℤ) (target : Target) (c : ℕ) (u : Text)
   IsTargetOf t v = condition_target t ≡ gives (reference_to (reach_of t) target level) v
 
   -- between delimiters
-  marked_target : is_among (code ">") (c ∷ u) ≡ false → (v : Text) →
+  delimited_target : is_among (code ">") (c ∷ u) ≡ false → (v : Text) →
       IsTargetOf (code "<" ∷ ((c ∷ u) ++ code ">" ∷ code ")" ∷ v)) v
   unfolding condition_target condition_name reference_by_name
-  marked_target h v =
+  delimited_target h v =
       rw (
-        marked_read c u (code ")" ∷ v) h,
+        delimited_read c u (code ")" ∷ v) h,
         written (reach_of (code "<" ∷ ((c ∷ u) ++ code ">" ∷ code ")" ∷ v))),
       ) refl
 
@@ -75,11 +75,11 @@ module _ (level : Option ℤ) (target : Target) (c : ℕ) (u : Text)
 -- ---- a condition in its conditional
 
 -- after `(?(`, the text and a closing parenthesis are a condition on the group
-pub record ConditionAt (μ : Marks) (i : Here) (t : Text) (n : ℕ) (level : Option ℤ) : Type 0 where
+pub record ConditionAt (μ : GroupInfo) (i : Context) (t : Text) (n : ℕ) (level : Option ℤ) : Type 0 where
   pub node : Text → Tree
   pub asks : (v : Text) → is_condition (node v) ≡ true
-  pub stands : (v : Text) →
-      ahead i.depth (st i.flags (codes "(?(" ++ (t ++ code ")" ∷ v))) ≡ body (node v) (st i.flags v)
+  pub starts : (v : Text) →
+      atom_start i.depth (st i.flags (codes "(?(" ++ (t ++ code ")" ∷ v))) ≡ body (node v) (st i.flags v)
   pub becomes : (v : Text) → Becomes μ (t ++ code ")" ∷ v) i.opened (node v) (leaf (label.backref_exists n level))
 
 no_condition_numeric : (text : Text) (p : ℕ) (t : Target) → is_numeric text p condition t ≡ false
@@ -87,24 +87,24 @@ no_condition_numeric text p (by_number n) = refl
 no_condition_numeric text p (by_name w) = refl
 no_condition_numeric text p (relative z) = refl
 
-module _ (μ : Marks) (i : Here) (n : ℕ) (l : i.depth + 1 < max_depth) where
+module _ (μ : GroupInfo) (i : Context) (n : ℕ) (l : i.depth + 1 < max_depth) where
   from_target : (level : Option ℤ) (target : Target) (c : ℕ) (u : Text) → (c == code "D") ≡ false →
       ((v : Text) → begins_target (c ∷ v) ≡ true) →
       ((v : Text) → let t = (c ∷ u) ++ code ")" ∷ v in
       condition_target t ≡ gives (reference_to (reach_of t) target level) v) →
-      means (numbers_told μ) i.opened condition target ≡ number n → ConditionAt μ i (c ∷ u) n level
+      refers_to (info_numbers μ) i.opened condition target ≡ number n → ConditionAt μ i (c ∷ u) n level
   from_target level target c u not_define begins reads meant = record {
     node = λ v. ast_node (ast_condition target level) (reach_of ((c ∷ u) ++ code ")" ∷ v));
     asks = λ v. refl;
-    stands =
+    starts =
         λ v. let t = (c ∷ u) ++ code ")" ∷ v in
         question_at i.depth i.flags (code "(" ∷ t) l
-        ∙ rw (not_define, begins (u ++ code ")" ∷ v)) (ap (target_ahead (st i.flags (codes "(?(" ++ t))) (reads v));
+        ∙ rw (not_define, begins (u ++ code ")" ∷ v)) (ap (target_start (st i.flags (codes "(?(" ++ t))) (reads v));
     becomes =
         λ v. let t = (c ∷ u) ++ code ")" ∷ v in
         reference_becomes μ t i.opened (ast_condition target level) (reach_of t) n (label.backref_exists n level) meant
         (record {
-          numeric = λ text _. no_condition_numeric text (place_at (bytes text) (reach_of t)) target;
+          numeric = λ text _. no_condition_numeric text (position_at (bytes text) (reach_of t)) target;
           of_all = refl;
         }) (λ _. refl) refl;
   }
@@ -120,13 +120,13 @@ module _ (μ : Marks) (i : Here) (n : ℕ) (l : i.depth + 1 < max_depth) where
   no_letter : (c : ℕ) → is_ascii_digit c ≡ true → (c == code "D") ≡ false
   no_letter c d = grind (arith, nat_tests)
 
-  marked_at : (level : Option ℤ) (target : Target) (c : ℕ) (u : Text) → is_among (code ">") (c ∷ u) ≡ false →
+  delimited_at : (level : Option ℤ) (target : Target) (c : ℕ) (u : Text) → is_among (code ">") (c ∷ u) ≡ false →
       ((p : ℕ) → written_reference p true (c ∷ u) ≡ Some (reference_to p target level)) →
-      means (numbers_told μ) i.opened condition target ≡ number n → ConditionAt μ i (marked [] (c ∷ u)) n level
-  marked_at level target c u h written meant =
+      refers_to (info_numbers μ) i.opened condition target ≡ number n → ConditionAt μ i (delimited [] (c ∷ u)) n level
+  delimited_at level target c u h written meant =
       from_target level target (code "<") ((c ∷ u) ++ codes ">") refl begins_angle
       (λ v. subst (λ z. condition_target z ≡ gives (reference_to (reach_of z) target level) v)
-      (sym (reference_text (c ∷ u) (code ")" ∷ v))) (marked_target level target c u written h v)) meant
+      (sym (reference_text (c ∷ u) (code ")" ∷ v))) (delimited_target level target c u written h v)) meant
 
   bare_at : (level : Option ℤ) (c : ℕ) (u : Text) → is_ascii_digit c ≡ true → is_among (code ")") (c ∷ u) ≡ false →
       ((p : ℕ) → written_reference p true (c ∷ u) ≡ Some (reference_to p (by_number n) level)) →
@@ -147,8 +147,8 @@ module _ (μ : Marks) (i : Here) (n : ℕ) (l : i.depth + 1 < max_depth) where
       let k = written_level z w in
       subst (λ t. ConditionAt μ i ((d ∷ ds) ++ t) n (Some z)) (sym k.is)
       (bare_at (Some z) d (ds ++ k.sign ∷ k.digits) ((digit_is d h.1.0).0)
-      (both_unmarked (code ")") (d ∷ ds) (k.sign ∷ k.digits) (digits_without (code ")") refl (d ∷ ds) h.1)
-      (k.no_mark (code ")") refl))
+      (both_undelimited (code ")") (d ∷ ds) (k.sign ∷ k.digits) (digits_without (code ")") refl (d ∷ ds) h.1)
+      (k.no_delimiter (code ")") refl))
       (level_written d ds z k (digit_ids (d ∷ ds) h.1) (by_number n)
       (sym (ap target_of_name e) ∙ number_target n small)))
 
@@ -156,44 +156,44 @@ module _ (μ : Marks) (i : Here) (n : ℕ) (l : i.depth + 1 < max_depth) where
       AllByRecursion (λ c. is_id_char c ≡ true) (c ∷ u) → is_among (code ">") (c ∷ u) ≡ false →
       target_of_name (c ∷ u) ≡ by_name (c ∷ u) →
       ((p : ℕ) → written_reference p true (c ∷ u) ≡ Some (reference_to p (by_name (c ∷ u)) None)) →
-      means (numbers_told μ) i.opened condition (by_name (c ∷ u)) ≡ number n →
-      ConditionAt μ i (marked [] ((c ∷ u) ++ level_text level)) n level
-  by_name_of None w c u ids h told written meant =
-      subst (λ t. ConditionAt μ i (marked [] t) n None) (sym (append-nil (c ∷ u)))
-      (marked_at None (by_name (c ∷ u)) c u h written meant)
-  by_name_of (Some z) w c u ids h told written meant =
+      refers_to (info_numbers μ) i.opened condition (by_name (c ∷ u)) ≡ number n →
+      ConditionAt μ i (delimited [] ((c ∷ u) ++ level_text level)) n level
+  by_name_of None w c u ids h is_target written meant =
+      subst (λ t. ConditionAt μ i (delimited [] t) n None) (sym (append-nil (c ∷ u)))
+      (delimited_at None (by_name (c ∷ u)) c u h written meant)
+  by_name_of (Some z) w c u ids h is_target written meant =
       let k = written_level z w in
-      subst (λ t. ConditionAt μ i (marked [] ((c ∷ u) ++ t)) n (Some z)) (sym k.is)
-      (marked_at (Some z) (by_name (c ∷ u)) c (u ++ k.sign ∷ k.digits)
-      (both_unmarked (code ">") (c ∷ u) (k.sign ∷ k.digits) h (k.no_mark (code ">") refl))
-      (level_written c u z k ids (by_name (c ∷ u)) told) meant)
+      subst (λ t. ConditionAt μ i (delimited [] ((c ∷ u) ++ t)) n (Some z)) (sym k.is)
+      (delimited_at (Some z) (by_name (c ∷ u)) c (u ++ k.sign ∷ k.digits)
+      (both_undelimited (code ">") (c ∷ u) (k.sign ∷ k.digits) h (k.no_delimiter (code ">") refl))
+      (level_written c u z k ids (by_name (c ∷ u)) is_target) meant)
 
-  pub condition_at : (level : Option ℤ) → IfSome (name_of μ n) (λ e. e.1 ≡ numbers_told μ e.0) → n < 2 ^ 64 →
+  pub condition_at : (level : Option ℤ) → IfSome (name_of μ n) (λ e. e.1 ≡ info_numbers μ e.0) → n < 2 ^ 64 →
       IfSome level IsLevelWritable → ConditionAt μ i (target_text μ n level) n level
   condition_at level numbered small w =
       choose_both (λ t. ConditionAt μ i t n level) (fit_name μ (is_last n) n) _ _ by_fit
       (by_digits level w small (decimal n) ((decimal_is_IsNumeral n small).0) refl)
     where
       by_fit : (v : Text) → fit_name μ (is_last n) n ≡ Some v →
-          ConditionAt μ i (marked [] (v ++ level_text level)) n level
+          ConditionAt μ i (delimited [] (v ++ level_text level)) n level
       by_fit v e =
           let q = fits μ (is_last n) n numbered (ap is_some e) in
           let (c, u, is) = q.plain.some in
-          let meant : means (numbers_told μ) i.opened condition (by_name q.name) ≡ number n
-          = ap (group_or_none condition) (last_is n (numbers_told μ q.name) q.are_such) in
-          subst (λ v. ConditionAt μ i (marked [] (v ++ level_text level)) n level)
+          let meant : refers_to (info_numbers μ) i.opened condition (by_name q.name) ≡ number n
+          = ap (group_or_none condition) (last_is n (info_numbers μ q.name) q.are_such) in
+          subst (λ v. ConditionAt μ i (delimited [] (v ++ level_text level)) n level)
           (sym is ∙ same_Some q.name v (sym q.fit ∙ e))
           (by_name_of level w c u (subst (AllByRecursion (λ c. is_id_char c ≡ true)) is q.plain.ids)
-          (sym (ap (is_among (code ">")) is) ∙ q.plain.no_mark)
+          (sym (ap (is_among (code ">")) is) ∙ q.plain.no_delimiter)
           (subst (λ v. target_of_name v ≡ by_name v) is q.plain.target)
           (λ p. subst (λ v. written_reference p true v ≡ Some (reference_to p (by_name v) None)) is
           (written_as q.name q.plain [] p))
-          (subst (λ v. means (numbers_told μ) i.opened condition (by_name v) ≡ number n) is meant))
+          (subst (λ v. refers_to (info_numbers μ) i.opened condition (by_name v) ≡ number n) is meant))
 
 -- ---- a condition without branches
 
 no_body : (k : Tree) (f : Flags) (v : Text) → is_condition k ≡ true →
-    conditional_behind k (bytes (code ")" ∷ v)) (leaf label.empty) (st f (code ")" ∷ v)) ≡ done k (st f v)
+    conditional_after k (bytes (code ")" ∷ v)) (leaf label.empty) (st f (code ")" ∷ v)) ≡ done k (st f v)
 no_body k f v e =
     cond-false _ _ _ (ap (λ b. (bytes (code ")" ∷ v) == bytes (code ")" ∷ v)) && not b) e ∙ and-false _)
 
@@ -203,7 +203,7 @@ alone_text t v =
     ap (λ z. codes "(?(" ++ z)
     (append_assoc (t ++ codes ")") (codes ")") v ∙ append_assoc t (codes ")") (code ")" ∷ v))
 
-pub exists_at : (μ : Marks) (h : Here) (t : Text) (n : ℕ) (level : Option ℤ) → ConditionAt μ h t n level →
+pub exists_at : (μ : GroupInfo) (h : Context) (t : Text) (n : ℕ) (level : Option ℤ) → ConditionAt μ h t n level →
     LeafAt μ h (codes "(?" ++ (parenthesized t ++ codes ")")) (label.backref_exists n level)
 exists_at μ h t n level c = record {
   reads =
@@ -211,7 +211,7 @@ exists_at μ h t n level c = record {
       subst (λ z. AtomAt μ h z v (leaf (label.backref_exists n level))) (sym (alone_text t v)) (record {
         tree = c.node w;
         derives =
-            atom (c.stands w)
+            atom (c.starts w)
             (a_body (subst (Body h.depth (c.node w) (st h.flags w)) (no_body (c.node w) h.flags v (c.asks w))
             (the_body (alternation (last (branch (stop refl)) refl)))));
         becomes = in_longer μ (t ++ code ")" ∷ w) _ (codes "(?(", refl) h.opened (c.node w) _ (c.becomes w);

@@ -7,22 +7,22 @@ use Rattle.fancy_grammar.specs.Depth.{max_depth}
 use Rattle.fancy_grammar.specs.Join.{is_empty}
 use Rattle.fancy_grammar.specs.Label as label
 use Rattle.fancy_grammar.specs.Label.{Leaf}
-use Rattle.fancy_grammar.specs.Pattern.{Here, under, past_groups, deeper, takes_pieces, takes_branches, is_operand}
-use Rattle.fancy_grammar.specs.Pattern.{is_last_operand, room, behind}
+use Rattle.fancy_grammar.specs.Pattern.{Context, under, past_groups, deeper, takes_pieces, takes_branches, is_operand}
+use Rattle.fancy_grammar.specs.Pattern.{is_last_operand, allowed, after}
 use Rattle.fancy_grammar.specs.PatternDepth.{MayOpen, MayOpenIf, MaySet, FitsInParens, FitsInParensIf, is_in_parens}
-use Rattle.fancy_grammar.specs.PatternDepth.{FitsAsCondition, FitsAsAtom, FitsInScopeUnless, Fits, FitAll}
+use Rattle.fancy_grammar.specs.PatternDepth.{FitsAsCondition, FitsAsAtom, FitsInFlagGroupUnless, Fits, FitAll}
 use Rattle.fancy_grammar.specs.PatternNeeds.{settled}
 use Rattle.fancy_grammar.specs.Quantified.{is_repeatable}
 use Rattle.fancy_grammar.specs.Tree.{Tree, leaf, over, row, Trees, no_trees, more_trees}
 use Rattle.fancy_grammar.specs.declared.kinds.LookAround.{LookAround}
 use Rattle.fancy_grammar.specs.declared.precedence.Precedence.{Precedence}
 use Rattle.fancy_grammar.specs.declared.precedence.Precedence.TheVariants.{Whole, Branch, Piece, Operand}
-use Rattle.fancy_grammar.proofs.Pattern.Needed.{like_behind, settled_again, turns_none}
-use Rattle.fancy_grammar.proofs.Pattern.Suited.{Suits, SuitAll, suited_settled, settled_suits, suited_behind}
+use Rattle.fancy_grammar.proofs.Pattern.Needed.{like_after, settled_again, turns_none}
+use Rattle.fancy_grammar.proofs.Pattern.Suited.{Suits, SuitAll, suited_settled, settled_suits, suited_after}
 
 -- ---- what fits without parentheses and within them fits either way
 
-atom_fits : (t : Tree) (p : Precedence) (inside : Here → Type 0) (h : Here) →
+atom_fits : (t : Tree) (p : Precedence) (inside : Context → Type 0) (h : Context) →
     (is_operand p ≡ true → is_repeatable h.flags t ≡ true) → inside h → FitsAsAtom t p inside h
 atom_fits t p inside h s x = by (is_operand p) (is_repeatable h.flags t) s
   where
@@ -31,62 +31,62 @@ atom_fits t p inside h s x = by (is_operand p) (is_repeatable h.flags t) s
     by true false s = absurd (false≢true (s refl))
     by false b s = x
 
-parens_fit : (b : Bool) (inside : Precedence → Here → Type 0) (p : Precedence) (h : Here) → MayOpen h →
+parens_fit : (b : Bool) (inside : Precedence → Context → Type 0) (p : Precedence) (h : Context) → MayOpen h →
     inside Whole (deeper h) → inside p h → FitsInParensIf b inside p h
 parens_fit true inside p h d x y = (d, x)
 parens_fit false inside p h d x y = y
 
-pub scope_fits : (b : Bool) (t : Tree) (inside : Here → Type 0) (h : Here) → MayOpen h → inside h →
-    inside (deeper (under (settled h.flags t) h)) → FitsInScopeUnless b t inside h
-scope_fits true t inside h d x y = x
-scope_fits false t inside h d x y = (d, y)
+pub flag_group_fits : (b : Bool) (t : Tree) (inside : Context → Type 0) (h : Context) → MayOpen h → inside h →
+    inside (deeper (under (settled h.flags t) h)) → FitsInFlagGroupUnless b t inside h
+flag_group_fits true t inside h d x y = x
+flag_group_fits false t inside h d x y = (d, y)
 
 -- ---- where flags suit a tree, or may be set
 
-abbrev pub Ready : Tree → Here → Type 0
+abbrev pub Ready : Tree → Context → Type 0
 Ready t h = MayOpen h ⊎ Suits h.flags t
 
-abbrev pub AllReady : Trees → Here → Type 0
+abbrev pub AllReady : Trees → Context → Type 0
 AllReady ts h = MayOpen h ⊎ SuitAll h.flags ts
 
 -- the tree fits if at most d groups are open, in this mode, and it is ready
 abbrev pub Fit : Bool → ℕ → Precedence → Tree → Type 0
-Fit in_mode d p t = (h : Here) → h.flags.oniguruma_mode ≡ in_mode → h.depth ≤ d → Ready t h → Fits t p h
+Fit in_mode d p t = (h : Context) → h.flags.oniguruma_mode ≡ in_mode → h.depth ≤ d → Ready t h → Fits t p h
 
 abbrev pub EachFit : Bool → ℕ → Precedence → Trees → Type 0
 EachFit in_mode d p no_trees = Unit {0}
 EachFit in_mode d p (more_trees t ts) = Fit in_mode d p t × EachFit in_mode d p ts
 
-may_stay : (h : Here) → MaySet h.flags h
+may_stay : (h : Context) → MaySet h.flags h
 may_stay h e = absurd (false≢true (sym (ap (λ b. b || b) (turns_none h.flags)) ∙ e))
 
-pub may_set : (t : Tree) (h : Here) → Ready t h → MaySet (settled h.flags t) h
+pub may_set : (t : Tree) (h : Context) → Ready t h → MaySet (settled h.flags t) h
 may_set t h (inl d) = λ _. d
 may_set t h (inr s) = subst (λ g. MaySet g h) (sym (suited_settled h.flags t s)) (may_stay h)
 
-pub ready_settled : (t : Tree) (h : Here) → Ready t h → Ready t (under (settled h.flags t) h)
+pub ready_settled : (t : Tree) (h : Context) → Ready t h → Ready t (under (settled h.flags t) h)
 ready_settled t h (inl d) = inl d
 ready_settled t h (inr s) = inr (subst (λ g. Suits g t) (sym (suited_settled h.flags t s)) s)
 
-pub behind_mode : (in_mode : Bool) (t : Tree) (p : Precedence) (h : Here) → h.flags.oniguruma_mode ≡ in_mode →
-    (behind t p h).flags.oniguruma_mode ≡ in_mode
-behind_mode in_mode t p h o = ap (λ k. k.oniguruma_mode) (like_behind t p h.flags h.flags refl) ∙ o
+pub after_mode : (in_mode : Bool) (t : Tree) (p : Precedence) (h : Context) → h.flags.oniguruma_mode ≡ in_mode →
+    (after t p h).flags.oniguruma_mode ≡ in_mode
+after_mode in_mode t p h o = ap (λ k. k.oniguruma_mode) (like_after t p h.flags h.flags refl) ∙ o
 
-first_ready : (t : Tree) (ts : Trees) (h : Here) → AllReady (more_trees t ts) h → Ready t h
+first_ready : (t : Tree) (ts : Trees) (h : Context) → AllReady (more_trees t ts) h → Ready t h
 first_ready t ts h (inl d) = inl d
 first_ready t ts h (inr s) = inr s.0
 
-others_ready : (t : Tree) (ts : Trees) (p : Precedence) (h : Here) → AllReady (more_trees t ts) h →
-    AllReady ts (behind t p h)
+others_ready : (t : Tree) (ts : Trees) (p : Precedence) (h : Context) → AllReady (more_trees t ts) h →
+    AllReady ts (after t p h)
 others_ready t ts p h (inl d) = inl d
-others_ready t ts p h (inr s) = inr (subst (λ g. SuitAll g ts) (sym (suited_behind t p h.flags s.0)) s.1)
+others_ready t ts p h (inr s) = inr (subst (λ g. SuitAll g ts) (sym (suited_after t p h.flags s.0)) s.1)
 
-pub all_fit : (in_mode : Bool) (d : ℕ) (p : Precedence) (ts : Trees) (h : Here) → EachFit in_mode d p ts →
+pub all_fit : (in_mode : Bool) (d : ℕ) (p : Precedence) (ts : Trees) (h : Context) → EachFit in_mode d p ts →
     h.flags.oniguruma_mode ≡ in_mode → h.depth ≤ d → AllReady ts h → FitAll ts p h
 all_fit in_mode d p no_trees h k o l r = tt
 all_fit in_mode d p (more_trees t ts) h k o l r = (
   k.0 h o l (first_ready t ts h r),
-  all_fit in_mode d p ts (behind t p h) k.1 (behind_mode in_mode t p h o) l (others_ready t ts p h r),
+  all_fit in_mode d p ts (after t p h) k.1 (after_mode in_mode t p h o) l (others_ready t ts p h r),
 )
 
 -- ---- a leaf
@@ -109,16 +109,16 @@ IsUnquantified (over (label.repeat lo hi greedy) t) = ⊥
 IsUnquantified (over label.atomic_group (over (label.repeat lo hi greedy) t)) = ⊥
 IsUnquantified t = Unit {0}
 
-pub enclosed : (t : Tree) (p : Precedence) → IsUnquantified t → (h : Here) → MayOpen h → Fits t Whole h →
+pub enclosed : (t : Tree) (p : Precedence) → IsUnquantified t → (h : Context) → MayOpen h → Fits t Whole h →
     Fits t Whole (deeper (under (settled h.flags t) h)) → Fits t p h
 enclosed (leaf label.empty) p u h d x y = λ _. d
 enclosed (leaf l) p u h d x y =
     let i = under (settled h.flags (leaf l)) h in
     (x.0, parens_fit _ (λ q. MayOpenIf (is_in_parens l)) p i d y.1 x.1)
 enclosed (row label.concat ts) p u h d x y =
-    scope_fits (takes_pieces p) (row label.concat ts) (FitAll ts Piece) h d x y
+    flag_group_fits (takes_pieces p) (row label.concat ts) (FitAll ts Piece) h d x y
 enclosed (row label.alt ts) p u h d x y =
-    scope_fits (takes_branches p) (row label.alt ts) (FitAll ts Branch) h d x y
+    flag_group_fits (takes_branches p) (row label.alt ts) (FitAll ts Branch) h d x y
 enclosed (over (label.look_around l) t) p u h d x y =
     let i = under (settled h.flags t) h in
     let again = subst (λ g. FitsInParens (Fits t Whole) (under g (deeper i))) (settled_again h.flags t) y.1 in
@@ -139,7 +139,7 @@ enclosed t p u h d x y = x
 -- the tree fits if fewer than d groups are open, another may open, and the tree is ready in it
 abbrev pub FitAlone : Bool → ℕ → Precedence → Tree → Type 0
 FitAlone in_mode d p t =
-    (h : Here) → h.flags.oniguruma_mode ≡ in_mode → h.depth < d → MayOpen h →
+    (h : Context) → h.flags.oniguruma_mode ≡ in_mode → h.depth < d → MayOpen h →
     Ready t (deeper (under (settled h.flags t) h)) → Fits t p h
 
 pub alone_fit : (in_mode : Bool) (d : ℕ) (p : Precedence) (t : Tree) → IsUnquantified t → Fit in_mode d Whole t →
@@ -152,19 +152,19 @@ pub fit_alone : (in_mode : Bool) (d : ℕ) (p : Precedence) (t : Tree) → Fit i
 fit_alone in_mode d p t k h o l b r = k h o (omega (arith, l)) (inl b)
 
 -- an atomic group of the tree
-more_parens : (a b : Bool) (inside : Precedence → Here → Type 0) (p : Precedence) (i : Here) → MayOpen i →
+more_parens : (a b : Bool) (inside : Precedence → Context → Type 0) (p : Precedence) (i : Context) → MayOpen i →
     inside Whole (deeper i) → FitsInParensIf a inside p i → FitsInParensIf (a || b) inside p i
 more_parens true b inside p i d y x = x
 more_parens false true inside p i d y x = (d, y)
 more_parens false false inside p i d y x = x
 
-pub atomic_fits : (t : Tree) (p : Precedence) (h : Here) → MayOpen h → Fits t p h →
+pub atomic_fits : (t : Tree) (p : Precedence) (h : Context) → MayOpen h → Fits t p h →
     Fits t Whole (deeper (under (settled h.flags t) h)) → Fits (over label.atomic_group t) p h
 atomic_fits (over (label.repeat lo hi greedy) t) p h d x y =
     let i = under (settled h.flags t) h in
-    let again = subst (λ g. Fits t (Operand (room Whole (under g (deeper i)))) (under g (deeper i)))
+    let again = subst (λ g. Fits t (Operand (allowed Whole (under g (deeper i)))) (under g (deeper i)))
     (settled_again h.flags t) y.1 in
-    (x.0, more_parens (is_last_operand p) _ (λ q j. Fits t (Operand (room q j)) j) p i d again x.1)
+    (x.0, more_parens (is_last_operand p) _ (λ q j. Fits t (Operand (allowed q j)) j) p i d again x.1)
 atomic_fits t p h d x y = (λ _. d, (d, y))
 
 -- ---- the precedences of trees that no quantifier follows
@@ -186,7 +186,7 @@ module _ (in_mode : Bool) (d : ℕ) (b : d + 1 < max_depth) (f : Flags) (n : f.o
   abbrev pub SuitsLast : Tree → Type 0
   SuitsLast t = max_depth ≤ d + 1 + 1 → Suits f t
 
-  pub inner_ready : (t : Tree) → SuitsLast t → (h : Here) → h.flags.oniguruma_mode ≡ in_mode → h.depth ≤ d →
+  pub inner_ready : (t : Tree) → SuitsLast t → (h : Context) → h.flags.oniguruma_mode ≡ in_mode → h.depth ≤ d →
       Ready t (deeper (under (settled h.flags t) h))
   inner_ready t s h o l = by_test (nat_lt (h.depth + 1 + 1) max_depth) refl
     where
@@ -195,7 +195,7 @@ module _ (in_mode : Bool) (d : ℕ) (b : d + 1 < max_depth) (f : Flags) (n : f.o
       by_test false e = inr (settled_suits f h.flags t (n ∙ sym o) (s (omega (arith, l, ltb-false _ _ e))))
 
   module _ (t : Tree) (k : Fit in_mode (d + 1) Whole t) (s : SuitsLast t) where
-    inner : (h : Here) → h.flags.oniguruma_mode ≡ in_mode → h.depth ≤ d →
+    inner : (h : Context) → h.flags.oniguruma_mode ≡ in_mode → h.depth ≤ d →
         Fits t Whole (deeper (under (settled h.flags t) h))
     inner h o l = k (deeper (under (settled h.flags t) h)) o (omega (arith, l)) (inner_ready t s h o l)
 
@@ -256,7 +256,7 @@ module _ (in_mode : Bool) (d : ℕ) (b : d + 1 < max_depth) (f : Flags) (n : f.o
   abbrev pub FitsOrTarget : Tree → Type 0
   FitsOrTarget c = FitsAsCondition c (Fit in_mode (d + 1) Whole c)
 
-  condition_fits : (c : Tree) → FitsOrTarget c → (i : Here) → i.flags.oniguruma_mode ≡ in_mode → i.depth ≤ d + 1 →
+  condition_fits : (c : Tree) → FitsOrTarget c → (i : Context) → i.flags.oniguruma_mode ≡ in_mode → i.depth ≤ d + 1 →
       Ready c i → FitsAsCondition c (Fits c Whole i)
   condition_fits (leaf (label.backref_exists n level)) k i o l r = tt
   condition_fits (leaf (label.verb v)) k i o l r = tt
@@ -270,8 +270,8 @@ module _ (in_mode : Bool) (d : ℕ) (b : d + 1 < max_depth) (f : Flags) (n : f.o
       let x = row label.conditional (more_trees c (more_trees t (more_trees e no_trees))) in
       let i = deeper (under (settled h.flags x) h) in
       let r0 = inner_ready x s h o l in
-      let j = behind c Whole i in
-      let o1 = behind_mode in_mode c Whole i o in
+      let j = after c Whole i in
+      let o1 = after_mode in_mode c Whole i o in
       let r1 = others_ready c (more_trees t (more_trees e no_trees)) Whole i r0 in
       let r2 = others_ready t (more_trees e no_trees) Branch j r1 in (
         λ _. omega (arith, l, b),
@@ -281,8 +281,8 @@ module _ (in_mode : Bool) (d : ℕ) (b : d + 1 < max_depth) (f : Flags) (n : f.o
             condition_fits c k0 i o (omega (arith, l)) (first_ready c (more_trees t (more_trees e no_trees)) i r0),
             λ y. omega (arith, l, z y),
             k1 j o1 (omega (arith, l)) (first_ready t (more_trees e no_trees) j r1),
-            k2 (behind t Branch j) (behind_mode in_mode t Branch j o1) (omega (arith, l))
-                (first_ready e no_trees (behind t Branch j) r2),
+            k2 (after t Branch j) (after_mode in_mode t Branch j o1) (omega (arith, l))
+                (first_ready e no_trees (after t Branch j) r2),
           ),
         ),
       )

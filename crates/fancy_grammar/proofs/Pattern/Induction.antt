@@ -16,36 +16,36 @@ use Rattle.fancy_lex.specs.Text.{Text}
 use Rattle.fancy_lex.specs.declared.flags.Flags.{Flags}
 use Rattle.fancy_grammar.specs.Join.{is_empty, one_or}
 use Rattle.fancy_grammar.specs.Label as label
-use Rattle.fancy_grammar.specs.Marks.{Marks}
-use Rattle.fancy_grammar.specs.Pattern.{Here, under, past_groups, behind, flags_behind}
+use Rattle.fancy_grammar.specs.GroupInfo.{GroupInfo}
+use Rattle.fancy_grammar.specs.Pattern.{Context, under, past_groups, after, flags_after}
 use Rattle.fancy_grammar.specs.Pattern.{group_count}
 use Rattle.fancy_grammar.specs.PatternDepth.{MayOpen, MaySet, FitsInParens}
-use Rattle.fancy_grammar.specs.PatternNeeds.{setting, settled, letters_between}
+use Rattle.fancy_grammar.specs.PatternNeeds.{inline_flags, settled, letters_between}
 use Rattle.fancy_grammar.specs.Quantified.{is_repeatable}
 use Rattle.fancy_grammar.specs.Tree.{Tree, leaf, concat}
 use Rattle.fancy_grammar.specs.declared.precedence.Precedence.TheVariants.{Piece}
-use Rattle.fancy_grammar.proofs.Pattern.Groups.{begins_setting, setting_rest, scope_text, scope_at, reads_scope}
+use Rattle.fancy_grammar.proofs.Pattern.Groups.{begins_inline_flags, inline_flags_rest, flag_group_text, flag_group_at, reads_flag_group}
 use Rattle.fancy_grammar.proofs.Pattern.Groups.{begins_letters, inner}
-use Rattle.fancy_grammar.proofs.Pattern.Needed.{no_setting}
+use Rattle.fancy_grammar.proofs.Pattern.Needed.{no_inline_flags}
 use Rattle.fancy_grammar.proofs.Pattern.Quantifiers.{NoName, no_name}
 use Rattle.fancy_grammar.proofs.Pattern.Rules.{Clear, Begins, Stops, Ends, no_brace, ends_close, AtomAt, BranchAt}
 use Rattle.fancy_grammar.proofs.Pattern.Rules.{WholeAt}
 use Rattle.fancy_grammar.proofs.Pattern.Rules.{Rest, no_more, lead, reads_branch, reads_only, Follows, ends_no_digit}
 
 -- the tree is not Empty, unless groups without a number are replaced by their contents
-abbrev pub MayBeLeft : Marks → Tree → Type 0
+abbrev pub MayBeLeft : GroupInfo → Tree → Type 0
 MayBeLeft μ t = μ.numbered_groups_ignored ≡ false → is_empty t ≡ false
 
 -- if the tree cannot be repeated, its text is a group without a number
-abbrev pub BareHere : Marks → Tree → Here → Type 0 → Text → Type 0
-BareHere μ t h d k =
+abbrev pub BareIn : GroupInfo → Tree → Context → Type 0 → Text → Type 0
+BareIn μ t h d k =
     d → is_repeatable h.flags t ≡ false → μ.numbered_groups_ignored ≡ true →
     ((v : Text) → Begins h.flags.ignore_space (k ++ v))
     × (settled h.flags t ≡ h.flags → (v : Text) → BareAt μ h (k ++ v) v t)
 
 -- What the texts of a tree are read as here, whatever follows: as the whole of a group, a branch, a piece, and the
 -- operand of a quantifier; with the flags that hold after the first two. Each of these requires that the text fits.
-pub record ReadsBy (μ : Marks) (t : Tree) (h : Here) (d0 d1 d2 d3 : Type 0) (k0 k1 k2 k3 : Text) (g0 g1 : Flags) :
+pub record ReadsBy (μ : GroupInfo) (t : Tree) (h : Context) (d0 d1 d2 d3 : Type 0) (k0 k1 k2 k3 : Text) (g0 g1 : Flags) :
     Type 0 where
   pub whole_clear : d0 → (v : Text) → Clear h.flags.ignore_space v → Clear h.flags.ignore_space (k0 ++ v)
   pub branch_clear : d1 → (v : Text) → Clear h.flags.ignore_space v → Clear h.flags.ignore_space (k1 ++ v)
@@ -56,13 +56,13 @@ pub record ReadsBy (μ : Marks) (t : Tree) (h : Here) (d0 d1 d2 d3 : Type 0) (k0
   pub branch : d1 → (v : Text) → Stops h.flags.ignore_space v → BranchAt μ h (k1 ++ v) g1 v t
   pub piece : d2 → MayBeLeft μ t → (v w : Text) (g : Flags) (ys : List Tree) → Clear h.flags.ignore_space v →
       Follows μ t v →
-      Rest μ (behind t Piece h) v g w ys → Rest μ h (k2 ++ v) g w (t ∷ ys)
+      Rest μ (after t Piece h) v g w ys → Rest μ h (k2 ++ v) g w (t ∷ ys)
   pub atom : d3 → is_repeatable h.flags t ≡ true → settled h.flags t ≡ h.flags → (v : Text) →
       NoName h.flags.ignore_space v → Follows μ t v → AtomAt μ h (k3 ++ v) v t
-  pub bare : BareHere μ t h d3 k3
+  pub bare : BareIn μ t h d3 k3
 
 -- a tree that is read so if one condition holds is read so if any condition that implies it holds
-pub refit : {μ : Marks} {t : Tree} {h : Here} {d e0 e1 e2 d3 : Type 0} {k0 k1 k2 k3 : Text} {g0 g1 : Flags} →
+pub refit : {μ : GroupInfo} {t : Tree} {h : Context} {d e0 e1 e2 d3 : Type 0} {k0 k1 k2 k3 : Text} {g0 g1 : Flags} →
     (e0 → d) → (e1 → d) → (e2 → d) → ReadsBy μ t h d d d d3 k0 k1 k2 k3 g0 g1 →
     ReadsBy μ t h e0 e1 e2 d3 k0 k1 k2 k3 g0 g1
 refit f0 f1 f2 r = record {
@@ -79,21 +79,21 @@ refit f0 f1 f2 r = record {
 }
 
 pub clear_name : (x : Bool) (v : Text) → Clear x v → NoName x v
-clear_name x v c = no_name x v c.no_layout (no_brace v c.no_mark)
+clear_name x v c = no_name x v c.no_layout (no_brace v c.no_quantifier)
 
 -- from here on, the pieces of a text are the tree and those that follow
-abbrev pub LeadsTo : (μ : Marks) → Tree → Here → Text → Type 0
+abbrev pub LeadsTo : (μ : GroupInfo) → Tree → Context → Text → Type 0
 LeadsTo μ t h s =
     (v w : Text) (k : Flags) (ys : List Tree) → Clear h.flags.ignore_space v → Follows μ t v →
     Rest μ (past_groups (group_count t) h) v k w ys → Rest μ h (s ++ v) k w (t ∷ ys)
 
-abbrev pub BeginsHere : Here → Text → Type 0
-BeginsHere h s = (v : Text) → Begins h.flags.ignore_space (s ++ v)
+abbrev pub BeginsIn : Context → Text → Type 0
+BeginsIn h s = (v : Text) → Begins h.flags.ignore_space (s ++ v)
 
-abbrev pub AtomHere : (μ : Marks) → Tree → Here → Text → Type 0
-AtomHere μ t h s = (v : Text) → NoName h.flags.ignore_space v → Follows μ t v → AtomAt μ h (s ++ v) v t
+abbrev pub AtomIn : (μ : GroupInfo) → Tree → Context → Text → Type 0
+AtomIn μ t h s = (v : Text) → NoName h.flags.ignore_space v → Follows μ t v → AtomAt μ h (s ++ v) v t
 
-module _ (μ : Marks) (t : Tree) (h : Here) (solid : is_empty t ≡ false) where
+module _ (μ : GroupInfo) (t : Tree) (h : Context) (solid : is_empty t ≡ false) where
   pub one_branch : (s : Text) (g : Flags) → ((v w : Text) (k : Flags) (ys : List Tree) → Clear h.flags.ignore_space v →
       Follows μ t v → Rest μ (past_groups (group_count t) (under g h)) v k w ys → Rest μ h (s ++ v) k w (t ∷ ys)) →
       (v : Text) →
@@ -103,50 +103,50 @@ module _ (μ : Marks) (t : Tree) (h : Here) (solid : is_empty t ≡ false) where
       (p v v g [] e.clear (λ _. ends_no_digit v e.ends)
       (no_more μ (past_groups (group_count t) (under g h)) v (subst (λ x. Stops x v) (sym same) e)))
 
-  pub atom_leads : (s : Text) → BeginsHere h s → AtomHere μ t h s → LeadsTo μ t h s
+  pub atom_leads : (s : Text) → BeginsIn h s → AtomIn μ t h s → LeadsTo μ t h s
   atom_leads s b a v w k ys c y q =
       lead μ h (s ++ v) v w k t ys (b v) c solid (a v (clear_name h.flags.ignore_space v c) y) q
 
 -- ---- what follows the flags that are set for it
 
-module _ (μ : Marks) (t : Tree) (h : Here) (solid : is_empty t ≡ false) where
-  abbrev pub set_here : Flags
-  set_here = settled h.flags t
+module _ (μ : GroupInfo) (t : Tree) (h : Context) (solid : is_empty t ≡ false) where
+  abbrev pub set_flags : Flags
+  set_flags = settled h.flags t
 
-  abbrev pub behind_set : Text → Text
-  behind_set s = setting h.flags set_here ++ s
+  abbrev pub after_set : Text → Text
+  after_set s = inline_flags h.flags set_flags ++ s
 
-  pub set_begins : (s : Text) → BeginsHere (under set_here h) s → BeginsHere h (behind_set s)
+  pub set_begins : (s : Text) → BeginsIn (under set_flags h) s → BeginsIn h (after_set s)
   set_begins s b v =
-      subst (Begins h.flags.ignore_space) (sym (append_assoc (setting h.flags set_here) s v))
-      (begins_setting μ h set_here.casei set_here.multi set_here.dotnl set_here.crlf h.flags.ignore_space (s ++ v)
+      subst (Begins h.flags.ignore_space) (sym (append_assoc (inline_flags h.flags set_flags) s v))
+      (begins_inline_flags μ h set_flags.casei set_flags.multi set_flags.dotnl set_flags.crlf h.flags.ignore_space (s ++ v)
       (b v))
 
-  set_leads : MaySet set_here h → (s : Text) → BeginsHere (under set_here h) s → LeadsTo μ t (under set_here h) s →
+  set_leads : MaySet set_flags h → (s : Text) → BeginsIn (under set_flags h) s → LeadsTo μ t (under set_flags h) s →
       (v w : Text) (k : Flags) (ys : List Tree) → Clear h.flags.ignore_space v → Follows μ t v →
-      Rest μ (past_groups (group_count t) (under set_here h)) v k w ys → Rest μ h (behind_set s ++ v) k w (t ∷ ys)
+      Rest μ (past_groups (group_count t) (under set_flags h)) v k w ys → Rest μ h (after_set s ++ v) k w (t ∷ ys)
   set_leads d s b l v w k ys c y q =
-      subst (λ z. Rest μ h z k w (t ∷ ys)) (sym (append_assoc (setting h.flags set_here) s v))
-      (setting_rest μ h set_here.casei set_here.multi set_here.dotnl set_here.crlf (s ++ v) w k (t ∷ ys) d (b v)
+      subst (λ z. Rest μ h z k w (t ∷ ys)) (sym (append_assoc (inline_flags h.flags set_flags) s v))
+      (inline_flags_rest μ h set_flags.casei set_flags.multi set_flags.dotnl set_flags.crlf (s ++ v) w k (t ∷ ys) d (b v)
       (l v w k ys c y q))
 
   -- a tree that is a piece wherever it is written
-  pub by_piece : (d d3 : Type 0) (s k3 : Text) → (d → MaySet set_here h) → (d → BeginsHere (under set_here h) s) →
-      (d → LeadsTo μ t (under set_here h) s) →
-      flags_behind t Piece h.flags ≡ set_here → (d3 → is_repeatable h.flags t ≡ true → BeginsHere h k3) →
-      (d3 → is_repeatable h.flags t ≡ true → settled h.flags t ≡ h.flags → AtomHere μ t h k3) → BareHere μ t h d3 k3 →
-      ReadsBy μ t h d d d d3 (behind_set s) (behind_set s) (behind_set s) k3 set_here set_here
+  pub by_piece : (d d3 : Type 0) (s k3 : Text) → (d → MaySet set_flags h) → (d → BeginsIn (under set_flags h) s) →
+      (d → LeadsTo μ t (under set_flags h) s) →
+      flags_after t Piece h.flags ≡ set_flags → (d3 → is_repeatable h.flags t ≡ true → BeginsIn h k3) →
+      (d3 → is_repeatable h.flags t ≡ true → settled h.flags t ≡ h.flags → AtomIn μ t h k3) → BareIn μ t h d3 k3 →
+      ReadsBy μ t h d d d d3 (after_set s) (after_set s) (after_set s) k3 set_flags set_flags
   by_piece d d3 s k3 m b l e n a bare =
       let p = λ (x : d). set_leads (m x) s (b x) (l x) in
       let q = λ (x : d) (v : Text) (i : Stops h.flags.ignore_space v). one_branch μ t h solid
-      (behind_set s) set_here (p x) v i refl in
+      (after_set s) set_flags (p x) v i refl in
       record {
         whole_clear = λ x v c. (set_begins s (b x) v).clear;
         branch_clear = λ x v c. (set_begins s (b x) v).clear;
         branch_begins = λ x _. set_begins s (b x);
         begins = λ x _. set_begins s (b x);
         atom_begins = n;
-        whole = λ x v i. reads_only μ h _ v set_here t (q x v i.stops) i.no_bar;
+        whole = λ x v i. reads_only μ h _ v set_flags t (q x v i.stops) i.no_bar;
         branch = q;
         piece =
             λ x _ v w k ys c y r. p x v w k ys c y
@@ -155,28 +155,28 @@ module _ (μ : Marks) (t : Tree) (h : Here) (solid : is_empty t ≡ false) where
         bare = bare;
       }
 
-  pub set_none : (s v : Text) → settled h.flags t ≡ h.flags → behind_set s ++ v ≡ s ++ v
+  pub set_none : (s v : Text) → settled h.flags t ≡ h.flags → after_set s ++ v ≡ s ++ v
   set_none s v e =
-      ap (λ f. (setting h.flags f ++ s) ++ v) e ∙ ap (λ w. (w ++ s) ++ v) (no_setting h.flags)
+      ap (λ f. (inline_flags h.flags f ++ s) ++ v) e ∙ ap (λ w. (w ++ s) ++ v) (no_inline_flags h.flags)
 
   -- a tree that is an atom wherever it is written
-  pub by_atom : (d d3 : Type 0) (s k3 : Text) → (d → MaySet set_here h) → (d → BeginsHere (under set_here h) s) →
-      (d → AtomHere μ t (under set_here h) s) →
-      flags_behind t Piece h.flags ≡ set_here → (is_repeatable h.flags t ≡ true → (d3 → d) × (k3 ≡ behind_set s)) →
-      BareHere μ t h d3 k3 → ReadsBy μ t h d d d d3 (behind_set s) (behind_set s) (behind_set s) k3 set_here set_here
+  pub by_atom : (d d3 : Type 0) (s k3 : Text) → (d → MaySet set_flags h) → (d → BeginsIn (under set_flags h) s) →
+      (d → AtomIn μ t (under set_flags h) s) →
+      flags_after t Piece h.flags ≡ set_flags → (is_repeatable h.flags t ≡ true → (d3 → d) × (k3 ≡ after_set s)) →
+      BareIn μ t h d3 k3 → ReadsBy μ t h d d d d3 (after_set s) (after_set s) (after_set s) k3 set_flags set_flags
   by_atom d d3 s k3 m b a e same bare =
-      by_piece d d3 s k3 m b (λ x. atom_leads μ t (under set_here h) solid s (b x) (a x)) e
-      (λ x r. subst (BeginsHere h) (sym (same r).1) (set_begins s (b ((same r).0 x))))
-      (λ x r u. subst (AtomHere μ t h) (sym (same r).1)
+      by_piece d d3 s k3 m b (λ x. atom_leads μ t (under set_flags h) solid s (b x) (a x)) e
+      (λ x r. subst (BeginsIn h) (sym (same r).1) (set_begins s (b ((same r).0 x))))
+      (λ x r u. subst (AtomIn μ t h) (sym (same r).1)
       (λ v m y. subst (λ w. AtomAt μ h w v t) (sym (set_none s v u))
       (subst (λ f. AtomAt μ (under f h) (s ++ v) v t) u (a ((same r).0 x) v m y)))) bare
 
   -- in a group without a number
-  pub bare_by : (d : Type 0) (text : Text) → (d → h.depth + 1 < max_depth) → (d → BeginsHere (under set_here h) text) →
-      (d → AtomHere μ t (deeper (under set_here h)) text) →
-      BareHere μ t h d (setting h.flags set_here ++ (codes "(" ++ (text ++ codes ")")))
+  pub bare_by : (d : Type 0) (text : Text) → (d → h.depth + 1 < max_depth) → (d → BeginsIn (under set_flags h) text) →
+      (d → AtomIn μ t (deeper (under set_flags h)) text) →
+      BareIn μ t h d (inline_flags h.flags set_flags ++ (codes "(" ++ (text ++ codes ")")))
   bare_by d text m b a x e g =
-      let i = under set_here h in
+      let i = under set_flags h in
       let s = codes "(" ++ (text ++ codes ")") in
       let same : (v : Text) → s ++ v ≡ code "(" ∷ (text ++ code ")" ∷ v)
       = λ v. ap (λ z. code "(" ∷ z) (append_assoc text (codes ")") v) in
@@ -190,7 +190,7 @@ module _ (μ : Marks) (t : Tree) (h : Here) (solid : is_empty t ≡ false) where
       q.stops refl) q.no_bar)) in (
         set_begins s (λ v. subst (Begins h.flags.ignore_space) (sym (same v))
             (begins_by h.flags.ignore_space (code "(") _
-            (not_asking (text ++ code ")" ∷ v) (no_question (text ++ code ")" ∷ v) (first v).clear.no_mark)) refl refl
+            (not_asking (text ++ code ")" ∷ v) (no_question (text ++ code ")" ∷ v) (first v).clear.no_quantifier)) refl refl
             refl)),
         λ u v. subst (λ z. BareAt μ h z v t) (sym (set_none s v u))
             (subst (λ f. BareAt μ (under f h) (s ++ v) v t) u (here v)),
@@ -198,7 +198,7 @@ module _ (μ : Marks) (t : Tree) (h : Here) (solid : is_empty t ≡ false) where
 
 -- ---- what is in a group of flags when it is a piece
 
-module _ (μ : Marks) (t : Tree) (h : Here) (solid : is_empty t ≡ false)
+module _ (μ : GroupInfo) (t : Tree) (h : Context) (solid : is_empty t ≡ false)
     (rep : is_repeatable h.flags t ≡ true) where
   abbrev pub set_in : Flags
   set_in = settled h.flags t
@@ -207,66 +207,66 @@ module _ (μ : Marks) (t : Tree) (h : Here) (solid : is_empty t ≡ false)
   scoped s =
       codes "(" ++ ((codes "?" ++ (letters_between h.flags set_in ++ codes ":")) ++ (s ++ codes ")"))
 
-  scope_begins : (s : Text) → BeginsHere h (scoped s)
-  scope_begins s v =
-      subst (Begins h.flags.ignore_space) (sym (scope_text h.flags set_in s v))
+  flag_group_begins : (s : Text) → BeginsIn h (scoped s)
+  flag_group_begins s v =
+      subst (Begins h.flags.ignore_space) (sym (flag_group_text h.flags set_in s v))
       (begins_letters h.flags.ignore_space h.flags set_in.casei set_in.multi set_in.dotnl set_in.crlf (code ":")
       (s ++ code ")" ∷ v) refl)
 
-  scope_atom : MayOpen h → (s : Text) (g : Flags) →
-      ((v : Text) → Ends h.flags.ignore_space v → WholeAt μ (inner set_in h) (s ++ v) g v t) → AtomHere μ t h (scoped s)
-  scope_atom d s g w v m y =
+  flag_group_atom : MayOpen h → (s : Text) (g : Flags) →
+      ((v : Text) → Ends h.flags.ignore_space v → WholeAt μ (inner set_in h) (s ++ v) g v t) → AtomIn μ t h (scoped s)
+  flag_group_atom d s g w v m y =
       let u = s ++ code ")" ∷ v in
-      subst (λ z. AtomAt μ h z v t) (sym (scope_text h.flags set_in s v))
-      (reads_scope μ h set_in g (codes "(?" ++ (letters_between h.flags set_in ++ code ":" ∷ u)) u v t
-      (scope_at h.depth h.flags set_in.casei set_in.multi set_in.dotnl set_in.crlf u d)
+      subst (λ z. AtomAt μ h z v t) (sym (flag_group_text h.flags set_in s v))
+      (reads_flag_group μ h set_in g (codes "(?" ++ (letters_between h.flags set_in ++ code ":" ∷ u)) u v t
+      (flag_group_at h.depth h.flags set_in.casei set_in.multi set_in.dotnl set_in.crlf u d)
       (w (code ")" ∷ v) (ends_close h.flags.ignore_space v)))
 
   -- a Concat: pieces directly in a branch
-  pub by_branch : (d : Type 0) (inside : Here → Type 0) (k s : Text) (g f : Flags) (ys : List Tree) →
-      one_or concat ys ≡ t → (d → BeginsHere h k) →
+  pub by_branch : (d : Type 0) (inside : Context → Type 0) (k s : Text) (g f : Flags) (ys : List Tree) →
+      one_or concat ys ≡ t → (d → BeginsIn h k) →
       (d → (v : Text) → Stops h.flags.ignore_space v → Rest μ h (k ++ v) g v ys) →
       (inside (inner set_in h) → (v : Text) → Ends h.flags.ignore_space v → WholeAt μ (inner set_in h) (s ++ v) f v t) →
-      flags_behind t Piece h.flags ≡ h.flags →
+      flags_after t Piece h.flags ≡ h.flags →
       ReadsBy μ t h d d (FitsInParens inside (under set_in h)) (FitsInParens inside (under set_in h)) k k (scoped s)
       (scoped s) g g
   by_branch d inside k s g f ys is c q w e =
-      let a = λ (x : FitsInParens inside (under set_in h)). scope_atom x.0 s f (w x.1) in
+      let a = λ (x : FitsInParens inside (under set_in h)). flag_group_atom x.0 s f (w x.1) in
       let b = λ (x : d) (v : Text) (i : Stops h.flags.ignore_space v).
       subst (BranchAt μ h (k ++ v) g v) is (reads_branch μ h (k ++ v) v g ys (q x v i)) in
       record {
         whole_clear = λ x v _. (c x v).clear;
         branch_clear = λ x v _. (c x v).clear;
         branch_begins = λ x _. c x;
-        begins = λ _ _. scope_begins s;
-        atom_begins = λ _ _. scope_begins s;
+        begins = λ _ _. flag_group_begins s;
+        atom_begins = λ _ _. flag_group_begins s;
         whole = λ x v i. reads_only μ h _ v g t (b x v i.stops) i.no_bar;
         branch = b;
         piece =
-            λ x _ v w k ys c y r. atom_leads μ t h solid (scoped s) (scope_begins s) (a x) v w k ys c y
+            λ x _ v w k ys c y r. atom_leads μ t h solid (scoped s) (flag_group_begins s) (a x) v w k ys c y
             (subst (λ f. Rest μ (past_groups (group_count t) (under f h)) v k w ys) e r);
         atom = λ x _ _. a x;
         bare = λ _ e. absurd (true≢false (sym rep ∙ e));
       }
 
   -- an Alt: branches directly in a group
-  pub by_whole : (d : Type 0) (inside : Here → Type 0) (k s : Text) (g f : Flags) →
+  pub by_whole : (d : Type 0) (inside : Context → Type 0) (k s : Text) (g f : Flags) →
       (d → (v : Text) → Clear h.flags.ignore_space v → Clear h.flags.ignore_space (k ++ v)) →
       (d → (v : Text) → Ends h.flags.ignore_space v → WholeAt μ h (k ++ v) g v t) →
       (inside (inner set_in h) → (v : Text) → Ends h.flags.ignore_space v → WholeAt μ (inner set_in h) (s ++ v) f v t) →
-      flags_behind t Piece h.flags ≡ h.flags →
+      flags_after t Piece h.flags ≡ h.flags →
       let x = FitsInParens inside (under set_in h) in
       ReadsBy μ t h d x x x k (scoped s) (scoped s) (scoped s) g h.flags
   by_whole d inside k s g f c q w e =
-      let a = λ (x : FitsInParens inside (under set_in h)). scope_atom x.0 s f (w x.1) in
+      let a = λ (x : FitsInParens inside (under set_in h)). flag_group_atom x.0 s f (w x.1) in
       let l = λ (x : FitsInParens inside (under set_in h)).
-      atom_leads μ t h solid (scoped s) (scope_begins s) (a x) in
+      atom_leads μ t h solid (scoped s) (flag_group_begins s) (a x) in
       record {
         whole_clear = c;
-        branch_clear = λ _ v c. (scope_begins s v).clear;
-        branch_begins = λ _ _. scope_begins s;
-        begins = λ _ _. scope_begins s;
-        atom_begins = λ _ _. scope_begins s;
+        branch_clear = λ _ v c. (flag_group_begins s v).clear;
+        branch_begins = λ _ _. flag_group_begins s;
+        begins = λ _ _. flag_group_begins s;
+        atom_begins = λ _ _. flag_group_begins s;
         whole = q;
         branch = λ x v i. one_branch μ t h solid (scoped s) h.flags (l x) v i refl;
         piece =
@@ -281,7 +281,7 @@ pub by_left : (b : Bool) → (b ≡ false → true ≡ false) → b ≡ true
 by_left true h = refl
 by_left false h = sym (h refl)
 
-pub by_nothing : (μ : Marks) (h : Here) (d0 d1 d2 d3 : Type 0) →
+pub by_nothing : (μ : GroupInfo) (h : Context) (d0 d1 d2 d3 : Type 0) →
     (d2 → h.depth + 1 < max_depth) → (d3 → h.depth + 1 < max_depth) →
     ReadsBy μ (leaf label.empty) h d0 d1 d2 d3 [] [] (codes "()") (codes "()") h.flags h.flags
 by_nothing μ h d0 d1 d2 d3 m n =

@@ -21,18 +21,18 @@ use Rattle.fancy_lex.specs.declared.escape.Assertion.TheVariants.{LeftWordBounda
 use Rattle.fancy_lex.specs.declared.escape.Assertion.TheVariants.{RightWordBoundary, RightWordHalfBoundary}
 use Rattle.fancy_lex.specs.declared.escape.Assertion.TheVariants.{WordBoundary, NotWordBoundary}
 use Rattle.fancy_lex.specs.declared.flags.Flags.{Flags}
-use Rattle.fancy_lex.specs.FaultTable.{unknown_verb}
+use Rattle.fancy_lex.specs.ErrorTable.{unknown_verb}
 use Rattle.fancy_grammar.specs.Depth.{max_depth}
 use Rattle.fancy_grammar.specs.Verb.{verb_at}
 use Rattle.fancy_grammar.specs.declared.kinds.BacktrackingControlVerb.{BacktrackingControlVerb}
 use Rattle.fancy_grammar.specs.declared.kinds.BacktrackingControlVerb.TheVariants.{Fail, Accept, Commit, Skip, Prune}
 use Rattle.fancy_grammar.proofs.Pattern.Groups.{paren_at, question_at}
-use Rattle.fancy_grammar.specs.Ahead.{refused, read, ahead, leaf_node, leaf_outcome, start_anchor, end_anchor}
+use Rattle.fancy_grammar.specs.AtomStart.{refused, read, atom_start, leaf_node, leaf_outcome, start_anchor, end_anchor}
 use Rattle.fancy_grammar.specs.Grammar.{atom, a_read, one_branch, branch, stop}
 use Rattle.fancy_grammar.specs.Label as label
 use Rattle.fancy_grammar.specs.Label.{Leaf}
-use Rattle.fancy_grammar.specs.Marks.{Marks}
-use Rattle.fancy_grammar.specs.Pattern.{Here, parenthesized, verb_name}
+use Rattle.fancy_grammar.specs.GroupInfo.{GroupInfo}
+use Rattle.fancy_grammar.specs.Pattern.{Context, parenthesized, verb_name}
 use Rattle.fancy_grammar.specs.PatternLetters.{any_text, assertion_text, character}
 use Rattle.fancy_grammar.specs.State.{done}
 use Rattle.fancy_grammar.specs.Tree.{leaf, assertion}
@@ -50,19 +50,19 @@ some_verb b v = Some (b, v)
 -- ---- leaves and escapes
 
 abbrev IsNoReference : Leaf → Type 0
-IsNoReference (label.ast_node r place) = ⊥
+IsNoReference (label.ast_node r position) = ⊥
 IsNoReference _ = Unit {0}
 
-leaf_becomes : (μ : Marks) (s : Text) (c : ℕ) (l : Leaf) → IsNoReference l → Becomes μ s c (leaf l) (leaf l)
-leaf_becomes μ s c (label.ast_node r place) k = absurd k
+leaf_becomes : (μ : GroupInfo) (s : Text) (c : ℕ) (l : Leaf) → IsNoReference l → Becomes μ s c (leaf l) (leaf l)
+leaf_becomes μ s c (label.ast_node r position) k = absurd k
 leaf_becomes μ s c l k = record { is = λ n u e. refl; count = refl; groups = tt }
 
-pub reads_leaf : (μ : Marks) (h : Here) (s v : Text) (l : Leaf) → IsNoReference l →
-    ahead h.depth (st h.flags s) ≡ read (done (leaf l) (st h.flags v)) → AtomAt μ h s v (leaf l)
+pub reads_leaf : (μ : GroupInfo) (h : Context) (s v : Text) (l : Leaf) → IsNoReference l →
+    atom_start h.depth (st h.flags s) ≡ read (done (leaf l) (st h.flags v)) → AtomAt μ h s v (leaf l)
 reads_leaf μ h s v l k e = record { tree = leaf l; derives = atom e a_read; becomes = leaf_becomes μ s h.opened l k }
 
 -- an escape that is this leaf
-reads_escape : (μ : Marks) (h : Here) (t v : Text) (e : Escape) (l : Leaf) → IsNoReference l → leaf_node e ≡ leaf l →
+reads_escape : (μ : GroupInfo) (h : Context) (t v : Text) (e : Escape) (l : Leaf) → IsNoReference l → leaf_node e ≡ leaf l →
     escape h.flags false t ≡ gives e v → AtomAt μ h (code "\\" ∷ t) v (leaf l)
 reads_escape μ h t v e l k same q =
     reads_leaf μ h (code "\\" ∷ t) v l k
@@ -75,13 +75,13 @@ begins_escape x t = begins_by x (code "\\") t refl refl refl refl
 
 -- ---- characters
 
-abbrev pub marks : ℕ → Bool
-marks c = c ∈ "\\.+*?()|[{^$"
+abbrev pub is_metacharacter : ℕ → Bool
+is_metacharacter c = c ∈ "\\.+*?()|[{^$"
 
-plain_leaf : (d : ℕ) (f : Flags) (c : ℕ) (v : Text) → marks c ≡ false →
-    ahead d (st f (c ∷ v)) ≡ read (done (leaf (label.literal (c ∷ []) f.casei)) (st f v))
+plain_leaf : (d : ℕ) (f : Flags) (c : ℕ) (v : Text) → is_metacharacter c ≡ false →
+    atom_start d (st f (c ∷ v)) ≡ read (done (leaf (label.literal (c ∷ []) f.casei)) (st f v))
 plain_leaf d f c v e =
-    let is_not = apart marks c e in
+    let is_not = apart is_metacharacter c e in
     leaf_at d f c v (is_not (code "(") refl)
     (rw (
       is_not (code "+") refl,
@@ -98,19 +98,19 @@ plain_leaf d f c v e =
       is_not (code "[") refl,
     ) refl
 
-begins_plain : (x : Bool) (c : ℕ) (v : Text) → marks c ≡ false → is_layout x c ≡ false → Begins x (c ∷ v)
+begins_plain : (x : Bool) (c : ℕ) (v : Text) → is_metacharacter c ≡ false → is_layout x c ≡ false → Begins x (c ∷ v)
 begins_plain x c v e h =
-    let is_not = apart marks c e in
+    let is_not = apart is_metacharacter c e in
     record {
       clear = record {
         no_layout = not_layout x c v (not_open c v (is_not (code "(") refl)) h;
-        no_mark =
+        no_quantifier =
             rw (is_not (code "?") refl, is_not (code "*") refl, is_not (code "+") refl, is_not (code "{") refl) refl;
       };
       goes = rw (is_not (code "|") refl, is_not (code ")") refl) refl;
     }
 
-pub reads_spelled : (μ : Marks) (h : Here) (casei : Bool) (c : ℕ) (t v : Text) → Spells h.flags casei c t →
+pub reads_spelled : (μ : GroupInfo) (h : Context) (casei : Bool) (c : ℕ) (t v : Text) → Spells h.flags casei c t →
     AtomAt μ h (t ++ v) v (leaf (label.literal (c ∷ []) casei))
 reads_spelled μ h casei c t v (itself e m k) =
     reads_leaf μ h (c ∷ v) v (label.literal (c ∷ []) casei) tt
@@ -127,13 +127,13 @@ begins_spelled f casei c t v (by_escape {t = w} e) = begins_escape f.ignore_spac
 -- ---- what a leaf's text is read as
 
 -- before any text that is no name in braces
-pub record LeafAt (μ : Marks) (h : Here) (t : Text) (l : Leaf) : Type 0 where
+pub record LeafAt (μ : GroupInfo) (h : Context) (t : Text) (l : Leaf) : Type 0 where
   pub reads : (v : Text) → ((p : ℕ) (negated : Bool) →
       boundary h.flags.ignore_space p negated v ≡ gives (unnamed_boundary negated) v) → Follows μ (leaf l) v →
       AtomAt μ h (t ++ v) v (leaf l)
   pub begins : (v : Text) → Begins h.flags.ignore_space (t ++ v)
 
-pub literal_at : (μ : Marks) (h : Here) (casei : Bool) (c : ℕ) → CaseFits h.flags casei c →
+pub literal_at : (μ : GroupInfo) (h : Context) (casei : Bool) (c : ℕ) → CaseFits h.flags casei c →
     LeafAt μ h (character h.flags casei c ++ []) (label.literal (c ∷ []) casei)
 literal_at μ h casei c k =
     let t = character h.flags casei c in
@@ -143,7 +143,7 @@ literal_at μ h casei c k =
       begins = λ v. begins_spelled h.flags casei c t v s;
     })
 
-pub byte_at : (μ : Marks) (h : Here) (b : ℕ) → h.flags.unicode ≡ false → 0x80 ≤ b → b ≤ 0xFF →
+pub byte_at : (μ : GroupInfo) (h : Context) (b : ℕ) → h.flags.unicode ≡ false → 0x80 ≤ b → b ≤ 0xFF →
     LeafAt μ h (code "\\" ∷ code "x" ∷ upper_hex_digit (b / 16) ∷ upper_hex_digit (b % 16) ∷ [])
     (label.literal_bytes (b ∷ []))
 byte_at μ h b u l k = record {
@@ -156,7 +156,7 @@ byte_at μ h b u l k = record {
 -- ---- escapes of one letter
 
 -- with a letter that is the whole escape
-letter_at : (μ : Marks) (h : Here) (c : ℕ) (e : Escape) (l : Leaf) → IsNoReference l → leaf_node e ≡ leaf l →
+letter_at : (μ : GroupInfo) (h : Context) (c : ℕ) (e : Escape) (l : Leaf) → IsNoReference l → leaf_node e ≡ leaf l →
     ((v : Text) → escape h.flags false (c ∷ v) ≡ gives e v) → LeafAt μ h (code "\\" ∷ c ∷ []) l
 letter_at μ h c e l k same q = record {
   reads = λ v m _. reads_escape μ h (c ∷ v) v e l k same (q v);
@@ -218,13 +218,13 @@ escape_B : (f : Flags) (v : Text) → escape f false (code "B" ∷ v)
 unfolding escape_at lone_escape outside
 escape_B f v = refl
 
-pub keep_at : (μ : Marks) (h : Here) → LeafAt μ h (codes "\\K") label.keep_out
+pub keep_at : (μ : GroupInfo) (h : Context) → LeafAt μ h (codes "\\K") label.keep_out
 keep_at μ h = letter_at μ h (code "K") _ label.keep_out tt refl (escape_K h.flags)
 
-pub continue_at : (μ : Marks) (h : Here) → LeafAt μ h (codes "\\G") label.continue_from_previous_match_end
+pub continue_at : (μ : GroupInfo) (h : Context) → LeafAt μ h (codes "\\G") label.continue_from_previous_match_end
 continue_at μ h = letter_at μ h (code "G") _ label.continue_from_previous_match_end tt refl (escape_G h.flags)
 
-pub newline_at : (μ : Marks) (h : Here) (u : Bool) → h.flags.unicode ≡ u →
+pub newline_at : (μ : GroupInfo) (h : Context) (u : Bool) → h.flags.unicode ≡ u →
     LeafAt μ h (codes "\\R") (label.general_newline u)
 newline_at μ h u e =
     subst (λ u. LeafAt μ h (codes "\\R") (label.general_newline u)) e
@@ -233,26 +233,26 @@ newline_at μ h u e =
 -- ---- one character
 
 -- a character that is this leaf
-alone_at : (μ : Marks) (h : Here) (c : ℕ) (l : Leaf) → IsNoReference l → ((x : Bool) (v : Text) → Begins x (c ∷ v)) →
-    ((v : Text) → ahead h.depth (st h.flags (c ∷ v)) ≡ read (done (leaf l) (st h.flags v))) → LeafAt μ h (c ∷ []) l
+alone_at : (μ : GroupInfo) (h : Context) (c : ℕ) (l : Leaf) → IsNoReference l → ((x : Bool) (v : Text) → Begins x (c ∷ v)) →
+    ((v : Text) → atom_start h.depth (st h.flags (c ∷ v)) ≡ read (done (leaf l) (st h.flags v))) → LeafAt μ h (c ∷ []) l
 alone_at μ h c l k b q = record {
   reads = λ v m _. reads_leaf μ h (c ∷ v) v l k (q v);
   begins = λ v. b h.flags.ignore_space v;
 }
 
-dot_at : (μ : Marks) (h : Here) → LeafAt μ h (codes ".") (label.any h.flags.dotnl h.flags.crlf)
+dot_at : (μ : GroupInfo) (h : Context) → LeafAt μ h (codes ".") (label.any h.flags.dotnl h.flags.crlf)
 dot_at μ h =
     alone_at μ h (code ".") _ tt (λ x v. begins_by x (code ".") v refl refl refl refl)
     (λ v. leaf_at h.depth h.flags (code ".") v refl refl)
 
-caret_at : (μ : Marks) (h : Here) (a : Assertion) → start_anchor h.flags ≡ a →
+caret_at : (μ : GroupInfo) (h : Context) (a : Assertion) → start_anchor h.flags ≡ a →
     LeafAt μ h (codes "^") (label.assertion a)
 caret_at μ h a e =
     alone_at μ h (code "^") _ tt (λ x v. begins_by x (code "^") v refl refl refl refl)
     (λ v. leaf_at h.depth h.flags (code "^") v refl refl
     ∙ ap (λ b. read (done (assertion b) (st h.flags v))) e)
 
-dollar_at : (μ : Marks) (h : Here) (a : Assertion) → end_anchor h.flags ≡ a →
+dollar_at : (μ : GroupInfo) (h : Context) (a : Assertion) → end_anchor h.flags ≡ a →
     LeafAt μ h (codes "$") (label.assertion a)
 dollar_at μ h a e =
     alone_at μ h (code "$") _ tt (λ x v. begins_by x (code "$") v refl refl refl refl)
@@ -266,7 +266,7 @@ beq_is false true e = absurd cc
 beq_is false false e = refl
 
 -- a dot, if the flags agree with its fields
-dot_is : (μ : Marks) (h : Here) (a b : Bool) → beq h.flags.dotnl a && beq h.flags.crlf b ≡ true →
+dot_is : (μ : GroupInfo) (h : Context) (a b : Bool) → beq h.flags.dotnl a && beq h.flags.crlf b ≡ true →
     LeafAt μ h (codes ".") (label.any a b)
 dot_is μ h a b e =
     let (x, y) = and_parts _ _ e in
@@ -283,14 +283,14 @@ beq_same : (a b : Bool) → a ≡ b → beq a b ≡ true
 beq_same true b e = subst (λ b. beq true b ≡ true) e refl
 beq_same false b e = subst (λ b. beq false b ≡ true) e refl
 
-unlike_at : (μ : Marks) (h : Here) (a b : Bool) (t : Text) → (h.flags.dotnl ≡ a) × (h.flags.crlf ≡ b) →
+unlike_at : (μ : GroupInfo) (h : Context) (a b : Bool) (t : Text) → (h.flags.dotnl ≡ a) × (h.flags.crlf ≡ b) →
     LeafAt μ h (if beq h.flags.dotnl a && beq h.flags.crlf b then codes "." else t) (label.any a b)
 unlike_at μ h a b t k =
     let e : beq h.flags.dotnl a && beq h.flags.crlf b ≡ true
     = and_from _ _ (beq_same h.flags.dotnl a k.0) (beq_same h.flags.crlf b k.1) in
     subst (λ t. LeafAt μ h t (label.any a b)) (sym (cond-true _ _ _ e)) (dot_is μ h a b e)
 
-pub any_at : (μ : Marks) (h : Here) (a b : Bool) → AnyFits h.flags a b →
+pub any_at : (μ : GroupInfo) (h : Context) (a b : Bool) → AnyFits h.flags a b →
     LeafAt μ h (any_text h.flags a b) (label.any a b)
 any_at μ h true true k =
     cond_both (beq h.flags.dotnl true && beq h.flags.crlf true) _ _ (λ t. LeafAt μ h t (label.any true true))
@@ -336,7 +336,7 @@ word_end true p v = refl
 word_end false p v = refl
 
 -- a boundary after its letter
-boundary_at : (μ : Marks) (h : Here) (t : Text) (a : Assertion) →
+boundary_at : (μ : GroupInfo) (h : Context) (t : Text) (a : Assertion) →
     ((v : Text) → ((p : ℕ) (negated : Bool) →
     boundary h.flags.ignore_space p negated v ≡ gives (unnamed_boundary negated) v) →
     escape h.flags false (t ++ v) ≡ gives (escaped.assertion a) v) → LeafAt μ h (code "\\" ∷ t) (label.assertion a)
@@ -345,7 +345,7 @@ boundary_at μ h t a q = record {
   begins = λ v. begins_escape h.flags.ignore_space (t ++ v);
 }
 
-pub assertion_at : (μ : Marks) (h : Here) (a : Assertion) → AssertionFits h.flags a →
+pub assertion_at : (μ : GroupInfo) (h : Context) (a : Assertion) → AssertionFits h.flags a →
     LeafAt μ h (assertion_text h.flags a) (label.assertion a)
 assertion_at μ h StartText k =
     cond_both h.flags.multi _ _ (λ t. LeafAt μ h t (label.assertion StartText))
@@ -387,9 +387,9 @@ assertion_at μ h RightWordHalfBoundary k =
 
 -- ---- verbs
 
-verb_head : (μ : Marks) (h : Here) (t v : Text) (b : BacktrackingControlVerb) → h.depth + 1 < max_depth →
+verb_opening : (μ : GroupInfo) (h : Context) (t v : Text) (b : BacktrackingControlVerb) → h.depth + 1 < max_depth →
     verb_at (t ++ v) ≡ some_verb b v → AtomAt μ h (codes "(*" ++ (t ++ v)) v (leaf (label.verb b))
-verb_head μ h t v b l e =
+verb_opening μ h t v b l e =
     reads_leaf μ h _ v (label.verb b) tt
     (paren_at h.depth h.flags (code "*" ∷ (t ++ v)) l (begins_star h.flags.ignore_space)
     ∙ ap (λ o. choose o (λ p. read (done (leaf (label.verb p.0)) (st h.flags p.1)))
@@ -402,10 +402,10 @@ verb_head μ h t v b l e =
 begins_paren : (x : Bool) (c : ℕ) (t : Text) → (c == code "?") ≡ false → Begins x (code "(" ∷ c ∷ t)
 begins_paren x c t e = begins_by x (code "(") (c ∷ t) (rw e refl) refl refl refl
 
-verb_leaf : (μ : Marks) (h : Here) (t : Text) (b : BacktrackingControlVerb) → h.depth + 1 < max_depth →
+verb_leaf : (μ : GroupInfo) (h : Context) (t : Text) (b : BacktrackingControlVerb) → h.depth + 1 < max_depth →
     ((v : Text) → verb_at (t ++ v) ≡ some_verb b v) → LeafAt μ h (codes "(*" ++ t) (label.verb b)
 verb_leaf μ h t b l q = record {
-  reads = λ v m _. verb_head μ h t v b l (q v);
+  reads = λ v m _. verb_opening μ h t v b l (q v);
   begins = λ v. begins_paren h.flags.ignore_space (code "*") (t ++ v) refl;
 }
 
@@ -429,7 +429,7 @@ pub prune_read : (v : Text) → verb_at (codes "PRUNE)" ++ v) ≡ some_verb Prun
 unfolding verb_at
 prune_read v = refl
 
-pub verb_leaf_at : (μ : Marks) (h : Here) (b : BacktrackingControlVerb) → h.depth + 1 < max_depth →
+pub verb_leaf_at : (μ : GroupInfo) (h : Context) (b : BacktrackingControlVerb) → h.depth + 1 < max_depth →
     LeafAt μ h (parenthesized (verb_name b)) (label.verb b)
 verb_leaf_at μ h Fail l = verb_leaf μ h (codes "FAIL)") Fail l fail_read
 verb_leaf_at μ h Accept l = verb_leaf μ h (codes "ACCEPT)") Accept l accept_read
@@ -439,7 +439,7 @@ verb_leaf_at μ h Prune l = verb_leaf μ h (codes "PRUNE)") Prune l prune_read
 
 -- ---- Delegates
 
-pub source_at : (μ : Marks) (h : Here) (s : Text) (casei : Bool) (t : Text) → IsSource h.flags s casei t →
+pub source_at : (μ : GroupInfo) (h : Context) (s : Text) (casei : Bool) (t : Text) → IsSource h.flags s casei t →
     LeafAt μ h t (label.delegate s casei)
 source_at μ h s casei t (an_escape {t = w} e) = record {
   reads = λ v m _. reads_escape μ h (w ++ v) v (escaped.delegate s casei) (label.delegate s casei) tt refl (e v);
@@ -457,7 +457,7 @@ source_at μ h s casei t (a_class {t = w} same e) = record {
 
 -- ---- clear
 
-pub clear_at : (μ : Marks) (h : Here) → h.depth + 1 < max_depth → LeafAt μ h (codes "(?~|)") label.clear
+pub clear_at : (μ : GroupInfo) (h : Context) → h.depth + 1 < max_depth → LeafAt μ h (codes "(?~|)") label.clear
 clear_at μ h l = record {
   reads =
       λ v m _. record {

@@ -4,15 +4,15 @@ use Rattle.std.proofs.Common.{codes, None, refl, sym, ap, ◌∙◌, subst, arit
 use Rattle.std.proofs.Common.{if◌then◌else◌}
 use Rattle.std.proofs.lemmas.Bool.{cond-false, or_parts, or_cases}
 use Prim.Native.Char.{code}
-use Rattle.fancy_lex.specs.LayoutSteps.{layout, after_comment_head, is_layout}
+use Rattle.fancy_lex.specs.LayoutSteps.{layout, after_comment_start, is_layout}
 use Rattle.fancy_lex.specs.Reading.{gives, layout_reading}
 use Rattle.fancy_lex.specs.Text.{Text, bytes}
 use Rattle.fancy_lex.specs.declared.flags.Flags.{Flags}
-use Rattle.fancy_parts.specs.FlagLetters.{Letters, setting, scope, flags_end, flags_go_on}
+use Rattle.fancy_parts.specs.FlagLetters.{Letters, inline_flags, flag_group, flags_end, flags_go_on}
 use Rattle.fancy_parts.specs.LetterSteps.{letters, letters_in, step}
 use Rattle.fancy_parts.proofs.FlagLemmas.{letters_start, in_end, in_go}
-use Rattle.fancy_grammar.specs.Ahead.{read, with_head, flags_ahead, behind_question}
-use Rattle.fancy_grammar.specs.Head as head
+use Rattle.fancy_grammar.specs.AtomStart.{read, of_kind, flags_start, after_question}
+use Rattle.fancy_grammar.specs.GroupKind as kind
 use Rattle.fancy_grammar.specs.PatternNeeds.{letter_on, letters_on, turns_on, letters_between}
 use Rattle.fancy_grammar.specs.State.{State, done}
 use Rattle.fancy_grammar.specs.Tree.{empty}
@@ -30,7 +30,7 @@ Spelled t c f u l w = (j : ℕ) → bytes u < j → letters_in t j c f u ≡ giv
 -- a character that is no layout, and opens no comment
 record IsLetter (c : ℕ) : Type 0 where
   no_layout : is_layout true c ≡ false
-  no_comment : (u : Text) → after_comment_head (c ∷ u) ≡ None
+  no_comment : (u : Text) → after_comment_start (c ∷ u) ≡ None
   byte : (u : Text) → bytes u < bytes (c ∷ u)
 
 same_layout : (x : Bool) (c : ℕ) → is_layout true c ≡ false → is_layout x c ≡ false
@@ -297,23 +297,23 @@ letters_are f t v u l e h =
     letters_start f t ∙ (ap (λ x. letters_in t (suc (bytes t)) false f x) e
     ∙ h (suc (bytes t)) (omega (arith, ap bytes e)))
 
-pub scope_letters : (f : Flags) (a b c d : Bool) (u : Text) →
-    letters f (text_of_letters f a b c d (code ":") u) ≡ gives (scope (changed f a b c d)) u
-scope_letters f a b c d u =
+pub flag_group_letters : (f : Flags) (a b c d : Bool) (u : Text) →
+    letters f (text_of_letters f a b c d (code ":") u) ≡ gives (flag_group (changed f a b c d)) u
+flag_group_letters f a b c d u =
     let g = changed f a b c d in
     let t = text_of_letters f a b c d (code ":") u in
     let same : t ≡ all_between f g (code ":" ∷ u) = between_text f g (code ":" ∷ u) in
     let far : (turns_on g f ≡ true) → bytes (code ":" ∷ u) + 1 < bytes t
     = λ e. let l = minus_far f a b c d (code ":" ∷ u) e in omega (arith, ap bytes same) in
-    letters_are f t _ u (scope g) same
-    (all_spelled t (scope g) u f a b c d (code ":" ∷ u)
-    (last_letter t (scope g) u (turns_on g f) g (code ":") u letter_colon
+    letters_are f t _ u (flag_group g) same
+    (all_spelled t (flag_group g) u f a b c d (code ":" ∷ u)
+    (last_letter t (flag_group g) u (turns_on g f) g (code ":") u letter_colon
     (cond-false _ _ _ (not_minus f a b c d u (turns_on g f) (bytes (code ":" ∷ u)) (bytes t) far))))
 
-pub setting_letters : (f : Flags) (a b c d : Bool) (u : Text) →
+pub inline_flags_letters : (f : Flags) (a b c d : Bool) (u : Text) →
     turns_on f (changed f a b c d) || turns_on (changed f a b c d) f ≡ true →
-    letters f (text_of_letters f a b c d (code ")") u) ≡ gives (setting (changed f a b c d)) u
-setting_letters f a b c d u some =
+    letters f (text_of_letters f a b c d (code ")") u) ≡ gives (inline_flags (changed f a b c d)) u
+inline_flags_letters f a b c d u some =
     let g = changed f a b c d in
     let t = text_of_letters f a b c d (code ")") u in
     let same : t ≡ all_between f g (code ")" ∷ u) = between_text f g (code ")" ∷ u) in
@@ -324,14 +324,14 @@ setting_letters f a b c d u some =
     let minus = not_minus f a b c d u (turns_on g f) (bytes (code ")" ∷ u)) (bytes t) far in
     let neither : (bytes (code ")" ∷ u) == bytes t || (turns_on g f && bytes (code ")" ∷ u) + 1 == bytes t)) ≡ false
     = rw (not_first, minus) refl in
-    letters_are f t _ u (setting g) same
-    (all_spelled t (setting g) u f a b c d (code ")" ∷ u)
-    (last_letter t (setting g) u (turns_on g f) g (code ")") u letter_close (cond-false _ _ _ neither)))
+    letters_are f t _ u (inline_flags g) same
+    (all_spelled t (inline_flags g) u f a b c d (code ")" ∷ u)
+    (last_letter t (inline_flags g) u (turns_on g f) g (code ")") u letter_close (cond-false _ _ _ neither)))
 
 -- ---- the letters do not begin as another group kind does
 
 abbrev BeginsFlags : Text → Type 0
-BeginsFlags t = (s : State) → behind_question s t ≡ flags_ahead (letters s.flags t)
+BeginsFlags t = (s : State) → after_question s t ≡ flags_start (letters s.flags t)
 
 begins_on : (a : ℕ) → ((u : Text) → BeginsFlags (a ∷ u)) → (was is : Bool) (u : Text) → BeginsFlags u →
     BeginsFlags (letter_on a was is ++ u)
@@ -357,22 +357,22 @@ begins_flags f a b c d z u h =
     (begins_four f.casei f.multi f.dotnl f.crlf a b c d _
     (begins_minus _ _ (begins_four a b c d f.casei f.multi f.dotnl f.crlf _ h)))
 
-pub setting_ahead : (s : State) (a b c d : Bool) (u : Text) →
+pub inline_flags_start : (s : State) (a b c d : Bool) (u : Text) →
     turns_on s.flags (changed s.flags a b c d) || turns_on (changed s.flags a b c d) s.flags ≡ true →
-    behind_question s (text_of_letters s.flags a b c d (code ")") u)
+    after_question s (text_of_letters s.flags a b c d (code ")") u)
     ≡ read (done empty (st (changed s.flags a b c d) u))
-setting_ahead s a b c d u e =
-    begins_flags s.flags a b c d (code ")") u (λ s. refl) s ∙ ap flags_ahead (setting_letters s.flags a b c d u e)
+inline_flags_start s a b c d u e =
+    begins_flags s.flags a b c d (code ")") u (λ s. refl) s ∙ ap flags_start (inline_flags_letters s.flags a b c d u e)
 
-pub scope_ahead : (s : State) (a b c d : Bool) (u : Text) →
-    behind_question s (text_of_letters s.flags a b c d (code ":") u)
-    ≡ with_head head.scope (st (changed s.flags a b c d) u)
-scope_ahead s a b c d u =
-    begins_flags s.flags a b c d (code ":") u (λ s. refl) s ∙ ap flags_ahead (scope_letters s.flags a b c d u)
+pub flag_group_start : (s : State) (a b c d : Bool) (u : Text) →
+    after_question s (text_of_letters s.flags a b c d (code ":") u)
+    ≡ of_kind kind.flag_group (st (changed s.flags a b c d) u)
+flag_group_start s a b c d u =
+    begins_flags s.flags a b c d (code ":") u (λ s. refl) s ∙ ap flags_start (flag_group_letters s.flags a b c d u)
 
 -- a text of letters opens no comment
 pub no_hash : (f : Flags) (a b c d : Bool) (z : ℕ) (u : Text) → (z == code "#") ≡ false →
-    after_comment_head (codes "(?" ++ text_of_letters f a b c d z u) ≡ None
+    after_comment_start (codes "(?" ++ text_of_letters f a b c d z u) ≡ None
 no_hash f a b c d z u e =
     let g = changed f a b c d in
     let last : NoHash (z ∷ u) = rw e refl in
@@ -381,7 +381,7 @@ no_hash f a b c d z u e =
     (hash_minus (turns_on g f) (all_on g f (z ∷ u)) (hash_four a b c d f.casei f.multi f.dotnl f.crlf (z ∷ u) last)))
   where
     NoHash : Text → Type 0
-    NoHash v = after_comment_head (codes "(?" ++ v) ≡ None
+    NoHash v = after_comment_start (codes "(?" ++ v) ≡ None
 
     hash_on : (a : ℕ) → (a == code "#") ≡ false → (was is : Bool) (u : Text) → NoHash u → NoHash (letter_on a was is ++ u)
     hash_on a h true true u k = k

@@ -10,10 +10,10 @@ use Rattle.std.specs.List.{AllByRecursion}
 use Rattle.std.specs.Ordering.{int_eq}
 use Prim.Native.Char.{code}
 use Rattle.fancy_lex.specs.Characters.{is_among, ◌∈◌}
-use Rattle.fancy_lex.specs.Delimited.{marked_name, name_before}
+use Rattle.fancy_lex.specs.Delimited.{delimited_name, name_before}
 use Rattle.fancy_lex.specs.Escape.{escape, escape_at, lone_escape, outside, call_escape}
 use Rattle.fancy_lex.specs.EscapeReference as escapes
-use Rattle.fancy_lex.specs.EscapeReference.{is_relative, subroutine_call, marked_call, written_call}
+use Rattle.fancy_lex.specs.EscapeReference.{is_relative, subroutine_call, delimited_call, written_call}
 use Rattle.fancy_lex.specs.EscapeReference.{call_target}
 use Rattle.fancy_lex.specs.Escaped as escaped
 use Rattle.fancy_lex.specs.Id.{is_id_char, id_run, id, nonempty_front}
@@ -28,7 +28,7 @@ use Rattle.fancy_lex.specs.Referred.{written_reference, reference_by_name}
 use Rattle.fancy_lex.specs.Target.{by_name, Target, relative, by_number}
 use Rattle.fancy_lex.specs.Text.{Text, reach_of, strip}
 use Rattle.fancy_lex.specs.declared.flags.Flags.{Flags}
-use Rattle.fancy_lex.proofs.AsciiLemmas.{other_told, alphanumeric_told}
+use Rattle.fancy_lex.proofs.AsciiLemmas.{other_id, alphanumeric_id}
 use Rattle.fancy_lex.proofs.IdLemmas.{id_cut}
 use Rattle.fancy_grammar.specs.PatternReference.{is_plain_name}
 use Rattle.fancy_grammar.specs.PatternReference.{signed}
@@ -44,7 +44,7 @@ use Rattle.std.specs.Str.Parse.{AllDigits, IsNumeral}
 
 -- an id that is no number text, as the name of a group in a reference
 pub record PlainName (w : Text) : Type 0 where
-  pub no_mark : is_among (code ">") w ≡ false
+  pub no_delimiter : is_among (code ">") w ≡ false
   pub some : (c : ℕ) × (u : Text) × (w ≡ c ∷ u)
   pub read : id_reference true w ≡ Some (id_alone w)
   pub target : target_of_name w ≡ by_name w
@@ -64,19 +64,19 @@ run_of_ids (c ∷ t) = at (is_id_char c) refl (id_run t) (run_of_ids t)
 
 no_id : (c : ℕ) → c ∈ ">+-" ≡ true → is_id_char c ≡ false
 no_id c h =
-    other_told c (grind (arith, nat_tests)) (grind (arith, nat_tests)) ∙ grind (arith, nat_tests)
+    other_id c (grind (arith, nat_tests)) (grind (arith, nat_tests)) ∙ grind (arith, nat_tests)
 
 -- so an id character differs from these
 id_apart : (c d : ℕ) → d ∈ ">+-" ≡ true → is_id_char c ≡ true → (c == d) ≡ false
 id_apart c d h i = ne_eqb c d (λ e. false≢true (sym (no_id d h) ∙ (ap is_id_char (sym e) ∙ i)))
 
-id_no_mark : (w : Text) → AllByRecursion (λ c. is_id_char c ≡ true) w → is_among (code ">") w ≡ false
-id_no_mark [] h = refl
-id_no_mark (c ∷ []) h = ne_eqb (code ">") c (λ e. false≢true (sym (no_id (code ">") refl) ∙ (ap is_id_char e ∙ h.0)))
-id_no_mark (c ∷ d ∷ w) h =
+id_no_delimiter : (w : Text) → AllByRecursion (λ c. is_id_char c ≡ true) w → is_among (code ">") w ≡ false
+id_no_delimiter [] h = refl
+id_no_delimiter (c ∷ []) h = ne_eqb (code ">") c (λ e. false≢true (sym (no_id (code ">") refl) ∙ (ap is_id_char e ∙ h.0)))
+id_no_delimiter (c ∷ d ∷ w) h =
     let first : (code ">" == c) ≡ false
     = ne_eqb (code ">") c (λ e. false≢true (sym (no_id (code ">") refl) ∙ (ap is_id_char e ∙ h.0))) in
-    rw first (id_no_mark (d ∷ w) h.1)
+    rw first (id_no_delimiter (d ∷ w) h.1)
 
 id_whole : (w : Text) → is_some (id_reference false w) ≡ true →
     ◌≡◌ {A = Option (Text × Text)} (id w) (Some (w, []))
@@ -129,7 +129,7 @@ plain_name w h =
     let e = id_whole w a in
     let ids = ids_of w e in
     record {
-      no_mark = id_no_mark w ids;
+      no_delimiter = id_no_delimiter w ids;
       some = some_of w e;
       read = alone_read w e;
       target = named_by w (none_of (number_text w) b);
@@ -139,22 +139,22 @@ plain_name w h =
 
 -- ---- what is read
 
-pub marked_read : (c : ℕ) (u v : Text) → is_among (code ">") (c ∷ u) ≡ false →
-    ◌≡◌ {A = Option (Text × Text)} (marked_name (code "<" ∷ ((c ∷ u) ++ code ">" ∷ v))) (Some (c ∷ u, v))
-unfolding marked_name name_before
-marked_read c u v h = rw (cut_before (code ">") (c ∷ u) v h) refl
+pub delimited_read : (c : ℕ) (u v : Text) → is_among (code ">") (c ∷ u) ≡ false →
+    ◌≡◌ {A = Option (Text × Text)} (delimited_name (code "<" ∷ ((c ∷ u) ++ code ">" ∷ v))) (Some (c ∷ u, v))
+unfolding delimited_name name_before
+delimited_read c u v h = rw (cut_before (code ">") (c ∷ u) v h) refl
 
 -- a name after its letter, between its delimiters
 pub call_read_by : (f : Flags) (w v : Text) (target : Target) →
-    ◌≡◌ {A = Option (Text × Text)} (marked_name (code "<" ∷ (w ++ code ">" ∷ v))) (Some (w, v)) →
+    ◌≡◌ {A = Option (Text × Text)} (delimited_name (code "<" ∷ (w ++ code ">" ∷ v))) (Some (w, v)) →
     ((p : ℕ) → written_call p w ≡ Some (call_to p target)) →
     escape f false (code "g" ∷ code "<" ∷ (w ++ code ">" ∷ v))
     ≡ gives (escaped.subroutine_call (call_to (reach_of (code "<" ∷ (w ++ code ">" ∷ v))) target)) v
-unfolding escape_at lone_escape outside call_escape subroutine_call marked_call
+unfolding escape_at lone_escape outside call_escape subroutine_call delimited_call
 call_read_by f w v target e h = rw (e, h (reach_of (code "<" ∷ (w ++ code ">" ∷ v)))) refl
 
 pub backref_read_by : (f : Flags) (w v : Text) (target : Target) (level : Option ℤ) →
-    ◌≡◌ {A = Option (Text × Text)} (marked_name (code "<" ∷ (w ++ code ">" ∷ v))) (Some (w, v)) →
+    ◌≡◌ {A = Option (Text × Text)} (delimited_name (code "<" ∷ (w ++ code ">" ∷ v))) (Some (w, v)) →
     ((p : ℕ) → written_reference p true w ≡ Some (reference_to p target level)) →
     escape f false (code "k" ∷ code "<" ∷ (w ++ code ">" ∷ v))
     ≡ gives (escaped.backref (reference_to (reach_of (code "<" ∷ (w ++ code ">" ∷ v))) target level) f.casei) v
@@ -162,14 +162,14 @@ unfolding escape_at lone_escape outside escapes.back_reference reference_by_name
 backref_read_by f w v target level e h = rw (e, h (reach_of (code "<" ∷ (w ++ code ">" ∷ v)))) refl
 
 module _ (w : Text) (h : PlainName w) (v : Text) where
-  abbrev in_marks : Text
-  in_marks = code "<" ∷ (w ++ code ">" ∷ v)
+  abbrev in_delimiters : Text
+  in_delimiters = code "<" ∷ (w ++ code ">" ∷ v)
 
-  pub name_read : ◌≡◌ {A = Option (Text × Text)} (marked_name in_marks) (Some (w, v))
+  pub name_read : ◌≡◌ {A = Option (Text × Text)} (delimited_name in_delimiters) (Some (w, v))
   name_read =
       let (c, u, e) = h.some in
-      subst (λ z. ◌≡◌ {A = Option (Text × Text)} (marked_name (code "<" ∷ (z ++ code ">" ∷ v))) (Some (z, v))) (sym e)
-      (marked_read c u v (sym (ap (is_among (code ">")) e) ∙ h.no_mark))
+      subst (λ z. ◌≡◌ {A = Option (Text × Text)} (delimited_name (code "<" ∷ (z ++ code ">" ∷ v))) (Some (z, v))) (sym e)
+      (delimited_read c u v (sym (ap (is_among (code ">")) e) ∙ h.no_delimiter))
 
   pub written_as : (p : ℕ) → written_reference p true w ≡ Some (reference_to p (by_name w) None)
   unfolding written_reference reference_of
@@ -197,15 +197,15 @@ no_sign [] h = absurd (omega (arith, h.0))
 no_sign (d ∷ ds) h = rw (digit_apart d (code "+") refl ((digit_is d h.1.0).0)) refl
 
 -- a character that is no digit is not among digits
-pub digits_without : (mark : ℕ) → is_ascii_digit mark ≡ false → (ds : Text) → AllDigits 10 ds → is_among mark ds ≡ false
-digits_without mark k [] h = refl
-digits_without mark k (c ∷ []) h = ne_eqb mark c (λ e. false≢true (sym k ∙ (ap is_ascii_digit e ∙ (digit_is c h.0).0)))
-digits_without mark k (c ∷ d ∷ ds) h =
-    rw (ne_eqb mark c (λ e. false≢true (sym k ∙ (ap is_ascii_digit e ∙ (digit_is c h.0).0))))
-    (digits_without mark k (d ∷ ds) h.1)
+pub digits_without : (delimiter : ℕ) → is_ascii_digit delimiter ≡ false → (ds : Text) → AllDigits 10 ds → is_among delimiter ds ≡ false
+digits_without delimiter k [] h = refl
+digits_without delimiter k (c ∷ []) h = ne_eqb delimiter c (λ e. false≢true (sym k ∙ (ap is_ascii_digit e ∙ (digit_is c h.0).0)))
+digits_without delimiter k (c ∷ d ∷ ds) h =
+    rw (ne_eqb delimiter c (λ e. false≢true (sym k ∙ (ap is_ascii_digit e ∙ (digit_is c h.0).0))))
+    (digits_without delimiter k (d ∷ ds) h.1)
 
-pub digits_unmarked : (ds : Text) → AllDigits 10 ds → is_among (code ">") ds ≡ false
-digits_unmarked ds h = digits_without (code ">") refl ds h
+pub digits_undelimited : (ds : Text) → AllDigits 10 ds → is_among (code ">") ds ≡ false
+digits_undelimited ds h = digits_without (code ">") refl ds h
 
 number_text_digits : (n : ℕ) → n < 2 ^ 64 → number_text (decimal n) ≡ Some n
 unfolding number_text
@@ -223,17 +223,17 @@ unfolding written_call call_target target_of_name
 number_called n l p =
     rw (no_relative_digits (decimal n) ((decimal_is_IsNumeral n l).0), number_text_digits n l) refl
 
-pub digits_marked : (n : ℕ) → n < 2 ^ 64 → (v : Text) →
-    ◌≡◌ {A = Option (Text × Text)} (marked_name (code "<" ∷ (decimal n ++ code ">" ∷ v))) (Some (decimal n, v))
-digits_marked n l v = at (decimal n) ((decimal_is_IsNumeral n l).0)
+pub digits_delimited : (n : ℕ) → n < 2 ^ 64 → (v : Text) →
+    ◌≡◌ {A = Option (Text × Text)} (delimited_name (code "<" ∷ (decimal n ++ code ">" ∷ v))) (Some (decimal n, v))
+digits_delimited n l v = at (decimal n) ((decimal_is_IsNumeral n l).0)
   where
     at : (ds : Text) → IsNumeral 10 ds →
-        ◌≡◌ {A = Option (Text × Text)} (marked_name (code "<" ∷ (ds ++ code ">" ∷ v))) (Some (ds, v))
+        ◌≡◌ {A = Option (Text × Text)} (delimited_name (code "<" ∷ (ds ++ code ">" ∷ v))) (Some (ds, v))
     at [] h = absurd (omega (arith, h.0))
-    at (d ∷ ds) h = marked_read d ds v (digits_unmarked (d ∷ ds) h.1)
+    at (d ∷ ds) h = delimited_read d ds v (digits_undelimited (d ∷ ds) h.1)
 
 digit_is_id : (c : ℕ) → is_ascii_digit c ≡ true → is_id_char c ≡ true
-digit_is_id c h = alphanumeric_told c (grind (arith, nat_tests))
+digit_is_id c h = alphanumeric_id c (grind (arith, nat_tests))
 
 digits_are_id : (ds : Text) → AllDigits 10 ds → ◌≡◌ {A = Text × Text} (id_run ds) (ds, [])
 unfolding id_run
@@ -276,21 +276,21 @@ pub record WrittenLevel (z : ℤ) : Type 0 where
   pub is : signed z ≡ sign ∷ digits
   pub is_sign : sign ∈ "+-" ≡ true
   pub value : amount (sign ∷ digits) ≡ Some z
-  pub no_mark : (mark : ℕ) → mark ∈ ">)" ≡ true → is_among mark (sign ∷ digits) ≡ false
+  pub no_delimiter : (delimiter : ℕ) → delimiter ∈ ">)" ≡ true → is_among delimiter (sign ∷ digits) ≡ false
 
-sign_marks : (mark sign : ℕ) (ds : Text) → sign ∈ "+-" ≡ true → mark ∈ ">)" ≡ true → AllDigits 10 ds →
-    is_among mark (sign ∷ ds) ≡ false
-sign_marks mark sign [] i m h = no_sign mark sign i m
+sign_no_delimiter : (delimiter sign : ℕ) (ds : Text) → sign ∈ "+-" ≡ true → delimiter ∈ ">)" ≡ true → AllDigits 10 ds →
+    is_among delimiter (sign ∷ ds) ≡ false
+sign_no_delimiter delimiter sign [] i m h = no_sign delimiter sign i m
   where
-    no_sign : (mark sign : ℕ) → sign ∈ "+-" ≡ true → mark ∈ ">)" ≡ true → (mark == sign) ≡ false
-    no_sign mark sign i m = grind (arith, nat_tests)
-sign_marks mark sign (d ∷ ds) i m h = rw (no_sign mark sign i m) (digits_without mark (no_digit mark m) (d ∷ ds) h)
+    no_sign : (delimiter sign : ℕ) → sign ∈ "+-" ≡ true → delimiter ∈ ">)" ≡ true → (delimiter == sign) ≡ false
+    no_sign delimiter sign i m = grind (arith, nat_tests)
+sign_no_delimiter delimiter sign (d ∷ ds) i m h = rw (no_sign delimiter sign i m) (digits_without delimiter (no_digit delimiter m) (d ∷ ds) h)
   where
-    no_sign : (mark sign : ℕ) → sign ∈ "+-" ≡ true → mark ∈ ">)" ≡ true → (mark == sign) ≡ false
-    no_sign mark sign i m = grind (arith, nat_tests)
+    no_sign : (delimiter sign : ℕ) → sign ∈ "+-" ≡ true → delimiter ∈ ">)" ≡ true → (delimiter == sign) ≡ false
+    no_sign delimiter sign i m = grind (arith, nat_tests)
 
-    no_digit : (mark : ℕ) → mark ∈ ">)" ≡ true → is_ascii_digit mark ≡ false
-    no_digit mark m = grind (arith, nat_tests)
+    no_digit : (delimiter : ℕ) → delimiter ∈ ">)" ≡ true → is_ascii_digit delimiter ≡ false
+    no_digit delimiter m = grind (arith, nat_tests)
 
 pub written_level : (z : ℤ) → IsLevelWritable z → WrittenLevel z
 written_level (pos n) small = record {
@@ -299,9 +299,9 @@ written_level (pos n) small = record {
   is = refl;
   is_sign = refl;
   value = amount_of (code "+") n refl small;
-  no_mark =
-      λ mark m.
-      sign_marks mark (code "+") (decimal n) refl m ((decimal_is_IsNumeral n (omega (arith, small))).0.1);
+  no_delimiter =
+      λ delimiter m.
+      sign_no_delimiter delimiter (code "+") (decimal n) refl m ((decimal_is_IsNumeral n (omega (arith, small))).0.1);
 }
 written_level (negsuc n) small =
     let same : suc n ≡ n + 1 = omega arith in
@@ -312,19 +312,19 @@ written_level (negsuc n) small =
       is_sign = refl;
       value = subst (λ k. amount (code "-" ∷ decimal k) ≡ Some (negsuc n)) same
           (amount_of (code "-") (suc n) refl (omega (arith, small)));
-      no_mark =
-          λ mark m.
-          sign_marks mark (code "-") (decimal (n + 1)) refl m
+      no_delimiter =
+          λ delimiter m.
+          sign_no_delimiter delimiter (code "-") (decimal (n + 1)) refl m
           ((decimal_is_IsNumeral (n + 1) (omega (arith, small))).0.1);
     }
 
-pub both_unmarked : (mark : ℕ) (w v : Text) → is_among mark w ≡ false → is_among mark v ≡ false →
-    is_among mark (w ++ v) ≡ false
-both_unmarked mark [] v h k = k
-both_unmarked mark (c ∷ []) [] h k = h
-both_unmarked mark (c ∷ []) (d ∷ v) h k = rw h k
-both_unmarked mark (c ∷ d ∷ w) v h k =
-    let (a, b) = or_parts (mark == c) (is_among mark (d ∷ w)) h in rw a (both_unmarked mark (d ∷ w) v b k)
+pub both_undelimited : (delimiter : ℕ) (w v : Text) → is_among delimiter w ≡ false → is_among delimiter v ≡ false →
+    is_among delimiter (w ++ v) ≡ false
+both_undelimited delimiter [] v h k = k
+both_undelimited delimiter (c ∷ []) [] h k = h
+both_undelimited delimiter (c ∷ []) (d ∷ v) h k = rw h k
+both_undelimited delimiter (c ∷ d ∷ w) v h k =
+    let (a, b) = or_parts (delimiter == c) (is_among delimiter (d ∷ w)) h in rw a (both_undelimited delimiter (d ∷ w) v b k)
 
 run_before : (w ds : Text) (sign : ℕ) → AllByRecursion (λ c. is_id_char c ≡ true) w → is_id_char sign ≡ false →
     ◌≡◌ {A = Text × Text} (id_run (w ++ sign ∷ ds)) (w, sign ∷ ds)
@@ -354,12 +354,12 @@ module _ (c : ℕ) (u : Text) (z : ℤ) (l : WrittenLevel z) (ids : AllByRecursi
   unfolding written_reference reference_of
   level_written target t p = ap (option_map (reference_of p)) level_read ∙ ap (λ t. Some (reference_to p t (Some z))) t
 
-  pub level_marked : is_among (code ">") (c ∷ u) ≡ false → (v : Text) → ◌≡◌ {A = Option (Text × Text)}
-      (marked_name (code "<" ∷ (((c ∷ u) ++ l.sign ∷ l.digits) ++ code ">" ∷ v)))
+  pub level_delimited : is_among (code ">") (c ∷ u) ≡ false → (v : Text) → ◌≡◌ {A = Option (Text × Text)}
+      (delimited_name (code "<" ∷ (((c ∷ u) ++ l.sign ∷ l.digits) ++ code ">" ∷ v)))
       (Some ((c ∷ u) ++ l.sign ∷ l.digits, v))
-  level_marked h v =
-      marked_read c (u ++ l.sign ∷ l.digits) v
-      (both_unmarked (code ">") (c ∷ u) (l.sign ∷ l.digits) h (l.no_mark (code ">") refl))
+  level_delimited h v =
+      delimited_read c (u ++ l.sign ∷ l.digits) v
+      (both_undelimited (code ">") (c ∷ u) (l.sign ∷ l.digits) h (l.no_delimiter (code ">") refl))
 
 pub not_zero : (k : ℕ) → int_eq (pos (suc k)) (pos 0) ≡ false
 not_zero k = at (int_eq (pos (suc k)) (pos 0)) refl
@@ -406,15 +406,15 @@ module _ (sign k : ℕ) (z : ℤ) (is_sign : sign ∈ "+-" ≡ true) (small : su
   unfolding written_call call_target
   distance_called p = rw (is_relative_name, amount_alone_read) refl
 
-  pub distance_marked : (v : Text) → ◌≡◌ {A = Option (Text × Text)}
-      (marked_name (code "<" ∷ ((sign ∷ decimal (suc k)) ++ code ">" ∷ v))) (Some (sign ∷ decimal (suc k), v))
-  distance_marked v =
-      marked_read sign (decimal (suc k)) v
-      (unmarked (decimal (suc k)) (digits_unmarked (decimal (suc k)) ((decimal_is_IsNumeral (suc k) fits_word).0.1)))
+  pub distance_delimited : (v : Text) → ◌≡◌ {A = Option (Text × Text)}
+      (delimited_name (code "<" ∷ ((sign ∷ decimal (suc k)) ++ code ">" ∷ v))) (Some (sign ∷ decimal (suc k), v))
+  distance_delimited v =
+      delimited_read sign (decimal (suc k)) v
+      (undelimited (decimal (suc k)) (digits_undelimited (decimal (suc k)) ((decimal_is_IsNumeral (suc k) fits_word).0.1)))
     where
-      sign_unmarked : sign ∈ "+-" ≡ true → (code ">" == sign) ≡ false
-      sign_unmarked h = grind (arith, nat_tests)
+      sign_undelimited : sign ∈ "+-" ≡ true → (code ">" == sign) ≡ false
+      sign_undelimited h = grind (arith, nat_tests)
 
-      unmarked : (ds : Text) → is_among (code ">") ds ≡ false → is_among (code ">") (sign ∷ ds) ≡ false
-      unmarked [] h = sign_unmarked is_sign
-      unmarked (d ∷ ds) h = rw (sign_unmarked is_sign) h
+      undelimited : (ds : Text) → is_among (code ">") ds ≡ false → is_among (code ">") (sign ∷ ds) ≡ false
+      undelimited [] h = sign_undelimited is_sign
+      undelimited (d ∷ ds) h = rw (sign_undelimited is_sign) h

@@ -9,10 +9,10 @@ use Rattle.fancy_lex.specs.declared.escape.Assertion.TheVariants.{StartLineOnigu
 use Rattle.fancy_lex.specs.declared.flags.Flags.{Flags}
 use Rattle.fancy_grammar.specs.Label.{concat, alt, literal, any, assertion, empty, keep_out, verb, look_around}
 use Rattle.fancy_grammar.specs.Label.{continue_from_previous_match_end}
-use Rattle.fancy_grammar.specs.Pattern.{takes_pieces, takes_branches, flags_behind, flags_behind_all}
+use Rattle.fancy_grammar.specs.Pattern.{takes_pieces, takes_branches, flags_after, flags_after_all}
 use Rattle.fancy_grammar.specs.PatternNeeds.{is_kept_by_backslash, first, needs, fixed_or, with_needs, settled}
 use Rattle.fancy_grammar.specs.PatternNeeds.{turns_on}
-use Rattle.fancy_grammar.specs.PatternNeeds.{setting, letters_between}
+use Rattle.fancy_grammar.specs.PatternNeeds.{inline_flags, letters_between}
 use Rattle.fancy_grammar.specs.Quantified.{is_repeatable}
 use Rattle.fancy_grammar.specs.Tree.{Tree, leaf, over, row, Trees, no_trees, more_trees}
 use Rattle.fancy_grammar.specs.Writable.{IsLike}
@@ -49,8 +49,8 @@ off_and_on false = refl
 pub turns_none : (f : Flags) → turns_on f f ≡ false
 turns_none f = rw (off_and_on f.casei, off_and_on f.multi, off_and_on f.dotnl, off_and_on f.crlf) refl
 
-pub no_setting : (f : Flags) → setting f f ≡ []
-no_setting f =
+pub no_inline_flags : (f : Flags) → inline_flags f f ≡ []
+no_inline_flags f =
     let none : (turns_on f f || turns_on f f) ≡ false = ap (λ b. b || b) (turns_none f) in cond-false _ _ _ none
 
 pub no_letters : (f : Flags) → letters_between f f ≡ []
@@ -64,18 +64,18 @@ either_like true f g h e k = e
 either_like false f g h e k = k
 
 mutual
-  pub like_behind : (t : Tree) (p : Precedence) (f g : Flags) → IsLike f g → IsLike f (flags_behind t p g)
-  like_behind (leaf l) p f g e = e
-  like_behind (over w t) p f g e = e
-  like_behind (row concat ts) p f g e =
-      either_like (takes_pieces p) f (flags_behind_all ts Piece g) g (like_behind_all ts Piece f g e) e
-  like_behind (row alt ts) p f g e =
-      either_like (takes_branches p) f (flags_behind_all ts Branch g) g (like_behind_all ts Branch f g e) e
-  like_behind (row r ts) p f g e = e
+  pub like_after : (t : Tree) (p : Precedence) (f g : Flags) → IsLike f g → IsLike f (flags_after t p g)
+  like_after (leaf l) p f g e = e
+  like_after (over w t) p f g e = e
+  like_after (row concat ts) p f g e =
+      either_like (takes_pieces p) f (flags_after_all ts Piece g) g (like_after_all ts Piece f g e) e
+  like_after (row alt ts) p f g e =
+      either_like (takes_branches p) f (flags_after_all ts Branch g) g (like_after_all ts Branch f g e) e
+  like_after (row r ts) p f g e = e
 
-  pub like_behind_all : (ts : Trees) (p : Precedence) (f g : Flags) → IsLike f g → IsLike f (flags_behind_all ts p g)
-  like_behind_all no_trees p f g e = e
-  like_behind_all (more_trees t ts) p f g e = like_behind_all ts p f (flags_behind t p g) (like_behind t p f g e)
+  pub like_after_all : (ts : Trees) (p : Precedence) (f g : Flags) → IsLike f g → IsLike f (flags_after_all ts p g)
+  like_after_all no_trees p f g e = e
+  like_after_all (more_trees t ts) p f g e = like_after_all ts p f (flags_after t p g) (like_after t p f g e)
 
 -- only the mode decides what may be repeated
 pub like_repeatable : (t : Tree) (f g : Flags) → f.oniguruma_mode ≡ g.oniguruma_mode →

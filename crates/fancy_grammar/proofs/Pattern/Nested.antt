@@ -4,9 +4,9 @@ use Rattle.std.proofs.Common.{Some, None, refl, sym, ◌∙◌, arith, ◌⊎◌
 use Rattle.std.proofs.lemmas.Bool.{cond_both, false≢true, ltb-false}
 use Rattle.std.specs.List.{AllByRecursion}
 use Rattle.fancy_lex.specs.Flags.{no_flag}
-use Rattle.fancy_lex.specs.Text.{Text, place_at}
+use Rattle.fancy_lex.specs.Text.{Text, position_at}
 use Rattle.fancy_lex.specs.declared.flags.Flags.{Flags}
-use Rattle.fancy_parts.specs.Meaning.{Meaning, number, means}
+use Rattle.fancy_parts.specs.Meaning.{Meaning, number, refers_to}
 use Rattle.fancy_parts.specs.Ranks.{numbered_openings_in}
 use Rattle.fancy_grammar.specs.Depth.{max_depth}
 use Rattle.fancy_grammar.specs.Items.{openings, role_of, target_of}
@@ -22,7 +22,7 @@ use Rattle.fancy_grammar.specs.Tree.{Tree, leaf, over, row, Trees, no_trees, mor
 use Rattle.fancy_grammar.specs.declared.precedence.Precedence.{Precedence}
 use Rattle.fancy_grammar.specs.declared.precedence.Precedence.TheVariants.{Whole, Branch, Piece, Operand}
 use Rattle.fancy_grammar.proofs.OutcomeLemmas.{each_solid}
-use Rattle.fancy_grammar.proofs.Pattern.Ahead.{IsLast, IsPlain, LeafRead}
+use Rattle.fancy_grammar.proofs.Pattern.AtomStart.{IsLast, IsPlain, LeafRead}
 use Rattle.fancy_grammar.proofs.Pattern.Fitting.{Fit, EachFit, FitAlone, all_fit, leaf_fit, IsUnquantified, alone_fit}
 use Rattle.fancy_grammar.proofs.Pattern.Fitting.{IsLow}
 use Rattle.fancy_grammar.proofs.Pattern.Needed.{like_repeatable}
@@ -40,26 +40,26 @@ repeats in_mode r f o e g m = like_repeatable r g f (m ∙ sym o) ∙ e
 
 -- the precedences at which a tree may be written if it is read as an alternation (0), a branch (1), a piece (2) or an
 -- atom (3)
-abbrev pub StandsAs : Bool → ℕ → Tree → Precedence → Type 0
-StandsAs in_mode k r Whole = Unit {0}
-StandsAs in_mode k r Branch = 1 ≤ k
-StandsAs in_mode k r Piece = (2 ≤ k) × (is_empty r ≡ false)
-StandsAs in_mode k r (Operand n) = (3 ≤ k) × Repeats in_mode r
+abbrev pub AllowedAt : Bool → ℕ → Tree → Precedence → Type 0
+AllowedAt in_mode k r Whole = Unit {0}
+AllowedAt in_mode k r Branch = 1 ≤ k
+AllowedAt in_mode k r Piece = (2 ≤ k) × (is_empty r ≡ false)
+AllowedAt in_mode k r (Operand n) = (3 ≤ k) × Repeats in_mode r
 
-stands_more : (in_mode : Bool) (j k : ℕ) (r : Tree) (p : Precedence) → j ≤ k → StandsAs in_mode j r p →
-    StandsAs in_mode k r p
-stands_more in_mode j k r Whole l u = tt
-stands_more in_mode j k r Branch l u = omega (arith, l, u)
-stands_more in_mode j k r Piece l u = (omega (arith, l, u.0), u.1)
-stands_more in_mode j k r (Operand n) l u = (omega (arith, l, u.0), u.1)
+allowed_more : (in_mode : Bool) (j k : ℕ) (r : Tree) (p : Precedence) → j ≤ k → AllowedAt in_mode j r p →
+    AllowedAt in_mode k r p
+allowed_more in_mode j k r Whole l u = tt
+allowed_more in_mode j k r Branch l u = omega (arith, l, u)
+allowed_more in_mode j k r Piece l u = (omega (arith, l, u.0), u.1)
+allowed_more in_mode j k r (Operand n) l u = (omega (arith, l, u.0), u.1)
 
-pub low : (in_mode : Bool) (k : ℕ) (r : Tree) (p : Precedence) → k ≤ 2 → StandsAs in_mode k r p → IsLow p
+pub low : (in_mode : Bool) (k : ℕ) (r : Tree) (p : Precedence) → k ≤ 2 → AllowedAt in_mode k r p → IsLow p
 low in_mode k r Whole l u = tt
 low in_mode k r Branch l u = tt
 low in_mode k r Piece l u = tt
 low in_mode k r (Operand n) l u = absurd (omega (arith, l, u.0))
 
-operand_repeats : (in_mode : Bool) (k : ℕ) (r : Tree) (p : Precedence) → StandsAs in_mode k r p →
+operand_repeats : (in_mode : Bool) (k : ℕ) (r : Tree) (p : Precedence) → AllowedAt in_mode k r p →
     is_operand p ≡ true → Repeats in_mode r
 operand_repeats in_mode k r Whole u e = absurd (false≢true e)
 operand_repeats in_mode k r Branch u e = absurd (false≢true e)
@@ -68,7 +68,7 @@ operand_repeats in_mode k r (Operand n) u e = u.1
 
 -- what cannot be repeated is never an operand there
 pub never_operand : (in_mode : Bool) (k : ℕ) (r : Tree) (p : Precedence) (f : Flags) → f.oniguruma_mode ≡ in_mode →
-    is_repeatable f r ≡ false → StandsAs in_mode k r p → IsLow p
+    is_repeatable f r ≡ false → AllowedAt in_mode k r p → IsLow p
 never_operand in_mode k r Whole f o e u = tt
 never_operand in_mode k r Branch f o e u = tt
 never_operand in_mode k r Piece f o e u = tt
@@ -79,7 +79,7 @@ never_operand in_mode k r (Operand n) f o e u = absurd (false≢true (sym e ∙ 
 -- with at most d groups open, the resolved tree fits wherever it may be written; with fewer open, it fits in place of a
 -- group; and it resolves to an Empty only where a group may open
 pub record Fitted (in_mode : Bool) (R : ℕ → Tree → Tree) (k d : ℕ) (r : Tree) : Type 0 where
-  pub fits : (c : ℕ) (p : Precedence) → StandsAs in_mode k r p → Fit in_mode d p (R c r)
+  pub fits : (c : ℕ) (p : Precedence) → AllowedAt in_mode k r p → Fit in_mode d p (R c r)
   pub alone : (c : ℕ) (p : Precedence) → FitAlone in_mode d p (R c r)
   pub hollow : (c : ℕ) → is_empty (R c r) ≡ true → is_empty r ≡ false → d + 1 < max_depth
 
@@ -116,7 +116,7 @@ pub record Grouped (in_mode : Bool) (R : ℕ → Tree → Tree) (d : ℕ) (r : T
 pub fewer : (in_mode : Bool) (R : ℕ → Tree → Tree) (j k d : ℕ) (r : Tree) → j ≤ k → Fitted in_mode R k d r →
     Fitted in_mode R j d r
 fewer in_mode R j k d r l h = record {
-  fits = λ c p u. h.fits c p (stands_more in_mode j k r p l u);
+  fits = λ c p u. h.fits c p (allowed_more in_mode j k r p l u);
   alone = h.alone;
   hollow = h.hollow;
 }
@@ -146,86 +146,86 @@ module _ (in_mode : Bool) (z : ℕ) (named : Bool) (numbers_of : Text → List �
       by_either (inl b) = b
       by_either (inr x) = absurd (false≢true (sym (h x) ∙ e))
 
-  reference_fit : (f : Flags) (d : ℕ) (p : Precedence) (m : Meaning) (a : AstReference) (place : ℕ) →
-      (IsLast d → IsPlain f (label.ast_node a place)) → Fit in_mode d p (reference_node z m a place)
-  reference_fit f d p (number n) (ast_backref t casei None) place h =
+  reference_fit : (f : Flags) (d : ℕ) (p : Precedence) (m : Meaning) (a : AstReference) (position : ℕ) →
+      (IsLast d → IsPlain f (label.ast_node a position)) → Fit in_mode d p (reference_node z m a position)
+  reference_fit f d p (number n) (ast_backref t casei None) position h =
       leaf_fit in_mode (label.backref n casei) d p refl (λ _ f o. refl) (λ e. absurd (false≢true e))
-  reference_fit f d p (number n) (ast_backref t casei (Some level)) place h =
+  reference_fit f d p (number n) (ast_backref t casei (Some level)) position h =
       leaf_fit in_mode (label.backref_at_level n level casei) d p refl (λ _ f o. refl) (λ e. absurd (false≢true e))
-  reference_fit f d p (number n) (ast_call t) place h =
+  reference_fit f d p (number n) (ast_call t) position h =
       leaf_fit in_mode (label.subroutine_call n) d p refl (λ _ f o. refl) (λ e. absurd (false≢true e))
-  reference_fit f d p (number n) (ast_condition t level) place h =
+  reference_fit f d p (number n) (ast_condition t level) position h =
       leaf_fit in_mode (label.backref_exists n level) d p refl (λ _ f o. refl)
       (bare_here d (label.backref_exists n level) (λ x. absurd (h x)))
-  reference_fit f d p m (ast_backref t casei level) place h =
-      leaf_fit in_mode (label.ast_node (ast_backref t casei level) (place_at z place)) d p refl (λ _ f o. refl)
+  reference_fit f d p m (ast_backref t casei level) position h =
+      leaf_fit in_mode (label.ast_node (ast_backref t casei level) (position_at z position)) d p refl (λ _ f o. refl)
       (λ e. absurd (false≢true e))
-  reference_fit f d p m (ast_call t) place h =
-      leaf_fit in_mode (label.ast_node (ast_call t) (place_at z place)) d p refl (λ _ f o. refl)
-      (bare_here d (label.ast_node (ast_call t) (place_at z place)) h)
-  reference_fit f d p m (ast_condition t level) place h =
-      leaf_fit in_mode (label.ast_node (ast_condition t level) (place_at z place)) d p refl (λ _ f o. refl)
+  reference_fit f d p m (ast_call t) position h =
+      leaf_fit in_mode (label.ast_node (ast_call t) (position_at z position)) d p refl (λ _ f o. refl)
+      (bare_here d (label.ast_node (ast_call t) (position_at z position)) h)
+  reference_fit f d p m (ast_condition t level) position h =
+      leaf_fit in_mode (label.ast_node (ast_condition t level) (position_at z position)) d p refl (λ _ f o. refl)
       (λ e. absurd (false≢true e))
 
-  reference_solid : (m : Meaning) (a : AstReference) (place : ℕ) → is_empty (reference_node z m a place) ≡ false
-  reference_solid (number n) (ast_backref t casei None) place = refl
-  reference_solid (number n) (ast_backref t casei (Some level)) place = refl
-  reference_solid (number n) (ast_call t) place = refl
-  reference_solid (number n) (ast_condition t level) place = refl
-  reference_solid m a place = refl
+  reference_solid : (m : Meaning) (a : AstReference) (position : ℕ) → is_empty (reference_node z m a position) ≡ false
+  reference_solid (number n) (ast_backref t casei None) position = refl
+  reference_solid (number n) (ast_backref t casei (Some level)) position = refl
+  reference_solid (number n) (ast_call t) position = refl
+  reference_solid (number n) (ast_condition t level) position = refl
+  reference_solid m a position = refl
 
-  reference_suits : (f : Flags) (m : Meaning) (a : AstReference) (place : ℕ) → IsPlain f (label.ast_node a place) →
-      Suits f (reference_node z m a place)
-  reference_suits f (number n) (ast_backref t casei None) place h =
+  reference_suits : (f : Flags) (m : Meaning) (a : AstReference) (position : ℕ) → IsPlain f (label.ast_node a position) →
+      Suits f (reference_node z m a position)
+  reference_suits f (number n) (ast_backref t casei None) position h =
       record { casei = h; multi = tt; dotnl = tt; crlf = tt }
-  reference_suits f (number n) (ast_backref t casei (Some level)) place h =
+  reference_suits f (number n) (ast_backref t casei (Some level)) position h =
       record { casei = h; multi = tt; dotnl = tt; crlf = tt }
-  reference_suits f (number n) (ast_call t) place h = none_met f
-  reference_suits f (number n) (ast_condition t level) place h = none_met f
-  reference_suits f m a place h = none_met f
+  reference_suits f (number n) (ast_call t) position h = none_met f
+  reference_suits f (number n) (ast_condition t level) position h = none_met f
+  reference_suits f m a position h = none_met f
 
-  empty_fit : (k d : ℕ) (p : Precedence) → StandsAs in_mode k (leaf label.empty) p →
+  empty_fit : (k d : ℕ) (p : Precedence) → AllowedAt in_mode k (leaf label.empty) p →
       Fit in_mode d p (leaf label.empty)
   empty_fit k d Whole u h o l r = λ e. absurd (false≢true e)
   empty_fit k d Branch u h o l r = λ e. absurd (false≢true e)
   empty_fit k d Piece u h o l r = absurd (false≢true (sym u.1))
   empty_fit k d (Operand n) u h o l r = absurd (false≢true (u.1 h.flags o))
 
-  leaf_stands : (f : Flags) (d : ℕ) (l : Leaf) → (IsLast d → IsPlain f l) → (c : ℕ) (p : Precedence) →
-      StandsAs in_mode 3 (leaf l) p → Fit in_mode d p (R c (leaf l))
-  leaf_stands f d label.empty h c p u = empty_fit 3 d p u
-  leaf_stands f d (label.ast_node a place) h c p u =
-      reference_fit f d p (means numbers_of c (role_of a) (target_of a)) a place h
-  leaf_stands f d l h c p u =
+  leaf_allowed : (f : Flags) (d : ℕ) (l : Leaf) → (IsLast d → IsPlain f l) → (c : ℕ) (p : Precedence) →
+      AllowedAt in_mode 3 (leaf l) p → Fit in_mode d p (R c (leaf l))
+  leaf_allowed f d label.empty h c p u = empty_fit 3 d p u
+  leaf_allowed f d (label.ast_node a position) h c p u =
+      reference_fit f d p (refers_to numbers_of c (role_of a) (target_of a)) a position h
+  leaf_allowed f d l h c p u =
       leaf_fit in_mode l d p refl (operand_repeats in_mode 3 (leaf l) p u) (bare_here d l (λ x. (h x).0))
 
   leaf_hollow : (d : ℕ) (l : Leaf) (c : ℕ) → is_empty (R c (leaf l)) ≡ true → is_empty (leaf l) ≡ false →
       d + 1 < max_depth
-  leaf_hollow d (label.ast_node a place) c e n =
-      absurd (false≢true (sym (reference_solid (means numbers_of c (role_of a) (target_of a)) a place) ∙ e))
+  leaf_hollow d (label.ast_node a position) c e n =
+      absurd (false≢true (sym (reference_solid (refers_to numbers_of c (role_of a) (target_of a)) a position) ∙ e))
   leaf_hollow d l c e n = absurd (false≢true (sym n ∙ e))
 
-  reference_bare : (m : Meaning) (a : AstReference) (place : ℕ) → IsUnquantified (reference_node z m a place)
-  reference_bare (number n) (ast_backref t casei None) place = tt
-  reference_bare (number n) (ast_backref t casei (Some level)) place = tt
-  reference_bare (number n) (ast_call t) place = tt
-  reference_bare (number n) (ast_condition t level) place = tt
-  reference_bare m a place = tt
+  reference_bare : (m : Meaning) (a : AstReference) (position : ℕ) → IsUnquantified (reference_node z m a position)
+  reference_bare (number n) (ast_backref t casei None) position = tt
+  reference_bare (number n) (ast_backref t casei (Some level)) position = tt
+  reference_bare (number n) (ast_call t) position = tt
+  reference_bare (number n) (ast_condition t level) position = tt
+  reference_bare m a position = tt
 
   leaf_bare : (c : ℕ) (l : Leaf) → IsUnquantified (R c (leaf l))
-  leaf_bare c (label.ast_node a place) = reference_bare (means numbers_of c (role_of a) (target_of a)) a place
+  leaf_bare c (label.ast_node a position) = reference_bare (refers_to numbers_of c (role_of a) (target_of a)) a position
   leaf_bare c l = tt
 
   leaf_fitted : (f : Flags) (d : ℕ) (l : Leaf) → (IsLast d → IsPlain f l) → Fitted in_mode R 3 d (leaf l)
   leaf_fitted f d l h = record {
-    fits = leaf_stands f d l h;
-    alone = λ c p. alone_fit in_mode d p (R c (leaf l)) (leaf_bare c l) (leaf_stands f d l h c Whole tt);
+    fits = leaf_allowed f d l h;
+    alone = λ c p. alone_fit in_mode d p (R c (leaf l)) (leaf_bare c l) (leaf_allowed f d l h c Whole tt);
     hollow = leaf_hollow d l;
   }
 
   leaf_suits : (f : Flags) (l : Leaf) → IsPlain f l → (c : ℕ) → Suits f (R c (leaf l))
-  leaf_suits f (label.ast_node a place) h c =
-      reference_suits f (means numbers_of c (role_of a) (target_of a)) a place h
+  leaf_suits f (label.ast_node a position) h c =
+      reference_suits f (refers_to numbers_of c (role_of a) (target_of a)) a position h
   leaf_suits f l h c = h.1
 
   pub leaf_part : (d : ℕ) (s : State) (r : Tree) (t : State) → LeafRead in_mode d s r t → Part in_mode R 3 d s r t
@@ -284,7 +284,7 @@ module _ (in_mode : Bool) (z : ℕ) (named : Bool) (numbers_of : Text → List �
   concat_fitted d (t ∷ []) h = (fewer in_mode R 1 2 d t (omega arith) ((h.0).0).0, ((h.0).0).1)
   concat_fitted d (t ∷ u ∷ ts) h = (both, both)
     where
-      inside : (c : ℕ) (p : Precedence) → StandsAs in_mode 1 (one_or concat (t ∷ u ∷ ts)) p →
+      inside : (c : ℕ) (p : Precedence) → AllowedAt in_mode 1 (one_or concat (t ∷ u ∷ ts)) p →
           Fit in_mode d p (R c (one_or concat (t ∷ u ∷ ts)))
       inside c Whole k =
           λ i o l r. all_fit in_mode d Piece (resolved_all z named numbers_of c (trees_of (t ∷ u ∷ ts))) i
@@ -320,7 +320,7 @@ module _ (in_mode : Bool) (z : ℕ) (named : Bool) (numbers_of : Text → List �
     hollow = λ c e n. absurd (false≢true e);
   }
     where
-      inside : (c : ℕ) (p : Precedence) → StandsAs in_mode 0 (choice (t ∷ u ∷ ts)) p →
+      inside : (c : ℕ) (p : Precedence) → AllowedAt in_mode 0 (choice (t ∷ u ∷ ts)) p →
           Fit in_mode d p (R c (choice (t ∷ u ∷ ts)))
       inside c Whole k =
           λ i o l r. all_fit in_mode d Branch (resolved_all z named numbers_of c (trees_of (t ∷ u ∷ ts))) i

@@ -5,13 +5,13 @@ use Rattle.std.proofs.lemmas.Bool.{cond_both, false≢true, and_parts}
 use Rattle.std.specs.List.{AllByRecursion}
 use Rattle.std.specs.Prelude.{ℤ}
 use Rattle.fancy_lex.specs.Target.{Target}
-use Rattle.fancy_lex.specs.Text.{Text, place_at}
+use Rattle.fancy_lex.specs.Text.{Text, position_at}
 use Rattle.fancy_lex.specs.declared.flags.Flags.{Flags}
-use Rattle.fancy_parts.specs.Meaning.{Meaning, number, means}
+use Rattle.fancy_parts.specs.Meaning.{Meaning, number, refers_to}
 use Rattle.fancy_parts.specs.Ranks.{is_counted}
 use Rattle.fancy_grammar.specs.Depth.{max_depth}
 use Rattle.fancy_grammar.specs.Grammar.{branches_of, conditional_of, clear_or_stopper}
-use Rattle.fancy_grammar.specs.Head.{Head, capture, scope, look, atomic, define, repeater, group_node}
+use Rattle.fancy_grammar.specs.GroupKind.{GroupKind, capture, flag_group, look, atomic, define, repeater, group_node}
 use Rattle.fancy_grammar.specs.Items.{role_of, target_of}
 use Rattle.fancy_grammar.specs.Join.{is_empty, choice}
 use Rattle.fancy_grammar.specs.Label as label
@@ -24,7 +24,7 @@ use Rattle.fancy_grammar.specs.declared.kinds.LookAround.{LookAround}
 use Rattle.fancy_grammar.specs.declared.precedence.Precedence.{Precedence}
 use Rattle.fancy_grammar.specs.declared.precedence.Precedence.TheVariants.{Whole, Branch}
 use Rattle.fancy_grammar.proofs.NeedsLemmas.{listed}
-use Rattle.fancy_grammar.proofs.Pattern.Ahead.{IsLast, IsTarget}
+use Rattle.fancy_grammar.proofs.Pattern.AtomStart.{IsLast, IsTarget}
 use Rattle.fancy_grammar.proofs.Pattern.Fitting.{Fit, IsLow, fit_alone, alone_fit, SuitsLast, enclosed_fit}
 use Rattle.fancy_grammar.proofs.Pattern.Fitting.{group_fit, look_fit, atomic_fit}
 use Rattle.fancy_grammar.proofs.Pattern.Fitting.{define_fit, repeater_fit, stopper_fit, expression_fit, FitsOrTarget}
@@ -102,21 +102,21 @@ module _ (in_mode : Bool) (z : ℕ) (named : Bool) (numbers_of : Text → List �
         } in
         record { opens = b; fitted = all; branches = fewer in_mode R 1 3 d x (omega arith) all }
 
-    pub group_grouped : (g : Head) (place : ℕ) → Grouped in_mode R d (group_node g place r)
-    group_grouped (capture name) place =
-        grouped_as d b (over (label.ast_group name place) r)
+    pub group_grouped : (g : GroupKind) (position : ℕ) → Grouped in_mode R d (group_node g position r)
+    group_grouped (capture name) position =
+        grouped_as d b (over (label.ast_group name position) r)
         (λ c p. cond_both (is_counted named name) _ _ (Fit in_mode d p)
         (λ _. group_fit in_mode d b f o (R (c + 1) r) (inside (c + 1)) (suits_last (c + 1)) p)
         (λ _. alone c p)) (λ k. k)
-    group_grouped scope place = grouped_as d b r alone (λ _. less_branches d r b h.branches)
-    group_grouped (look a) place = look_grouped a
-    group_grouped atomic place =
+    group_grouped flag_group position = grouped_as d b r alone (λ _. less_branches d r b h.branches)
+    group_grouped (look a) position = look_grouped a
+    group_grouped atomic position =
         grouped_as d b (over label.atomic_group r)
         (λ c p. atomic_fit in_mode d b f o (R c r) (inside c) (suits_last c) p (h.fitted.alone c p)) (λ k. k)
-    group_grouped define place =
+    group_grouped define position =
         grouped_as d b (over label.define_group r)
         (λ c p. define_fit in_mode d b f o (R c r) (inside c) (suits_last c) p) (λ k. k)
-    group_grouped repeater place =
+    group_grouped repeater position =
         grouped_as d b (over label.repeater r)
         (λ c p. repeater_fit in_mode d b f o (R c r) (inside c) (suits_last c) p) (λ k. k)
 
@@ -209,28 +209,28 @@ module _ (in_mode : Bool) (z : ℕ) (named : Bool) (numbers_of : Text → List �
     target_grouped (over w c) h = absurd h
     target_grouped (row w cs) h = absurd h
 
-    told_target : (m : Meaning) (t : Target) (level : Option ℤ) (place : ℕ) →
-        FitsOrTarget in_mode d b f o (reference_node z m (ast_condition t level) place)
-    told_target (number k) t level place = tt
-    told_target m t level place =
-        leaf_fit in_mode (label.ast_node (ast_condition t level) (place_at z place)) (d + 1) Whole refl (λ _ g o. refl)
+    reference_fitted : (m : Meaning) (t : Target) (level : Option ℤ) (position : ℕ) →
+        FitsOrTarget in_mode d b f o (reference_node z m (ast_condition t level) position)
+    reference_fitted (number k) t level position = tt
+    reference_fitted m t level position =
+        leaf_fit in_mode (label.ast_node (ast_condition t level) (position_at z position)) (d + 1) Whole refl (λ _ g o. refl)
         (λ e. absurd (false≢true e))
 
-    target_needs : (m : Meaning) (t : Target) (level : Option ℤ) (place : ℕ) →
-        Suits f (reference_node z m (ast_condition t level) place)
-    target_needs (number k) t level place = none_met f
-    target_needs m t level place = none_met f
+    target_needs : (m : Meaning) (t : Target) (level : Option ℤ) (position : ℕ) →
+        Suits f (reference_node z m (ast_condition t level) position)
+    target_needs (number k) t level position = none_met f
+    target_needs m t level position = none_met f
 
     pub target_fitted : (c : Tree) → IsTarget c → (n : ℕ) → FitsOrTarget in_mode d b f o (R n c)
     target_fitted (leaf (label.verb v)) h n = tt
-    target_fitted (leaf (label.ast_node (ast_condition t level) place)) h n =
-        told_target (means numbers_of n (role_of (ast_condition t level)) (target_of (ast_condition t level))) t
-        level place
+    target_fitted (leaf (label.ast_node (ast_condition t level) position)) h n =
+        reference_fitted (refers_to numbers_of n (role_of (ast_condition t level)) (target_of (ast_condition t level))) t
+        level position
     target_fitted _ h n = absurd h
 
     pub target_suits : (c : Tree) → IsTarget c → (n : ℕ) → Suits f (R n c)
     target_suits (leaf (label.verb v)) h n = none_met f
-    target_suits (leaf (label.ast_node (ast_condition t level) place)) h n =
-        target_needs (means numbers_of n (role_of (ast_condition t level)) (target_of (ast_condition t level))) t
-        level place
+    target_suits (leaf (label.ast_node (ast_condition t level) position)) h n =
+        target_needs (refers_to numbers_of n (role_of (ast_condition t level)) (target_of (ast_condition t level))) t
+        level position
     target_suits _ h n = absurd h

@@ -14,7 +14,7 @@ use Rattle.std.proofs.lemmas.Fmt.{decimal_is_IsNumeral}
 use Prim.Native.Char.{code}
 use Rattle.fancy_lex.specs.Boundary.{unnamed_boundary, at_count}
 use Rattle.fancy_lex.specs.BoundarySteps.{boundary}
-use Rattle.fancy_lex.specs.LayoutSteps.{layout, after_comment_head, is_layout, past_layout, rest_of, rest}
+use Rattle.fancy_lex.specs.LayoutSteps.{layout, after_comment_start, is_layout, past_layout, rest_of, rest}
 use Rattle.fancy_lex.specs.Number.{at_digit, number, run}
 use Rattle.fancy_lex.specs.Reading.{gives, choose}
 use Rattle.fancy_lex.specs.Text.{Text, bytes, strip}
@@ -23,18 +23,18 @@ use Rattle.fancy_lex.proofs.TextLemmas.{bytes-append}
 use Rattle.std.specs.Char.{len_utf8}
 use Rattle.fancy_lex.proofs.NumberLemmas.{number_none, number_some, run_stop}
 use Rattle.fancy_parts.specs.Quantifier.{most, count, spaced_count, counts_from, braced_counts, counts}
-use Rattle.fancy_parts.specs.Quote.{range, mark, counts_as}
+use Rattle.fancy_parts.specs.Quote.{range, operator, counts_as}
 use Rattle.fancy_parts.specs.declared.counts.Counts.{Counts}
-use Rattle.fancy_grammar.specs.PatternQuantifier.{mark_left, lazy_mark, possessive_mark}
+use Rattle.fancy_grammar.specs.PatternQuantifier.{operator_left, lazy_operator, possessive_operator}
 use Rattle.fancy_grammar.specs.PatternQuantifier.{quantifier_text, is_possessive as possessive_counts}
 use Rattle.fancy_grammar.specs.Quantified as quantified
-use Rattle.fancy_grammar.specs.Quantified.{is_repeatable, may_be_possessive, quant, quant_at, behind_lazy, suffix}
+use Rattle.fancy_grammar.specs.Quantified.{is_repeatable, may_be_possessive, quant, quant_at, after_lazy, suffix}
 use Rattle.fancy_grammar.specs.Quantified.{suffix_at, is_swapped}
 use Rattle.fancy_grammar.specs.State.{done, seen_through}
 use Rattle.fancy_grammar.specs.Tree.{Tree, repeat, atomic_group}
 use Rattle.fancy_grammar.specs.Join.{is_empty}
 use Rattle.fancy_grammar.specs.Label.{atomic_group as atomic, repeat as repeated}
-use Rattle.fancy_grammar.specs.Marks.{Marks}
+use Rattle.fancy_grammar.specs.GroupInfo.{GroupInfo}
 use Rattle.fancy_grammar.specs.Pattern.{group_count}
 use Rattle.fancy_grammar.proofs.Pattern.Becomes.{Becomes}
 use Rattle.fancy_grammar.proofs.Pattern.Groups.{over_becomes}
@@ -68,7 +68,7 @@ digit_layout : (c : ℕ) → is_ascii_digit c ≡ true → (is_layout true c ≡
 digit_layout c h = (grind (arith, nat_tests), grind (arith, nat_tests))
 
 module _ (x : Bool) where
-  at_character : (c : ℕ) (s : Text) → after_comment_head (c ∷ s) ≡ None → is_layout true c ≡ false →
+  at_character : (c : ℕ) (s : Text) → after_comment_start (c ∷ s) ≡ None → is_layout true c ≡ false →
       layout x (c ∷ s) ≡ rest (c ∷ s)
   at_character c s o e = not_layout x c s o (both x e)
     where
@@ -197,16 +197,16 @@ module _ (x : Bool) (lo hi : ℕ) (s : Text) (l : lo < 2 ^ 64) (h : hi < 2 ^ 64)
   module _ (adjacent : Bool) where
     abbrev LeftCounted : Option ℕ → Type 0
     LeftCounted o =
-        Counted x lo hi (is_none (mark_left adjacent o)) s (counts_as lo hi (mark_left adjacent o) ++ s)
+        Counted x lo hi (is_none (operator_left adjacent o)) s (counts_as lo hi (operator_left adjacent o) ++ s)
 
     sign_left : (c : ℕ) → Counted x lo hi false s ((c ∷ []) ++ s) → LeftCounted (Some c)
     sign_left c k =
         cond_both (adjacent && not (c == code "*")) _ _ (λ o. Counted x lo hi (is_none o) s (counts_as lo hi o ++ s))
         (λ _. range_counted) (λ _. k)
 
-    mark_counted : LeftCounted (mark lo hi)
-    unfolding mark counts
-    mark_counted =
+    operator_counted : LeftCounted (operator lo hi)
+    unfolding operator counts
+    operator_counted =
         cond_both ((lo == 0) && (hi == 1)) _ _ LeftCounted
         (λ e. let (a, b) = and_parts _ _ e in
         sign_left (code "?") (sign_counted x lo hi 0 1 (code "?") s (eqb-true lo 0 a) (eqb-true hi 1 b) refl
@@ -243,12 +243,12 @@ pub record Apart (x : Bool) (v : Text) : Type 0 where
 pub clear_apart : (x : Bool) (v : Text) → Clear x v → Apart x v
 clear_apart x v c = record {
   no_layout = c.no_layout;
-  no_question = no_question v c.no_mark;
-  no_plus = no_plus v c.no_mark;
+  no_question = no_question v c.no_quantifier;
+  no_plus = no_plus v c.no_quantifier;
 }
 
 no_possessive : (f : Flags) (c : Counts) (b : Bool) (s v : Text) → strip (code "+") v ≡ None →
-    behind_lazy (st f s) c b v ≡ done (record { lazy = b; possessive = false }) (st f v)
+    after_lazy (st f s) c b v ≡ done (record { lazy = b; possessive = false }) (st f v)
 no_possessive f c b s v k = rw k (same (may_be_possessive f c))
   where
     same : {A : Type 0} {a : A} (b : Bool) → (if b then a else a) ≡ a
@@ -256,30 +256,30 @@ no_possessive f c b s v k = rw k (same (may_be_possessive f c))
     same false = refl
 
 is_possessive : (f : Flags) (c : Counts) (b : Bool) (s v : Text) → may_be_possessive f c ≡ true →
-    behind_lazy (st f s) c b (code "+" ∷ v) ≡ done (record { lazy = b; possessive = true }) (st f v)
+    after_lazy (st f s) c b (code "+" ∷ v) ≡ done (record { lazy = b; possessive = true }) (st f v)
 is_possessive f c b s v o = cond-true _ _ _ o
 
-behind : (f : Flags) (c : Counts) (b possessive : Bool) (s v : Text) →
+possessive_read : (f : Flags) (c : Counts) (b possessive : Bool) (s v : Text) →
     (possessive ≡ true → may_be_possessive f c ≡ true) → Apart f.ignore_space v →
-    behind_lazy (st f s) c b (possessive_mark possessive ++ v)
+    after_lazy (st f s) c b (possessive_operator possessive ++ v)
     ≡ done (record { lazy = b; possessive = possessive }) (st f v)
-behind f c b true s v o k = is_possessive f c b s v (o refl)
-behind f c b false s v o k = no_possessive f c b s v k.no_plus
+possessive_read f c b true s v o k = is_possessive f c b s v (o refl)
+possessive_read f c b false s v o k = no_possessive f c b s v k.no_plus
 
 suffix_read : (f : Flags) (c : Counts) (b possessive : Bool) (v : Text) →
     (possessive ≡ true → may_be_possessive f c ≡ true) → Apart f.ignore_space v →
-    suffix (st f (lazy b ++ (possessive_mark possessive ++ v))) c
+    suffix (st f (lazy b ++ (possessive_operator possessive ++ v))) c
     ≡ done (record { lazy = b; possessive = possessive }) (st f v)
 suffix_read f c true possessive v o k =
-    let t = possessive_mark possessive ++ v in
+    let t = possessive_operator possessive ++ v in
     ap (suffix_at (st f (code "?" ∷ t)) c) (at_character f.ignore_space (code "?") t refl refl)
-    ∙ behind f c true possessive (code "?" ∷ t) v o k
+    ∙ possessive_read f c true possessive (code "?" ∷ t) v o k
 suffix_read f c false true v o k =
     ap (suffix_at (st f (code "+" ∷ v)) c) (at_character f.ignore_space (code "+") v refl refl)
     ∙ is_possessive f c false (code "+" ∷ v) v (o refl)
 suffix_read f c false false v o k =
     ap (suffix_at (st f v) c) k.no_layout
-    ∙ ap (λ o. choose o (behind_lazy (st f v) c true) (behind_lazy (st f v) c false v)) k.no_question
+    ∙ ap (λ o. choose o (after_lazy (st f v) c true) (after_lazy (st f v) c false v)) k.no_question
     ∙ no_possessive f c false v v k.no_plus
 
 greed : (swap greedy : Bool) → (if swap then beq greedy swap else not (beq greedy swap)) ≡ greedy
@@ -311,7 +311,7 @@ quantified_swapped f a c greedy o =
 quant_by : (left : ℕ) (f : Flags) (a b : Tree) (q v : Text) (possessive : Bool) (lo hi : ℕ) (braces greedy : Bool) →
     let c : Counts = record { low = lo; high = hi; braces = braces } in
     (possessive ≡ true → may_be_possessive f c ≡ true) → Apart f.ignore_space v → is_repeatable f a ≡ true →
-    Counted f.ignore_space lo hi braces (lazy_mark f greedy ++ (possessive_mark possessive ++ v)) q →
+    Counted f.ignore_space lo hi braces (lazy_operator f greedy ++ (possessive_operator possessive ++ v)) q →
     quantified.quantified f c (record { lazy = beq greedy f.swap_greed; possessive = possessive }) a ≡ b →
     quant left a (st f q) ≡ done b (st f v)
 unfolding quant
@@ -338,13 +338,13 @@ pub record QuantifierAt (f : Flags) (possessive : Bool) (lo hi : ℕ) (greedy : 
 abbrev pub AreOrdered : Flags → ℕ → ℕ → Type 0
 AreOrdered f lo hi = f.oniguruma_mode && nat_lt hi lo ≡ false
 
-marks_longer : (f : Flags) (possessive greedy : Bool) (v : Text) →
-    bytes v ≤ bytes (lazy_mark f greedy ++ (possessive_mark possessive ++ v))
-marks_longer f possessive greedy v =
+operators_longer : (f : Flags) (possessive greedy : Bool) (v : Text) →
+    bytes v ≤ bytes (lazy_operator f greedy ++ (possessive_operator possessive ++ v))
+operators_longer f possessive greedy v =
     omega (
       arith,
-      bytes-append (lazy_mark f greedy) (possessive_mark possessive ++ v),
-      bytes-append (possessive_mark possessive) v,
+      bytes-append (lazy_operator f greedy) (possessive_operator possessive ++ v),
+      bytes-append (possessive_operator possessive) v,
     )
 
 module _ (f : Flags) (possessive : Bool) (lo hi : ℕ) (greedy : Bool) (v : Text) (l : lo < 2 ^ 64) (h : hi < 2 ^ 64)
@@ -352,10 +352,10 @@ module _ (f : Flags) (possessive : Bool) (lo hi : ℕ) (greedy : Bool) (v : Text
   -- counts in braces with the greatest first
   by_swapping : f.oniguruma_mode ≡ true → nat_lt lo hi ≡ true →
       QuantifierAt f true lo hi greedy v
-      ((codes "{" ++ (decimal hi ++ (codes "," ++ (decimal lo ++ codes "}"))) ++ lazy_mark f greedy) ++ v)
+      ((codes "{" ++ (decimal hi ++ (codes "," ++ (decimal lo ++ codes "}"))) ++ lazy_operator f greedy) ++ v)
   by_swapping o less =
       let first = decimal hi ++ (codes "," ++ decimal lo) in
-      let lazy_text = lazy_mark f greedy in
+      let lazy_text = lazy_operator f greedy in
       let m = swapped_counted f.ignore_space lo hi (lazy_text ++ v) l h in
       let same : (codes "{" ++ (decimal hi ++ (codes "," ++ (decimal lo ++ codes "}"))) ++ lazy_text) ++ v
       ≡ (codes "{" ++ (first ++ codes "}")) ++ (lazy_text ++ v)
@@ -368,22 +368,22 @@ module _ (f : Flags) (possessive : Bool) (lo hi : ℕ) (greedy : Bool) (v : Text
             λ left a r. quant_by left f a (quantified_tree true a lo hi greedy) _ v false hi lo true greedy
             (λ e. absurd (false≢true e)) k r m
             (quantified_swapped f a (record { low = hi; high = lo; braces = true }) greedy swapped);
-        longer = omega (arith, m.longer, marks_longer f false greedy v);
+        longer = omega (arith, m.longer, operators_longer f false greedy v);
         no_digit = m.no_digit;
         no_name = m.no_name;
       })
 
   -- an operator, or counts in braces, and the operators after it
-  by_marks : (o : Option ℕ) → AreOrdered f lo hi → f.oniguruma_mode && (possessive && is_none o) ≡ false →
-      Counted f.ignore_space lo hi (is_none o) (lazy_mark f greedy ++ (possessive_mark possessive ++ v))
-      (counts_as lo hi o ++ (lazy_mark f greedy ++ (possessive_mark possessive ++ v))) →
+  by_operators : (o : Option ℕ) → AreOrdered f lo hi → f.oniguruma_mode && (possessive && is_none o) ≡ false →
+      Counted f.ignore_space lo hi (is_none o) (lazy_operator f greedy ++ (possessive_operator possessive ++ v))
+      (counts_as lo hi o ++ (lazy_operator f greedy ++ (possessive_operator possessive ++ v))) →
       QuantifierAt f possessive lo hi greedy v
-      ((counts_as lo hi o ++ (lazy_mark f greedy ++ possessive_mark possessive)) ++ v)
-  by_marks o ordered may m =
-      let same : (counts_as lo hi o ++ (lazy_mark f greedy ++ possessive_mark possessive)) ++ v
-      ≡ counts_as lo hi o ++ (lazy_mark f greedy ++ (possessive_mark possessive ++ v))
+      ((counts_as lo hi o ++ (lazy_operator f greedy ++ possessive_operator possessive)) ++ v)
+  by_operators o ordered may m =
+      let same : (counts_as lo hi o ++ (lazy_operator f greedy ++ possessive_operator possessive)) ++ v
+      ≡ counts_as lo hi o ++ (lazy_operator f greedy ++ (possessive_operator possessive ++ v))
       = append_assoc (counts_as lo hi o) _ v
-      ∙ ap (λ w. counts_as lo hi o ++ w) (append_assoc (lazy_mark f greedy) (possessive_mark possessive) v) in
+      ∙ ap (λ w. counts_as lo hi o ++ w) (append_assoc (lazy_operator f greedy) (possessive_operator possessive) v) in
       let may_be : possessive ≡ true → not (f.oniguruma_mode && is_none o) ≡ true
       = λ e. ap not (sym (ap (λ p. f.oniguruma_mode && (p && is_none o)) e) ∙ may) in
       subst (QuantifierAt f possessive lo hi greedy v) (sym same) (record {
@@ -391,7 +391,7 @@ module _ (f : Flags) (possessive : Bool) (lo hi : ℕ) (greedy : Bool) (v : Text
             λ left a r. quant_by left f a (quantified_tree possessive a lo hi greedy) _ v possessive lo hi (is_none o)
             greedy may_be k r m
             (quantified_as f a (record { low = lo; high = hi; braces = is_none o }) possessive greedy ordered);
-        longer = omega (arith, m.longer, marks_longer f possessive greedy v);
+        longer = omega (arith, m.longer, operators_longer f possessive greedy v);
         no_digit = m.no_digit;
         no_name = m.no_name;
       })
@@ -402,26 +402,26 @@ pub quantifier_at : (f : Flags) (possessive adjacent : Bool) (lo hi : ℕ) (gree
     (possessive ≡ true → possessive_counts f lo hi ≡ true) →
     QuantifierAt f possessive lo hi greedy v (quantifier_text f possessive adjacent lo hi greedy ++ v)
 quantifier_at f possessive adjacent lo hi greedy v l h k ordered possible =
-    let o = mark_left adjacent (mark lo hi) in
+    let o = operator_left adjacent (operator lo hi) in
     cond_both (f.oniguruma_mode && (possessive && is_none o)) _ _
     (λ w. QuantifierAt f possessive lo hi greedy v (w ++ v))
     (λ e. let (mode, both) = and_parts _ _ e in
     let (is, none) = and_parts possessive (is_none o) both in
-    let text = codes "{" ++ (decimal hi ++ (codes "," ++ (decimal lo ++ codes "}"))) ++ lazy_mark f greedy in
+    let text = codes "{" ++ (decimal hi ++ (codes "," ++ (decimal lo ++ codes "}"))) ++ lazy_operator f greedy in
     subst (λ p. QuantifierAt f p lo hi greedy v (text ++ v)) (sym is)
     (by_swapping f possessive lo hi greedy v l h k mode
     (subst (λ b. not b || nat_lt lo hi ≡ true) mode (possible is))))
-    (λ e. by_marks f possessive lo hi greedy v l h k o ordered e
-    (mark_counted f.ignore_space lo hi (lazy_mark f greedy ++ (possessive_mark possessive ++ v)) l h adjacent))
+    (λ e. by_operators f possessive lo hi greedy v l h k o ordered e
+    (operator_counted f.ignore_space lo hi (lazy_operator f greedy ++ (possessive_operator possessive ++ v)) l h adjacent))
 
 -- directly after another quantifier, its text is not read as an operator of that one
 pub adjacent_apart : (f : Flags) (possessive : Bool) (lo hi : ℕ) (greedy : Bool) (v : Text) →
     Apart f.ignore_space (quantifier_text f possessive true lo hi greedy ++ v)
 unfolding range
 adjacent_apart f possessive lo hi greedy v =
-    cond_both (f.oniguruma_mode && (possessive && is_none (mark_left true (mark lo hi)))) _ _
+    cond_both (f.oniguruma_mode && (possessive && is_none (operator_left true (operator lo hi)))) _ _
     (λ w. Apart f.ignore_space (w ++ v)) (λ _. brace_apart _)
-    (λ _. by_mark (mark lo hi) (lazy_mark f greedy ++ possessive_mark possessive))
+    (λ _. by_operator (operator lo hi) (lazy_operator f greedy ++ possessive_operator possessive))
   where
     brace_apart : (w : Text) → Apart f.ignore_space (code "{" ∷ w)
     brace_apart w = record {
@@ -441,9 +441,9 @@ adjacent_apart f possessive lo hi greedy v =
     not_not true e = refl
     not_not false e = absurd (false≢true (sym e))
 
-    by_mark : (o : Option ℕ) (w : Text) → Apart f.ignore_space ((counts_as lo hi (mark_left true o) ++ w) ++ v)
-    by_mark None w = brace_apart _
-    by_mark (Some c) w =
+    by_operator : (o : Option ℕ) (w : Text) → Apart f.ignore_space ((counts_as lo hi (operator_left true o) ++ w) ++ v)
+    by_operator None w = brace_apart _
+    by_operator (Some c) w =
         cond_both (not (c == code "*")) _ _ (λ o. Apart f.ignore_space ((counts_as lo hi o ++ w) ++ v))
         (λ _. brace_apart _)
         (λ e. subst (λ c. Apart f.ignore_space (c ∷ (w ++ v))) (sym (eqb-true c (code "*") (not_not (c == code "*") e)))
@@ -451,7 +451,7 @@ adjacent_apart f possessive lo hi greedy v =
 
 -- ---- an atom under a quantifier, before the pieces that follow
 
-pub over_quantified : (μ : Marks) (s : Text) (possessive : Bool) (c : ℕ) (r x : Tree) (lo hi : ℕ) (greedy : Bool) →
+pub over_quantified : (μ : GroupInfo) (s : Text) (possessive : Bool) (c : ℕ) (r x : Tree) (lo hi : ℕ) (greedy : Bool) →
     Becomes μ s c r x →
     Becomes μ s c (quantified_tree possessive r lo hi greedy) (quantified_tree possessive x lo hi greedy)
 over_quantified μ s true c r x lo hi greedy b =

@@ -8,28 +8,28 @@ use Prim.Native.Char.{code}
 use Rattle.fancy_lex.specs.Text.{Text, bytes, reach_of}
 use Rattle.fancy_lex.specs.declared.flags.Flags.{Flags}
 use Rattle.fancy_parts.specs.Ranks.{only_named}
-use Rattle.fancy_grammar.specs.Ahead.{Ahead, nothing, read, with_head, condition, body, absent_branch}
-use Rattle.fancy_grammar.specs.Answer.{IsTreeOf}
+use Rattle.fancy_grammar.specs.AtomStart.{AtomStart, nothing, read, of_kind, condition, body, absent_branch}
+use Rattle.fancy_grammar.specs.ParseResult.{IsTreeOf}
 use Rattle.fancy_grammar.specs.Depth.{max_depth}
-use Rattle.fancy_grammar.specs.Grammar.{Alternation, alternation, Branches, last, more, branch_fault, Branch, branch}
-use Rattle.fancy_grammar.specs.Grammar.{Pieces, stop, next, piece_fault, Piece, piece, layout_fault, Atom, atom, AtomOf}
-use Rattle.fancy_grammar.specs.Grammar.{a_nothing, a_read, a_group, a_condition, condition_fault, a_body, two_branches}
-use Rattle.fancy_grammar.specs.Grammar.{one_branch, absent_fault, Inside, inside, Body, the_body, Whole, whole, start}
-use Rattle.fancy_grammar.specs.Grammar.{closed, closed_at, ended, ended_at, branches_of, conditional_of, behind_atom}
+use Rattle.fancy_grammar.specs.Grammar.{Alternation, alternation, Branches, last, more, branch_error, Branch, branch}
+use Rattle.fancy_grammar.specs.Grammar.{Pieces, stop, next, piece_error, Piece, piece, layout_error, Atom, atom, AtomOf}
+use Rattle.fancy_grammar.specs.Grammar.{a_nothing, a_read, a_group, a_condition, condition_error, a_body, two_branches}
+use Rattle.fancy_grammar.specs.Grammar.{one_branch, absent_error, Inside, inside, Body, the_body, Whole, whole, start}
+use Rattle.fancy_grammar.specs.Grammar.{closed, closed_at, ended, ended_at, branches_of, conditional_of, after_atom}
 use Rattle.fancy_grammar.specs.Grammar.{restored}
 use Rattle.fancy_grammar.specs.Grammar.{is_condition, clear_or_stopper}
 use Rattle.fancy_grammar.specs.Items.{openings, numbers_in}
 use Rattle.fancy_grammar.specs.Join.{join, choice}
-use Rattle.fancy_grammar.specs.Marks.{Marks}
+use Rattle.fancy_grammar.specs.GroupInfo.{GroupInfo}
 use Rattle.fancy_grammar.specs.PatternDepth.{Fits}
 use Rattle.fancy_grammar.specs.PatternNeeds.{agreed}
 use Rattle.fancy_grammar.specs.Resolved.{resolved_in, resolved}
-use Rattle.fancy_grammar.specs.State.{State, at, Outcome, done, fault}
+use Rattle.fancy_grammar.specs.State.{State, at, Outcome, done, failed}
 use Rattle.fancy_grammar.specs.Tree.{Tree, expression}
 use Rattle.fancy_grammar.specs.declared.precedence.Precedence.TheVariants.{Whole as AsWhole}
-use Rattle.fancy_grammar.proofs.AheadLaws.{OpensBelow, ahead_below}
+use Rattle.fancy_grammar.proofs.AtomStartLaws.{OpensBelow, start_below}
 use Rattle.fancy_grammar.proofs.OutcomeLemmas.{Holds, then_holds}
-use Rattle.fancy_grammar.proofs.Pattern.Ahead.{IsLast, AheadTells, ahead_tells, LeafRead}
+use Rattle.fancy_grammar.proofs.Pattern.AtomStart.{IsLast, StartMode, start_mode, LeafRead}
 use Rattle.fancy_grammar.proofs.Pattern.Fitting.{FitsOrTarget}
 use Rattle.fancy_grammar.proofs.Pattern.Nested.{Part, Parts, Grouped}
 use Rattle.fancy_grammar.proofs.Pattern.Nested.{leaf_part, empty_part, join_fitted, choice_is_fitted}
@@ -63,7 +63,7 @@ module _ (in_mode : Bool) (z : ℕ) (named : Bool) (numbers_of : Text → List �
   R = resolved_in z named numbers_of
 
   -- an atom, by its start: after a group the flags from before it hold again
-  abbrev AtomHolds : Ahead → ℕ → State → Outcome Tree → Type 0
+  abbrev AtomHolds : AtomStart → ℕ → State → Outcome Tree → Type 0
   AtomHolds nothing d s q = Holds (Part in_mode R 3 d s) q
   AtomHolds (read o) d s q = Holds (Part in_mode R 3 d s) q
   AtomHolds _ d s q = Holds (λ r t. Grouped in_mode R d r) q
@@ -81,20 +81,20 @@ module _ (in_mode : Bool) (z : ℕ) (named : Bool) (numbers_of : Text → List �
   group_part : (d : ℕ) (s : State) → s.flags.oniguruma_mode ≡ in_mode → (q : Outcome Tree) →
       Holds (λ r t. Grouped in_mode R d r) q → Holds (Part in_mode R 3 d s) (restored s.flags q)
   group_part d s o (done r t) h = restored_part d s o r t h
-  group_part d s o (fault k p) h = tt
+  group_part d s o (failed k p) h = tt
 
-  behind_part : (e : Ahead) (d : ℕ) (s : State) → s.flags.oniguruma_mode ≡ in_mode → (q : Outcome Tree) →
-      AtomHolds e d s q → Holds (Part in_mode R 3 d s) (behind_atom e s.flags q)
-  behind_part nothing d s o q h = h
-  behind_part (read p) d s o q h = h
-  behind_part (with_head a t) d s o q h = group_part d s o q h
-  behind_part (condition t) d s o q h = group_part d s o q h
-  behind_part (body c t) d s o q h = group_part d s o q h
-  behind_part (absent_branch t) d s o q h = group_part d s o q h
+  after_part : (e : AtomStart) (d : ℕ) (s : State) → s.flags.oniguruma_mode ≡ in_mode → (q : Outcome Tree) →
+      AtomHolds e d s q → Holds (Part in_mode R 3 d s) (after_atom e s.flags q)
+  after_part nothing d s o q h = h
+  after_part (read p) d s o q h = h
+  after_part (of_kind a t) d s o q h = group_part d s o q h
+  after_part (condition t) d s o q h = group_part d s o q h
+  after_part (body c t) d s o q h = group_part d s o q h
+  after_part (absent_branch t) d s o q h = group_part d s o q h
 
   leaf_holds : (d : ℕ) (s : State) (q : Outcome Tree) → Holds (LeafRead in_mode d s) q → Holds (Part in_mode R 3 d s) q
   leaf_holds d s (done r t) h = leaf_part in_mode z named numbers_of d s r t h
-  leaf_holds d s (fault k p) h = tt
+  leaf_holds d s (failed k p) h = tt
 
   joined : (d : ℕ) (s : State) (l : List Tree) (t : State) → Parts in_mode R 2 d s l t → Part in_mode R 1 d s (join l) t
   joined d s l t h =
@@ -162,7 +162,7 @@ module _ (in_mode : Bool) (z : ℕ) (named : Bool) (numbers_of : Text → List �
         let h = branch_fits b l o in
         then_holds (Parts in_mode R 1 d (at t u)) (Parts in_mode R 1 d s) q _ (branches_fit m l h.mode)
         (λ rs v i. more_parts 1 d s r t (at t u) rs v refl h i)
-    branches_fit (branch_fault b) l o = branch_fits b l o
+    branches_fit (branch_error b) l o = branch_fits b l o
 
     branch_fits : {d : ℕ} {s : State} {q : Outcome Tree} → Branch d s q → d < max_depth →
         s.flags.oniguruma_mode ≡ in_mode → Holds (Part in_mode R 1 d s) q
@@ -176,7 +176,7 @@ module _ (in_mode : Bool) (z : ℕ) (named : Bool) (numbers_of : Text → List �
         let h = piece_fits a l o in
         then_holds (Parts in_mode R 2 d t) (Parts in_mode R 2 d s) q _ (pieces_fit m l h.mode)
         (λ rs v i. more_parts 2 d s r t t rs v refl h i)
-    pieces_fit (piece_fault e a) l o = piece_fits a l o
+    pieces_fit (piece_error e a) l o = piece_fits a l o
 
     piece_fits : {d : ℕ} {s : State} {q : Outcome Tree} → Piece d s q → d < max_depth →
         s.flags.oniguruma_mode ≡ in_mode → Holds (Part in_mode R 2 d s) q
@@ -189,27 +189,27 @@ module _ (in_mode : Bool) (z : ℕ) (named : Bool) (numbers_of : Text → List �
           stays = h.stays;
           mode = h.mode;
         }))
-    piece_fits (layout_fault e) l o = tt
+    piece_fits (layout_error e) l o = tt
 
     atom_fits : {d : ℕ} {s : State} {q : Outcome Tree} → Atom d s q → d < max_depth →
         s.flags.oniguruma_mode ≡ in_mode → Holds (Part in_mode R 3 d s) q
     atom_fits (atom {d} {s} {e} {q} is a) l o =
-        behind_part e d s o q
-        (of_fits a l o (subst (AheadTells in_mode d s) is (ahead_tells in_mode d s o))
-        (subst (OpensBelow d) is (ahead_below d s)))
+        after_part e d s o q
+        (of_fits a l o (subst (StartMode in_mode d s) is (start_mode in_mode d s o))
+        (subst (OpensBelow d) is (start_below d s)))
 
-    of_fits : {k : Ahead} {d : ℕ} {s : State} {q : Outcome Tree} → AtomOf k d s q → d < max_depth →
-        s.flags.oniguruma_mode ≡ in_mode → AheadTells in_mode d s k → OpensBelow d k → AtomHolds k d s q
+    of_fits : {k : AtomStart} {d : ℕ} {s : State} {q : Outcome Tree} → AtomOf k d s q → d < max_depth →
+        s.flags.oniguruma_mode ≡ in_mode → StartMode in_mode d s k → OpensBelow d k → AtomHolds k d s q
     of_fits (a_nothing {d} {s}) l o h b = empty_part in_mode z named numbers_of d s o
     of_fits (a_read {d} {s} {o = q}) l o h b = leaf_holds d s q h
-    of_fits (a_group {d} {s} {t} {h = head} {q} i) l o h b =
+    of_fits (a_group {d} {s} {t} {h = kind} {q} i) l o h b =
         then_holds (Part in_mode R 0 (d + 1) t) (λ r v. Grouped in_mode R d r) q _ (inside_fits i b h)
-        (λ r v k. group_grouped in_mode z named numbers_of d b t h r v k head (reach_of s.rest))
+        (λ r v k. group_grouped in_mode z named numbers_of d b t h r v k kind (reach_of s.rest))
     of_fits (a_condition {d} {s} {t} {v} {c} i m) l o h b =
         let k = inside_fits i b h in
         body_fits m k.mode b t.flags h k.stays (condition_alone in_mode z named numbers_of d b t h c v k)
         (condition_fitted in_mode z named numbers_of d b t h c v k) k.suits
-    of_fits (condition_fault i) l o h b = inside_fits i b h
+    of_fits (condition_error i) l o h b = inside_fits i b h
     of_fits (a_body {d} {s} {t} {c} m) l o h b =
         body_fits m h.1 b t.flags h.1 (λ _. refl)
         (target_grouped in_mode z named numbers_of d b t.flags h.1 c h.0)
@@ -225,7 +225,7 @@ module _ (in_mode : Bool) (z : ℕ) (named : Bool) (numbers_of : Text → List �
         let k = branch_fits m b h in
         closed_holds (λ r w. Grouped in_mode R d r) (clear_or_stopper a) v
         (λ _. stopper_grouped in_mode z named numbers_of d b t.flags h a k.fitted k.suits)
-    of_fits (absent_fault m) l o h b = branch_fits m b h
+    of_fits (absent_error m) l o h b = branch_fits m b h
 
     inside_fits : {d : ℕ} {s : State} {q : Outcome Tree} → Inside d s q → d + 1 < max_depth →
         s.flags.oniguruma_mode ≡ in_mode → Holds (Part in_mode R 0 (d + 1) s) q
@@ -256,9 +256,9 @@ module _ (in_mode : Bool) (z : ℕ) (named : Bool) (numbers_of : Text → List �
       (ended_holds (Part in_mode R 0 0 (start f text)))
 
 -- the text of each parsed tree fits
-pub answered_fits : (f : Flags) (text : Text) (t : Tree) (m : Marks) → IsTreeOf f text t m →
+pub parsed_fits : (f : Flags) (text : Text) (t : Tree) (m : GroupInfo) → IsTreeOf f text t m →
     Fits t AsWhole (record { flags = agreed f t; opened = 0; depth = 0 })
-answered_fits f text t m h =
+parsed_fits f text t m h =
     let part = whole_fits f.oniguruma_mode (bytes text) (only_named f (openings h.0)) (numbers_in f h.0) (h.1).1 refl in
     subst (λ u. Fits u AsWhole (record { flags = agreed f u; opened = 0; depth = 0 })) (sym h.3)
     (part.fitted.fits 0 AsWhole tt

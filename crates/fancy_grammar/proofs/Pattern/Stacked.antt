@@ -4,20 +4,20 @@ use Rattle.std.proofs.Common.{List, ◌∷◌, ◌++◌, refl, sym, ap, ap₂, �
 use Rattle.std.proofs.Math.Nat.{min-le_left, min-le_right}
 use Rattle.std.proofs.lemmas.Bool.{cond-true, cond-false, and_from}
 use Rattle.std.proofs.lemmas.Bool.Decides.{nat_tests}
-use Rattle.fancy_lex.specs.FaultTable.{quantifier_too_deep}
+use Rattle.fancy_lex.specs.ErrorTable.{quantifier_too_deep}
 use Rattle.fancy_lex.specs.Text.{Text, bytes}
 use Rattle.fancy_lex.specs.declared.flags.Flags.{Flags}
 use Rattle.fancy_grammar.specs.Depth.{max_depth}
 use Rattle.fancy_grammar.specs.Grammar.{Atom}
 use Rattle.fancy_grammar.specs.Join.{is_empty}
 use Rattle.fancy_grammar.specs.Label as label
-use Rattle.fancy_grammar.specs.Marks.{Marks}
-use Rattle.fancy_grammar.specs.Pattern.{Here, under, past_groups, group_count, written}
+use Rattle.fancy_grammar.specs.GroupInfo.{GroupInfo}
+use Rattle.fancy_grammar.specs.Pattern.{Context, under, past_groups, group_count, written}
 use Rattle.fancy_grammar.specs.PatternDepth.{Fits, FitsInParensIf, MayOpenIf, is_in_parens}
 use Rattle.fancy_grammar.specs.PatternNeeds.{settled}
 use Rattle.fancy_grammar.specs.PatternQuantifier.{is_quantified, most_quantifiers}
 use Rattle.fancy_grammar.specs.Quantified.{is_repeatable, is_unmoved, quant, quants, adjacent, max_adjacent}
-use Rattle.fancy_grammar.specs.State.{done, faulted, and_then}
+use Rattle.fancy_grammar.specs.State.{done, failed_with, and_then}
 use Rattle.fancy_grammar.specs.Tree.{Tree, leaf, over, row, no_trees, more_trees}
 use Rattle.fancy_grammar.specs.declared.precedence.Precedence.{Precedence}
 use Rattle.fancy_grammar.specs.declared.precedence.Precedence.TheVariants.{Operand}
@@ -48,7 +48,7 @@ adjacent_step : (k d : ℕ) (f : Flags) (b c : Tree) (w v : Text) → quant (byt
 unfolding adjacent
 adjacent_step k d f b c w v e less deep =
     ap (λ q. and_then q (λ b t. if is_unmoved (st f w) t then done b t
-    else if nat_lt (d + 1) max_depth then adjacent k (d + 1) b t else faulted (quantifier_too_deep t.rest))) e
+    else if nat_lt (d + 1) max_depth then adjacent k (d + 1) b t else failed_with (quantifier_too_deep t.rest))) e
     ∙ (cond-false _ _ _ (moved (bytes v) (bytes w) less) ∙ cond-true _ _ _ (lt-ltb (d + 1) max_depth deep))
 
 -- in Oniguruma mode the first quantifier, and the ones adjacent to it
@@ -91,21 +91,21 @@ stack_quants (suc m) d left f a c q v s few k = by_mode f.oniguruma_mode refl m 
 -- ---- an atom under this many quantifiers
 
 -- the text from s to v is read as an atom and at most this many quantifiers after it, which become x
-pub record OperandAt (μ : Marks) (h : Here) (most : ℕ) (s v : Text) (x : Tree) : Type 0 where
+pub record OperandAt (μ : GroupInfo) (h : Context) (most : ℕ) (s v : Text) (x : Tree) : Type 0 where
   pub first : Tree
-  pub behind_first : Text
+  pub after_first : Text
   pub tree : Tree
   pub used : ℕ
   pub few : used ≤ most
-  pub derives : Atom h.depth (st h.flags s) (done first (st h.flags behind_first))
-  pub stack : IsStack h.flags used first behind_first tree v
+  pub derives : Atom h.depth (st h.flags s) (done first (st h.flags after_first))
+  pub stack : IsStack h.flags used first after_first tree v
   pub becomes : Becomes μ s h.opened tree x
 
-pub operand_atom : (μ : Marks) (h : Here) (most : ℕ) (s v : Text) (x : Tree) → AtomAt μ h s v x →
+pub operand_atom : (μ : GroupInfo) (h : Context) (most : ℕ) (s v : Text) (x : Tree) → AtomAt μ h s v x →
     OperandAt μ h most s v x
 operand_atom μ h most s v x a = record {
   first = a.tree;
-  behind_first = v;
+  after_first = v;
   tree = a.tree;
   used = 0;
   few = omega arith;
@@ -115,20 +115,20 @@ operand_atom μ h most s v x a = record {
 }
 
 -- and one more quantifier may follow the tree so far
-abbrev pub UnderAt : (μ : Marks) (h : Here) (most : ℕ) (s v : Text) (x : Tree) → Type 0
+abbrev pub UnderAt : (μ : GroupInfo) (h : Context) (most : ℕ) (s v : Text) (x : Tree) → Type 0
 UnderAt μ h most s v x = (a : OperandAt μ h most s v x) × (is_repeatable h.flags a.tree ≡ true)
 
-pub under_repeatable : (μ : Marks) (h : Here) (most : ℕ) (s v : Text) (x : Tree) → is_repeatable h.flags x ≡ true →
+pub under_repeatable : (μ : GroupInfo) (h : Context) (most : ℕ) (s v : Text) (x : Tree) → is_repeatable h.flags x ≡ true →
     OperandAt μ h most s v x → UnderAt μ h most s v x
 under_repeatable μ h most s v x rep a = (a, stays_repeatable μ s h.flags h.opened a.tree x a.becomes rep)
 
 -- under one more quantifier
-pub operand_under : (μ : Marks) (h : Here) (most : ℕ) (s q v : Text) (x : Tree) (possessive : Bool) (lo hi : ℕ)
+pub operand_under : (μ : GroupInfo) (h : Context) (most : ℕ) (s q v : Text) (x : Tree) (possessive : Bool) (lo hi : ℕ)
     (greedy : Bool) → QuantifierAt h.flags possessive lo hi greedy v q → (a : UnderAt μ h most s q x) →
     OperandAt μ h (suc most) s v (quantified_tree possessive x lo hi greedy)
 operand_under μ h most s q v x possessive lo hi greedy m (a, rep) = record {
   first = a.first;
-  behind_first = a.behind_first;
+  after_first = a.after_first;
   tree = quantified_tree possessive a.tree lo hi greedy;
   used = suc a.used;
   few = omega (arith, a.few);
@@ -144,15 +144,15 @@ operand_under μ h most s q v x possessive lo hi greedy m (a, rep) = record {
 }
 
 -- before the pieces that follow
-pub lead_operand : (μ : Marks) (h : Here) (most : ℕ) (s v w : Text) (g : Flags) (x : Tree) (ys : List Tree) →
+pub lead_operand : (μ : GroupInfo) (h : Context) (most : ℕ) (s v w : Text) (g : Flags) (x : Tree) (ys : List Tree) →
     most ≤ (most_quantifiers h.flags h.depth - 1) + 1 → Begins h.flags.ignore_space s → Clear h.flags.ignore_space v →
     is_empty x ≡ false → OperandAt μ h most s v x → Rest μ (past_groups (group_count x) h) v g w ys →
     Rest μ h s g w (x ∷ ys)
-lead_operand μ h most s v w g x ys room b c solid a k =
+lead_operand μ h most s v w g x ys allowed b c solid a k =
     lead_piece μ h s v w g a.tree x ys b solid a.becomes
     (piece_as b.clear.no_layout a.derives
-    (stack_quants a.used h.depth (bytes s) h.flags a.first a.tree a.behind_first v a.stack
-    (omega (arith, a.few, room)) c)) k
+    (stack_quants a.used h.depth (bytes s) h.flags a.first a.tree a.after_first v a.stack
+    (omega (arith, a.few, allowed)) c)) k
 
 -- ---- a tree under a quantifier
 
@@ -160,25 +160,25 @@ lead_operand μ h most s v w g x ys room b c solid a k =
 abbrev pub ends_quantified : Flags → ℕ → Tree → Bool
 ends_quantified f r t = nat_lt 0 r && is_quantified f t
 
-pub ends_behind : (f : Flags) (k : ℕ) (t : Tree) → is_quantified f t ≡ true → ends_quantified f (suc k) t ≡ true
-ends_behind f k t e = and_from _ _ (lt-ltb 0 (suc k) (omega arith)) e
+pub ends_after : (f : Flags) (k : ℕ) (t : Tree) → is_quantified f t ≡ true → ends_quantified f (suc k) t ≡ true
+ends_after f k t e = and_from _ _ (lt-ltb 0 (suc k) (omega arith)) e
 
 -- the tree can be repeated, unless groups without a number, which are replaced by their contents, may be around it
-abbrev pub MayBeUnder : Marks → Flags → Tree → Type 0
+abbrev pub MayBeUnder : GroupInfo → Flags → Tree → Type 0
 MayBeUnder μ f t = μ.numbered_groups_ignored ≡ false → is_repeatable f t ≡ true
 
 -- if this many quantifiers may come before the one that follows
-pub record ReadsOperand (μ : Marks) (t : Tree) (h : Here) (r : ℕ) (k : Text) : Type 0 where
+pub record ReadsOperand (μ : GroupInfo) (t : Tree) (h : Context) (r : ℕ) (k : Text) : Type 0 where
   pub begins : MayBeUnder μ h.flags t → (v : Text) → Begins h.flags.ignore_space (k ++ v)
   pub reads : MayBeUnder μ h.flags t → settled h.flags t ≡ h.flags → (v : Text) → NoName h.flags.ignore_space v →
       Follows μ t v → (ends_quantified h.flags r t ≡ true → Apart h.flags.ignore_space v) →
       UnderAt μ h r (k ++ v) v t
 
 -- and the same for each number of them for which the tree fits
-abbrev pub ReadsOperands : Marks → Tree → Here → Type 0
+abbrev pub ReadsOperands : GroupInfo → Tree → Context → Type 0
 ReadsOperands μ t h = (r : ℕ) → Fits t (Operand r) h → ReadsOperand μ t h r (written μ t (Operand r) h)
 
-pub as_operand : (μ : Marks) (t : Tree) (h : Here) (r : ℕ) → ReadsTree μ t h → Fits t (Operand zero) h →
+pub as_operand : (μ : GroupInfo) (t : Tree) (h : Context) (r : ℕ) → ReadsTree μ t h → Fits t (Operand zero) h →
     ReadsOperand μ t h r (written μ t (Operand zero) h)
 unfolding operand_atom
 as_operand μ t h r a d = at (is_repeatable h.flags t) refl
@@ -207,16 +207,16 @@ is_stacking (over label.atomic_group (over (label.repeat lo hi greedy) t)) = tru
 is_stacking _ = false
 
 -- the text, and where it fits, do not depend on the number
-pub record IsAlike (μ : Marks) (t : Tree) (h : Here) (r : ℕ) : Type 0 where
+pub record IsAlike (μ : GroupInfo) (t : Tree) (h : Context) (r : ℕ) : Type 0 where
   pub text : written μ t (Operand r) h ≡ written μ t (Operand zero) h
   pub fits : Fits t (Operand r) h → Fits t (Operand zero) h
 
-same_fit : (b : Bool) (fits : Here → Type 0) (p q : Precedence) (h : Here) →
+same_fit : (b : Bool) (fits : Context → Type 0) (p q : Precedence) (h : Context) →
     FitsInParensIf b (λ _. fits) p h → FitsInParensIf b (λ _. fits) q h
 same_fit true fits p q h d = d
 same_fit false fits p q h d = d
 
-module _ (μ : Marks) (h : Here) (r : ℕ) where
+module _ (μ : GroupInfo) (h : Context) (r : ℕ) where
   pub alike : (t : Tree) → is_stacking t ≡ false → IsAlike μ t h r
   alike (leaf label.empty) e = record { text = refl; fits = λ d. d }
   alike (leaf (label.assertion a)) e =
@@ -242,7 +242,7 @@ module _ (μ : Marks) (h : Here) (r : ℕ) where
   alike (over label.define_group t) e = record { text = refl; fits = λ d. d }
   alike (over label.repeater t) e = record { text = refl; fits = λ d. d }
   alike (over label.stopper t) e = record { text = refl; fits = λ d. d }
-  alike (over (label.ast_group name place) t) e = record { text = refl; fits = λ d. d }
+  alike (over (label.ast_group name position) t) e = record { text = refl; fits = λ d. d }
   alike (row label.expression no_trees) e = record { text = refl; fits = λ d. d }
   alike (row label.expression (more_trees a no_trees)) e = record { text = refl; fits = λ d. d }
   alike (row label.expression (more_trees a (more_trees b no_trees))) e = record { text = refl; fits = λ d. d }
@@ -257,11 +257,11 @@ module _ (μ : Marks) (h : Here) (r : ℕ) where
       record { text = refl; fits = λ d. d }
 
 -- what the tree is read as wherever it is written, under any number of quantifiers
-pub record ReadsAll (μ : Marks) (t : Tree) (h : Here) : Type 0 where
+pub record ReadsAll (μ : GroupInfo) (t : Tree) (h : Context) : Type 0 where
   pub tree : ReadsTree μ t h
   pub operands : ReadsOperands μ t h
 
-pub reads_all : (μ : Marks) (t : Tree) (h : Here) → is_stacking t ≡ false → ReadsTree μ t h → ReadsAll μ t h
+pub reads_all : (μ : GroupInfo) (t : Tree) (h : Context) → is_stacking t ≡ false → ReadsTree μ t h → ReadsAll μ t h
 reads_all μ t h e a = record {
   tree = a;
   operands =

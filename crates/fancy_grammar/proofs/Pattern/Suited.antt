@@ -2,7 +2,7 @@
 use Rattle.std.proofs.Common.{◌≡◌, Bool, true, false, refl, sym, ap, ◌∙◌, subst, if◌then◌else◌}
 use Rattle.fancy_lex.specs.declared.flags.Flags.{Flags}
 use Rattle.fancy_grammar.specs.Label.{concat, alt, ast_group}
-use Rattle.fancy_grammar.specs.Pattern.{takes_pieces, takes_branches, flags_behind, flags_behind_all}
+use Rattle.fancy_grammar.specs.Pattern.{takes_pieces, takes_branches, flags_after, flags_after_all}
 use Rattle.fancy_grammar.specs.PatternNeeds.{no_needs, leaf_needs, first, joined, needs, needs_all, fixed_or}
 use Rattle.fancy_grammar.specs.PatternNeeds.{with_needs, settled}
 use Rattle.fancy_grammar.specs.Tree.{Tree, leaf, over, row, Trees, no_trees, more_trees}
@@ -28,7 +28,7 @@ abbrev mutual
   -- the flags are as each leaf requires them; the contents of a capturing group in a raw tree are left out
   pub Suits : Flags → Tree → Type 0
   Suits g (leaf l) = AreMet (leaf_needs g.oniguruma_mode l) g
-  Suits g (over (ast_group name place) t) = Unit {0}
+  Suits g (over (ast_group name position) t) = Unit {0}
   Suits g (over w t) = Suits g t
   Suits g (row r ts) = SuitAll g ts
 
@@ -57,7 +57,7 @@ firsts_met n m g h k = record {
 mutual
   needs_met : (g : Flags) (t : Tree) → Suits g t → AreMet (needs first g.oniguruma_mode t) g
   needs_met g (leaf l) h = h
-  needs_met g (over (ast_group name place) t) h = none_met g
+  needs_met g (over (ast_group name position) t) h = none_met g
   needs_met g (over w t) h = needs_met g t h
   needs_met g (row r ts) h = all_met g ts h
 
@@ -117,7 +117,7 @@ mutual
   first_suits : (f g : Flags) (t : Tree) → f.oniguruma_mode ≡ g.oniguruma_mode → Suits f t →
       AreMet (needs first g.oniguruma_mode t) g → Suits g t
   first_suits f g (leaf l) e h k = k
-  first_suits f g (over (ast_group name place) t) e h k = tt
+  first_suits f g (over (ast_group name position) t) e h k = tt
   first_suits f g (over w t) e h k = first_suits f g t e h k
   first_suits f g (row r ts) e h k = first_suit_all f g ts e h k
 
@@ -154,14 +154,14 @@ if_same true f g e = e
 if_same false f g e = refl
 
 mutual
-  pub suited_behind : (t : Tree) (p : Precedence) (g : Flags) → Suits g t →
-      flags_behind t p g ≡ g
-  suited_behind (row concat ts) p g h = if_same (takes_pieces p) _ g (suited_behind_all ts Piece g h)
-  suited_behind (row alt ts) p g h = if_same (takes_branches p) _ g (suited_behind_all ts Branch g h)
-  suited_behind t p g h = suited_settled g t h
+  pub suited_after : (t : Tree) (p : Precedence) (g : Flags) → Suits g t →
+      flags_after t p g ≡ g
+  suited_after (row concat ts) p g h = if_same (takes_pieces p) _ g (suited_after_all ts Piece g h)
+  suited_after (row alt ts) p g h = if_same (takes_branches p) _ g (suited_after_all ts Branch g h)
+  suited_after t p g h = suited_settled g t h
 
-  pub suited_behind_all : (ts : Trees) (p : Precedence) (g : Flags) → SuitAll g ts →
-      flags_behind_all ts p g ≡ g
-  suited_behind_all no_trees p g h = refl
-  suited_behind_all (more_trees t ts) p g h =
-      ap (flags_behind_all ts p) (suited_behind t p g h.0) ∙ suited_behind_all ts p g h.1
+  pub suited_after_all : (ts : Trees) (p : Precedence) (g : Flags) → SuitAll g ts →
+      flags_after_all ts p g ≡ g
+  suited_after_all no_trees p g h = refl
+  suited_after_all (more_trees t ts) p g h =
+      ap (flags_after_all ts p) (suited_after t p g h.0) ∙ suited_after_all ts p g h.1

@@ -8,23 +8,23 @@ use Rattle.fancy_lex.specs.BoundarySteps.{boundary, named_boundary, name}
 use Rattle.std.specs.Char.{is_ascii_digit}
 use Rattle.std.specs.Option.{option_or}
 use Rattle.fancy_lex.specs.Characters.{backslash, open_bracket, close_bracket, caret, open_brace, ◌∈◌}
-use Rattle.fancy_lex.specs.Class.{class_from, class, class_head, with_mark, escape_in_class, is_negated}
+use Rattle.fancy_lex.specs.Class.{class_from, class, class_start, with_symbol, escape_in_class, is_negated}
 use Rattle.fancy_lex.specs.Escape.{escape, escape_at, backref_leaf, number_escape, call_escape, property, outside}
 use Rattle.fancy_lex.specs.Escape.{is_itself, lone_anywhere, lone_in_class, lone_outside, row_of, lone_escape}
 use Rattle.fancy_lex.specs.Escape.{unknown_escape}
 use Rattle.fancy_lex.specs.EscapeReference as reference
 use Rattle.fancy_lex.specs.EscapeReference.{group_number}
 use Rattle.fancy_lex.specs.Escaped.{Escape, literal, literal_bytes, assertion, delegate, backref, subroutine_call}
-use Rattle.fancy_lex.specs.Fault.{Fault, invalid_class, invalid_codepoint_value, unclosed_unicode_name}
+use Rattle.fancy_lex.specs.Located.{Located, invalid_class, invalid_codepoint_value, unclosed_unicode_name}
 use Rattle.fancy_lex.specs.Hex.{hex, value, leaf_of_value, is_scalar}
 use Rattle.fancy_lex.specs.LayoutSteps.{layout}
 use Rattle.fancy_lex.specs.Property.{Property, read_property, property_text}
-use Rattle.fancy_lex.specs.Reading.{Reading, gives, fails, fault_at, choose, layout_reading, ◌>=>◌}
+use Rattle.fancy_lex.specs.Reading.{Reading, gives, fails, error_at, choose, layout_reading, ◌>=>◌}
 use Rattle.fancy_lex.specs.Referred.{Reference}
 use Rattle.fancy_lex.specs.Text.{Text, bytes, reach_of, strip}
 use Rattle.fancy_lex.specs.declared.escape.Assertion.{Assertion}
 use Rattle.fancy_lex.specs.declared.flags.Flags.{Flags}
-use Rattle.fancy_lex.proofs.ClassLaws.{class_head_frame}
+use Rattle.fancy_lex.proofs.ClassLaws.{class_start_frame}
 use Rattle.fancy_lex.proofs.EscapeFrame.{StaysSome, read_stays, escape_frame}
 use Rattle.fancy_lex.proofs.ReadingLemmas.{choose_both}
 use Rattle.fancy_lex.proofs.TextLemmas.{bytes-append}
@@ -51,7 +51,7 @@ number_escape_too : (p : ℕ) (t : Text) (other : Reading Escape) →
 unfolding number_escape
 number_escape_too p t other = by_number (group_number t)
   where
-    by_number : (o : Reading ℕ) → Too (o >=> (λ k u. fault_at p invalid_class)) other
+    by_number : (o : Reading ℕ) → Too (o >=> (λ k u. error_at p invalid_class)) other
     by_number (gives k u) = tt
     by_number (fails e) = tt
 
@@ -62,8 +62,8 @@ property_too u i inside p c [] = tt
 property_too u i inside p c (d ∷ t) = by_property (read_property (c ∈ "P") (d ∷ t)) where
   by_property : (o : Option (Property × Text)) →
       Too (choose o (λ q. gives (delegate (property_text false inside q.0) false) q.1)
-      (fault_at p unclosed_unicode_name)) (choose o (λ q. gives (delegate (property_text u inside q.0) i) q.1)
-      (fault_at p unclosed_unicode_name))
+      (error_at p unclosed_unicode_name)) (choose o (λ q. gives (delegate (property_text u inside q.0) i) q.1)
+      (error_at p unclosed_unicode_name))
   by_property None = tt
   by_property (Some q) = (_, refl)
 
@@ -72,14 +72,14 @@ byte_scalar : (v : ℕ) (a : Bool) → (a && nat_le v 0xFF) ≡ true → is_scal
 byte_scalar v false h = absurd cc
 byte_scalar v true h = grind (arith, nat_tests)
 
-both_too : (b s : Bool) (x y z : Escape) (t : Text) (e : Fault) → (b ≡ true → s ≡ true) →
+both_too : (b s : Bool) (x y z : Escape) (t : Text) (e : Located) → (b ≡ true → s ≡ true) →
     Too (if b then gives x t else if s then gives y t else fails e) (if s then gives z t else fails e)
 both_too true true x y z t e h = (z, refl)
 both_too true false x y z t e h = absurd (false≢true (h refl))
 both_too false true x y z t e h = (z, refl)
 both_too false false x y z t e h = tt
 
-same_too : (b s : Bool) (x y x' y' : Escape) (t : Text) (e e' : Fault) →
+same_too : (b s : Bool) (x y x' y' : Escape) (t : Text) (e e' : Located) →
     Too (if b then gives x t else if s then gives y t else fails e)
     (if b then gives x' t else if s then gives y' t else fails e')
 same_too true s x y x' y' t e e' = (x', refl)
@@ -127,25 +127,25 @@ alike_or None q None q' h k = k
 alike_or (Some e) q None q' h k = absurd h
 alike_or None q (Some d) q' h k = absurd h
 
-mark_alike : (b : Bool) (c : ℕ) (a : Assertion) (e : Escape) →
+boundary_alike : (b : Bool) (c : ℕ) (a : Assertion) (e : Escape) →
     Likewise (if b then literal c false else assertion a) e
-mark_alike true c a e = tt
-mark_alike false c a e = tt
+boundary_alike true c a e = tt
+boundary_alike false c a e = tt
 
 -- a character is read as such escapes under any flags
 lone_alike : (f g : Flags) (inside : Bool) (c : ℕ) → Alike (lone_escape f inside c) (lone_escape g inside c)
 unfolding lone_escape
 lone_alike f g inside c =
     alike_if (is_itself inside c) _ _ _ _ tt
-    (alike_or (row_of c (lone_anywhere f c)) _ (row_of c (lone_anywhere g c)) _ anywhere (by_place inside))
+    (alike_or (row_of c (lone_anywhere f c)) _ (row_of c (lone_anywhere g c)) _ anywhere (by_position inside))
   where
     anywhere : Alike (row_of c (lone_anywhere f c)) (row_of c (lone_anywhere g c))
     anywhere = search alike_if depth 30
 
-    by_place : (inside : Bool) → Alike (row_of c (if inside then lone_in_class c else lone_outside f c))
+    by_position : (inside : Bool) → Alike (row_of c (if inside then lone_in_class c else lone_outside f c))
         (row_of c (if inside then lone_in_class c else lone_outside g c))
-    by_place true = search alike_if depth 30
-    by_place false = search (alike_if, mark_alike) depth 30
+    by_position true = search alike_if depth 30
+    by_position false = search (alike_if, boundary_alike) depth 30
 
 lone_too : (p c : ℕ) (t : Text) (o q : Option Escape) → Alike o q →
     Too (choose o (λ e. gives e t) (unknown_escape p c)) (choose q (λ e. gives e t) (unknown_escape p c))
@@ -195,9 +195,9 @@ carry_step k (gives w v) there here e (x, h) = (x, late) where
 carry_step k (fails z) there here e h = tt
 
 -- what is left does not depend on what was written
-mark_left : (m : ℕ) (out out' t : Text) → (with_mark m (out, t)).1 ≡ (with_mark m (out', t)).1
-mark_left m out out' [] = refl
-mark_left m out out' (d ∷ r) = by_test (d == m) where
+symbol_left : (m : ℕ) (out out' t : Text) → (with_symbol m (out, t)).1 ≡ (with_symbol m (out', t)).1
+symbol_left m out out' [] = refl
+symbol_left m out out' (d ∷ r) = by_test (d == m) where
   by_test : (x : Bool) →
       (choose {B = Text × Text} (if x then Some r else None) (λ u. (out ++ m ∷ [], u))
       (out, d ∷ r)).1 ≡ (choose {B = Text × Text} (if x then Some r else None) (λ u. (out' ++ m ∷ [], u))
@@ -205,14 +205,14 @@ mark_left m out out' (d ∷ r) = by_test (d == m) where
   by_test true = refl
   by_test false = refl
 
-opening_left : (out out' t : Text) → (class_head out t).1 ≡ (class_head out' t).1
-unfolding class_head
+opening_left : (out out' t : Text) → (class_start out t).1 ≡ (class_start out' t).1
+unfolding class_start
 opening_left out out' t =
-    let p = with_mark caret (out ++ open_bracket ∷ [], t) in
-    let q = with_mark caret (out' ++ open_bracket ∷ [], t) in
-    mark_left close_bracket p.0 q.0 p.1
-    ∙ ap (λ r. (with_mark close_bracket (q.0, r)).1)
-    (mark_left caret (out ++ open_bracket ∷ []) (out' ++ open_bracket ∷ []) t)
+    let p = with_symbol caret (out ++ open_bracket ∷ [], t) in
+    let q = with_symbol caret (out' ++ open_bracket ∷ [], t) in
+    symbol_left close_bracket p.0 q.0 p.1
+    ∙ ap (λ r. (with_symbol close_bracket (q.0, r)).1)
+    (symbol_left caret (out ++ open_bracket ∷ []) (out' ++ open_bracket ∷ []) t)
 
 rest_is : (a w r v : Text) → gives a r ≡ gives w v → r ≡ v
 rest_is a w r v e = cc
@@ -231,23 +231,23 @@ module _ (u i : Bool) where
 
   -- after an opening bracket
   open_carries : (k : ℕ) → ItemsCarry k → (depth : ℕ) (seen seen' : Bool) (out out' t : Text)
-      → Carries k (class_from (unicode_flags false) k depth seen (class_head out t).0 (class_head out t).1)
-      (λ j s. class_from (case_flags u i) j depth seen' (class_head out' (t ++ s)).0
-      (class_head out' (t ++ s)).1)
-  open_carries k more depth seen seen' out out' t = by_left (class_head out t).1 refl where
-    by_left : (v : Text) → (class_head out t).1 ≡ v →
-        Carries k (class_from (unicode_flags false) k depth seen (class_head out t).0 v)
-        (λ j s. class_from (case_flags u i) j depth seen' (class_head out' (t ++ s)).0
-        (class_head out' (t ++ s)).1)
-    by_left [] e = end_carries k depth seen (class_head out t).0 _
+      → Carries k (class_from (unicode_flags false) k depth seen (class_start out t).0 (class_start out t).1)
+      (λ j s. class_from (case_flags u i) j depth seen' (class_start out' (t ++ s)).0
+      (class_start out' (t ++ s)).1)
+  open_carries k more depth seen seen' out out' t = by_left (class_start out t).1 refl where
+    by_left : (v : Text) → (class_start out t).1 ≡ v →
+        Carries k (class_from (unicode_flags false) k depth seen (class_start out t).0 v)
+        (λ j s. class_from (case_flags u i) j depth seen' (class_start out' (t ++ s)).0
+        (class_start out' (t ++ s)).1)
+    by_left [] e = end_carries k depth seen (class_start out t).0 _
     by_left (c ∷ v) e =
         let left = sym (opening_left out out' t) ∙ e in
-        carry_same k _ (λ j s. class_from (case_flags u i) j depth seen' (class_head out' t).0
+        carry_same k _ (λ j s. class_from (case_flags u i) j depth seen' (class_start out' t).0
         ((c ∷ v) ++ s)) _
         (λ j s. ap (λ (p : Text × Text). class_from (case_flags u i) j depth seen' p.0 p.1)
-        (class_head_frame out' t s c v left)
-        ∙ ap (λ (r : Text). class_from (case_flags u i) j depth seen' (class_head out' t).0 (r ++ s)) left)
-        (more depth seen seen' (class_head out t).0 (class_head out' t).0 (c ∷ v))
+        (class_start_frame out' t s c v left)
+        ∙ ap (λ (r : Text). class_from (case_flags u i) j depth seen' (class_start out' t).0 (r ++ s)) left)
+        (more depth seen seen' (class_start out t).0 (class_start out' t).0 (c ∷ v))
 
   inner_carries : (k : ℕ) → ItemsCarry k →
       (depth : ℕ) (seen seen' : Bool) (out out' t : Text)
@@ -284,7 +284,7 @@ module _ (u i : Bool) where
       if c == backslash then escape (case_flags u i) true (t ++ s) >=>
       (λ e v. class_from (case_flags u i) j depth (seen' || is_negated e) (out' ++ escape_in_class seen' e) v)
       else if c == open_bracket then class_from (case_flags u i) j (depth + 1) seen'
-      (class_head out' (t ++ s)).0 (class_head out' (t ++ s)).1
+      (class_start out' (t ++ s)).0 (class_start out' (t ++ s)).1
       else if c == close_bracket
       then (if depth == 0 then gives (out' ++ c ∷ []) (t ++ s) else class_from (case_flags u i) j
       (depth - 1) seen' (out' ++ c ∷ []) (t ++ s))
@@ -306,11 +306,11 @@ module _ (u i : Bool) where
       (open_carries (suc (bytes t)) (items_carry (suc (bytes t))) 0 false false [] [] t) where
         from : (o : Reading Text) → o ≡ gives w v
             → Carries (suc (bytes t)) o
-            (λ j s. class_from (case_flags u i) j 0 false (class_head [] (t ++ s)).0
-            (class_head [] (t ++ s)).1)
+            (λ j s. class_from (case_flags u i) j 0 false (class_start [] (t ++ s)).0
+            (class_start [] (t ++ s)).1)
             → (x : Text) × ((s : Text) →
-            class_from (case_flags u i) (suc (bytes (t ++ s))) 0 false (class_head [] (t ++ s)).0
-            (class_head [] (t ++ s)).1 ≡ gives x (v ++ s))
+            class_from (case_flags u i) (suc (bytes (t ++ s))) 0 false (class_start [] (t ++ s)).0
+            (class_start [] (t ++ s)).1 ≡ gives x (v ++ s))
         from (gives a r) e (x, h) = (
           x,
           λ s. h (suc (bytes (t ++ s))) s (omega (arith, bytes-append t s))
@@ -353,7 +353,7 @@ unfolding leaf_of_value
 coded_none f w h v t = by_tests (w == 2 && not f.unicode && nat_le 0x80 v && nat_le v 0xFF) (is_scalar v) where
   by_tests : (b s : Bool) →
       NoDelegate (if b then gives (literal_bytes v) t else if s then gives
-      (literal v f.casei) t else fault_at h invalid_codepoint_value)
+      (literal v f.casei) t else error_at h invalid_codepoint_value)
   by_tests true s = tt
   by_tests false true = tt
   by_tests false false = tt
@@ -400,15 +400,15 @@ module _ (u i : Bool) where
   property_keeps p c (d ∷ t) = by_property (read_property (c ∈ "P") (d ∷ t)) (read_stays (c ∈ "P") d t) where
     by_property : (o : Option (Property × Text)) → StaysSome o (λ s. read_property (c ∈ "P") (d ∷ (t ++ s)))
         → Keeps (choose o (λ r. gives (delegate (property_text false false r.0) false) r.1)
-        (fault_at p unclosed_unicode_name))
+        (error_at p unclosed_unicode_name))
         (λ q s. choose (read_property (c ∈ "P") (d ∷ (t ++ s)))
-        (λ r. gives (delegate (property_text u false r.0) i) r.1) (fault_at q unclosed_unicode_name))
+        (λ r. gives (delegate (property_text u false r.0) i) r.1) (error_at q unclosed_unicode_name))
     by_property None h = tt
     by_property (Some a) h = (
       property_text u false a.0,
       i,
       λ q s. ap
-          (λ o. choose o (λ r. gives (delegate (property_text u false r.0) i) r.1) (fault_at q unclosed_unicode_name))
+          (λ o. choose o (λ r. gives (delegate (property_text u false r.0) i) r.1) (error_at q unclosed_unicode_name))
           (h s),
     )
 

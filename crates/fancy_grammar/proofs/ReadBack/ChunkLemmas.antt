@@ -10,16 +10,16 @@ use Rattle.std.specs.List.{list_all, AllByRecursion}
 use Rattle.std.specs.Str.{all_scalars, bytes_eq}
 use Prim.Native.Char.{code}
 use Rattle.fancy_lex.specs.Characters.{caret, ◌∈◌}
-use Rattle.fancy_lex.specs.Class.{class_head, is_plain_in_class, byte_text, upper_hex_digit}
+use Rattle.fancy_lex.specs.Class.{class_start, is_plain_in_class, byte_text, upper_hex_digit}
 use Rattle.fancy_lex.specs.Escape.{escape, escape_at, number_escape, property, lone_escape}
 use Rattle.fancy_lex.specs.Escaped.{Escape, literal, literal_bytes, delegate}
-use Rattle.fancy_lex.specs.Fault.{invalid_class, invalid_codepoint_value, unclosed_unicode_name}
+use Rattle.fancy_lex.specs.Located.{invalid_class, invalid_codepoint_value, unclosed_unicode_name}
 use Rattle.fancy_lex.specs.Hex as hexes
 use Rattle.fancy_lex.specs.Hex.{hex, value, leaf_of_value, is_scalar, fixed_digits}
 use Rattle.fancy_lex.specs.LayoutSteps.{layout}
 use Rattle.fancy_lex.specs.Property.{Property, PropertyName, single, braced, read_property, name_at, property_text}
 use Rattle.fancy_lex.specs.Property.{Form, set, pair, form, form_text, look_up, lowercase, turn, letter}
-use Rattle.fancy_lex.specs.Reading.{Reading, gives, fails, fault_at, choose, layout_reading, ◌>=>◌}
+use Rattle.fancy_lex.specs.Reading.{Reading, gives, fails, error_at, choose, layout_reading, ◌>=>◌}
 use Rattle.fancy_lex.specs.EscapeReference.{group_number}
 use Rattle.fancy_lex.specs.declared.flags.Flags.{Flags}
 use Rattle.fancy_lex.specs.Text.{Text, reach_of, strip, cut_at}
@@ -49,13 +49,13 @@ word_chunk c w h a b k =
     record { goes = word_goes (c ∷ w) h; no_caret = λ s. rw a refl; no_close = λ s. rw b refl; scalars = k }
 
 pub open_plain : (t : Text) → strip (code "^") t ≡ None → strip (code "]") t ≡ None →
-    ◌≡◌ {A = Text × Text} (class_head [] t) (code "[" ∷ [], t)
-unfolding class_head
+    ◌≡◌ {A = Text × Text} (class_start [] t) (code "[" ∷ [], t)
+unfolding class_start
 open_plain t a b = rw (a, b) refl
 
 pub open_caret : (t : Text) → strip (code "]") t ≡ None →
-    ◌≡◌ {A = Text × Text} (class_head [] (code "^" ∷ t)) (code "[" ∷ code "^" ∷ [], t)
-unfolding class_head
+    ◌≡◌ {A = Text × Text} (class_start [] (code "^" ∷ t)) (code "[" ∷ code "^" ∷ [], t)
+unfolding class_start
 open_caret t b = rw b refl
 
 pub bracket_goes : (w : Text) → Chunk w → (s : Text) → ClassGoes ((w ++ code "]" ∷ []) ++ s) s
@@ -276,7 +276,7 @@ coded_some h v s l =
     by_tests (2 == 2 && not false && nat_le 0x80 v && nat_le v 0xFF) (is_scalar v) (small_scalar v l) where
       by_tests : (b c : Bool) → c ≡ true →
           (e : Escape) × ((if b then gives (literal_bytes v) s else if c then gives
-          (literal v false) s else fault_at h invalid_codepoint_value) ≡ gives e s)
+          (literal v false) s else error_at h invalid_codepoint_value) ≡ gives e s)
       by_tests true c k = (_, refl)
       by_tests false true k = (_, refl)
       by_tests false false k = absurd cc
@@ -452,7 +452,7 @@ number_escape_fine : (p : ℕ) (f : Flags) (t : Text) → FineOf (number_escape 
 unfolding number_escape
 number_escape_fine p f t = by_number (group_number t)
   where
-    by_number : (o : Reading ℕ) → FineOf (o >=> (λ k u. fault_at p invalid_class))
+    by_number : (o : Reading ℕ) → FineOf (o >=> (λ k u. error_at p invalid_class))
     by_number (gives k u) = tt
     by_number (fails e) = tt
 
@@ -463,9 +463,9 @@ coded_fine : (u i : Bool) (w h v : ℕ) (t : Text) → FineOf (leaf_of_value (ca
 unfolding leaf_of_value
 coded_fine u i w h v t =
     fine_if (w == 2 && not u && nat_le 0x80 v && nat_le v 0xFF) (gives (literal_bytes v) t)
-    (if is_scalar v then gives (literal v i) t else fault_at h invalid_codepoint_value)
+    (if is_scalar v then gives (literal v i) t else error_at h invalid_codepoint_value)
     (λ e. second_so (w == 2 && not u && nat_le 0x80 v) _ e)
-    (fine_if (is_scalar v) (gives (literal v i) t) (fault_at h invalid_codepoint_value) (scalar_is v) tt)
+    (fine_if (is_scalar v) (gives (literal v i) t) (error_at h invalid_codepoint_value) (scalar_is v) tt)
 
 hex_fine : (u i : Bool) (w : ℕ) (t : Text) → FineOf (hex (case_flags u i) w t)
 unfolding hex
@@ -475,7 +475,7 @@ hex_fine u i w t =
 
 read_fine : (u i : Bool) (p : ℕ) (b : Bool) (o : Option (PropertyName × Text)) → NameSome o
     → FineOf (choose (option_map {T = PropertyName × Text} {U = Property × Text} (λ q. (prop b q.0, q.1)) o)
-    (λ q. gives (delegate (property_text u true q.0) i) q.1) (fault_at p unclosed_unicode_name))
+    (λ q. gives (delegate (property_text u true q.0) i) q.1) (error_at p unclosed_unicode_name))
 read_fine u i p b None h = tt
 read_fine u i p b (Some q) h = property_chunk u b q.0 h
 

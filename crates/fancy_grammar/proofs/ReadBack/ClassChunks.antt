@@ -5,7 +5,7 @@ use Rattle.std.proofs.lemmas.Bool.{and_from, cond_both}
 use Rattle.std.specs.Char.{IsScalar}
 use Rattle.std.specs.Str.{all_scalars}
 use Prim.Native.Char.{code}
-use Rattle.fancy_lex.specs.Class.{Class, class_items, ClassItems, close, plain, escaped, nested, written, class_head}
+use Rattle.fancy_lex.specs.Class.{Class, class_items, ClassItems, close, plain, escaped, nested, written, class_start}
 use Rattle.fancy_lex.specs.Class.{escape_in_class, is_negated, is_plain_in_class, needs_backslash_in_class, char_text}
 use Rattle.fancy_lex.specs.Escape.{escape, escape_at, lone_escape}
 use Rattle.fancy_lex.specs.Escaped.{Escape, literal, literal_bytes, delegate}
@@ -39,9 +39,9 @@ pass_nested t s v k g b =
     let (y, a, i) = g c in
     (x ++ y, a, nested h i)
 
-pub pass_class : (t head r v : Text) → ◌≡◌ {A = Text × Text} (class_head [] t) (head, r) → Goes r v →
+pub pass_class : (t opening r v : Text) → ◌≡◌ {A = Text × Text} (class_start [] t) (opening, r) → Goes r v →
     ClassGoes t v
-pass_class t head r v e g b = let (y, a, h) = g b in (head ++ y, a, class_items e h)
+pass_class t opening r v e g b = let (y, a, h) = g b in (opening ++ y, a, class_items e h)
 
 -- what is written for an item: a class continues after it, and it begins with neither a caret nor a closing bracket
 pub record Chunk (w : Text) : Type 0 where
@@ -76,26 +76,26 @@ amp_chunk = record {
 
 -- ---- characters
 
-abbrev class_marks : Text
-class_marks = codes "\\.+*?()|[]{}^$#&-~"
+abbrev class_metacharacters : Text
+class_metacharacters = codes "\\.+*?()|[]{}^$#&-~"
 
 abbrev Escapes : ℕ → Type 0
 Escapes c = (s : Text) → escape (unicode_flags false) true (c ∷ s) ≡ gives (literal c false) s
 
-escapes_marks : Each Escapes class_marks
+escapes_metacharacters : Each Escapes class_metacharacters
 unfolding escape_at lone_escape
-escapes_marks =
+escapes_metacharacters =
     also (λ s. refl) (also (λ s. refl) (also (λ s. refl) (also (λ s. refl)
     (also (λ s. refl) (also (λ s. refl) (also (λ s. refl) (also (λ s. refl)
     (also (λ s. refl) (also (λ s. refl) (also (λ s. refl) (also (λ s. refl)
     (also (λ s. refl) (also (λ s. refl) (also (λ s. refl) (also (λ s. refl)
     (also (λ s. refl) (also (λ s. refl) no_more)))))))))))))))))
 
-mark_chunk : (c : ℕ) → IsScalar c → needs_backslash_in_class c ≡ true → Chunk (code "\\" ∷ c ∷ [])
-mark_chunk c k h =
+metacharacter_chunk : (c : ℕ) → IsScalar c → needs_backslash_in_class c ≡ true → Chunk (code "\\" ∷ c ∷ [])
+metacharacter_chunk c k h =
     record {
       goes = λ s v g. pass_escape (c ∷ s) s v (literal c false)
-          (each_among Escapes class_marks c escapes_marks h s) g;
+          (each_among Escapes class_metacharacters c escapes_metacharacters h s) g;
       no_caret = λ s. refl;
       no_close = λ s. refl;
       scalars = and_from _ true k refl;
@@ -113,4 +113,4 @@ plain_chunk c i h =
     }
 
 pub char_chunk : (c : ℕ) → IsScalar c → Chunk (char_text c)
-char_chunk c k = cond_both (needs_backslash_in_class c) _ _ Chunk (λ h. mark_chunk c k h) (λ h. plain_chunk c k h)
+char_chunk c k = cond_both (needs_backslash_in_class c) _ _ Chunk (λ h. metacharacter_chunk c k h) (λ h. plain_chunk c k h)

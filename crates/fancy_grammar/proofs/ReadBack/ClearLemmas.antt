@@ -9,45 +9,45 @@ use Prim.Native.Char.{code}
 use Rattle.fancy_lex.specs.Characters.{is_among, ◌∈◌, bar}
 use Rattle.fancy_lex.specs.Escape.{escape, escape_at, lone_escape}
 use Rattle.fancy_lex.specs.Escaped as escaped
-use Rattle.fancy_lex.specs.LayoutSteps.{layout, after_comment_head, rest}
+use Rattle.fancy_lex.specs.LayoutSteps.{layout, after_comment_start, rest}
 use Rattle.fancy_lex.specs.Reading.{gives}
 use Rattle.fancy_lex.specs.Text.{Text, strip}
 use Rattle.fancy_lex.specs.declared.flags.Flags.{Flags}
 use Rattle.fancy_lex.proofs.LayoutLemmas.{between_plain}
 use Rattle.fancy_parts.specs.Quantifier.{counts}
-use Rattle.fancy_parts.specs.Quote.{behind_backslash, marks_with_backslash, needs_backslash}
+use Rattle.fancy_parts.specs.Quote.{after_backslash, metacharacters, needs_backslash}
 use Rattle.fancy_grammar.specs.State.{ends}
 
 -- an operator or brace of a quantifier is next
-abbrev pub begins_mark : Text → Bool
-begins_mark [] = false
-begins_mark (c ∷ s) = c ∈ "?*+{"
+abbrev pub begins_quantifier : Text → Bool
+begins_quantifier [] = false
+begins_quantifier (c ∷ s) = c ∈ "?*+{"
 
 pub record Clear (s : Text) : Type 0 where
-  pub no_comment : after_comment_head s ≡ None
-  pub no_mark : begins_mark s ≡ false
+  pub no_comment : after_comment_start s ≡ None
+  pub no_quantifier : begins_quantifier s ≡ false
 
-pub not_open : (c : ℕ) (s : Text) → (c == code "(") ≡ false → after_comment_head (c ∷ s) ≡ None
+pub not_open : (c : ℕ) (s : Text) → (c == code "(") ≡ false → after_comment_start (c ∷ s) ≡ None
 not_open c s e = rw e refl
 
-pub not_asking : (s : Text) → strip (code "?") s ≡ None → after_comment_head (code "(" ∷ s) ≡ None
+pub not_asking : (s : Text) → strip (code "?") s ≡ None → after_comment_start (code "(" ∷ s) ≡ None
 not_asking s e = rw e refl
 
-pub no_layout : (s : Text) → after_comment_head s ≡ None → layout false s ≡ rest s
+pub no_layout : (s : Text) → after_comment_start s ≡ None → layout false s ≡ rest s
 no_layout s e = between_plain s e
 
 pub clear_layout : (s : Text) → Clear s → layout false s ≡ rest s
 clear_layout s h = no_layout s h.no_comment
 
 -- a character that begins no quantifier
-pub record NoMark (c : ℕ) : Type 0 where
+pub record NoQuantifier (c : ℕ) : Type 0 where
   pub question : (c == code "?") ≡ false
   pub star : (c == code "*") ≡ false
   pub plus : (c == code "+") ≡ false
   pub brace : (c == code "{") ≡ false
 
-pub no_mark_is : (c : ℕ) → c ∈ "?*+{" ≡ false → NoMark c
-no_mark_is c h =
+pub no_quantifier_is : (c : ℕ) → c ∈ "?*+{" ≡ false → NoQuantifier c
+no_quantifier_is c h =
     let (a, h1) = or_parts (c == code "?") _ h in
     let (b, h2) = or_parts (c == code "*") _ h1 in
     let (d, e) = or_parts (c == code "+") _ h2 in
@@ -56,23 +56,23 @@ no_mark_is c h =
 pub clear_counts : (x : Bool) (s : Text) → Clear s → counts x s ≡ None
 unfolding counts
 clear_counts x [] h = refl
-clear_counts x (c ∷ s) h = let m = no_mark_is c h.no_mark in rw (m.question, m.star, m.plus, m.brace) refl
+clear_counts x (c ∷ s) h = let m = no_quantifier_is c h.no_quantifier in rw (m.question, m.star, m.plus, m.brace) refl
 
 pub clear_lazy : (s : Text) → Clear s → strip (code "?") s ≡ None
 clear_lazy [] h = refl
-clear_lazy (c ∷ s) h = rw ((no_mark_is c h.no_mark).question) refl
+clear_lazy (c ∷ s) h = rw ((no_quantifier_is c h.no_quantifier).question) refl
 
 pub clear_star : (s : Text) → Clear s → strip (code "*") s ≡ None
 clear_star [] h = refl
-clear_star (c ∷ s) h = rw ((no_mark_is c h.no_mark).star) refl
+clear_star (c ∷ s) h = rw ((no_quantifier_is c h.no_quantifier).star) refl
 
 pub clear_plus : (s : Text) → Clear s → strip (code "+") s ≡ None
 clear_plus [] h = refl
-clear_plus (c ∷ s) h = rw ((no_mark_is c h.no_mark).plus) refl
+clear_plus (c ∷ s) h = rw ((no_quantifier_is c h.no_quantifier).plus) refl
 
 pub clear_brace : (s : Text) → Clear s → strip (code "{") s ≡ None
 clear_brace [] h = refl
-clear_brace (c ∷ s) h = rw ((no_mark_is c h.no_mark).brace) refl
+clear_brace (c ∷ s) h = rw ((no_quantifier_is c h.no_quantifier).brace) refl
 
 -- a branch stops here
 pub record Stops (v : Text) : Type 0 where
@@ -85,26 +85,26 @@ pub record Ends (v : Text) : Type 0 where
   pub no_bar : strip bar v ≡ None
 
 pub clear_close : (v : Text) → Clear (code ")" ∷ v)
-clear_close v = record { no_comment = refl; no_mark = refl }
+clear_close v = record { no_comment = refl; no_quantifier = refl }
 
 pub stops_bar : (v : Text) → Stops (code "|" ∷ v)
-stops_bar v = record { clear = record { no_comment = refl; no_mark = refl }; ends = refl }
+stops_bar v = record { clear = record { no_comment = refl; no_quantifier = refl }; ends = refl }
 
 pub ends_close : (v : Text) → Ends (code ")" ∷ v)
 ends_close v = record { stops = record { clear = clear_close v; ends = refl }; no_bar = refl }
 
 pub ends_nothing : Ends []
 ends_nothing = record {
-  stops = record { clear = record { no_comment = refl; no_mark = refl }; ends = refl };
+  stops = record { clear = record { no_comment = refl; no_quantifier = refl }; ends = refl };
   no_bar = refl;
 }
 
 -- ---- the characters that are quoted
 
 -- a character that fails a test differs from each one that passes it
-pub apart : (test : ℕ → Bool) (c : ℕ) → test c ≡ false → (mark : ℕ) → test mark ≡ true → (c == mark) ≡ false
-apart test c fails mark passes =
-    false_from_ne_true (c == mark) (λ same. false≢true (sym fails ∙ ap test (eqb-true c mark same) ∙ passes))
+pub apart : (test : ℕ → Bool) (c : ℕ) → test c ≡ false → (symbol : ℕ) → test symbol ≡ true → (c == symbol) ≡ false
+apart test c fails symbol passes =
+    false_from_ne_true (c == symbol) (λ same. false≢true (sym fails ∙ ap test (eqb-true c symbol same) ∙ passes))
 
 -- P holds for each of the characters
 pub data Each (P : ℕ → Type 0) : List ℕ → Type 0 where
@@ -126,8 +126,8 @@ pub each_among : (P : ℕ → Type 0) (xs : List ℕ) (c : ℕ) → Each P xs �
 each_among P xs c h e = each_at P xs c h (sym (among_any c xs) ∙ e)
 
 -- a character that is printed as itself is no metacharacter
-pub behind_none : (c : ℕ) → behind_backslash c ≡ None → needs_backslash c ≡ false
-behind_none c =
+pub after_none : (c : ℕ) → after_backslash c ≡ None → needs_backslash c ≡ false
+after_none c =
     let IsPlain : Option ℕ → Type 0 = λ o. o ≡ None → needs_backslash c ≡ false in
     cond_both (c == code "\n") _ _ IsPlain (λ t e. absurd cc)
     (λ _. cond_both (c == code "\t") _ _ IsPlain (λ t e. absurd cc)
@@ -138,9 +138,9 @@ behind_none c =
 abbrev pub Escapes : ℕ → ℕ → Type 0
 Escapes x c = (f : Flags) (t : Text) → escape f false (x ∷ t) ≡ gives (escaped.literal c false) t
 
-escapes_marks : Each (λ m. Escapes m m) marks_with_backslash
+escapes_metacharacters : Each (λ m. Escapes m m) metacharacters
 unfolding escape_at lone_escape
-escapes_marks =
+escapes_metacharacters =
     also (λ f t. refl) (also (λ f t. refl) (also (λ f t. refl) (also (λ f t. refl)
     (also (λ f t. refl) (also (λ f t. refl) (also (λ f t. refl) (also (λ f t. refl)
     (also (λ f t. refl) (also (λ f t. refl) (also (λ f t. refl) (also (λ f t. refl)
@@ -158,8 +158,8 @@ escapes_r : Escapes (code "r") (code "\r")
 unfolding escape_at lone_escape
 escapes_r f t = refl
 
-pub behind_some : (c x : ℕ) → behind_backslash c ≡ Some x → Escapes x c
-behind_some c x =
+pub after_some : (c x : ℕ) → after_backslash c ≡ Some x → Escapes x c
+after_some c x =
     cond_both (c == code "\n") _ _ (λ y. y ≡ Some x → Escapes x c)
     (λ t e. from (code "n") (code "\n") e t escapes_n)
     (λ _. cond_both (c == code "\t") _ _ (λ y. y ≡ Some x → Escapes x c)
@@ -168,7 +168,7 @@ behind_some c x =
     (λ t e. from (code "r") (code "\r") e t escapes_r)
     (λ _. cond_both (needs_backslash c) _ _ (λ y. y ≡ Some x → Escapes x c)
     (λ t e. subst (λ y. Escapes y c) (same_Some c x e)
-    (each_at (λ m. Escapes m m) marks_with_backslash c escapes_marks t))
+    (each_at (λ m. Escapes m m) metacharacters c escapes_metacharacters t))
     (λ _ e. absurd cc))))
   where
     from : (y d : ℕ) → Some y ≡ Some x → (c == d) ≡ true → Escapes y d → Escapes x c

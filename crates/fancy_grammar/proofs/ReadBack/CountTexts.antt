@@ -11,14 +11,14 @@ use Rattle.std.proofs.lemmas.Str.Parse.{digit_from_value}
 use Prim.Native.Char.{code}
 use Rattle.fancy_lex.specs.Boundary.{unnamed_boundary, at_count}
 use Rattle.fancy_lex.specs.BoundarySteps.{boundary}
-use Rattle.fancy_lex.specs.LayoutSteps.{after_comment_head, rest_of, past_layout}
+use Rattle.fancy_lex.specs.LayoutSteps.{after_comment_start, rest_of, past_layout}
 use Rattle.fancy_lex.specs.Number.{at_digit, number, run}
 use Rattle.fancy_lex.specs.Reading.{gives}
 use Rattle.fancy_lex.specs.Text.{Text, strip}
 use Rattle.fancy_lex.proofs.NumberLemmas.{number_none, number_some, run_stop}
 use Rattle.fancy_parts.specs.Quantifier.{most, count, spaced_count, counts_from, braced_counts, counts}
 use Rattle.fancy_parts.specs.declared.counts.Counts.{Counts}
-use Rattle.fancy_parts.specs.Quote.{range, mark, counts_as, counts_text, quantifier}
+use Rattle.fancy_parts.specs.Quote.{range, operator, counts_as, counts_text, quantifier}
 use Rattle.fancy_grammar.proofs.ReadBack.ClearLemmas.{Clear, not_open, no_layout, clear_brace}
 
 pub digit_is : (c : ℕ) → digit_value c < 10 → (is_ascii_digit c ≡ true) × (c - code "0" ≡ digit_value c)
@@ -47,11 +47,11 @@ number_read n s h d =
     number_some (decimal n ++ s) (number_first (decimal n) s numeral)
     ∙ ap Some (run_read 0 (decimal n) s numeral.1 d ∙ ap (λ k. (k, s)) value)
 
-no_comment : (ds s : Text) → IsNumeral 10 ds → after_comment_head (ds ++ s) ≡ None
+no_comment : (ds s : Text) → IsNumeral 10 ds → after_comment_start (ds ++ s) ≡ None
 no_comment [] s h = absurd (omega (arith, h.0))
 no_comment (d ∷ ds) s h = let r = digit_from_value d h.1.0 in not_open d (ds ++ s) (ne_eqb d (code "(") (omega arith))
 
-skip_same : (s : Text) → after_comment_head s ≡ None → past_layout false s ≡ Some s
+skip_same : (s : Text) → after_comment_start s ≡ None → past_layout false s ≡ Some s
 skip_same s e = ap rest_of (no_layout s e)
 
 abbrev counted_some : ℕ → Text → Option (Option ℕ × Text)
@@ -60,7 +60,7 @@ counted_some n s = Some (Some n, s)
 abbrev counted_none : Text → Option (Option ℕ × Text)
 counted_none s = Some (None, s)
 
-count_read : (n : ℕ) (s : Text) → n < 2 ^ 64 → at_digit s ≡ false → after_comment_head s ≡ None →
+count_read : (n : ℕ) (s : Text) → n < 2 ^ 64 → at_digit s ≡ false → after_comment_start s ≡ None →
     spaced_count false (decimal n ++ s) ≡ counted_some n s
 unfolding spaced_count count
 count_read n s h d e =
@@ -73,7 +73,7 @@ count_read n s h d e =
       skip_same s e,
     ) refl
 
-count_none : (s : Text) → at_digit s ≡ false → after_comment_head s ≡ None → spaced_count false s ≡ counted_none s
+count_none : (s : Text) → at_digit s ≡ false → after_comment_start s ≡ None → spaced_count false s ≡ counted_none s
 unfolding spaced_count count
 count_none s d e = rw (skip_same s e, number_none s d, skip_same s e) refl
 
@@ -102,7 +102,7 @@ braces_both lo hi s l h =
 abbrev pub NoName : Text → Type 0
 NoName v = (p : ℕ) (negated : Bool) → boundary false p negated v ≡ gives (unnamed_boundary negated) v
 
-pub no_brace : (v : Text) → after_comment_head v ≡ None → strip (code "{") v ≡ None → NoName v
+pub no_brace : (v : Text) → after_comment_start v ≡ None → strip (code "{") v ≡ None → NoName v
 unfolding boundary
 no_brace v e b p negated = rw (no_layout v e, b) refl
 
@@ -119,21 +119,21 @@ brace_name ds s h p negated =
     rw (no_layout (code "{" ∷ (ds ++ s)) refl, no_layout (ds ++ s) (no_comment ds s h), digit_first ds s h) refl
 
 -- the operator w before s
-pub record IsMark (lo hi : ℕ) (s w : Text) : Type 0 where
+pub record IsOperator (lo hi : ℕ) (s w : Text) : Type 0 where
   pub braces : Bool
   pub counts : counts false (w ++ s) ≡ counts_and_rest lo hi braces s
-  pub no_comment : after_comment_head (w ++ s) ≡ None
+  pub no_comment : after_comment_start (w ++ s) ≡ None
   pub no_name : NoName (w ++ s)
 
 same_counts : (lo hi l h : ℕ) (b : Bool) (s : Text) → l ≡ lo → h ≡ hi →
     counts_and_rest lo hi b s ≡ counts_and_rest l h b s
 same_counts lo hi l h b s e g = ap₂ (λ x y. counts_and_rest x y b s) (sym e) (sym g)
 
-brace_mark : (lo hi n : ℕ) (w r s : Text) → n < 2 ^ 64 → r ≡ decimal n ++ w →
+brace_operator : (lo hi n : ℕ) (w r s : Text) → n < 2 ^ 64 → r ≡ decimal n ++ w →
     braced_counts false (decimal n ++ (w ++ code "}" ∷ s)) ≡ counts_and_rest lo hi true s →
-    IsMark lo hi s (codes "{" ++ (r ++ codes "}"))
+    IsOperator lo hi s (codes "{" ++ (r ++ codes "}"))
 unfolding counts
-brace_mark lo hi n w r s h q e =
+brace_operator lo hi n w r s h q e =
     let numeral = (decimal_is_IsNumeral n h).0 in
     let same : (r ++ code "}" ∷ []) ++ s ≡ decimal n ++ (w ++ code "}" ∷ s) =
     append_assoc r (code "}" ∷ []) s ∙ ap (λ x. x ++ code "}" ∷ s) q ∙ append_assoc (decimal n) w (code "}" ∷ s) in
@@ -144,9 +144,9 @@ brace_mark lo hi n w r s h q e =
       no_name = subst (λ x. NoName (code "{" ∷ x)) (sym same) (brace_name (decimal n) (w ++ code "}" ∷ s) numeral);
     }
 
-sign_mark : (lo hi l h c : ℕ) (s : Text) → lo ≡ l → hi ≡ h → counts false (c ∷ s) ≡ counts_and_rest l h false s →
-    after_comment_head (c ∷ s) ≡ None → strip (code "{") (c ∷ s) ≡ None → IsMark lo hi s (c ∷ [])
-sign_mark lo hi l h c s a b e o n =
+sign_operator : (lo hi l h c : ℕ) (s : Text) → lo ≡ l → hi ≡ h → counts false (c ∷ s) ≡ counts_and_rest l h false s →
+    after_comment_start (c ∷ s) ≡ None → strip (code "{") (c ∷ s) ≡ None → IsOperator lo hi s (c ∷ [])
+sign_operator lo hi l h c s a b e o n =
     record {
       braces = false;
       counts = e ∙ same_counts l h lo hi false s a b;
@@ -154,34 +154,34 @@ sign_mark lo hi l h c s a b e o n =
       no_name = no_brace (c ∷ s) o n;
     }
 
-abbrev MarkIs : ℕ → ℕ → Text → Option ℕ → Type 0
-MarkIs lo hi s o = IsMark lo hi s (counts_as lo hi o)
+abbrev OperatorIs : ℕ → ℕ → Text → Option ℕ → Type 0
+OperatorIs lo hi s o = IsOperator lo hi s (counts_as lo hi o)
 
-range_mark : (lo hi : ℕ) (s : Text) → lo < 2 ^ 64 → hi < 2 ^ 64 → MarkIs lo hi s None
+range_operator : (lo hi : ℕ) (s : Text) → lo < 2 ^ 64 → hi < 2 ^ 64 → OperatorIs lo hi s None
 unfolding range
-range_mark lo hi s l h =
-    cond_both (lo == hi) _ _ (λ r. IsMark lo hi s (codes "{" ++ (r ++ codes "}")))
-    (λ e. brace_mark lo hi lo [] _ s l (sym (append-nil (decimal lo)))
+range_operator lo hi s l h =
+    cond_both (lo == hi) _ _ (λ r. IsOperator lo hi s (codes "{" ++ (r ++ codes "}")))
+    (λ e. brace_operator lo hi lo [] _ s l (sym (append-nil (decimal lo)))
     (braces_one lo s l ∙ same_counts lo lo lo hi true s refl (sym (eqb-true lo hi e))))
-    (λ _. cond_both (hi == most) _ _ (λ r. IsMark lo hi s (codes "{" ++ (r ++ codes "}")))
-    (λ e. brace_mark lo hi lo (codes ",") _ s l refl
+    (λ _. cond_both (hi == most) _ _ (λ r. IsOperator lo hi s (codes "{" ++ (r ++ codes "}")))
+    (λ e. brace_operator lo hi lo (codes ",") _ s l refl
     (braces_open lo s l ∙ same_counts lo most lo hi true s refl (eqb-true hi most e)))
-    (λ _. brace_mark lo hi lo (codes "," ++ decimal hi) _ s l refl
+    (λ _. brace_operator lo hi lo (codes "," ++ decimal hi) _ s l refl
     (ap (λ x. braced_counts false (decimal lo ++ code "," ∷ x)) refl ∙ braces_both lo hi s l h)))
 
-mark_read : (lo hi : ℕ) (s : Text) → lo < 2 ^ 64 → hi < 2 ^ 64 → IsMark lo hi s (counts_text lo hi)
-unfolding counts_text mark counts
-mark_read lo hi s l h =
-    cond_both ((lo == 0) && (hi == 1)) _ _ (MarkIs lo hi s)
-    (λ e. let (a, b) = and_parts _ _ e in sign_mark lo hi 0 1 (code "?") s (eqb-true lo 0 a) (eqb-true hi 1 b) refl refl
+operator_read : (lo hi : ℕ) (s : Text) → lo < 2 ^ 64 → hi < 2 ^ 64 → IsOperator lo hi s (counts_text lo hi)
+unfolding counts_text operator counts
+operator_read lo hi s l h =
+    cond_both ((lo == 0) && (hi == 1)) _ _ (OperatorIs lo hi s)
+    (λ e. let (a, b) = and_parts _ _ e in sign_operator lo hi 0 1 (code "?") s (eqb-true lo 0 a) (eqb-true hi 1 b) refl refl
     refl)
-    (λ _. cond_both ((lo == 0) && (hi == most)) _ _ (MarkIs lo hi s)
+    (λ _. cond_both ((lo == 0) && (hi == most)) _ _ (OperatorIs lo hi s)
     (λ e. let (a, b) = and_parts _ _ e in
-    sign_mark lo hi 0 most (code "*") s (eqb-true lo 0 a) (eqb-true hi most b) refl refl refl)
-    (λ _. cond_both ((lo == 1) && (hi == most)) _ _ (MarkIs lo hi s)
+    sign_operator lo hi 0 most (code "*") s (eqb-true lo 0 a) (eqb-true hi most b) refl refl refl)
+    (λ _. cond_both ((lo == 1) && (hi == most)) _ _ (OperatorIs lo hi s)
     (λ e. let (a, b) = and_parts _ _ e in
-    sign_mark lo hi 1 most (code "+") s (eqb-true lo 1 a) (eqb-true hi most b) refl refl refl)
-    (λ _. range_mark lo hi s l h)))
+    sign_operator lo hi 1 most (code "+") s (eqb-true lo 1 a) (eqb-true hi most b) refl refl refl)
+    (λ _. range_operator lo hi s l h)))
 
 -- the lazy operator
 abbrev pub lazy : Bool → Text
@@ -190,7 +190,7 @@ lazy false = codes "?"
 
 -- a whole quantifier before v
 pub record IsQuantifier (lo hi : ℕ) (greedy : Bool) (v q : Text) : Type 0 where
-  pub no_comment : after_comment_head q ≡ None
+  pub no_comment : after_comment_start q ≡ None
   pub braces : Bool
   pub counts : counts false q ≡ counts_and_rest lo hi braces (lazy greedy ++ v)
   pub no_name : NoName q
@@ -202,7 +202,7 @@ lazy_is lo hi false = refl
 pub quantifier_read : (lo hi : ℕ) (greedy : Bool) (v : Text) → lo < 2 ^ 64 → hi < 2 ^ 64 →
     IsQuantifier lo hi greedy v (quantifier lo hi greedy ++ v)
 quantifier_read lo hi greedy v l h =
-    let m = mark_read lo hi (lazy greedy ++ v) l h in
+    let m = operator_read lo hi (lazy greedy ++ v) l h in
     subst (IsQuantifier lo hi greedy v)
     (sym (ap (λ w. w ++ v) (lazy_is lo hi greedy) ∙ append_assoc (counts_text lo hi) (lazy greedy) v))
     (record { no_comment = m.no_comment; braces = m.braces; counts = m.counts; no_name = m.no_name })

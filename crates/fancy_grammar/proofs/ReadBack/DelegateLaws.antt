@@ -10,18 +10,18 @@ use Rattle.fancy_lex.specs.Escape.{escape, escape_at, number_escape, property, l
 use Rattle.fancy_lex.specs.EscapeReference.{numbered_reference}
 use Rattle.fancy_lex.specs.Escaped as escaped
 use Rattle.fancy_lex.specs.Escaped.{Escape}
-use Rattle.fancy_lex.specs.Fault.{unclosed_unicode_name}
+use Rattle.fancy_lex.specs.Located.{unclosed_unicode_name}
 use Rattle.fancy_lex.specs.Hex.{hex}
 use Rattle.std.specs.Char.{IsScalar, is_ascii_digit}
 use Prim.Native.Char.{code}
 use Rattle.fancy_lex.specs.Property.{Property, PropertyName, single, braced, read_property, name_at, property_text}
 use Rattle.fancy_lex.specs.Property.{Form, set, pair, form, form_text, look_up, lowercase, turn, letter}
-use Rattle.fancy_lex.specs.Reading.{Reading, gives, fault_at, choose}
+use Rattle.fancy_lex.specs.Reading.{Reading, gives, error_at, choose}
 use Rattle.fancy_lex.specs.Text.{Text, reach_of}
 use Rattle.fancy_lex.proofs.ClassLaws.{class_complete, class_reads}
 use Rattle.fancy_lex.proofs.LoneLemmas.{of_lone}
 use Rattle.fancy_lex.proofs.ReadingLemmas.{choose_both}
-use Rattle.fancy_grammar.specs.Ahead.{leaf_node, leaf_outcome}
+use Rattle.fancy_grammar.specs.AtomStart.{leaf_node, leaf_outcome}
 use Rattle.fancy_grammar.specs.Tree.{delegate}
 use Rattle.fancy_grammar.specs.Normal.{unicode_flags, case_flags, class_of, whole_leaf, normal}
 use Rattle.fancy_grammar.specs.Printable.{printable}
@@ -152,7 +152,7 @@ property_whole u b (braced s) h =
 
 read_whole : (u i : Bool) (p : ℕ) (b : Bool) (o : Option (PropertyName × Text)) → NameSome o
     → WholeOf (choose (option_map {T = PropertyName × Text} {U = Property × Text} (λ q. (prop b q.0, q.1)) o)
-    (λ q. gives (escaped.delegate (property_text u false q.0) i) q.1) (fault_at p unclosed_unicode_name))
+    (λ q. gives (escaped.delegate (property_text u false q.0) i) q.1) (error_at p unclosed_unicode_name))
 read_whole u i p b None h = tt
 read_whole u i p b (Some q) h = property_whole u b q.0 h
 

@@ -9,7 +9,7 @@ use Rattle.fancy_lex.specs.Escaped as escaped
 use Rattle.fancy_lex.specs.Escaped.{Escape}
 use Rattle.fancy_lex.specs.Reading.{Reading, gives, fails}
 use Rattle.fancy_lex.specs.Text.{Text}
-use Rattle.fancy_grammar.specs.Ahead.{read, leaf_node, leaf_outcome}
+use Rattle.fancy_grammar.specs.AtomStart.{read, leaf_node, leaf_outcome}
 use Rattle.fancy_grammar.specs.State.{State, Outcome}
 use Rattle.fancy_grammar.specs.Tree.{Tree, delegate}
 use Rattle.fancy_grammar.specs.Normal.{case_flags, unicode_flags, whole_of, whole_leaf, class_of, normal}

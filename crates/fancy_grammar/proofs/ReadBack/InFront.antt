@@ -9,7 +9,7 @@ use Rattle.fancy_lex.specs.declared.escape.Assertion.TheVariants.{StartLine, Sta
 use Rattle.fancy_lex.specs.declared.escape.Assertion.TheVariants.{LeftWordBoundary, LeftWordHalfBoundary}
 use Rattle.fancy_lex.specs.declared.escape.Assertion.TheVariants.{RightWordBoundary, RightWordHalfBoundary}
 use Rattle.fancy_lex.specs.declared.escape.Assertion.TheVariants.{WordBoundary, NotWordBoundary}
-use Rattle.fancy_parts.specs.Quote.{behind_backslash, quote_as, quote, quotes, quantifier}
+use Rattle.fancy_parts.specs.Quote.{after_backslash, quote_as, quote, quotes, quantifier}
 use Rattle.fancy_grammar.specs.Printed.{any_text, assertion_text, grouped, caseless, is_long, printed, operand_text}
 use Rattle.fancy_grammar.specs.Printed.{printed_all, printed_branches, barred}
 use Rattle.fancy_grammar.specs.Printed.{WHOLE, BRANCH, PIECE, OPERAND}
@@ -22,7 +22,7 @@ put_as c (Some x) v = code "\\" ∷ x ∷ v
 
 abbrev pub put_quotes : Text → Text → Text
 put_quotes [] v = v
-put_quotes (c ∷ cs) v = put_as c (behind_backslash c) (put_quotes cs v)
+put_quotes (c ∷ cs) v = put_as c (after_backslash c) (put_quotes cs v)
 
 abbrev pub put_any : Bool → Bool → Text → Text
 put_any true crlf v = code "(" ∷ code "?" ∷ code "s" ∷ code ":" ∷ code "." ∷ code ")" ∷ v
@@ -106,14 +106,14 @@ as_put : (c : ℕ) (o : Option ℕ) (v : Text) → put_as c o v ≡ quote_as c o
 as_put c None v = refl
 as_put c (Some x) v = refl
 
-quoted_put : (c : ℕ) (v : Text) → put_as c (behind_backslash c) v ≡ quote c ++ v
+quoted_put : (c : ℕ) (v : Text) → put_as c (after_backslash c) v ≡ quote c ++ v
 unfolding quote
-quoted_put c v = as_put c (behind_backslash c) v
+quoted_put c v = as_put c (after_backslash c) v
 
 quotes_put : (cs v : Text) → put_quotes cs v ≡ quotes cs ++ v
 quotes_put [] v = refl
 quotes_put (c ∷ cs) v =
-    ap (put_as c (behind_backslash c)) (quotes_put cs v)
+    ap (put_as c (after_backslash c)) (quotes_put cs v)
     ∙ (quoted_put c (quotes cs ++ v) ∙ sym (append_assoc (quote c) (quotes cs) v))
 
 any_put : (a b : Bool) (v : Text) → put_any a b v ≡ any_text a b ++ v

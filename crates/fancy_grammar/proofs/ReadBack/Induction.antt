@@ -6,7 +6,7 @@ use Rattle.fancy_lex.specs.Text.{Text}
 use Rattle.fancy_lex.specs.declared.escape.Assertion.{Assertion}
 use Rattle.fancy_lex.specs.declared.escape.Assertion.TheVariants.{StartLineOniguruma}
 use Rattle.fancy_grammar.specs.Depth.{max_depth}
-use Rattle.fancy_parts.specs.Quote.{behind_backslash, quantifier}
+use Rattle.fancy_parts.specs.Quote.{after_backslash, quantifier}
 use Rattle.fancy_grammar.specs.Grammar.{DerivesTree}
 use Rattle.fancy_grammar.specs.Join.{solid, join, choice}
 use Rattle.fancy_grammar.specs.Normal.{normal_character, pieces_of, case_flags, unicode_flags, normal, normal_pieces}
@@ -31,7 +31,7 @@ use Rattle.fancy_grammar.proofs.ReadBack.RuleLemmas.{join_one}
 use Rattle.fancy_grammar.proofs.ReadBack.LeafLemmas.{Begins, whole_atom, quotes_run, reads_any, begins_any}
 use Rattle.fancy_grammar.proofs.ReadBack.LeafLemmas.{reads_assertion, begins_assertion, read_assertion, HasText}
 use Rattle.fancy_grammar.proofs.ReadBack.ShapeLemmas.{DelegateText, Printable, ArePrintable, IsAtom, atom_of}
-use Rattle.fancy_grammar.proofs.ReadBack.ShapeLemmas.{begins_head, begins_group, begins_atom, begins_repeated}
+use Rattle.fancy_grammar.proofs.ReadBack.ShapeLemmas.{begins_opening, begins_group, begins_atom, begins_repeated}
 use Rattle.fancy_grammar.proofs.ReadBack.ShapeLemmas.{clear_put, clear_puts}
 
 -- what k prints, with m groups nested, is read as the tree x
@@ -73,7 +73,7 @@ wrap_atom u k m x w d v l _ =
     (w (d + 1) (code ")" ∷ v) (omega arith) (ends_close v))
 
 pub wrap_starts : (k : Text → Text) → Starts (wrapped k)
-wrap_starts k v = begins_head (code ":") (k (code ")" ∷ v)) refl
+wrap_starts k v = begins_opening (code ":") (k (code ")" ∷ v)) refl
 
 -- What the texts k3, k2, k1 and k0 of the four precedences are read as, with m3 to m0 groups nested: the tree x as an
 -- atom if IsOne holds, pieces with the trees ys, a branch with the tree x, and a whole alternation.
@@ -185,7 +185,7 @@ caseless_reads u s =
     let k = λ (v : Text). code "(" ∷ code "?" ∷ code "i" ∷ code ":" ∷ put_quotes s (code ")" ∷ v) in
     let f = case_flags u true in
     let x = join (map (normal_character true) s) in
-    by_atom u k 1 (Unit {0}) x (λ v. begins_head (code "i") _ refl)
+    by_atom u k 1 (Unit {0}) x (λ v. begins_opening (code "i") _ refl)
     (λ d v l _. reads_caseless d u (put_quotes s (code ")" ∷ v)) v x l
     (reads_only (d + 1) f (put_quotes s (code ")" ∷ v)) (code ")" ∷ v) x
     (reads_branch x (quotes_run (d + 1) f s (code ")" ∷ v) (kept_case u true) (clear_close v)) refl
@@ -194,7 +194,7 @@ caseless_reads u s =
 literal_atom : (u : Bool) (s : Text) → IsAtom (literal s false) →
     ReadsAtom u (put_quotes s) 0 (join (map (normal_character false) s))
 literal_atom u [] i d v l _ = absurd i
-literal_atom u (c ∷ []) i d v l _ = reads_char d (unicode_flags u) c v (behind_backslash c) refl
+literal_atom u (c ∷ []) i d v l _ = reads_char d (unicode_flags u) c v (after_backslash c) refl
 literal_atom u (c ∷ e ∷ cs) i d v l _ = absurd i
 
 literal_reads : (u : Bool) (s : Text) → ReadsTree u (literal s false)
@@ -213,7 +213,7 @@ caseless_delegate_reads : (u : Bool) (s : Text) → DelegateText s → ReadsTree
 caseless_delegate_reads u s h =
     let x = normal u (delegate s true) in
     by_atom u (λ v. code "(" ∷ code "?" ∷ code "i" ∷ code ":" ∷ (s ++ code ")" ∷ v)) 1 (Unit {0}) x
-    (λ v. begins_head (code "i") _ refl)
+    (λ v. begins_opening (code "i") _ refl)
     (λ d v l _. reads_caseless d u (s ++ code ")" ∷ v) v x l
     (whole_atom (d + 1) (case_flags u true) (s ++ code ")" ∷ v) v x (kept_case u true)
     (h.begins (code ")" ∷ v)) (h.reads (d + 1) u true (code ")" ∷ v))))

@@ -6,7 +6,7 @@ use Prim.Native.Char.{code}
 use Rattle.fancy_lex.specs.BoundarySteps.{boundary, named_boundary, name}
 use Rattle.fancy_lex.specs.Escape.{escape, escape_at, lone_escape, outside}
 use Rattle.fancy_lex.specs.Escaped as escaped
-use Rattle.fancy_lex.specs.LayoutSteps.{after_comment_head, layout_from}
+use Rattle.fancy_lex.specs.LayoutSteps.{after_comment_start, layout_from}
 use Rattle.fancy_lex.specs.Reading.{gives}
 use Rattle.fancy_lex.specs.Text.{Text, bytes, reach_of}
 use Rattle.fancy_lex.specs.declared.escape.Assertion.{Assertion}
@@ -17,23 +17,23 @@ use Rattle.fancy_lex.specs.declared.escape.Assertion.TheVariants.{RightWordBound
 use Rattle.fancy_lex.specs.declared.escape.Assertion.TheVariants.{WordBoundary, NotWordBoundary}
 use Rattle.fancy_lex.specs.declared.flags.Flags.{Flags}
 use Rattle.fancy_grammar.specs.Depth.{max_depth}
-use Rattle.fancy_parts.specs.FlagLetters.{scope as scoped}
+use Rattle.fancy_parts.specs.FlagLetters.{flag_group as scoped}
 use Rattle.fancy_parts.specs.LetterSteps.{letters}
-use Rattle.fancy_parts.specs.Quote.{behind_backslash, needs_backslash}
+use Rattle.fancy_parts.specs.Quote.{after_backslash, needs_backslash}
 use Rattle.fancy_grammar.specs.State as states
-use Rattle.fancy_grammar.specs.Ahead.{read, ahead, leaf_node, leaf_outcome}
+use Rattle.fancy_grammar.specs.AtomStart.{read, atom_start, leaf_node, leaf_outcome}
 use Rattle.fancy_grammar.specs.Normal.{normal_character, unicode_flags}
 use Rattle.fancy_grammar.specs.State.{done}
 use Rattle.fancy_grammar.specs.Tree.{Tree, any, assertion}
 use Rattle.fancy_grammar.specs.Over.{is_at_line}
 use Rattle.fancy_grammar.proofs.ReadBack.Nest.{one_if}
 use Rattle.fancy_grammar.proofs.ReadBack.InFront.{put_as, put_quotes, put_any, put_line, put_assertion}
-use Rattle.fancy_grammar.proofs.ReadBack.ClearLemmas.{begins_mark, Clear, not_open, clear_close, ends_close}
-use Rattle.fancy_grammar.proofs.ReadBack.ClearLemmas.{apart, behind_none}
+use Rattle.fancy_grammar.proofs.ReadBack.ClearLemmas.{begins_quantifier, Clear, not_open, clear_close, ends_close}
+use Rattle.fancy_grammar.proofs.ReadBack.ClearLemmas.{apart, after_none}
 use Rattle.fancy_grammar.proofs.ReadBack.CountTexts.{NoName}
 use Rattle.fancy_grammar.proofs.ReadBack.RuleLemmas.{Kept, kept_unicode, st, AtomAs, WholeAs, Run, no_run, run_chain}
-use Rattle.fancy_grammar.proofs.ReadBack.RuleLemmas.{reads_piece, reads_branch, reads_only, join_one, reads_scope}
-use Rattle.fancy_grammar.proofs.ReadBack.RuleLemmas.{scope_at, one_letter, two_letters, spelled, last_letter}
+use Rattle.fancy_grammar.proofs.ReadBack.RuleLemmas.{reads_piece, reads_branch, reads_only, join_one, reads_flag_group}
+use Rattle.fancy_grammar.proofs.ReadBack.RuleLemmas.{flag_group_at, one_letter, two_letters, spelled, last_letter}
 use Rattle.fancy_grammar.proofs.ReadBack.RuleLemmas.{more_letters, reads_leaf, leaf_at, reads_char}
 
 -- the text of an atom, or of what begins with one
@@ -42,8 +42,8 @@ pub record Begins (s : Text) : Type 0 where
   pub goes : states.ends s ≡ false
 
 -- decided by the first characters
-pub begins_by : {s : Text} → after_comment_head s ≡ None → begins_mark s ≡ false → states.ends s ≡ false → Begins s
-begins_by e m g = record { clear = record { no_comment = e; no_mark = m }; goes = g }
+pub begins_by : {s : Text} → after_comment_start s ≡ None → begins_quantifier s ≡ false → states.ends s ≡ false → Begins s
+begins_by e m g = record { clear = record { no_comment = e; no_quantifier = m }; goes = g }
 
 -- a single atom in a group
 pub whole_atom : (d : ℕ) (f : Flags) (s v : Text) (x : Tree) → Kept f → Begins s → AtomAs d f s (code ")" ∷ v) x →
@@ -55,13 +55,13 @@ whole_atom d f s v x k b a =
 
 -- ---- characters
 
-pub begins_char : (c : ℕ) (v : Text) (o : Option ℕ) → behind_backslash c ≡ o → Begins (put_as c o v)
+pub begins_char : (c : ℕ) (v : Text) (o : Option ℕ) → after_backslash c ≡ o → Begins (put_as c o v)
 begins_char c v None e =
-    let is_not = apart needs_backslash c (behind_none c e) in
+    let is_not = apart needs_backslash c (after_none c e) in
     record {
       clear = record {
         no_comment = not_open c v (is_not (code "(") refl);
-        no_mark =
+        no_quantifier =
             rw (is_not (code "?") refl, is_not (code "*") refl, is_not (code "+") refl, is_not (code "{") refl) refl;
       };
       goes = rw (is_not (code "|") refl, is_not (code ")") refl) refl;
@@ -70,7 +70,7 @@ begins_char c v (Some x) e = begins_by refl refl refl
 
 pub quotes_clear : (cs v : Text) → Clear v → Clear (put_quotes cs v)
 quotes_clear [] v h = h
-quotes_clear (c ∷ cs) v h = (begins_char c (put_quotes cs v) (behind_backslash c) refl).clear
+quotes_clear (c ∷ cs) v h = (begins_char c (put_quotes cs v) (after_backslash c) refl).clear
 
 -- characters, if nothing that could apply to the last one follows
 pub quotes_run : (d : ℕ) (f : Flags) (cs v : Text) → Kept f → Clear v →
@@ -78,10 +78,10 @@ pub quotes_run : (d : ℕ) (f : Flags) (cs v : Text) → Kept f → Clear v →
 quotes_run d f [] v k h = no_run d f v
 quotes_run d f (c ∷ cs) v k h =
     let s = put_quotes cs v in
-    let b = begins_char c s (behind_backslash c) refl in
-    run_chain (reads_piece d f (put_as c (behind_backslash c) s) s (normal_character f.casei c) k b.goes
+    let b = begins_char c s (after_backslash c) refl in
+    run_chain (reads_piece d f (put_as c (after_backslash c) s) s (normal_character f.casei c) k b.goes
     b.clear.no_comment
-    (quotes_clear cs v h) (reads_char d f c s (behind_backslash c) refl)) (quotes_run d f cs v k h)
+    (quotes_clear cs v h) (reads_char d f c s (after_backslash c) refl)) (quotes_run d f cs v k h)
 
 -- ---- the flags of a group that is printed for a leaf
 
@@ -140,8 +140,8 @@ pub reads_any : (d : ℕ) (u a b : Bool) (v : Text) → d + one_if (a || b) < ma
     AtomAs d (unicode_flags u) (put_any a b v) v (any a (not a && b))
 reads_any d u true b v l =
     let g = dotnl_flags u in
-    reads_scope d (unicode_flags u) g (put_any true b v) (code "." ∷ code ")" ∷ v) v (any true false)
-    (scope_at d (unicode_flags u) g (code "s" ∷ code ":" ∷ code "." ∷ code ")" ∷ v) (code "." ∷ code ")" ∷ v)
+    reads_flag_group d (unicode_flags u) g (put_any true b v) (code "." ∷ code ")" ∷ v) v (any true false)
+    (flag_group_at d (unicode_flags u) g (code "s" ∷ code ":" ∷ code "." ∷ code ")" ∷ v) (code "." ∷ code ")" ∷ v)
     (kept_unicode u) l refl refl
     (one_letter (unicode_flags u) g (code "s") (code "." ∷ code ")" ∷ v) (kept_unicode u)
     (kept_dotnl u) refl refl))
@@ -149,8 +149,8 @@ reads_any d u true b v l =
     (reads_dot (d + 1) g (code ")" ∷ v)))
 reads_any d u false true v l =
     let g = crlf_flags u in
-    reads_scope d (unicode_flags u) g (put_any false true v) (code "." ∷ code ")" ∷ v) v (any false true)
-    (scope_at d (unicode_flags u) g (code "R" ∷ code "-" ∷ code "s" ∷ code ":" ∷ code "." ∷ code ")" ∷ v)
+    reads_flag_group d (unicode_flags u) g (put_any false true v) (code "." ∷ code ")" ∷ v) v (any false true)
+    (flag_group_at d (unicode_flags u) g (code "R" ∷ code "-" ∷ code "s" ∷ code ":" ∷ code "." ∷ code ")" ∷ v)
     (code "." ∷ code ")" ∷ v)
     (kept_unicode u) l refl refl
     (minus_letters u (code "." ∷ code ")" ∷ v)))
@@ -172,16 +172,16 @@ line_atom : (d c : ℕ) (u r : Bool) (v : Text) (x : Tree) → d + 1 < max_depth
 unfolding bytes
 line_atom d c u false v x l b a =
     let g = multi_flags u false in
-    reads_scope d (unicode_flags u) g (put_line c false v) (c ∷ code ")" ∷ v) v x
-    (scope_at d (unicode_flags u) g (code "m" ∷ code ":" ∷ c ∷ code ")" ∷ v) (c ∷ code ")" ∷ v)
+    reads_flag_group d (unicode_flags u) g (put_line c false v) (c ∷ code ")" ∷ v) v x
+    (flag_group_at d (unicode_flags u) g (code "m" ∷ code ":" ∷ c ∷ code ")" ∷ v) (c ∷ code ")" ∷ v)
     (kept_unicode u) l refl refl
     (one_letter (unicode_flags u) g (code "m") (c ∷ code ")" ∷ v) (kept_unicode u)
     (kept_multi u false) refl refl))
     (whole_atom (d + 1) g (c ∷ code ")" ∷ v) v x (kept_multi u false) b a)
 line_atom d c u true v x l b a =
     let g = multi_flags u true in
-    reads_scope d (unicode_flags u) g (put_line c true v) (c ∷ code ")" ∷ v) v x
-    (scope_at d (unicode_flags u) g (code "R" ∷ code "m" ∷ code ":" ∷ c ∷ code ")" ∷ v) (c ∷ code ")" ∷ v)
+    reads_flag_group d (unicode_flags u) g (put_line c true v) (c ∷ code ")" ∷ v) v x
+    (flag_group_at d (unicode_flags u) g (code "R" ∷ code "m" ∷ code ":" ∷ c ∷ code ")" ∷ v) (c ∷ code ")" ∷ v)
     (kept_unicode u) l refl refl
     (two_letters (unicode_flags u) (crlf_flags u) g (code "R") (code "m") (c ∷ code ")" ∷ v) (kept_unicode u)
     (kept_crlf u) (kept_multi u true) (omega arith) refl refl refl refl))
@@ -189,7 +189,7 @@ line_atom d c u true v x l b a =
 
 -- an anchor, under the flags that it needs
 anchor : (d : ℕ) (f : Flags) (c : ℕ) (v : Text) (a : Assertion) →
-    ahead d (st f (c ∷ v)) ≡ read (done (assertion a) (st f v)) →
+    atom_start d (st f (c ∷ v)) ≡ read (done (assertion a) (st f v)) →
     AtomAs d f (c ∷ v) v (assertion a)
 anchor d f c v a e = reads_leaf d f (c ∷ v) v (assertion a) e (record { is = λ n u c. refl; groups = tt })
 
@@ -198,7 +198,7 @@ start_line : (d : ℕ) (u r : Bool) (v : Text) → d + 1 < max_depth →
 start_line d u r v l =
     let f = multi_flags u r in
     line_atom d (code "^") u r v (assertion (StartLine r)) l (record {
-      clear = record { no_comment = refl; no_mark = refl };
+      clear = record { no_comment = refl; no_quantifier = refl };
       goes = refl;
     })
     (anchor (d + 1) f (code "^") (code ")" ∷ v) (StartLine r)
@@ -209,7 +209,7 @@ end_line : (d : ℕ) (u r : Bool) (v : Text) → d + 1 < max_depth →
 end_line d u r v l =
     let f = multi_flags u r in
     line_atom d (code "$") u r v (assertion (EndLine r)) l (record {
-      clear = record { no_comment = refl; no_mark = refl };
+      clear = record { no_comment = refl; no_quantifier = refl };
       goes = refl;
     })
     (anchor (d + 1) f (code "$") (code ")" ∷ v) (EndLine r) (leaf_at (d + 1) f (code "$") (code ")" ∷ v) refl refl))

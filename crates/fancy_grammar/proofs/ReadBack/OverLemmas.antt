@@ -29,29 +29,29 @@ at_open_if false d inner = inner d
 -- the position, in the text at p, of the first group that opens while as many as possible are open; d are open around
 -- the tree
 abbrev mutual
-  pub place : Tree → ℕ → ℕ → ℕ
-  place (concat ts) p d = at_open_if (nat_lt BRANCH p) d (λ e. places ts e)
-  place (alt ts) p d = at_open_if (nat_lt WHOLE p) d (λ e. branch_places ts e)
-  place (group t) p d = at_open d 1 (place t WHOLE (d + 1))
-  place (repeat t lo hi greedy) p d = at_open_if (nat_lt PIECE p) d (λ e. at_open_if (is_long t) e (place t OPERAND))
-  place _ p d = 0
+  pub position : Tree → ℕ → ℕ → ℕ
+  position (concat ts) p d = at_open_if (nat_lt BRANCH p) d (λ e. positions ts e)
+  position (alt ts) p d = at_open_if (nat_lt WHOLE p) d (λ e. branch_positions ts e)
+  position (group t) p d = at_open d 1 (position t WHOLE (d + 1))
+  position (repeat t lo hi greedy) p d = at_open_if (nat_lt PIECE p) d (λ e. at_open_if (is_long t) e (position t OPERAND))
+  position _ p d = 0
 
-  pub places : Trees → ℕ → ℕ
-  places no_trees d = 0
-  places (more_trees t ts) d =
-      if nat_le max_depth (d + nest t PIECE) then place t PIECE d else bytes (printed t PIECE) + places ts
+  pub positions : Trees → ℕ → ℕ
+  positions no_trees d = 0
+  positions (more_trees t ts) d =
+      if nat_le max_depth (d + nest t PIECE) then position t PIECE d else bytes (printed t PIECE) + positions ts
       d
 
-  pub branch_places : Trees → ℕ → ℕ
-  branch_places no_trees d = 0
-  branch_places (more_trees t ts) d =
-      if nat_le max_depth (d + nest t BRANCH) then place t BRANCH d else bytes (printed t BRANCH) + barred_places ts d
+  pub branch_positions : Trees → ℕ → ℕ
+  branch_positions no_trees d = 0
+  branch_positions (more_trees t ts) d =
+      if nat_le max_depth (d + nest t BRANCH) then position t BRANCH d else bytes (printed t BRANCH) + barred_positions ts d
 
-  pub barred_places : Trees → ℕ → ℕ
-  barred_places no_trees d = 0
-  barred_places (more_trees t ts) d =
-      1 + (if nat_le max_depth (d + nest t BRANCH) then place t BRANCH d
-      else bytes (printed t BRANCH) + barred_places ts d)
+  pub barred_positions : Trees → ℕ → ℕ
+  barred_positions no_trees d = 0
+  barred_positions (more_trees t ts) d =
+      1 + (if nat_le max_depth (d + nest t BRANCH) then position t BRANCH d
+      else bytes (printed t BRANCH) + barred_positions ts d)
 
 -- ---- parentheses with this nesting have their first that is too deep there
 
@@ -60,7 +60,7 @@ first l = find is_too_deep l
 
 record Finds (k : Parens) (m : ℕ) (o : ℕ → ℕ) : Type 0 where
   deep : (start d : ℕ) → d < max_depth → max_depth ≤ d + m →
-      first (k start d) ≡ Some (record { place = start + o d; round = most_open })
+      first (k start d) ≡ Some (record { position = start + o d; round = most_open })
   shallow : (start d : ℕ) → d + m < max_depth → first (k start d) ≡ None
 
 no_group : Finds no_parens 0 (λ d. 0)
@@ -68,49 +68,49 @@ no_group = record { deep = λ start d l h. absurd (omega arith); shallow = λ st
 
 at_same : (x y : ℕ) → x ≡ y →
     ◌≡◌ {A = Option Paren}
-    (Some (record { place = x; round = most_open })) (Some (record { place = y; round = most_open }))
-at_same x y e = ap (λ z. Some (record { place = z; round = most_open })) e
+    (Some (record { position = x; round = most_open })) (Some (record { position = y; round = most_open }))
+at_same x y e = ap (λ z. Some (record { position = z; round = most_open })) e
 
 -- a group that is too deep
-at_head : (start d : ℕ) (l : List Paren) → d ≡ most_open →
-    first (record { place = start; round = d } ∷ l) ≡ Some (record { place = start + 0; round = most_open })
-at_head start d l e =
+at_opening : (start d : ℕ) (l : List Paren) → d ≡ most_open →
+    first (record { position = start; round = d } ∷ l) ≡ Some (record { position = start + 0; round = most_open })
+at_opening start d l e =
     let same : start ≡ start + 0 = omega arith in
-    cond-true _ _ _ (deep d e) ∙ (λ i. Some (record { place = same i; round = e i }))
+    cond-true _ _ _ (deep d e) ∙ (λ i. Some (record { position = same i; round = e i }))
   where
     deep : (n : ℕ) → n ≡ most_open → (n + 1 == max_depth) ≡ true
     deep n h = grind (arith, nat_tests)
 
 -- inside a group
-behind_head : (q : Paren) (l : List Paren) → q.round < most_open → first (q ∷ l) ≡ first l
-behind_head q l h = cond-false _ _ _ (not_deep q.round h)
+after_opening : (q : Paren) (l : List Paren) → q.round < most_open → first (q ∷ l) ≡ first l
+after_opening q l h = cond-false _ _ _ (not_deep q.round h)
   where
     not_deep : (n : ℕ) → n < most_open → (n + 1 == max_depth) ≡ false
     not_deep n h = grind (arith, nat_tests)
 
-group_deep : (head : Text) (k : Parens) (m : ℕ) (o : ℕ → ℕ) → Finds k m o → (b : Bool) (start d : ℕ) →
+group_deep : (opening : Text) (k : Parens) (m : ℕ) (o : ℕ → ℕ) → Finds k m o → (b : Bool) (start d : ℕ) →
     nat_le most_open d ≡ b → d < max_depth →
-    max_depth ≤ d + (1 + m) → first (in_group true head k start d) ≡
-    Some (record { place = start + (if b then 0 else bytes head + o (d + 1)); round = most_open })
-group_deep head k m o f true start d e l h =
-    at_head start d (k (start + bytes head) (d + 1)) (omega (arith, leb-true most_open d e))
-group_deep head k m o f false start d e l h =
+    max_depth ≤ d + (1 + m) → first (in_group true opening k start d) ≡
+    Some (record { position = start + (if b then 0 else bytes opening + o (d + 1)); round = most_open })
+group_deep opening k m o f true start d e l h =
+    at_opening start d (k (start + bytes opening) (d + 1)) (omega (arith, leb-true most_open d e))
+group_deep opening k m o f false start d e l h =
     let more = leb-false most_open d e in
-    behind_head (record { place = start; round = d }) (k (start + bytes head) (d + 1)) more
-    ∙ f.deep (start + bytes head) (d + 1) (omega arith) (omega arith)
+    after_opening (record { position = start; round = d }) (k (start + bytes opening) (d + 1)) more
+    ∙ f.deep (start + bytes opening) (d + 1) (omega arith) (omega arith)
     ∙ at_same _ _ (omega arith)
 
-group_shallow : (head : Text) (k : Parens) (m : ℕ) (o : ℕ → ℕ) → Finds k m o → (start d : ℕ) → d + (1 + m) < max_depth →
-    first (in_group true head k start d) ≡ None
-group_shallow head k m o f start d h =
-    behind_head (record { place = start; round = d }) (k (start + bytes head) (d + 1)) (omega arith)
-    ∙ f.shallow (start + bytes head) (d + 1) (omega arith)
+group_shallow : (opening : Text) (k : Parens) (m : ℕ) (o : ℕ → ℕ) → Finds k m o → (start d : ℕ) → d + (1 + m) < max_depth →
+    first (in_group true opening k start d) ≡ None
+group_shallow opening k m o f start d h =
+    after_opening (record { position = start; round = d }) (k (start + bytes opening) (d + 1)) (omega arith)
+    ∙ f.shallow (start + bytes opening) (d + 1) (omega arith)
 
-group_finds : (head : Text) (k : Parens) (m : ℕ) (o : ℕ → ℕ) → Finds k m o →
-    Finds (in_group true head k) (1 + m) (λ d. at_open d (bytes head) (o (d + 1)))
-group_finds head k m o f = record {
-  deep = λ start d l h. group_deep head k m o f (nat_le most_open d) start d refl l h;
-  shallow = λ start d h. group_shallow head k m o f start d h;
+group_finds : (opening : Text) (k : Parens) (m : ℕ) (o : ℕ → ℕ) → Finds k m o →
+    Finds (in_group true opening k) (1 + m) (λ d. at_open d (bytes opening) (o (d + 1)))
+group_finds opening k m o f = record {
+  deep = λ start d l h. group_deep opening k m o f (nat_le most_open d) start d refl l h;
+  shallow = λ start d h. group_shallow opening k m o f start d h;
 }
 
 -- a group around these, if asked for
@@ -125,15 +125,15 @@ if_finds false k m o f = record {
 
 leaf_finds : (b : Bool) → Finds (in_group b [] no_parens) (one_if b) (λ d. 0)
 leaf_finds true = record {
-  deep = λ start d l h. at_head start d [] (omega arith);
+  deep = λ start d l h. at_opening start d [] (omega arith);
   shallow = λ start d h. group_shallow [] no_parens 0 (λ d. 0) no_group start d (omega arith);
 }
 leaf_finds false = no_group
 
 -- ---- one part after another
 
-behind_shallow : (a b : List Paren) → first a ≡ None → first (a ++ b) ≡ first b
-behind_shallow a b e = find-append is_too_deep a b ∙ ap (λ o. option_or o (first b)) e
+after_shallow : (a b : List Paren) → first a ≡ None → first (a ++ b) ≡ first b
+after_shallow a b e = find-append is_too_deep a b ∙ ap (λ o. option_or o (first b)) e
 
 in_deep : (a b : List Paren) (q : Paren) → first a ≡ Some q → first (a ++ b) ≡ Some q
 in_deep a b q e = find-append is_too_deep a b ∙ ap (λ o. option_or o (first b)) e
@@ -143,13 +143,13 @@ both_find : (k l : Parens) (m n w : ℕ) (o r : ℕ → ℕ) → Finds k m o →
     Finds (λ start d. k start d ++ l (start + w) d) (max m n) (λ d. if nat_le max_depth (d + m) then o d else w + r d)
 both_find k l m n w o r f g = record {
   deep = λ start d h i. cond_both (nat_le max_depth (d + m)) _ _
-      (λ x. first (k start d ++ l (start + w) d) ≡ Some (record { place = start + x; round = most_open }))
+      (λ x. first (k start d ++ l (start + w) d) ≡ Some (record { position = start + x; round = most_open }))
       (λ yes. in_deep (k start d) (l (start + w) d) _ (f.deep start d h (leb-true max_depth (d + m) yes)))
       (λ no. let a = leb-false max_depth (d + m) no in
-      behind_shallow (k start d) (l (start + w) d) (f.shallow start d a) ∙ g.deep (start + w) d h (omega arith)
+      after_shallow (k start d) (l (start + w) d) (f.shallow start d a) ∙ g.deep (start + w) d h (omega arith)
       ∙ at_same _ _ (omega arith));
   shallow = λ start d h.
-      behind_shallow (k start d) (l (start + w) d) (f.shallow start d (omega arith))
+      after_shallow (k start d) (l (start + w) d) (f.shallow start d (omega arith))
       ∙ g.shallow (start + w) d (omega arith);
 }
 
@@ -163,54 +163,54 @@ shifted k m o f = record {
 none_find : Finds (λ start d. []) 0 (λ d. 0)
 none_find = record { deep = λ start d l h. absurd (omega arith); shallow = λ start d h. refl }
 
-one_group : (t : Tree) → Finds (parens t WHOLE) (nest t WHOLE) (place t WHOLE) →
-    Finds (in_group true (codes "(") (parens t WHOLE)) (1 + nest t WHOLE) (λ d. at_open d 1 (place t WHOLE (d + 1)))
+one_group : (t : Tree) → Finds (parens t WHOLE) (nest t WHOLE) (position t WHOLE) →
+    Finds (in_group true (codes "(") (parens t WHOLE)) (1 + nest t WHOLE) (λ d. at_open d 1 (position t WHOLE (d + 1)))
 unfolding bytes
-one_group t f = group_finds (codes "(") (parens t WHOLE) (nest t WHOLE) (place t WHOLE) f
+one_group t f = group_finds (codes "(") (parens t WHOLE) (nest t WHOLE) (position t WHOLE) f
 
 -- by induction on the tree
 mutual
-  parens_find : (t : Tree) (p : ℕ) → Finds (parens t p) (nest t p) (place t p)
+  parens_find : (t : Tree) (p : ℕ) → Finds (parens t p) (nest t p) (position t p)
   parens_find (any newline crlf) p = leaf_finds (newline || crlf)
   parens_find (assertion a) p = leaf_finds (is_at_line a)
   parens_find (literal s casei) p = leaf_finds casei
   parens_find (delegate s casei) p = leaf_finds casei
-  parens_find (concat ts) p = if_finds (nat_lt BRANCH p) (parens_all ts) (nests ts PIECE) (places ts) (all_find ts)
+  parens_find (concat ts) p = if_finds (nat_lt BRANCH p) (parens_all ts) (nests ts PIECE) (positions ts) (all_find ts)
   parens_find (alt ts) p =
-      if_finds (nat_lt WHOLE p) (parens_branches ts) (nests ts BRANCH) (branch_places ts) (branches_find ts)
+      if_finds (nat_lt WHOLE p) (parens_branches ts) (nests ts BRANCH) (branch_positions ts) (branches_find ts)
   parens_find (group t) p = one_group t (parens_find t WHOLE)
   parens_find (repeat t lo hi greedy) p =
       if_finds (nat_lt PIECE p) (in_group (is_long t) (codes "(?:") (parens t OPERAND))
       (one_if (is_long t) + nest t OPERAND)
-      (λ d. at_open_if (is_long t) d (place t OPERAND))
-      (if_finds (is_long t) (parens t OPERAND) (nest t OPERAND) (place t OPERAND) (parens_find t OPERAND))
+      (λ d. at_open_if (is_long t) d (position t OPERAND))
+      (if_finds (is_long t) (parens t OPERAND) (nest t OPERAND) (position t OPERAND) (parens_find t OPERAND))
   parens_find _ p = none_find
 
-  all_find : (ts : Trees) → Finds (parens_all ts) (nests ts PIECE) (places ts)
+  all_find : (ts : Trees) → Finds (parens_all ts) (nests ts PIECE) (positions ts)
   all_find no_trees = none_find
   all_find (more_trees t ts) =
       both_find (parens t PIECE) (parens_all ts) (nest t PIECE) (nests ts PIECE) (bytes (printed t PIECE))
-      (place t PIECE) (places ts)
+      (position t PIECE) (positions ts)
       (parens_find t PIECE) (all_find ts)
 
-  branches_find : (ts : Trees) → Finds (parens_branches ts) (nests ts BRANCH) (branch_places ts)
+  branches_find : (ts : Trees) → Finds (parens_branches ts) (nests ts BRANCH) (branch_positions ts)
   branches_find no_trees = none_find
   branches_find (more_trees t ts) =
       both_find (parens t BRANCH) (parens_barred ts) (nest t BRANCH) (nests ts BRANCH) (bytes (printed t BRANCH))
-      (place t BRANCH)
-      (barred_places ts) (parens_find t BRANCH) (barred_find ts)
+      (position t BRANCH)
+      (barred_positions ts) (parens_find t BRANCH) (barred_find ts)
 
-  barred_find : (ts : Trees) → Finds (parens_barred ts) (nests ts BRANCH) (barred_places ts)
+  barred_find : (ts : Trees) → Finds (parens_barred ts) (nests ts BRANCH) (barred_positions ts)
   barred_find no_trees = none_find
   barred_find (more_trees t ts) = shifted _ _ _
       (both_find (parens t BRANCH) (parens_barred ts) (nest t BRANCH) (nests ts BRANCH) (bytes (printed t BRANCH))
-      (place t BRANCH)
-      (barred_places ts) (parens_find t BRANCH) (barred_find ts))
+      (position t BRANCH)
+      (barred_positions ts) (parens_find t BRANCH) (barred_find ts))
 
 -- the first that is too deep is there; if fewer groups nest, no group is too deep
-pub over_place : (t : Tree) (p : ℕ) → max_depth ≤ nest t p →
-    too_deep t p ≡ Some (record { place = place t p 0; round = most_open })
-over_place t p h = (parens_find t p).deep 0 0 (omega arith) (omega arith) ∙ at_same _ _ (omega arith)
+pub over_position : (t : Tree) (p : ℕ) → max_depth ≤ nest t p →
+    too_deep t p ≡ Some (record { position = position t p 0; round = most_open })
+over_position t p h = (parens_find t p).deep 0 0 (omega arith) (omega arith) ∙ at_same _ _ (omega arith)
 
 pub none_too_deep : (t : Tree) (p : ℕ) → nest t p < max_depth → too_deep t p ≡ None
 none_too_deep t p h = (parens_find t p).shallow 0 0 (omega arith)

@@ -16,7 +16,7 @@ use Rattle.fancy_grammar.specs.Normal.{normal}
 use Rattle.fancy_grammar.specs.Normal.{normal_pieces, normals}
 use Rattle.fancy_grammar.specs.Printable.{is_count, printable, all_printable, takes_quantifier}
 use Rattle.fancy_grammar.specs.Quantified.{is_repeatable}
-use Rattle.fancy_grammar.specs.State.{Outcome, done, fault}
+use Rattle.fancy_grammar.specs.State.{Outcome, done, failed}
 use Rattle.fancy_grammar.specs.Tree.{Tree, Trees, no_trees, more_trees, empty, any, assertion, literal, concat, alt}
 use Rattle.fancy_grammar.specs.Tree.{group, repeat, delegate, define_group}
 use Rattle.fancy_grammar.proofs.OutcomeLemmas.{each_append, each_solid}
@@ -58,7 +58,7 @@ delegate_whole (c ∷ s) t d h = h
 
 delegate_leaf : (o : Outcome Tree) (d : Tree) → IsDelegate d → IsDelegate (unwrap_or (whole_leaf o) d)
 delegate_leaf (done t s) d h = delegate_whole s.rest t d h
-delegate_leaf (fault k p) d h = h
+delegate_leaf (failed k p) d h = h
 
 pub delegate_class : (f : Flags) (s : Text) (d : Tree) → IsDelegate d → IsDelegate (unwrap_or (class_of f s) d)
 unfolding class_of
@@ -150,18 +150,18 @@ takes : (t : Tree) → Printable t → not (is_empty (normal false t)) ≡ true 
 takes t h e u = good_normal u t h u ∙ ap not (normal_empty u t ∙ sym (normal_empty false t)) ∙ e
 
 mutual
-  pub told : (t : Tree) → printable t ≡ true → Printable t
-  told empty h = tt
-  told (any a b) h = tt
-  told (assertion (EndTextIgnoreTrailingNewlines crlf)) h = absurd (false≢true h)
-  told (assertion a) h = tt
-  told (literal s i) h = tt
-  told (delegate s i) h = delegate_text s (second_so (all_scalars s) _ h)
-  told (concat ts) h = all_told ts h
-  told (alt ts) h = all_told ts h
-  told (group t) h = told t h
-  told (repeat t lo hi greedy) h =
-      let child = told t (first_so (printable t) _ h) in
+  pub is_printable : (t : Tree) → printable t ≡ true → Printable t
+  is_printable empty h = tt
+  is_printable (any a b) h = tt
+  is_printable (assertion (EndTextIgnoreTrailingNewlines crlf)) h = absurd (false≢true h)
+  is_printable (assertion a) h = tt
+  is_printable (literal s i) h = tt
+  is_printable (delegate s i) h = delegate_text s (second_so (all_scalars s) _ h)
+  is_printable (concat ts) h = are_printable ts h
+  is_printable (alt ts) h = are_printable ts h
+  is_printable (group t) h = is_printable t h
+  is_printable (repeat t lo hi greedy) h =
+      let child = is_printable t (first_so (printable t) _ h) in
       let k = second_so (printable t) _ h in
       let counts = second_so (takes_quantifier t) _ k in (
         child,
@@ -169,9 +169,9 @@ mutual
         count_below lo (first_so _ (is_count hi) counts),
         count_below hi (second_so (is_count lo) _ counts),
       )
-  told (define_group t) h = tt
-  told _ h = absurd (false≢true h)
+  is_printable (define_group t) h = tt
+  is_printable _ h = absurd (false≢true h)
 
-  all_told : (ts : Trees) → all_printable ts ≡ true → ArePrintable ts
-  all_told no_trees h = tt
-  all_told (more_trees t ts) h = (told t (first_so (printable t) _ h), all_told ts (second_so (printable t) _ h))
+  are_printable : (ts : Trees) → all_printable ts ≡ true → ArePrintable ts
+  are_printable no_trees h = tt
+  are_printable (more_trees t ts) h = (is_printable t (first_so (printable t) _ h), are_printable ts (second_so (printable t) _ h))

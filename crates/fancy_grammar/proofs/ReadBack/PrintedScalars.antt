@@ -15,7 +15,7 @@ use Rattle.fancy_lex.specs.Text.{Text}
 use Rattle.fancy_lex.specs.declared.escape.Assertion.{Assertion}
 use Rattle.fancy_lex.specs.declared.escape.Assertion.TheVariants.{StartLine, StartLineOniguruma, EndLine}
 use Rattle.fancy_parts.specs.Quantifier.{most}
-use Rattle.fancy_parts.specs.Quote.{needs_backslash, quote_as, quote, quotes, range, mark, counts_as, counts_text}
+use Rattle.fancy_parts.specs.Quote.{needs_backslash, quote_as, quote, quotes, range, operator, counts_as, counts_text}
 use Rattle.fancy_parts.specs.Quote.{quantifier}
 use Rattle.fancy_grammar.specs.Printable.{is_count, printable, all_printable, takes_quantifier}
 use Rattle.fancy_grammar.specs.Printed.{any_text, assertion_text, grouped, caseless, is_long, printed, operand_text}
@@ -61,7 +61,7 @@ range_scalars lo hi l h =
     (λ _. scalars_append (decimal lo) (codes "," ++ decimal hi) (decimal_scalars lo l) (decimal_scalars hi h)))
 
 counts_scalars : (lo hi : ℕ) → lo < 2 ^ 64 → hi < 2 ^ 64 → all_scalars (counts_text lo hi) ≡ true
-unfolding counts_text mark
+unfolding counts_text operator
 counts_scalars lo hi l h =
     let P = λ (o : Option ℕ). all_scalars (counts_as lo hi o) ≡ true in
     cond_both ((lo == 0) && (hi == 1)) _ _ P (λ _. refl)

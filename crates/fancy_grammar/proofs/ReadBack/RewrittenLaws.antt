@@ -5,8 +5,8 @@ use Rattle.std.proofs.lemmas.Bool.{and_from, and_parts}
 use Rattle.std.specs.Char.{IsScalar}
 use Rattle.std.specs.Str.{all_scalars}
 use Prim.Native.Char.{code}
-use Rattle.fancy_lex.specs.Class.{Class, class_items, ClassItems, close, plain, escaped, nested, written, class_head}
-use Rattle.fancy_lex.specs.Class.{with_mark, escape_in_class, joint, escape_text, is_plain_in_class, is_negated}
+use Rattle.fancy_lex.specs.Class.{Class, class_items, ClassItems, close, plain, escaped, nested, written, class_start}
+use Rattle.fancy_lex.specs.Class.{with_symbol, escape_in_class, joint, escape_text, is_plain_in_class, is_negated}
 use Rattle.fancy_lex.specs.Escape.{escape}
 use Rattle.fancy_lex.specs.Escaped.{Escape, literal, literal_bytes, delegate}
 use Rattle.fancy_lex.specs.Reading.{Reading, gives, choose}
@@ -14,7 +14,7 @@ use Rattle.fancy_lex.specs.Text.{Text, strip}
 use Rattle.fancy_lex.specs.declared.flags.Flags.{Flags}
 use Rattle.fancy_lex.proofs.EscapeLaws.{escape_cut}
 use Rattle.fancy_grammar.specs.Normal.{case_flags}
-use Rattle.fancy_grammar.proofs.ReadBack.ScalarLemmas.{scalars_append, scalars_behind}
+use Rattle.fancy_grammar.proofs.ReadBack.ScalarLemmas.{scalars_append, scalars_after}
 use Rattle.fancy_grammar.proofs.ReadBack.ClassChunks.{Goes, ClassGoes, pass_close, pass_plain, pass_nested, pass_class}
 use Rattle.fancy_grammar.proofs.ReadBack.ClassChunks.{Chunk, Fine, both_chunk, char_chunk, amp_chunk}
 use Rattle.fancy_grammar.proofs.ReadBack.ChunkLemmas.{open_plain, open_caret, byte_chunk, FineOf, escape_fine}
@@ -40,52 +40,52 @@ same_front k c t w = by_test (c == k) where
   by_test false e = refl
 
 -- what the beginning of a class consists of
-data Heads (t : Text) : Text → Text → Type 0 where
-  plain_head : strip (code "^") t ≡ None → strip (code "]") t ≡ None → Heads t (code "[" ∷ []) t
-  caret_head : (u : Text) → t ≡ code "^" ∷ u → strip (code "]") u ≡ None → Heads t (code "[" ∷ code "^" ∷ []) u
-  close_head : (u : Text) → t ≡ code "]" ∷ u → Heads t (code "[" ∷ code "]" ∷ []) u
-  both_head : (u : Text) → t ≡ code "^" ∷ code "]" ∷ u → Heads t (code "[" ∷ code "^" ∷ code "]" ∷ []) u
+data ClassOpening (t : Text) : Text → Text → Type 0 where
+  plain_opening : strip (code "^") t ≡ None → strip (code "]") t ≡ None → ClassOpening t (code "[" ∷ []) t
+  caret_opening : (u : Text) → t ≡ code "^" ∷ u → strip (code "]") u ≡ None → ClassOpening t (code "[" ∷ code "^" ∷ []) u
+  close_opening : (u : Text) → t ≡ code "]" ∷ u → ClassOpening t (code "[" ∷ code "]" ∷ []) u
+  both_opening : (u : Text) → t ≡ code "^" ∷ code "]" ∷ u → ClassOpening t (code "[" ∷ code "^" ∷ code "]" ∷ []) u
 
 -- the beginning and the rest of a class, by the first characters
 data Opened (t : Text) : Text × Text → Type 0 where
-  opened : (head r : Text) → Heads t head r → Opened t (head, r)
+  opened : (opening r : Text) → ClassOpening t opening r → Opened t (opening, r)
 
-class_head_is : (t : Text) → Opened t (class_head [] t)
-unfolding class_head
-class_head_is [] = opened (code "[" ∷ []) [] (plain_head refl refl)
-class_head_is (c ∷ t) = by_caret (c == code "^") refl where
-  behind_caret : (t : Text) → (c == code "^") ≡ true →
-      Opened (c ∷ t) (with_mark (code "]") (code "[" ∷ code "^" ∷ [], t))
-  behind_caret [] e = opened _ _ (caret_head [] (ap (λ x. x ∷ []) (eqb-true c (code "^") e)) refl)
-  behind_caret (d ∷ t) e = by_close (d == code "]") refl where
+class_start_is : (t : Text) → Opened t (class_start [] t)
+unfolding class_start
+class_start_is [] = opened (code "[" ∷ []) [] (plain_opening refl refl)
+class_start_is (c ∷ t) = by_caret (c == code "^") refl where
+  after_caret : (t : Text) → (c == code "^") ≡ true →
+      Opened (c ∷ t) (with_symbol (code "]") (code "[" ∷ code "^" ∷ [], t))
+  after_caret [] e = opened _ _ (caret_opening [] (ap (λ x. x ∷ []) (eqb-true c (code "^") e)) refl)
+  after_caret (d ∷ t) e = by_close (d == code "]") refl where
     by_close : (x : Bool) → (d == code "]") ≡ x →
         Opened (c ∷ d ∷ t)
         (choose {B = Text × Text} (if x then Some t else None) (λ u. (code "[" ∷ code "^" ∷ code "]" ∷ [], u))
         (code "[" ∷ code "^" ∷ [], d ∷ t))
     by_close true q =
-        opened _ _ (both_head t (ap₂ (λ x y. x ∷ y ∷ t) (eqb-true c (code "^") e) (eqb-true d (code "]") q)))
-    by_close false q = opened _ _ (caret_head (d ∷ t) (ap (λ x. x ∷ d ∷ t) (eqb-true c (code "^") e)) (rw q refl))
+        opened _ _ (both_opening t (ap₂ (λ x y. x ∷ y ∷ t) (eqb-true c (code "^") e) (eqb-true d (code "]") q)))
+    by_close false q = opened _ _ (caret_opening (d ∷ t) (ap (λ x. x ∷ d ∷ t) (eqb-true c (code "^") e)) (rw q refl))
 
   no_caret : (x : Bool) → (c == code "]") ≡ x → (c == code "^") ≡ false →
       Opened (c ∷ t) (choose {B = Text × Text} (if x then Some t else None) (λ u. (code "[" ∷ code "]" ∷ [], u))
       (code "[" ∷ [], c ∷ t))
-  no_caret true q e = opened _ _ (close_head t (ap (λ x. x ∷ t) (eqb-true c (code "]") q)))
-  no_caret false q e = opened _ _ (plain_head (rw e refl) (rw q refl))
+  no_caret true q e = opened _ _ (close_opening t (ap (λ x. x ∷ t) (eqb-true c (code "]") q)))
+  no_caret false q e = opened _ _ (plain_opening (rw e refl) (rw q refl))
 
   by_caret : (x : Bool) → (c == code "^") ≡ x →
-      Opened (c ∷ t) (with_mark (code "]")
+      Opened (c ∷ t) (with_symbol (code "]")
       (choose {B = Text × Text} (if x then Some t else None) (λ u. (code "[" ∷ code "^" ∷ [], u))
       (code "[" ∷ [], c ∷ t)))
-  by_caret true e = behind_caret t e
+  by_caret true e = after_caret t e
   by_caret false e = no_caret (c == code "]") refl e
 
-open_close : (t : Text) → ◌≡◌ {A = Text × Text} (class_head [] (code "]" ∷ t)) (code "[" ∷ code "]" ∷ [], t)
-unfolding class_head
+open_close : (t : Text) → ◌≡◌ {A = Text × Text} (class_start [] (code "]" ∷ t)) (code "[" ∷ code "]" ∷ [], t)
+unfolding class_start
 open_close t = refl
 
-open_both : (t : Text) → ◌≡◌ {A = Text × Text} (class_head [] (code "^" ∷ code "]" ∷ t))
+open_both : (t : Text) → ◌≡◌ {A = Text × Text} (class_start [] (code "^" ∷ code "]" ∷ t))
     (code "[" ∷ code "^" ∷ code "]" ∷ [], t)
-unfolding class_head
+unfolding class_start
 open_both t = refl
 
 -- what is written for items that were read from t
@@ -102,26 +102,26 @@ pub record ClassAgain (x : Text) : Type 0 where
   pub goes : (s : Text) → ClassGoes (inner ++ s) s
   pub scalars : all_scalars inner ≡ true
 
-head_again : (t head r w : Text) → Heads t head r → ItemsAgain r w → ClassAgain (head ++ w)
-head_again t head r w (plain_head a b) h = record {
+opening_again : (t opening r w : Text) → ClassOpening t opening r → ItemsAgain r w → ClassAgain (opening ++ w)
+opening_again t opening r w (plain_opening a b) h = record {
   inner = w;
   is = refl;
   goes = λ s. pass_class (w ++ s) _ (w ++ s) s (open_plain (w ++ s) (h.no_caret a s) (h.no_close b s)) (h.goes s);
   scalars = h.scalars;
 }
-head_again t head r w (caret_head u e b) h = record {
+opening_again t opening r w (caret_opening u e b) h = record {
   inner = code "^" ∷ w;
   is = refl;
   goes = λ s. pass_class (code "^" ∷ (w ++ s)) _ (w ++ s) s (open_caret (w ++ s) (h.no_close b s)) (h.goes s);
   scalars = h.scalars;
 }
-head_again t head r w (close_head u e) h = record {
+opening_again t opening r w (close_opening u e) h = record {
   inner = code "]" ∷ w;
   is = refl;
   goes = λ s. pass_class (code "]" ∷ (w ++ s)) _ (w ++ s) s (open_close (w ++ s)) (h.goes s);
   scalars = h.scalars;
 }
-head_again t head r w (both_head u e) h = record {
+opening_again t opening r w (both_opening u e) h = record {
   inner = code "^" ∷ code "]" ∷ w;
   is = refl;
   goes = λ s. pass_class (code "^" ∷ code "]" ∷ (w ++ s)) _ (w ++ s) s (open_both (w ++ s)) (h.goes s);
@@ -129,7 +129,7 @@ head_again t head r w (both_head u e) h = record {
 }
 
 opened_again : (t : Text) (p : Text × Text) (w : Text) → Opened t p → ItemsAgain p.1 w → ClassAgain (p.0 ++ w)
-opened_again t p w (opened head r h) k = head_again t head r w h k
+opened_again t p w (opened opening r h) k = opening_again t opening r w h k
 
 from_fine : (o : Reading Escape) (e : Escape) (r : Text) → o ≡ gives e r → FineOf o → Fine e
 from_fine o e r q h = subst FineOf q h
@@ -165,28 +165,28 @@ nested_again t r w x c h =
 
 -- ---- the text after a class has only scalar values too
 
-heads_rest : (t head r : Text) → Heads t head r → all_scalars t ≡ true → all_scalars r ≡ true
-heads_rest t head r (plain_head a b) k = k
-heads_rest t head r (caret_head u e b) k = subst (λ z. all_scalars z ≡ true) e k
-heads_rest t head r (close_head u e) k = subst (λ z. all_scalars z ≡ true) e k
-heads_rest t head r (both_head u e) k = subst (λ z. all_scalars z ≡ true) e k
+class_opening_rest : (t opening r : Text) → ClassOpening t opening r → all_scalars t ≡ true → all_scalars r ≡ true
+class_opening_rest t opening r (plain_opening a b) k = k
+class_opening_rest t opening r (caret_opening u e b) k = subst (λ z. all_scalars z ≡ true) e k
+class_opening_rest t opening r (close_opening u e) k = subst (λ z. all_scalars z ≡ true) e k
+class_opening_rest t opening r (both_opening u e) k = subst (λ z. all_scalars z ≡ true) e k
 
 opened_rest : (t : Text) (p : Text × Text) → Opened t p → all_scalars t ≡ true → all_scalars p.1 ≡ true
-opened_rest t p (opened head r h) k = heads_rest t head r h k
+opened_rest t p (opened opening r h) k = class_opening_rest t opening r h k
 
-head_rest : (t head r : Text) → ◌≡◌ {A = Text × Text} (class_head [] t) (head, r) → all_scalars t ≡ true →
+opening_rest : (t opening r : Text) → ◌≡◌ {A = Text × Text} (class_start [] t) (opening, r) → all_scalars t ≡ true →
     all_scalars r ≡ true
-head_rest t head r e k = opened_rest t (head, r) (subst (Opened t) e (class_head_is t)) k
+opening_rest t opening r e k = opened_rest t (opening, r) (subst (Opened t) e (class_start_is t)) k
 
 escape_rest : (f : Flags) (t r : Text) (e : Escape) → escape f true t ≡ gives e r → all_scalars t ≡ true →
     all_scalars r ≡ true
 escape_rest f t r e q k =
-    let (w, cut) = escape_cut f true t r e q in scalars_behind w r (subst (λ z. all_scalars z ≡ true) cut k)
+    let (w, cut) = escape_cut f true t r e q in scalars_after w r (subst (λ z. all_scalars z ≡ true) cut k)
 
 mutual
   class_rest : {f : Flags} {b a : Bool} {t x v : Text} → Class f b t (written x a v) → all_scalars t ≡ true →
       all_scalars v ≡ true
-  class_rest {t} (class_items {u} {head} e h) k = items_rest h (head_rest t head u e k)
+  class_rest {t} (class_items {u} {opening} e h) k = items_rest h (opening_rest t opening u e k)
 
   items_rest : {f : Flags} {b a : Bool} {t w v : Text} → ClassItems f b t (written w a v) →
       all_scalars t ≡ true → all_scalars v ≡ true
@@ -201,8 +201,8 @@ mutual
   pub class_again : {u i b a : Bool} {t x v : Text} →
       Class (case_flags u i) b t (written x a v) →
       all_scalars t ≡ true → ClassAgain x
-  class_again {t} (class_items {u} {head} {w} e h) k =
-      opened_again t _ w (subst (Opened t) e (class_head_is t)) (items_again h (head_rest t head u e k))
+  class_again {t} (class_items {u} {opening} {w} e h) k =
+      opened_again t _ w (subst (Opened t) e (class_start_is t)) (items_again h (opening_rest t opening u e k))
 
   items_again : {u i b a : Bool} {t w v : Text} → ClassItems (case_flags u i) b t (written w a v) →
       all_scalars t ≡ true → ItemsAgain t w

@@ -7,34 +7,34 @@ use Rattle.std.proofs.lemmas.Bool.Decides.{nat_tests}
 use Rattle.std.proofs.Math.Bool.{and-true, and-false, not-not}
 use Rattle.std.specs.List.{AllByRecursion, AllZip}
 use Prim.Native.Char.{code}
-use Rattle.fancy_lex.specs.Fault.{Kind, recursion_exceeded}
-use Rattle.fancy_lex.specs.LayoutSteps.{layout, after_comment_head, rest}
+use Rattle.fancy_lex.specs.Located.{Kind, recursion_exceeded}
+use Rattle.fancy_lex.specs.LayoutSteps.{layout, after_comment_start, rest}
 use Rattle.fancy_lex.specs.Reading.{gives, choose, layout_reading}
 use Rattle.fancy_lex.specs.Text.{Text, bytes, IsPositionOf, reach_of}
 use Rattle.fancy_lex.specs.declared.flags.Flags.{Flags}
-use Rattle.fancy_parts.specs.FlagLetters.{Letters, scope as scoped, flags_end, flags_go_on}
+use Rattle.fancy_parts.specs.FlagLetters.{Letters, flag_group as scoped, flags_end, flags_go_on}
 use Rattle.fancy_parts.specs.LetterSteps.{letters, letters_in, step}
 use Rattle.fancy_parts.specs.Quantifier.{counts}
-use Rattle.fancy_parts.specs.Quote.{behind_backslash, needs_backslash}
+use Rattle.fancy_parts.specs.Quote.{after_backslash, needs_backslash}
 use Rattle.fancy_parts.specs.declared.counts.Counts.{Counts}
 use Rattle.fancy_parts.proofs.FlagLemmas.{letters_start, in_end, in_go}
 use Rattle.fancy_grammar.specs.State as states
-use Rattle.fancy_grammar.specs.Ahead.{read, with_head, ahead, is_before_nothing, flags_ahead, behind_question}
-use Rattle.fancy_grammar.specs.Ahead.{group_ahead, behind_layout, leaf_of, leaf_node, leaf_outcome}
+use Rattle.fancy_grammar.specs.AtomStart.{read, of_kind, atom_start, is_before_nothing, flags_start, after_question}
+use Rattle.fancy_grammar.specs.AtomStart.{group_start, after_layout, leaf_of, leaf_node, leaf_outcome}
 use Rattle.fancy_grammar.specs.Depth.{max_depth}
-use Rattle.fancy_grammar.specs.Grammar.{Alternation, alternation, Branches, last, more, branch_fault, Branch, branch}
-use Rattle.fancy_grammar.specs.Grammar.{Pieces, stop, next, piece_fault, Piece, piece, Atom, atom, a_read, a_group}
-use Rattle.fancy_grammar.specs.Grammar.{inside, DerivesTree, Faults, whole}
-use Rattle.fancy_grammar.specs.Head.{Head, capture, scope}
+use Rattle.fancy_grammar.specs.Grammar.{Alternation, alternation, Branches, last, more, branch_error, Branch, branch}
+use Rattle.fancy_grammar.specs.Grammar.{Pieces, stop, next, piece_error, Piece, piece, Atom, atom, a_read, a_group}
+use Rattle.fancy_grammar.specs.Grammar.{inside, DerivesTree, FailsWith, whole}
+use Rattle.fancy_grammar.specs.GroupKind.{GroupKind, capture, flag_group}
 use Rattle.fancy_grammar.specs.Items.{Item, opening, reference, items, items_all}
 use Rattle.fancy_grammar.specs.Label as label
 use Rattle.fancy_grammar.specs.Label.{Row}
 use Rattle.fancy_grammar.specs.Join.{is_empty, solid, one_or, join, choice}
 use Rattle.fancy_grammar.specs.Quantified as quantified
 use Rattle.fancy_grammar.specs.Quantified.{is_repeatable, may_be_possessive, quant, quant_at, quants}
-use Rattle.fancy_grammar.specs.Quantified.{adjacent, max_adjacent, behind_lazy, suffix, suffix_at}
+use Rattle.fancy_grammar.specs.Quantified.{adjacent, max_adjacent, after_lazy, suffix, suffix_at}
 use Rattle.fancy_grammar.specs.Resolved.{resolved_in, resolved_all}
-use Rattle.fancy_grammar.specs.State.{skipped, State, Outcome, done, fault, and_then, seen_through}
+use Rattle.fancy_grammar.specs.State.{skipped, State, Outcome, done, failed, and_then, seen_through}
 use Rattle.fancy_grammar.specs.Tree as tree
 use Rattle.fancy_grammar.specs.Tree.{Tree, row, empty, literal, concat, repeat, trees_of, ast_node}
 use Rattle.fancy_grammar.specs.Tree.{ast_group}
@@ -42,7 +42,7 @@ use Rattle.fancy_grammar.proofs.OutcomeLemmas.{trees_before, before-nil, solid-a
 use Rattle.fancy_grammar.specs.Normal.{unicode_flags, case_flags}
 use Rattle.fancy_grammar.proofs.ReadBack.InFront.{put_as}
 use Rattle.fancy_grammar.proofs.ReadBack.ClearLemmas.{Clear, no_layout, clear_counts, clear_lazy, clear_star}
-use Rattle.fancy_grammar.proofs.ReadBack.ClearLemmas.{clear_plus, Stops, Ends, apart, behind_none, behind_some}
+use Rattle.fancy_grammar.proofs.ReadBack.ClearLemmas.{clear_plus, Stops, Ends, apart, after_none, after_some}
 use Rattle.fancy_grammar.proofs.ReadBack.CountTexts.{IsQuantifier, lazy}
 
 abbrev pub st : Flags → Text → State
@@ -207,7 +207,7 @@ no_run d f v = record {
 before_append : (l m : List Tree) (q : Outcome (List Tree)) →
     trees_before l (trees_before m q) ≡ trees_before (l ++ m) q
 before_append l m (done k s) = ap (λ n. done n s) (sym (append_assoc l m k))
-before_append l m (fault k e) = refl
+before_append l m (failed k e) = refl
 
 pub run_chain : {d : ℕ} {f : Flags} {s t v : Text} {xs ys : List Tree} → Run d f s t xs → Run d f t v ys →
     Run d f s v (xs ++ ys)
@@ -231,7 +231,7 @@ run_piece r x p e b = record {
   are = refl;
 }
 
-skip_here : (f : Flags) (s : Text) → Kept f → after_comment_head s ≡ None → skipped (st f s) ≡ rest s
+skip_here : (f : Flags) (s : Text) → Kept f → after_comment_start s ≡ None → skipped (st f s) ≡ rest s
 skip_here f s k e = ap (λ x. layout x s) k.no_space ∙ no_layout s e
 
 -- ---- pieces
@@ -251,7 +251,7 @@ quant_none left f a v k c =
 
 -- an atom that no quantifier follows
 pub reads_piece : (d : ℕ) (f : Flags) (s v : Text) (x : Tree) → Kept f → states.ends s ≡ false →
-    after_comment_head s ≡ None → Clear v → AtomAs d f s v x → Run d f s v (solid (x ∷ []))
+    after_comment_start s ≡ None → Clear v → AtomAs d f s v x → Run d f s v (solid (x ∷ []))
 reads_piece d f s v x k e o c a =
     run_piece a.tree x
     (piece_as (skip_here f s k o) a.derives
@@ -275,14 +275,14 @@ same_if false x = refl
 
 -- no possessive operator follows
 no_possessive : (f : Flags) (c : Counts) (b : Bool) (s v : Text) → Clear v →
-    behind_lazy (st f s) c b v ≡ done (record { lazy = b; possessive = false }) (st f v)
+    after_lazy (st f s) c b v ≡ done (record { lazy = b; possessive = false }) (st f v)
 no_possessive f c b s v k = rw (clear_plus v k) (same_if (may_be_possessive f c) _)
 
 lazy_read : (f : Flags) (c : Counts) (v : Text) (greedy : Bool) → Kept f → Clear v →
     suffix (st f (lazy greedy ++ v)) c ≡ done (record { lazy = not greedy; possessive = false }) (st f v)
 lazy_read f c v true k h =
     ap (suffix_at (st f v) c) (skip_here f v k h.no_comment)
-    ∙ ap (λ o. choose o (behind_lazy (st f v) c true) (behind_lazy (st f v) c false v)) (clear_lazy v h)
+    ∙ ap (λ o. choose o (after_lazy (st f v) c true) (after_lazy (st f v) c false v)) (clear_lazy v h)
     ∙ no_possessive f c false v v h
 lazy_read f c v false k h =
     ap (suffix_at (st f (code "?" ∷ v)) c) (skip_here f (code "?" ∷ v) k refl)
@@ -303,7 +303,7 @@ quant_some left f a q v lo hi greedy k c m r =
 
 -- an atom under a quantifier
 pub reads_repeat : (d : ℕ) (f : Flags) (s q v : Text) (x : Tree) (lo hi : ℕ) (greedy : Bool) → Kept f →
-    states.ends s ≡ false → after_comment_head s ≡ None → Clear v → IsQuantifier lo hi greedy v q →
+    states.ends s ≡ false → after_comment_start s ≡ None → Clear v → IsQuantifier lo hi greedy v q →
     is_repeatable f x ≡ true → AtomAs d f s q x → Run d f s v (repeat x lo hi greedy ∷ [])
 reads_repeat d f s q v x lo hi greedy k e o c m r a =
     let b = a.becomes in
@@ -360,19 +360,19 @@ reads_only d f s v x b e = reads_whole d f s v (x ∷ []) (reads_last d f s v x 
 not_deep : (d : ℕ) → d + 1 < max_depth → nat_le max_depth (d + 1) ≡ false
 not_deep d h = grind (arith, nat_tests)
 
-head_at : (d : ℕ) (f : Flags) (t : Text) → Kept f → d + 1 < max_depth → after_comment_head t ≡ None →
-    ahead d (st f (code "(" ∷ t)) ≡ group_ahead (st f (code "(" ∷ t)) t
-unfolding ahead
-head_at d f t k l o = cond-false _ _ _ (not_deep d l)
-    ∙ ap (behind_layout (st f (code "(" ∷ t))) (skip_here f t k o)
+opening_at : (d : ℕ) (f : Flags) (t : Text) → Kept f → d + 1 < max_depth → after_comment_start t ≡ None →
+    atom_start d (st f (code "(" ∷ t)) ≡ group_start (st f (code "(" ∷ t)) t
+unfolding atom_start
+opening_at d f t k l o = cond-false _ _ _ (not_deep d l)
+    ∙ ap (after_layout (st f (code "(" ∷ t))) (skip_here f t k o)
 
 -- a parenthesis without a group kind after it
-head_group : (f : Flags) (s t : Text) → Clear t → group_ahead (st f s) t ≡ with_head (capture None) (st f t)
-head_group f s t c = rw (clear_lazy t c, clear_star t c) refl
+capture_start : (f : Flags) (s t : Text) → Clear t → group_start (st f s) t ≡ of_kind (capture None) (st f t)
+capture_start f s t c = rw (clear_lazy t c, clear_star t c) refl
 
 group_at : (d : ℕ) (f : Flags) (s : Text) → Kept f → d + 1 < max_depth → Clear s →
-    ahead d (st f (code "(" ∷ s)) ≡ with_head (capture None) (st f s)
-group_at d f s k l c = head_at d f s k l c.no_comment ∙ head_group f (code "(" ∷ s) s c
+    atom_start d (st f (code "(" ∷ s)) ≡ of_kind (capture None) (st f s)
+group_at d f s k l c = opening_at d f s k l c.no_comment ∙ capture_start f (code "(" ∷ s) s c
 
 -- a capturing group
 pub reads_group : (d : ℕ) (f : Flags) (s v : Text) (x : Tree) → Kept f → d + 1 < max_depth → Clear s →
@@ -384,23 +384,23 @@ reads_group d f s v x k l c w = record {
 }
 
 -- a group of flags, whose letters do not begin as another group kind does
-pub scope_at : (d : ℕ) (f g : Flags) (t u : Text) → Kept f → d + 1 < max_depth →
-    after_comment_head (code "?" ∷ t) ≡ None →
-    behind_question (st f (code "(" ∷ code "?" ∷ t)) t ≡ flags_ahead (letters f t) →
+pub flag_group_at : (d : ℕ) (f g : Flags) (t u : Text) → Kept f → d + 1 < max_depth →
+    after_comment_start (code "?" ∷ t) ≡ None →
+    after_question (st f (code "(" ∷ code "?" ∷ t)) t ≡ flags_start (letters f t) →
     letters f t ≡ gives (scoped g) u →
-    ahead d (st f (code "(" ∷ code "?" ∷ t)) ≡ with_head scope (st g u)
-scope_at d f g t u k l o q e = head_at d f (code "?" ∷ t) k l o ∙ q ∙ ap flags_ahead e
+    atom_start d (st f (code "(" ∷ code "?" ∷ t)) ≡ of_kind flag_group (st g u)
+flag_group_at d f g t u k l o q e = opening_at d f (code "?" ∷ t) k l o ∙ q ∙ ap flags_start e
 
-pub reads_scope : (d : ℕ) (f g : Flags) (s t v : Text) (x : Tree) → ahead d (st f s) ≡ with_head scope (st g t) →
+pub reads_flag_group : (d : ℕ) (f g : Flags) (s t v : Text) (x : Tree) → atom_start d (st f s) ≡ of_kind flag_group (st g t) →
     WholeAs (d + 1) g t (code ")" ∷ v) x → AtomAs d f s v x
-reads_scope d f g s t v x e w =
+reads_flag_group d f g s t v x e w =
     record { tree = w.tree; derives = atom e (a_group (inside w.derives)); becomes = w.becomes }
 
 -- with more than k letters left to read
 abbrev pub Spelled : Text → ℕ → Bool → Flags → Text → Letters → Text → Type 0
 Spelled t k c f u l w = (j : ℕ) → k < j → letters_in t j c f u ≡ gives l w
 
-module _ (t : Text) (c : Bool) (f : Flags) (u : Text) (h : Kept f) (o : after_comment_head u ≡ None) where
+module _ (t : Text) (c : Bool) (f : Flags) (u : Text) (h : Kept f) (o : after_comment_start u ≡ None) where
   pub last_letter : (l : Letters) (w : Text) → step t c f u ≡ gives (flags_end l) w → Spelled t 0 c f u l w
   last_letter l w e j m = in_end t c f u j 0 m u (ap layout_reading (skip_here f u h o)) l w e
 
@@ -422,18 +422,18 @@ colon f s k =
     (omega arith)
 
 grouped_at : (d : ℕ) (f : Flags) (s : Text) → Kept f → d + 1 < max_depth →
-    ahead d (st f (code "(" ∷ code "?" ∷ code ":" ∷ s)) ≡ with_head scope (st f s)
-grouped_at d f s k l = scope_at d f f (code ":" ∷ s) s k l refl refl (colon f s k)
+    atom_start d (st f (code "(" ∷ code "?" ∷ code ":" ∷ s)) ≡ of_kind flag_group (st f s)
+grouped_at d f s k l = flag_group_at d f f (code ":" ∷ s) s k l refl refl (colon f s k)
 
 -- `(?:`
 pub reads_grouped : (d : ℕ) (f : Flags) (s v : Text) (x : Tree) → Kept f → d + 1 < max_depth →
     WholeAs (d + 1) f s (code ")" ∷ v) x → AtomAs d f (code "(" ∷ code "?" ∷ code ":" ∷ s) v x
-reads_grouped d f s v x k l w = reads_scope d f f (code "(" ∷ code "?" ∷ code ":" ∷ s) s v x
+reads_grouped d f s v x k l w = reads_flag_group d f f (code "(" ∷ code "?" ∷ code ":" ∷ s) s v x
     (grouped_at d f s k l) w
 
 -- one letter and a colon
 pub one_letter : (f g : Flags) (c : ℕ) (s : Text) → Kept f → Kept g →
-    after_comment_head (c ∷ code ":" ∷ s) ≡ None →
+    after_comment_start (c ∷ code ":" ∷ s) ≡ None →
     step (c ∷ code ":" ∷ s) false f (c ∷ code ":" ∷ s) ≡ gives (flags_go_on false g) (code ":" ∷ s) →
     letters f (c ∷ code ":" ∷ s) ≡ gives (scoped g) s
 unfolding bytes
@@ -444,7 +444,7 @@ one_letter f g c s k m o e =
     (last_letter t false g (code ":" ∷ s) m refl (scoped g) s refl)) (omega arith)
 
 pub two_letters : (f g h : Flags) (b c : ℕ) (s : Text) → Kept f → Kept g → Kept h → 1 ≤ bytes (b ∷ []) →
-    after_comment_head (b ∷ c ∷ code ":" ∷ s) ≡ None → after_comment_head (c ∷ code ":" ∷ s) ≡ None →
+    after_comment_start (b ∷ c ∷ code ":" ∷ s) ≡ None → after_comment_start (c ∷ code ":" ∷ s) ≡ None →
     step (b ∷ c ∷ code ":" ∷ s) false f (b ∷ c ∷ code ":" ∷ s) ≡ gives (flags_go_on false g) (c ∷ code ":" ∷ s) →
     step (b ∷ c ∷ code ":" ∷ s) false g (c ∷ code ":" ∷ s) ≡ gives (flags_go_on false h) (code ":" ∷ s) →
     letters f (b ∷ c ∷ code ":" ∷ s) ≡ gives (scoped h) s
@@ -463,25 +463,25 @@ pub reads_caseless : (d : ℕ) (u : Bool) (s v : Text) (x : Tree) → d + 1 < ma
 reads_caseless d u s v x l w =
     let f = unicode_flags u in
     let g = case_flags u true in
-    reads_scope d f g (code "(" ∷ code "?" ∷ code "i" ∷ code ":" ∷ s) s v x
-    (scope_at d f g (code "i" ∷ code ":" ∷ s) s (kept_unicode u) l refl refl
+    reads_flag_group d f g (code "(" ∷ code "?" ∷ code "i" ∷ code ":" ∷ s) s v x
+    (flag_group_at d f g (code "i" ∷ code ":" ∷ s) s (kept_unicode u) l refl refl
     (one_letter f g (code "i") s (kept_unicode u) (kept_case u true) refl refl)) w
 
 -- ---- leaves
 
-pub reads_leaf : (d : ℕ) (f : Flags) (s v : Text) (x : Tree) → ahead d (st f s) ≡ read (done x (st f v)) →
+pub reads_leaf : (d : ℕ) (f : Flags) (s v : Text) (x : Tree) → atom_start d (st f s) ≡ read (done x (st f v)) →
     Becomes x x → AtomAs d f s v x
 reads_leaf d f s v x e b = record { tree = x; derives = atom e a_read; becomes = b }
 
 pub leaf_at : (d : ℕ) (f : Flags) (c : ℕ) (t : Text) → (c == code "(") ≡ false → is_before_nothing c ≡ false →
-    ahead d (st f (c ∷ t)) ≡ read (leaf_of (st f (c ∷ t)) c t)
-unfolding ahead
+    atom_start d (st f (c ∷ t)) ≡ read (leaf_of (st f (c ∷ t)) c t)
+unfolding atom_start
 leaf_at d f c t a b = cond-false _ _ _ a ∙ cond-false _ _ _ b
 
-plain_leaf : (d : ℕ) (f : Flags) (c : ℕ) (v : Text) → behind_backslash c ≡ None →
-    ahead d (st f (c ∷ v)) ≡ read (done (literal (c ∷ []) f.casei) (st f v))
+plain_leaf : (d : ℕ) (f : Flags) (c : ℕ) (v : Text) → after_backslash c ≡ None →
+    atom_start d (st f (c ∷ v)) ≡ read (done (literal (c ∷ []) f.casei) (st f v))
 plain_leaf d f c v e =
-    let is_not = apart needs_backslash c (behind_none c e) in
+    let is_not = apart needs_backslash c (after_none c e) in
     leaf_at d f c v (is_not (code "(") refl)
     (rw (
       is_not (code "+") refl,
@@ -499,7 +499,7 @@ plain_leaf d f c v e =
     ) refl
 
 -- a character, as it is printed
-pub reads_char : (d : ℕ) (f : Flags) (c : ℕ) (v : Text) (o : Option ℕ) → behind_backslash c ≡ o →
+pub reads_char : (d : ℕ) (f : Flags) (c : ℕ) (v : Text) (o : Option ℕ) → after_backslash c ≡ o →
     AtomAs d f (put_as c o v) v (literal (c ∷ []) (f.casei && is_none o))
 reads_char d f c v None e =
     reads_leaf d f (c ∷ v) v (literal (c ∷ []) (f.casei && true))
@@ -509,7 +509,7 @@ reads_char d f c v (Some x) e =
     reads_leaf d f (code "\\" ∷ x ∷ v) v (literal (c ∷ []) (f.casei && false))
     (leaf_at d f (code "\\") (x ∷ v) refl refl
     ∙ ap (λ r. read (leaf_outcome leaf_node (st f (code "\\" ∷ x ∷ v)) r))
-    (behind_some c x e f v)
+    (after_some c x e f v)
     ∙ ap (λ b. read (done (literal (c ∷ []) b) (st f v))) (sym (and-false f.casei)))
     (record { is = λ n u c. refl; groups = tt })
 
@@ -517,36 +517,36 @@ reads_char d f c v (Some x) e =
 
 -- a group that is too deep
 pub fails_deep : (d : ℕ) (f : Flags) (t : Text) → max_depth ≤ d + 1 →
-    Atom d (st f (code "(" ∷ t)) (fault recursion_exceeded (reach_of (code "(" ∷ t)))
-unfolding ahead
+    Atom d (st f (code "(" ∷ t)) (failed recursion_exceeded (reach_of (code "(" ∷ t)))
+unfolding atom_start
 fails_deep d f t h =
     let deep : nat_le max_depth (d + 1) ≡ true = le-leb max_depth (d + 1) h in atom (cond-true _ _ _ deep) a_read
 
 module _ (d : ℕ) (f : Flags) (k : Kind) (p : ℕ) where
-  fails_head : (g : Flags) (h : Head) (s t : Text) → ahead d (st f s) ≡ with_head h (st g t) →
-      Alternation (d + 1) (st g t) (fault k p) → Atom d (st f s) (fault k p)
-  fails_head g h s t e w = atom e (a_group (inside w))
+  fails_kind : (g : Flags) (h : GroupKind) (s t : Text) → atom_start d (st f s) ≡ of_kind h (st g t) →
+      Alternation (d + 1) (st g t) (failed k p) → Atom d (st f s) (failed k p)
+  fails_kind g h s t e w = atom e (a_group (inside w))
 
-  pub fails_group : (s : Text) → Kept f → d + 1 < max_depth → Clear s → Alternation (d + 1) (st f s) (fault k p) →
-      Atom d (st f (code "(" ∷ s)) (fault k p)
-  fails_group s h l c w = fails_head f (capture None) (code "(" ∷ s) s (group_at d f s h l c) w
+  pub fails_group : (s : Text) → Kept f → d + 1 < max_depth → Clear s → Alternation (d + 1) (st f s) (failed k p) →
+      Atom d (st f (code "(" ∷ s)) (failed k p)
+  fails_group s h l c w = fails_kind f (capture None) (code "(" ∷ s) s (group_at d f s h l c) w
 
-  pub fails_grouped : (s : Text) → Kept f → d + 1 < max_depth → Alternation (d + 1) (st f s) (fault k p) →
-      Atom d (st f (code "(" ∷ code "?" ∷ code ":" ∷ s)) (fault k p)
-  fails_grouped s h l w = fails_head f scope (code "(" ∷ code "?" ∷ code ":" ∷ s) s (grouped_at d f s h l) w
+  pub fails_grouped : (s : Text) → Kept f → d + 1 < max_depth → Alternation (d + 1) (st f s) (failed k p) →
+      Atom d (st f (code "(" ∷ code "?" ∷ code ":" ∷ s)) (failed k p)
+  fails_grouped s h l w = fails_kind f flag_group (code "(" ∷ code "?" ∷ code ":" ∷ s) s (grouped_at d f s h l) w
 
-  pub fails_piece : (s : Text) → Kept f → states.ends s ≡ false → after_comment_head s ≡ None →
-      Atom d (st f s) (fault k p) → Pieces d (st f s) (fault k p)
-  fails_piece s h e o a = piece_fault e (piece (skip_here f s h o) a)
+  pub fails_piece : (s : Text) → Kept f → states.ends s ≡ false → after_comment_start s ≡ None →
+      Atom d (st f s) (failed k p) → Pieces d (st f s) (failed k p)
+  fails_piece s h e o a = piece_error e (piece (skip_here f s h o) a)
 
-  pub fails_first : (s : Text) → Pieces d (st f s) (fault k p) → Branches d (st f s) (fault k p)
-  fails_first s q = branch_fault (branch q)
+  pub fails_first : (s : Text) → Pieces d (st f s) (failed k p) → Branches d (st f s) (failed k p)
+  fails_first s q = branch_error (branch q)
 
-  pub fails_more : (s t : Text) (x : Tree) → BranchAs d f s (code "|" ∷ t) x → Branches d (st f t) (fault k p) →
-      Branches d (st f s) (fault k p)
+  pub fails_more : (s t : Text) (x : Tree) → BranchAs d f s (code "|" ∷ t) x → Branches d (st f t) (failed k p) →
+      Branches d (st f s) (failed k p)
   fails_more s t x b q = more b.derives refl q
 
-  pub fails_whole : (s : Text) → Branches d (st f s) (fault k p) → Alternation d (st f s) (fault k p)
+  pub fails_whole : (s : Text) → Branches d (st f s) (failed k p) → Alternation d (st f s) (failed k p)
   fails_whole s q = alternation q
 
 -- ---- a whole text
@@ -555,6 +555,6 @@ pub reads_text : (f : Flags) (s : Text) (x : Tree) → WholeAs 0 f s [] x →
     (r : Tree) × DerivesTree f s r × Becomes r x
 reads_text f s x w = (w.tree, (_, whole w.derives), w.becomes)
 
-pub fails_text : (f : Flags) (s : Text) (k : Kind) (p q : ℕ) → Alternation 0 (st f s) (fault k q) →
-    IsPositionOf (bytes s) q p → Faults f s k p
+pub fails_text : (f : Flags) (s : Text) (k : Kind) (p q : ℕ) → Alternation 0 (st f s) (failed k q) →
+    IsPositionOf (bytes s) q p → FailsWith f s k p
 fails_text f s k p q w at = (q, whole w, at)

@@ -3,7 +3,7 @@ use Rattle.std.proofs.Common.{◌≡◌, ℕ, ◌^◌, ◌<◌, ◌==◌, Bool, 
 use Rattle.std.proofs.lemmas.Bool.{false≢true}
 use Prim.Native.Char.{code}
 use Rattle.fancy_lex.specs.Text.{Text}
-use Rattle.fancy_parts.specs.Quote.{behind_backslash, quantifier}
+use Rattle.fancy_parts.specs.Quote.{after_backslash, quantifier}
 use Rattle.fancy_grammar.specs.Printed.{is_long}
 use Rattle.fancy_grammar.specs.Printed.{WHOLE, BRANCH, PIECE, OPERAND}
 use Rattle.fancy_grammar.specs.Quantified.{is_repeatable}
@@ -61,23 +61,23 @@ atom_of (define_group t) n l = absurd (false≢true n)
 atom_of _ n l = tt
 
 -- a question mark and a character that open no comment
-pub begins_head : (x : ℕ) (s : Text) → (x == code "#") ≡ false → Begins (code "(" ∷ code "?" ∷ x ∷ s)
-begins_head x s e = record { clear = record { no_comment = rw e refl; no_mark = refl }; goes = refl }
+pub begins_opening : (x : ℕ) (s : Text) → (x == code "#") ≡ false → Begins (code "(" ∷ code "?" ∷ x ∷ s)
+begins_opening x s e = record { clear = record { no_comment = rw e refl; no_quantifier = refl }; goes = refl }
 
 pub begins_group : (s : Text) → Clear s → Begins (code "(" ∷ s)
-begins_group s c = record { clear = record { no_comment = not_asking s (clear_lazy s c); no_mark = refl }; goes = refl }
+begins_group s c = record { clear = record { no_comment = not_asking s (clear_lazy s c); no_quantifier = refl }; goes = refl }
 
 -- the operand of a quantifier begins an atom
 pub begins_repeated : (t : Tree) → is_repeatable (unicode_flags false) (normal false t) ≡ true →
     (IsAtom t → (w : Text) → Begins (put t OPERAND w)) → (v : Text) → Begins (put_repeated t v)
 begins_repeated t n h v = by_length (is_long t) refl where
   by_length : (b : Bool) → is_long t ≡ b → Begins (open_if b (put t OPERAND (close_if b v)))
-  by_length true e = begins_head (code ":") _ refl
+  by_length true e = begins_opening (code ":") _ refl
   by_length false e = h (atom_of t n e) v
 
 clear_if : (b : Bool) (k : Text → Text) (v : Text) → ((w : Text) → Clear w → Clear (k w)) → Clear v →
     Clear (open_if b (k (close_if b v)))
-clear_if true k v h c = (begins_head (code ":") _ refl).clear
+clear_if true k v h c = (begins_opening (code ":") _ refl).clear
 clear_if false k v h c = h v c
 
 mutual
@@ -85,16 +85,16 @@ mutual
   begins_atom empty h i v = absurd i
   begins_atom (any a b) h i v = begins_any a b v
   begins_atom (assertion a) h i v = begins_assertion a v h
-  begins_atom (literal s true) h i v = begins_head (code "i") _ refl
+  begins_atom (literal s true) h i v = begins_opening (code "i") _ refl
   begins_atom (literal [] false) h i v = absurd i
-  begins_atom (literal (c ∷ []) false) h i v = begins_char c v (behind_backslash c) refl
+  begins_atom (literal (c ∷ []) false) h i v = begins_char c v (after_backslash c) refl
   begins_atom (literal (c ∷ d ∷ cs) false) h i v = absurd i
-  begins_atom (delegate s true) h i v = begins_head (code "i") _ refl
+  begins_atom (delegate s true) h i v = begins_opening (code "i") _ refl
   begins_atom (delegate s false) h i v = h.begins v
-  begins_atom (concat ts) h i v = begins_head (code ":") _ refl
-  begins_atom (alt ts) h i v = begins_head (code ":") _ refl
+  begins_atom (concat ts) h i v = begins_opening (code ":") _ refl
+  begins_atom (alt ts) h i v = begins_opening (code ":") _ refl
   begins_atom (group t) h i v = begins_group _ (clear_put t h WHOLE (code ")" ∷ v) (clear_close v))
-  begins_atom (repeat t lo hi greedy) h i v = begins_head (code ":") _ refl
+  begins_atom (repeat t lo hi greedy) h i v = begins_opening (code ":") _ refl
   begins_atom (define_group t) h i v = absurd i
   begins_atom _ h i v = absurd h
 
@@ -103,8 +103,8 @@ mutual
   clear_put (any a b) h p v c = (begins_any a b v).clear
   clear_put (assertion a) h p v c = (begins_assertion a v h).clear
   clear_put (literal s false) h p v c = quotes_clear s v c
-  clear_put (literal s true) h p v c = (begins_head (code "i") _ refl).clear
-  clear_put (delegate s true) h p v c = (begins_head (code "i") _ refl).clear
+  clear_put (literal s true) h p v c = (begins_opening (code "i") _ refl).clear
+  clear_put (delegate s true) h p v c = (begins_opening (code "i") _ refl).clear
   clear_put (delegate s false) h p v c = (h.begins v).clear
   clear_put (concat ts) h p v c = clear_if (nat_lt BRANCH p) (puts ts) v (λ w e. clear_puts ts h w e) c
   clear_put (alt ts) h p v c = clear_if (nat_lt WHOLE p) (put_branches ts) v (λ w e. clear_branches ts h w e) c

@@ -3,23 +3,23 @@ use Rattle.std.proofs.Common.{◌≡◌, ℕ, zero, suc, ◌+◌, ◌<◌, ◌�
 use Rattle.std.proofs.Common.{◌∷◌, ◌++◌, refl, sym, ap, ◌∙◌, subst, arith, lt-ltb, leb-true, leb-false}
 use Rattle.std.proofs.lemmas.Bool.{cond_both}
 use Prim.Native.Char.{code}
-use Rattle.fancy_lex.specs.Fault.{recursion_exceeded}
+use Rattle.fancy_lex.specs.Located.{recursion_exceeded}
 use Rattle.fancy_lex.specs.Text.{Text, bytes, IsPositionOf, reach_of}
 use Rattle.fancy_lex.specs.declared.escape.Assertion.{Assertion}
 use Rattle.fancy_lex.specs.declared.escape.Assertion.TheVariants.{StartLine, StartLineOniguruma, EndLine}
 use Rattle.fancy_parts.specs.Quote.{quantifier}
 use Rattle.fancy_lex.proofs.TextLemmas.{bytes-append}
 use Rattle.fancy_grammar.specs.Depth.{max_depth, most_open}
-use Rattle.fancy_grammar.specs.Grammar.{Alternation, Branches, Pieces, Atom, Faults}
+use Rattle.fancy_grammar.specs.Grammar.{Alternation, Branches, Pieces, Atom, FailsWith}
 use Rattle.fancy_grammar.specs.Printed.{is_long, printed}
 use Rattle.fancy_grammar.specs.Printed.{WHOLE, BRANCH, PIECE, OPERAND}
-use Rattle.fancy_grammar.specs.State.{fault}
+use Rattle.fancy_grammar.specs.State.{failed}
 use Rattle.fancy_grammar.specs.Tree.{Tree, Trees, no_trees, more_trees, empty, any, assertion, literal, concat, alt}
 use Rattle.fancy_grammar.specs.Tree.{group, repeat, delegate, define_group}
 use Rattle.fancy_grammar.proofs.ReadBack.Nest.{one_if, nest, nests}
 use Rattle.fancy_grammar.specs.Normal.{unicode_flags}
-use Rattle.fancy_grammar.proofs.ReadBack.OverLemmas.{at_open, at_open_if, place, places, branch_places}
-use Rattle.fancy_grammar.proofs.ReadBack.OverLemmas.{barred_places}
+use Rattle.fancy_grammar.proofs.ReadBack.OverLemmas.{at_open, at_open_if, position, positions, branch_positions}
+use Rattle.fancy_grammar.proofs.ReadBack.OverLemmas.{barred_positions}
 use Rattle.fancy_grammar.proofs.ReadBack.InFront.{put, puts, put_branches, put_barred, put_repeated, put_any}
 use Rattle.fancy_grammar.proofs.ReadBack.InFront.{put_assertion, put_line, put_quotes, open_if, close_if, put_alone}
 use Rattle.fancy_grammar.proofs.ReadBack.InFront.{put_text}
@@ -30,7 +30,7 @@ use Rattle.fancy_grammar.proofs.ReadBack.Induction.{nest_high}
 use Rattle.fancy_grammar.proofs.ReadBack.RuleLemmas.{st, kept_unicode, fails_deep, fails_group, fails_grouped}
 use Rattle.fancy_grammar.proofs.ReadBack.RuleLemmas.{fails_piece}
 use Rattle.fancy_grammar.proofs.ReadBack.RuleLemmas.{fails_first, fails_more, fails_whole, fails_text}
-use Rattle.fancy_grammar.proofs.ReadBack.ShapeLemmas.{Printable, ArePrintable, begins_head, begins_group, begins_atom}
+use Rattle.fancy_grammar.proofs.ReadBack.ShapeLemmas.{Printable, ArePrintable, begins_opening, begins_group, begins_atom}
 use Rattle.fancy_grammar.proofs.ReadBack.ShapeLemmas.{begins_repeated, clear_put, clear_puts}
 
 -- the text from the group that is too deep on
@@ -65,16 +65,16 @@ repeated_left t d v = left_if (is_long t) d (put t OPERAND) (left t OPERAND) v
 
 -- What k prints before v, with m groups nested, fails at the text that o gives.
 abbrev AtomFails : Bool → ℕ → Text → Text → Type 0
-AtomFails u d s at = Atom d (st (unicode_flags u) s) (fault recursion_exceeded (reach_of at))
+AtomFails u d s at = Atom d (st (unicode_flags u) s) (failed recursion_exceeded (reach_of at))
 
 abbrev PiecesFail : Bool → ℕ → Text → Text → Type 0
-PiecesFail u d s at = Pieces d (st (unicode_flags u) s) (fault recursion_exceeded (reach_of at))
+PiecesFail u d s at = Pieces d (st (unicode_flags u) s) (failed recursion_exceeded (reach_of at))
 
 abbrev BranchesFail : Bool → ℕ → Text → Text → Type 0
-BranchesFail u d s at = Branches d (st (unicode_flags u) s) (fault recursion_exceeded (reach_of at))
+BranchesFail u d s at = Branches d (st (unicode_flags u) s) (failed recursion_exceeded (reach_of at))
 
 abbrev WholeFails : Bool → ℕ → Text → Text → Type 0
-WholeFails u d s at = Alternation d (st (unicode_flags u) s) (fault recursion_exceeded (reach_of at))
+WholeFails u d s at = Alternation d (st (unicode_flags u) s) (failed recursion_exceeded (reach_of at))
 
 abbrev FailsAtom : Bool → (Text → Text) → ℕ → (ℕ → Text → Text) → Type 0
 FailsAtom u k m o = (d : ℕ) (v : Text) → d < max_depth → max_depth ≤ d + m → AtomFails u d (k v) (o d v)
@@ -281,11 +281,11 @@ mutual
   fails u (assertion a) h = assertion_fails u a h
   fails u (literal s true) h =
       by_one u (λ v. code "(" ∷ code "?" ∷ code "i" ∷ code ":" ∷ put_quotes s (code ")" ∷ v)) (λ v. (_, refl))
-      (λ v. begins_head (code "i") _ refl)
+      (λ v. begins_opening (code "i") _ refl)
   fails u (literal s false) h = by_none u (put_quotes s) (λ d v. put_quotes s v)
   fails u (delegate s true) h =
       by_one u (λ v. code "(" ∷ code "?" ∷ code "i" ∷ code ":" ∷ (s ++ code ")" ∷ v)) (λ v. (_, refl))
-      (λ v. begins_head (code "i") _ refl)
+      (λ v. begins_opening (code "i") _ refl)
   fails u (delegate s false) h = by_none u (λ v. s ++ v) (λ d v. s ++ v)
   fails u (concat ts) h =
       by_branch u (puts ts) (nests ts PIECE) (lefts ts) (concat_fails u ts h (reads_each u ts h) (fails_each u ts h))
@@ -313,9 +313,9 @@ open_bytes d w n here inner e = by_test (nat_le most_open d) where
   by_test true = omega arith
   by_test false = omega arith
 
-head_bytes : (k : Text) → bytes (code "(" ∷ code "?" ∷ code ":" ∷ k) ≡ 3 + bytes k
+opening_bytes : (k : Text) → bytes (code "(" ∷ code "?" ∷ code ":" ∷ k) ≡ 3 + bytes k
 unfolding bytes
-head_bytes k = omega arith
+opening_bytes k = omega arith
 
 paren_bytes : (k : Text) → bytes (code "(" ∷ k) ≡ 1 + bytes k
 unfolding bytes
@@ -330,7 +330,7 @@ if_bytes : (b : Bool) (d : ℕ) (k : Text → Text) (m : ℕ → ℕ) (o : ℕ �
     → at_open_if b d m + bytes (left_if b d k o v) ≡ bytes (open_if b (k (close_if b v)))
 if_bytes true d k m o v h =
     open_bytes d 3 (m (d + 1)) (open_if true (k (code ")" ∷ v))) (o (d + 1) (code ")" ∷ v))
-    (omega (arith, h (d + 1) (code ")" ∷ v), head_bytes (k (code ")" ∷ v))))
+    (omega (arith, h (d + 1) (code ")" ∷ v), opening_bytes (k (code ")" ∷ v))))
 if_bytes false d k m o v h = h d v
 
 cond_bytes : (b : Bool) (m n k : ℕ) (x y : Text) → m + bytes x ≡ k → n + bytes y ≡ k →
@@ -342,69 +342,69 @@ put_bytes : (t : Tree) (p : ℕ) (v : Text) → bytes (put t p v) ≡ bytes (pri
 put_bytes t p v = ap bytes (put_text t p v) ∙ bytes-append (printed t p) v
 
 mutual
-  left_bytes : (t : Tree) (p d : ℕ) (v : Text) → place t p d + bytes (left t p d v) ≡ bytes (put t p v)
+  left_bytes : (t : Tree) (p d : ℕ) (v : Text) → position t p d + bytes (left t p d v) ≡ bytes (put t p v)
   left_bytes (concat ts) p d v =
-      if_bytes (nat_lt BRANCH p) d (puts ts) (places ts) (lefts ts) v (λ e w. lefts_bytes ts e w)
+      if_bytes (nat_lt BRANCH p) d (puts ts) (positions ts) (lefts ts) v (λ e w. lefts_bytes ts e w)
   left_bytes (alt ts) p d v =
-      if_bytes (nat_lt WHOLE p) d (put_branches ts) (branch_places ts) (branch_lefts ts) v
+      if_bytes (nat_lt WHOLE p) d (put_branches ts) (branch_positions ts) (branch_lefts ts) v
       (λ e w. branches_bytes ts e w)
   left_bytes (group t) p d v =
-      open_bytes d 1 (place t WHOLE (d + 1)) (code "(" ∷ put t WHOLE (code ")" ∷ v))
+      open_bytes d 1 (position t WHOLE (d + 1)) (code "(" ∷ put t WHOLE (code ")" ∷ v))
       (left t WHOLE (d + 1) (code ")" ∷ v))
       (omega (arith, left_bytes t WHOLE (d + 1) (code ")" ∷ v), paren_bytes (put t WHOLE (code ")" ∷ v))))
   left_bytes (repeat t lo hi greedy) p d v =
       if_bytes (nat_lt PIECE p) d (λ w. put_repeated t (quantifier lo hi greedy ++ w))
-      (λ e. at_open_if (is_long t) e (place t OPERAND)) (λ e w. repeated_left t e (quantifier lo hi greedy ++ w)) v
-      (λ e w. if_bytes (is_long t) e (put t OPERAND) (place t OPERAND) (left t OPERAND) (quantifier lo hi greedy ++ w)
+      (λ e. at_open_if (is_long t) e (position t OPERAND)) (λ e w. repeated_left t e (quantifier lo hi greedy ++ w)) v
+      (λ e w. if_bytes (is_long t) e (put t OPERAND) (position t OPERAND) (left t OPERAND) (quantifier lo hi greedy ++ w)
       (λ c x. left_bytes t OPERAND c x))
   left_bytes _ p d v = omega arith
 
-  lefts_bytes : (ts : Trees) (d : ℕ) (v : Text) → places ts d + bytes (lefts ts d v) ≡ bytes (puts ts v)
+  lefts_bytes : (ts : Trees) (d : ℕ) (v : Text) → positions ts d + bytes (lefts ts d v) ≡ bytes (puts ts v)
   lefts_bytes no_trees d v = omega arith
   lefts_bytes (more_trees t ts) d v =
       cond_bytes (nat_le max_depth (d + nest t PIECE)) _ _ _ _ _ (left_bytes t PIECE d (puts ts v))
       (omega (arith, put_bytes t PIECE (puts ts v), lefts_bytes ts d v))
 
   branches_bytes : (ts : Trees) (d : ℕ) (v : Text) →
-      branch_places ts d + bytes (branch_lefts ts d v) ≡ bytes (put_branches ts v)
+      branch_positions ts d + bytes (branch_lefts ts d v) ≡ bytes (put_branches ts v)
   branches_bytes no_trees d v = omega arith
   branches_bytes (more_trees t ts) d v =
       cond_bytes (nat_le max_depth (d + nest t BRANCH)) _ _ _ _ _ (left_bytes t BRANCH d (put_barred ts v))
       (omega (arith, put_bytes t BRANCH (put_barred ts v), barred_bytes ts d v))
 
   barred_bytes : (ts : Trees) (d : ℕ) (v : Text) →
-      barred_places ts d + bytes (branch_lefts ts d v) ≡ bytes (put_barred ts v)
+      barred_positions ts d + bytes (branch_lefts ts d v) ≡ bytes (put_barred ts v)
   barred_bytes no_trees d v = omega arith
   barred_bytes (more_trees t ts) d v =
       let b = nat_le max_depth (d + nest t BRANCH) in
-      let h : (if b then place t BRANCH d else bytes (printed t BRANCH) + barred_places ts d) + bytes
+      let h : (if b then position t BRANCH d else bytes (printed t BRANCH) + barred_positions ts d) + bytes
       (if b then left t BRANCH d (put_barred ts v) else branch_lefts ts d v) ≡ bytes (put t BRANCH (put_barred ts v)) =
       cond_bytes b _ _ _ _ _ (left_bytes t BRANCH d (put_barred ts v))
       (omega (arith, put_bytes t BRANCH (put_barred ts v), barred_bytes ts d v)) in
       omega (arith, h, bar_bytes (put t BRANCH (put_barred ts v)))
 
-place_high : (t : Tree) (p : ℕ) → 3 ≤ p → place t p 0 ≡ place t OPERAND 0
-place_high (concat ts) p h = ap (λ b. at_open_if b 0 (places ts)) (lt-ltb BRANCH p (omega arith))
-place_high (alt ts) p h = ap (λ b. at_open_if b 0 (branch_places ts)) (lt-ltb WHOLE p (omega arith))
-place_high (repeat t lo hi greedy) p h =
-    ap (λ b. at_open_if b 0 (λ e. at_open_if (is_long t) e (place t OPERAND))) (lt-ltb PIECE p (omega arith))
-place_high t p h = refl
+position_high : (t : Tree) (p : ℕ) → 3 ≤ p → position t p 0 ≡ position t OPERAND 0
+position_high (concat ts) p h = ap (λ b. at_open_if b 0 (positions ts)) (lt-ltb BRANCH p (omega arith))
+position_high (alt ts) p h = ap (λ b. at_open_if b 0 (branch_positions ts)) (lt-ltb WHOLE p (omega arith))
+position_high (repeat t lo hi greedy) p h =
+    ap (λ b. at_open_if b 0 (λ e. at_open_if (is_long t) e (position t OPERAND))) (lt-ltb PIECE p (omega arith))
+position_high t p h = refl
 
 abbrev DeepFrom : Bool → Text → ℕ → Type 0
-DeepFrom u s p = Faults (unicode_flags u) s recursion_exceeded p
+DeepFrom u s p = FailsWith (unicode_flags u) s recursion_exceeded p
 
 at_level : (t : Tree) (p : ℕ) (u : Bool) → max_depth ≤ nest t p → FailsWhole u (put t p) (nest t p) (left t p) →
-    DeepFrom u (printed t p) (place t p 0)
+    DeepFrom u (printed t p) (position t p 0)
 at_level t p u h w =
     let s = put t p [] in
-    let at : IsPositionOf (bytes s) (reach_of (left t p 0 [])) (place t p 0) = omega (arith, left_bytes t p 0 []) in
-    subst (λ x. DeepFrom u x (place t p 0)) (put_alone t p)
-    (fails_text (unicode_flags u) s recursion_exceeded (place t p 0) _
+    let at : IsPositionOf (bytes s) (reach_of (left t p 0 [])) (position t p 0) = omega (arith, left_bytes t p 0 []) in
+    subst (λ x. DeepFrom u x (position t p 0)) (put_alone t p)
+    (fails_text (unicode_flags u) s recursion_exceeded (position t p 0) _
     (w 0 [] (omega arith) (omega arith) ends_nothing) at)
 
 -- if too many groups nest, the text fails at the first parenthesis that opens too deep
 pub deep_fails : (t : Tree) (p : ℕ) (u : Bool) → Printable t → max_depth ≤ nest t p →
-    Faults (unicode_flags u) (printed t p) recursion_exceeded (place t p 0)
+    FailsWith (unicode_flags u) (printed t p) recursion_exceeded (position t p 0)
 deep_fails t zero u h m = at_level t WHOLE u m (fails u t h).whole
 deep_fails t (suc zero) u h m =
     at_level t BRANCH u m (to_whole u (put t BRANCH) (nest t BRANCH) (left t BRANCH) (fails u t h).branch)
@@ -412,7 +412,7 @@ deep_fails t (suc (suc zero)) u h m =
     at_level t PIECE u m (to_whole u (put t PIECE) (nest t PIECE) (left t PIECE) (fails u t h).run)
 deep_fails t (suc (suc (suc p))) u h m =
     let big : 3 ≤ suc (suc (suc p)) = omega arith in
-    subst (DeepFrom u (printed t (suc (suc (suc p))))) (sym (place_high t (suc (suc (suc p))) big))
-    (subst (λ s. DeepFrom u s (place t OPERAND 0)) (sym (text_high t (suc (suc (suc p))) big))
+    subst (DeepFrom u (printed t (suc (suc (suc p))))) (sym (position_high t (suc (suc (suc p))) big))
+    (subst (λ s. DeepFrom u s (position t OPERAND 0)) (sym (text_high t (suc (suc (suc p))) big))
     (at_level t OPERAND u (omega (arith, nest_high t (suc (suc (suc p))) big))
     (to_whole u (put t OPERAND) (nest t OPERAND) (left t OPERAND) (fails u t h).high)))

@@ -4,15 +4,15 @@ ghost use Rattle.fancy_lex.specs.Boundary as spec;
 ghost use Rattle.fancy_lex.specs.BoundarySteps as steps;
 ghost use Rattle.fancy_lex.specs.Escaped.{Escape};
 ghost use Rattle.fancy_lex.specs.EscapeViews.{escape_of};
-ghost use Rattle.fancy_lex.specs.Fault.{invalid_escape};
-ghost use Rattle.fancy_lex.specs.ErrorViews.{StandsWithin};
-ghost use Rattle.fancy_lex.specs.FaultTable.{boundary_head, boundary_not_closed};
-ghost use Rattle.fancy_lex.specs.Reading.{Reading, Answers, CarriesText, Reports, Derives, gives, fails, fault_at, layout_reading};
+ghost use Rattle.fancy_lex.specs.Located.{invalid_escape};
+ghost use Rattle.fancy_lex.specs.ErrorViews.{LiesWithin};
+ghost use Rattle.fancy_lex.specs.ErrorTable.{boundary_start, boundary_not_closed};
+ghost use Rattle.fancy_lex.specs.Reading.{Reading, Returns, CarriesText, Reports, Derives, gives, fails, error_at, layout_reading};
 ghost use Rattle.fancy_lex.specs.BoundaryName as name_spec;
 ghost use Rattle.fancy_lex.specs.LayoutSteps.{layout};
 ghost use Rattle.fancy_lex.specs.Text.{EndsWith, Text, text_of};
 
-use crate::error::{Failure, ParseError};
+use crate::error::{ParseError, ReadError};
 use crate::escape::{Assertion, Escaped};
 use crate::flags::Flags;
 use crate::layout::{begins_layout, past_layout, skip};
@@ -99,18 +99,18 @@ fn known_boundary(text: &str, ignore_space: bool) -> Option<(Assertion, &str)>
 }
 
 /// The error of braces that are not closed.
-fn unclosed_fault(alloc: Global, reach: usize) -> Failure
+fn unclosed_error(alloc: Global, reach: usize) -> ReadError
     ensures { Reports {A = Escape} result (fails (boundary_not_closed reach)) }
 {
     match String::from_str(alloc, r"\b{...}") {
-        Ok(text) => Failure::At(reach, ParseError::InvalidEscape(text)),
-        Err(refused) => Failure::from(refused),
+        Ok(text) => ReadError::At(reach, ParseError::InvalidEscape(text)),
+        Err(refused) => ReadError::from(refused),
     }
 }
 
 /// The text before the name, with its backslash.
-fn boundary_head(negated: bool) -> &'static str
-    ensures { chars result.now ≡ boundary_head negated }
+fn boundary_start(negated: bool) -> &'static str
+    ensures { chars result.now ≡ boundary_start negated }
 {
     if negated { r"\B{" } else { r"\b{" }
 }
@@ -122,16 +122,16 @@ fn next_in_name<'a>(
     text: &'a str,
     ignore_space: bool,
     reach: usize,
-) -> Result<(char, &'a str), Failure>
+) -> Result<(char, &'a str), ReadError>
     ensures value { MatchResult result
         (λ p. layout_reading (layout ignore_space (chars text.now)) ≡ gives tt (p.0 ∷ chars p.1.now))
-        (λ e. (k : ℕ) (out : Text) → 0 < k → Reports e (name_spec.name_fault_behind ignore_space reach out k (chars text.now))) }
+        (λ e. (k : ℕ) (out : Text) → 0 < k → Reports e (name_spec.name_error_after ignore_space reach out k (chars text.now))) }
     ensures shorter { IfOk result (λ p. length p.1.now < length text.now) }
 {
     let name = skip(text, ignore_space)?;
     match next(name) {
         Some(read) => Ok(read),
-        None => Err(unclosed_fault(alloc, reach)),
+        None => Err(unclosed_error(alloc, reach)),
     }
 }
 
@@ -142,11 +142,11 @@ fn find_closing_brace(
     text: &str,
     ignore_space: bool,
     reach: usize,
-) -> Result<(), Failure>
+) -> Result<(), ReadError>
     ensures found { IfOk result (λ _. (negated : Bool) →
-        CarriesText (name_spec.name_fault ignore_space reach negated (chars text.now))) }
+        CarriesText (name_spec.name_error ignore_space reach negated (chars text.now))) }
     ensures error { IfErr result (λ e. (negated : Bool) →
-        Reports e (name_spec.name_fault ignore_space reach negated (chars text.now))) }
+        Reports e (name_spec.name_error ignore_space reach negated (chars text.now))) }
 {
     let mut rest = text;
     loop {
@@ -165,12 +165,12 @@ fn bare_escape(
     negated: bool,
     ignore_space: bool,
     reach: usize,
-) -> Result<String, Failure>
-    ensures value { let fault = name_spec.name_fault ignore_space reach negated (chars text.now) in
-        MatchResult result (λ s. fault ≡ fault_at reach (invalid_escape (text_of s))) (λ e. Reports e fault) }
+) -> Result<String, ReadError>
+    ensures value { let error = name_spec.name_error ignore_space reach negated (chars text.now) in
+        MatchResult result (λ s. error ≡ error_at reach (invalid_escape (text_of s))) (λ e. Reports e error) }
 {
     find_closing_brace(alloc, text, ignore_space, reach)?;
-    let mut out = String::from_str(alloc, boundary_head(negated))?;
+    let mut out = String::from_str(alloc, boundary_start(negated))?;
     let mut rest = text;
     loop {
         let (c, more) = next_in_name(alloc, rest, ignore_space, reach)?;
@@ -190,8 +190,8 @@ fn named_boundary<'a>(
     negated: bool,
     ignore_space: bool,
     reach: usize,
-) -> Result<(Escaped<'a>, &'a str), Failure>
-    ensures value { Answers escape_of result (steps.named_boundary ignore_space reach negated (chars text.now)) }
+) -> Result<(Escaped<'a>, &'a str), ReadError>
+    ensures value { Returns escape_of result (steps.named_boundary ignore_space reach negated (chars text.now)) }
     ensures shorter { IfOk result (λ p. length p.1.now < length text.now) }
 {
     if !negated {
@@ -200,7 +200,7 @@ fn named_boundary<'a>(
         }
     }
     let text = bare_escape(alloc, text, negated, ignore_space, reach)?;
-    Err(Failure::At(reach, ParseError::InvalidEscape(text)))
+    Err(ReadError::At(reach, ParseError::InvalidEscape(text)))
 }
 
 /// Reads a word boundary after its letter, with the braces that belong to it.
@@ -211,8 +211,8 @@ fn read_boundary<'a>(
     negated: bool,
     flags: Flags,
     reach: usize,
-) -> Result<(Escaped<'a>, &'a str), Failure>
-    ensures value { Answers escape_of result (steps.boundary flags.ignore_space reach negated (chars text.now)) }
+) -> Result<(Escaped<'a>, &'a str), ReadError>
+    ensures value { Returns escape_of result (steps.boundary flags.ignore_space reach negated (chars text.now)) }
     ensures within { IfOk result (λ p. length p.1.now ≤ length text.now) }
 {
     let rest = skip(text, flags.ignore_space)?;
@@ -236,13 +236,13 @@ pub fn boundary<'a>(
     negated: bool,
     flags: Flags,
     reach: usize,
-) -> Result<(Escaped<'a>, &'a str), Failure>
-    ensures value { Answers escape_of result (steps.boundary flags.ignore_space reach negated (chars text.now)) }
+) -> Result<(Escaped<'a>, &'a str), ReadError>
+    ensures value { Returns escape_of result (steps.boundary flags.ignore_space reach negated (chars text.now)) }
     ensures derives { Derives escape_of result (spec.Boundary flags.ignore_space reach negated (chars text.now)) }
     ensures only { (o : Reading Escape) → spec.Boundary flags.ignore_space reach negated (chars text.now) o →
-        Answers escape_of result o }
+        Returns escape_of result o }
     ensures cut { IfOk result (λ p. EndsWith (chars text.now) (chars p.1.now)) }
-    ensures place { (m : ℕ) → reach ≤ m → length text.now + 1 ≤ m → IfErr result (λ e. StandsWithin m e) }
+    ensures position { (m : ℕ) → reach ≤ m → length text.now + 1 ≤ m → IfErr result (λ e. LiesWithin m e) }
     ensures within { IfOk result (λ p. length p.1.now ≤ length text.now) }
 {
     read_boundary(alloc, text, negated, flags, reach)

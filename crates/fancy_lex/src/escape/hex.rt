@@ -2,13 +2,13 @@
 ghost use Rattle.std.specs.Prelude.{◌≡◌, ℕ, ◌+◌, ◌*◌, ◌-◌, ◌<◌, ◌≤◌, length, chars, IfSome, IfErr, IfOk, option_map, false, true};
 ghost use Rattle.fancy_lex.specs.Characters.{close_brace};
 ghost use Rattle.fancy_lex.specs.EscapeViews.{escape_of};
-ghost use Rattle.fancy_lex.specs.ErrorViews.{StandsWithin};
-ghost use Rattle.fancy_lex.specs.FaultTable.{code_of_no_character};
+ghost use Rattle.fancy_lex.specs.ErrorViews.{LiesWithin};
+ghost use Rattle.fancy_lex.specs.ErrorTable.{code_of_no_character};
 ghost use Rattle.fancy_lex.specs.Hex as spec;
 ghost use Rattle.fancy_lex.specs.Reading.{Reads, choose, fails, gives};
 ghost use Rattle.fancy_lex.specs.Text.{EndsWith, Text, strip};
 
-use crate::error::{Failure, ParseError};
+use crate::error::{ParseError, ReadError};
 use crate::escape::Escaped;
 use crate::flags::Flags;
 use crate::layout::{begins_layout, skip};
@@ -35,47 +35,47 @@ fn fixed_digits(text: &str, width: u32) -> Option<(u32, &str)>
     let mut rest = text;
     let mut value = 0u32;
     for _read in 0..width {
-        let (digit, behind) = hex_digit(rest)?;
+        let (digit, tail) = hex_digit(rest)?;
         value = value * 16 + digit;
-        rest = behind;
+        rest = tail;
     }
     Some((value, rest))
 }
 
 /// Reads the closing brace after some digits.
-fn closing_brace(text: &str, value: u32, reach: usize) -> Result<(u32, &str), Failure>
+fn closing_brace(text: &str, value: u32, reach: usize) -> Result<(u32, &str), ReadError>
     ensures value { Reads (λ v. v) result (spec.closing_brace reach true value (strip close_brace (chars text.now))) }
     ensures shorter { IfOk result (λ p. length p.1.now < length text.now) }
 {
     if let Some(rest) = after(text, '}') {
         return Ok((value, rest));
     }
-    Err(Failure::At(reach, ParseError::InvalidHex))
+    Err(ReadError::At(reach, ParseError::InvalidHex))
 }
 
 /// Reads up to eight digits, each with layout after it, and the closing brace.
-fn hex_digits(text: &str, ignore_space: bool, reach: usize) -> Result<(u32, &str), Failure>
+fn hex_digits(text: &str, ignore_space: bool, reach: usize) -> Result<(u32, &str), ReadError>
     ensures value { Reads (λ v. v) result (spec.hex_digits ignore_space reach 8 false 0 (chars text.now)) }
     ensures shorter { IfOk result (λ p. length p.1.now < length text.now) }
 {
     let mut rest = text;
     let mut value = 0u32;
     for read in 0..8u32 {
-        let Some((digit, behind)) = hex_digit(rest) else {
+        let Some((digit, tail)) = hex_digit(rest) else {
             if read == 0 {
-                return Err(Failure::At(reach, ParseError::InvalidHex));
+                return Err(ReadError::At(reach, ParseError::InvalidHex));
             }
             return closing_brace(rest, value, reach);
         };
         value = value * 16 + digit;
-        rest = skip(behind, ignore_space)?;
+        rest = skip(tail, ignore_space)?;
     }
     closing_brace(rest, value, reach)
 }
 
 /// Reads the code after the opening brace.
 #[tactic(auto, unfolding(crate::specs::Hex::braced_value))]
-fn braced_value(text: &str, ignore_space: bool, reach: usize) -> Result<(u32, &str), Failure>
+fn braced_value(text: &str, ignore_space: bool, reach: usize) -> Result<(u32, &str), ReadError>
     ensures value { Reads (λ v. v) result (spec.braced_value ignore_space reach (chars text.now)) }
     ensures shorter { IfOk result (λ p. length p.1.now < length text.now) }
 {
@@ -85,7 +85,7 @@ fn braced_value(text: &str, ignore_space: bool, reach: usize) -> Result<(u32, &s
 
 /// Reads a code of `width` digits, or one in braces; its error is at `reach`.
 #[tactic(auto, unfolding(crate::specs::Hex::value))]
-fn value(text: &str, width: u32, ignore_space: bool, reach: usize) -> Result<(u32, &str), Failure>
+fn value(text: &str, width: u32, ignore_space: bool, reach: usize) -> Result<(u32, &str), ReadError>
     requires width { width ≤ 8 }
     ensures value { Reads (λ v. v) result (spec.value ignore_space reach width (chars text.now)) }
     ensures within { IfOk result (λ p. length p.1.now ≤ length text.now) }
@@ -95,7 +95,7 @@ fn value(text: &str, width: u32, ignore_space: bool, reach: usize) -> Result<(u3
     }
     match after(text, '{') {
         Some(inside) => braced_value(inside, ignore_space, reach),
-        None => Err(Failure::At(reach, ParseError::InvalidHex)),
+        None => Err(ReadError::At(reach, ParseError::InvalidHex)),
     }
 }
 
@@ -117,7 +117,11 @@ fn leaf_of_value(value: u32, width: u32, flags: Flags) -> Option<Escaped<'static
 
 /// Reads a code in hexadecimal, by digits or in braces.
 #[tactic(auto, unfolding(crate::specs::Hex::hex))]
-fn read_hex<'a>(text: &'a str, width: u32, flags: Flags) -> Result<(Escaped<'a>, &'a str), Failure>
+fn read_hex<'a>(
+    text: &'a str,
+    width: u32,
+    flags: Flags,
+) -> Result<(Escaped<'a>, &'a str), ReadError>
     requires width { width ≤ 8 }
     ensures value { Reads escape_of result (spec.hex flags width (chars text.now)) }
     ensures within { IfOk result (λ p. length p.1.now ≤ length text.now) }
@@ -127,7 +131,7 @@ fn read_hex<'a>(text: &'a str, width: u32, flags: Flags) -> Result<(Escaped<'a>,
     let (value, rest) = value(rest, width, flags.ignore_space, reach)?;
     match leaf_of_value(value, width, flags) {
         Some(leaf) => Ok((leaf, rest)),
-        None => Err(Failure::At(reach, ParseError::InvalidCodepointValue)),
+        None => Err(ReadError::At(reach, ParseError::InvalidCodepointValue)),
     }
 }
 
@@ -152,11 +156,11 @@ pub(crate) fn short_hex(text: &str, width: u32, flags: Flags) -> Option<(Escaped
 /// Its errors are at the position after the first layout: InvalidHex, and InvalidCodepointValue if the value is no
 /// character; or the error is UnclosedOpenParen if a comment is not closed.
 #[inline]
-pub fn hex<'a>(text: &'a str, width: u32, flags: Flags) -> Result<(Escaped<'a>, &'a str), Failure>
+pub fn hex<'a>(text: &'a str, width: u32, flags: Flags) -> Result<(Escaped<'a>, &'a str), ReadError>
     requires width { width ≤ 8 }
     ensures value { Reads escape_of result (spec.hex flags width (chars text.now)) }
     ensures cut { IfOk result (λ p. EndsWith (chars text.now) (chars p.1.now)) }
-    ensures place { IfErr result (λ e. StandsWithin (length text.now + 1) e) }
+    ensures position { IfErr result (λ e. LiesWithin (length text.now + 1) e) }
     ensures within { IfOk result (λ p. length p.1.now ≤ length text.now) }
 {
     read_hex(text, width, flags)

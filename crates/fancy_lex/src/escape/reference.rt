@@ -3,12 +3,12 @@ ghost use Rattle.std.specs.Prelude.{◌≡◌, ◌<◌, false, length, chars, If
 ghost use Rattle.fancy_lex.specs.EscapeReference as spec;
 ghost use Rattle.fancy_lex.specs.Number.{at_digit};
 ghost use Rattle.fancy_lex.specs.Reading.{Reads, fails};
-ghost use Rattle.fancy_lex.specs.FaultTable.{number_too_great};
+ghost use Rattle.fancy_lex.specs.ErrorTable.{number_too_great};
 ghost use Rattle.fancy_lex.specs.NameViews.{view_borrowed, view_reference, view_call};
 ghost use Rattle.fancy_lex.specs.Views.{view_read};
 
-use crate::error::{Failure, ParseError};
-use crate::name::delimited::marked_name;
+use crate::error::{ParseError, ReadError};
+use crate::name::delimited::delimited_name;
 use crate::name::id::{IdReference, id_reference};
 use crate::name::number::number;
 use crate::name::number_text::number_text;
@@ -19,7 +19,7 @@ use crate::text::{next, reach};
 /// if there is no digit, or the number does not fit in a word.
 #[inline(always)]
 #[tactic(auto, unfolding(crate::specs::EscapeReference::group_number))]
-pub(crate) fn group_number(text: &str) -> Result<(usize, &str), Failure>
+pub(crate) fn group_number(text: &str) -> Result<(usize, &str), ReadError>
     ensures value { Reads (λ n. n) result (spec.group_number (chars text.now)) }
     ensures no_digit { at_digit (chars text.now) ≡ false →
         Reads (λ n. n) result (fails (number_too_great (chars text.now))) }
@@ -27,7 +27,7 @@ pub(crate) fn group_number(text: &str) -> Result<(usize, &str), Failure>
 {
     match number(text) {
         Some((Some(number), rest)) => Ok((number, rest)),
-        _ => Err(Failure::At(reach(text), ParseError::InvalidBackref)),
+        _ => Err(ReadError::At(reach(text), ParseError::InvalidBackref)),
     }
 }
 
@@ -35,7 +35,7 @@ pub(crate) fn group_number(text: &str) -> Result<(usize, &str), Failure>
 /// InvalidBackref there, if there is no digit at the front, or the number does not fit in `usize`.
 #[inline(always)]
 #[tactic(auto, unfolding(crate::specs::EscapeReference::numbered_reference))]
-pub fn numbered_reference(text: &str) -> Result<(Reference<'_>, &str), Failure>
+pub fn numbered_reference(text: &str) -> Result<(Reference<'_>, &str), ReadError>
     ensures value { Reads view_reference result (spec.numbered_reference (chars text.now)) }
     ensures no_digit { at_digit (chars text.now) ≡ false →
         Reads view_reference result (fails (number_too_great (chars text.now))) }
@@ -55,11 +55,11 @@ pub fn numbered_reference(text: &str) -> Result<(Reference<'_>, &str), Failure>
 /// opening delimiter, and so is that of the error: InvalidGroupName if it cannot be parsed.
 #[inline(always)]
 #[tactic(auto, unfolding(crate::specs::EscapeReference::back_reference))]
-pub fn back_reference(text: &str) -> Result<(Reference<'_>, &str), Failure>
+pub fn back_reference(text: &str) -> Result<(Reference<'_>, &str), ReadError>
     ensures value { Reads view_reference result (spec.back_reference (chars text.now)) }
     ensures shorter { IfOk result (λ p. length p.1.now < length text.now) }
 {
-    reference_by_name(marked_name(text), true, reach(text))
+    reference_by_name(delimited_name(text), true, reach(text))
 }
 
 /// Whether the name of a call is relative: only a sign, or a sign and a number text.
@@ -93,7 +93,7 @@ fn call_target(name: &str) -> Option<Target<'_>>
 /// Reads a call in digits.
 #[inline(always)]
 #[tactic(auto, unfolding(crate::specs::EscapeReference::numbered_call))]
-fn numbered_call(text: &str) -> Result<(Call<'_>, &str), Failure>
+fn numbered_call(text: &str) -> Result<(Call<'_>, &str), ReadError>
     ensures value { Reads view_call result (spec.numbered_call (chars text.now)) }
     ensures shorter { IfOk result (λ p. length p.1.now < length text.now) }
 {
@@ -115,12 +115,12 @@ fn written_call(name: &str, reach: usize) -> Option<Call<'_>>
 
 /// Reads a call in delimiters.
 #[inline(always)]
-#[tactic(auto, unfolding(crate::specs::EscapeReference::marked_call))]
-fn marked_call(text: &str, reach: usize) -> Option<(Call<'_>, &str)>
-    ensures value { spec.marked_call reach (chars text.now) ≡ option_map (view_read view_call) result }
+#[tactic(auto, unfolding(crate::specs::EscapeReference::delimited_call))]
+fn delimited_call(text: &str, reach: usize) -> Option<(Call<'_>, &str)>
+    ensures value { spec.delimited_call reach (chars text.now) ≡ option_map (view_read view_call) result }
     ensures shorter { IfSome result (λ p. length p.1.now < length text.now) }
 {
-    let (name, rest) = marked_name(text)?;
+    let (name, rest) = delimited_name(text)?;
     Some((written_call(name, reach)?, rest))
 }
 
@@ -139,7 +139,7 @@ fn is_at_digit(text: &str) -> bool
 /// does not fit in `usize`; InvalidGroupName if there is no name, or one that is relative and no id reference.
 #[inline(always)]
 #[tactic(auto, unfolding(crate::specs::EscapeReference::subroutine_call))]
-pub fn subroutine_call(text: &str) -> Result<(Call<'_>, &str), Failure>
+pub fn subroutine_call(text: &str) -> Result<(Call<'_>, &str), ReadError>
     ensures value { Reads view_call result (spec.subroutine_call (chars text.now)) }
     ensures shorter { IfOk result (λ p. length p.1.now < length text.now) }
 {
@@ -147,8 +147,8 @@ pub fn subroutine_call(text: &str) -> Result<(Call<'_>, &str), Failure>
         return numbered_call(text);
     }
     let reach = reach(text);
-    match marked_call(text, reach) {
+    match delimited_call(text, reach) {
         Some(read) => Ok(read),
-        None => Err(Failure::At(reach, ParseError::InvalidGroupName)),
+        None => Err(ReadError::At(reach, ParseError::InvalidGroupName)),
     }
 }

@@ -22,7 +22,7 @@ fn is_number_category(category: GeneralCategory) -> bool
 }
 
 /// Whether the character can be part of an id: a letter or a number in any script, or `_`.
-#[tactic(auto, unfolding(crate::specs::Id::is_id_char), using(crate::proofs::AsciiLemmas::ascii_told))]
+#[tactic(auto, unfolding(crate::specs::Id::is_id_char), using(crate::proofs::AsciiLemmas::ascii_ids))]
 fn is_id_char(c: char) -> bool
     ensures { result ≡ spec.is_id_char c }
 {
@@ -38,7 +38,7 @@ fn is_id_char(c: char) -> bool
 
 /// The text after all the id characters at the front.
 #[tactic(auto, using(crate::proofs::IdLemmas::run_ends))]
-fn behind_id(text: &str) -> &str
+fn after_id(text: &str) -> &str
     ensures value { (spec.id_run (chars text.now)).1 ≡ chars result.now }
     ensures within { length result.now ≤ length text.now }
 {
@@ -58,7 +58,7 @@ pub fn id(text: &str) -> Option<(&str, &str)>
     ensures value { spec.id (chars text.now) ≡ parts result }
     ensures shorter { IfSome result (λ p. length p.1.now < length text.now) }
 {
-    let rest = behind_id(text);
+    let rest = after_id(text);
     if rest.len() == text.len() {
         return None;
     }

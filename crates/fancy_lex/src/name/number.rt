@@ -35,7 +35,7 @@ fn with_digit(number: usize, digit: usize) -> Option<usize>
 
 /// The text after all the digits at the front.
 #[tactic(auto, using(crate::proofs::NumberLemmas::number_steps))]
-fn behind_digits(text: &str) -> &str
+fn after_digits(text: &str) -> &str
     ensures value { (spec.run 0 (chars text.now)).1 ≡ chars result.now }
     ensures within { length result.now ≤ length text.now }
 {
@@ -57,7 +57,7 @@ fn more_digits(number: usize, text: &str) -> (Option<usize>, &str)
     let mut rest = text;
     while let Some((next, after)) = digit(rest) {
         let Some(more) = with_digit(value, next) else {
-            return (None, behind_digits(after));
+            return (None, after_digits(after));
         };
         value = more;
         rest = after;
@@ -74,8 +74,8 @@ pub fn number(text: &str) -> Option<(Option<usize>, &str)>
 {
     let (first, rest) = digit(text)?;
     // Most have one digit.
-    let Some((second, behind)) = digit(rest) else {
+    let Some((second, tail)) = digit(rest) else {
         return Some((Some(first), rest));
     };
-    Some(more_digits(first * 10 + second, behind))
+    Some(more_digits(first * 10 + second, tail))
 }

@@ -7,7 +7,7 @@ ghost use Rattle.fancy_lex.specs.Referred as spec;
 ghost use Rattle.fancy_lex.specs.Target.{is_by_name};
 ghost use Rattle.fancy_lex.specs.Views.{parts};
 
-use crate::error::{Failure, ParseError};
+use crate::error::{ParseError, ReadError};
 use crate::name::CaptureGroupTarget;
 use crate::name::id::{IdReference, amount, id_reference};
 use crate::name::number::number;
@@ -132,15 +132,15 @@ pub fn reference_by_name<'a>(
     name: Option<(&'a str, &'a str)>,
     amounts: bool,
     reach: usize,
-) -> Result<(Reference<'a>, &'a str), Failure>
+) -> Result<(Reference<'a>, &'a str), ReadError>
     ensures value { Reads view_reference result (spec.reference_by_name reach amounts (parts name.entry)) }
     ensures rest { IfOk result (λ p. IfSome name.entry (λ q. p.1.now ≡ q.1.now) × IsSome name.entry) }
 {
     let Some((name, rest)) = name else {
-        return Err(Failure::At(reach, ParseError::InvalidGroupName));
+        return Err(ReadError::At(reach, ParseError::InvalidGroupName));
     };
     match written_reference(name, amounts, reach) {
         Some(reference) => Ok((reference, rest)),
-        None => Err(Failure::At(reach, ParseError::InvalidGroupName)),
+        None => Err(ReadError::At(reach, ParseError::InvalidGroupName)),
     }
 }

@@ -3,7 +3,7 @@ use Rattle.fancy_lex.specs.Flags.{flags_of}
 use Rattle.fancy_grammar.proofs.Parsed.Join.{none_of_pattern}
 use Rattle.fancy_grammar.specs.Pattern.{pattern_text}
 use Rattle.fancy_grammar.specs.ReadAs.{IsReadAs}
-use Rattle.fancy_syntax.specs.Answer.{marks_of}
+use Rattle.fancy_syntax.specs.InfoViews.{info_of}
 use Rattle.fancy_syntax.specs.View.{view}
 use Rattle.fancy_pattern.proofs.to_pattern.Goals as goal
 
@@ -12,7 +12,7 @@ pub returns-else-branch-clause-parsed : goal.returns-else-branch-clause-parsed
 returns-else-branch-clause-parsed c =
     let f = flags_of c.args.flags in
     let t = view c.args.tree.now.expr in
-    let m = marks_of c.args.tree.now in
+    let m = info_of c.args.tree.now in
     let same : chars c.as_str.result.now ≡ pattern_text f t m
     = ap chars c.as_str.ensures.value ∙ (c.in_ok-text.ensures ∙ ap (λ g. pattern_text g t m) c.from_bits.ensures) in
     none_of_pattern f t m (λ r.

@@ -2,8 +2,8 @@ use Rattle.std.proofs.Common.{◌≡◌, ◌<◌, ◌-◌, ◌∙◌, sym, ap, a
 use Rattle.std.proofs.Math.ListN.{set}
 use Rattle.fancy_grammar.specs.Tree.{levels}
 use Rattle.fancy_syntax.specs.View.{view, views}
-use Rattle.fancy_syntax.proofs.Descents.{within_start, within_head, within_next, levels_of_child}
-use Rattle.fancy_spans.proofs.SpannedLemmas.{counting_starts, counting_next, counting_stands}
+use Rattle.fancy_syntax.proofs.Descents.{within_start, within_first, within_next, levels_of_child}
+use Rattle.fancy_spans.proofs.SpannedLemmas.{counting_starts, counting_next, counting_complete}
 use Rattle.fancy_spans.proofs.+push_sizes.Goals as goal
 
 pub push_sizes-requires : goal.push_sizes-requires
@@ -11,7 +11,7 @@ push_sizes-requires t c =
     let less : levels (view c.in-Some.child.now) < levels (view c.args.tree.now) =
     levels_of_child c.args.tree.now c.in-Some.child.now
     (ap views (sym c.children_iter-children.ensures.values) ∙ c.children_iter-children.ensures.trees)
-    (within_head c.args.tree.now c.in-Some.child.now _ _ c.loop-child.invariant.within c.in-Some.ensures.steps) in
+    (within_first c.args.tree.now c.in-Some.child.now _ _ c.loop-child.invariant.within c.in-Some.ensures.steps) in
     (omega (arith, less), tt)
 
 pub loop-child-init : goal.loop-child-init
@@ -38,4 +38,4 @@ returns-in-Some-get_mut t c =
     let many : c.saturating_sub.result ≡ length c.loop-child.sizes.items - length c.args.sizes.now.items =
     omega (arith, long, c.loop-child.sizes.ok.0) in
     ap (λ k. set c.loop-child.sizes.items k c.saturating_sub.result) long
-    ∙ counting_stands (view c.args.tree.now) c.args.sizes.now.items _ _ _ c.loop-child.invariant.counting none many
+    ∙ counting_complete (view c.args.tree.now) c.args.sizes.now.items _ _ _ c.loop-child.invariant.counting none many

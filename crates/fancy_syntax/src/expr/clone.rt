@@ -144,7 +144,7 @@ impl Expr {
             Expr::DefineGroup { definitions } => Ok(Expr::DefineGroup {
                 definitions: clone_box(alloc, definitions)?,
             }),
-            Expr::AstNode(node, place) => Ok(Expr::AstNode(node.clone(alloc)?, *place)),
+            Expr::AstNode(node, position) => Ok(Expr::AstNode(node.clone(alloc)?, *position)),
         }
     }
 }

@@ -1,8 +1,8 @@
 //! Equality of trees: the same variant and the same fields.
 ghost use Rattle.std.specs.Prelude.{chars, ◌≡◌, ◌↔◌, IsTrue, nat_eq, option_map};
 ghost use Rattle.std.specs.Cmp.{on_per, on_equiv, partial_equiv_from_equiv};
-ghost use Rattle.fancy_grammar.specs.Placed.{place_if, placed, placed_all};
-ghost use Rattle.fancy_grammar.specs.ReadAs.{unplaced};
+ghost use Rattle.fancy_grammar.specs.Positioned.{position_if, positioned, positioned_all};
+ghost use Rattle.fancy_grammar.specs.ReadAs.{unpositioned};
 ghost use Rattle.fancy_grammar.specs.Same.{same, same_all, same_name};
 ghost use Rattle.fancy_grammar.proofs.SameLaws.{same-equiv};
 ghost use Rattle.fancy_grammar.specs.Tree.{trees_of};
@@ -64,31 +64,31 @@ impl Eq for Expr {
 
 impl Expr {
     /// Returns whether the trees are equal, with the positions in `AstNode`s left out.
-    pub fn is_same_but_for_places(&self, other: &Expr) -> bool
-        ensures { IsTrue result ↔ (unplaced (view self.now) ≡ unplaced (view other.now)) }
+    pub fn is_same_but_for_positions(&self, other: &Expr) -> bool
+        ensures { IsTrue result ↔ (unpositioned (view self.now) ≡ unpositioned (view other.now)) }
     {
         is_same(self, other, false)
     }
 }
 
 /// Whether the positions are equal, if they are compared; else true.
-fn is_same_place(place: usize, other: usize, with_places: bool) -> bool
-    ensures { result ≡ nat_eq (place_if with_places place) (place_if with_places other) }
+fn is_same_position(position: usize, other: usize, with_positions: bool) -> bool
+    ensures { result ≡ nat_eq (position_if with_positions position) (position_if with_positions other) }
 {
-    !with_places || place == other
+    !with_positions || position == other
 }
 
 /// Whether the nodes are equal.
 #[cycle(same)]
 fn is_same_node(
     node: &AstNode,
-    place: usize,
+    position: usize,
     other: &AstNode,
-    other_place: usize,
-    with_places: bool,
+    other_position: usize,
+    with_positions: bool,
 ) -> bool
-    ensures { result ≡ same (placed with_places (view_ast node.now place))
-        (placed with_places (view_ast other.now other_place)) }
+    ensures { result ≡ same (positioned with_positions (view_ast node.now position))
+        (positioned with_positions (view_ast other.now other_position)) }
 {
     match node {
         AstNode::AstGroup { name, inner } => match other {
@@ -96,8 +96,8 @@ fn is_same_node(
                 name: other_name,
                 inner: other_inner,
             } => is_same_name(name.as_deref(), other_name.as_deref())
-                && is_same_place(place, other_place, with_places)
-                && is_same_child(inner, other_inner, with_places),
+                && is_same_position(position, other_position, with_positions)
+                && is_same_child(inner, other_inner, with_positions),
             AstNode::Backref { .. }
             | AstNode::SubroutineCall(_)
             | AstNode::BackrefExistsCondition { .. } => false,
@@ -114,14 +114,14 @@ fn is_same_node(
             } => *target == *other_target
                 && *casei == *other_casei
                 && *relative_recursion_level == *other_level
-                && is_same_place(place, other_place, with_places),
+                && is_same_position(position, other_position, with_positions),
             AstNode::AstGroup { .. }
             | AstNode::SubroutineCall(_)
             | AstNode::BackrefExistsCondition { .. } => false,
         },
         AstNode::SubroutineCall(target) => match other {
             AstNode::SubroutineCall(other_target) => *target == *other_target
-                && is_same_place(place, other_place, with_places),
+                && is_same_position(position, other_position, with_positions),
             AstNode::AstGroup { .. }
             | AstNode::Backref { .. }
             | AstNode::BackrefExistsCondition { .. } => false,
@@ -135,7 +135,7 @@ fn is_same_node(
                 relative_recursion_level: other_level,
             } => *target == *other_target
                 && *relative_recursion_level == *other_level
-                && is_same_place(place, other_place, with_places),
+                && is_same_position(position, other_position, with_positions),
             AstNode::AstGroup { .. } | AstNode::Backref { .. } | AstNode::SubroutineCall(_) =>
                 false,
         },
@@ -144,24 +144,24 @@ fn is_same_node(
 
 /// Whether the absent forms are equal.
 #[cycle(same)]
-fn is_same_absent(absent: &Absent, other: &Absent, with_places: bool) -> bool
-    ensures { result ≡ same (placed with_places (view_absent absent.now)) (placed with_places (view_absent other.now)) }
+fn is_same_absent(absent: &Absent, other: &Absent, with_positions: bool) -> bool
+    ensures { result ≡ same (positioned with_positions (view_absent absent.now)) (positioned with_positions (view_absent other.now)) }
 {
     match absent {
         Absent::Repeater(child) => match other {
-            Absent::Repeater(other_child) => is_same_child(child, other_child, with_places),
+            Absent::Repeater(other_child) => is_same_child(child, other_child, with_positions),
             Absent::Expression { .. } | Absent::Stopper(_) | Absent::Clear => false,
         },
         Absent::Expression { absent, exp } => match other {
             Absent::Expression {
                 absent: other_absent,
                 exp: other_exp,
-            } => is_same_child(absent, other_absent, with_places)
-                && is_same_child(exp, other_exp, with_places),
+            } => is_same_child(absent, other_absent, with_positions)
+                && is_same_child(exp, other_exp, with_positions),
             Absent::Repeater(_) | Absent::Stopper(_) | Absent::Clear => false,
         },
         Absent::Stopper(child) => match other {
-            Absent::Stopper(other_child) => is_same_child(child, other_child, with_places),
+            Absent::Stopper(other_child) => is_same_child(child, other_child, with_positions),
             Absent::Repeater(_) | Absent::Expression { .. } | Absent::Clear => false,
         },
         Absent::Clear => matches!(other, Absent::Clear),
@@ -170,8 +170,8 @@ fn is_same_absent(absent: &Absent, other: &Absent, with_places: bool) -> bool
 
 /// Whether the trees are equal.
 #[cycle(same)]
-fn is_same(tree: &Expr, other: &Expr, with_places: bool) -> bool
-    ensures { result ≡ same (placed with_places (view tree.now)) (placed with_places (view other.now)) }
+fn is_same(tree: &Expr, other: &Expr, with_positions: bool) -> bool
+    ensures { result ≡ same (positioned with_positions (view tree.now)) (positioned with_positions (view other.now)) }
 {
     match tree {
         Expr::Empty => matches!(other, Expr::Empty),
@@ -204,20 +204,20 @@ fn is_same(tree: &Expr, other: &Expr, with_places: bool) -> bool
             _ => false,
         },
         Expr::Concat(parts) => match other {
-            Expr::Concat(other_parts) => is_same_list(parts, other_parts, with_places),
+            Expr::Concat(other_parts) => is_same_list(parts, other_parts, with_positions),
             _ => false,
         },
         Expr::Alt(branches) => match other {
-            Expr::Alt(other_branches) => is_same_list(branches, other_branches, with_places),
+            Expr::Alt(other_branches) => is_same_list(branches, other_branches, with_positions),
             _ => false,
         },
         Expr::Group(child) => match other {
-            Expr::Group(other_child) => is_same_child(child, other_child, with_places),
+            Expr::Group(other_child) => is_same_child(child, other_child, with_positions),
             _ => false,
         },
         Expr::LookAround(child, look) => match other {
             Expr::LookAround(other_child, other_look) => *look == *other_look
-                && is_same_child(child, other_child, with_places),
+                && is_same_child(child, other_child, with_positions),
             _ => false,
         },
         Expr::Repeat {
@@ -234,7 +234,7 @@ fn is_same(tree: &Expr, other: &Expr, with_places: bool) -> bool
             } => *lo == *other_lo
                 && *hi == *other_hi
                 && *greedy == *other_greedy
-                && is_same_child(child, other_child, with_places),
+                && is_same_child(child, other_child, with_positions),
             _ => false,
         },
         Expr::Delegate { inner, casei } => match other {
@@ -266,7 +266,7 @@ fn is_same(tree: &Expr, other: &Expr, with_places: bool) -> bool
             _ => false,
         },
         Expr::AtomicGroup(child) => match other {
-            Expr::AtomicGroup(other_child) => is_same_child(child, other_child, with_places),
+            Expr::AtomicGroup(other_child) => is_same_child(child, other_child, with_positions),
             _ => false,
         },
         Expr::KeepOut => matches!(other, Expr::KeepOut),
@@ -290,9 +290,9 @@ fn is_same(tree: &Expr, other: &Expr, with_places: bool) -> bool
                 condition: other_condition,
                 true_branch: other_true_branch,
                 false_branch: other_false_branch,
-            } => is_same_child(condition, other_condition, with_places)
-                && is_same_child(true_branch, other_true_branch, with_places)
-                && is_same_child(false_branch, other_false_branch, with_places),
+            } => is_same_child(condition, other_condition, with_positions)
+                && is_same_child(true_branch, other_true_branch, with_positions)
+                && is_same_child(false_branch, other_false_branch, with_positions),
             _ => false,
         },
         Expr::SubroutineCall(group) => match other {
@@ -304,22 +304,22 @@ fn is_same(tree: &Expr, other: &Expr, with_places: bool) -> bool
             _ => false,
         },
         Expr::Absent(absent) => match other {
-            Expr::Absent(other_absent) => is_same_absent(absent, other_absent, with_places),
+            Expr::Absent(other_absent) => is_same_absent(absent, other_absent, with_positions),
             _ => false,
         },
         Expr::DefineGroup { definitions } => match other {
             Expr::DefineGroup {
                 definitions: other_definitions,
-            } => is_same_child(definitions, other_definitions, with_places),
+            } => is_same_child(definitions, other_definitions, with_positions),
             _ => false,
         },
-        Expr::AstNode(node, place) => match other {
-            Expr::AstNode(other_node, other_place) => is_same_node(
+        Expr::AstNode(node, position) => match other {
+            Expr::AstNode(other_node, other_position) => is_same_node(
                 node,
-                *place,
+                *position,
                 other_node,
-                *other_place,
-                with_places,
+                *other_position,
+                with_positions,
             ),
             _ => false,
         },
@@ -341,23 +341,23 @@ fn is_same_name(name: Option<&str>, other: Option<&str>) -> bool
 
 /// Whether the trees in the boxes are equal.
 #[cycle(same)]
-fn is_same_child(child: &Box<Expr>, other: &Box<Expr>, with_places: bool) -> bool
-    ensures { result ≡ same (placed with_places (view child.now.value)) (placed with_places (view other.now.value)) }
+fn is_same_child(child: &Box<Expr>, other: &Box<Expr>, with_positions: bool) -> bool
+    ensures { result ≡ same (positioned with_positions (view child.now.value)) (positioned with_positions (view other.now.value)) }
 {
-    is_same(child, other, with_places)
+    is_same(child, other, with_positions)
 }
 
 /// Whether the lists hold equal trees, one by one.
 #[cycle(same)]
-fn is_same_list(trees: &[Expr], others: &[Expr], with_places: bool) -> bool
-    ensures { result ≡ same_all (placed_all with_places (trees_of (views trees.now)))
-        (placed_all with_places (trees_of (views others.now))) }
+fn is_same_list(trees: &[Expr], others: &[Expr], with_positions: bool) -> bool
+    ensures { result ≡ same_all (positioned_all with_positions (trees_of (views trees.now)))
+        (positioned_all with_positions (trees_of (views others.now))) }
 {
     if trees.len() != others.len() {
         return false;
     }
     for i in 0..trees.len() {
-        if !is_same(&trees[i], &others[i], with_places) {
+        if !is_same(&trees[i], &others[i], with_positions) {
             return false;
         }
     }

@@ -4,84 +4,89 @@ ghost use Rattle.fancy_lex.specs.Characters.{open_paren};
 ghost use Rattle.fancy_lex.specs.Class as classes;
 ghost use Rattle.fancy_lex.specs.Escape as escapes;
 ghost use Rattle.fancy_lex.specs.EscapeViews.{escape_of};
-ghost use Rattle.fancy_grammar.specs.Ahead as spec;
+ghost use Rattle.fancy_grammar.specs.AtomStart as spec;
 ghost use Rattle.fancy_grammar.specs.Depth.{max_depth};
 ghost use Rattle.fancy_grammar.specs.Tree.{delegate, literal};
 ghost use Rattle.fancy_syntax.specs.Parsed.{state, GivesTree, Sees, IsBelow, StaysAtNothing, TakesBytes, IsSomething};
 ghost use Rattle.fancy_syntax.specs.View.{view};
 
 use crate::expr::Expr;
-use crate::grammar::ahead::Ahead;
+use crate::grammar::atom_start::AtomStart;
 use crate::grammar::group::after_paren;
 use crate::grammar::reference::{backref, subroutine_call};
 use crate::grammar::state::State;
 use fancy_grammar::depth::MAX_DEPTH;
 use fancy_lex::class::{class, push_delegate};
-use fancy_lex::error::{Failure, ParseError};
+use fancy_lex::error::{ParseError, ReadError};
 use fancy_lex::escape::{Assertion, Escaped, escape};
 use fancy_lex::flags::Flags;
 use fancy_lex::text::{next, reach};
 use std::alloc::{AllocError, Global};
 
 /// Reads the start of an atom: a whole leaf, or a group up to the start of its first part.
-#[tactic(auto, unfolding(fancy_grammar::specs::Ahead::ahead))]
+#[tactic(auto, unfolding(fancy_grammar::specs::AtomStart::atom_start))]
 pub(crate) fn read_atom_start<'a>(
     alloc: Global,
-    here: &mut State<'a>,
+    current: &mut State<'a>,
     depth: usize,
-) -> Result<Ahead<'a>, Failure>
+) -> Result<AtomStart<'a>, ReadError>
     requires depth { depth < max_depth }
-    ensures value { Sees result (state here.new) (spec.ahead depth (state here.old)) }
-    ensures stays { IfOk result (λ a. StaysAtNothing a here.old here.new) }
-    ensures shorter { IfOk result (λ a. TakesBytes a here.old.rest.now here.new.rest.now) }
+    ensures value { Sees result (state current.new) (spec.atom_start depth (state current.old)) }
+    ensures stays { IfOk result (λ a. StaysAtNothing a current.old current.new) }
+    ensures shorter { IfOk result (λ a. TakesBytes a current.old.rest.now current.new.rest.now) }
     ensures below { IfOk result (λ a. IsBelow a depth) }
 {
-    let Some((c, rest)) = next(here.rest) else {
-        return Ok(Ahead::Nothing);
+    let Some((c, rest)) = next(current.rest) else {
+        return Ok(AtomStart::Nothing);
     };
     if c == '(' {
-        return open_group(alloc, here, rest, depth);
+        return open_group(alloc, current, rest, depth);
     }
     if is_before_nothing(c) {
-        return Ok(Ahead::Nothing);
+        return Ok(AtomStart::Nothing);
     }
-    Ok(Ahead::Read(leaf(alloc, c, here, rest)?))
+    Ok(AtomStart::Read(leaf(alloc, c, current, rest)?))
 }
 
 /// Reads the opening of a group, from the parenthesis at the front, which `rest` follows, up to the start of its first
 /// part.
-#[tactic(auto, unfolding(fancy_grammar::specs::Ahead::ahead))]
+#[tactic(auto, unfolding(fancy_grammar::specs::AtomStart::atom_start))]
 fn open_group<'a>(
     alloc: Global,
-    here: &mut State<'a>,
+    current: &mut State<'a>,
     rest: &'a str,
     depth: usize,
-) -> Result<Ahead<'a>, Failure>
+) -> Result<AtomStart<'a>, ReadError>
     requires depth { depth < max_depth }
-    requires front { chars here.old.rest.now ≡ open_paren ∷ chars rest.now }
-    requires shorter { length rest.now < length here.old.rest.now }
-    ensures value { Sees result (state here.new) (spec.ahead depth (state here.old)) }
-    ensures within { IfOk result (λ _. length here.new.rest.now < length here.old.rest.now) }
+    requires front { chars current.old.rest.now ≡ open_paren ∷ chars rest.now }
+    requires shorter { length rest.now < length current.old.rest.now }
+    ensures value { Sees result (state current.new) (spec.atom_start depth (state current.old)) }
+    ensures within { IfOk result (λ _. length current.new.rest.now < length current.old.rest.now) }
     ensures something { IfOk result (λ a. IsSomething a) }
     ensures below { IfOk result (λ _. depth + 1 < max_depth) }
 {
     if depth >= MAX_DEPTH - 1 {
-        let paren = reach(here.rest);
-        return Err(Failure::At(paren, ParseError::RecursionExceeded));
+        let paren = reach(current.rest);
+        return Err(ReadError::At(paren, ParseError::RecursionExceeded));
     }
-    here.rest = rest;
-    after_paren(alloc, here)
+    current.rest = rest;
+    after_paren(alloc, current)
 }
 
 /// Reads an atom of one character, which `rest` follows, an escape or a class.
-fn leaf<'a>(alloc: Global, c: char, here: &mut State<'a>, rest: &'a str) -> Result<Expr, Failure>
-    requires front { chars here.old.rest.now ≡ c ∷ chars rest.now }
-    requires shorter { length rest.now < length here.old.rest.now }
-    ensures value { GivesTree result (state here.new) (spec.leaf_of (state here.old) c (chars rest.now)) }
-    ensures within { IfOk result (λ _. length here.new.rest.now ≤ length rest.now) }
+fn leaf<'a>(
+    alloc: Global,
+    c: char,
+    current: &mut State<'a>,
+    rest: &'a str,
+) -> Result<Expr, ReadError>
+    requires front { chars current.old.rest.now ≡ c ∷ chars rest.now }
+    requires shorter { length rest.now < length current.old.rest.now }
+    ensures value { GivesTree result (state current.new) (spec.leaf_of (state current.old) c (chars rest.now)) }
+    ensures within { IfOk result (λ _. length current.new.rest.now ≤ length rest.now) }
 {
-    here.rest = rest;
-    let flags = here.flags;
+    current.rest = rest;
+    let flags = current.flags;
     match c {
         '.' => Ok(Expr::Any {
             newline: flags.dotnl,
@@ -89,32 +94,32 @@ fn leaf<'a>(alloc: Global, c: char, here: &mut State<'a>, rest: &'a str) -> Resu
         }),
         '^' => Ok(Expr::Assertion(start_anchor(flags))),
         '$' => Ok(Expr::Assertion(end_anchor(flags))),
-        '\\' => escape_leaf(alloc, here),
-        '[' => class_leaf(alloc, here),
+        '\\' => escape_leaf(alloc, current),
+        '[' => class_leaf(alloc, current),
         _ => Ok(literal(alloc, c, flags.casei)?),
     }
 }
 
 /// Reads an escape after its backslash.
-fn escape_leaf(alloc: Global, here: &mut State) -> Result<Expr, Failure>
-    ensures value { GivesTree result (state here.new) (spec.leaf_outcome spec.leaf_node (state here.old)
-        (escapes.escape here.old.flags false (chars here.old.rest.now))) }
-    ensures within { IfOk result (λ _. length here.new.rest.now ≤ length here.old.rest.now) }
+fn escape_leaf(alloc: Global, current: &mut State) -> Result<Expr, ReadError>
+    ensures value { GivesTree result (state current.new) (spec.leaf_outcome spec.leaf_node (state current.old)
+        (escapes.escape current.old.flags false (chars current.old.rest.now))) }
+    ensures within { IfOk result (λ _. length current.new.rest.now ≤ length current.old.rest.now) }
 {
-    let (escaped, rest) = escape(alloc, here.rest, here.flags, false)?;
-    here.rest = rest;
+    let (escaped, rest) = escape(alloc, current.rest, current.flags, false)?;
+    current.rest = rest;
     Ok(leaf_node(alloc, escaped)?)
 }
 
 /// Reads a class after its bracket.
-fn class_leaf(alloc: Global, here: &mut State) -> Result<Expr, Failure>
-    ensures value { GivesTree result (state here.new) (spec.leaf_outcome (λ w. delegate w here.old.flags.casei)
-        (state here.old) (classes.class here.old.flags (chars here.old.rest.now))) }
-    ensures within { IfOk result (λ _. length here.new.rest.now ≤ length here.old.rest.now) }
+fn class_leaf(alloc: Global, current: &mut State) -> Result<Expr, ReadError>
+    ensures value { GivesTree result (state current.new) (spec.leaf_outcome (λ w. delegate w current.old.flags.casei)
+        (state current.old) (classes.class current.old.flags (chars current.old.rest.now))) }
+    ensures within { IfOk result (λ _. length current.new.rest.now ≤ length current.old.rest.now) }
 {
-    let (inner, rest) = class(alloc, here.rest, here.flags)?;
-    here.rest = rest;
-    let casei = here.flags.casei;
+    let (inner, rest) = class(alloc, current.rest, current.flags)?;
+    current.rest = rest;
+    let casei = current.flags.casei;
     Ok(Expr::Delegate { inner, casei })
 }
 

@@ -4,7 +4,7 @@ ghost use Rattle.fancy_grammar.specs.Grammar as spec;
 ghost use Rattle.fancy_grammar.specs.Join as join;
 ghost use Rattle.fancy_grammar.specs.Tree.{alt, trees_of, conditional as conditional_node};
 ghost use Rattle.fancy_syntax.specs.Log.{Log, atom_closed, atom_ended, part_dropped};
-ghost use Rattle.fancy_syntax.specs.Noting.{stopper_noted};
+ghost use Rattle.fancy_syntax.specs.Recording.{stopper_recorded};
 ghost use Rattle.fancy_syntax.specs.View.{view, view_ast, views};
 
 use crate::expr::{Absent, AstNode, Expr};
@@ -82,7 +82,7 @@ pub(crate) fn conditional<S: Spanning>(
 ) -> Result<Expr, AllocError>
     ensures tree { IfOk result (λ e. view e ≡
         spec.conditional_of (view condition.value) (view branches.0) (view branches.1)) }
-    ensures spans { (l : Log) → S.notes spans.old l → OnOk result (S.notes spans.new
+    ensures spans { (l : Log) → S.records spans.old l → OnOk result (S.records spans.new
         (if join.is_empty (view branches.0) && join.is_empty (view branches.1)
         then atom_ended (part_dropped l) else atom_closed end false l)) }
 {
@@ -130,8 +130,8 @@ pub(crate) fn clear_or_stopper<S: Spanning>(
     spans: &mut S,
 ) -> Result<Expr, AllocError>
     ensures tree { IfOk result (λ e. view e ≡ spec.clear_or_stopper (view branch)) }
-    ensures spans { (l : Log) → S.notes spans.old l →
-        OnOk result (S.notes spans.new (stopper_noted (view branch) end l)) }
+    ensures spans { (l : Log) → S.records spans.old l →
+        OnOk result (S.records spans.new (stopper_recorded (view branch) end l)) }
 {
     if is_empty(&branch) {
         drop(branch);

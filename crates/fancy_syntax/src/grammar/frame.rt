@@ -4,25 +4,25 @@ ghost use Rattle.fancy_grammar.specs.Join.{one_or, choice};
 ghost use Rattle.fancy_grammar.specs.Tree.{Tree, concat};
 ghost use Rattle.fancy_syntax.specs.Log.{Log, branch_ended};
 ghost use Rattle.fancy_syntax.specs.Machine.{HoldsTrees};
-ghost use Rattle.fancy_syntax.specs.Noting.{choice_noted};
+ghost use Rattle.fancy_syntax.specs.Recording.{choice_recorded};
 ghost use Rattle.fancy_syntax.specs.View.{view, views};
 
 use crate::expr::Expr;
-use crate::grammar::fault::general;
-use crate::grammar::group::head::Head;
+use crate::grammar::error::general;
+use crate::grammar::group::kind::GroupKind;
 use crate::grammar::spanning::Spanning;
 use crate::grammar::trees::{push, take_above, take_branch};
-use fancy_lex::error::Failure;
+use fancy_lex::error::ReadError;
 use fancy_lex::flags::Flags;
 use std::alloc::{AllocError, Global};
 
 /// An open part.
 #[derive(Drop)]
-pub(crate) enum Opener<'a> {
+pub(crate) enum OpenGroup<'a> {
     /// The whole text.
     Top,
     /// A group that opens at the reach.
-    Group { head: Head<'a>, reach: usize },
+    Group { kind: GroupKind<'a>, reach: usize },
     /// The condition of a conditional.
     Condition,
     /// The body of a conditional with this condition; that many bytes were left at its start.
@@ -43,7 +43,7 @@ pub(crate) struct PieceStart {
 /// An open group: where its trees begin among all that have been read. The trees of the groups around it are below.
 #[derive(Drop)]
 pub(crate) struct Frame<'a> {
-    pub(crate) opener: Opener<'a>,
+    pub(crate) open_group: OpenGroup<'a>,
     /// How many trees are below its finished branches.
     pub(crate) branches: usize,
     /// How many trees are below the pieces of the open branch, which is the last.
@@ -55,17 +55,17 @@ pub(crate) struct Frame<'a> {
 impl<'a> Frame<'a> {
     ghost use Rattle.std.specs.Prelude.{false, IfErr};
     ghost use Rattle.fancy_lex.specs.Text.{reach_of};
-    ghost use Rattle.fancy_syntax.specs.Machine.{part_of, opened_by_bar, branches_at_bar, is_second, IsFaultOfBar};
+    ghost use Rattle.fancy_syntax.specs.Machine.{part_of, opened_by_bar, branches_at_bar, is_second, IsErrorOfBar};
     ghost use Rattle.fancy_grammar.specs.Errors.{IsErrorAmong};
 
     /// A group in which nothing has been read yet, above `height` trees, under these flags.
-    pub(crate) fn new(opener: Opener<'a>, height: usize, flags: Flags) -> Frame<'a>
-        ensures opener { result.opener ≡ opener.entry }
+    pub(crate) fn new(open_group: OpenGroup<'a>, height: usize, flags: Flags) -> Frame<'a>
+        ensures open_group { result.open_group ≡ open_group.entry }
         ensures branches { result.branches ≡ height }
         ensures pieces { result.pieces ≡ height }
     {
         Frame {
-            opener,
+            open_group,
             branches: height,
             pieces: height,
             piece: PieceStart { left: 0, flags },
@@ -81,29 +81,29 @@ impl<'a> Frame<'a> {
         trees: &mut Vec<Expr>,
         reach: usize,
         spans: &mut S,
-    ) -> Result<(), Failure>
+    ) -> Result<(), ReadError>
         requires { self.old.pieces ≤ vec_len trees.old }
-        ensures opener { (below branches pieces : List Tree) →
+        ensures open_group { (below branches pieces : List Tree) →
             HoldsTrees self.old (views trees.old.items) below branches pieces →
-            OnOk result (part_of self.new.opener ≡ opened_by_bar (part_of self.old.opener) (one_or concat pieces)) }
+            OnOk result (part_of self.new.open_group ≡ opened_by_bar (part_of self.old.open_group) (one_or concat pieces)) }
         ensures trees { (below branches pieces : List Tree) →
             HoldsTrees self.old (views trees.old.items) below branches pieces →
             OnOk result (HoldsTrees self.new (views trees.new.items) below
-            (branches_at_bar (part_of self.old.opener) branches (one_or concat pieces)) []) }
-        ensures allowed { IfOk result (λ _. is_second (part_of self.old.opener) ≡ false) }
+            (branches_at_bar (part_of self.old.open_group) branches (one_or concat pieces)) []) }
+        ensures allowed { IfOk result (λ _. is_second (part_of self.old.open_group) ≡ false) }
         ensures spans { (below branches pieces : List Tree) (l : Log) →
             HoldsTrees self.old (views trees.old.items) below branches pieces →
-            S.notes spans.old l → OnOk result (S.notes spans.new (branch_ended (length pieces) reach l)) }
+            S.records spans.old l → OnOk result (S.records spans.new (branch_ended (length pieces) reach l)) }
         ensures error { (t : _) → reach ≡ reach_of t →
-            IfErr result (λ e. IsErrorAmong e (IsFaultOfBar (part_of self.old.opener) t)) }
+            IfErr result (λ e. IsErrorAmong e (IsErrorOfBar (part_of self.old.open_group) t)) }
     {
-        match &self.opener {
-            Opener::First => {
+        match &self.open_group {
+            OpenGroup::First => {
                 let branch = take_branch(alloc, trees, self.pieces, reach, spans)?;
-                self.opener = Opener::Second(Box::new(alloc, branch)?);
+                self.open_group = OpenGroup::Second(Box::new(alloc, branch)?);
                 Ok(())
             }
-            Opener::Second(_) => Err(general(alloc, "expected close paren", reach)),
+            OpenGroup::Second(_) => Err(general(alloc, "expected close paren", reach)),
             _ => Ok(self.end_branch(alloc, trees, reach, spans)?),
         }
     }
@@ -117,13 +117,13 @@ impl<'a> Frame<'a> {
         spans: &mut S,
     ) -> Result<(), AllocError>
         requires { self.old.pieces ≤ vec_len trees.old }
-        ensures opener { self.new.opener ≡ self.old.opener }
+        ensures open_group { self.new.open_group ≡ self.old.open_group }
         ensures trees { (below branches pieces : List Tree) →
             HoldsTrees self.old (views trees.old.items) below branches pieces →
             OnOk result (HoldsTrees self.new (views trees.new.items) below (branches ++ one_or concat pieces ∷ []) []) }
         ensures spans { (below branches pieces : List Tree) (l : Log) →
             HoldsTrees self.old (views trees.old.items) below branches pieces →
-            S.notes spans.old l → OnOk result (S.notes spans.new (branch_ended (length pieces) reach l)) }
+            S.records spans.old l → OnOk result (S.records spans.new (branch_ended (length pieces) reach l)) }
     {
         let branch = take_branch(alloc, trees, self.pieces, reach, spans)?;
         push(trees, branch)?;
@@ -149,8 +149,8 @@ impl<'a> Frame<'a> {
             OnOk result (views trees.new.items ≡ below) }
         ensures spans { (below branches pieces : List Tree) (l : Log) →
             HoldsTrees self.now (views trees.old.items) below branches pieces →
-            S.notes spans.old l → OnOk result (S.notes spans.new
-            (choice_noted (branches ++ one_or concat pieces ∷ []) reach (branch_ended (length pieces) reach l))) }
+            S.records spans.old l → OnOk result (S.records spans.new
+            (choice_recorded (branches ++ one_or concat pieces ∷ []) reach (branch_ended (length pieces) reach l))) }
     {
         let branch = take_branch(alloc, trees, self.pieces, reach, spans)?;
         // Usually it is the only one.

@@ -9,22 +9,22 @@ ghost use Rattle.fancy_grammar.specs.Grammar.{Alternation};
 ghost use Rattle.fancy_grammar.specs.State.{done, ends};
 ghost use Rattle.fancy_grammar.specs.State as states;
 ghost use Rattle.fancy_syntax.specs.Log.{Log};
-ghost use Rattle.fancy_syntax.specs.Machine.{Takes, HasRead, HasReadTo, taken_noted};
-ghost use Rattle.fancy_syntax.specs.Noting.{AlternationTo};
+ghost use Rattle.fancy_syntax.specs.Machine.{Takes, HasRead, HasReadTo, taken_recorded};
+ghost use Rattle.fancy_syntax.specs.Recording.{AlternationTo};
 ghost use Rattle.fancy_syntax.specs.Parsed.{state};
-ghost use Rattle.fancy_syntax.specs.Room.{groups_at_once, HasRoom, IsRoomy, HasRoomFor, OpensAlways};
+ghost use Rattle.fancy_syntax.specs.StackCapacity.{groups_at_once, HasStackCapacity, IsReserved, HasCapacityFor, OpensAlways};
 ghost use Rattle.fancy_syntax.specs.View.{view, views};
 
 use crate::expr::Expr;
 use crate::grammar::atom::{leaf_node, literal};
-use crate::grammar::frame::{Frame, Opener, PieceStart};
+use crate::grammar::frame::{Frame, OpenGroup, PieceStart};
 use crate::grammar::plain::{plain, plain_escape};
 use crate::grammar::spanning::Spanning;
 use crate::grammar::state::State;
 use crate::grammar::step::{FinishedPart, Step, close, read_step};
 use crate::grammar::trees::add;
 use fancy_grammar::depth::MAX_DEPTH;
-use fancy_lex::error::Failure;
+use fancy_lex::error::ReadError;
 use fancy_lex::text::{byte_len, reach};
 use memchr::memchr;
 use std::alloc::{AllocError, Global};
@@ -34,7 +34,7 @@ use std::mem;
 #[derive(Drop)]
 pub(crate) struct Parser<'a> {
     /// The position of the loop.
-    pub(crate) here: State<'a>,
+    pub(crate) current: State<'a>,
     /// The innermost open group.
     pub(crate) frame: Frame<'a>,
     /// The groups around it, the innermost last. It has capacity for all groups that can be open at once in the text.
@@ -53,14 +53,14 @@ impl<'a> Parser<'a> {
     /// A parser that has read nothing yet.
     #[inline(always)]
     pub(crate) fn new(alloc: Global, start: State<'a>) -> Result<Parser<'a>, AllocError>
-        ensures here { IfOk result (λ r. r.here ≡ start.entry) }
+        ensures current { IfOk result (λ r. r.current ≡ start.entry) }
         ensures depth { IfOk result (λ r. length r.stack.items < max_depth) }
         ensures reading { (l : Log) → IfOk result (λ r. HasRead (state start.entry) l r l) }
-        ensures room { IfOk result (λ r. HasRoom r (chars start.entry.rest.now)) }
+        ensures reserved { IfOk result (λ r. HasStackCapacity r (chars start.entry.rest.now)) }
     {
         let mut parser = Parser {
-            here: start,
-            frame: Frame::new(Opener::Top, 0, start.flags),
+            current: start,
+            frame: Frame::new(OpenGroup::Top, 0, start.flags),
             stack: Vec::new(alloc),
             trees: Vec::with_capacity(alloc, TREES)?,
         };
@@ -76,48 +76,52 @@ impl<'a> Parser<'a> {
         spans: &mut S,
     ) -> Result<bool, AllocError>
         ensures reading { (start : states.State) (none l : Log) → HasRead start none self.old l →
-            OnOk result (HasReadTo start none self.new (λ m. S.notes spans.old l → S.notes spans.new m)) }
+            OnOk result (HasReadTo start none self.new (λ m. S.records spans.old l → S.records spans.new m)) }
         ensures stack { self.new.stack ≡ self.old.stack }
-        ensures within { length self.new.here.rest.now ≤ length self.old.here.rest.now }
+        ensures within { length self.new.current.rest.now ≤ length self.old.current.rest.now }
         ensures shorter { IfOk result (λ found. found ≡ true →
-            length self.new.here.rest.now < length self.old.here.rest.now) }
+            length self.new.current.rest.now < length self.old.current.rest.now) }
     {
-        if let Some((c, rest)) = plain(self.here) {
-            let leaf = literal(alloc, c, self.here.flags.casei)?;
-            spans.note_leaf(reach(self.here.rest), reach(rest))?;
+        if let Some((c, rest)) = plain(self.current) {
+            let leaf = literal(alloc, c, self.current.flags.casei)?;
+            spans.record_leaf(reach(self.current.rest), reach(rest))?;
             add(&mut self.trees, leaf, spans)?;
-            self.here.rest = rest;
+            self.current.rest = rest;
             return Ok(true);
         }
-        let Some((escaped, rest)) = plain_escape::<S>(self.here) else {
+        let Some((escaped, rest)) = plain_escape::<S>(self.current) else {
             return Ok(false);
         };
         let leaf = leaf_node(alloc, escaped)?;
-        spans.note_leaf(reach(self.here.rest), reach(rest))?;
+        spans.record_leaf(reach(self.current.rest), reach(rest))?;
         add(&mut self.trees, leaf, spans)?;
-        self.here.rest = rest;
+        self.current.rest = rest;
         Ok(true)
     }
 
     /// Reads a piece, or the opening of a group. A returned error is the error of the text.
     #[inline(always)]
-    pub(crate) fn step<S: Spanning>(&mut self, alloc: Global, spans: &mut S) -> Result<(), Failure>
-        requires room { IsRoomy self.old }
+    pub(crate) fn step<S: Spanning>(
+        &mut self,
+        alloc: Global,
+        spans: &mut S,
+    ) -> Result<(), ReadError>
+        requires reserved { IsReserved self.old }
         requires depth { length self.old.stack.items < max_depth }
-        requires more { ends (chars self.old.here.rest.now) ≡ false }
+        requires more { ends (chars self.old.current.rest.now) ≡ false }
         ensures reading { (start : states.State) (none l : Log) → HasRead start none self.old l →
             MatchResult result
-            (λ _. HasReadTo start none self.new (λ m. S.notes spans.old l → S.notes spans.new m))
+            (λ _. HasReadTo start none self.new (λ m. S.records spans.old l → S.records spans.new m))
             (λ e. IsErrorAmong e (Alternation 0 start)) }
         ensures depth { OnOk result (length self.new.stack.items < max_depth) }
         ensures capacity { OnOk result (vec_capacity self.new.stack ≡ vec_capacity self.old.stack) }
-        ensures shorter { OnOk result (length self.new.here.rest.now < length self.old.here.rest.now) }
+        ensures shorter { OnOk result (length self.new.current.rest.now < length self.old.current.rest.now) }
     {
         self.frame.piece = PieceStart {
-            left: byte_len(self.here.rest),
-            flags: self.here.flags,
+            left: byte_len(self.current.rest),
+            flags: self.current.flags,
         };
-        let step = read_step(alloc, &mut self.here, self.stack.len(), spans)?;
+        let step = read_step(alloc, &mut self.current, self.stack.len(), spans)?;
         Ok(self.take(step, spans)?)
     }
 
@@ -128,21 +132,21 @@ impl<'a> Parser<'a> {
         alloc: Global,
         rest: &'a str,
         spans: &mut S,
-    ) -> Result<(), Failure>
+    ) -> Result<(), ReadError>
         requires pieces { self.old.frame.pieces ≤ vec_len self.old.trees }
-        requires last { ends (chars self.old.here.rest.now) ≡ true }
-        requires bar { strip bar (chars self.old.here.rest.now) ≡ Some (chars rest.now) }
+        requires last { ends (chars self.old.current.rest.now) ≡ true }
+        requires bar { strip bar (chars self.old.current.rest.now) ≡ Some (chars rest.now) }
         ensures reading { (start : states.State) (none l : Log) → HasRead start none self.old l →
             MatchResult result
-            (λ _. HasReadTo start none self.new (λ m. S.notes spans.old l → S.notes spans.new m))
+            (λ _. HasReadTo start none self.new (λ m. S.records spans.old l → S.records spans.new m))
             (λ e. IsErrorAmong e (Alternation 0 start)) }
         ensures stack { self.new.stack ≡ self.old.stack }
-        ensures rest { OnOk result (self.new.here.rest ≡ rest.entry) }
+        ensures rest { OnOk result (self.new.current.rest ≡ rest.entry) }
     {
-        let bar = reach(self.here.rest);
+        let bar = reach(self.current.rest);
         self.frame.bar(alloc, &mut self.trees, bar, spans)?;
         spans.next_branch(reach(rest));
-        self.here.rest = rest;
+        self.current.rest = rest;
         Ok(())
     }
 
@@ -153,33 +157,40 @@ impl<'a> Parser<'a> {
         &mut self,
         alloc: Global,
         spans: &mut S,
-    ) -> Result<Option<Expr>, Failure>
+    ) -> Result<Option<Expr>, ReadError>
         requires depth { length self.old.stack.items < max_depth }
         requires branches { self.old.frame.branches ≤ self.old.frame.pieces }
         requires pieces { self.old.frame.pieces ≤ vec_len self.old.trees }
-        requires last { ends (chars self.old.here.rest.now) ≡ true }
-        requires no_bar { strip bar (chars self.old.here.rest.now) ≡ None }
+        requires last { ends (chars self.old.current.rest.now) ≡ true }
+        requires no_bar { strip bar (chars self.old.current.rest.now) ≡ None }
         ensures reading { (start : states.State) (none l : Log) → HasRead start none self.old l →
             MatchResult result (λ found. MatchOption found
-            (HasReadTo start none self.new (λ m. S.notes spans.old l → S.notes spans.new m))
-            (λ tree. (m : Log) × AlternationTo 0 start (done (view tree) (state self.new.here)) none m
-            × (S.notes spans.old l → S.notes spans.new m)))
+            (HasReadTo start none self.new (λ m. S.records spans.old l → S.records spans.new m))
+            (λ tree. (m : Log) × AlternationTo 0 start (done (view tree) (state self.new.current)) none m
+            × (S.records spans.old l → S.records spans.new m)))
             (λ e. IsErrorAmong e (Alternation 0 start)) }
         ensures depth { OnOk result (length self.new.stack.items < max_depth) }
         ensures capacity { OnOk result (vec_capacity self.new.stack ≡ vec_capacity self.old.stack) }
         ensures shorter { IfOk result (λ found. MatchOption found
-            (length self.new.here.rest.now < length self.old.here.rest.now)
-            (λ _. self.new.here ≡ self.old.here)) }
+            (length self.new.current.rest.now < length self.old.current.rest.now)
+            (λ _. self.new.current ≡ self.old.current)) }
     {
-        let end = reach(self.here.rest);
+        let end = reach(self.current.rest);
         let inner = self.frame.finish(alloc, &mut self.trees, end, spans)?;
         let Some(outer) = self.stack.pop() else {
             return Ok(Some(inner));
         };
-        let Frame { opener, .. } = mem::replace(&mut self.frame, outer);
-        let part = FinishedPart { opener, inner };
+        let Frame { open_group, .. } = mem::replace(&mut self.frame, outer);
+        let part = FinishedPart { open_group, inner };
         let depth = self.stack.len();
-        let step = close(alloc, part, self.frame.piece, &mut self.here, depth, spans)?;
+        let step = close(
+            alloc,
+            part,
+            self.frame.piece,
+            &mut self.current,
+            depth,
+            spans,
+        )?;
         self.take(step, spans)?;
         Ok(None)
     }
@@ -188,20 +199,20 @@ impl<'a> Parser<'a> {
     /// can only run out for the list of pieces.
     #[inline(always)]
     fn take<S: Spanning>(&mut self, step: Step<'a>, spans: &mut S) -> Result<(), AllocError>
-        requires room { HasRoomFor step self.old }
+        requires reserved { HasCapacityFor step self.old }
         ensures taken { OnOk result (Takes step.entry
             self.old.stack.items self.old.frame (views self.old.trees.items)
             self.new.stack.items self.new.frame (views self.new.trees.items)) }
-        ensures here { self.new.here ≡ self.old.here }
+        ensures current { self.new.current ≡ self.old.current }
         ensures capacity { vec_capacity self.new.stack ≡ vec_capacity self.old.stack }
         ensures opens { OpensAlways step.entry result }
-        ensures spans { (l : Log) → S.notes spans.old l →
-            OnOk result (S.notes spans.new (taken_noted step.entry l)) }
+        ensures spans { (l : Log) → S.records spans.old l →
+            OnOk result (S.records spans.new (taken_recorded step.entry l)) }
     {
         match step {
             Step::Piece(piece) => add(&mut self.trees, piece, spans),
-            Step::Open(opener) => {
-                let inner = Frame::new(opener, self.trees.len(), self.here.flags);
+            Step::Open(open_group) => {
+                let inner = Frame::new(open_group, self.trees.len(), self.current.flags);
                 push_frame(&mut self.stack, mem::replace(&mut self.frame, inner));
                 Ok(())
             }
@@ -213,7 +224,7 @@ impl<'a> Parser<'a> {
 /// leaf registers.
 #[inline(never)]
 fn push_frame<'a>(stack: &mut Vec<Frame<'a>>, frame: Frame<'a>)
-    requires room { vec_len stack.old < vec_capacity stack.old }
+    requires reserved { vec_len stack.old < vec_capacity stack.old }
     ensures items { stack.new.items ≡ stack.old.items ++ frame.entry ∷ [] }
     ensures capacity { vec_capacity stack.new ≡ vec_capacity stack.old }
 {
@@ -231,8 +242,8 @@ fn groups_at_once(text: &str) -> usize
         let Some(index) = memchr(b'(', rest) else {
             return count;
         };
-        let (_, behind) = rest.split_at(index);
-        rest = &behind[1..];
+        let (_, tail) = rest.split_at(index);
+        rest = &tail[1..];
         count += 1;
     }
     count

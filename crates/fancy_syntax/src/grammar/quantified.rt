@@ -6,7 +6,7 @@ ghost use Rattle.fancy_grammar.specs.Quantified as spec;
 ghost use Rattle.fancy_grammar.specs.State.{done};
 ghost use Rattle.fancy_grammar.specs.Tree.{repeat, atomic_group};
 ghost use Rattle.fancy_syntax.specs.Log.{Log};
-ghost use Rattle.fancy_syntax.specs.Noting.{adjacent_noted, counted_noted, quant_noted, quants_noted};
+ghost use Rattle.fancy_syntax.specs.Recording.{adjacent_recorded, counted_recorded, quant_recorded, quants_recorded};
 ghost use Rattle.fancy_syntax.specs.Parsed.{state, suffix_of, Turns, GivesSuffix};
 ghost use Rattle.fancy_syntax.specs.View.{view};
 
@@ -16,11 +16,11 @@ use crate::grammar::spanning::Spanning;
 use crate::grammar::state::{State, skip_layout};
 use crate::grammar::trees::is_empty;
 use fancy_grammar::depth::MAX_DEPTH;
-use fancy_lex::error::{Failure, ParseError};
+use fancy_lex::error::{ParseError, ReadError};
 use fancy_lex::flags::Flags;
 use fancy_lex::text::{after, byte_len, reach, reach_before};
 use fancy_parts::counts::Counts;
-use fancy_parts::heads::counts;
+use fancy_parts::group_starts::counts;
 use std::alloc::{AllocError, Global};
 use std::mem;
 
@@ -54,21 +54,21 @@ fn is_greedy(flags: Flags, lazy: bool) -> bool
 pub(crate) fn quantify<S: Spanning>(
     alloc: Global,
     tree: &mut Expr,
-    here: &mut State,
+    current: &mut State,
     left: usize,
     depth: usize,
     spans: &mut S,
-) -> Result<(), Failure>
+) -> Result<(), ReadError>
     requires depth { depth < max_depth }
-    ensures value { Turns result (view tree.new) (state here.new)
-        (spec.quants depth left (view tree.old) (state here.old)) }
-    ensures within { length here.new.rest.now ≤ length here.old.rest.now }
-    ensures spans { (l : Log) → S.notes spans.old l →
-        OnOk result (S.notes spans.new (quants_noted left (done (view tree.old) (state here.old)) l)) }
+    ensures value { Turns result (view tree.new) (state current.new)
+        (spec.quants depth left (view tree.old) (state current.old)) }
+    ensures within { length current.new.rest.now ≤ length current.old.rest.now }
+    ensures spans { (l : Log) → S.records spans.old l →
+        OnOk result (S.records spans.new (quants_recorded left (done (view tree.old) (state current.old)) l)) }
 {
-    quantify_once(alloc, tree, here, left, spans)?;
-    if here.flags.oniguruma_mode {
-        quantify_adjacent(alloc, tree, here, depth, spans)?;
+    quantify_once(alloc, tree, current, left, spans)?;
+    if current.flags.oniguruma_mode {
+        quantify_adjacent(alloc, tree, current, depth, spans)?;
     }
     Ok(())
 }
@@ -77,28 +77,28 @@ pub(crate) fn quantify<S: Spanning>(
 fn quantify_adjacent<S: Spanning>(
     alloc: Global,
     tree: &mut Expr,
-    here: &mut State,
+    current: &mut State,
     depth: usize,
     spans: &mut S,
-) -> Result<(), Failure>
+) -> Result<(), ReadError>
     requires depth { depth < max_depth }
-    ensures value { Turns result (view tree.new) (state here.new)
-        (spec.adjacent spec.max_adjacent depth (view tree.old) (state here.old)) }
-    ensures within { length here.new.rest.now ≤ length here.old.rest.now }
-    ensures spans { (l : Log) → S.notes spans.old l →
-        OnOk result (S.notes spans.new (adjacent_noted spec.max_adjacent (view tree.old) (state here.old) l)) }
+    ensures value { Turns result (view tree.new) (state current.new)
+        (spec.adjacent spec.max_adjacent depth (view tree.old) (state current.old)) }
+    ensures within { length current.new.rest.now ≤ length current.old.rest.now }
+    ensures spans { (l : Log) → S.records spans.old l →
+        OnOk result (S.records spans.new (adjacent_recorded spec.max_adjacent (view tree.old) (state current.old) l)) }
 {
     let mut depth = depth;
     let mut more = MAX_ADJACENT;
     loop {
-        let before = byte_len(here.rest);
-        quantify_once(alloc, tree, here, before, spans)?;
-        if byte_len(here.rest) == before {
+        let before = byte_len(current.rest);
+        quantify_once(alloc, tree, current, before, spans)?;
+        if byte_len(current.rest) == before {
             return Ok(());
         }
         if !may_count(more, depth) {
-            let behind = reach(here.rest);
-            return Err(Failure::At(behind, ParseError::RecursionExceeded));
+            let past = reach(current.rest);
+            return Err(ReadError::At(past, ParseError::RecursionExceeded));
         }
         more -= 1;
         depth += 1;
@@ -119,22 +119,22 @@ fn may_count(more: usize, depth: usize) -> bool
 fn quantify_once<S: Spanning>(
     alloc: Global,
     tree: &mut Expr,
-    here: &mut State,
+    current: &mut State,
     left: usize,
     spans: &mut S,
-) -> Result<(), Failure>
-    ensures value { Turns result (view tree.new) (state here.new)
-        (spec.quant left (view tree.old) (state here.old)) }
-    ensures within { length here.new.rest.now ≤ length here.old.rest.now }
-    ensures spans { (l : Log) → S.notes spans.old l →
-        OnOk result (S.notes spans.new (quant_noted (view tree.old) (state here.old) l)) }
+) -> Result<(), ReadError>
+    ensures value { Turns result (view tree.new) (state current.new)
+        (spec.quant left (view tree.old) (state current.old)) }
+    ensures within { length current.new.rest.now ≤ length current.old.rest.now }
+    ensures spans { (l : Log) → S.records spans.old l →
+        OnOk result (S.records spans.new (quant_recorded (view tree.old) (state current.old) l)) }
 {
-    here.rest = skip_layout(*here)?;
-    let Some((counts, rest)) = counts(here.rest, here.flags.ignore_space) else {
+    current.rest = skip_layout(*current)?;
+    let Some((counts, rest)) = counts(current.rest, current.flags.ignore_space) else {
         return Ok(());
     };
-    here.rest = rest;
-    repeat(alloc, tree, counts, here, left, spans)
+    current.rest = rest;
+    repeat(alloc, tree, counts, current, left, spans)
 }
 
 /// Puts the tree under a quantifier with these counts, and reads what follows them.
@@ -145,54 +145,54 @@ fn repeat<S: Spanning>(
     alloc: Global,
     tree: &mut Expr,
     counts: Counts,
-    here: &mut State,
+    current: &mut State,
     left: usize,
     spans: &mut S,
-) -> Result<(), Failure>
-    ensures value { Turns result (view tree.new) (state here.new)
-        (spec.with_counts left (view tree.old) (state here.old) (Some (counts, chars here.old.rest.now))) }
-    ensures within { length here.new.rest.now ≤ length here.old.rest.now }
-    ensures spans { (l : Log) → S.notes spans.old l → OnOk result (S.notes spans.new
-        (counted_noted (view tree.old) (state here.old) l (counts, chars here.old.rest.now))) }
+) -> Result<(), ReadError>
+    ensures value { Turns result (view tree.new) (state current.new)
+        (spec.with_counts left (view tree.old) (state current.old) (Some (counts, chars current.old.rest.now))) }
+    ensures within { length current.new.rest.now ≤ length current.old.rest.now }
+    ensures spans { (l : Log) → S.records spans.old l → OnOk result (S.records spans.new
+        (counted_recorded (view tree.old) (state current.old) l (counts, chars current.old.rest.now))) }
 {
-    if is_repeatable(here.flags, tree) {
-        let behind_counts = reach(here.rest);
-        let suffix = read_suffix(here, counts)?;
-        put_under(alloc, tree, here.flags, counts, suffix)?;
+    if is_repeatable(current.flags, tree) {
+        let after_counts = reach(current.rest);
+        let suffix = read_suffix(current, counts)?;
+        put_under(alloc, tree, current.flags, counts, suffix)?;
         // Layout after the counts belongs to the quantifier only if an operator follows it.
         let end = if suffix.lazy || suffix.possessive {
-            reach(here.rest)
+            reach(current.rest)
         } else {
-            behind_counts
+            after_counts
         };
-        spans.wrap(end, is_swapped(here.flags, counts) || suffix.possessive)?;
+        spans.wrap(end, is_swapped(current.flags, counts) || suffix.possessive)?;
         return Ok(());
     }
-    if is_dropped(here.flags, left, tree, here.rest) {
-        read_suffix(here, counts)?;
+    if is_dropped(current.flags, left, tree, current.rest) {
+        read_suffix(current, counts)?;
         return Ok(());
     }
-    let mark = reach_before(here.rest);
-    Err(Failure::At(mark, ParseError::TargetNotRepeatable))
+    let operator = reach_before(current.rest);
+    Err(ReadError::At(operator, ParseError::TargetNotRepeatable))
 }
 
 /// Reads layout and the operators after the counts of a quantifier: the lazy one, and directly the possessive one.
 #[inline(always)]
-fn read_suffix(here: &mut State, counts: Counts) -> Result<Suffix, Failure>
-    ensures value { GivesSuffix result (state here.new) (spec.suffix (state here.old) counts) }
-    ensures flags { here.new.flags ≡ here.old.flags }
-    ensures within { length here.new.rest.now ≤ length here.old.rest.now }
+fn read_suffix(current: &mut State, counts: Counts) -> Result<Suffix, ReadError>
+    ensures value { GivesSuffix result (state current.new) (spec.suffix (state current.old) counts) }
+    ensures flags { current.new.flags ≡ current.old.flags }
+    ensures within { length current.new.rest.now ≤ length current.old.rest.now }
 {
-    here.rest = skip_layout(*here)?;
+    current.rest = skip_layout(*current)?;
     let mut lazy = false;
-    if let Some(rest) = after(here.rest, '?') {
+    if let Some(rest) = after(current.rest, '?') {
         lazy = true;
-        here.rest = rest;
+        current.rest = rest;
     }
-    if may_be_possessive(here.flags, counts)
-        && let Some(rest) = after(here.rest, '+')
+    if may_be_possessive(current.flags, counts)
+        && let Some(rest) = after(current.rest, '+')
     {
-        here.rest = rest;
+        current.rest = rest;
         return Ok(Suffix {
             lazy,
             possessive: true,

@@ -1,7 +1,7 @@
 //! The nodes of references, before the groups are known.
 ghost use Rattle.std.specs.Prelude.{◌≡◌, IfOk};
 ghost use Rattle.fancy_lex.specs.NameViews.{view_reference, view_call};
-ghost use Rattle.fancy_grammar.specs.Ahead as spec;
+ghost use Rattle.fancy_grammar.specs.AtomStart as spec;
 ghost use Rattle.fancy_syntax.specs.View.{view};
 
 use crate::expr::{AstNode, Expr};

@@ -1,6 +1,6 @@
 //! The positions of the nodes of a raw tree, recorded while it is read.
 ghost use Rattle.std.specs.Prelude.{OnOk};
-ghost use Rattle.fancy_syntax.specs.Log.{Log, leaf_noted, left_out, wrapped, opened, body_opened, part_begun};
+ghost use Rattle.fancy_syntax.specs.Log.{Log, leaf_recorded, left_out, wrapped, opened, body_opened, part_begun};
 ghost use Rattle.fancy_syntax.specs.Log.{branch_begun, branch_ended, choice_ended, body_split, branch_lacked};
 ghost use Rattle.fancy_syntax.specs.Log.{part_dropped, atom_closed, atom_ended};
 ghost use Rattle.fancy_syntax.specs.Parsed.{state};
@@ -12,66 +12,66 @@ use std::alloc::AllocError;
 /// compiled without it.
 pub(crate) trait Spanning: Drop {
     /// The log that is recorded, if anything is.
-    ghost notes: { Self → Log → Type 0 };
+    ghost records: { Self → Log → Type 0 };
 
     /// A leaf is there, and becomes the last piece.
-    fn note_leaf(&mut self, start: usize, end: usize) -> Result<(), AllocError>
-        ensures { (l : Log) → notes self.old l → OnOk result (notes self.new (leaf_noted start end l)) };
+    fn record_leaf(&mut self, start: usize, end: usize) -> Result<(), AllocError>
+        ensures { (l : Log) → records self.old l → OnOk result (records self.new (leaf_recorded start end l)) };
 
     /// The last piece is an Empty, which is left out.
     fn leave_out(&mut self)
-        ensures { (l : Log) → notes self.old l → notes self.new (left_out l) };
+        ensures { (l : Log) → records self.old l → records self.new (left_out l) };
 
     /// A quantifier that ends there makes a node around the last piece, and if it is atomic one more around that.
     fn wrap(&mut self, end: usize, atomic: bool) -> Result<(), AllocError>
-        ensures { (l : Log) → notes self.old l → OnOk result (notes self.new (wrapped end atomic l)) };
+        ensures { (l : Log) → records self.old l → OnOk result (records self.new (wrapped end atomic l)) };
 
     /// An atom that holds branches begins at the first reach, and its first part at the second.
     fn open(&mut self, start: usize, inside: usize) -> Result<(), AllocError>
-        ensures { (l : Log) → notes self.old l → OnOk result (notes self.new (opened start inside l)) };
+        ensures { (l : Log) → records self.old l → OnOk result (records self.new (opened start inside l)) };
 
     /// A conditional begins at the first state. Its body begins at the second, after a condition that is no
     /// alternation.
     fn open_body(&mut self, start: State, inside: State) -> Result<(), AllocError>
-        ensures { (l : Log) → notes self.old l → OnOk result (notes self.new (body_opened (state start.entry) (state inside.entry) l)) };
+        ensures { (l : Log) → records self.old l → OnOk result (records self.new (body_opened (state start.entry) (state inside.entry) l)) };
 
     /// The next part of the open atom begins there.
     fn begin(&mut self, start: usize)
-        ensures { (l : Log) → notes self.old l → notes self.new (part_begun start l) };
+        ensures { (l : Log) → records self.old l → records self.new (part_begun start l) };
 
     /// The next branch begins there, after a bar.
     fn next_branch(&mut self, start: usize)
-        ensures { (l : Log) → notes self.old l → notes self.new (branch_begun start l) };
+        ensures { (l : Log) → records self.old l → records self.new (branch_begun start l) };
 
     /// The open branch, with that many pieces, ends there.
     fn end_branch(&mut self, pieces: usize, end: usize) -> Result<(), AllocError>
-        ensures { (l : Log) → notes self.old l → OnOk result (notes self.new (branch_ended pieces end l)) };
+        ensures { (l : Log) → records self.old l → OnOk result (records self.new (branch_ended pieces end l)) };
 
     /// The open part has several branches, the last of which ends there: they become an Alt.
     fn end_choice(&mut self, end: usize) -> Result<(), AllocError>
-        ensures { (l : Log) → notes self.old l → OnOk result (notes self.new (choice_ended end l)) };
+        ensures { (l : Log) → records self.old l → OnOk result (records self.new (choice_ended end l)) };
 
     /// The Alt of that many branches, the body of a conditional, is replaced by the first branch and the choice among
     /// the others.
     fn split(&mut self, branches: usize) -> Result<(), AllocError>
-        ensures { (l : Log) → notes self.old l → OnOk result (notes self.new (body_split branches l)) };
+        ensures { (l : Log) → records self.old l → OnOk result (records self.new (body_split branches l)) };
 
     /// The body of a conditional, which ends there, is its first branch; the second is an Empty at its end.
     fn lack_branch(&mut self, end: usize) -> Result<(), AllocError>
-        ensures { (l : Log) → notes self.old l → OnOk result (notes self.new (branch_lacked end l)) };
+        ensures { (l : Log) → records self.old l → OnOk result (records self.new (branch_lacked end l)) };
 
     /// What was read of the open part leaves no node.
     fn drop_part(&mut self)
-        ensures { (l : Log) → notes self.old l → notes self.new (part_dropped l) };
+        ensures { (l : Log) → records self.old l → records self.new (part_dropped l) };
 
     /// The open atom ends there with a node of its own, and becomes the last piece. An unnamed group may have no
     /// number.
     fn close(&mut self, end: usize, unnamed: bool) -> Result<(), AllocError>
-        ensures { (l : Log) → notes self.old l → OnOk result (notes self.new (atom_closed end unnamed l)) };
+        ensures { (l : Log) → records self.old l → OnOk result (records self.new (atom_closed end unnamed l)) };
 
     /// The open atom ends without a node of its own, and becomes the last piece.
     fn close_bare(&mut self)
-        ensures { (l : Log) → notes self.old l → notes self.new (atom_ended l) };
+        ensures { (l : Log) → records self.old l → records self.new (atom_ended l) };
 }
 
 /// No spans are recorded.
@@ -79,10 +79,10 @@ pub(crate) trait Spanning: Drop {
 pub(crate) struct NoSpans;
 
 impl Spanning for NoSpans {
-    ghost notes = { λ s l. Unit {0} };
+    ghost records = { λ s l. Unit {0} };
 
     #[inline(always)]
-    fn note_leaf(&mut self, _start: usize, _end: usize) -> Result<(), AllocError> {
+    fn record_leaf(&mut self, _start: usize, _end: usize) -> Result<(), AllocError> {
         Ok(())
     }
 

@@ -2,24 +2,24 @@
 ghost use Rattle.std.specs.Prelude.{◌≡◌, [], ◌∷◌, ◌++◌, chars, map, option_map, IfOk, OnOk};
 ghost use Rattle.fancy_lex.specs.Reading.{choose};
 ghost use Rattle.fancy_lex.specs.Text.{bytes, reach_of};
-ghost use Rattle.fancy_grammar.specs.Spans.{condition_text, placed};
+ghost use Rattle.fancy_grammar.specs.Spans.{condition_text, positioned};
 ghost use Rattle.fancy_syntax.specs.Log as spec;
 ghost use Rattle.fancy_syntax.specs.Log.{reaches, shown};
 ghost use Rattle.fancy_syntax.specs.LogViews.{log_of};
 ghost use Rattle.fancy_syntax.specs.Parsed.{state};
 ghost use Rattle.fancy_syntax.specs.SpanViews.{span_of, spans_of};
 
-use crate::grammar::noted::{FirstBar, Last, Noted, Open};
+use crate::grammar::recorded::{FirstBar, Last, Open, RecordedNode};
 use crate::grammar::spanning::Spanning;
 use crate::grammar::state::{State, skip_layout};
 use crate::span::Span;
-use fancy_lex::text::{after, after_word, place_at, reach, reach_before};
+use fancy_lex::text::{after, after_word, position_at, reach, reach_before};
 use std::alloc::{AllocError, Global};
 
 /// The nodes that have been read, and the open atoms.
 #[derive(Drop)]
 pub(crate) struct Spans {
-    pub(crate) noted: Vec<Noted>,
+    pub(crate) recorded: Vec<RecordedNode>,
     /// The atoms around the innermost open one.
     pub(crate) around: Vec<Open>,
     pub(crate) open: Open,
@@ -33,7 +33,7 @@ impl Spans {
         ensures { log_of result ≡ spec.started start }
     {
         Spans {
-            noted: Vec::new(alloc),
+            recorded: Vec::new(alloc),
             around: Vec::new(alloc),
             open: Open {
                 start,
@@ -49,28 +49,28 @@ impl Spans {
     }
 
     /// The spans of the parsed tree; with `named`, only named groups have a number, and the others have no node.
-    pub(crate) fn answered(
+    pub(crate) fn returned(
         &self,
         alloc: Global,
         pattern: &str,
         named: bool,
     ) -> Result<Vec<Span>, AllocError>
         ensures { IfOk result (λ spans. spans_of spans ≡
-            map (placed (bytes (chars pattern.now))) (shown named self.now.noted.items)) }
+            map (positioned (bytes (chars pattern.now))) (shown named self.now.recorded.items)) }
     {
-        let mut spans = Vec::with_capacity(alloc, self.noted.len())?;
-        for noted in &self.noted {
-            push_shown(&mut spans, pattern, named, *noted)?;
+        let mut spans = Vec::with_capacity(alloc, self.recorded.len())?;
+        for recorded in &self.recorded {
+            push_shown(&mut spans, pattern, named, *recorded)?;
         }
         Ok(spans)
     }
 
     /// Inserts a node after that many others.
-    fn put(&mut self, height: usize, node: Noted) -> Result<(), AllocError>
+    fn put(&mut self, height: usize, node: RecordedNode) -> Result<(), AllocError>
         ensures { OnOk result (log_of self.new ≡ spec.put height node (log_of self.old)) }
     {
-        let height = height.min(self.noted.len());
-        Ok(self.noted.insert(height, node)?)
+        let height = height.min(self.recorded.len());
+        Ok(self.recorded.insert(height, node)?)
     }
 
     /// An atom begins there.
@@ -79,7 +79,7 @@ impl Spans {
     {
         self.around.push(self.open)?;
         self.open.start = start;
-        self.open.height = self.noted.len();
+        self.open.height = self.recorded.len();
         Ok(())
     }
 
@@ -98,16 +98,16 @@ impl Spans {
 }
 
 impl Spanning for Spans {
-    ghost notes = { λ s l. log_of s ≡ l };
+    ghost records = { λ s l. log_of s ≡ l };
 
-    fn note_leaf(&mut self, start: usize, end: usize) -> Result<(), AllocError> {
-        let height = self.noted.len();
+    fn record_leaf(&mut self, start: usize, end: usize) -> Result<(), AllocError> {
+        let height = self.recorded.len();
         self.last = Last { start, height };
-        Ok(self.noted.push(plain(start, end))?)
+        Ok(self.recorded.push(plain(start, end))?)
     }
 
     fn leave_out(&mut self) {
-        self.noted.truncate(self.last.height);
+        self.recorded.truncate(self.last.height);
     }
 
     fn wrap(&mut self, end: usize, atomic: bool) -> Result<(), AllocError> {
@@ -127,13 +127,13 @@ impl Spanning for Spans {
     fn open_body(&mut self, start: State, inside: State) -> Result<(), AllocError> {
         let body = reach(inside.rest);
         self.open(reach(start.rest), body)?;
-        self.note_leaf(condition_start(start), reach_before(inside.rest))?;
+        self.record_leaf(condition_start(start), reach_before(inside.rest))?;
         self.begin(body);
         Ok(())
     }
 
     fn begin(&mut self, start: usize) {
-        let height = self.noted.len();
+        let height = self.recorded.len();
         self.open.part = start;
         self.open.branches = height;
         self.open.bar = None;
@@ -142,10 +142,10 @@ impl Spanning for Spans {
     }
 
     fn next_branch(&mut self, start: usize) {
-        let height = self.noted.len();
+        let height = self.recorded.len();
         if self.open.bar.is_none() {
             self.open.bar = Some(FirstBar {
-                behind: start,
+                past: start,
                 nodes: height.saturating_sub(self.open.branches),
             });
         }
@@ -161,7 +161,7 @@ impl Spanning for Spans {
     }
 
     fn end_choice(&mut self, end: usize) -> Result<(), AllocError> {
-        let alt = Noted {
+        let alt = RecordedNode {
             start: self.open.part,
             end,
             unnamed: false,
@@ -172,10 +172,10 @@ impl Spanning for Spans {
 
     fn split(&mut self, branches: usize) -> Result<(), AllocError> {
         let at = self.open.branches;
-        if at >= self.noted.len() {
+        if at >= self.recorded.len() {
             return Ok(());
         }
-        let alt = self.noted.remove(at);
+        let alt = self.recorded.remove(at);
         let Some(bar) = alt.bar else {
             return Ok(());
         };
@@ -186,15 +186,15 @@ impl Spanning for Spans {
     }
 
     fn lack_branch(&mut self, end: usize) -> Result<(), AllocError> {
-        Ok(self.noted.push(plain(end, end))?)
+        Ok(self.recorded.push(plain(end, end))?)
     }
 
     fn drop_part(&mut self) {
-        self.noted.truncate(self.open.branches);
+        self.recorded.truncate(self.open.branches);
     }
 
     fn close(&mut self, end: usize, unnamed: bool) -> Result<(), AllocError> {
-        let node = Noted {
+        let node = RecordedNode {
             start: self.open.start,
             end,
             unnamed,
@@ -215,10 +215,10 @@ fn push_shown(
     spans: &mut Vec<Span>,
     pattern: &str,
     named: bool,
-    node: Noted,
+    node: RecordedNode,
 ) -> Result<(), AllocError>
     ensures { OnOk result (spans_of spans.new ≡
-        spans_of spans.old ++ map (placed (bytes (chars pattern.now))) (shown named (node ∷ []))) }
+        spans_of spans.old ++ map (positioned (bytes (chars pattern.now))) (shown named (node ∷ []))) }
 {
     if named && node.unnamed {
         return Ok(());
@@ -227,20 +227,20 @@ fn push_shown(
 }
 
 /// The span of the node in the pattern.
-fn span_in(pattern: &str, node: Noted) -> Span
-    ensures { span_of result ≡ placed (bytes (chars pattern.now)) (reaches node) }
+fn span_in(pattern: &str, node: RecordedNode) -> Span
+    ensures { span_of result ≡ positioned (bytes (chars pattern.now)) (reaches node) }
 {
     Span {
-        start: place_at(pattern, node.start),
-        end: place_at(pattern, node.end),
+        start: position_at(pattern, node.start),
+        end: position_at(pattern, node.end),
     }
 }
 
 /// A node that is neither a group without a name nor an Alt that the grammar reads.
-fn plain(start: usize, end: usize) -> Noted
+fn plain(start: usize, end: usize) -> RecordedNode
     ensures { result ≡ spec.plain start end }
 {
-    Noted {
+    RecordedNode {
         start,
         end,
         unnamed: false,
@@ -249,33 +249,33 @@ fn plain(start: usize, end: usize) -> Noted
 }
 
 /// The choice among the branches after the first bar of an Alt. Its own first bar is not needed.
-fn rest_of(alt: Noted, bar: FirstBar) -> Noted
-    ensures { result ≡ spec.plain bar.behind alt.end }
+fn rest_of(alt: RecordedNode, bar: FirstBar) -> RecordedNode
+    ensures { result ≡ spec.plain bar.past alt.end }
 {
-    plain(bar.behind, alt.end)
+    plain(bar.past, alt.end)
 }
 
 /// Where the condition of a conditional begins that begins here: after the parenthesis, layout, a question mark and a
 /// parenthesis.
-fn condition_start(here: State) -> usize
-    ensures { result ≡ choose (condition_text (state here.entry)) reach_of (reach_of (chars here.entry.rest.now)) }
+fn condition_start(current: State) -> usize
+    ensures { result ≡ choose (condition_text (state current.entry)) reach_of (reach_of (chars current.entry.rest.now)) }
 {
-    match condition_text(here) {
+    match condition_text(current) {
         Some(text) => reach(text),
-        None => reach(here.rest),
+        None => reach(current.rest),
     }
 }
 
 /// The text after the parenthesis of a conditional, layout, a question mark and a parenthesis.
-fn condition_text(here: State<'_>) -> Option<&str>
-    ensures { condition_text (state here.entry) ≡ option_map (λ t. chars t.now) result }
+fn condition_text(current: State<'_>) -> Option<&str>
+    ensures { condition_text (state current.entry) ≡ option_map (λ t. chars t.now) result }
 {
-    let behind = State {
-        flags: here.flags,
-        rest: after(here.rest, '(')?,
+    let past = State {
+        flags: current.flags,
+        rest: after(current.rest, '(')?,
     };
-    let Ok(mark) = skip_layout(behind) else {
+    let Ok(question) = skip_layout(past) else {
         return None;
     };
-    after_word(mark, "?(")
+    after_word(question, "?(")
 }

@@ -4,7 +4,7 @@ ghost use Rattle.fancy_grammar.specs.State.{ends, skipped};
 ghost use Rattle.fancy_lex.specs.Views.{Skips};
 ghost use Rattle.fancy_syntax.specs.Parsed.{state, IsUnmoved};
 
-use fancy_lex::error::Failure;
+use fancy_lex::error::ReadError;
 use fancy_lex::flags::Flags;
 use fancy_lex::layout::skip;
 use fancy_lex::text::next;
@@ -28,10 +28,10 @@ pub(crate) fn is_end(text: &str) -> bool
 
 /// Reads the layout at the front: the text after it.
 #[inline]
-pub(crate) fn skip_layout<'a>(here: State<'a>) -> Result<&'a str, Failure>
-    ensures value { Skips result (skipped (state here.entry)) }
-    ensures within { IfOk result (λ r. length r.now ≤ length here.entry.rest.now) }
-    ensures unmoved { IfOk result (λ r. IsUnmoved here.entry.rest.now r.now) }
+pub(crate) fn skip_layout<'a>(current: State<'a>) -> Result<&'a str, ReadError>
+    ensures value { Skips result (skipped (state current.entry)) }
+    ensures within { IfOk result (λ r. length r.now ≤ length current.entry.rest.now) }
+    ensures unmoved { IfOk result (λ r. IsUnmoved current.entry.rest.now r.now) }
 {
-    skip(here.rest, here.flags.ignore_space)
+    skip(current.rest, current.flags.ignore_space)
 }

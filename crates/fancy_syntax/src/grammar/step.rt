@@ -8,9 +8,9 @@ ghost use Rattle.fancy_grammar.specs.Grammar as spec;
 ghost use Rattle.fancy_syntax.specs.Log.{Log};
 ghost use Rattle.fancy_syntax.specs.Machine as machine;
 ghost use Rattle.fancy_syntax.specs.Machine.{OpensPart, OpensBelow, Part, GivesStep, GivesPiece, ended_part, part_of};
-ghost use Rattle.fancy_syntax.specs.Machine.{close_noted, part_noted};
-ghost use Rattle.fancy_syntax.specs.Noting.{body_parted, group_noted, quants_noted, step_noted};
-ghost use Rattle.fancy_syntax.specs.Parsed.{head_of, state, GivesTree};
+ghost use Rattle.fancy_syntax.specs.Machine.{close_recorded, part_recorded};
+ghost use Rattle.fancy_syntax.specs.Recording.{body_parted, group_recorded, quants_recorded, step_recorded};
+ghost use Rattle.fancy_syntax.specs.Parsed.{group_kind, state, GivesTree};
 ghost use Rattle.fancy_grammar.specs.Quantified.{quants};
 ghost use Rattle.fancy_grammar.specs.Errors.{IsErrorAmong};
 ghost use Rattle.fancy_grammar.specs.State as states;
@@ -18,17 +18,17 @@ ghost use Rattle.fancy_grammar.specs.Tree.{Tree};
 ghost use Rattle.fancy_syntax.specs.View.{view};
 
 use crate::expr::{Absent, Expr};
-use crate::grammar::ahead::Ahead;
 use crate::grammar::atom::read_atom_start;
+use crate::grammar::atom_start::AtomStart;
 use crate::grammar::conditional::{branches_of, clear_or_stopper, conditional, is_condition};
-use crate::grammar::fault::general;
-use crate::grammar::frame::{Opener, PieceStart};
-use crate::grammar::group::head::{Head, node};
+use crate::grammar::error::general;
+use crate::grammar::frame::{OpenGroup, PieceStart};
+use crate::grammar::group::kind::{GroupKind, node};
 use crate::grammar::plain::is_unquantified;
 use crate::grammar::quantified::quantify;
 use crate::grammar::spanning::Spanning;
 use crate::grammar::state::{State, skip_layout};
-use fancy_lex::error::{Failure, ParseError};
+use fancy_lex::error::{ParseError, ReadError};
 use fancy_lex::text::{AT_END, byte_len, next, reach};
 use std::alloc::{AllocError, Global};
 
@@ -37,67 +37,67 @@ pub(crate) enum Step<'a> {
     /// A piece, to its end.
     Piece(Expr),
     /// The opening of a part of a group, up to its contents.
-    Open(Opener<'a>),
+    Open(OpenGroup<'a>),
 }
 
 /// A part of a group whose inside was read.
 #[derive(Drop)]
 pub(crate) struct FinishedPart<'a> {
-    pub(crate) opener: Opener<'a>,
+    pub(crate) open_group: OpenGroup<'a>,
     pub(crate) inner: Expr,
 }
 
 /// Reads a piece, or the opening of a group. A returned error is the error of the piece.
 pub(crate) fn read_step<'a, S: Spanning>(
     alloc: Global,
-    here: &mut State<'a>,
+    current: &mut State<'a>,
     depth: usize,
     spans: &mut S,
-) -> Result<Step<'a>, Failure>
+) -> Result<Step<'a>, ReadError>
     requires depth { depth < max_depth }
-    requires more { ends (chars here.old.rest.now) ≡ false }
+    requires more { ends (chars current.old.rest.now) ≡ false }
     ensures value { (l : Log) →
-        GivesStep result depth (state here.old) l (state here.new) (step_noted depth (state here.old) l) }
-    ensures spans { (l : Log) → S.notes spans.old l →
-        OnOk result (S.notes spans.new (step_noted depth (state here.old) l)) }
-    ensures shorter { IfOk result (λ _. length here.new.rest.now < length here.old.rest.now) }
+        GivesStep result depth (state current.old) l (state current.new) (step_recorded depth (state current.old) l) }
+    ensures spans { (l : Log) → S.records spans.old l →
+        OnOk result (S.records spans.new (step_recorded depth (state current.old) l)) }
+    ensures shorter { IfOk result (λ _. length current.new.rest.now < length current.old.rest.now) }
     ensures below { IfOk result (λ p. OpensBelow p depth) }
 {
-    let left = byte_len(here.rest);
-    here.rest = skip_layout(*here)?;
-    let before = *here;
-    match read_atom_start(alloc, here, depth)? {
-        Ahead::Nothing => {
-            spans.note_leaf(reach(before.rest), reach(here.rest))?;
-            piece(alloc, Expr::Empty, here, left, depth, spans)
+    let left = byte_len(current.rest);
+    current.rest = skip_layout(*current)?;
+    let before = *current;
+    match read_atom_start(alloc, current, depth)? {
+        AtomStart::Nothing => {
+            spans.record_leaf(reach(before.rest), reach(current.rest))?;
+            piece(alloc, Expr::Empty, current, left, depth, spans)
         }
-        Ahead::Read(atom) => {
-            spans.note_leaf(reach(before.rest), reach(here.rest))?;
+        AtomStart::Read(atom) => {
+            spans.record_leaf(reach(before.rest), reach(current.rest))?;
             // Usually no quantifier follows: this saves a call for each leaf.
-            if is_unquantified(*here) {
+            if is_unquantified(*current) {
                 return Ok(Step::Piece(atom));
             }
-            piece(alloc, atom, here, left, depth, spans)
+            piece(alloc, atom, current, left, depth, spans)
         }
-        Ahead::Group(head) => {
+        AtomStart::Group(kind) => {
             let paren = reach(before.rest);
-            spans.open(paren, reach(here.rest))?;
-            Ok(Step::Open(Opener::Group { head, reach: paren }))
+            spans.open(paren, reach(current.rest))?;
+            Ok(Step::Open(OpenGroup::Group { kind, reach: paren }))
         }
-        Ahead::Condition => {
-            spans.open(reach(before.rest), reach(here.rest))?;
-            Ok(Step::Open(Opener::Condition))
+        AtomStart::Condition => {
+            spans.open(reach(before.rest), reach(current.rest))?;
+            Ok(Step::Open(OpenGroup::Condition))
         }
-        Ahead::Body(condition) => {
-            spans.open_body(before, *here)?;
-            Ok(Step::Open(Opener::Body {
+        AtomStart::Body(condition) => {
+            spans.open_body(before, *current)?;
+            Ok(Step::Open(OpenGroup::Body {
                 condition,
-                left: byte_len(here.rest),
+                left: byte_len(current.rest),
             }))
         }
-        Ahead::AbsentBranch => {
-            spans.open(reach(before.rest), reach(here.rest))?;
-            Ok(Step::Open(Opener::First))
+        AtomStart::AbsentBranch => {
+            spans.open(reach(before.rest), reach(current.rest))?;
+            Ok(Step::Open(OpenGroup::First))
         }
     }
 }
@@ -107,23 +107,23 @@ pub(crate) fn read_step<'a, S: Spanning>(
 fn piece<'a, S: Spanning>(
     alloc: Global,
     atom: Expr,
-    here: &mut State<'a>,
+    current: &mut State<'a>,
     left: usize,
     depth: usize,
     spans: &mut S,
-) -> Result<Step<'a>, Failure>
+) -> Result<Step<'a>, ReadError>
     requires depth { depth < max_depth }
-    ensures value { GivesPiece result (quants depth left (view atom) (state here.old)) (state here.new) }
-    ensures spans { (l : Log) → S.notes spans.old l →
-        OnOk result (S.notes spans.new (quants_noted left (states.done (view atom) (state here.old)) l)) }
-    ensures within { length here.new.rest.now ≤ length here.old.rest.now }
+    ensures value { GivesPiece result (quants depth left (view atom) (state current.old)) (state current.new) }
+    ensures spans { (l : Log) → S.records spans.old l →
+        OnOk result (S.records spans.new (quants_recorded left (states.done (view atom) (state current.old)) l)) }
+    ensures within { length current.new.rest.now ≤ length current.old.rest.now }
 {
     let mut piece = atom;
-    match quantify(alloc, &mut piece, here, left, depth, spans) {
+    match quantify(alloc, &mut piece, current, left, depth, spans) {
         Ok(()) => Ok(Step::Piece(piece)),
-        Err(fault) => {
+        Err(error) => {
             drop(piece);
-            Err(fault)
+            Err(error)
         }
     }
 }
@@ -134,44 +134,44 @@ pub(crate) fn close<'a, S: Spanning>(
     alloc: Global,
     part: FinishedPart<'a>,
     start: PieceStart,
-    here: &mut State<'a>,
+    current: &mut State<'a>,
     depth: usize,
     spans: &mut S,
-) -> Result<Step<'a>, Failure>
+) -> Result<Step<'a>, ReadError>
     requires depth { depth < max_depth }
-    requires last { ends (chars here.old.rest.now) ≡ true }
-    requires no_bar { strip bar (chars here.old.rest.now) ≡ None }
+    requires last { ends (chars current.old.rest.now) ≡ true }
+    requires no_bar { strip bar (chars current.old.rest.now) ≡ None }
     ensures value { (s t : states.State) (l m n : Log) → start.left ≡ bytes s.rest → start.flags ≡ s.flags →
-        OpensPart depth s l (part_of part.entry.opener) t m →
-        Part (part_of part.entry.opener) (depth + 1) t (states.done (view part.entry.inner) (state here.old)) m n →
-        GivesStep result depth s l (state here.new)
-        (close_noted start.left start.flags (part_of part.entry.opener) (view part.entry.inner) (state here.old) n) }
-    ensures spans { (l : Log) → S.notes spans.old l → OnOk result (S.notes spans.new
-        (close_noted start.left start.flags (part_of part.entry.opener) (view part.entry.inner) (state here.old) l)) }
-    ensures shorter { IfOk result (λ _. length here.new.rest.now < length here.old.rest.now) }
+        OpensPart depth s l (part_of part.entry.open_group) t m →
+        Part (part_of part.entry.open_group) (depth + 1) t (states.done (view part.entry.inner) (state current.old)) m n →
+        GivesStep result depth s l (state current.new)
+        (close_recorded start.left start.flags (part_of part.entry.open_group) (view part.entry.inner) (state current.old) n) }
+    ensures spans { (l : Log) → S.records spans.old l → OnOk result (S.records spans.new
+        (close_recorded start.left start.flags (part_of part.entry.open_group) (view part.entry.inner) (state current.old) l)) }
+    ensures shorter { IfOk result (λ _. length current.new.rest.now < length current.old.rest.now) }
 {
-    let FinishedPart { opener, inner } = part;
-    let has_body = goes_on(&opener);
-    let atom = end_part(alloc, opener, inner, here, spans)?;
+    let FinishedPart { open_group, inner } = part;
+    let has_body = goes_on(&open_group);
+    let atom = end_part(alloc, open_group, inner, current, spans)?;
     if !has_body {
-        here.flags = start.flags;
+        current.flags = start.flags;
         // Usually no quantifier follows: this saves a call for each group.
-        if is_unquantified(*here) {
+        if is_unquantified(*current) {
             return Ok(Step::Piece(atom));
         }
-        return piece(alloc, atom, here, start.left, depth, spans);
+        return piece(alloc, atom, current, start.left, depth, spans);
     }
     let condition = Box::new(alloc, atom)?;
-    spans.begin(reach(here.rest));
-    let left = byte_len(here.rest);
-    Ok(Step::Open(Opener::Body { condition, left }))
+    spans.begin(reach(current.rest));
+    let left = byte_len(current.rest);
+    Ok(Step::Open(OpenGroup::Body { condition, left }))
 }
 
 /// Whether the atom continues after the open part: the body of a conditional follows its condition.
-fn goes_on(opener: &Opener) -> bool
-    ensures { result ≡ machine.goes_on (part_of opener.now) }
+fn goes_on(open_group: &OpenGroup) -> bool
+    ensures { result ≡ machine.goes_on (part_of open_group.now) }
 {
-    matches!(opener, Opener::Condition)
+    matches!(open_group, OpenGroup::Condition)
 }
 
 /// Reads the closing parenthesis of the open part: the tree of the part.
@@ -179,51 +179,51 @@ fn goes_on(opener: &Opener) -> bool
 /// The general error if a conditional has no body; else the error of `close_paren`.
 fn end_part<S: Spanning>(
     alloc: Global,
-    opener: Opener,
+    open_group: OpenGroup,
     inner: Expr,
-    here: &mut State,
+    current: &mut State,
     spans: &mut S,
-) -> Result<Expr, Failure>
-    requires last { ends (chars here.old.rest.now) ≡ true }
-    requires no_bar { strip bar (chars here.old.rest.now) ≡ None }
-    ensures value { GivesTree result (state here.new)
-        (ended_part (part_of opener.entry) (view inner) (state here.old)) }
-    ensures shorter { IfOk result (λ _. length here.new.rest.now < length here.old.rest.now) }
-    ensures spans { (l : Log) → S.notes spans.old l → OnOk result (S.notes spans.new (part_noted
-        (part_of opener.entry) (view inner) (reach_of (chars here.old.rest.now)) (reach_of (chars here.new.rest.now))
+) -> Result<Expr, ReadError>
+    requires last { ends (chars current.old.rest.now) ≡ true }
+    requires no_bar { strip bar (chars current.old.rest.now) ≡ None }
+    ensures value { GivesTree result (state current.new)
+        (ended_part (part_of open_group.entry) (view inner) (state current.old)) }
+    ensures shorter { IfOk result (λ _. length current.new.rest.now < length current.old.rest.now) }
+    ensures spans { (l : Log) → S.records spans.old l → OnOk result (S.records spans.new (part_recorded
+        (part_of open_group.entry) (view inner) (reach_of (chars current.old.rest.now)) (reach_of (chars current.new.rest.now))
         l)) }
 {
-    let paren = reach(here.rest);
-    if let Err(fault) = read_end(alloc, &opener, here) {
+    let paren = reach(current.rest);
+    if let Err(error) = read_end(alloc, &open_group, current) {
         drop(inner);
-        return Err(fault);
+        return Err(error);
     }
-    Ok(node_of_part(alloc, opener, inner, paren, reach(here.rest), spans)?)
+    Ok(node_of_part(alloc, open_group, inner, paren, reach(current.rest), spans)?)
 }
 
 /// Reads the closing parenthesis of the open part, whatever its tree is. The errors are those of `end_part`.
-fn read_end(alloc: Global, opener: &Opener, here: &mut State) -> Result<(), Failure>
-    requires last { ends (chars here.old.rest.now) ≡ true }
-    requires no_bar { strip bar (chars here.old.rest.now) ≡ None }
+fn read_end(alloc: Global, open_group: &OpenGroup, current: &mut State) -> Result<(), ReadError>
+    requires last { ends (chars current.old.rest.now) ≡ true }
+    requires no_bar { strip bar (chars current.old.rest.now) ≡ None }
     ensures value { (r : Tree) → MatchResult result
-        (λ _. ended_part (part_of opener.now) r (state here.old) ≡
-        states.done (machine.node_of_part (part_of opener.now) r) (state here.new))
-        (λ e. IsErrorAmong e (λ o. ended_part (part_of opener.now) r (state here.old) ≡ o)) }
-    ensures shorter { IfOk result (λ _. length here.new.rest.now < length here.old.rest.now) }
+        (λ _. ended_part (part_of open_group.now) r (state current.old) ≡
+        states.done (machine.node_of_part (part_of open_group.now) r) (state current.new))
+        (λ e. IsErrorAmong e (λ o. ended_part (part_of open_group.now) r (state current.old) ≡ o)) }
+    ensures shorter { IfOk result (λ _. length current.new.rest.now < length current.old.rest.now) }
 {
-    if lacks_body(opener, here.rest) {
-        return Err(general(alloc, NO_BODY, reach(here.rest)));
+    if lacks_body(open_group, current.rest) {
+        return Err(general(alloc, NO_BODY, reach(current.rest)));
     }
-    close_paren(here)
+    close_paren(current)
 }
 
 /// Whether the open part is the body of a conditional that takes no byte before the text, with a condition that needs a
 /// body.
-fn lacks_body(opener: &Opener, text: &str) -> bool
-    ensures { (s : states.State) → s.rest ≡ chars text.now → result ≡ machine.lacks_body (part_of opener.now) s }
+fn lacks_body(open_group: &OpenGroup, text: &str) -> bool
+    ensures { (s : states.State) → s.rest ≡ chars text.now → result ≡ machine.lacks_body (part_of open_group.now) s }
 {
-    match opener {
-        Opener::Body { condition, left } => byte_len(text) == *left && !is_condition(condition),
+    match open_group {
+        OpenGroup::Body { condition, left } => byte_len(text) == *left && !is_condition(condition),
         _ => false,
     }
 }
@@ -232,28 +232,28 @@ fn lacks_body(opener: &Opener, text: &str) -> bool
 /// at the second.
 fn node_of_part<S: Spanning>(
     alloc: Global,
-    opener: Opener,
+    open_group: OpenGroup,
     inner: Expr,
     paren: usize,
     end: usize,
     spans: &mut S,
 ) -> Result<Expr, AllocError>
-    ensures tree { IfOk result (λ e. view e ≡ machine.node_of_part (part_of opener.entry) (view inner)) }
-    ensures spans { (l : Log) → S.notes spans.old l →
-        OnOk result (S.notes spans.new (part_noted (part_of opener.entry) (view inner) paren end l)) }
+    ensures tree { IfOk result (λ e. view e ≡ machine.node_of_part (part_of open_group.entry) (view inner)) }
+    ensures spans { (l : Log) → S.records spans.old l →
+        OnOk result (S.records spans.new (part_recorded (part_of open_group.entry) (view inner) paren end l)) }
 {
-    match opener {
-        Opener::Top | Opener::Condition => Ok(inner),
-        Opener::Group { head, reach } => {
-            close_group(&head, end, spans)?;
-            node(alloc, head, reach, inner)
+    match open_group {
+        OpenGroup::Top | OpenGroup::Condition => Ok(inner),
+        OpenGroup::Group { kind, reach } => {
+            close_group(&kind, end, spans)?;
+            node(alloc, kind, reach, inner)
         }
-        Opener::Body { condition, .. } => {
+        OpenGroup::Body { condition, .. } => {
             part_body(&inner, paren, spans)?;
             conditional(alloc, condition, branches_of(inner), end, spans)
         }
-        Opener::First => clear_or_stopper(alloc, inner, end, spans),
-        Opener::Second(absent) => {
+        OpenGroup::First => clear_or_stopper(alloc, inner, end, spans),
+        OpenGroup::Second(absent) => {
             spans.close(end, false)?;
             let exp = Box::new(alloc, inner)?;
             Ok(Expr::Absent(Absent::Expression { absent, exp }))
@@ -263,15 +263,15 @@ fn node_of_part<S: Spanning>(
 
 /// Ends a group of one alternation at the reach. A flag group has no node.
 #[inline(always)]
-fn close_group<S: Spanning>(head: &Head, end: usize, spans: &mut S) -> Result<(), AllocError>
-    ensures { (l : Log) → S.notes spans.old l → OnOk result (S.notes spans.new (group_noted (head_of head.now) end l)) }
+fn close_group<S: Spanning>(kind: &GroupKind, end: usize, spans: &mut S) -> Result<(), AllocError>
+    ensures { (l : Log) → S.records spans.old l → OnOk result (S.records spans.new (group_recorded (group_kind kind.now) end l)) }
 {
-    match head {
-        Head::Scope => {
+    match kind {
+        GroupKind::FlagGroup => {
             spans.close_bare();
             Ok(())
         }
-        Head::Capture(None) => spans.close(end, true),
+        GroupKind::Capture(None) => spans.close(end, true),
         _ => spans.close(end, false),
     }
 }
@@ -280,7 +280,7 @@ fn close_group<S: Spanning>(head: &Head, end: usize, spans: &mut S) -> Result<()
 /// branch and the choice among the others; else the body and an Empty.
 #[inline(always)]
 fn part_body<S: Spanning>(body: &Expr, end: usize, spans: &mut S) -> Result<(), AllocError>
-    ensures { (l : Log) → S.notes spans.old l → OnOk result (S.notes spans.new (body_parted (view body.now) end l)) }
+    ensures { (l : Log) → S.records spans.old l → OnOk result (S.records spans.new (body_parted (view body.now) end l)) }
 {
     match body {
         Expr::Alt(branches) => spans.split(branches.len()),
@@ -293,16 +293,16 @@ const NO_BODY: &str =
     "expected conditional to be a backreference or at least an expression for when the condition is true";
 
 /// Reads the closing parenthesis, where neither a piece nor a bar follows. UnclosedOpenParen at the end of the text.
-fn close_paren(here: &mut State) -> Result<(), Failure>
-    requires last { ends (chars here.old.rest.now) ≡ true }
-    requires no_bar { strip bar (chars here.old.rest.now) ≡ None }
-    ensures value { (r : Tree) → MatchResult result (λ _. spec.closed r (state here.old) ≡
-        states.done r (state here.new)) (λ e. IsErrorAmong e (λ o. spec.closed r (state here.old) ≡ o)) }
-    ensures shorter { IfOk result (λ _. length here.new.rest.now < length here.old.rest.now) }
+fn close_paren(current: &mut State) -> Result<(), ReadError>
+    requires last { ends (chars current.old.rest.now) ≡ true }
+    requires no_bar { strip bar (chars current.old.rest.now) ≡ None }
+    ensures value { (r : Tree) → MatchResult result (λ _. spec.closed r (state current.old) ≡
+        states.done r (state current.new)) (λ e. IsErrorAmong e (λ o. spec.closed r (state current.old) ≡ o)) }
+    ensures shorter { IfOk result (λ _. length current.new.rest.now < length current.old.rest.now) }
 {
-    let Some((_, rest)) = next(here.rest) else {
-        return Err(Failure::At(AT_END, ParseError::UnclosedOpenParen));
+    let Some((_, rest)) = next(current.rest) else {
+        return Err(ReadError::At(AT_END, ParseError::UnclosedOpenParen));
     };
-    here.rest = rest;
+    current.rest = rest;
     Ok(())
 }

@@ -4,7 +4,7 @@ ghost use Rattle.fancy_grammar.specs.Join as spec;
 ghost use Rattle.fancy_grammar.specs.Join.{solid, one_or};
 ghost use Rattle.fancy_grammar.specs.Tree.{concat};
 ghost use Rattle.fancy_syntax.specs.Log.{Log, branch_ended};
-ghost use Rattle.fancy_syntax.specs.Noting.{added};
+ghost use Rattle.fancy_syntax.specs.Recording.{added};
 ghost use Rattle.fancy_syntax.specs.View.{view, views};
 
 use crate::expr::Expr;
@@ -20,7 +20,7 @@ pub(crate) fn add<S: Spanning>(
     spans: &mut S,
 ) -> Result<(), AllocError>
     ensures trees { OnOk result (views trees.new.items ≡ views trees.old.items ++ solid (view piece ∷ [])) }
-    ensures spans { (l : Log) → S.notes spans.old l → OnOk result (S.notes spans.new (added (view piece) l)) }
+    ensures spans { (l : Log) → S.records spans.old l → OnOk result (S.records spans.new (added (view piece) l)) }
 {
     if is_empty(&piece) {
         // An Empty owns nothing.
@@ -57,8 +57,8 @@ pub(crate) fn take_branch<S: Spanning>(
     requires { height ≤ vec_len trees.old }
     ensures tree { IfOk result (λ e. view e ≡ one_or concat (drop height (views trees.old.items))) }
     ensures below { OnOk result (views trees.new.items ≡ take height (views trees.old.items)) }
-    ensures spans { (l : Log) → S.notes spans.old l → OnOk result
-        (S.notes spans.new (branch_ended (length (drop height (views trees.old.items))) reach l)) }
+    ensures spans { (l : Log) → S.records spans.old l → OnOk result
+        (S.records spans.new (branch_ended (length (drop height (views trees.old.items))) reach l)) }
 {
     let pieces = trees.len() - height;
     spans.end_branch(pieces, reach)?;

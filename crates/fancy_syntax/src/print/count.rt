@@ -2,7 +2,7 @@
 ghost use Rattle.std.specs.Prelude.{◌≡◌, ◌++◌, codes, if◌then◌else◌, []};
 ghost use Rattle.fancy_lex.specs.Text.{Text, bytes};
 ghost use Rattle.fancy_parts.specs.Quote.{quantifier};
-ghost use Rattle.fancy_parts.specs.Room.{in_word};
+ghost use Rattle.fancy_parts.specs.Capacity.{in_word};
 ghost use Rattle.fancy_grammar.specs.Printed.{printed, operand_text, printed_all, printed_branches, grouped, caseless};
 ghost use Rattle.fancy_grammar.specs.Tree.{trees_of};
 ghost use Rattle.fancy_syntax.specs.View.{view, views};
@@ -13,7 +13,7 @@ use crate::print::repeated::is_long;
 use crate::print::{BRANCH, OPERAND, PIECE, WHOLE};
 use fancy_lex::text::byte_len;
 use fancy_parts::quote::{quantifier_len, quotes_len};
-use fancy_parts::room::ascii_len;
+use fancy_parts::reserved::ascii_len;
 
 /// With a group's parentheses, if asked for.
 #[inline]

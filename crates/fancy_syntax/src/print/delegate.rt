@@ -1,13 +1,13 @@
 //! Whether a Delegate's text is one whole class or one whole class escape.
 ghost use Rattle.std.specs.Prelude.{◌≡◌, ◌∷◌, ◌<◌, [], chars, is_some, false, IfOk};
 ghost use Rattle.fancy_lex.specs.Characters.{open_bracket, backslash};
-ghost use Rattle.fancy_lex.specs.declared.error.Failure.TheVariants.{OutOfMemory};
+ghost use Rattle.fancy_lex.specs.declared.error.ReadError.TheVariants.{OutOfMemory};
 ghost use Rattle.fancy_lex.specs.EscapeViews.{escape_of};
-ghost use Rattle.fancy_grammar.specs.Ahead.{leaf_node};
+ghost use Rattle.fancy_grammar.specs.AtomStart.{leaf_node};
 ghost use Rattle.fancy_grammar.specs.Normal.{unicode_flags, class_of, whole_of};
 
 use fancy_lex::class::class;
-use fancy_lex::error::Failure;
+use fancy_lex::error::ReadError;
 use fancy_lex::escape::{Escaped, escape};
 use fancy_lex::flags::Flags;
 use fancy_lex::text::next;
@@ -55,12 +55,12 @@ fn is_class(leaf: Escaped) -> bool
 }
 
 /// False for an error of the text; `AllocError` if memory ran out.
-fn is_no_class(error: Failure) -> Result<bool, AllocError>
+fn is_no_class(error: ReadError) -> Result<bool, AllocError>
     ensures no { IfOk result (λ b. b ≡ false) }
-    ensures fault { IfOk result (λ _. error ≡ OutOfMemory → ⊥) }
+    ensures error { IfOk result (λ _. error ≡ OutOfMemory → ⊥) }
 {
     match error {
-        Failure::At(..) => Ok(false),
-        Failure::OutOfMemory => Err(AllocError),
+        ReadError::At(..) => Ok(false),
+        ReadError::OutOfMemory => Err(AllocError),
     }
 }

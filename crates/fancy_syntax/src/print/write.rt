@@ -2,7 +2,7 @@
 ghost use Rattle.std.specs.Prelude.{◌≡◌, ◌++◌, codes, if◌then◌else◌, [], nat_lt, true, chars};
 ghost use Rattle.std.specs.List.{list_all};
 ghost use Rattle.fancy_parts.specs.Quote.{quotes, quantifier};
-ghost use Rattle.fancy_parts.specs.Room.{HasRoom, Appended};
+ghost use Rattle.fancy_parts.specs.Capacity.{HasCapacity, Appended};
 ghost use Rattle.fancy_grammar.specs.Printed.{printed, operand_text, printed_all, printed_branches, grouped, caseless};
 ghost use Rattle.fancy_grammar.specs.Tree.{trees_of};
 ghost use Rattle.fancy_syntax.specs.View.{view, views};
@@ -12,14 +12,14 @@ use crate::print::fixed::{any_text, assertion_text};
 use crate::print::repeated::is_long;
 use crate::print::{BRANCH, OPERAND, PIECE, WHOLE};
 use fancy_parts::quote::{put_quantifier, put_quotes};
-use fancy_parts::room::{put, put_ascii, put_text};
+use fancy_parts::reserved::{put, put_ascii, put_text};
 
 /// Writes a text of ASCII characters, if asked for.
 #[inline]
 #[tactic(auto, using(crate::proofs::PrintLemmas::write_steps))]
 fn put_if(buf: &mut String, asked: bool, text: &str)
     requires ascii { list_all (λ b. nat_lt b 128) text.now ≡ true }
-    requires room { HasRoom buf.old (if asked then text.now else []) }
+    requires reserved { HasCapacity buf.old (if asked then text.now else []) }
     ensures { Appended buf.old buf.new (if asked then text.now else []) }
 {
     if asked {
@@ -34,7 +34,7 @@ fn put_if(buf: &mut String, asked: bool, text: &str)
 #[inline(never)]
 fn put_fixed(buf: &mut String, text: &str)
     requires ascii { list_all (λ b. nat_lt b 128) text.now ≡ true }
-    requires room { HasRoom buf.old text.now }
+    requires reserved { HasCapacity buf.old text.now }
     ensures { Appended buf.old buf.new text.now }
 {
     // Most such texts are one character, for which a push is shorter than a copy.
@@ -49,7 +49,7 @@ fn put_fixed(buf: &mut String, text: &str)
 #[inline]
 #[tactic(auto, unfolding(fancy_grammar::specs::Printed::caseless))]
 fn put_literal(buf: &mut String, val: &str, casei: bool)
-    requires { HasRoom buf.old (caseless casei (quotes (chars val.now))) }
+    requires { HasCapacity buf.old (caseless casei (quotes (chars val.now))) }
     ensures { Appended buf.old buf.new (caseless casei (quotes (chars val.now))) }
 {
     if casei {
@@ -63,7 +63,7 @@ fn put_literal(buf: &mut String, val: &str, casei: bool)
 #[inline(never)]
 #[tactic(auto, using(crate::proofs::PrintLemmas::write_steps))]
 fn put_caseless_literal(buf: &mut String, val: &str)
-    requires { HasRoom buf.old (caseless true (quotes (chars val.now))) }
+    requires { HasCapacity buf.old (caseless true (quotes (chars val.now))) }
     ensures { Appended buf.old buf.new (caseless true (quotes (chars val.now))) }
 {
     put_ascii(buf, "(?i:");
@@ -75,7 +75,7 @@ fn put_caseless_literal(buf: &mut String, val: &str)
 #[inline(never)]
 #[tactic(auto, using(crate::proofs::PrintLemmas::write_steps))]
 fn put_delegate(buf: &mut String, inner: &str, casei: bool)
-    requires { HasRoom buf.old (caseless casei (chars inner.now)) }
+    requires { HasCapacity buf.old (caseless casei (chars inner.now)) }
     ensures { Appended buf.old buf.new (caseless casei (chars inner.now)) }
 {
     put_if(buf, casei, "(?i:");
@@ -88,7 +88,7 @@ fn put_delegate(buf: &mut String, inner: &str, casei: bool)
 #[inline(always)]
 #[tactic(auto, using(crate::proofs::PrintLemmas::write_steps))]
 pub(super) fn put_tree(buf: &mut String, tree: &Expr, precedence: u8)
-    requires { HasRoom buf.old (printed (view tree.now) precedence) }
+    requires { HasCapacity buf.old (printed (view tree.now) precedence) }
     ensures { Appended buf.old buf.new (printed (view tree.now) precedence) }
 {
     match tree {
@@ -102,7 +102,7 @@ pub(super) fn put_tree(buf: &mut String, tree: &Expr, precedence: u8)
 #[inline(never)]
 #[tactic(auto, using(crate::proofs::PrintLemmas::write_steps))]
 fn put_node(buf: &mut String, tree: &Expr, precedence: u8)
-    requires { HasRoom buf.old (printed (view tree.now) precedence) }
+    requires { HasCapacity buf.old (printed (view tree.now) precedence) }
     ensures { Appended buf.old buf.new (printed (view tree.now) precedence) }
 {
     match tree {
@@ -128,7 +128,7 @@ fn put_node(buf: &mut String, tree: &Expr, precedence: u8)
 #[inline(never)]
 #[tactic(auto, using(crate::proofs::PrintLemmas::write_steps))]
 fn put_concat(buf: &mut String, trees: &[Expr], is_grouped: bool)
-    requires { HasRoom buf.old (grouped is_grouped (printed_all (trees_of (views trees.now)))) }
+    requires { HasCapacity buf.old (grouped is_grouped (printed_all (trees_of (views trees.now)))) }
     ensures { Appended buf.old buf.new (grouped is_grouped (printed_all (trees_of (views trees.now)))) }
 {
     put_if(buf, is_grouped, "(?:");
@@ -140,7 +140,7 @@ fn put_concat(buf: &mut String, trees: &[Expr], is_grouped: bool)
 #[cycle(write)]
 #[tactic(auto, using(crate::proofs::PrintLemmas::write_steps))]
 fn put_all(buf: &mut String, trees: &[Expr])
-    requires { HasRoom buf.old (printed_all (trees_of (views trees.now))) }
+    requires { HasCapacity buf.old (printed_all (trees_of (views trees.now))) }
     ensures { Appended buf.old buf.new (printed_all (trees_of (views trees.now))) }
 {
     for tree in trees {
@@ -153,7 +153,7 @@ fn put_all(buf: &mut String, trees: &[Expr])
 #[inline(never)]
 #[tactic(auto, using(crate::proofs::PrintLemmas::write_steps))]
 fn put_alt(buf: &mut String, trees: &[Expr], is_grouped: bool)
-    requires { HasRoom buf.old (grouped is_grouped (printed_branches (trees_of (views trees.now)))) }
+    requires { HasCapacity buf.old (grouped is_grouped (printed_branches (trees_of (views trees.now)))) }
     ensures { Appended buf.old buf.new (grouped is_grouped (printed_branches (trees_of (views trees.now)))) }
 {
     put_if(buf, is_grouped, "(?:");
@@ -165,7 +165,7 @@ fn put_alt(buf: &mut String, trees: &[Expr], is_grouped: bool)
 #[cycle(write)]
 #[tactic(auto, using(crate::proofs::PrintLemmas::write_steps))]
 fn put_branches(buf: &mut String, trees: &[Expr])
-    requires { HasRoom buf.old (printed_branches (trees_of (views trees.now))) }
+    requires { HasCapacity buf.old (printed_branches (trees_of (views trees.now))) }
     ensures { Appended buf.old buf.new (printed_branches (trees_of (views trees.now))) }
 {
     for (i, tree) in trees.iter().enumerate() {
@@ -179,7 +179,7 @@ fn put_branches(buf: &mut String, trees: &[Expr])
 #[inline(never)]
 #[tactic(auto, using(crate::proofs::PrintLemmas::write_steps))]
 fn put_group(buf: &mut String, tree: &Expr)
-    requires { HasRoom buf.old (codes "(" ++ (printed (view tree.now) 0 ++ codes ")")) }
+    requires { HasCapacity buf.old (codes "(" ++ (printed (view tree.now) 0 ++ codes ")")) }
     ensures { Appended buf.old buf.new (codes "(" ++ (printed (view tree.now) 0 ++ codes ")")) }
 {
     put(buf, '(');
@@ -192,7 +192,7 @@ fn put_group(buf: &mut String, tree: &Expr)
 #[inline(never)]
 #[tactic(auto, using(crate::proofs::PrintLemmas::write_steps))]
 fn put_repeat(buf: &mut String, child: &Expr, lo: usize, hi: usize, greedy: bool, is_grouped: bool)
-    requires { HasRoom buf.old (grouped is_grouped (operand_text (view child.now) ++ quantifier lo hi greedy)) }
+    requires { HasCapacity buf.old (grouped is_grouped (operand_text (view child.now) ++ quantifier lo hi greedy)) }
     ensures { Appended buf.old buf.new (grouped is_grouped (operand_text (view child.now) ++ quantifier lo hi greedy)) }
 {
     put_if(buf, is_grouped, "(?:");
@@ -206,7 +206,7 @@ fn put_repeat(buf: &mut String, child: &Expr, lo: usize, hi: usize, greedy: bool
 #[inline]
 #[tactic(auto, using(crate::proofs::PrintLemmas::write_steps))]
 fn put_repeated(buf: &mut String, tree: &Expr)
-    requires { HasRoom buf.old (operand_text (view tree.now)) }
+    requires { HasCapacity buf.old (operand_text (view tree.now)) }
     ensures { Appended buf.old buf.new (operand_text (view tree.now)) }
 {
     if is_long(tree) {

@@ -6,17 +6,17 @@ ghost use Rattle.fancy_lex.specs.NameViews.{view_target};
 ghost use Rattle.fancy_lex.specs.Text as text;
 ghost use Rattle.fancy_lex.specs.Text.{bytes};
 ghost use Rattle.fancy_grammar.specs.Items.{items, items_all, openings_in};
-ghost use Rattle.fancy_syntax.specs.Notes.{Walks, is_group_read, is_node_read, is_reference, known_of, progress_of, resolved_or};
+ghost use Rattle.fancy_syntax.specs.Records.{Walks, is_group_read, is_node_read, is_reference, resolver_of, progress_of, resolved_or};
 ghost use Rattle.fancy_grammar.specs.Tree.{trees_of, ast_node};
 ghost use Rattle.fancy_grammar.specs.Label.{ast_backref};
 ghost use Rattle.fancy_syntax.specs.View.{view, view_absent, view_ast, views};
 ghost use Rattle.fancy_grammar.specs.Walk.{resolved_by, all_resolved_by};
 
 use crate::expr::{Absent, AstNode, Expr};
-use crate::resolve::notes::{Known, Progress, Stopped, refer};
+use crate::resolve::records::{Progress, Resolver, Stopped, refer};
 use crate::resolve::survey::{is_counted_name, may_hold_items};
 use fancy_lex::name::CaptureGroupTarget;
-use fancy_lex::text::place_at;
+use fancy_lex::text::position_at;
 use fancy_parts::ranks::Role;
 use std::mem;
 
@@ -25,33 +25,33 @@ use std::mem;
 #[inline(always)]
 pub(super) fn rewrite(
     tree: &mut Expr,
-    known: &Known,
+    resolver: &Resolver,
     progress: &mut Progress,
 ) -> Result<(), Stopped>
     requires { progress.old.passed + length (openings_in (items (view tree.old))) < amount_bound }
-    ensures { Walks result (known_of known.now) (progress_of progress.old) (items (view tree.old))
+    ensures { Walks result (resolver_of resolver.now) (progress_of progress.old) (items (view tree.old))
         progress.new
-        (λ _. view tree.new ≡ resolved_by (known_of known.now) progress.old.passed (view tree.old)) }
+        (λ _. view tree.new ≡ resolved_by (resolver_of resolver.now) progress.old.passed (view tree.old)) }
 {
     match tree {
-        Expr::Concat(parts) => rewrite_all(parts, known, progress),
-        Expr::Alt(branches) => rewrite_all(branches, known, progress),
-        Expr::Group(child) => rewrite_child(child, known, progress),
-        Expr::LookAround(child, _) => rewrite_child(child, known, progress),
-        Expr::Repeat { child, .. } => rewrite_child(child, known, progress),
-        Expr::AtomicGroup(child) => rewrite_child(child, known, progress),
-        Expr::DefineGroup { definitions } => rewrite_child(definitions, known, progress),
+        Expr::Concat(parts) => rewrite_all(parts, resolver, progress),
+        Expr::Alt(branches) => rewrite_all(branches, resolver, progress),
+        Expr::Group(child) => rewrite_child(child, resolver, progress),
+        Expr::LookAround(child, _) => rewrite_child(child, resolver, progress),
+        Expr::Repeat { child, .. } => rewrite_child(child, resolver, progress),
+        Expr::AtomicGroup(child) => rewrite_child(child, resolver, progress),
+        Expr::DefineGroup { definitions } => rewrite_child(definitions, resolver, progress),
         Expr::Conditional {
             condition,
             true_branch,
             false_branch,
         } => {
-            rewrite_child(condition, known, progress)?;
-            rewrite_child(true_branch, known, progress)?;
-            rewrite_child(false_branch, known, progress)
+            rewrite_child(condition, resolver, progress)?;
+            rewrite_child(true_branch, resolver, progress)?;
+            rewrite_child(false_branch, resolver, progress)
         }
-        Expr::Absent(absent) => rewrite_absent(absent, known, progress),
-        Expr::AstNode(..) => rewrite_node(tree, known, progress),
+        Expr::Absent(absent) => rewrite_absent(absent, resolver, progress),
+        Expr::AstNode(..) => rewrite_node(tree, resolver, progress),
         _ => Ok(()),
     }
 }
@@ -61,25 +61,29 @@ pub(super) fn rewrite(
 /// Replaces the node by what it is resolved to.
 #[cycle(rewrite)]
 #[inline(never)]
-fn rewrite_node(tree: &mut Expr, known: &Known, progress: &mut Progress) -> Result<(), Stopped>
+fn rewrite_node(
+    tree: &mut Expr,
+    resolver: &Resolver,
+    progress: &mut Progress,
+) -> Result<(), Stopped>
     requires passed { progress.old.passed + length (openings_in (items (view tree.old))) < amount_bound }
     requires node { is_node_read (view tree.old) ≡ true }
-    ensures { Walks result (known_of known.now) (progress_of progress.old) (items (view tree.old))
+    ensures { Walks result (resolver_of resolver.now) (progress_of progress.old) (items (view tree.old))
         progress.new
-        (λ _. view tree.new ≡ resolved_by (known_of known.now) progress.old.passed (view tree.old)) }
+        (λ _. view tree.new ≡ resolved_by (resolver_of resolver.now) progress.old.passed (view tree.old)) }
 {
-    let Expr::AstNode(node, place) = tree else {
+    let Expr::AstNode(node, position) = tree else {
         unreachable!();
     };
     if let AstNode::AstGroup { .. } = node {
-        return rewrite_group(tree, known, progress);
+        return rewrite_group(tree, resolver, progress);
     }
-    if let Some(resolved) = resolve_reference(node, *place, known, progress)? {
+    if let Some(resolved) = resolve_reference(node, *position, resolver, progress)? {
         // The name is dropped by itself, not with its tree; the node that is left then owns no memory.
         drop(take_target(node));
         mem::forget(mem::replace(tree, resolved));
     } else {
-        *place = place_at(known.pattern, *place);
+        *position = position_at(resolver.pattern, *position);
     }
     Ok(())
 }
@@ -87,11 +91,15 @@ fn rewrite_node(tree: &mut Expr, known: &Known, progress: &mut Progress) -> Resu
 /// Replaces the capturing group by what it is resolved to.
 #[cycle(rewrite)]
 #[inline(never)]
-fn rewrite_group(tree: &mut Expr, known: &Known, progress: &mut Progress) -> Result<(), Stopped>
+fn rewrite_group(
+    tree: &mut Expr,
+    resolver: &Resolver,
+    progress: &mut Progress,
+) -> Result<(), Stopped>
     requires passed { progress.old.passed + length (openings_in (items (view tree.old))) < amount_bound }
     requires group { is_group_read (view tree.old) ≡ true }
-    ensures { Walks result (known_of known.now) (progress_of progress.old) (items (view tree.old)) progress.new
-        (λ _. view tree.new ≡ resolved_by (known_of known.now) progress.old.passed (view tree.old)) }
+    ensures { Walks result (resolver_of resolver.now) (progress_of progress.old) (items (view tree.old)) progress.new
+        (λ _. view tree.new ≡ resolved_by (resolver_of resolver.now) progress.old.passed (view tree.old)) }
 {
     let Expr::AstNode(node, reach) = tree else {
         unreachable!();
@@ -99,7 +107,7 @@ fn rewrite_group(tree: &mut Expr, known: &Known, progress: &mut Progress) -> Res
     // The node is moved by itself, not with its tree; the node that is left then owns no memory.
     let taken = AstNode::SubroutineCall(CaptureGroupTarget::ByNumber(0));
     let node = mem::replace(node, taken);
-    let resolved = resolve_group(node, *reach, known, progress)?;
+    let resolved = resolve_group(node, *reach, resolver, progress)?;
     mem::forget(mem::replace(tree, resolved));
     Ok(())
 }
@@ -123,24 +131,24 @@ fn take_target(reference: &mut AstNode) -> CaptureGroupTarget
 fn resolve_group(
     node: AstNode,
     reach: usize,
-    known: &Known,
+    resolver: &Resolver,
     progress: &mut Progress,
 ) -> Result<Expr, Stopped>
     requires passed { progress.old.passed + length (openings_in (items (view_ast node reach))) < amount_bound }
     requires group { is_reference node ≡ false }
-    ensures { Walks result (known_of known.now) (progress_of progress.old) (items (view_ast node reach))
+    ensures { Walks result (resolver_of resolver.now) (progress_of progress.old) (items (view_ast node reach))
         progress.new
-        (λ e. view e ≡ resolved_by (known_of known.now) progress.old.passed (view_ast node reach)) }
+        (λ e. view e ≡ resolved_by (resolver_of resolver.now) progress.old.passed (view_ast node reach)) }
 {
     let AstNode::AstGroup { name, mut inner } = node else {
         unreachable!();
     };
-    if is_counted_name(known.named, name.as_deref()) {
+    if is_counted_name(resolver.named, name.as_deref()) {
         progress.passed += 1;
-        rewrite_child(&mut inner, known, progress)?;
+        rewrite_child(&mut inner, resolver, progress)?;
         Ok(Expr::Group(inner))
     } else {
-        rewrite_child(&mut inner, known, progress)?;
+        rewrite_child(&mut inner, resolver, progress)?;
         Ok(mem::replace(&mut *inner, Expr::Empty))
     }
 }
@@ -149,15 +157,15 @@ fn resolve_group(
 fn resolve_reference(
     node: &AstNode,
     reach: usize,
-    known: &Known,
+    resolver: &Resolver,
     progress: &mut Progress,
 ) -> Result<Option<Expr>, Stopped>
     requires passed { progress.old.passed < amount_bound }
     requires reference { is_reference node.now ≡ true }
-    ensures { Walks result (known_of known.now) (progress_of progress.old) (items (view_ast node.now reach))
+    ensures { Walks result (resolver_of resolver.now) (progress_of progress.old) (items (view_ast node.now reach))
         progress.new
-        (λ o. resolved_or (view_ast node.now (text.place_at (bytes (chars known.now.pattern.now)) reach)) o
-        ≡ resolved_by (known_of known.now) progress.old.passed (view_ast node.now reach)) }
+        (λ o. resolved_or (view_ast node.now (text.position_at (bytes (chars resolver.now.pattern.now)) reach)) o
+        ≡ resolved_by (resolver_of resolver.now) progress.old.passed (view_ast node.now reach)) }
 {
     match node {
         AstNode::AstGroup { .. } => unreachable!(),
@@ -170,11 +178,11 @@ fn resolve_reference(
             *casei,
             *relative_recursion_level,
             reach,
-            known,
+            resolver,
             progress,
         ),
         AstNode::SubroutineCall(target) => {
-            let Some(group) = refer(known, progress, reach, Role::Call, target)? else {
+            let Some(group) = refer(resolver, progress, reach, Role::Call, target)? else {
                 return Ok(None);
             };
             Ok(Some(Expr::SubroutineCall(group)))
@@ -183,7 +191,7 @@ fn resolve_reference(
             target,
             relative_recursion_level,
         } => {
-            let Some(group) = refer(known, progress, reach, Role::Condition, target)? else {
+            let Some(group) = refer(resolver, progress, reach, Role::Condition, target)? else {
                 return Ok(None);
             };
             Ok(Some(Expr::BackrefExistsCondition {
@@ -200,16 +208,16 @@ fn resolve_backref(
     casei: bool,
     relative_recursion_level: Option<isize>,
     reach: usize,
-    known: &Known,
+    resolver: &Resolver,
     progress: &mut Progress,
 ) -> Result<Option<Expr>, Stopped>
     requires { progress.old.passed < amount_bound }
     ensures { let node = ast_backref (view_target target.now) casei relative_recursion_level in
-        Walks result (known_of known.now) (progress_of progress.old) (items (ast_node node reach)) progress.new
-        (λ o. resolved_or (ast_node node (text.place_at (bytes (chars known.now.pattern.now)) reach)) o
-        ≡ resolved_by (known_of known.now) progress.old.passed (ast_node node reach)) }
+        Walks result (resolver_of resolver.now) (progress_of progress.old) (items (ast_node node reach)) progress.new
+        (λ o. resolved_or (ast_node node (text.position_at (bytes (chars resolver.now.pattern.now)) reach)) o
+        ≡ resolved_by (resolver_of resolver.now) progress.old.passed (ast_node node reach)) }
 {
-    let Some(group) = refer(known, progress, reach, Role::BackReference, target)? else {
+    let Some(group) = refer(resolver, progress, reach, Role::BackReference, target)? else {
         return Ok(None);
     };
     Ok(Some(match relative_recursion_level {
@@ -227,21 +235,21 @@ fn resolve_backref(
 #[inline(never)]
 fn rewrite_absent(
     absent: &mut Absent,
-    known: &Known,
+    resolver: &Resolver,
     progress: &mut Progress,
 ) -> Result<(), Stopped>
     requires { progress.old.passed + length (openings_in (items (view_absent absent.old))) < amount_bound }
-    ensures { Walks result (known_of known.now) (progress_of progress.old) (items (view_absent absent.old))
+    ensures { Walks result (resolver_of resolver.now) (progress_of progress.old) (items (view_absent absent.old))
         progress.new
         (λ _. view_absent absent.new
-        ≡ resolved_by (known_of known.now) progress.old.passed (view_absent absent.old)) }
+        ≡ resolved_by (resolver_of resolver.now) progress.old.passed (view_absent absent.old)) }
 {
     match absent {
-        Absent::Repeater(child) => rewrite_child(child, known, progress),
-        Absent::Stopper(child) => rewrite_child(child, known, progress),
+        Absent::Repeater(child) => rewrite_child(child, resolver, progress),
+        Absent::Stopper(child) => rewrite_child(child, resolver, progress),
         Absent::Expression { absent, exp } => {
-            rewrite_child(absent, known, progress)?;
-            rewrite_child(exp, known, progress)
+            rewrite_child(absent, resolver, progress)?;
+            rewrite_child(exp, resolver, progress)
         }
         Absent::Clear => Ok(()),
     }
@@ -252,30 +260,34 @@ fn rewrite_absent(
 #[inline(never)]
 fn rewrite_child(
     child: &mut Box<Expr>,
-    known: &Known,
+    resolver: &Resolver,
     progress: &mut Progress,
 ) -> Result<(), Stopped>
     requires { progress.old.passed + length (openings_in (items (view child.old.value))) < amount_bound }
-    ensures { Walks result (known_of known.now) (progress_of progress.old) (items (view child.old.value))
+    ensures { Walks result (resolver_of resolver.now) (progress_of progress.old) (items (view child.old.value))
         progress.new
-        (λ _. view child.new.value ≡ resolved_by (known_of known.now) progress.old.passed (view child.old.value)) }
+        (λ _. view child.new.value ≡ resolved_by (resolver_of resolver.now) progress.old.passed (view child.old.value)) }
 {
-    rewrite(&mut **child, known, progress)
+    rewrite(&mut **child, resolver, progress)
 }
 
 /// Resolves the trees in place, from the first on.
 #[cycle(rewrite)]
 #[inline(never)]
-fn rewrite_all(trees: &mut Vec<Expr>, known: &Known, progress: &mut Progress) -> Result<(), Stopped>
+fn rewrite_all(
+    trees: &mut Vec<Expr>,
+    resolver: &Resolver,
+    progress: &mut Progress,
+) -> Result<(), Stopped>
     requires { progress.old.passed + length (openings_in (items_all (trees_of (views trees.old.items)))) < amount_bound }
-    ensures { Walks result (known_of known.now) (progress_of progress.old)
+    ensures { Walks result (resolver_of resolver.now) (progress_of progress.old)
         (items_all (trees_of (views trees.old.items))) progress.new
         (λ _. trees_of (views trees.new.items)
-        ≡ all_resolved_by (known_of known.now) progress.old.passed (trees_of (views trees.old.items))) }
+        ≡ all_resolved_by (resolver_of resolver.now) progress.old.passed (trees_of (views trees.old.items))) }
 {
     for i in 0..trees.len() {
         if may_hold_items(&trees[i]) {
-            rewrite(&mut trees[i], known, progress)?;
+            rewrite(&mut trees[i], resolver, progress)?;
         }
     }
     Ok(())

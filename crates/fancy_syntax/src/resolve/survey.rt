@@ -5,7 +5,7 @@ ghost use Rattle.fancy_parts.specs.Groups.{groups_of, no_groups, with_group};
 ghost use Rattle.fancy_parts.specs.Ranks.{is_counted};
 ghost use Rattle.fancy_grammar.specs.Items.{items, items_all, openings_in};
 ghost use Rattle.fancy_grammar.specs.Tree.{trees_of};
-ghost use Rattle.fancy_syntax.specs.Notes.{has_items};
+ghost use Rattle.fancy_syntax.specs.Records.{has_items};
 ghost use Rattle.fancy_syntax.specs.View.{view, view_absent, view_ast, views};
 ghost use Rattle.fancy_grammar.specs.Walk as spec;
 
@@ -15,20 +15,20 @@ use std::alloc::{AllocError, Global};
 
 /// What the first walk found.
 #[derive(Debug, Drop)]
-pub(super) struct Found {
+pub(super) struct Survey {
     /// The groups that have a number.
     pub(super) groups: Groups,
     /// Whether a capturing group or a reference was found, for the second walk to resolve.
     pub(super) met: bool,
 }
 
-impl Found {
+impl Survey {
     /// No groups, and nothing found.
-    pub(super) fn new(alloc: Global) -> Found
+    pub(super) fn new(alloc: Global) -> Survey
         ensures groups { groups_of result.groups ≡ no_groups }
         ensures met { result.met ≡ false }
     {
-        Found {
+        Survey {
             groups: Groups::new(alloc),
             met: false,
         }
@@ -42,7 +42,7 @@ pub(super) fn survey(
     alloc: Global,
     tree: &Expr,
     named: bool,
-    found: &mut Found,
+    found: &mut Survey,
 ) -> Result<(), AllocError>
     requires { found.old.groups.total + length (openings_in (items (view tree.now))) < amount_bound }
     ensures found { IfOk result
@@ -108,7 +108,7 @@ fn survey_node(
     node: &AstNode,
     reach: usize,
     named: bool,
-    found: &mut Found,
+    found: &mut Survey,
 ) -> Result<(), AllocError>
     requires { found.old.groups.total + length (openings_in (items (view_ast node.now reach))) < amount_bound }
     ensures found { IfOk result
@@ -140,7 +140,7 @@ fn survey_group(
     name: Option<&str>,
     inner: &Expr,
     named: bool,
-    found: &mut Found,
+    found: &mut Survey,
 ) -> Result<(), AllocError>
     requires { found.old.groups.total + 1 + length (openings_in (items (view inner.now))) < amount_bound }
     ensures found { let name = option_map (λ t. chars t.now) name.entry in
@@ -162,7 +162,7 @@ fn survey_absent(
     alloc: Global,
     absent: &Absent,
     named: bool,
-    found: &mut Found,
+    found: &mut Survey,
 ) -> Result<(), AllocError>
     requires { found.old.groups.total + length (openings_in (items (view_absent absent.now))) < amount_bound }
     ensures found { IfOk result
@@ -189,7 +189,7 @@ fn survey_all(
     alloc: Global,
     trees: &[Expr],
     named: bool,
-    found: &mut Found,
+    found: &mut Survey,
 ) -> Result<(), AllocError>
     requires { found.old.groups.total + length (openings_in (items_all (trees_of (views trees.now)))) < amount_bound }
     ensures found { IfOk result

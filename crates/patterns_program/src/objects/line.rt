@@ -1,9 +1,9 @@
 //! An object of JSON, written as a line.
-use crate::objects::places::Places;
+use crate::objects::positions::Positions;
 use fancy_syntax::span::Span;
 use json::Writer;
-use patterns_text::fault::Fault;
-use patterns_text::place::Spot;
+use patterns_text::error::RunError;
+use patterns_text::position::Spot;
 use patterns_text::subject::Subject;
 use std::alloc::{AllocError, Global};
 use std::io::Write;
@@ -21,7 +21,7 @@ pub(crate) fn write_number(writer: &mut Writer, name: &str, number: u64) -> Resu
 }
 
 /// Writes a field that is true or false.
-pub(crate) fn write_truth(writer: &mut Writer, name: &str, is_so: bool) -> Result<(), AllocError> {
+pub(crate) fn write_bool(writer: &mut Writer, name: &str, is_so: bool) -> Result<(), AllocError> {
     writer.key(name)?;
     writer.boolean(is_so)
 }
@@ -56,17 +56,17 @@ pub(crate) fn begin(subject: Subject<'_>, kind: &str) -> Result<Writer, AllocErr
 /// Writes the fields of a span: in bytes, and in characters.
 pub(crate) fn write_span(
     writer: &mut Writer,
-    places: &Places,
+    positions: &Positions,
     span: Span,
 ) -> Result<(), AllocError> {
     write_number(writer, "start", span.start as u64)?;
     write_number(writer, "end", span.end as u64)?;
-    write_number(writer, "start_character", places.character(span.start))?;
-    write_number(writer, "end_character", places.character(span.end))
+    write_number(writer, "start_character", positions.character(span.start))?;
+    write_number(writer, "end_character", positions.character(span.end))
 }
 
 /// Ends the object, and writes it.
-pub(crate) fn finish<O: Write>(mut writer: Writer, out: &mut O) -> Result<(), Fault> {
+pub(crate) fn finish<O: Write>(mut writer: Writer, out: &mut O) -> Result<(), RunError> {
     writer.end_object()?;
     out.write_all(&writer.into_inner())?;
     out.write_all(b"\n")?;

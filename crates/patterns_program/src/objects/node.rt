@@ -1,6 +1,6 @@
 //! The nodes of a tree, as JSON.
-use crate::objects::line::{write_number, write_span, write_text, write_truth};
-use crate::objects::places::Places;
+use crate::objects::line::{write_bool, write_number, write_span, write_text};
+use crate::objects::positions::Positions;
 use fancy_lex::escape::Assertion;
 use fancy_lex::name::CaptureGroupTarget;
 use fancy_spans::SpannedNode;
@@ -38,7 +38,7 @@ fn write_assertion(writer: &mut Writer, assertion: Assertion) -> Result<(), Allo
         Assertion::EndTextIgnoreTrailingNewlines { crlf }
         | Assertion::StartLine { crlf }
         | Assertion::StartLineOniguruma { crlf }
-        | Assertion::EndLine { crlf } => write_truth(writer, "crlf", crlf),
+        | Assertion::EndLine { crlf } => write_bool(writer, "crlf", crlf),
         _ => Ok(()),
     }
 }
@@ -70,7 +70,7 @@ fn write_reference_fields(writer: &mut Writer, node: &Expr) -> Result<(), AllocE
     match node {
         Expr::Backref { group, casei } => {
             write_number(writer, "group", *group as u64)?;
-            write_truth(writer, "casei", *casei)
+            write_bool(writer, "casei", *casei)
         }
         Expr::BackrefWithRelativeRecursionLevel {
             group,
@@ -79,7 +79,7 @@ fn write_reference_fields(writer: &mut Writer, node: &Expr) -> Result<(), AllocE
         } => {
             write_number(writer, "group", *group as u64)?;
             write_level(writer, "relative_level", Some(*relative_level))?;
-            write_truth(writer, "casei", *casei)
+            write_bool(writer, "casei", *casei)
         }
         Expr::BackrefExistsCondition {
             group,
@@ -125,21 +125,21 @@ fn write_reference_fields(writer: &mut Writer, node: &Expr) -> Result<(), AllocE
 fn write_repeat(writer: &mut Writer, lo: usize, hi: usize, greedy: bool) -> Result<(), AllocError> {
     write_number(writer, "lo", lo as u64)?;
     write_some_number(writer, "hi", if hi == usize::MAX { None } else { Some(hi) })?;
-    write_truth(writer, "greedy", greedy)
+    write_bool(writer, "greedy", greedy)
 }
 
 /// Writes the fields of a node, without its children.
 fn write_fields(writer: &mut Writer, node: &Expr) -> Result<(), AllocError> {
     match node {
         Expr::Any { newline, crlf } => {
-            write_truth(writer, "newline", *newline)?;
-            write_truth(writer, "crlf", *crlf)
+            write_bool(writer, "newline", *newline)?;
+            write_bool(writer, "crlf", *crlf)
         }
         Expr::Assertion(assertion) => write_assertion(writer, *assertion),
-        Expr::GeneralNewline { unicode } => write_truth(writer, "unicode", *unicode),
+        Expr::GeneralNewline { unicode } => write_bool(writer, "unicode", *unicode),
         Expr::Literal { val, casei } => {
             write_text(writer, "val", val.as_str())?;
-            write_truth(writer, "casei", *casei)
+            write_bool(writer, "casei", *casei)
         }
         Expr::LiteralBytes { bytes } => write_bytes(writer, bytes),
         Expr::LookAround(_, look_around) => {
@@ -148,7 +148,7 @@ fn write_fields(writer: &mut Writer, node: &Expr) -> Result<(), AllocError> {
         Expr::Repeat { lo, hi, greedy, .. } => write_repeat(writer, *lo, *hi, *greedy),
         Expr::Delegate { inner, casei } => {
             write_text(writer, "inner", inner.as_str())?;
-            write_truth(writer, "casei", *casei)
+            write_bool(writer, "casei", *casei)
         }
         Expr::BacktrackingControlVerb(verb) => write_text(writer, "verb", verb_name(*verb)),
         Expr::Absent(absent) => write_text(writer, "form", absent_name(absent)),
@@ -159,11 +159,11 @@ fn write_fields(writer: &mut Writer, node: &Expr) -> Result<(), AllocError> {
 /// Writes the fields of a node: its kind, its span, and those that `Expr` has, without its children.
 pub(super) fn write_own(
     writer: &mut Writer,
-    places: &Places,
+    positions: &Positions,
     node: SpannedNode<'_>,
 ) -> Result<(), AllocError> {
     write_text(writer, "kind", node_name(node.expr()))?;
-    write_span(writer, places, node.span())?;
+    write_span(writer, positions, node.span())?;
     write_fields(writer, node.expr())
 }
 
@@ -213,16 +213,16 @@ fn end_children(writer: &mut Writer, parent: &Expr) -> Result<(), AllocError> {
 /// Writes the node as an object, and those below it in it.
 pub(super) fn write_node(
     writer: &mut Writer,
-    places: &Places,
+    positions: &Positions,
     node: SpannedNode<'_>,
 ) -> Result<(), AllocError> {
     writer.begin_object()?;
-    write_own(writer, places, node)?;
+    write_own(writer, positions, node)?;
     begin_children(writer, node.expr())?;
     let mut index = 0usize;
     for child in node.children() {
         begin_child(writer, node.expr(), index)?;
-        write_node(writer, places, child)?;
+        write_node(writer, positions, child)?;
         index = index.saturating_add(1);
     }
     end_children(writer, node.expr())?;

@@ -1,9 +1,9 @@
 //! Likely mistakes, as JSON.
 use crate::objects::line::{begin, finish, write_number, write_span, write_text};
-use crate::objects::places::Places;
+use crate::objects::positions::Positions;
 use patterns_lint::chosen::Level;
 use patterns_lint::problem::Found;
-use patterns_text::fault::Fault;
+use patterns_text::error::RunError;
 use patterns_text::subject::Subject;
 use std::io::Write;
 
@@ -19,15 +19,15 @@ fn type_name(level: Level) -> &'static str {
 /// Writes a likely mistake.
 pub(super) fn write_problem<O: Write>(
     subject: Subject<'_>,
-    places: &Places,
+    positions: &Positions,
     level: Level,
     found: Found<'_>,
     out: &mut O,
-) -> Result<(), Fault> {
+) -> Result<(), RunError> {
     let Found { span, problem } = found;
     let rule = problem.rule();
     let mut writer = begin(subject, type_name(level))?;
-    write_span(&mut writer, places, span)?;
+    write_span(&mut writer, positions, span)?;
     write_text(&mut writer, "code", rule.name())?;
     write_text(
         &mut writer,
@@ -43,7 +43,7 @@ pub(super) fn write_omitted<O: Write>(
     subject: Subject<'_>,
     more: usize,
     out: &mut O,
-) -> Result<(), Fault> {
+) -> Result<(), RunError> {
     if more == 0 {
         return Ok(());
     }

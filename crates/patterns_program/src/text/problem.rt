@@ -2,7 +2,7 @@
 use patterns_lint::chosen::Level;
 use patterns_lint::problem::Found;
 use patterns_text::paint::{Ink, Paint};
-use patterns_text::place::{Blank, Cut, column_after};
+use patterns_text::position::{Blank, Cut, column_after};
 use patterns_text::subject::Subject;
 use std::io;
 use std::io::Write;

@@ -1,8 +1,8 @@
 //! Why a file is not read as JSON.
 use crate::lines::lines_in;
 use json::{MAX_DEPTH, MAX_LEN, Reader, Scratch};
-use patterns_text::fault::Fault;
-use patterns_text::place::{Cut, column_after};
+use patterns_text::error::RunError;
+use patterns_text::position::{Cut, column_after};
 use std::alloc::{AllocError, Global};
 use std::io::Write;
 use std::{fmt, io};
@@ -39,7 +39,7 @@ pub(super) fn write_refusal<E: Write>(
     err: &mut E,
     file: &str,
     text: &str,
-) -> Result<(), Fault> {
+) -> Result<(), RunError> {
     let end = end_of_json(alloc, text, MAX_DEPTH)?;
     let reason = if end < end_of_json(alloc, text, MAX_DEPTH.saturating_add(1))? {
         Reason::TooDeep

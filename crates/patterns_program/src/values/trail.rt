@@ -1,14 +1,14 @@
 //! A walk over the values of JSON, in the order of the text.
 use crate::values::keys::Keys;
 use json::Node;
-use patterns_text::path::{Path, Step};
-use patterns_text::place::Spot;
+use patterns_text::path::{Path, PathStep};
+use patterns_text::position::Spot;
 use std::alloc::{AllocError, Global};
 
 /// The steps from the root to the node that the walk has come to.
 #[derive(Drop)]
 pub(crate) struct Trail<'a> {
-    steps: Vec<Step<'a>>,
+    steps: Vec<PathStep<'a>>,
 }
 
 impl<'a> Trail<'a> {
@@ -25,7 +25,7 @@ impl<'a> Trail<'a> {
             return None;
         };
         match self.steps.last() {
-            Some(Step::Member(key)) if keys.has(key) => {
+            Some(PathStep::Member(key)) if keys.has(key) => {
                 let spot = Spot::Value {
                     path: Path { steps: &self.steps },
                     refers_to_begin: keys.refers_to_begin(key),
@@ -39,8 +39,8 @@ impl<'a> Trail<'a> {
     /// Goes on past the node.
     pub(crate) fn pass(&mut self, node: Node<'a>) -> Result<(), AllocError> {
         match node {
-            Node::Object(_) => self.steps.push(Step::Member(""))?,
-            Node::Array(_) => self.steps.push(Step::Item(0))?,
+            Node::Object(_) => self.steps.push(PathStep::Member(""))?,
+            Node::Array(_) => self.steps.push(PathStep::Item(0))?,
             Node::Key(key) => self.come_to(key),
             Node::EndObject | Node::EndArray => {
                 self.steps.pop();
@@ -54,13 +54,13 @@ impl<'a> Trail<'a> {
     /// Comes to the member of an object that has this key.
     fn come_to(&mut self, key: &'a str) {
         if let Some(step) = self.steps.last_mut() {
-            *step = Step::Member(key);
+            *step = PathStep::Member(key);
         }
     }
 
     /// Leaves a value: in an array the walk has come to the next item.
     fn leave(&mut self) {
-        if let Some(Step::Item(index)) = self.steps.last_mut() {
+        if let Some(PathStep::Item(index)) = self.steps.last_mut() {
             *index = index.saturating_add(1);
         }
     }

@@ -1,23 +1,23 @@
-use Rattle.fancy_syntax.specs.Answer.{marks_of}
+use Rattle.fancy_syntax.specs.InfoViews.{info_of}
 use Rattle.fancy_syntax.specs.View.{view}
-use Rattle.fancy_c.proofs.NodesLemmas.{told_of}
+use Rattle.fancy_c.proofs.NodesLemmas.{is_summary_of}
 use Rattle.fancy_c.proofs.nodes.fancy_parse_nonnull.Goals as goal
 
 pub returns-in-Ok-clause-read : goal.returns-in-Ok-clause-read
 returns-in-Ok-clause-read c =
     let t = view c.in-Ok.parsed.tree.expr in
-    let m = marks_of c.in-Ok.parsed.tree in
+    let m = info_of c.in-Ok.parsed.tree in
     λ is. (
       t,
       m,
       c.in-Ok.parsed.spans.items,
-      told_of _ _ t m _ c.in-Ok.ensures.tree c.tell.ensures.info,
+      is_summary_of _ _ t m _ c.in-Ok.ensures.tree c.write_tree.ensures.info,
       c.in-Ok.ensures.spans,
-      c.tell.ensures.read is,
+      c.write_tree.ensures.read is,
     )
 
 pub returns-in-Ok-clause-short : goal.returns-in-Ok-clause-short
 returns-in-Ok-clause-short c =
     let t = view c.in-Ok.parsed.tree.expr in
-    let m = marks_of c.in-Ok.parsed.tree in
-    λ is. (t, m, told_of _ _ t m _ c.in-Ok.ensures.tree c.tell.ensures.info, c.tell.ensures.short is)
+    let m = info_of c.in-Ok.parsed.tree in
+    λ is. (t, m, is_summary_of _ _ t m _ c.in-Ok.ensures.tree c.write_tree.ensures.info, c.write_tree.ensures.short is)

@@ -1,12 +1,12 @@
 use Rattle.fancy_c.proofs.NodesLemmas.{spans_of_bytes}
-use Rattle.fancy_c.proofs.ReadLemmas.{tree_told, fault_told}
+use Rattle.fancy_c.proofs.ReadLemmas.{tree_returned, error_returned}
 use Rattle.fancy_c.proofs.read.read_with_spans.Goals as goal
 
 pub returns-in-Ok-clause-tree : goal.returns-in-Ok-clause-tree
 returns-in-Ok-clause-tree c =
     let text = c.in_ok-text.ensures.text in
     let tree = c.in-Ok.ensures in
-    tree_told _ _ _ _ _ text.0 text.1 tree.found tree.only tree.exact tree.bounds tree.answered
+    tree_returned _ _ _ _ _ text.0 text.1 tree.found tree.only tree.exact tree.bounds tree.returned
 
 pub returns-in-Ok-clause-spans : goal.returns-in-Ok-clause-spans
 returns-in-Ok-clause-spans c =
@@ -16,4 +16,4 @@ returns-in-Ok-clause-spans c =
 pub returns-in-Err-clause-refusal : goal.returns-in-Err-clause-refusal
 returns-in-Err-clause-refusal c =
     let text = c.in_ok-text.ensures.text in
-    fault_told c.in-Err.error _ _ _ text.0 text.1 c.in-Err.ensures.fault c.in-Err.ensures.place
+    error_returned c.in-Err.error _ _ _ text.0 text.1 c.in-Err.ensures.error c.in-Err.ensures.position

@@ -1,8 +1,8 @@
 use Rattle.std.proofs.Common.{◌+◌, ◌<◌, ◌∙◌, ap, sym, length, arith}
-use Rattle.fancy_parts.specs.Room.{in_word}
+use Rattle.fancy_parts.specs.Capacity.{in_word}
 use Rattle.fancy_grammar.specs.Tree.{levels}
 use Rattle.fancy_syntax.specs.View.{view, views}
-use Rattle.fancy_syntax.proofs.Descents.{sweep_start, sweep_head, sweep_next, levels_of_child}
+use Rattle.fancy_syntax.proofs.Descents.{sweep_start, sweep_first, sweep_next, levels_of_child}
 use Rattle.fancy_c.specs.Node.{listed_each}
 use Rattle.fancy_c.proofs.RowLemmas.{rows_count_starts, rows_count_next, rows_count_ends}
 use Rattle.fancy_c.proofs.rows.+count.Goals as goal
@@ -16,9 +16,9 @@ loop-child-init t c = record {
       ∙ ap (λ w. in_word (c.args.before.text + length w)) c.carried.ensures);
 }
 
-pub count-behind-requires : goal.count-behind-requires
-count-behind-requires t c =
-    let among = sweep_head _ c.args.tree.now c.in-Some.child.now _ _ c.loop-child.invariant.sweep
+pub count-after-requires : goal.count-after-requires
+count-after-requires t c =
+    let among = sweep_first _ c.args.tree.now c.in-Some.child.now _ _ c.loop-child.invariant.sweep
     c.in-Some.ensures.steps in
     let less : levels (view c.in-Some.child.now) < levels (view c.args.tree.now) =
     levels_of_child c.args.tree.now c.in-Some.child.now
@@ -31,7 +31,7 @@ loop-child-preserved t c = record {
       (record { here = tt; below = λ d b. tt });
   counting = rows_count_next _ _ _ _ c.loop-child.invariant.counting
       (ap (λ es. listed_each (views es)) c.in-Some.ensures.steps)
-      c.count-behind.ensures.nodes c.count-behind.ensures.text;
+      c.count-after.ensures.nodes c.count-after.ensures.text;
 }
 
 pub returns-clause-nodes : goal.returns-clause-nodes

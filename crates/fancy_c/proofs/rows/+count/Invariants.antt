@@ -13,7 +13,7 @@ decreases-count l = levels (view l.tree.now)
 abbrev pub invariant-loop-child : goal.invariant-loop-child
 invariant-loop-child l = record {
   sweep : Sweep (λ _. Unit {0}) l.tree (remaining_children l.children);
-  counting : CountingRows l.fn.before.rows l.fn.before.text l.behind.rows l.behind.text (listed (view l.tree))
+  counting : CountingRows l.fn.before.rows l.fn.before.text l.after.rows l.after.text (listed (view l.tree))
       (listed_each (views (remaining_children l.children)));
 }
 

@@ -17,7 +17,7 @@ abbrev pub invariant-put_children-loop-child : goal.invariant-put_children-loop-
 invariant-put_children-loop-child l = record {
   sweep : Sweep (λ _. Unit {0}) l.tree (remaining_children l.children);
   putting : Putting (span_at l.spans) l.initial.nodes l.nodes l.initial.bytes l.bytes
-      l.fn.before.rows l.fn.before.text l.behind.rows l.behind.text
+      l.fn.before.rows l.fn.before.text l.after.rows l.after.text
       (listed_each (children (view l.tree))) (listed_each (views (remaining_children l.children)));
 }
 

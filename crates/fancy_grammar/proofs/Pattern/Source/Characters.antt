@@ -82,22 +82,22 @@ unseen_plain c h = (grind (arith, nat_tests), grind (arith, nat_tests))
 
 -- an escape that the class reads as the character, and writes as the character itself
 pub record IsUnseenEscape (c : ℕ) (t : Text) : Type 0 where
-  pub behind : Text
-  pub is : t ≡ backslash ∷ behind
-  pub reads : (f : Flags) → (casei : Bool) × EscapesIn true f casei c behind
+  pub after : Text
+  pub is : t ≡ backslash ∷ after
+  pub reads : (f : Flags) → (casei : Bool) × EscapesIn true f casei c after
 
 pub unseen_escape : (c : ℕ) → is_unseen c ≡ true → IsUnseenEscape c (by_letter_or c (coded c))
 unseen_escape c h =
     choose_both (IsUnseenEscape c) (letter_of c) _ _
-    (λ d e. record { behind = d ∷ []; is = refl; reads = λ f. (false, escapes_letter true f c d e) })
+    (λ d e. record { after = d ∷ []; is = refl; reads = λ f. (false, escapes_letter true f c d e) })
     (cond_both (nat_lt c 0x80) _ _ (IsUnseenEscape c)
     (λ e. record {
-      behind = code "x" ∷ upper_hex_digit (c / 16) ∷ upper_hex_digit (c % 16) ∷ [];
+      after = code "x" ∷ upper_hex_digit (c / 16) ∷ upper_hex_digit (c % 16) ∷ [];
       is = refl;
       reads = λ f. (f.casei, reads_small true f c (grind (arith, nat_tests)));
     })
     (λ e. let (a, b) = unseen_small c h in record {
-      behind =
+      after =
           code "u" ∷ upper_hex_digit (c / 4096) ∷ upper_hex_digit (c / 256 % 16) ∷ upper_hex_digit
           (c / 16 % 16) ∷ upper_hex_digit (c % 16) ∷ [];
       is = refl;

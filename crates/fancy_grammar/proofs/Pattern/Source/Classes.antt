@@ -4,7 +4,7 @@ use Rattle.std.proofs.Common.{refl, ap, ◌∙◌, sym, subst, append_assoc, if�
 use Rattle.std.proofs.lemmas.Bool.{not-true}
 use Prim.Native.Char.{code}
 use Rattle.fancy_lex.specs.Characters.{◌∈◌}
-use Rattle.fancy_lex.specs.Class.{class_head, escape_in_class, is_negated, is_plain_in_class, written, Class}
+use Rattle.fancy_lex.specs.Class.{class_start, escape_in_class, is_negated, is_plain_in_class, written, Class}
 use Rattle.fancy_lex.specs.Class.{class_items, ClassItems, close, plain, escaped, nested}
 use Rattle.fancy_lex.specs.Text.{Text, strip}
 use Rattle.fancy_lex.specs.declared.flags.Flags.{Flags}
@@ -20,52 +20,52 @@ use Rattle.fancy_grammar.proofs.Pattern.Source.Escapes.{escape_in, char_no_caret
 -- ---- what begins a class
 
 -- the beginning of a class, what is written for it, and the rest
-data HeadOf : Text → Text → Text → Type 0 where
-  bare : {t : Text} → strip (code "^") t ≡ None → strip (code "]") t ≡ None → HeadOf t (codes "[") t
-  negated : {u : Text} → strip (code "]") u ≡ None → HeadOf (code "^" ∷ u) (codes "[^") u
-  closing : {u : Text} → HeadOf (code "]" ∷ u) (codes "[]") u
-  negated_closing : {u : Text} → HeadOf (codes "^]" ++ u) (codes "[^]") u
+data OpeningOf : Text → Text → Text → Type 0 where
+  bare : {t : Text} → strip (code "^") t ≡ None → strip (code "]") t ≡ None → OpeningOf t (codes "[") t
+  negated : {u : Text} → strip (code "]") u ≡ None → OpeningOf (code "^" ∷ u) (codes "[^") u
+  closing : {u : Text} → OpeningOf (code "]" ∷ u) (codes "[]") u
+  negated_closing : {u : Text} → OpeningOf (codes "^]" ++ u) (codes "[^]") u
 
-head_is : (t head u : Text) → ◌≡◌ {A = Text × Text} (class_head [] t) (head, u) → HeadOf t head u
-unfolding class_head
-head_is t head u e = subst (λ (p : Text × Text). HeadOf t p.0 p.1) e (of t)
+opening_is : (t opening u : Text) → ◌≡◌ {A = Text × Text} (class_start [] t) (opening, u) → OpeningOf t opening u
+unfolding class_start
+opening_is t opening u e = subst (λ (p : Text × Text). OpeningOf t p.0 p.1) e (of t)
   where
-    behind_caret : (t : Text) → HeadOf (code "^" ∷ t) (class_head [] (code "^" ∷ t)).0 (class_head [] (code "^" ∷ t)).1
-    behind_caret [] = negated refl
-    behind_caret (c ∷ t) = at (c == code "]") refl
+    after_caret : (t : Text) → OpeningOf (code "^" ∷ t) (class_start [] (code "^" ∷ t)).0 (class_start [] (code "^" ∷ t)).1
+    after_caret [] = negated refl
+    after_caret (c ∷ t) = at (c == code "]") refl
       where
         at : (b : Bool) → (c == code "]") ≡ b →
-            HeadOf (code "^" ∷ c ∷ t) (class_head [] (code "^" ∷ c ∷ t)).0 (class_head [] (code "^" ∷ c ∷ t)).1
+            OpeningOf (code "^" ∷ c ∷ t) (class_start [] (code "^" ∷ c ∷ t)).0 (class_start [] (code "^" ∷ c ∷ t)).1
         at true e =
             subst
-            (λ d. HeadOf (code "^" ∷ d ∷ t) (class_head [] (code "^" ∷ d ∷ t)).0 (class_head [] (code "^" ∷ d ∷ t)).1)
+            (λ d. OpeningOf (code "^" ∷ d ∷ t) (class_start [] (code "^" ∷ d ∷ t)).0 (class_start [] (code "^" ∷ d ∷ t)).1)
             (sym (eqb-true c (code "]") e)) negated_closing
         at false e =
-            subst (λ (p : Text × Text). HeadOf (code "^" ∷ c ∷ t) p.0 p.1) (sym (open_caret (c ∷ t) (rw e refl)))
+            subst (λ (p : Text × Text). OpeningOf (code "^" ∷ c ∷ t) p.0 p.1) (sym (open_caret (c ∷ t) (rw e refl)))
             (negated (rw e refl))
 
-    of : (t : Text) → HeadOf t (class_head [] t).0 (class_head [] t).1
+    of : (t : Text) → OpeningOf t (class_start [] t).0 (class_start [] t).1
     of [] = bare refl refl
     of (c ∷ t) = at (c == code "^") (c == code "]") refl refl
       where
         at : (a b : Bool) → (c == code "^") ≡ a → (c == code "]") ≡ b →
-            HeadOf (c ∷ t) (class_head [] (c ∷ t)).0 (class_head [] (c ∷ t)).1
+            OpeningOf (c ∷ t) (class_start [] (c ∷ t)).0 (class_start [] (c ∷ t)).1
         at true b e h =
-            subst (λ d. HeadOf (d ∷ t) (class_head [] (d ∷ t)).0 (class_head [] (d ∷ t)).1)
-            (sym (eqb-true c (code "^") e)) (behind_caret t)
+            subst (λ d. OpeningOf (d ∷ t) (class_start [] (d ∷ t)).0 (class_start [] (d ∷ t)).1)
+            (sym (eqb-true c (code "^") e)) (after_caret t)
         at false true e h =
-            subst (λ d. HeadOf (d ∷ t) (class_head [] (d ∷ t)).0 (class_head [] (d ∷ t)).1)
+            subst (λ d. OpeningOf (d ∷ t) (class_start [] (d ∷ t)).0 (class_start [] (d ∷ t)).1)
             (sym (eqb-true c (code "]") h)) closing
         at false false e h =
-            subst (λ (p : Text × Text). HeadOf (c ∷ t) p.0 p.1) (sym (open_plain (c ∷ t) (rw e refl) (rw h refl)))
+            subst (λ (p : Text × Text). OpeningOf (c ∷ t) p.0 p.1) (sym (open_plain (c ∷ t) (rw e refl) (rw h refl)))
             (bare (rw e refl) (rw h refl))
 
-open_closing : (t : Text) → ◌≡◌ {A = Text × Text} (class_head [] (code "]" ∷ t)) (codes "[]", t)
-unfolding class_head
+open_closing : (t : Text) → ◌≡◌ {A = Text × Text} (class_start [] (code "]" ∷ t)) (codes "[]", t)
+unfolding class_start
 open_closing t = refl
 
-open_both : (t : Text) → ◌≡◌ {A = Text × Text} (class_head [] (codes "^]" ++ t)) (codes "[^]", t)
-unfolding class_head
+open_both : (t : Text) → ◌≡◌ {A = Text × Text} (class_start [] (codes "^]" ++ t)) (codes "[^]", t)
+unfolding class_start
 open_both t = refl
 
 -- ---- how the text of items begins
@@ -92,38 +92,38 @@ none_below : (b : Bool) → IsBelow false b
 none_below b e = absurd cc
 
 -- a class before a text
-head_property : (t head u x w z : Text) → HeadOf t head u → NoProperty (((head ++ x) ++ w) ++ z)
-head_property t _ _ x w z (bare n m) = record { space = refl; control = refl }
-head_property _ _ u x w z (negated n) = record { space = refl; control = refl }
-head_property _ _ u x w z closing = record { space = refl; control = refl }
-head_property _ _ u x w z negated_closing = record { space = refl; control = refl }
+opening_property : (t opening u x w z : Text) → OpeningOf t opening u → NoProperty (((opening ++ x) ++ w) ++ z)
+opening_property t _ _ x w z (bare n m) = record { space = refl; control = refl }
+opening_property _ _ u x w z (negated n) = record { space = refl; control = refl }
+opening_property _ _ u x w z closing = record { space = refl; control = refl }
+opening_property _ _ u x w z negated_closing = record { space = refl; control = refl }
 
-head_no_caret : (t head u x w z : Text) → HeadOf t head u → strip (code "^") (((head ++ x) ++ w) ++ z) ≡ None
-head_no_caret t _ _ x w z (bare n m) = refl
-head_no_caret _ _ u x w z (negated n) = refl
-head_no_caret _ _ u x w z closing = refl
-head_no_caret _ _ u x w z negated_closing = refl
+opening_no_caret : (t opening u x w z : Text) → OpeningOf t opening u → strip (code "^") (((opening ++ x) ++ w) ++ z) ≡ None
+opening_no_caret t _ _ x w z (bare n m) = refl
+opening_no_caret _ _ u x w z (negated n) = refl
+opening_no_caret _ _ u x w z closing = refl
+opening_no_caret _ _ u x w z negated_closing = refl
 
-head_joined : (t head u x w z : Text) → HeadOf t head u → NoJoined (((head ++ x) ++ w) ++ z)
-head_joined t _ _ x w z (bare n m) = record { space = refl; control = refl }
-head_joined _ _ u x w z (negated n) = record { space = refl; control = refl }
-head_joined _ _ u x w z closing = record { space = refl; control = refl }
-head_joined _ _ u x w z negated_closing = record { space = refl; control = refl }
+opening_joined : (t opening u x w z : Text) → OpeningOf t opening u → NoJoined (((opening ++ x) ++ w) ++ z)
+opening_joined t _ _ x w z (bare n m) = record { space = refl; control = refl }
+opening_joined _ _ u x w z (negated n) = record { space = refl; control = refl }
+opening_joined _ _ u x w z closing = record { space = refl; control = refl }
+opening_joined _ _ u x w z negated_closing = record { space = refl; control = refl }
 
 bare_set : (y : Text) → strip (code "^") y ≡ None → NoSet (code "[" ∷ y)
 bare_set [] n = record { space = refl; control = refl }
 bare_set (c ∷ y) n = let e = none_test (code "^") c y n in record { space = rw e refl; control = rw e refl }
 
-head_set : (t head u x w z : Text) → (strip (code "^") u ≡ None → (z : Text) → strip (code "^") (x ++ z) ≡ None) →
-    NoProperty (x ++ (w ++ z)) → HeadOf t head u → NoSet (((head ++ x) ++ w) ++ z)
-head_set t _ _ x w z caret_free property (bare n m) =
+opening_set : (t opening u x w z : Text) → (strip (code "^") u ≡ None → (z : Text) → strip (code "^") (x ++ z) ≡ None) →
+    NoProperty (x ++ (w ++ z)) → OpeningOf t opening u → NoSet (((opening ++ x) ++ w) ++ z)
+opening_set t _ _ x w z caret_free property (bare n m) =
     bare_set ((x ++ w) ++ z)
     (subst (λ y. strip (code "^") y ≡ None) (sym (append_assoc x w z)) (caret_free n (w ++ z)))
-head_set _ _ u x w z caret_free property (negated n) =
+opening_set _ _ u x w z caret_free property (negated n) =
     let p = subst NoProperty (sym (append_assoc x w z)) property in
     record { space = p.space; control = p.control }
-head_set _ _ u x w z caret_free property closing = record { space = refl; control = refl }
-head_set _ _ u x w z caret_free property negated_closing = record { space = refl; control = refl }
+opening_set _ _ u x w z caret_free property closing = record { space = refl; control = refl }
+opening_set _ _ u x w z caret_free property negated_closing = record { space = refl; control = refl }
 
 items_property : {f : Flags} {b a : Bool} {t w v : Text} → ClassItems f b t (written w a v) → (z : Text) →
     NoProperty (w ++ z)
@@ -134,8 +134,8 @@ items_property (plain {c} p h) z =
 items_property {f} {b} (escaped {t} {u} {w} {e} q h) z =
     subst NoProperty (sym (append_assoc (escape_in_class b e) w z))
     ((escape_in f b false (none_below b) t u e q).front.property (w ++ z))
-items_property (nested {w} (class_items {t} {u} {head} {w = x} e h) k) z =
-    head_property t head u x w z (head_is t head u e)
+items_property (nested {w} (class_items {t} {u} {opening} {w = x} e h) k) z =
+    opening_property t opening u x w z (opening_is t opening u e)
 
 items_no_caret : {f : Flags} {b a : Bool} {t w v : Text} → ClassItems f b t (written w a v) →
     strip (code "^") t ≡ None → (z : Text) → strip (code "^") (w ++ z) ≡ None
@@ -144,8 +144,8 @@ items_no_caret (plain {c} {t} {w} p h) n z = none_again (code "^") c t (w ++ z) 
 items_no_caret {f} {b} (escaped {t} {u} {w} {e} q h) n z =
     subst (λ y. strip (code "^") y ≡ None) (sym (append_assoc (escape_in_class b e) w z))
     ((escape_in f b false (none_below b) t u e q).front.no_caret (w ++ z))
-items_no_caret (nested {w} (class_items {t} {u} {head} {w = x} e h) k) n z =
-    head_no_caret t head u x w z (head_is t head u e)
+items_no_caret (nested {w} (class_items {t} {u} {opening} {w = x} e h) k) n z =
+    opening_no_caret t opening u x w z (opening_is t opening u e)
 
 items_set : {f : Flags} {b a : Bool} {t w v : Text} → ClassItems f b t (written w a v) → b ≡ true → (z : Text) →
     NoSet (w ++ z)
@@ -156,8 +156,8 @@ items_set (plain {c} p h) seen z =
 items_set {f} {b} (escaped {t} {u} {w} {e} q h) seen z =
     subst NoSet (sym (append_assoc (escape_in_class b e) w z))
     ((escape_in f b false (none_below b) t u e q).front.set seen (w ++ z))
-items_set (nested {w} (class_items {t} {u} {head} {w = x} e h) k) seen z =
-    head_set t head u x w z (items_no_caret h) (items_property h (w ++ z)) (head_is t head u e)
+items_set (nested {w} (class_items {t} {u} {opening} {w = x} e h) k) seen z =
+    opening_set t opening u x w z (items_no_caret h) (items_property h (w ++ z)) (opening_is t opening u e)
 
 items_joined : {f : Flags} {b a : Bool} {t w v : Text} → ClassItems f b t (written w a v) → b ≡ true → (z : Text) →
     NoJoined (w ++ z)
@@ -173,8 +173,8 @@ items_joined (plain {c} {w} p h) seen z = at (c == code "&") refl
 items_joined {f} {b} (escaped {t} {u} {w} {e} q h) seen z =
     subst NoJoined (sym (append_assoc (escape_in_class b e) w z))
     ((escape_in f b false (none_below b) t u e q).front.joined seen (w ++ z))
-items_joined (nested {w} (class_items {t} {u} {head} {w = x} e h) k) seen z =
-    head_joined t head u x w z (head_is t head u e)
+items_joined (nested {w} (class_items {t} {u} {opening} {w = x} e h) k) seen z =
+    opening_joined t opening u x w z (opening_is t opening u e)
 
 -- ---- the induction
 
@@ -196,24 +196,24 @@ record ItemsSource (u σ : Bool) (t w : Text) (a : Bool) : Type 0 where
   no_caret : strip (code "^") t ≡ None → (r : Text) → strip (code "^") (source ++ r) ≡ None
   no_close : strip (code "]") t ≡ None → (r : Text) → strip (code "]") (source ++ r) ≡ None
 
-with_head : (u σ a : Bool) (t head s w : Text) → HeadOf t head s → ((z : Text) → NoProperty (w ++ z)) →
+with_class_start : (u σ a : Bool) (t opening s w : Text) → OpeningOf t opening s → ((z : Text) → NoProperty (w ++ z)) →
     (strip (code "^") s ≡ None → (z : Text) → strip (code "^") (w ++ z) ≡ None) → ItemsSource u σ s w a →
-    ClassSource u σ (head ++ w) a
-with_head u σ a t _ s w (bare n m) property caret_free i = record {
+    ClassSource u σ (opening ++ w) a
+with_class_start u σ a t _ s w (bare n m) property caret_free i = record {
   tail = i.source;
   after = i.after;
   is = λ z. open_on u σ (w ++ z) (property z) (caret_free n z) ∙ ap (λ q. code "[" ∷ q) (i.is z);
   below = i.below;
   reads = λ g like r. class_items (open_plain _ (i.no_caret n r) (i.no_close m r)) (i.reads g like r);
 }
-with_head u σ a _ _ s w (negated m) property caret_free i = record {
+with_class_start u σ a _ _ s w (negated m) property caret_free i = record {
   tail = code "^" ∷ i.source;
   after = i.after;
   is = λ z. open_caret_on u σ (w ++ z) (property z) ∙ ap (λ q. codes "[^" ++ q) (i.is z);
   below = i.below;
   reads = λ g like r. class_items (open_caret _ (i.no_close m r)) (i.reads g like r);
 }
-with_head u σ a _ _ s w closing property caret_free i = record {
+with_class_start u σ a _ _ s w closing property caret_free i = record {
   tail = code "]" ∷ i.source;
   after = i.after;
   is =
@@ -222,7 +222,7 @@ with_head u σ a _ _ s w closing property caret_free i = record {
   below = i.below;
   reads = λ g like r. class_items (open_closing _) (i.reads g like r);
 }
-with_head u σ a _ _ s w negated_closing property caret_free i = record {
+with_class_start u σ a _ _ s w negated_closing property caret_free i = record {
   tail = codes "^]" ++ i.source;
   after = i.after;
   is =
@@ -307,8 +307,8 @@ nested_source u σ m a t s x w c i = record {
 mutual
   pub class_source_of : {f : Flags} {b m : Bool} {t x v : Text} → Class f b t (written x m v) → (σ : Bool) →
       IsBelow σ b → ClassSource f.unicode σ x m
-  class_source_of {f} (class_items {a} {t} {u} {head} {w} e h) σ below =
-      with_head f.unicode σ a t head u w (head_is t head u e) (items_property h) (items_no_caret h)
+  class_source_of {f} (class_items {a} {t} {u} {opening} {w} e h) σ below =
+      with_class_start f.unicode σ a t opening u w (opening_is t opening u e) (items_property h) (items_no_caret h)
       (items_source_of h σ below)
 
   items_source_of : {f : Flags} {b a : Bool} {t w v : Text} → ClassItems f b t (written w a v) → (σ : Bool) →

@@ -12,7 +12,7 @@ use Rattle.fancy_lex.specs.Escape.{escape, escape_at, number_escape, property, l
 use Rattle.fancy_lex.specs.EscapeReference.{group_number}
 use Rattle.fancy_lex.specs.Escaped as leaves
 use Rattle.fancy_lex.specs.Escaped.{Escape, hex_class, negated_hex_class}
-use Rattle.fancy_lex.specs.FaultTable.{property_not_closed}
+use Rattle.fancy_lex.specs.ErrorTable.{property_not_closed}
 use Rattle.fancy_lex.specs.Hex.{hex, value, leaf_of_value, is_scalar}
 use Rattle.fancy_lex.specs.LayoutSteps.{layout}
 use Rattle.fancy_lex.specs.Property.{Property, PropertyName, braced, read_property, name_at, property_text}
@@ -41,38 +41,38 @@ char_no_caret c h v = from (char_source c) (char_source_is c)
   where
     from : (s : Text) → CharSource c s → strip (code "^") (s ++ v) ≡ None
     from _ itself = rw h refl
-    from _ (by_escape {behind} hidden reads) = refl
+    from _ (by_escape {after} hidden reads) = refl
 
 pub char_no_close : (c : ℕ) → (c == code "]") ≡ false → (v : Text) → strip (code "]") (char_source c ++ v) ≡ None
 char_no_close c h v = from (char_source c) (char_source_is c)
   where
     from : (s : Text) → CharSource c s → strip (code "]") (s ++ v) ≡ None
     from _ itself = rw h refl
-    from _ (by_escape {behind} hidden reads) = refl
+    from _ (by_escape {after} hidden reads) = refl
 
 -- an item before which no `&&` is written
 without_joint : (u b σ : Bool) (x : Text) → InClass u b σ false x → InClass u b σ false (joint (b && false) ++ x)
 without_joint u true σ x i = i
 without_joint u false σ x i = i
 
-marked_kept : (c : ℕ) → needs_backslash_in_class c ≡ true → c ∈ "dDsSwW\\.+*?()|[]{}^$#&-~" ≡ true
-marked_kept c h = grind (arith, nat_tests)
+escaped_kept : (c : ℕ) → needs_backslash_in_class c ≡ true → c ∈ "dDsSwW\\.+*?()|[]{}^$#&-~" ≡ true
+escaped_kept c h = grind (arith, nat_tests)
 
-marked_other : (c : ℕ) → needs_backslash_in_class c ≡ true → (c == code "p") ≡ false
-marked_other c h = grind (arith, nat_tests)
+escaped_other : (c : ℕ) → needs_backslash_in_class c ≡ true → (c == code "p") ≡ false
+escaped_other c h = grind (arith, nat_tests)
 
-unmarked_plain : (c : ℕ) → needs_backslash_in_class c ≡ false → c ∈ "\\[]" ≡ false
-unmarked_plain c h = grind (arith, nat_tests)
+unescaped_plain : (c : ℕ) → needs_backslash_in_class c ≡ false → c ∈ "\\[]" ≡ false
+unescaped_plain c h = grind (arith, nat_tests)
 
 pub literal_in : (u b σ : Bool) (c : ℕ) (casei : Bool) → IsBelow σ b →
     InClass u b σ false (escape_in_class b (leaves.literal c casei))
 literal_in u b σ c casei below =
     without_joint u b σ _
     (cond_both (needs_backslash_in_class c) _ _ (InClass u b σ false)
-    (λ h. kept_in u b σ false c below (marked_kept c h) (marked_other c h))
+    (λ h. kept_in u b σ false c below (escaped_kept c h) (escaped_other c h))
     (λ h. let is_not = apart needs_backslash_in_class c h in
     in_by u b σ false (c ∷ []) (char_source c) below
-    (char_read u σ c (unmarked_plain c h) (is_not (code "&") refl))
+    (char_read u σ c (unescaped_plain c h) (is_not (code "&") refl))
     (front_char b c [] (is_not (code "\\") refl) (is_not (code "[") refl) (is_not (code "&") refl)
     (is_not (code "^") refl))
     (record {

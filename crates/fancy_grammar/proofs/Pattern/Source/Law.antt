@@ -17,7 +17,7 @@ use Rattle.fancy_lex.specs.Escape.{lone_escape, lone_anywhere}
 use Rattle.fancy_lex.specs.EscapeReference.{numbered_reference, back_reference, subroutine_call}
 use Rattle.fancy_lex.specs.Escaped as leaves
 use Rattle.fancy_lex.specs.Escaped.{Escape, hex_class, negated_hex_class}
-use Rattle.fancy_lex.specs.FaultTable.{property_not_closed}
+use Rattle.fancy_lex.specs.ErrorTable.{property_not_closed}
 use Rattle.fancy_lex.specs.Hex.{hex, value, leaf_of_value, is_scalar}
 use Rattle.fancy_lex.specs.LayoutSteps.{layout}
 use Rattle.fancy_lex.specs.Property.{Property, PropertyName, single, braced, read_property, name_at, property_text}
@@ -37,7 +37,7 @@ use Rattle.fancy_grammar.proofs.ReadBack.ChunkLemmas.{HasNoBrace, prop, open_pla
 use Rattle.fancy_grammar.proofs.ReadBack.ClearLemmas.{Each, no_more, also, each_among}
 use Rattle.fancy_grammar.proofs.Pattern.Source.Parts.{kept_read}
 use Rattle.fancy_grammar.proofs.Pattern.Source.Parts.{Reads, SetItems, bracket_read, negated_read, closed_items}
-use Rattle.fancy_grammar.proofs.Pattern.Source.Names.{IsRowless, named_reads, rowless_read, rowless_reads, named_behind}
+use Rattle.fancy_grammar.proofs.Pattern.Source.Names.{IsRowless, named_reads, rowless_read, rowless_reads, property_body}
 use Rattle.fancy_grammar.proofs.Pattern.Source.Names.{short_read, short_reads}
 use Rattle.fancy_grammar.proofs.Pattern.Source.Rows.{IsFree, any, alpha_digit, blanks, controls, tab_blank, posix}
 use Rattle.fancy_grammar.proofs.Pattern.Source.Rows.{word_set}
@@ -202,7 +202,7 @@ set_has_source f u true casei items s same i h k =
 rowless_has_source : (f : Flags) (negated : Bool) (w : Text) (casei : Bool) → IsRowless w →
     HasSource f (property_written negated w) casei
 rowless_has_source f negated w casei h =
-    escape_source (property_written negated w) (no_hex negated) f (named_behind negated (strip caret w) w) casei
+    escape_source (property_written negated w) (no_hex negated) f (property_body negated (strip caret w) w) casei
     (alone f.unicode false _ _ (rowless_read f.unicode false negated w h))
     (λ g like v. rowless_reads g false negated w v h)
   where
@@ -278,10 +278,10 @@ module _ (f : Flags) (negated : Bool) (l : Text) (casei : Bool) (free : HasNoBra
       table_has_source f true false (codes "print") _ casei same (free_of (codes "print") refl) refl refl
       (turned_print false)
 
-  abbrev Known : Bool → Type 0
-  Known u = HasSource f (form_text false negated (form u (look_up l) l)) casei
+  abbrev HasFormSource : Bool → Type 0
+  HasFormSource u = HasSource f (form_text false negated (form u (look_up l) l)) casei
 
-  form_has_source : (u : Bool) → f.unicode ≡ u → Known u
+  form_has_source : (u : Bool) → f.unicode ≡ u → HasFormSource u
   form_has_source true same =
       cond_both (bytes_eq l (codes "alnum")) _ _ (λ k. HasSource f (form_text false negated (form true k l)) casei)
       (λ _. set_has_source f true negated casei _ _ same (alpha_digit false) refl refl)
@@ -340,102 +340,102 @@ property_has_source f u negated (braced w) casei same h =
 -- read under g, which has UNICODE exactly if f has it
 module _ (f g : Flags) (same : f.unicode ≡ g.unicode) where
   -- a Delegate has a source
-  abbrev Told : Escape → Type 0
-  Told (leaves.delegate s casei) = HasSource f s casei
-  Told _ = Unit {0}
+  abbrev Sourced : Escape → Type 0
+  Sourced (leaves.delegate s casei) = HasSource f s casei
+  Sourced _ = Unit {0}
 
-  abbrev ToldOf : Reading Escape → Type 0
-  ToldOf (gives e t) = Told e
-  ToldOf (fails x) = Unit {0}
+  abbrev SourcedRead : Reading Escape → Type 0
+  SourcedRead (gives e t) = Sourced e
+  SourcedRead (fails x) = Unit {0}
 
-  told_then : {A : Type 0} (o : Reading A) (k : A → Text → Reading Escape) → ((a : A) (t : Text) → ToldOf (k a t)) →
-      ToldOf (o >=> k)
-  told_then (gives a t) k h = h a t
-  told_then (fails e) k h = tt
+  sourced_then : {A : Type 0} (o : Reading A) (k : A → Text → Reading Escape) → ((a : A) (t : Text) → SourcedRead (k a t)) →
+      SourcedRead (o >=> k)
+  sourced_then (gives a t) k h = h a t
+  sourced_then (fails e) k h = tt
 
-  reference_told : (o : Reading Reference) → ToldOf (backref_leaf g o)
-  reference_told o = told_then o _ (λ r u. tt)
+  reference_sourced : (o : Reading Reference) → SourcedRead (backref_leaf g o)
+  reference_sourced o = sourced_then o _ (λ r u. tt)
 
-  number_told : (p : ℕ) (t : Text) → ToldOf (number_escape g false p t)
+  number_sourced : (p : ℕ) (t : Text) → SourcedRead (number_escape g false p t)
   unfolding number_escape
-  number_told p t = reference_told (numbered_reference t)
+  number_sourced p t = reference_sourced (numbered_reference t)
 
-  call_told : (p c : ℕ) (t : Text) → ToldOf (call_escape p c t)
+  call_sourced : (p c : ℕ) (t : Text) → SourcedRead (call_escape p c t)
   unfolding call_escape
-  call_told p c [] = tt
-  call_told p c (d ∷ t) = told_then (subroutine_call (d ∷ t)) _ (λ r u. tt)
+  call_sourced p c [] = tt
+  call_sourced p c (d ∷ t) = sourced_then (subroutine_call (d ∷ t)) _ (λ r u. tt)
 
-  coded_told : (width h v : ℕ) (t : Text) → ToldOf (leaf_of_value g width h v t)
+  coded_sourced : (width h v : ℕ) (t : Text) → SourcedRead (leaf_of_value g width h v t)
   unfolding leaf_of_value
-  coded_told width h v t =
-      cond_both (width == 2 && not g.unicode && nat_le 0x80 v && nat_le v 0xFF) _ _ ToldOf (λ _. tt)
-      (λ _. cond_both (is_scalar v) _ _ ToldOf (λ _. tt) (λ _. tt))
+  coded_sourced width h v t =
+      cond_both (width == 2 && not g.unicode && nat_le 0x80 v && nat_le v 0xFF) _ _ SourcedRead (λ _. tt)
+      (λ _. cond_both (is_scalar v) _ _ SourcedRead (λ _. tt) (λ _. tt))
 
-  hex_told : (width : ℕ) (t : Text) → ToldOf (hex g width t)
+  hex_sourced : (width : ℕ) (t : Text) → SourcedRead (hex g width t)
   unfolding hex
-  hex_told width t =
-      told_then (layout_reading (layout g.ignore_space t)) _
-      (λ _ v. told_then (value g.ignore_space (reach_of v) width v) _ (λ a r. coded_told width (reach_of v) a r))
+  hex_sourced width t =
+      sourced_then (layout_reading (layout g.ignore_space t)) _
+      (λ _ v. sourced_then (value g.ignore_space (reach_of v) width v) _ (λ a r. coded_sourced width (reach_of v) a r))
 
-  property_told : (p c : ℕ) (t : Text) → ToldOf (property g false p c t)
+  property_sourced : (p c : ℕ) (t : Text) → SourcedRead (property g false p c t)
   unfolding property read_property
-  property_told p c [] = tt
-  property_told p c (d ∷ t) = from (name_at (d ∷ t)) (name_free (d ∷ t))
+  property_sourced p c [] = tt
+  property_sourced p c (d ∷ t) = from (name_at (d ∷ t)) (name_free (d ∷ t))
     where
       from : (o : Option (PropertyName × Text)) → IsNameFree o →
-          ToldOf (choose (option_map {T = PropertyName × Text} {U = Property × Text} (λ q. (prop (c ∈ "P") q.0, q.1)) o)
+          SourcedRead (choose (option_map {T = PropertyName × Text} {U = Property × Text} (λ q. (prop (c ∈ "P") q.0, q.1)) o)
           (λ q. gives (leaves.delegate (property_text g.unicode false q.0) g.casei) q.1)
           (fails (property_not_closed p)))
       from None h = tt
       from (Some q) h = property_has_source f g.unicode (c ∈ "P") q.0 g.casei same h
 
-  boundary_told : (p : ℕ) (negated : Bool) (t : Text) → ToldOf (boundary_steps.boundary g.ignore_space p negated t)
+  boundary_sourced : (p : ℕ) (negated : Bool) (t : Text) → SourcedRead (boundary_steps.boundary g.ignore_space p negated t)
   unfolding boundary_steps.boundary boundary_steps.named_boundary
-  boundary_told p negated t =
-      told_then (layout_reading (layout g.ignore_space t)) _
-      (λ _ u. choose_both ToldOf (strip open_brace u) _ _
-      (λ v _. told_then (layout_reading (layout g.ignore_space v)) _
-      (λ _ w. cond_both (boundaries.at_count w) _ _ ToldOf (λ _. tt) (λ _. braces v))) tt)
+  boundary_sourced p negated t =
+      sourced_then (layout_reading (layout g.ignore_space t)) _
+      (λ _ u. choose_both SourcedRead (strip open_brace u) _ _
+      (λ v _. sourced_then (layout_reading (layout g.ignore_space v)) _
+      (λ _ w. cond_both (boundaries.at_count w) _ _ SourcedRead (λ _. tt) (λ _. braces v))) tt)
     where
-      braces : (v : Text) → ToldOf (boundary_steps.named_boundary g.ignore_space p negated v)
+      braces : (v : Text) → SourcedRead (boundary_steps.named_boundary g.ignore_space p negated v)
       braces v =
-          told_then (boundary_steps.name g.ignore_space p _ v) _
-          (λ w u. choose_both ToldOf (boundaries.boundary_of_name negated w) _ _ (λ a _. tt) tt)
+          sourced_then (boundary_steps.name g.ignore_space p _ v) _
+          (λ w u. choose_both SourcedRead (boundaries.boundary_of_name negated w) _ _ (λ a _. tt) tt)
 
-  outside_told : (p c : ℕ) (t : Text) → ToldOf (outside g p c t)
+  outside_sourced : (p c : ℕ) (t : Text) → SourcedRead (outside g p c t)
   unfolding outside
-  outside_told p c t =
-      cond_both (c ∈ "k") _ _ ToldOf (λ _. reference_told (back_reference t)) (λ _.
-      cond_both (c ∈ "g") _ _ ToldOf (λ _. call_told p c t) (λ _.
-      cond_both (c ∈ "bB") _ _ ToldOf (λ _. boundary_told p _ t) (λ _. tt)))
+  outside_sourced p c t =
+      cond_both (c ∈ "k") _ _ SourcedRead (λ _. reference_sourced (back_reference t)) (λ _.
+      cond_both (c ∈ "g") _ _ SourcedRead (λ _. call_sourced p c t) (λ _.
+      cond_both (c ∈ "bB") _ _ SourcedRead (λ _. boundary_sourced p _ t) (λ _. tt)))
 
-  lone_told : (c : ℕ) (e : Escape) → lone_escape g false c ≡ Some e → Told e
-  lone_told c =
-      of_lone Told g false c (λ _. tt)
+  lone_sourced : (c : ℕ) (e : Escape) → lone_escape g false c ≡ Some e → Sourced e
+  lone_sourced c =
+      of_lone Sourced g false c (λ _. tt)
       anywhere (search rules)
     where
-      anywhere : AtRows Told c (lone_anywhere g c)
+      anywhere : AtRows Sourced c (lone_anywhere g c)
       anywhere = (
         λ h. letters_have_source f c g.casei h,
         (λ _. hex_has_source f false, (λ _. negated_hex_has_source f false, (search rules))),
       )
 
-  escape_told : (t : Text) → ToldOf (escape g false t)
+  escape_sourced : (t : Text) → SourcedRead (escape g false t)
   unfolding escape_at
-  escape_told [] = tt
-  escape_told (c ∷ t) =
+  escape_sourced [] = tt
+  escape_sourced (c ∷ t) =
       let p = reach_of (c ∷ t) + 1 in
-      cond_both (is_ascii_digit c) _ _ ToldOf (λ _. number_told p (c ∷ t)) (λ _.
-      cond_both (c ∈ "x") _ _ ToldOf (λ _. hex_told 2 t) (λ _.
-      cond_both (c ∈ "u") _ _ ToldOf (λ _. hex_told 4 t) (λ _.
-      cond_both (c ∈ "U") _ _ ToldOf (λ _. hex_told 8 t) (λ _.
-      cond_both (c ∈ "pP") _ _ ToldOf (λ _. property_told p c t) (λ _.
-      choose_both ToldOf (lone_escape g false c) _ _ (λ e q. lone_told c e q) (outside_told p c t))))))
+      cond_both (is_ascii_digit c) _ _ SourcedRead (λ _. number_sourced p (c ∷ t)) (λ _.
+      cond_both (c ∈ "x") _ _ SourcedRead (λ _. hex_sourced 2 t) (λ _.
+      cond_both (c ∈ "u") _ _ SourcedRead (λ _. hex_sourced 4 t) (λ _.
+      cond_both (c ∈ "U") _ _ SourcedRead (λ _. hex_sourced 8 t) (λ _.
+      cond_both (c ∈ "pP") _ _ SourcedRead (λ _. property_sourced p c t) (λ _.
+      choose_both SourcedRead (lone_escape g false c) _ _ (λ e q. lone_sourced c e q) (outside_sourced p c t))))))
 
 -- what an escape outside a class gives
 pub escape_has_source : (f g : Flags) (t v s : Text) (casei : Bool) → f.unicode ≡ g.unicode →
     escape g false t ≡ gives (leaves.delegate s casei) v → HasSource f s casei
-escape_has_source f g t v s casei same e = subst (ToldOf f g same) e (escape_told f g same t)
+escape_has_source f g t v s casei same e = subst (SourcedRead f g same) e (escape_sourced f g same t)
 
 -- ---- the law
 

@@ -70,14 +70,14 @@ rowless_text u inside negated w h =
     by_sign false = refl
 
 -- the source of a property after its backslash; the option is the rest of its name after a caret, if it begins with one
-abbrev pub named_behind : Bool → Option Text → Text → Text
-named_behind negated (Some t) w =
+abbrev pub property_body : Bool → Option Text → Text → Text
+property_body negated (Some t) w =
     negated_letter (not negated) ∷ code "{" ∷ ((code "^" ∷ code "^" ∷ t) ++ codes "}")
-named_behind negated None w = negated_letter negated ∷ code "{" ∷ (w ++ codes "}")
+property_body negated None w = negated_letter negated ∷ code "{" ∷ (w ++ codes "}")
 
 named_is : (negated : Bool) (o : Option Text) (w : Text) →
     choose o (λ t. letter (not negated) ++ (codes "{^^" ++ t)) (letter negated ++ (codes "{" ++ w)) ++ codes "}"
-    ≡ backslash ∷ named_behind negated o w
+    ≡ backslash ∷ property_body negated o w
 named_is true (Some t) w = refl
 named_is true None w = refl
 named_is false (Some t) w = refl
@@ -102,7 +102,7 @@ unturned negated (c ∷ w) e = at (c == caret) e
 
 -- the source is read as the property
 pub rowless_reads : (g : Flags) (inside negated : Bool) (w v : Text) → IsRowless w →
-    escape g inside (named_behind negated (strip caret w) w ++ v)
+    escape g inside (property_body negated (strip caret w) w ++ v)
     ≡ gives (leaves.delegate (property_written negated w) g.casei) v
 unfolding property_text
 rowless_reads g inside negated w v h = from (strip caret w) refl
@@ -119,7 +119,7 @@ rowless_reads g inside negated w v h = from (strip caret w) refl
     twice true = refl
     twice false = refl
 
-    from : (o : Option Text) → strip caret w ≡ o → escape g inside (named_behind negated o w ++ v)
+    from : (o : Option Text) → strip caret w ≡ o → escape g inside (property_body negated o w ++ v)
         ≡ gives (leaves.delegate (property_written negated w) g.casei) v
     from None e =
         regroup negated w ∙ (named_reads g g.unicode inside negated w v refl h.no_brace
@@ -136,7 +136,7 @@ rowless_reads g inside negated w v h = from (strip caret w) refl
 
 rowless_on : (u σ negated : Bool) (w z : Text) → IsRowless w →
     source_from u σ 0 (property_written negated w ++ z)
-    ≡ (backslash ∷ named_behind negated (strip caret w) w) ++ source_from u σ 0 z
+    ≡ (backslash ∷ property_body negated (strip caret w) w) ++ source_from u σ 0 z
 rowless_on u σ negated w z h =
     ap (source_from u σ 0) (property_before negated w z)
     ∙ (part_on u σ backslash (negated_letter negated ∷ code "{" ∷ (w ++ code "}" ∷ z)) (named_property negated w) z
@@ -180,9 +180,9 @@ no_set true w casei = refl
 no_set false w casei = refl
 
 pub rowless_read : (u σ negated : Bool) (w : Text) → IsRowless w →
-    Reads u σ σ (property_written negated w) (backslash ∷ named_behind negated (strip caret w) w)
+    Reads u σ σ (property_written negated w) (backslash ∷ property_body negated (strip caret w) w)
 rowless_read u σ negated w h =
-    single_read u σ (property_written negated w) (named_behind negated (strip caret w) w)
+    single_read u σ (property_written negated w) (property_body negated (strip caret w) w)
     (λ z. rowless_on u σ negated w z h)
     (λ g like v. (
       leaves.delegate (property_written negated w) g.casei,

@@ -64,11 +64,11 @@ char_items g σ c v r w a h k = from (char_source c) (char_source_is c)
   where
     from : (s : Text) → CharSource c s → ClassItems g σ (s ++ v) (written (c ∷ w) a r)
     from _ itself = plain (ap not h) k
-    from _ (by_escape {behind} hidden reads) =
+    from _ (by_escape {after} hidden reads) =
         let (casei, q) = reads g in
-        let (marked, no_mark) = unseen_plain c hidden in
-        escape_item g σ σ (behind ++ v) v r w a (leaves.literal c casei) (c ∷ []) (q v)
-        (alone σ (leaves.literal c casei) refl ∙ cond-false _ _ _ marked) (or_false σ) k
+        let (unescaped, no_metacharacter) = unseen_plain c hidden in
+        escape_item g σ σ (after ++ v) v r w a (leaves.literal c casei) (c ∷ []) (q v)
+        (alone σ (leaves.literal c casei) refl ∙ cond-false _ _ _ unescaped) (or_false σ) k
 
 pub char_read : (u σ : Bool) (c : ℕ) → c ∈ "\\[]" ≡ false → (c == code "&") ≡ false →
     Reads u σ σ (c ∷ []) (char_source c)
@@ -106,7 +106,7 @@ pub escape_read : (u σ τ : Bool) (x d : Text) →
 escape_read u σ τ x d is reads = record {
   is = is;
   reads =
-      λ g like v r w a k. let (e, q, told, n) = reads g like v in escape_item g σ τ (d ++ v) v r w a e x q told n k;
+      λ g like v r w a k. let (e, q, text_is, n) = reads g like v in escape_item g σ τ (d ++ v) v r w a e x q text_is n k;
 }
 
 -- and is no negated set
@@ -116,7 +116,7 @@ pub single_read : (u σ : Bool) (x d : Text) →
     × (escape_text e ≡ x) × (is_negated e ≡ false)) → Reads u σ σ x (backslash ∷ d)
 single_read u σ x d is reads =
     escape_read u σ σ x d is
-    (λ g like v. let (e, q, told, n) = reads g like v in (e, q, alone σ e n ∙ told, same_after σ e n))
+    (λ g like v. let (e, q, text_is, n) = reads g like v in (e, q, alone σ e n ∙ text_is, same_after σ e n))
 
 escape_on : (u σ : Bool) (c : ℕ) (t : Text) → c ∈ "pPxt" ≡ false →
     source_from u σ 0 (backslash ∷ c ∷ t) ≡ backslash ∷ c ∷ source_from u σ 0 t

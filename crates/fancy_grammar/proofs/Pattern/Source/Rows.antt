@@ -173,14 +173,14 @@ module _ (t name : Text) (row : IsRow t name) where
         ap (λ q. escape g true (codes "p{" ++ q)) (append_assoc name (codes "}") v)
             ∙ (named_reads g true true false name v like row.free
             ∙ ap (λ s. gives (leaves.delegate s g.casei) v) row.text),
-        told σ,
+        text_is σ,
         after σ,
       ))
     where
-      told : (σ : Bool) →
+      text_is : (σ : Bool) →
           joint (σ && is_negated_set (codes "[^" ++ t)) ++ (codes "[^" ++ t) ≡ joint σ ++ (codes "[^" ++ t)
-      told true = ap (λ n. joint n ++ (codes "[^" ++ t)) row.negated
-      told false = refl
+      text_is true = ap (λ n. joint n ++ (codes "[^" ++ t)) row.negated
+      text_is false = refl
 
       after : (σ : Bool) → (σ || is_negated_set (codes "[^" ++ t)) ≡ true
       after true = refl

@@ -161,8 +161,8 @@ open_caret_on u σ t h =
 -- it is the character, or an escape for an invisible one
 pub data CharSource (c : ℕ) : Text → Type 0 where
   itself : CharSource c (c ∷ [])
-  by_escape : {behind : Text} → is_unseen c ≡ true → ((f : Flags) → (casei : Bool) × EscapesIn true f casei c behind) →
-      CharSource c (backslash ∷ behind)
+  by_escape : {after : Text} → is_unseen c ≡ true → ((f : Flags) → (casei : Bool) × EscapesIn true f casei c after) →
+      CharSource c (backslash ∷ after)
 
 pub char_source_is : (c : ℕ) → CharSource c (char_source c)
 char_source_is c =

@@ -4,7 +4,7 @@ use Rattle.std.proofs.lemmas.Str.{chars-nil}
 use Rattle.fancy_lex.specs.Text.{bytes}
 use Rattle.fancy_lex.proofs.TextLemmas.{bytes_chars}
 use Rattle.fancy_lex.proofs.ClassLemmas.{items_end, class_init, pred_lt, open_step, plain_step, close_step, last_step}
-use Rattle.fancy_lex.proofs.ClassLemmas.{escape_step, items_fault}
+use Rattle.fancy_lex.proofs.ClassLemmas.{escape_step, items_error}
 use Rattle.fancy_lex.proofs.class.read_class.Goals as goal
 
 pub loop-c-init : goal.loop-c-init
@@ -22,7 +22,7 @@ pub returns-in_err-escaped-clause-value : goal.returns-in_err-escaped-clause-val
 returns-in_err-escaped-clause-value c =
     let p = err_from_is_err_and c.from_residual-in_err-escaped.result c.from_residual-in_err-escaped.ensures.1 in
     let (k, m, same) = c.loop-c.invariant.same in
-    rw (p.1, p.2, same) (items_fault _ _ _ _ _ _ _ c.in-Some.ensures.value k _ (omega arith) c.if-c-eq92.true
+    rw (p.1, p.2, same) (items_error _ _ _ _ _ _ _ c.in-Some.ensures.value k _ (omega arith) c.if-c-eq92.true
     c.in_err-escaped.ensures.value)
 
 pub loop-c-preserved-then-c-eq92 : goal.loop-c-preserved-then-c-eq92

@@ -1,13 +1,13 @@
 use Rattle.std.proofs.Common.{length, chars}
 use denote.Text.{Utf8}
 use denote.Shadow.{shadow}
-use Rattle.fancy_parts.specs.Quote.{AreAsTheyStand}
+use Rattle.fancy_parts.specs.Quote.{AreUnquoted}
 use Rattle.fancy_parts.proofs.quote.after_run.Given as goal
 
 abbrev pub invariant-loop-c : goal.invariant-loop-c
 invariant-loop-c l = record {
   text : shadow (Utf8 l.rest);
-  run : AreAsTheyStand (chars l.text) (chars l.rest);
+  run : AreUnquoted (chars l.text) (chars l.rest);
 }
 
 abbrev pub decreases-loop-c : goal.decreases-loop-c

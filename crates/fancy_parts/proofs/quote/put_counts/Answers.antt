@@ -1,6 +1,6 @@
 use Rattle.std.proofs.Common.{codes, sym, ◌∙◌}
 use Rattle.fancy_parts.specs.Quote.{range}
-use Rattle.fancy_parts.proofs.RoomLemmas.{written_three}
+use Rattle.fancy_parts.proofs.CapacityLemmas.{written_three}
 use Rattle.fancy_parts.proofs.QuoteLemmas.{counts_braced}
 use Rattle.fancy_parts.proofs.quote.put_counts.Goals as goal
 
@@ -9,4 +9,4 @@ returns-in-None c =
     written_three c.args.buf.now c.put-in-None.new.buf c.put_range.new.buf c.put-in-None-2.new.buf (codes "{")
     (range c.args.lo c.args.hi) (codes "}") _
     c.put-in-None.ensures c.put_range.ensures c.put-in-None-2.ensures
-    (sym (counts_braced c.args.lo c.args.hi (c.mark.ensures ∙ c.in-None.is)))
+    (sym (counts_braced c.args.lo c.args.hi (c.operator.ensures ∙ c.in-None.is)))

@@ -1,13 +1,13 @@
 use Rattle.std.proofs.Common.{subst, rules, sym}
-use Rattle.fancy_parts.specs.Room.{HasRoom}
+use Rattle.fancy_parts.specs.Capacity.{HasCapacity}
 use Rattle.fancy_parts.proofs.QuoteLemmas.{one_quoted}
-use Rattle.fancy_parts.proofs.RoomLemmas.{written_as}
+use Rattle.fancy_parts.proofs.CapacityLemmas.{written_as}
 use Rattle.fancy_parts.proofs.quote.put_quotes.Goals as goal
 
 pub put_quote-requires : goal.put_quote-requires
 put_quote-requires c =
     let one = one_quoted c.args.text.now c.from.result c.utf8.text (search rules) (search rules) (search rules) in
-    subst (HasRoom c.args.buf.now) one c.requires
+    subst (HasCapacity c.args.buf.now) one c.requires
 
 pub returns-in-len1 : goal.returns-in-len1
 returns-in-len1 c =

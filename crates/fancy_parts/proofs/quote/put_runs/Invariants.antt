@@ -2,7 +2,7 @@ use Rattle.std.proofs.Common.{length, chars}
 use denote.Text.{Utf8}
 use denote.Shadow.{shadow}
 use Rattle.fancy_parts.specs.Quote.{quotes}
-use Rattle.fancy_parts.proofs.RoomLemmas.{Writing}
+use Rattle.fancy_parts.proofs.CapacityLemmas.{Writing}
 use Rattle.fancy_parts.proofs.quote.put_runs.Given as goal
 
 abbrev pub invariant-loop-c : goal.invariant-loop-c

@@ -1,9 +1,9 @@
 use Rattle.std.proofs.Common.{drop}
 use Rattle.std.specs.List.{flat_map}
 use Rattle.fancy_lex.specs.Class.{byte_text}
-use Rattle.fancy_pattern.proofs.SinkLemmas.{Adding}
+use Rattle.fancy_pattern.proofs.OutputLemmas.{Adding}
 use Rattle.fancy_pattern.proofs.letters.put_bytes.Given as goal
 
 abbrev pub invariant-loop-byte : goal.invariant-loop-byte
-invariant-loop-byte g l = Adding g.S.Sink.holds l.initial.out l.out (flat_map byte_text (drop l.byte-index l.bytes))
+invariant-loop-byte g l = Adding g.S.TextOutput.holds l.initial.out l.out (flat_map byte_text (drop l.byte-index l.bytes))
     (flat_map byte_text l.bytes)

@@ -5,9 +5,9 @@ use Rattle.fancy_grammar.proofs.NeedsLemmas.{first_joins, both_joins}
 use Rattle.fancy_grammar.specs.PatternNeeds.{first, both, needs}
 use Rattle.fancy_grammar.specs.Tree.{levels}
 use Rattle.fancy_syntax.specs.View.{view}
-use Rattle.fancy_syntax.proofs.Descents.{within_start, within_head, within_next, levels_of_given}
+use Rattle.fancy_syntax.proofs.Descents.{within_start, within_first, within_next, levels_of_given}
 use Rattle.fancy_pattern.proofs.NeedsWalk.{joining_starts, joining_next, joining_ends, listing_starts, listing_next}
-use Rattle.fancy_pattern.proofs.NeedsWalk.{table_stands, leaf_joins, leaf_table}
+use Rattle.fancy_pattern.proofs.NeedsWalk.{table_complete, leaf_joins, leaf_table}
 use Rattle.fancy_pattern.proofs.needs.+push_needs.Goals as goal
 
 pub push_needs-requires : goal.push_needs-requires
@@ -15,7 +15,7 @@ push_needs-requires t c =
     let less : levels (view c.in-Some.child.now) < levels (view c.args.tree.now) =
     levels_of_given c.args.tree.now c.in-Some.child.now _ c.children_iter-children.ensures.values
     c.children_iter-children.ensures.trees
-    (within_head c.args.tree.now c.in-Some.child.now _ _ c.loop-child.invariant.within c.in-Some.ensures.steps) in
+    (within_first c.args.tree.now c.in-Some.child.now _ _ c.loop-child.invariant.within c.in-Some.ensures.steps) in
     (omega (arith, less), tt)
 
 pub loop-child-init : goal.loop-child-init
@@ -75,4 +75,4 @@ returns-in-Some-get_mut-clause-list t c =
     joining_ends first first_joins _ _ _ _ c.loop-child.invariant.joining none in
     let long : c.len-at.result ≡ length c.args.list.now.items = omega (arith, c.args.list.now.ok.0) in
     ap (λ k. set c.loop-child.list.items k c.loop-child.needs.first) long
-    ∙ table_stands _ _ c.args.list.now.items _ _ _ c.loop-child.invariant.listing none whole
+    ∙ table_complete _ _ c.args.list.now.items _ _ _ c.loop-child.invariant.listing none whole

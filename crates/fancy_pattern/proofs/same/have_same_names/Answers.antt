@@ -1,5 +1,5 @@
 use Rattle.std.proofs.lemmas.Bool.Decides.{Decides-at}
-use Rattle.fancy_pattern.proofs.MarksLemmas.{names_Decides}
+use Rattle.fancy_pattern.proofs.InfoLemmas.{names_Decides}
 use Rattle.fancy_pattern.proofs.same.have_same_names.Goals as goal
 
 pub returns : goal.returns

@@ -2,20 +2,20 @@ use Rattle.std.proofs.Common.{true, false, [], sym, ◌∙◌}
 use Rattle.fancy_syntax.specs.View.{view}
 use Rattle.fancy_pattern.specs.Wheres.{alone_text}
 use Rattle.fancy_pattern.proofs.NodeLemmas.{atom_writes}
-use Rattle.fancy_pattern.proofs.WritesLemmas.{on_then, parens_writes, placed_writes, on_placed}
+use Rattle.fancy_pattern.proofs.WritesLemmas.{on_then, parens_writes, positioned_writes, on_positioned}
 use Rattle.fancy_pattern.proofs.write.put_leaf_at.Goals as goal
 
 pub returns-then-needs_group : goal.returns-then-needs_group
-returns-then-needs_group g c = λ m known. on_then _ _ _ c.close.ensures
-    (λ closed. atom_writes g.S.Sink.holds _ _ _ _ (view c.args.leaf.now) c.args.precedence (λ o. [])
+returns-then-needs_group g c = λ m names. on_then _ _ _ c.close.ensures
+    (λ closed. atom_writes g.S.TextOutput.holds _ _ _ _ (view c.args.leaf.now) c.args.precedence (λ o. [])
     (alone_text m (view c.args.leaf.now)) (λ h. h) true
     (sym c.if-needs_group.true ∙ c.needs_group.ensures)
-    (parens_writes g.S.Sink.holds _ _ _ _ _ _ _ _ _ _ _ _ c.in_ok-open.ensures.0 c.in_ok-open.ensures.1
-    (placed_writes g.S.Sink.holds _ _ _ _ (λ h l is. c.in_ok-put_leaf.ensures m h l known is))
+    (parens_writes g.S.TextOutput.holds _ _ _ _ _ _ _ _ _ _ _ _ c.in_ok-open.ensures.0 c.in_ok-open.ensures.1
+    (positioned_writes g.S.TextOutput.holds _ _ _ _ (λ h l is. c.in_ok-put_leaf.ensures m h l names is))
     closed.0 closed.1))
 
 pub returns : goal.returns
-returns g c = λ m known. on_then _ _ _
-    (on_placed g.S.Sink.holds _ _ _ _ _ (λ h l is. c.put_leaf-2.ensures m h l known is))
-    (λ w. atom_writes g.S.Sink.holds _ _ _ _ (view c.args.leaf.now) c.args.precedence _ _ _ false
+returns g c = λ m names. on_then _ _ _
+    (on_positioned g.S.TextOutput.holds _ _ _ _ _ (λ h l is. c.put_leaf-2.ensures m h l names is))
+    (λ w. atom_writes g.S.TextOutput.holds _ _ _ _ (view c.args.leaf.now) c.args.precedence _ _ _ false
     (sym c.if-needs_group.false ∙ c.needs_group.ensures) w)

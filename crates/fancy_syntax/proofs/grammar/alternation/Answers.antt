@@ -11,8 +11,8 @@ loop-parser-init g c =
     record {
       reading = λ none. (none, r.reading none, λ n. n);
       depth = r.depth;
-      room = r.room;
-      within = rw r.here (omega arith);
+      reserved = r.reserved;
+      within = rw r.current (omega arith);
     }
 
 pub returns-in_err-step-clause-value : goal.returns-in_err-step-clause-value
@@ -22,11 +22,11 @@ returns-in_err-step-clause-value g c =
     let (m, r, k) = c.in_ok-add_leaf.ensures.reading _ _ l h in
     rw (e.1, e.2) (c.in_err-step.ensures.reading _ _ m r)
 
-pub step-requires-clause-room : goal.step-requires-clause-room
-step-requires-clause-room g c =
+pub step-requires-clause-reserved : goal.step-requires-clause-reserved
+step-requires-clause-reserved g c =
     let (l, h, n) = c.loop-parser.invariant.reading (started 0) in
     let (m, r, k) = c.in_ok-add_leaf.ensures.reading _ _ l h in
-    (state c.args.start, started 0, m, r, rw c.in_ok-add_leaf.ensures.stack c.loop-parser.invariant.room)
+    (state c.args.start, started 0, m, r, rw c.in_ok-add_leaf.ensures.stack c.loop-parser.invariant.reserved)
 
 pub bar-requires-clause-pieces : goal.bar-requires-clause-pieces
 bar-requires-clause-pieces g c =
@@ -83,7 +83,7 @@ loop-parser-preserved-then-branch g c =
           let (l, h, n) = c.loop-parser.invariant.reading none in
           let (m, r, k) = c.in_ok-add_leaf.ensures.reading _ _ l h in (m, r, λ x. k (n x));
       depth = rw c.in_ok-add_leaf.ensures.stack c.loop-parser.invariant.depth;
-      room = rw c.in_ok-add_leaf.ensures.stack c.loop-parser.invariant.room;
+      reserved = rw c.in_ok-add_leaf.ensures.stack c.loop-parser.invariant.reserved;
       within = omega (arith, c.loop-parser.invariant.within, c.in_ok-add_leaf.ensures.within);
     }
 
@@ -95,7 +95,7 @@ loop-parser-preserved-in-Continue-branch-3 g c =
           let (m, r, k) = c.in_ok-add_leaf.ensures.reading _ _ l h in
           let (j, a, i) = c.in_ok-step.ensures.reading _ _ m r in (j, a, λ x. i (k (n x)));
       depth = c.in_ok-step.ensures.depth;
-      room = rw (c.in_ok-step.ensures.capacity, c.in_ok-add_leaf.ensures.stack) c.loop-parser.invariant.room;
+      reserved = rw (c.in_ok-step.ensures.capacity, c.in_ok-add_leaf.ensures.stack) c.loop-parser.invariant.reserved;
       within = omega (
         arith,
         c.loop-parser.invariant.within,
@@ -112,7 +112,7 @@ loop-parser-preserved-in-Continue-branch-4 g c =
           let (m, r, k) = c.in_ok-add_leaf.ensures.reading _ _ l h in
           let (j, a, i) = c.in_ok-bar.ensures.reading _ _ m r in (j, a, λ x. i (k (n x)));
       depth = rw (c.in_ok-bar.ensures.stack, c.in_ok-add_leaf.ensures.stack) c.loop-parser.invariant.depth;
-      room = rw (c.in_ok-bar.ensures.stack, c.in_ok-add_leaf.ensures.stack) c.loop-parser.invariant.room;
+      reserved = rw (c.in_ok-bar.ensures.stack, c.in_ok-add_leaf.ensures.stack) c.loop-parser.invariant.reserved;
       within = rw c.in_ok-bar.ensures.rest (omega (
         arith,
         c.loop-parser.invariant.within,
@@ -129,7 +129,7 @@ loop-parser-preserved g c =
           let (m, r, k) = c.in_ok-add_leaf.ensures.reading _ _ l h in
           let (j, a, i) = rw c.in_default-2.is at (c.in_ok-tree.ensures.reading _ _ m r) in (j, a, λ x. i (k (n x)));
       depth = c.in_ok-tree.ensures.depth;
-      room = rw (c.in_ok-tree.ensures.capacity, c.in_ok-add_leaf.ensures.stack) c.loop-parser.invariant.room;
+      reserved = rw (c.in_ok-tree.ensures.capacity, c.in_ok-add_leaf.ensures.stack) c.loop-parser.invariant.reserved;
       within = omega (
         arith,
         c.loop-parser.invariant.within,

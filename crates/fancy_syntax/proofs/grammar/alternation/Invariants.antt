@@ -3,17 +3,17 @@ use Rattle.fancy_grammar.specs.Depth.{max_depth}
 use Rattle.fancy_syntax.specs.Log.{Log}
 use Rattle.fancy_syntax.specs.Machine.{HasReadTo}
 use Rattle.fancy_syntax.specs.Parsed.{state}
-use Rattle.fancy_syntax.specs.Room.{HasRoom}
+use Rattle.fancy_syntax.specs.StackCapacity.{HasStackCapacity}
 use Rattle.fancy_syntax.proofs.grammar.alternation.Given as goal
 
 abbrev pub invariant-loop-parser : goal.invariant-loop-parser
 invariant-loop-parser g l = record {
   reading : (none : Log) → HasReadTo (state l.fn.start) none l.parser
-      (λ m. g.S.Spanning.notes l.fn.spans none → g.S.Spanning.notes l.spans m);
+      (λ m. g.S.Spanning.records l.fn.spans none → g.S.Spanning.records l.spans m);
   depth : length l.parser.stack.items < max_depth;
-  room : HasRoom l.parser (chars l.fn.start.rest.now);
-  within : length l.parser.here.rest.now ≤ length l.fn.start.rest.now;
+  reserved : HasStackCapacity l.parser (chars l.fn.start.rest.now);
+  within : length l.parser.current.rest.now ≤ length l.fn.start.rest.now;
 }
 
 abbrev pub decreases-loop-parser : goal.decreases-loop-parser
-decreases-loop-parser g l = length l.parser.here.rest.now
+decreases-loop-parser g l = length l.parser.current.rest.now

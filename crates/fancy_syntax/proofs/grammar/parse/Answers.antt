@@ -4,13 +4,13 @@ use Rattle.std.specs.Str.{chars}
 use Rattle.fancy_grammar.specs.Grammar.{Alternation, Whole, whole, start, ended_at}
 use Rattle.fancy_grammar.specs.State.{done}
 use Rattle.fancy_syntax.specs.Log.{Log}
-use Rattle.fancy_syntax.specs.NotedWhole.{ShowsWhole}
-use Rattle.fancy_syntax.specs.Noting.{AlternationTo}
+use Rattle.fancy_syntax.specs.RecordedWhole.{ShowsWhole}
+use Rattle.fancy_syntax.specs.Recording.{AlternationTo}
 use Rattle.fancy_syntax.specs.Parsed.{state}
 use Rattle.fancy_syntax.specs.View.{view}
-use Rattle.fancy_grammar.proofs.FaultLemmas.{says_end}
+use Rattle.fancy_grammar.proofs.ErrorLemmas.{says_end}
 use Rattle.fancy_grammar.proofs.OutcomeLemmas.{IsErrorAmong-map, IsErrorAmong-is}
-use Rattle.fancy_syntax.proofs.NotingLaws.{whole_shown}
+use Rattle.fancy_syntax.proofs.RecordingLaws.{whole_shown}
 use Rattle.fancy_syntax.proofs.grammar.parse.Goals as goal
 
 pub returns-in_err-tree-clause-reads : goal.returns-in_err-tree-clause-reads
@@ -22,32 +22,32 @@ returns-in_err-tree-clause-reads g c =
 
 pub returns-in-None-clause-reads : goal.returns-in-None-clause-reads
 returns-in-None-clause-reads g c =
-    let here = state c.in_ok-tree.here in (
-      here,
+    let current = state c.in_ok-tree.current in (
+      current,
       subst (Whole c.args.flags (chars c.args.text.now))
-          (ap (ended_at (view c.in_ok-tree.tree) here) c.in-None.ensures.value) (whole c.in_ok-tree.ensures.value),
+          (ap (ended_at (view c.in_ok-tree.tree) current) c.in-None.ensures.value) (whole c.in_ok-tree.ensures.value),
     )
 
 pub returns-in-None-clause-spans : goal.returns-in-None-clause-spans
 returns-in-None-clause-spans g c l is n =
-    let here = state c.in_ok-tree.here in
+    let current = state c.in_ok-tree.current in
     let (m, k, a) = c.in_ok-tree.ensures.spans l n in
     let from = subst (λ (l : Log). AlternationTo 0 (start c.args.flags (chars c.args.text.now))
-    (done (view c.in_ok-tree.tree) here) l m) is a in (
+    (done (view c.in_ok-tree.tree) current) l m) is a in (
       m,
       k,
       (
-        here,
+        current,
         subst (λ o. ShowsWhole c.args.flags (chars c.args.text.now) o m)
-            (ap (ended_at (view c.in_ok-tree.tree) here) c.in-None.ensures.value) (whole_shown from),
+            (ap (ended_at (view c.in_ok-tree.tree) current) c.in-None.ensures.value) (whole_shown from),
       ),
     )
 
 pub returns-in-Some-clause-reads : goal.returns-in-Some-clause-reads
 returns-in-Some-clause-reads g c =
     let f = says_end c.general.result c.reach.result c.general.ensures in
-    let here = state c.in_ok-tree.here in
+    let current = state c.in_ok-tree.current in
     IsErrorAmong-is (Whole c.args.flags (chars c.args.text.now)) c.general.result _ _
     (rw c.reach.ensures at f)
     (subst (Whole c.args.flags (chars c.args.text.now))
-    (ap (ended_at (view c.in_ok-tree.tree) here) c.in-Some.ensures.value) (whole c.in_ok-tree.ensures.value))
+    (ap (ended_at (view c.in_ok-tree.tree) current) c.in-Some.ensures.value) (whole c.in_ok-tree.ensures.value))

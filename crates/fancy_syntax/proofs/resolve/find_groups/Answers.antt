@@ -3,7 +3,7 @@ use Rattle.std.specs.List.{list_any}
 use Rattle.fancy_parts.specs.Groups.{groups_of}
 use Rattle.fancy_parts.specs.Ranks.{numbered_openings_in, is_named, named_groups}
 use Rattle.fancy_grammar.specs.Items.{Item, items, openings, openings_in}
-use Rattle.fancy_syntax.specs.Notes.{has_items}
+use Rattle.fancy_syntax.specs.Records.{has_items}
 use Rattle.fancy_syntax.specs.View.{view}
 use Rattle.fancy_grammar.proofs.FoundLaws.{start_total, start_names, any_named, some_counted, none_counted, not_asked}
 use Rattle.fancy_syntax.proofs.NoItems.{no_items}

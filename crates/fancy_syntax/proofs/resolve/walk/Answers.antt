@@ -1,7 +1,7 @@
 use Rattle.std.proofs.Common.{sym, ap, ◌∙◌}
 use Rattle.fancy_grammar.specs.Items.{items}
 use Rattle.fancy_grammar.specs.Walk.{Progress, resolved_by}
-use Rattle.fancy_syntax.specs.Notes.{known_of}
+use Rattle.fancy_syntax.specs.Records.{resolver_of}
 use Rattle.fancy_syntax.specs.View.{view}
 use Rattle.fancy_syntax.proofs.NoItems.{no_items, resolved_same}
 use Rattle.fancy_syntax.proofs.resolve.walk.Goals as goal
@@ -9,7 +9,7 @@ use Rattle.fancy_syntax.proofs.resolve.walk.Goals.{then-met+in-Ok, else-met}
 
 pub returns-clause-tree : goal.returns-clause-tree
 returns-clause-tree c =
-    let t = view c.args.tree.now in let k = known_of c.args.known.now in
+    let t = view c.args.tree.now in let k = resolver_of c.args.resolver.now in
     elim c.if-met.branch [
       | then-met+in-Ok w ↦
           let walked = rw w.in-Ok.is at w.rewrite.ensures in

@@ -2,13 +2,13 @@ use Rattle.std.proofs.Common.{chars, refl, sym, ap, ◌∙◌, subst}
 use Rattle.fancy_lex.specs.Text.{reach_of}
 use Rattle.fancy_grammar.specs.Spans.{AreSpansOf}
 use Rattle.fancy_syntax.specs.Log.{started}
-use Rattle.fancy_syntax.specs.LogViews.{answered_spans}
+use Rattle.fancy_syntax.specs.LogViews.{returned_spans}
 use Rattle.fancy_syntax.proofs.tree.read_with_spans.Goals as goal
 
 pub returns-clause-spans : goal.returns-clause-spans
 returns-clause-spans c =
     let text = chars c.args.re.now in
     let (m, n, a) =
-    c.in_ok-tree.ensures.spans (started (reach_of text)) refl (c.new-noted.ensures ∙ ap started c.reach.ensures) in
+    c.in_ok-tree.ensures.spans (started (reach_of text)) refl (c.new-recorded.ensures ∙ ap started c.reach.ensures) in
     subst (AreSpansOf c.args.flags text)
-    (sym (c.in_ok-spans.ensures ∙ ap (answered_spans text c.in_ok-tree.tree.numbered_groups_ignored) n)) a
+    (sym (c.in_ok-spans.ensures ∙ ap (returned_spans text c.in_ok-tree.tree.numbered_groups_ignored) n)) a

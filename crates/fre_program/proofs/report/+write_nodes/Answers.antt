@@ -2,7 +2,7 @@ use Rattle.std.proofs.Common.{rules, ◌<◌, ◌∙◌, ap, sym, arith}
 use Rattle.fancy_syntax.specs.Children.{remaining_children}
 use Rattle.fancy_syntax.specs.Tree.{levels}
 use Rattle.fancy_syntax.specs.View.{view, views}
-use Rattle.fancy_syntax.proofs.Descents.{sweep_start, sweep_head, sweep_next, levels_of_child}
+use Rattle.fancy_syntax.proofs.Descents.{sweep_start, sweep_first, sweep_next, levels_of_child}
 use Rattle.fre_program.proofs.report.+write_nodes.Goals as goal
 
 pub loop-child-init : goal.loop-child-init
@@ -12,7 +12,7 @@ loop-child-init g t c =
 
 pub write_nodes-requires : goal.write_nodes-requires
 write_nodes-requires g t c κs within =
-    let among = sweep_head _ c.args.tree.now c.in-Some.child.now _ _ c.loop-child.invariant c.in-Some.ensures.steps in
+    let among = sweep_first _ c.args.tree.now c.in-Some.child.now _ _ c.loop-child.invariant c.in-Some.ensures.steps in
     let less : levels (view c.in-Some.child.now) < levels (view c.args.tree.now) =
     levels_of_child c.args.tree.now c.in-Some.child.now
     (ap views (sym c.children_iter-child-items.ensures.values) ∙ c.children_iter-child-items.ensures.trees) among in

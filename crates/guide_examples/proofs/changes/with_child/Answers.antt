@@ -1,7 +1,7 @@
-use Rattle.guide_examples.proofs.FormLemmas.{marks_kept}
+use Rattle.guide_examples.proofs.FormLemmas.{info_kept}
 use Rattle.guide_examples.proofs.changes.with_child.Goals as goal
 
 pub returns : goal.returns
 returns c = record {
-  marks = marks_kept _ _ _ _ _ _ c.in_ok-tree.ensures.found c.in_ok-to_pattern.ensures.reads_back;
+  group_info = info_kept _ _ _ _ _ _ c.in_ok-tree.ensures.found c.in_ok-to_pattern.ensures.reads_back;
 }

@@ -2,7 +2,7 @@ use Rattle.std.proofs.Common.{rules, ◌<◌, ◌∙◌, ap, sym, arith, map}
 use Rattle.fancy_spans.specs.Spanned.{remaining_spanned, spanned_of}
 use Rattle.fancy_syntax.specs.Tree.{levels}
 use Rattle.fancy_syntax.specs.View.{view, views}
-use Rattle.fancy_syntax.proofs.Descents.{within_start, within_head, within_next, levels_of_child}
+use Rattle.fancy_syntax.proofs.Descents.{within_start, within_first, within_next, levels_of_child}
 use Rattle.patterns_text.proofs.drawing.+draw.Goals as goal
 
 pub loop-child-init : goal.loop-child-init
@@ -15,7 +15,7 @@ pub draw-requires : goal.draw-requires
 draw-requires g t c κs within =
     let e = (spanned_of c.args.node).expr in
     let child = (spanned_of c.in-Some.child).expr in
-    let among = within_head e child _ _ c.loop-child.invariant (ap (map (λ p. p.expr)) c.in-Some.ensures.steps) in
+    let among = within_first e child _ _ c.loop-child.invariant (ap (map (λ p. p.expr)) c.in-Some.ensures.steps) in
     let less : levels (view child) < levels (view e) =
     levels_of_child e child
     (ap views (sym c.children-child-items.ensures.exprs) ∙ c.children-child-items.ensures.trees) among in

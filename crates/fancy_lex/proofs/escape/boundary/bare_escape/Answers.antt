@@ -1,7 +1,7 @@
 use Rattle.std.proofs.Common.{suc, pred, length, chars, refl, ◌∙◌, arith, ap, sym, rules, subst}
 use Rattle.std.proofs.lemmas.Result.{err_from_is_err_and}
 use Rattle.fancy_lex.specs.Reading.{Reports}
-use Rattle.fancy_lex.proofs.BoundaryLemmas.{name_fault_from, name_fault_close, name_fault_step, step_length}
+use Rattle.fancy_lex.proofs.BoundaryLemmas.{name_error_from, name_error_close, name_error_step, step_length}
 use Rattle.fancy_lex.proofs.escape.boundary.bare_escape.Goals as goal
 
 pub returns-in_err-find_closing_brace : goal.returns-in_err-find_closing_brace
@@ -34,7 +34,7 @@ loop-out-init c = record {
   same = (
     suc (length (chars c.args.text.now)),
     omega arith,
-    name_fault_from _ _ _ _ _ (ap chars c.in_ok-out.ensures.ok ∙ c.boundary_head.ensures),
+    name_error_from _ _ _ _ _ (ap chars c.in_ok-out.ensures.ok ∙ c.boundary_start.ensures),
   );
 }
 
@@ -42,7 +42,7 @@ pub returns-then-c-eq125 : goal.returns-then-c-eq125
 returns-then-c-eq125 c =
     let (k, m, same) = c.loop-out.invariant.same in
     record {
-      value = same ∙ name_fault_close _ _ _ _ _ c.in_ok-c.ensures.value _ _ refl k _ (omega arith) c.if-c-eq125.true
+      value = same ∙ name_error_close _ _ _ _ _ c.in_ok-c.ensures.value _ _ refl k _ (omega arith) c.if-c-eq125.true
           c.in_ok-push.ensures;
     }
 
@@ -54,7 +54,7 @@ loop-out-preserved c =
       same = (
         pred k,
         step_length _ _ _ _ _ k c.in_ok-c.ensures.value refl m,
-        same ∙ name_fault_step _ _ _ _ _ c.in_ok-c.ensures.value _ _ refl k _ (omega arith) c.if-c-eq125.false
+        same ∙ name_error_step _ _ _ _ _ c.in_ok-c.ensures.value _ _ refl k _ (omega arith) c.if-c-eq125.false
             c.in_ok-push.ensures,
       );
     }

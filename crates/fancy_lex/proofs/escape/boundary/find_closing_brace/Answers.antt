@@ -1,8 +1,8 @@
 use Rattle.std.proofs.Common.{suc, pred, length, chars, refl, ◌∙◌, ◌++◌, ◌∷◌, [], arith, sym, subst, rules}
 use Rattle.std.proofs.lemmas.Result.{err_from_is_err_and}
-use Rattle.fancy_lex.specs.FaultTable.{boundary_head}
+use Rattle.fancy_lex.specs.ErrorTable.{boundary_start}
 use Rattle.fancy_lex.specs.Reading.{CarriesText, Reports}
-use Rattle.fancy_lex.proofs.BoundaryLemmas.{name_fault_from, name_fault_close, name_fault_step, step_length}
+use Rattle.fancy_lex.proofs.BoundaryLemmas.{name_error_from, name_error_close, name_error_step, step_length}
 use Rattle.fancy_lex.proofs.escape.boundary.find_closing_brace.Goals as goal
 
 pub returns-in_err-c : goal.returns-in_err-c
@@ -17,7 +17,7 @@ returns-in_err-c c =
 pub returns-then-c-eq125 : goal.returns-then-c-eq125
 returns-then-c-eq125 c = record {
   found = λ negated. let (k, m, out, same) = c.loop-c.invariant.same negated in
-      rw (same ∙ name_fault_close _ _ _ _ _ c.in_ok-c.ensures.value _ _ refl k (out ++ c.in_ok-c.c ∷ []) (omega arith)
+      rw (same ∙ name_error_close _ _ _ _ _ c.in_ok-c.ensures.value _ _ refl k (out ++ c.in_ok-c.c ∷ []) (omega arith)
       c.if-c-eq125.true refl) refl;
   error = search rules;
 }
@@ -28,8 +28,8 @@ loop-c-init c = record {
   same = λ negated. (
     suc (length (chars c.args.text.now)),
     omega arith,
-    boundary_head negated,
-    name_fault_from _ _ _ _ _ refl,
+    boundary_start negated,
+    name_error_from _ _ _ _ _ refl,
   );
 }
 
@@ -40,6 +40,6 @@ loop-c-preserved c = record {
     pred k,
     step_length _ _ _ _ _ k c.in_ok-c.ensures.value refl m,
     out ++ c.in_ok-c.c ∷ [],
-    same ∙ name_fault_step _ _ _ _ _ c.in_ok-c.ensures.value _ _ refl k _ (omega arith) c.if-c-eq125.false refl,
+    same ∙ name_error_step _ _ _ _ _ c.in_ok-c.ensures.value _ _ refl k _ (omega arith) c.if-c-eq125.false refl,
   );
 }

@@ -1,7 +1,7 @@
 use Rattle.std.proofs.Common.{chars, arith}
 use Rattle.fancy_lex.proofs.EscapeLaws.{leaves_hex}
-use Rattle.fancy_lex.proofs.LeaveLaws.{given_cut, given_place}
-use Rattle.fancy_lex.proofs.ReadingLemmas.{reads_answers, answers_gives}
+use Rattle.fancy_lex.proofs.LeaveLaws.{given_cut, given_position}
+use Rattle.fancy_lex.proofs.ReadingLemmas.{reads_returns, returns_gives}
 use Rattle.fancy_lex.proofs.TextLemmas.{bytes_chars}
 use Rattle.fancy_lex.specs.EscapeViews.{escape_of}
 use Rattle.fancy_lex.proofs.escape.hex.hex.Goals as goal
@@ -10,12 +10,12 @@ pub returns-clause-cut : goal.returns-clause-cut
 returns-clause-cut c =
     let a = c.args in
     given_cut escape_of c.read_hex.result (leaves_hex 0 a.flags a.width (chars a.text.now))
-    (answers_gives escape_of c.read_hex.result _ (reads_answers escape_of c.read_hex.result _ c.read_hex.ensures.value))
+    (returns_gives escape_of c.read_hex.result _ (reads_returns escape_of c.read_hex.result _ c.read_hex.ensures.value))
 
-pub returns-clause-place : goal.returns-clause-place
-returns-clause-place c =
+pub returns-clause-position : goal.returns-clause-position
+returns-clause-position c =
     let a = c.args in
-    given_place escape_of c.read_hex.result (omega arith)
+    given_position escape_of c.read_hex.result (omega arith)
     (omega (arith, bytes_chars a.text.now c.utf8.text))
     (leaves_hex 0 a.flags a.width (chars a.text.now))
-    (answers_gives escape_of c.read_hex.result _ (reads_answers escape_of c.read_hex.result _ c.read_hex.ensures.value))
+    (returns_gives escape_of c.read_hex.result _ (reads_returns escape_of c.read_hex.result _ c.read_hex.ensures.value))

@@ -1,6 +1,6 @@
 use Rattle.std.proofs.Common.{◌∙◌, arith, rules}
 use Rattle.std.proofs.lemmas.Result.{err_from_is_err_and}
-use Rattle.fancy_lex.proofs.HexLemmas.{digits_step, digits_fault, digits_none, digits_some, digits_done, push_small}
+use Rattle.fancy_lex.proofs.HexLemmas.{digits_step, digits_error, digits_none, digits_some, digits_done, push_small}
 use Rattle.fancy_lex.proofs.HexLemmas.{push_fits}
 use Rattle.fancy_lex.proofs.escape.hex.hex_digits.Goals as goal
 
@@ -36,7 +36,7 @@ pub returns-in_err-rest-clause-value : goal.returns-in_err-rest-clause-value
 returns-in_err-rest-clause-value c =
     let p = err_from_is_err_and c.from_residual.result c.from_residual.ensures.1 in
     rw (p.1, p.2, c.loop-read.invariant.same)
-    (digits_fault _ _ _ _ _ _ _ _ c.loop-read-test.true c.in-Some.ensures.value c.in_err-rest.ensures.value)
+    (digits_error _ _ _ _ _ _ _ _ c.loop-read-test.true c.in-Some.ensures.value c.in_err-rest.ensures.value)
 
 pub loop-read-preserved : goal.loop-read-preserved
 loop-read-preserved c = record {

@@ -6,5 +6,5 @@ pub returns-in_default-with_digit-clause-value : goal.returns-in_default-with_di
 returns-in_default-with_digit-clause-value c =
     let digit = c.in-Some.ensures.value in
     let (n, read, beyond) =
-    run_beyond _ _ _ _ _ digit.0 digit.1 c.in_default-with_digit.ensures c.behind_digits.ensures.value in
+    run_beyond _ _ _ _ _ digit.0 digit.1 c.in_default-with_digit.ensures c.after_digits.ensures.value in
     (n, c.loop-next.invariant.read ∙ read, beyond)

@@ -1,6 +1,6 @@
 use Rattle.std.proofs.Common.{arith, rules, ap, ◌++◌, ◌∙◌}
 use Rattle.std.specs.Prelude.{encode_utf8_all}
-use Rattle.fancy_parts.proofs.RoomLemmas.{room_counted}
+use Rattle.fancy_parts.proofs.CapacityLemmas.{capacity_counted}
 use Rattle.fancy_grammar.specs.Printed.{printed}
 use Rattle.fancy_syntax.specs.View.{view}
 use Rattle.fancy_syntax.proofs.PrintLemmas.{added, bytes_none}
@@ -8,7 +8,7 @@ use Rattle.fancy_grammar.proofs.ReadBack.Theorem.{bytes_read_back, same_texts}
 use Rattle.fancy_syntax.proofs.expr.Expr.to_str.Goals as goal
 
 pub put_tree-requires : goal.put_tree-requires
-put_tree-requires c = room_counted c.reserve.new.self _ c.tree_len.result c.tree_len.ensures (search rules)
+put_tree-requires c = capacity_counted c.reserve.new.self _ c.tree_len.result c.tree_len.ensures (search rules)
 
 pub returns-in_err-reserve-clause-nothing_to_print : goal.returns-in_err-reserve-clause-nothing_to_print
 returns-in_err-reserve-clause-nothing_to_print c h =

@@ -1,7 +1,7 @@
 use Rattle.std.proofs.Common.{◌++◌, ◌∙◌, ap, sym, chars}
 use Rattle.std.proofs.lemmas.Str.{chars-nil}
 use Rattle.fancy_lex.specs.EscapeViews.{escape_of, delegate_text}
-use Rattle.fancy_grammar.specs.Ahead as spec
+use Rattle.fancy_grammar.specs.AtomStart as spec
 use Rattle.fancy_grammar.specs.Tree.{delegate}
 use Rattle.fancy_syntax.proofs.TreeLemmas.{view_Delegate}
 use Rattle.fancy_syntax.proofs.grammar.atom.leaf_node.Goals as goal

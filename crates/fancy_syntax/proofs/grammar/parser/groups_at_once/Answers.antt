@@ -1,7 +1,7 @@
 use Rattle.std.proofs.Common.{◌≡◌, ◌+◌, ◌-◌, arith, ap, ◌∙◌, chars, length, take, drop}
 use Rattle.std.proofs.lemmas.List.{take_rest}
-use Rattle.fancy_syntax.specs.Room.{open_parens}
-use Rattle.fancy_syntax.proofs.RoomLemmas.{parens_of_bytes, none_found, first_found, all_counted, most_counted}
+use Rattle.fancy_syntax.specs.StackCapacity.{open_parens}
+use Rattle.fancy_syntax.proofs.StackLemmas.{parens_of_bytes, none_found, first_found, all_counted, most_counted}
 use Rattle.fancy_syntax.proofs.grammar.parser.groups_at_once.Goals as goal
 
 pub returns-in_default : goal.returns-in_default
@@ -17,12 +17,12 @@ pub loop-count-preserved : goal.loop-count-preserved
 loop-count-preserved c =
     let rest = c.loop-count.rest.now in
     let back = c.split_at.result.1.now in
-    let behind : open_parens (take (length back - 1) (drop 1 back)) ≡ open_parens (drop 1 (drop c.in-Some.index rest)) =
+    let after : open_parens (take (length back - 1) (drop 1 back)) ≡ open_parens (drop 1 (drop c.in-Some.index rest)) =
     ap open_parens (take_rest back 1 ∙ ap (drop 1) c.split_at.ensures.back) in
     let more : open_parens rest ≡ open_parens (drop 1 (drop c.in-Some.index rest)) + 1 =
     first_found rest c.in-Some.index (rw c.in-Some.is at c.memchr.ensures) in
     record {
-      counted = omega (arith, c.loop-count.invariant.counted, more, behind);
+      counted = omega (arith, c.loop-count.invariant.counted, more, after);
       below = omega (arith, c.loop-count-test.true);
     }
 

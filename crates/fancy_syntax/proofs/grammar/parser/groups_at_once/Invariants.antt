@@ -1,6 +1,6 @@
 use Rattle.std.proofs.Common.{◌≡◌, ◌≤◌, ◌+◌, length}
 use Rattle.fancy_grammar.specs.Depth.{most_open}
-use Rattle.fancy_syntax.specs.Room.{open_parens}
+use Rattle.fancy_syntax.specs.StackCapacity.{open_parens}
 use Rattle.fancy_syntax.proofs.grammar.parser.groups_at_once.Given as goal
 
 abbrev pub invariant-loop-count : goal.invariant-loop-count

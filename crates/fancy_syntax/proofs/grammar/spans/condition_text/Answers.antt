@@ -9,6 +9,6 @@ pub returns : goal.returns
 unfolding chars
 returns c =
     let word = option_and_then (strip_word (codes "?(")) in
-    ap (λ t. word (option_and_then (past_layout c.args.here.flags.ignore_space) t)) c.in_ok-after.ensures.value
+    ap (λ t. word (option_and_then (past_layout c.args.current.flags.ignore_space) t)) c.in_ok-after.ensures.value
     ∙ ap (λ s. word (rest_of s)) c.in-Ok.ensures.value
     ∙ c.after_word.ensures.value

@@ -4,23 +4,23 @@ use Rattle.fancy_grammar.specs.Errors.{IsErrorAmong}
 use Rattle.fancy_grammar.specs.State.{done}
 use Rattle.fancy_syntax.specs.Machine.{part_of, ended_part, node_of_part}
 use Rattle.fancy_syntax.specs.Parsed.{state}
-use Rattle.fancy_grammar.proofs.FaultLemmas.{says_no_body}
+use Rattle.fancy_grammar.proofs.ErrorLemmas.{says_no_body}
 use Rattle.fancy_syntax.proofs.MachineLemmas.{ended_without_body, ended_closed}
 use Rattle.fancy_grammar.proofs.OutcomeLemmas.{IsErrorAmong-is}
 use Rattle.fancy_syntax.proofs.grammar.step.read_end.Goals as goal
 
 pub returns-then-lacks_body-clause-value : goal.returns-then-lacks_body-clause-value
 returns-then-lacks_body-clause-value c =
-    λ r. IsErrorAmong-is (λ q. ended_part (part_of c.args.opener.now) r (state c.args.here.now) ≡ q)
+    λ r. IsErrorAmong-is (λ q. ended_part (part_of c.args.open_group.now) r (state c.args.current.now) ≡ q)
     c.general.result _ _
     (says_no_body c.general.result c.reach.result c.general.ensures)
     (rw c.reach.ensures
-    (ended_without_body _ _ _ (sym (c.lacks_body.ensures (state c.args.here.now) refl) ∙ c.if-lacks_body.true)))
+    (ended_without_body _ _ _ (sym (c.lacks_body.ensures (state c.args.current.now) refl) ∙ c.if-lacks_body.true)))
 
 pub returns-clause-value : goal.returns-clause-value
 returns-clause-value c =
-    λ r. let node = node_of_part (part_of c.args.opener.now) r in
-    subst (λ o. MatchResult c.close_paren.result (λ _. o ≡ done node (state c.close_paren.new.here))
+    λ r. let node = node_of_part (part_of c.args.open_group.now) r in
+    subst (λ o. MatchResult c.close_paren.result (λ _. o ≡ done node (state c.close_paren.new.current))
     (λ e. IsErrorAmong e (λ q. o ≡ q)))
-    (sym (ended_closed _ _ _ (sym (c.lacks_body.ensures (state c.args.here.now) refl) ∙ c.if-lacks_body.false)))
+    (sym (ended_closed _ _ _ (sym (c.lacks_body.ensures (state c.args.current.now) refl) ∙ c.if-lacks_body.false)))
     (c.close_paren.ensures.value node)

@@ -1,6 +1,6 @@
 use Rattle.std.proofs.Common.{◌≡◌, Ok, chars}
 use Rattle.std.proofs.lemmas.Result.{err_from_is_err_and}
-use Rattle.fancy_grammar.specs.Ahead.{ahead, read}
+use Rattle.fancy_grammar.specs.AtomStart.{atom_start, read}
 use Rattle.fancy_grammar.specs.Grammar.{Piece, piece, atom, a_read}
 use Rattle.fancy_grammar.specs.State.{at}
 use Rattle.fancy_syntax.specs.Machine.{a_group, a_condition, a_body, a_branch}
@@ -12,64 +12,64 @@ use Rattle.fancy_grammar.proofs.OutcomeLemmas.{IsErrorAmong-map}
 use Rattle.fancy_syntax.proofs.TreeLemmas.{view_Empty}
 use Rattle.fancy_syntax.proofs.grammar.step.read_step.Goals as goal
 
-pub returns-in_err-here-clause-value : goal.returns-in_err-here-clause-value
-returns-in_err-here-clause-value g c l =
+pub returns-in_err-current-clause-value : goal.returns-in_err-current-clause-value
+returns-in_err-current-clause-value g c l =
     let e = err_from_is_err_and c.from_residual.result c.from_residual.ensures.1 in
-    let (p, is, layout) = c.in_err-here.ensures.value in rw (e.1, e.2) (steps_layout _ _ _ is layout)
+    let (p, is, layout) = c.in_err-current.ensures.value in rw (e.1, e.2) (steps_layout _ _ _ is layout)
 
 pub returns-in_err-read_atom_start-clause-value : goal.returns-in_err-read_atom_start-clause-value
 returns-in_err-read_atom_start-clause-value g c l =
     let e = err_from_is_err_and c.from_residual-in_err-read_atom_start.result
     c.from_residual-in_err-read_atom_start.ensures.1 in
     rw (e.1, e.2)
-    (IsErrorAmong-map (λ o. ahead c.args.depth (at (state c.args.here.now) (chars c.in_ok-here.field-0.now)) ≡ read o)
-    (Piece c.args.depth (state c.args.here.now))
-    c.in_err-read_atom_start.field-0.0 (λ k p h. piece c.in_ok-here.ensures.value (atom h a_read))
+    (IsErrorAmong-map (λ o. atom_start c.args.depth (at (state c.args.current.now) (chars c.in_ok-current.field-0.now)) ≡ read o)
+    (Piece c.args.depth (state c.args.current.now))
+    c.in_err-read_atom_start.field-0.0 (λ k p h. piece c.in_ok-current.ensures.value (atom h a_read))
     c.in_err-read_atom_start.ensures.value)
 
 pub returns-then-is_unquantified-clause-value : goal.returns-then-is_unquantified-clause-value
 returns-then-is_unquantified-clause-value g c l =
-    steps_read c.args.depth c.byte_len-left.result (state c.args.here.now) l (Ok (step.Piece _)) _ c.byte_len-left.ensures c.in_ok-here.ensures.value
+    steps_read c.args.depth c.byte_len-left.result (state c.args.current.now) l (Ok (step.Piece _)) _ c.byte_len-left.ensures c.in_ok-current.ensures.value
     (rw c.in-Read.is at c.in_ok-read_atom_start.ensures.value)
     (c.is_unquantified.ensures.quants c.if-is_unquantified.true _ _ _)
 
 pub returns-else-is_unquantified-clause-value : goal.returns-else-is_unquantified-clause-value
 returns-else-is_unquantified-clause-value g c l =
-    steps_read c.args.depth c.byte_len-left.result (state c.args.here.now) l _ _ c.byte_len-left.ensures c.in_ok-here.ensures.value
+    steps_read c.args.depth c.byte_len-left.result (state c.args.current.now) l _ _ c.byte_len-left.ensures c.in_ok-current.ensures.value
     (rw c.in-Read.is at c.in_ok-read_atom_start.ensures.value) c.piece-in-Read.ensures.value
 
-pub returns-in_ok-note_leaf-in-Nothing-clause-value : goal.returns-in_ok-note_leaf-in-Nothing-clause-value
-returns-in_ok-note_leaf-in-Nothing-clause-value g c l =
+pub returns-in_ok-record_leaf-in-Nothing-clause-value : goal.returns-in_ok-record_leaf-in-Nothing-clause-value
+returns-in_ok-record_leaf-in-Nothing-clause-value g c l =
     let stays = rw c.in-Nothing.is at c.in_ok-read_atom_start.ensures.stays in
-    steps_nothing c.args.depth c.byte_len-left.result (state c.args.here.now) l _ _ c.byte_len-left.ensures c.in_ok-here.ensures.value
+    steps_nothing c.args.depth c.byte_len-left.result (state c.args.current.now) l _ _ c.byte_len-left.ensures c.in_ok-current.ensures.value
     (rw c.in-Nothing.is at c.in_ok-read_atom_start.ensures.value)
     (rw (view_Empty, stays) at c.piece.ensures.value)
 
-pub returns-in_ok-note_leaf-in-Nothing-clause-shorter : goal.returns-in_ok-note_leaf-in-Nothing-clause-shorter
-returns-in_ok-note_leaf-in-Nothing-clause-shorter g c =
+pub returns-in_ok-record_leaf-in-Nothing-clause-shorter : goal.returns-in_ok-record_leaf-in-Nothing-clause-shorter
+returns-in_ok-record_leaf-in-Nothing-clause-shorter g c =
     let stays = rw c.in-Nothing.is at c.in_ok-read_atom_start.ensures.stays in
-    nothing_shorter c.args.depth _ _ _ _ (state c.args.here.now) _ _ _
+    nothing_shorter c.args.depth _ _ _ _ (state c.args.current.now) _ _ _
     (rw c.in-Nothing.is at c.in_ok-read_atom_start.ensures.value) c.requires.more
-    c.byte_len-left.ensures (rw (view_Empty, stays) at c.piece.ensures.value) c.in_ok-here.ensures.within
-    c.in_ok-here.ensures.unmoved
+    c.byte_len-left.ensures (rw (view_Empty, stays) at c.piece.ensures.value) c.in_ok-current.ensures.within
+    c.in_ok-current.ensures.unmoved
     (rw stays at c.piece.ensures.within)
 
 pub returns-in_ok-open-in-Group-clause-value : goal.returns-in_ok-open-in-Group-clause-value
 returns-in_ok-open-in-Group-clause-value g c l =
     let seen = rw c.in-Group.is at c.in_ok-read_atom_start.ensures.value in
-    rw c.reach-paren.ensures (steps_open c.in_ok-here.ensures.value seen (a_group c.in_ok-here.ensures.value seen))
+    rw c.reach-paren.ensures (steps_open c.in_ok-current.ensures.value seen (a_group c.in_ok-current.ensures.value seen))
 
 pub returns-in_ok-open-in-Condition-clause-value : goal.returns-in_ok-open-in-Condition-clause-value
 returns-in_ok-open-in-Condition-clause-value g c l =
     let seen = rw c.in-Condition.is at c.in_ok-read_atom_start.ensures.value in
-    steps_open c.in_ok-here.ensures.value seen (a_condition c.in_ok-here.ensures.value seen)
+    steps_open c.in_ok-current.ensures.value seen (a_condition c.in_ok-current.ensures.value seen)
 
 pub returns-in_ok-open_body-in-Body-clause-value : goal.returns-in_ok-open_body-in-Body-clause-value
 returns-in_ok-open_body-in-Body-clause-value g c l =
     let seen = rw c.in-Body.is at c.in_ok-read_atom_start.ensures.value in
-    rw c.byte_len.ensures (steps_open c.in_ok-here.ensures.value seen (a_body c.in_ok-here.ensures.value seen))
+    rw c.byte_len.ensures (steps_open c.in_ok-current.ensures.value seen (a_body c.in_ok-current.ensures.value seen))
 
 pub returns-in_ok-open-in-AbsentBranch-clause-value : goal.returns-in_ok-open-in-AbsentBranch-clause-value
 returns-in_ok-open-in-AbsentBranch-clause-value g c l =
     let seen = rw c.in-AbsentBranch.is at c.in_ok-read_atom_start.ensures.value in
-    steps_open c.in_ok-here.ensures.value seen (a_branch c.in_ok-here.ensures.value seen)
+    steps_open c.in_ok-current.ensures.value seen (a_branch c.in_ok-current.ensures.value seen)

@@ -1,5 +1,5 @@
 use Rattle.std.proofs.Common.{◌≡◌, ◌++◌, ◌+◌, append_assoc, [], false, nat_lt, rules, codes, sym, ◌∙◌, ap, chars, arith}
-use Rattle.fancy_parts.proofs.RoomLemmas.{counting_as, counting_later, counting_ends}
+use Rattle.fancy_parts.proofs.CapacityLemmas.{counting_as, counting_later, counting_ends}
 use Rattle.fancy_lex.specs.Text.{bytes}
 use Rattle.fancy_parts.specs.Quote.{quotes}
 use Rattle.fancy_grammar.specs.Printed.{printed, printed_all, caseless}

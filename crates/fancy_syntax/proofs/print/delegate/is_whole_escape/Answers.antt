@@ -1,6 +1,6 @@
 use Rattle.std.proofs.Common.{false, chars}
 use Rattle.fancy_lex.specs.Escape.{escape}
-use Rattle.fancy_grammar.proofs.DelegateLemmas.{escape_read, escape_other, escape_faulty, failed}
+use Rattle.fancy_grammar.proofs.DelegateLemmas.{escape_read, escape_other, escape_fails, failed}
 use Rattle.fancy_lex.proofs.ReadingLemmas.{report_fails}
 use Rattle.fancy_syntax.proofs.print.delegate.is_whole_escape.Goals as goal
 
@@ -17,5 +17,5 @@ returns-else-is_class c =
 pub returns-in-Err : goal.returns-in-Err
 returns-in-Err c =
     failed c.is_no_class.result c.in-Err.error (escape c.from_bits.result false (chars c.args.text.now)) _
-    c.is_no_class.ensures.no c.is_no_class.ensures.fault (report_fails c.in-Err.error _ c.in-Err.ensures.value)
-    (escape_faulty c.args.text.now c.from_bits.result c.from_bits.ensures)
+    c.is_no_class.ensures.no c.is_no_class.ensures.error (report_fails c.in-Err.error _ c.in-Err.ensures.value)
+    (escape_fails c.args.text.now c.from_bits.result c.from_bits.ensures)

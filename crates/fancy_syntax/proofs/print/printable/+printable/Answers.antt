@@ -8,7 +8,7 @@ use Rattle.fancy_grammar.specs.Printable.{printable, all_printable}
 use Rattle.fancy_grammar.specs.Tree.{literal, delegate}
 use Rattle.fancy_syntax.specs.View.{view}
 use Rattle.fancy_syntax.specs.declared.expr.Expr.{the_lemmas}
-use Rattle.fancy_grammar.proofs.DelegateLemmas.{delegate_told}
+use Rattle.fancy_grammar.proofs.DelegateLemmas.{delegate_determined}
 use Rattle.fancy_syntax.proofs.PrintLemmas.{left, left_step}
 use Rattle.fancy_syntax.proofs.print.printable.+printable.Goals as goal
 
@@ -24,7 +24,7 @@ is_printable-returns-in-Delegate-clause-exact t c =
     let seen : view c.args.tree.now ≡ delegate (text_of inner) c.in-Delegate.casei = search (rules, the_lemmas) in
     let whole : IfOk c.is_whole.result (λ b. b ≡ is_some (class_of (unicode_flags false) (text_of inner))) =
     search rules in
-    delegate_told c.is_whole.result (text_of inner) c.in-Delegate.casei _
+    delegate_determined c.is_whole.result (text_of inner) c.in-Delegate.casei _
     (scalars-chars (string_bytes inner) (IsUtf8-string_bytes inner)) whole seen
 
 pub is_printable-returns-in-Delegate-clause-without_memory : goal.is_printable-returns-in-Delegate-clause-without_memory

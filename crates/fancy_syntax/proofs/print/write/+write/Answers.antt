@@ -1,12 +1,12 @@
 use Rattle.std.proofs.Common.{◌≡◌, ◌++◌, ◌+◌, ◌∙◌, [], false, nat_lt, rules, codes, chars, sym, subst}
-use Rattle.fancy_parts.proofs.RoomLemmas.{writing_as, writing_room, writing_later, writing_ends, written_as}
+use Rattle.fancy_parts.proofs.CapacityLemmas.{writing_as, writing_capacity, writing_later, writing_ends, written_as}
 use Rattle.fancy_parts.specs.Quote.{quotes}
-use Rattle.fancy_parts.specs.Room.{HasRoom}
+use Rattle.fancy_parts.specs.Capacity.{HasCapacity}
 use Rattle.fancy_grammar.specs.Printed.{printed, printed_all, caseless}
 use Rattle.fancy_syntax.specs.View.{view}
 use Rattle.fancy_syntax.specs.declared.expr.Expr.{the_lemmas}
 use Rattle.fancy_syntax.proofs.PrintLemmas.{asked, left, branches, all_step, all_end, branches_step, branches_end}
-use Rattle.fancy_syntax.proofs.PrintLemmas.{bar_room, minds_case, no_text_written}
+use Rattle.fancy_syntax.proofs.PrintLemmas.{bar_capacity, minds_case, no_text_written}
 use Rattle.fancy_syntax.proofs.print.write.+write.Goals as goal
 
 pub put_all-put_tree-requires : goal.put_all-put_tree-requires
@@ -14,7 +14,7 @@ put_all-put_tree-requires t c =
     let step = all_step c.args.trees.now c.loop-tree.tree-index c.tree-item.result c.loop-tree-test.true
     c.tree-item.is in (
       search (rules, the_lemmas),
-      writing_room c.args.buf.now c.loop-tree.buf (printed (view c.tree-item.result) 2)
+      writing_capacity c.args.buf.now c.loop-tree.buf (printed (view c.tree-item.result) 2)
           (printed_all (left c.args.trees.now (c.loop-tree.tree-index + 1))) _
           (writing_as _ _ _ _ _ step c.loop-tree.invariant),
     )
@@ -33,9 +33,9 @@ put_all-returns t c =
     (writing_as _ _ _ _ _ (all_end c.args.trees.now c.loop-tree.tree-index c.loop-tree-test.false)
     c.loop-tree.invariant)
 
-pub put_branches-put_if-requires-clause-room : goal.put_branches-put_if-requires-clause-room
-put_branches-put_if-requires-clause-room t c =
-    bar_room c.loop-i.buf c.args.trees.now c.loop-i.i c.loop-i-test.true c.loop-i.invariant.room
+pub put_branches-put_if-requires-clause-reserved : goal.put_branches-put_if-requires-clause-reserved
+put_branches-put_if-requires-clause-reserved t c =
+    bar_capacity c.loop-i.buf c.args.trees.now c.loop-i.i c.loop-i-test.true c.loop-i.invariant.reserved
 
 pub put_branches-put_tree-requires : goal.put_branches-put_tree-requires
 put_branches-put_tree-requires t c =
@@ -46,7 +46,7 @@ put_branches-put_tree-requires t c =
     let step = branches_step trees i c.index-trees-i.result c.loop-i-test.true c.index-trees-i.is in
     let barred = writing_later c.args.buf.now c.loop-i.buf c.put_if.new.buf bar (text ++ branches trees (i + 1)) _
     (writing_as _ _ _ _ _ step c.loop-i.invariant) c.put_if.ensures in
-    (search (rules, the_lemmas), writing_room c.args.buf.now c.put_if.new.buf text (branches trees (i + 1)) _ barred)
+    (search (rules, the_lemmas), writing_capacity c.args.buf.now c.put_if.new.buf text (branches trees (i + 1)) _ barred)
 
 pub put_branches-loop-i-preserved : goal.put_branches-loop-i-preserved
 put_branches-loop-i-preserved t c =
@@ -71,7 +71,7 @@ put_tree-put_quotes-requires t c =
     ≡ caseless c.in-Literal-default-false.casei (quotes (chars c.as_str.result.now)) = search (rules, the_lemmas) in
     let minds : c.in-Literal-default-false.casei ≡ false = cc in
     let plain = minds_case _ (quotes (chars c.as_str.result.now)) minds in
-    subst (HasRoom c.args.buf.now) (text ∙ plain) c.requires
+    subst (HasCapacity c.args.buf.now) (text ∙ plain) c.requires
 
 pub put_tree-returns-in-Literal-default-false : goal.put_tree-returns-in-Literal-default-false
 put_tree-returns-in-Literal-default-false t c =

@@ -2,7 +2,7 @@ use Rattle.std.proofs.Common.{arith, rules, ◌≡◌, ◌+◌, ◌++◌, get_or
 use Rattle.std.proofs.Common.{get_or-set_other, refl, set, take, [], true}
 use Rattle.std.proofs.lemmas.List.{set-get_or}
 use Rattle.fancy_grammar.specs.Items.{items, openings_in}
-use Rattle.fancy_syntax.specs.Notes.{known_of, progress_of, is_reference, is_reference_step}
+use Rattle.fancy_syntax.specs.Records.{resolver_of, progress_of, is_reference, is_reference_step}
 use Rattle.fancy_syntax.specs.View.{view, views}
 use Rattle.fancy_grammar.specs.Walk.{progress_after}
 use Rattle.fancy_syntax.specs.declared.expr.Absent.{Absent}
@@ -11,9 +11,9 @@ use Rattle.fancy_syntax.specs.declared.expr.AstNode.{AstNode, AstGroup, roll-Ast
 use Rattle.fancy_syntax.specs.declared.expr.AstNode.TheVariants as variant
 use Rattle.fancy_syntax.specs.declared.expr.Expr.{Expr, the_lemmas}
 use Rattle.fancy_syntax.proofs.NoItems.{resolved_same}
-use Rattle.fancy_syntax.proofs.PartLemmas.{two_parts, three_lent, two_count, three_count, two_noted, three_noted}
-use Rattle.fancy_syntax.proofs.PartLemmas.{third_noted, three_error, third_error, two_resolved, three_resolved}
-use Rattle.fancy_syntax.proofs.WalkLemmas.{noted_append, noted_le, error_kept, count_two, rest, rest_next, rest_none}
+use Rattle.fancy_syntax.proofs.PartLemmas.{two_parts, three_borrowed, two_count, three_count, two_recorded, three_recorded}
+use Rattle.fancy_syntax.proofs.PartLemmas.{third_recorded, three_error, third_error, two_resolved, three_resolved}
+use Rattle.fancy_syntax.proofs.WalkLemmas.{recorded_append, recorded_le, error_kept, count_two, rest, rest_next, rest_none}
 use Rattle.fancy_syntax.proofs.WalkLemmas.{resolved_list, front_resolved, rest_resolved, each_resolved}
 use Rattle.fancy_syntax.proofs.resolve.rewrite.+rewrite.Goals as goal
 use Rattle.fancy_syntax.proofs.resolve.rewrite.+rewrite.Goals.{rewrite_all-then-may_hold_items+in_ok-rewrite}
@@ -22,25 +22,25 @@ use Rattle.fancy_syntax.proofs.resolve.rewrite.+rewrite.Goals.{rewrite_all-else-
 pub rewrite-rewrite_child-requires-in-Conditional : goal.rewrite-rewrite_child-requires-in-Conditional
 rewrite-rewrite_child-requires-in-Conditional t c =
     let is = c.in-Conditional in
-    let parts = three_lent is.is is.condition-is is.true_branch-is is.false_branch-is in
+    let parts = three_borrowed is.is is.condition-is is.true_branch-is is.false_branch-is in
     let count = three_count parts in
     (search (rules, the_lemmas), omega arith)
 
 pub rewrite-rewrite_child-requires-in-Conditional-2 : goal.rewrite-rewrite_child-requires-in-Conditional-2
 rewrite-rewrite_child-requires-in-Conditional-2 t c =
     let is = c.in-Conditional in
-    let parts = three_lent is.is is.condition-is is.true_branch-is is.false_branch-is in
+    let parts = three_borrowed is.is is.condition-is is.true_branch-is is.false_branch-is in
     let first = c.in_ok-rewrite_child-in-Conditional.ensures in
-    let room = three_noted (known_of c.args.known.now) _ _ parts first.1 in
+    let bound = three_recorded (resolver_of c.args.resolver.now) _ _ parts first.1 in
     (search (rules, the_lemmas), omega arith)
 
 pub rewrite-rewrite_child-requires-in-Conditional-3 : goal.rewrite-rewrite_child-requires-in-Conditional-3
 rewrite-rewrite_child-requires-in-Conditional-3 t c =
     let is = c.in-Conditional in
-    let parts = three_lent is.is is.condition-is is.true_branch-is is.false_branch-is in
+    let parts = three_borrowed is.is is.condition-is is.true_branch-is is.false_branch-is in
     let first = c.in_ok-rewrite_child-in-Conditional.ensures in let second =
     c.in_ok-rewrite_child-in-Conditional-2.ensures in
-    let room = third_noted (known_of c.args.known.now) _ _ _ parts first.1 second.1 in
+    let bound = third_recorded (resolver_of c.args.resolver.now) _ _ _ parts first.1 second.1 in
     (search (rules, the_lemmas), omega arith)
 
 pub rewrite_absent-rewrite_child-requires-in-Expression : goal.rewrite_absent-rewrite_child-requires-in-Expression
@@ -52,7 +52,7 @@ rewrite_absent-rewrite_child-requires-in-Expression t c =
 pub rewrite_absent-rewrite_child-requires-in-Expression-2 : goal.rewrite_absent-rewrite_child-requires-in-Expression-2
 rewrite_absent-rewrite_child-requires-in-Expression-2 t c =
     let parts = two_parts c.in-Expression.is refl refl in
-    let room = two_noted (known_of c.args.known.now) _ _ parts c.in_ok-rewrite_child-in-Expression.ensures.1 in
+    let bound = two_recorded (resolver_of c.args.resolver.now) _ _ parts c.in_ok-rewrite_child-in-Expression.ensures.1 in
     (search (rules, the_lemmas), omega arith)
 
 pub rewrite_all-rewrite-requires : goal.rewrite_all-rewrite-requires
@@ -70,7 +70,7 @@ rewrite_all-rewrite-requires t c =
 pub rewrite_all-loop-i-preserved : goal.rewrite_all-loop-i-preserved
 rewrite_all-loop-i-preserved t c =
     let es = c.args.trees.now.items in let i = c.loop-i.i in let now = c.loop-i.trees.items in
-    let k = known_of c.args.known.now in
+    let k = resolver_of c.args.resolver.now in
     let all = resolved_list k c.args.progress.now.passed (views es) in
     let s = progress_of c.loop-i.progress in
     let lengths = c.loop-i.invariant.0.0 in
@@ -89,9 +89,9 @@ rewrite_all-loop-i-preserved t c =
                   let apart : j ≢ i = omega arith in rw get_or-set_other (c.loop-i.invariant.0.1 j d (omega arith)),
             ),
             rw now_is.1
-                (sym (noted_append k s (items (view e)) (rest es (i + 1))) ∙ ap (progress_after k s) (sym step)
+                (sym (recorded_append k s (items (view e)) (rest es (i + 1))) ∙ ap (progress_after k s) (sym step)
                 ∙ c.loop-i.invariant.1),
-            let passed = noted_le k s (progress_of w.rewrite.new.progress) (items (view e)) now_is.1 in
+            let passed = recorded_le k s (progress_of w.rewrite.new.progress) (items (view e)) now_is.1 in
                 omega (
                   arith,
                   count_two (rest es i) (items (view e)) (rest es (i + 1)) step,
@@ -124,7 +124,7 @@ rewrite_all-loop-i-preserved t c =
 
 pub rewrite_all-returns : goal.rewrite_all-returns
 rewrite_all-returns t c =
-    let k = known_of c.args.known.now in let s = progress_of c.args.progress.now in
+    let k = resolver_of c.args.resolver.now in let s = progress_of c.args.progress.now in
     let p = progress_of c.loop-i.progress in
     let es = c.args.trees.now.items in let i = c.loop-i.i in (
       each_resolved k s.passed es c.loop-i.trees.items i c.loop-i.invariant.0.0 (omega arith) c.loop-i.invariant.3,
@@ -140,7 +140,7 @@ rewrite-returns-in_ok-rewrite_child-in-Conditional-2 t c =
     let two = c.rewrite_child-in-Conditional-2 in let three = c.rewrite_child-in-Conditional-3 in
     let first = c.in_ok-rewrite_child-in-Conditional.ensures in
     let second = c.in_ok-rewrite_child-in-Conditional-2.ensures in
-    three_resolved (known_of c.args.known.now) (progress_of c.args.progress.now) (progress_of one.new.progress)
+    three_resolved (resolver_of c.args.resolver.now) (progress_of c.args.progress.now) (progress_of one.new.progress)
     (progress_of two.new.progress) three.result three.new.progress one.new.child two.new.child three.new.child
     is.is is.condition-is is.true_branch-is is.false_branch-is first.1 second.1 first.0 second.0 three.ensures
 
@@ -149,7 +149,7 @@ pub rewrite_absent-returns-in_ok-rewrite_child-in-Expression :
 rewrite_absent-returns-in_ok-rewrite_child-in-Expression t c =
     let one = c.rewrite_child-in-Expression in let two = c.rewrite_child-in-Expression-2 in
     let first = c.in_ok-rewrite_child-in-Expression.ensures in
-    two_resolved (known_of c.args.known.now) (progress_of c.args.progress.now) (progress_of one.new.progress) two.result
+    two_resolved (resolver_of c.args.resolver.now) (progress_of c.args.progress.now) (progress_of one.new.progress) two.result
     two.new.progress one.new.child two.new.child c.in-Expression.is first.1 first.0 two.ensures
 
 -- the walk stops at the first error, which is that of the walk over all the parts
@@ -158,32 +158,32 @@ pub rewrite-returns-in_err-rewrite_child-in-Conditional :
     goal.rewrite-returns-in_err-rewrite_child-in-Conditional
 rewrite-returns-in_err-rewrite_child-in-Conditional t c =
     let is = c.in-Conditional in
-    let parts = three_lent is.is is.condition-is is.true_branch-is is.false_branch-is in
-    let fault = c.in_err-rewrite_child-in-Conditional.ensures in
-    let kept = three_error (known_of c.args.known.now) (progress_of c.args.progress.now) _ parts fault in
+    let parts = three_borrowed is.is is.condition-is is.true_branch-is is.false_branch-is in
+    let error = c.in_err-rewrite_child-in-Conditional.ensures in
+    let kept = three_error (resolver_of c.args.resolver.now) (progress_of c.args.progress.now) _ parts error in
     search rules
 
 pub rewrite-returns-in_err-rewrite_child-in-Conditional-2 :
     goal.rewrite-returns-in_err-rewrite_child-in-Conditional-2
 rewrite-returns-in_err-rewrite_child-in-Conditional-2 t c =
     let is = c.in-Conditional in
-    let parts = three_lent is.is is.condition-is is.true_branch-is is.false_branch-is in
+    let parts = three_borrowed is.is is.condition-is is.true_branch-is is.false_branch-is in
     let first = c.in_ok-rewrite_child-in-Conditional.ensures in
-    let fault = c.in_err-rewrite_child-in-Conditional-2.ensures in
-    let kept = third_error (known_of c.args.known.now) _ _ _ parts first.1 fault in
+    let error = c.in_err-rewrite_child-in-Conditional-2.ensures in
+    let kept = third_error (resolver_of c.args.resolver.now) _ _ _ parts first.1 error in
     search rules
 
 pub rewrite_absent-returns-in_err-rewrite_child-in-Expression :
     goal.rewrite_absent-returns-in_err-rewrite_child-in-Expression
 rewrite_absent-returns-in_err-rewrite_child-in-Expression t c =
     let is = c.in-Expression in let s = progress_of c.args.progress.now in
-    let kept = error_kept (known_of c.args.known.now) s _ (items (view is.absent.value)) (items (view is.exp.value))
+    let kept = error_kept (resolver_of c.args.resolver.now) s _ (items (view is.absent.value)) (items (view is.exp.value))
     c.in_err-rewrite_child-in-Expression.ensures in
     search (rules, the_lemmas)
 
 pub rewrite_all-returns-in_err-rewrite : goal.rewrite_all-returns-in_err-rewrite
 rewrite_all-returns-in_err-rewrite t c =
-    let k = known_of c.args.known.now in let s = progress_of c.loop-i.progress in
+    let k = resolver_of c.args.resolver.now in let s = progress_of c.loop-i.progress in
     let es = c.args.trees.now.items in let i = c.loop-i.i in let e = c.index_mut.result.now in
     let same = c.loop-i.invariant.0.1 i e (omega arith) in
     let tree : e ≡ get_or es i e = cc in

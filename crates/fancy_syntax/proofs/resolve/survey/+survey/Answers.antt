@@ -6,7 +6,7 @@ use Rattle.fancy_grammar.specs.Walk.{groups_after}
 use Rattle.fancy_syntax.specs.declared.expr.Expr.{the_lemmas}
 use Rattle.fancy_syntax.proofs.PartLemmas.{two_parts, three_parts, two_count, three_count, two_found, three_found}
 use Rattle.fancy_syntax.proofs.PartLemmas.{third_found, two_met, three_met}
-use Rattle.fancy_syntax.specs.Notes.{has_items}
+use Rattle.fancy_syntax.specs.Records.{has_items}
 use Rattle.fancy_syntax.proofs.NoItems.{met_append}
 use Rattle.fancy_syntax.proofs.WalkLemmas.{found_append, found_le, count_two, rest, rest_next}
 use Rattle.fancy_syntax.proofs.resolve.survey.+survey.Goals as goal
@@ -22,15 +22,15 @@ survey-survey-requires-in-Conditional t c =
 pub survey-survey-requires-in-Conditional-2 : goal.survey-survey-requires-in-Conditional-2
 survey-survey-requires-in-Conditional-2 t c =
     let parts = three_parts c.in-Conditional.is c.deref-in-Conditional.ensures c.deref-in-Conditional-2.ensures refl in
-    let room = three_found c.args.named _ _ parts c.in_ok-survey-in-Conditional.ensures.found in
+    let bound = three_found c.args.named _ _ parts c.in_ok-survey-in-Conditional.ensures.found in
     (search (rules, the_lemmas), omega arith)
 
 pub survey-survey-requires-in-Conditional-3 : goal.survey-survey-requires-in-Conditional-3
 survey-survey-requires-in-Conditional-3 t c =
     let first = c.deref-in-Conditional.ensures in let second = c.deref-in-Conditional-2.ensures in
     let parts = three_parts c.in-Conditional.is first second c.deref-in-Conditional-3.ensures in
-    let before = c.in_ok-survey-in-Conditional.ensures in let behind = c.in_ok-survey-in-Conditional-2.ensures in
-    let room = third_found c.args.named _ _ _ parts before.found behind.found in
+    let before = c.in_ok-survey-in-Conditional.ensures in let after = c.in_ok-survey-in-Conditional-2.ensures in
+    let bound = third_found c.args.named _ _ _ parts before.found after.found in
     (search (rules, the_lemmas), omega arith)
 
 pub survey-returns-in_ok-survey-in-Conditional-2-clause-met :
@@ -38,8 +38,8 @@ pub survey-returns-in_ok-survey-in-Conditional-2-clause-met :
 survey-returns-in_ok-survey-in-Conditional-2-clause-met t c =
     let first = c.deref-in-Conditional.ensures in let second = c.deref-in-Conditional-2.ensures in
     let parts = three_parts c.in-Conditional.is first second c.deref-in-Conditional-3.ensures in
-    let before = c.in_ok-survey-in-Conditional.ensures in let behind = c.in_ok-survey-in-Conditional-2.ensures in
-    rw (three_met _ _ _ parts before.met behind.met) c.survey-in-Conditional-3.ensures.met
+    let before = c.in_ok-survey-in-Conditional.ensures in let after = c.in_ok-survey-in-Conditional-2.ensures in
+    rw (three_met _ _ _ parts before.met after.met) c.survey-in-Conditional-3.ensures.met
 
 pub survey_absent-returns-in_ok-survey-in-Expression-clause-met :
     goal.survey_absent-returns-in_ok-survey-in-Expression-clause-met
@@ -56,7 +56,7 @@ survey_absent-survey-requires-in-Expression t c =
 pub survey_absent-survey-requires-in-Expression-2 : goal.survey_absent-survey-requires-in-Expression-2
 survey_absent-survey-requires-in-Expression-2 t c =
     let parts = two_parts c.in-Expression.is c.deref-in-Expression.ensures c.deref-in-Expression-2.ensures in
-    let room = two_found c.args.named _ _ parts c.in_ok-survey-in-Expression.ensures.found in
+    let bound = two_found c.args.named _ _ parts c.in_ok-survey-in-Expression.ensures.found in
     (search (rules, the_lemmas), omega arith)
 
 pub survey_all-survey-requires : goal.survey_all-survey-requires

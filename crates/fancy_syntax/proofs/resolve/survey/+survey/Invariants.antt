@@ -2,7 +2,7 @@ use Rattle.std.proofs.Common.{◌≡◌, ◌+◌, ◌≤◌, ◌||◌, length}
 use Rattle.fancy_grammar.specs.Items.{openings_in}
 use Rattle.fancy_parts.specs.Groups.{groups_of}
 use Rattle.fancy_grammar.specs.Walk as spec
-use Rattle.fancy_syntax.specs.Notes.{has_items}
+use Rattle.fancy_syntax.specs.Records.{has_items}
 use Rattle.fancy_syntax.proofs.WalkLemmas.{rest}
 use Rattle.fancy_syntax.proofs.resolve.survey.+survey.Given as goal
 

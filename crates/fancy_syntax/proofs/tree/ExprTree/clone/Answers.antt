@@ -15,8 +15,8 @@ named_same (e ∷ es) (f ∷ fs) ((name, (numbers, long)), more) =
     let rest = named_same es fs more in cc
 named_same _ _ h = absurd h
 
-pub returns-clause-marks : goal.returns-clause-marks
-returns-clause-marks c =
+pub returns-clause-group_info : goal.returns-clause-group_info
+returns-clause-group_info c =
     let numbers = each_same _ _ c.in_ok-clone.ensures.cases in
     let names = named_same c.args.self.now.named_groups.entries c.in_ok-clone-2.field-0.entries
     c.in_ok-clone-2.ensures.cases in

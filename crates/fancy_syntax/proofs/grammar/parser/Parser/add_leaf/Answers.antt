@@ -9,10 +9,10 @@ returns-in-Some-clause-reading g c start none l h =
     let p = c.in-Some.ensures.plain in (
       _,
       running_leaf _ h p (rw c.in_ok-leaf.ensures at c.in_ok-add.ensures.trees),
-      λ n. subst (g.S.Spanning.notes c.add.new.spans)
+      λ n. subst (g.S.Spanning.records c.add.new.spans)
           (added_leaf (view c.in_ok-leaf.leaf) _ _ _ _ l (ap is_empty c.in_ok-leaf.ensures ∙ p.solid)
           c.reach.ensures c.reach-in-Some.ensures)
-          (c.in_ok-add.ensures.spans _ (c.in_ok-note_leaf.ensures l n)),
+          (c.in_ok-add.ensures.spans _ (c.in_ok-record_leaf.ensures l n)),
     )
 
 pub returns-clause-reading : goal.returns-clause-reading
@@ -20,8 +20,8 @@ returns-clause-reading g c start none l h =
     let p = c.in-Some-plain_escape.ensures.plain in (
       _,
       running_leaf _ h p (rw c.in_ok-leaf-2.ensures at c.in_ok-add-2.ensures.trees),
-      λ n. subst (g.S.Spanning.notes c.add-2.new.spans)
+      λ n. subst (g.S.Spanning.records c.add-2.new.spans)
           (added_leaf (view c.in_ok-leaf-2.leaf) _ _ _ _ l (ap is_empty c.in_ok-leaf-2.ensures ∙ p.solid)
           c.reach-2.ensures c.reach-3.ensures)
-          (c.in_ok-add-2.ensures.spans _ (c.in_ok-note_leaf-2.ensures l n)),
+          (c.in_ok-add-2.ensures.spans _ (c.in_ok-record_leaf-2.ensures l n)),
     )

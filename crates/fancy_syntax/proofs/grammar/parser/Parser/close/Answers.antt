@@ -2,14 +2,14 @@ use Rattle.std.proofs.Common.{◌≡◌, [], ◌∷◌, ◌++◌, length, ap, ar
 use Rattle.std.proofs.lemmas.List.{nil_from_length}
 use Rattle.std.proofs.lemmas.Result.{err_from_is_err_and}
 use Rattle.fancy_grammar.specs.Grammar.{Alternation, Piece}
-use Rattle.fancy_grammar.specs.State.{fault}
-use Rattle.fancy_syntax.specs.Machine.{IsStep, part_of, close_noted}
+use Rattle.fancy_grammar.specs.State.{failed}
+use Rattle.fancy_syntax.specs.Machine.{IsStep, part_of, close_recorded}
 use Rattle.fancy_syntax.specs.Log.{branch_ended}
-use Rattle.fancy_syntax.specs.Noting.{choice_noted}
+use Rattle.fancy_syntax.specs.Recording.{choice_recorded}
 use Rattle.fancy_syntax.specs.Parsed.{state}
 use Rattle.fancy_syntax.specs.View.{view, views}
 use Rattle.fancy_syntax.specs.declared.grammar.frame.Frame.{Frame}
-use Rattle.fancy_syntax.proofs.MachineLemmas.{running_fault, running_step, running_end, running_closing, choice_closed, joined}
+use Rattle.fancy_syntax.proofs.MachineLemmas.{running_error, running_step, running_end, running_closing, choice_closed, joined}
 use Rattle.fancy_grammar.proofs.OutcomeLemmas.{IsErrorAmong-map}
 use Rattle.fancy_syntax.proofs.grammar.parser.Parser.close.Goals as goal
 
@@ -20,7 +20,7 @@ returns-in_default-clause-reading g c start none l h =
       _,
       running_end (view c.in_ok-inner.inner) h c.requires.last c.requires.no_bar
           (c.in_ok-inner.ensures.tree h.below h.branches h.pieces h.holds) empty,
-      λ n. subst (g.S.Spanning.notes c.finish.new.spans) (λ i. choice_noted (h.branches ++ joined h.pieces ∷ [])
+      λ n. subst (g.S.Spanning.records c.finish.new.spans) (λ i. choice_recorded (h.branches ++ joined h.pieces ∷ [])
           (c.reach-end.ensures i) (branch_ended (length h.pieces) (c.reach-end.ensures i) l))
           (c.in_ok-inner.ensures.spans h.below h.branches h.pieces l h.holds n),
     )
@@ -28,41 +28,41 @@ returns-in_default-clause-reading g c start none l h =
 pub returns-in_err-step-clause-reading : goal.returns-in_err-step-clause-reading
 returns-in_err-step-clause-reading g c start none l h =
     let f = c.in_ok-inner.ensures in
-    let r = c.replace-opener.ensures in
-    let w = running_closing c.pop.new.self.items c.replace-opener.new.dest (views c.finish.new.trees.items)
-    (view c.in_ok-inner.inner) (part_of c.replace-opener.result.opener) (ap (λ (f : Frame). part_of f.opener) r.value)
+    let r = c.replace-open_group.ensures in
+    let w = running_closing c.pop.new.self.items c.replace-open_group.new.dest (views c.finish.new.trees.items)
+    (view c.in_ok-inner.inner) (part_of c.replace-open_group.result.open_group) (ap (λ (f : Frame). part_of f.open_group) r.value)
     h c.requires.last c.requires.no_bar
     (f.tree h.below h.branches h.pieces h.holds) (f.below h.below h.branches h.pieces h.holds)
     (rw r.after c.in-Some.ensures.items) in
     let n : c.len.result ≡ length c.pop.new.self.items = omega (arith, c.len.ensures, c.pop.new.self.ok.0) in
     let e = err_from_is_err_and c.from_residual-in_err-step.result c.from_residual-in_err-step.ensures.1 in
-    rw (e.1, e.2) (IsErrorAmong-map (Piece c.len.result w.here)
+    rw (e.1, e.2) (IsErrorAmong-map (Piece c.len.result w.current)
     (Alternation 0 start) c.in_err-step.field-0.0
-    (λ k p a. running_fault w.outer w.more (subst (λ d. Piece d w.here (fault k p)) n a))
-    (c.in_err-step.ensures.value w.here w.inside w.noted w.before
-    (choice_closed h.branches h.pieces (state c.args.self.now.here) l) w.began.0 w.began.1 (rw n w.opens) (rw n w.whole)))
+    (λ k p a. running_error w.outer w.more (subst (λ d. Piece d w.current (failed k p)) n a))
+    (c.in_err-step.ensures.value w.current w.inside w.recorded w.before
+    (choice_closed h.branches h.pieces (state c.args.self.now.current) l) w.began.0 w.began.1 (rw n w.opens) (rw n w.whole)))
 
 pub returns-clause-reading : goal.returns-clause-reading
 returns-clause-reading g c start none l h =
     let f = c.in_ok-inner.ensures in
-    let r = c.replace-opener.ensures in
-    let w = running_closing c.pop.new.self.items c.replace-opener.new.dest (views c.finish.new.trees.items)
-    (view c.in_ok-inner.inner) (part_of c.replace-opener.result.opener) (ap (λ (f : Frame). part_of f.opener) r.value)
+    let r = c.replace-open_group.ensures in
+    let w = running_closing c.pop.new.self.items c.replace-open_group.new.dest (views c.finish.new.trees.items)
+    (view c.in_ok-inner.inner) (part_of c.replace-open_group.result.open_group) (ap (λ (f : Frame). part_of f.open_group) r.value)
     h c.requires.last c.requires.no_bar
     (f.tree h.below h.branches h.pieces h.holds) (f.below h.below h.branches h.pieces h.holds)
     (rw r.after c.in-Some.ensures.items) in
     let n : c.len.result ≡ length c.pop.new.self.items = omega (arith, c.len.ensures, c.pop.new.self.ok.0) in
     let made = c.in_ok-step.step in
-    let m = choice_closed h.branches h.pieces (state c.args.self.now.here) l in
-    let k = close_noted c.replace-opener.new.dest.piece.left c.replace-opener.new.dest.piece.flags
-    (part_of c.replace-opener.result.opener) (view c.in_ok-inner.inner) (state c.args.self.now.here) m in
-    let steps = subst (λ d. IsStep d w.here w.noted made (state c.close.new.here) k) n
-    (c.in_ok-step.ensures.value w.here w.inside w.noted w.before m w.began.0 w.began.1 (rw n w.opens) (rw n w.whole)) in
+    let m = choice_closed h.branches h.pieces (state c.args.self.now.current) l in
+    let k = close_recorded c.replace-open_group.new.dest.piece.left c.replace-open_group.new.dest.piece.flags
+    (part_of c.replace-open_group.result.open_group) (view c.in_ok-inner.inner) (state c.args.self.now.current) m in
+    let steps = subst (λ d. IsStep d w.current w.recorded made (state c.close.new.current) k) n
+    (c.in_ok-step.ensures.value w.current w.inside w.recorded w.before m w.began.0 w.began.1 (rw n w.opens) (rw n w.whole)) in
     let taken = c.in_ok-take.ensures in (
       _,
-      rw taken.here (running_step k made w.outer w.began w.more steps taken.taken),
-      λ n. taken.spans k (c.in_ok-step.ensures.spans m (subst (g.S.Spanning.notes c.finish.new.spans)
-          (λ i. choice_noted (h.branches ++ joined h.pieces ∷ []) (c.reach-end.ensures i)
+      rw taken.current (running_step k made w.outer w.began w.more steps taken.taken),
+      λ n. taken.spans k (c.in_ok-step.ensures.spans m (subst (g.S.Spanning.records c.finish.new.spans)
+          (λ i. choice_recorded (h.branches ++ joined h.pieces ∷ []) (c.reach-end.ensures i)
           (branch_ended (length h.pieces) (c.reach-end.ensures i) l))
           (f.spans h.below h.branches h.pieces l h.holds n))),
     )

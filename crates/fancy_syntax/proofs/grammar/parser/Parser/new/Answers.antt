@@ -9,4 +9,4 @@ pub returns-clause-reading : goal.returns-clause-reading
 returns-clause-reading c l =
     let f = c.new.ensures in
     running_start (state c.args.start) l _ _ _ (c.reserve_exact.ensures.items ∙ c.new-2.ensures.items) (ap views c.in_ok-with_capacity.ensures.items)
-    f.branches f.pieces (ap part_of f.opener)
+    f.branches f.pieces (ap part_of f.open_group)

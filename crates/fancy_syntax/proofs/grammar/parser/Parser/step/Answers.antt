@@ -1,12 +1,12 @@
 use Rattle.std.proofs.Common.{◌≡◌, length, arith, refl, subst}
 use Rattle.std.proofs.lemmas.Result.{err_from_is_err_and}
 use Rattle.fancy_grammar.specs.Grammar.{Alternation, Piece}
-use Rattle.fancy_grammar.specs.State.{fault}
+use Rattle.fancy_grammar.specs.State.{failed}
 use Rattle.fancy_syntax.specs.Machine.{IsStep, OpensBelow}
-use Rattle.fancy_syntax.specs.Noting.{step_noted}
+use Rattle.fancy_syntax.specs.Recording.{step_recorded}
 use Rattle.fancy_syntax.specs.Parsed.{state}
-use Rattle.fancy_syntax.proofs.MachineLemmas.{running_began, running_fault, running_step}
-use Rattle.fancy_syntax.proofs.RoomLemmas.{room_for_step}
+use Rattle.fancy_syntax.proofs.MachineLemmas.{running_began, running_error, running_step}
+use Rattle.fancy_syntax.proofs.StackLemmas.{capacity_for_step}
 use Rattle.fancy_grammar.proofs.OutcomeLemmas.{IsErrorAmong-map}
 use Rattle.fancy_syntax.proofs.grammar.parser.Parser.step.Goals as goal
 
@@ -15,23 +15,23 @@ returns-in_err-step-clause-reading g c start none l h =
     let n : c.len.result ≡ length c.args.self.now.stack.items =
     omega (arith, c.len.ensures, c.args.self.now.stack.ok.0) in
     let e = err_from_is_err_and c.from_residual.result c.from_residual.ensures.1 in
-    rw (e.1, e.2) (IsErrorAmong-map (Piece c.len.result (state c.args.self.now.here)) (Alternation 0 start)
+    rw (e.1, e.2) (IsErrorAmong-map (Piece c.len.result (state c.args.self.now.current)) (Alternation 0 start)
     c.in_err-step.field-0.0
-    (λ k p a. running_fault h c.requires.more
-    (subst (λ d. Piece d (state c.args.self.now.here) (fault k p)) n a)) (c.in_err-step.ensures.value l))
+    (λ k p a. running_error h c.requires.more
+    (subst (λ d. Piece d (state c.args.self.now.current) (failed k p)) n a)) (c.in_err-step.ensures.value l))
 
 pub returns-clause-reading : goal.returns-clause-reading
 returns-clause-reading g c start none l h =
     let n : c.len.result ≡ length c.args.self.now.stack.items =
     omega (arith, c.len.ensures, c.args.self.now.stack.ok.0) in
     let made = c.in_ok-step.step in
-    let k = step_noted c.len.result (state c.args.self.now.here) l in
-    let steps = subst (λ d. IsStep d (state c.args.self.now.here) l made (state c.read_step.new.here) k) n
+    let k = step_recorded c.len.result (state c.args.self.now.current) l in
+    let steps = subst (λ d. IsStep d (state c.args.self.now.current) l made (state c.read_step.new.current) k) n
     (c.in_ok-step.ensures.value l) in
     let taken = c.in_ok-take.ensures in (
       _,
-      rw taken.here
-          (running_step k made (running_began c.byte_len-self.result c.args.self.now.here.flags h)
+      rw taken.current
+          (running_step k made (running_began c.byte_len-self.result c.args.self.now.current.flags h)
           (c.byte_len-self.ensures, refl) c.requires.more steps taken.taken),
       λ n. taken.spans k (c.in_ok-step.ensures.spans l n),
     )
@@ -40,11 +40,11 @@ pub take-requires : goal.take-requires
 take-requires g c =
     let n : c.len.result ≡ length c.args.self.now.stack.items = omega (arith, c.len.ensures, c.args.self.now.stack.ok.0) in
     let made = c.in_ok-step.step in
-    let (start, none, l, h, room) = c.requires.room in
-    let k = step_noted c.len.result (state c.args.self.now.here) l in
-    let steps = subst (λ d. IsStep d (state c.args.self.now.here) l made (state c.read_step.new.here) k) n
+    let (start, none, l, h, reserved) = c.requires.reserved in
+    let k = step_recorded c.len.result (state c.args.self.now.current) l in
+    let steps = subst (λ d. IsStep d (state c.args.self.now.current) l made (state c.read_step.new.current) k) n
     (c.in_ok-step.ensures.value l) in
     record {
-      room = room_for_step (state c.read_step.new.here) k made _ h steps (subst (OpensBelow made) n c.in_ok-step.ensures.below) room
+      reserved = capacity_for_step (state c.read_step.new.current) k made _ h steps (subst (OpensBelow made) n c.in_ok-step.ensures.below) reserved
           (omega (arith, c.args.self.now.stack.ok.0));
     }

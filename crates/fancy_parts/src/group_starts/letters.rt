@@ -1,0 +1,196 @@
+//! The letters of a flag group.
+ghost use Rattle.std.specs.Prelude.{◌≡◌, ℕ, ◌+◌, ◌<◌, ◌++◌, ◌∷◌, length, chars, codes, ◌||◌, IfErr, IfOk};
+ghost use Rattle.fancy_lex.specs.Reading.{Reading, Returns, Reports, Derives};
+ghost use Rattle.fancy_lex.specs.Text.{Text, EndsWith, text_of};
+ghost use Rattle.fancy_lex.specs.ErrorViews.{LiesWithin};
+ghost use Rattle.fancy_parts.specs.FlagLetters as spec;
+ghost use Rattle.fancy_parts.specs.LetterSteps as steps;
+ghost use Rattle.fancy_parts.specs.FlagReads.{letters_of, step_of};
+
+use fancy_lex::error::{ParseError, ReadError};
+use fancy_lex::flags::Flags;
+use fancy_lex::layout::skip;
+use fancy_lex::text::{AT_END, front, next, reach};
+use std::alloc::{AllocError, Global};
+
+/// The result of the letters of a flag group.
+#[derive(Clone, Copy)]
+pub enum Letters {
+    /// Closed by a parenthesis: these flags hold from there on.
+    InlineFlags(Flags),
+    /// Closed by a colon: these flags hold inside the group.
+    FlagGroup(Flags),
+}
+
+/// The result of one letter: the letters end there, or go on and then clear their flags or set them.
+#[derive(Clone, Copy)]
+enum LetterStep {
+    Ends(Letters),
+    GoesOn { clears: bool, flags: Flags },
+}
+
+/// The flags with the letter's flag set or cleared; None if the letter is no flag.
+fn with_letter(flags: Flags, on: bool, letter: char) -> Option<Flags>
+    ensures { spec.with_letter flags on letter ≡ result }
+{
+    if letter == 'i' {
+        Some(Flags { casei: on, ..flags })
+    } else if letter == 'm' {
+        Some(Flags { multi: on, ..flags })
+    } else if letter == 'R' {
+        Some(Flags { crlf: on, ..flags })
+    } else if letter == 's' {
+        Some(Flags { dotnl: on, ..flags })
+    } else if letter == 'U' {
+        Some(Flags {
+            swap_greed: on,
+            ..flags
+        })
+    } else if letter == 'x' {
+        Some(Flags {
+            ignore_space: on,
+            ..flags
+        })
+    } else {
+        None
+    }
+}
+
+/// The text of an unknown flag: `(?` and the letters through the one before `rest`.
+fn flag_text(alloc: Global, letters: &str, rest: &str) -> Result<String, AllocError>
+    requires { (w : Text) × (chars letters.now ≡ w ++ chars rest.now) }
+    ensures { IfOk result (λ s. text_of s ≡ codes "(?" ++ steps.letters_before (chars letters.now) (chars rest.now)) }
+{
+    let read = front(letters, rest);
+    let mut text = String::from_str(alloc, "(?")?;
+    text.push_str(read)?;
+    Ok(text)
+}
+
+/// The error of the letter before `rest`.
+fn unknown_flag(alloc: Global, letters: &str, rest: &str) -> ReadError
+    requires { (w : Text) × (chars letters.now ≡ w ++ chars rest.now) }
+    ensures { Reports result (steps.unknown_letter (chars letters.now) (chars rest.now)) }
+{
+    match flag_text(alloc, letters, rest) {
+        Ok(text) => ReadError::At(reach(letters), ParseError::UnknownFlag(text)),
+        Err(_) => ReadError::OutOfMemory,
+    }
+}
+
+/// Whether none of the letters before `current` was read.
+#[tactic(auto, using(fancy_lex::proofs::TextLemmas::bytes_chars))]
+fn is_first(letters: &str, current: &str) -> bool
+    ensures { result ≡ steps.is_first (chars letters.now) (chars current.now) }
+{
+    current.len() == letters.len()
+}
+
+/// Whether only a minus sign was read of the letters before `current`.
+#[tactic(auto, using(fancy_lex::proofs::TextLemmas::bytes_chars))]
+fn is_after_minus(letters: &str, clears: bool, current: &str) -> bool
+    ensures { result ≡ steps.is_after_minus (chars letters.now) clears (chars current.now) }
+{
+    clears && current.len() + 1 == letters.len()
+}
+
+/// Whether a parenthesis at `current` has no letter before it.
+fn closes_nothing(letters: &str, clears: bool, current: &str) -> bool
+    ensures { let first = steps.is_first (chars letters.now) (chars current.now) in
+        result ≡ (first || steps.is_after_minus (chars letters.now) clears (chars current.now)) }
+{
+    is_first(letters, current) || is_after_minus(letters, clears, current)
+}
+
+/// Reads the letter at `current`.
+fn flag_letter<'a>(
+    alloc: Global,
+    letters: &str,
+    clears: bool,
+    flags: Flags,
+    current: &'a str,
+) -> Result<(LetterStep, &'a str), ReadError>
+    requires { (w : Text) × (chars letters.now ≡ w ++ chars current.now) }
+    ensures value { Returns step_of result (steps.step (chars letters.now) clears flags (chars current.now)) }
+    ensures one_on { IfOk result (λ p. (c : ℕ) × (chars current.now ≡ c ∷ chars p.1.now)) }
+    ensures shorter { IfOk result (λ p. length p.1.now < length current.now) }
+{
+    let Some((letter, rest)) = next(current) else {
+        return Err(ReadError::At(AT_END, ParseError::UnclosedOpenParen));
+    };
+    if letter == ')' {
+        if closes_nothing(letters, clears, current) {
+            return Err(unknown_flag(alloc, letters, rest));
+        }
+        return Ok((LetterStep::Ends(Letters::InlineFlags(flags)), rest));
+    }
+    if letter == ':' {
+        if is_after_minus(letters, clears, current) {
+            return Err(unknown_flag(alloc, letters, rest));
+        }
+        return Ok((LetterStep::Ends(Letters::FlagGroup(flags)), rest));
+    }
+    if letter == '-' {
+        if clears {
+            return Err(unknown_flag(alloc, letters, rest));
+        }
+        return Ok((
+            LetterStep::GoesOn {
+                clears: true,
+                flags,
+            },
+            rest,
+        ));
+    }
+    if letter == 'u' {
+        if clears == flags.unicode {
+            return Err(ReadError::At(reach(current), ParseError::ChangingUnicodeModeUnsupported));
+        }
+        return Ok((LetterStep::GoesOn { clears, flags }, rest));
+    }
+    match with_letter(flags, !clears, letter) {
+        Some(flags) => Ok((LetterStep::GoesOn { clears, flags }, rest)),
+        None => Err(unknown_flag(alloc, letters, rest)),
+    }
+}
+
+/// Reads the letters of a flag group, one after another.
+fn read_letters(alloc: Global, text: &str, flags: Flags) -> Result<(Letters, &str), ReadError>
+    ensures value { Returns letters_of result (steps.letters flags (chars text.now)) }
+    ensures shorter { IfOk result (λ p. length p.1.now < length text.now) }
+{
+    let mut clears = false;
+    let mut flags = flags;
+    let mut rest = text;
+    loop {
+        let current = skip(rest, flags.ignore_space)?;
+        let (step, after) = flag_letter(alloc, text, clears, flags, current)?;
+        match step {
+            LetterStep::Ends(letters) => return Ok((letters, after)),
+            LetterStep::GoesOn {
+                clears: now_clears,
+                flags: changed,
+            } => {
+                clears = now_clears;
+                flags = changed;
+                rest = after;
+            }
+        }
+    }
+}
+
+/// Parses the letters of a flag group, which begin after the `(?`: what they set, and the text after the parenthesis or
+/// the colon. UnknownFlag at the first letter for a letter that is no flag, for a second minus, and if there is no
+/// letter before the end; ChangingUnicodeModeUnsupported at a `u` that is not the mode; UnclosedOpenParen if the text
+/// ends, or a comment is not closed.
+pub fn flag_letters(alloc: Global, text: &str, flags: Flags) -> Result<(Letters, &str), ReadError>
+    ensures value { Returns letters_of result (steps.letters flags (chars text.now)) }
+    ensures derives { Derives letters_of result (spec.GroupLetters flags (chars text.now)) }
+    ensures only { (o : Reading spec.Letters) → spec.GroupLetters flags (chars text.now) o →
+        Returns letters_of result o }
+    ensures cut { IfOk result (λ p. EndsWith (chars text.now) (chars p.1.now)) }
+    ensures position { IfErr result (λ e. LiesWithin (length text.now + 1) e) }
+    ensures shorter { IfOk result (λ p. length p.1.now < length text.now) }
+{
+    read_letters(alloc, text, flags)
+}

@@ -1,0 +1,13 @@
+use Rattle.std.proofs.Common.{subst}
+use Rattle.std.specs.Prelude.{OnOk}
+use Rattle.fancy_grammar.specs.PatternNeeds.{inline_flags}
+use Rattle.fancy_pattern.specs.TextOutput.{Added}
+use Rattle.fancy_pattern.proofs.WritesLemmas.{on_both}
+use Rattle.fancy_pattern.proofs.flags.put_new_flags.Goals as goal
+
+pub returns : goal.returns
+returns g c =
+    on_both c.put_group.result _ _
+    (subst (λ f. OnOk c.put_group.result (Added g.S.TextOutput.holds c.args.out.now c.put_group.new.out
+    (inline_flags c.args.context.now.flags f))) c.set.ensures.flags c.put_group.ensures)
+    c.set.ensures.context

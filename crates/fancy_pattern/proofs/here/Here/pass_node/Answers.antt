@@ -1,4 +1,0 @@
-use Rattle.fancy_pattern.proofs.here.Here.pass_node.Goals as goal
-
-pub returns : goal.returns
-returns c h n l is = (c.next_node-needs.ensures h n l is).1

@@ -1,0 +1,95 @@
+//! The position of a text.
+ghost use Rattle.std.specs.Prelude.{◌≡◌, ◌∷◌, List, OnOk};
+ghost use Rattle.fancy_lex.specs.declared.flags.Flags.{Flags};
+ghost use Rattle.fancy_grammar.specs.Pattern as spec;
+ghost use Rattle.fancy_grammar.specs.PatternNeeds.{with_needs};
+ghost use Rattle.fancy_grammar.specs.declared.needs.Needs.{Needs};
+ghost use Rattle.fancy_pattern.specs.Wheres.{IsContext};
+
+use crate::needs::{no_needs, with_needs};
+use fancy_grammar::depth::MAX_DEPTH;
+use fancy_grammar::needs::Needs;
+use fancy_lex::flags::Flags;
+use std::alloc::AllocError;
+
+/// The position of a text.
+#[derive(Clone, Copy)]
+pub(crate) struct Context<'a> {
+    /// The flags in effect there.
+    pub(crate) flags: Flags,
+    /// How many groups opened before it.
+    pub(crate) opened: usize,
+    /// How many levels are left: one more than the groups that may still open in it.
+    pub(crate) left: usize,
+    /// The needs of each node from there on, in preorder.
+    pub(crate) needs: &'a [Needs],
+}
+
+impl<'a> Context<'a> {
+    /// The start of a pattern.
+    pub(crate) fn at_start(flags: Flags, needs: &'a [Needs]) -> Context<'a>
+        ensures { IsContext result (record { flags = flags; opened = 0; depth = 0 }) needs.now }
+    {
+        Context {
+            flags,
+            opened: 0,
+            left: MAX_DEPTH,
+            needs,
+        }
+    }
+
+    /// Passes the next node, and returns its needs.
+    pub(crate) fn next_node(&mut self) -> Needs
+        ensures { (h : spec.Context) (n : Needs) (l : List Needs) → IsContext self.old h (n ∷ l) →
+            (result ≡ n) × IsContext self.new h l }
+    {
+        match self.needs {
+            [first, rest @ ..] => {
+                self.needs = rest;
+                *first
+            }
+            [] => no_needs(),
+        }
+    }
+
+    /// Passes the next node.
+    pub(crate) fn pass_node(&mut self)
+        ensures { (h : spec.Context) (n : Needs) (l : List Needs) → IsContext self.old h (n ∷ l) → IsContext self.new h l }
+    {
+        let _needs = self.next_node();
+    }
+
+    /// Sets the flags to what is needed.
+    pub(crate) fn set(&mut self, needs: Needs)
+        ensures flags { self.new.flags ≡ with_needs self.old.flags needs }
+        ensures context { (h : spec.Context) (l : List Needs) → IsContext self.old h l →
+            IsContext self.new (spec.under (with_needs h.flags needs) h) l }
+    {
+        self.flags = with_needs(self.flags, needs);
+    }
+
+    /// Enters a group.
+    pub(crate) fn enter(&mut self)
+        ensures { (h : spec.Context) (l : List Needs) → IsContext self.old h l → IsContext self.new (spec.deeper h) l }
+    {
+        self.left = self.left.saturating_sub(1);
+    }
+
+    /// Counts a group with a number. A word can hold the count: memory has no capacity for more groups.
+    pub(crate) fn count_opening(&mut self) -> Result<(), AllocError>
+        ensures { OnOk result ((h : spec.Context) (l : List Needs) → IsContext self.old h l →
+            IsContext self.new (spec.past_groups 1 h) l) }
+    {
+        self.opened = self.opened.checked_add(1).ok_or(AllocError)?;
+        Ok(())
+    }
+
+    /// Leaves a group that is at `outside`: the flags from before are in effect again.
+    pub(crate) fn leave(&mut self, outside: &Context)
+        ensures { (h e : spec.Context) (k l : List Needs) → IsContext outside.now h k → IsContext self.old e l →
+            IsContext self.new (record h { opened = e.opened }) l }
+    {
+        self.flags = outside.flags;
+        self.left = outside.left;
+    }
+}

@@ -1,0 +1,868 @@
+-- What a derivation records shows its spans, part by part.
+use Rattle.std.proofs.Common.{◌≡◌, ℕ, suc, ◌+◌, ◌-◌, ◌==◌, Bool, true, false, ◌&&◌, not, if◌then◌else◌, List, []}
+use Rattle.std.proofs.Common.{◌∷◌, ◌++◌, length, Some, None, refl, sym, ap, ◌∙◌, subst, arith, append-nil}
+use Rattle.std.proofs.Common.{length-append, append_assoc, nat_lt}
+use Rattle.std.specs.Prelude.{remove}
+use Rattle.std.specs.List.{slice_get}
+use Rattle.std.proofs.lemmas.Bool.{cond_both}
+use Rattle.std.proofs.lemmas.Bool.Decides.{nat_tests}
+use Rattle.std.proofs.lemmas.List.{length_push}
+use Rattle.std.proofs.lemmas.List.Edits.{remove-append_right}
+use Rattle.std.proofs.Math.Seq.{take-append_seam, get_or-append_seam}
+use Prim.Native.Char.{code}
+use Rattle.fancy_lex.specs.Located.{Kind}
+use Rattle.fancy_lex.specs.Text.{Text, bytes, reach_of}
+use Rattle.fancy_lex.specs.declared.flags.Flags.{Flags}
+use Rattle.fancy_parts.specs.Ranks.{is_counted}
+use Rattle.fancy_grammar.specs.AtomStart.{AtomStart}
+use Rattle.fancy_grammar.specs.Grammar.{Alternation, alternation, Branches, last, more, branch_error, Branch, branch}
+use Rattle.fancy_grammar.specs.Grammar.{Pieces, stop, next, piece_error, Piece, piece, layout_error, Atom, atom, AtomOf}
+use Rattle.fancy_grammar.specs.Grammar.{a_nothing, a_read, a_group, a_condition, condition_error, a_body, two_branches}
+use Rattle.fancy_grammar.specs.Grammar.{one_branch, absent_error, Inside, inside, Body, the_body}
+use Rattle.fancy_grammar.specs.Grammar.{closed, closed_at, branches_of, conditional_of, conditional_after}
+use Rattle.fancy_grammar.specs.Grammar.{is_condition, clear_or_stopper, whole, start, ended}
+use Rattle.fancy_grammar.specs.GroupKind.{GroupKind, capture, flag_group, look, atomic, define, repeater, group_node}
+use Rattle.fancy_grammar.specs.Join.{solid, is_empty, one_or, choice}
+use Rattle.fancy_grammar.specs.Label as label
+use Rattle.fancy_grammar.specs.Quantified.{quants}
+use Rattle.fancy_grammar.specs.Spans.{Span, Spans, node, Forest, no_spans, more_spans, after_bar, alone, around}
+use Rattle.fancy_grammar.specs.Spans.{in_preorder, all_in_preorder, between, one_or_node, solid_spans, group_spans}
+use Rattle.fancy_grammar.specs.Spans.{body_parts, conditional_spans, condition_span, quants_spans, end_of, if_done}
+use Rattle.fancy_grammar.specs.Spans.{alternation_spans, branches_spans, branch_spans, pieces_spans, piece_spans}
+use Rattle.fancy_grammar.specs.Spans.{atom_spans, atom_of_spans, inside_spans, body_spans}
+use Rattle.fancy_grammar.specs.State.{State, at, Outcome, done, failed, and_then, seen_through}
+use Rattle.fancy_grammar.specs.Tree.{Tree, leaf, over, row, Trees, trees_of, list_of, alt, concat, empty}
+use Rattle.fancy_grammar.specs.Tree.{expression, conditional}
+use Rattle.fancy_grammar.proofs.AtomStartLaws.{IsLeaf, StartReads, start_reads}
+use Rattle.fancy_grammar.proofs.OutcomeLemmas.{Holds, then_holds, after_keeps}
+use Rattle.fancy_grammar.proofs.Slices.{Reads}
+use Rattle.fancy_grammar.proofs.SpansCondition.{ConditionLies, condition_lies}
+use Rattle.fancy_grammar.proofs.SpansLemmas.{Lies, row_at, leaf_lies}
+use Rattle.fancy_grammar.proofs.TreeLaws.{list_back}
+use Rattle.fancy_syntax.specs.Log.{Log, plain, put, reaches, shown, started, leaf_recorded, left_out, opened, part_begun}
+use Rattle.fancy_syntax.specs.Log.{body_opened, branch_begun, branch_ended, choice_ended, body_split, branch_lacked}
+use Rattle.fancy_syntax.specs.Log.{part_dropped, atom_closed, atom_ended, first_bar, alt_split, others_put}
+use Rattle.fancy_syntax.specs.Log.{atom_opened}
+use Rattle.fancy_syntax.specs.Recording.{alternation_recorded, branches_recorded, branch_recorded, pieces_recorded, piece_recorded}
+use Rattle.fancy_syntax.specs.Recording.{atom_recorded, atom_of_recorded, inside_recorded, body_recorded, quants_recorded, group_recorded}
+use Rattle.fancy_syntax.specs.RecordedWhole.{ShowsWhole}
+use Rattle.fancy_syntax.specs.Recording.{AlternationTo}
+use Rattle.fancy_syntax.specs.Recording.{body_parted, conditional_recorded, stopper_recorded, choice_recorded, added}
+use Rattle.fancy_syntax.specs.declared.grammar.recorded.FirstBar.{FirstBar}
+use Rattle.fancy_syntax.specs.declared.grammar.recorded.RecordedNode.{RecordedNode}
+use Rattle.fancy_syntax.specs.declared.grammar.recorded.Open.{Open}
+use Rattle.fancy_syntax.proofs.RecordingLemmas.{put_recorded, Beside, one_more, several_more, Barred, Fits, shown_one}
+use Rattle.fancy_syntax.proofs.RecordingLemmas.{shown_append, fits_shown, PieceRecorded, quants_recorded_as}
+
+-- the open branch begins at the state, above all recorded nodes
+pub record BranchBegun (s : State) (l : Log) : Type 0 where
+  branch : l.open_atom.branch ≡ reach_of s.rest
+  pieces : l.open_atom.pieces ≡ length l.recorded
+
+-- so does the open part
+pub record PartBegun (s : State) (l : Log) : Type 0 where
+  part : l.open_atom.part ≡ reach_of s.rest
+  branches : l.open_atom.branches ≡ length l.recorded
+  bar : l.open_atom.bar ≡ None
+  branch : BranchBegun s l
+
+pub part_begins : (s : State) (l : Log) → PartBegun s (part_begun (reach_of s.rest) l)
+part_begins s l = record {
+  part = refl;
+  branches = refl;
+  bar = refl;
+  branch = record { branch = refl; pieces = refl };
+}
+
+-- the open atom and the open part stay the same
+pub record Kept (l m : Log) : Type 0 where
+  around : m.around ≡ l.around
+  start : m.open_atom.start ≡ l.open_atom.start
+  height : m.open_atom.height ≡ l.open_atom.height
+  part : m.open_atom.part ≡ l.open_atom.part
+  branches : m.open_atom.branches ≡ l.open_atom.branches
+
+kept : {l m : Log} → m.around ≡ l.around → m.open_atom ≡ l.open_atom → Kept l m
+kept a o = record {
+  around = a;
+  start = ap (λ (x : Open). x.start) o;
+  height = ap (λ (x : Open). x.height) o;
+  part = ap (λ (x : Open). x.part) o;
+  branches = ap (λ (x : Open). x.branches) o;
+}
+
+kept_on : {l m n : Log} → Kept l m → Kept m n → Kept l n
+kept_on h k = record {
+  around = k.around ∙ h.around;
+  start = k.start ∙ h.start;
+  height = k.height ∙ h.height;
+  part = k.part ∙ h.part;
+  branches = k.branches ∙ h.branches;
+}
+
+-- after the log l, an atom that began at the reach is open
+record Within (start : ℕ) (l m : Log) : Type 0 where
+  around : m.around ≡ l.around ++ l.open_atom ∷ []
+  start_is : m.open_atom.start ≡ start
+  height : m.open_atom.height ≡ length l.recorded
+
+within_on : {start : ℕ} {l m n : Log} → Within start l m → Kept m n → Within start l n
+within_on h k = record {
+  around = k.around ∙ h.around;
+  start_is = k.start ∙ h.start_is;
+  height = k.height ∙ h.height;
+}
+
+opened_within : (start first : ℕ) (l : Log) → Within start l (opened start first l)
+opened_within start first l = record { around = refl; start_is = refl; height = refl }
+
+-- a group without a name, with a number and without
+unnamed_group : (named : Bool) (n : RecordedNode) (xs : List RecordedNode) (p : Span) (x : Spans) → shown named xs ≡ in_preorder x →
+    reaches n ≡ p → n.unnamed ≡ true →
+    shown named (n ∷ xs) ≡ in_preorder (if is_counted named None then around p x else x)
+unnamed_group true n xs p x h i k = rw k h
+unnamed_group false n xs p x h i k = λ z. i z ∷ (h ∙ sym (append-nil (in_preorder x))) z
+
+-- a group with a name
+named_group : (named : Bool) (name : Text) (p : Span) (x : Spans) →
+    (if is_counted named (Some name) then around p x else x) ≡ around p x
+named_group true name p x = refl
+named_group false name p x = refl
+
+module _ (named : Bool) where
+  -- ---- the end of an atom
+
+  module _ (start : ℕ) (l : Log) where
+    ended_as : (m : Log) (r : Tree) (x : Spans) (xs : List RecordedNode) → Within start l m → m.recorded ≡ l.recorded ++ xs →
+        Fits named r x xs → PieceRecorded named start l (atom_ended m) r x
+    ended_as m r x xs h e f =
+        let n : length m.around - 1 ≡ length l.around =
+        omega (arith, ap length h.around, length_push l.around l.open_atom) in
+        record {
+          xs = xs;
+          is_recorded = e;
+          is_around = rw (n, h.around) (take-append_seam l.around (l.open_atom ∷ []));
+          is_open = rw (n, h.around) (get_or-append_seam l.around l.open_atom [] m.open_atom);
+          is_last = λ i. record { start = h.start_is i; height = h.height i };
+          fits = f;
+        }
+
+    -- with a node
+    closed_as : (m : Log) (r : Tree) (x : Spans) (end : ℕ) (unnamed : Bool) (xs : List RecordedNode) → Within start l m →
+        m.recorded ≡ l.recorded ++ xs →
+        ((n : RecordedNode) → reaches n ≡ record { start = start; end = end } → n.unnamed ≡ unnamed →
+        Fits named r x (n ∷ xs)) → PieceRecorded named start l (atom_closed end unnamed m) r x
+    closed_as m r x end unnamed xs h e f =
+        let n : RecordedNode = record { start = m.open_atom.start; end = end; unnamed = unnamed; bar = None } in
+        ended_as (put m.open_atom.height n m) r x (n ∷ xs)
+        (record { around = h.around; start_is = h.start_is; height = h.height })
+        (put_recorded m m.open_atom.height l.recorded xs n e h.height)
+        (f n (ap (λ s. record { start = s; end = end }) h.start_is) refl)
+
+    -- a group around its contents
+    group_as : (m : Log) (r : Tree) (x : Spans) (h : GroupKind) (position end : ℕ) (xs : List RecordedNode) → Within start l m →
+        m.recorded ≡ l.recorded ++ xs → Fits named r x xs → PieceRecorded named start l (group_recorded h end m)
+        (group_node h position r) (group_spans named h (record { start = start; end = end }) x)
+    group_as m r x h position end xs w e f = by_kind h
+      where
+        p : Span
+        p = record { start = start; end = end }
+
+        shows : shown named xs ≡ in_preorder x
+        shows = fits_shown named r x xs f
+
+        around_it : (n : RecordedNode) → reaches n ≡ p → n.unnamed ≡ false →
+            shown named (n ∷ xs) ≡ in_preorder (around p x)
+        around_it n i j =
+            shown_one named n xs j ∙ (λ k. i k ∷ (shows ∙ sym (append-nil (in_preorder x))) k)
+
+        by_kind : (h : GroupKind) → PieceRecorded named start l (group_recorded h end m)
+            (group_node h position r) (group_spans named h p x)
+        by_kind (capture None) = closed_as m _ _ end true xs w e (λ n i j. unnamed_group named n xs p x shows i j)
+        by_kind (capture (Some name)) =
+            closed_as m _ _ end false xs w e (λ n i j. around_it n i j ∙ ap in_preorder (sym (named_group named name p x)))
+        by_kind flag_group = ended_as m r x xs w e f
+        by_kind (look k) = closed_as m _ _ end false xs w e around_it
+        by_kind atomic = closed_as m _ _ end false xs w e around_it
+        by_kind define = closed_as m _ _ end false xs w e around_it
+        by_kind repeater = closed_as m _ _ end false xs w e around_it
+
+-- after a closing parenthesis, or an error
+closed_holds : (P : Outcome Tree → Type 0) (r : Tree) (s : State) → ((u : State) → P (done r u)) →
+    ((k : Kind) (p : ℕ) → P (failed k p)) → P (closed r s)
+closed_holds P r s g f = by_text s.rest
+  where
+    by_text : (u : Text) → P (closed_at r s u)
+    by_text [] = f _ _
+    by_text (c ∷ u) = cond_both (c == code ")") _ _ P (λ _. g (at s u)) (λ _. f _ _)
+
+slice_get_seam : (A B : List RecordedNode) (n : RecordedNode) → slice_get (A ++ n ∷ B) (length A) ≡ Some n
+slice_get_seam [] B n = refl
+slice_get_seam (a ∷ A) B n = slice_get_seam A B n
+
+remove_seam : (A B : List RecordedNode) (n : RecordedNode) → remove (A ++ n ∷ B) (length A) ≡ A ++ B
+remove_seam A B n =
+    let z : length A - length A ≡ 0 = omega arith in
+    remove-append_right A (n ∷ B) (length A) (length A) refl (omega arith) ∙ ap (λ k. A ++ remove (n ∷ B) k) z
+
+module _ (named : Bool) where
+  -- after the log l, the tree r of a part is recorded
+  pub record PartRecorded (l m : Log) (r : Tree) (x : Spans) : Type 0 where
+    pub xs : List RecordedNode
+    pub is_recorded : m.recorded ≡ l.recorded ++ xs
+    pub is_kept : Kept l m
+    pub fits : Fits named r x xs
+
+  -- after the log l, after which the body was recorded up to m, follow the nodes of its branches
+  record Parted (l m n : Log) (y z : Spans) : Type 0 where
+    bs : List RecordedNode
+    is_recorded : n.recorded ≡ l.recorded ++ bs
+    is_kept : Kept m n
+    shows : shown named bs ≡ in_preorder y ++ in_preorder z
+
+  same : (m : Log) → Kept m m
+  same m = kept refl refl
+
+  -- the branches after the first bar
+  others_as : (l m n : Log) (k : ℕ) (alt_node : RecordedNode) (b : FirstBar) (others : List Tree) (first : Spans) (f : Forest)
+      (ys zs : List RecordedNode) → Beside others f → k ≡ suc (length others) → Kept m n →
+      n.open_atom.branches ≡ length l.recorded → n.recorded ≡ l.recorded ++ (ys ++ zs) → b.nodes ≡ length ys →
+      shown named ys ≡ in_preorder first → shown named zs ≡ all_in_preorder f →
+      Parted l m (others_put k alt_node (Some b) n) first (one_or_node (record { start = b.past; end = alt_node.end }) f)
+  others_as l m n k alt_node b others first f ys zs (one_more {z}) i h j e c p q =
+      subst (λ k. Parted l m (others_put k alt_node (Some b) n) first z) (sym i) (record {
+        bs = ys ++ zs;
+        is_recorded = e;
+        is_kept = h;
+        shows = shown_append named ys zs ∙ (λ i. p i ++ (q ∙ append-nil (in_preorder z)) i);
+      })
+  others_as l m n k alt_node b others first f ys zs (several_more {p = t} {l = us}) i h j e c p q =
+      let k_is : k ≡ suc (suc (suc (length us))) = i in
+      let not_few : nat_lt (suc (suc (suc (length us)))) 3 ≡ false = grind (arith, nat_tests) in
+      let rest = plain b.past alt_node.end in
+      let seam : length (l.recorded ++ ys) ≡ n.open_atom.branches + b.nodes =
+      omega (arith, length-append l.recorded ys, j, c) in
+      let w = put (n.open_atom.branches + b.nodes) rest n in
+      subst (λ m'. Parted l m m' first (one_or_node (reaches rest) f)) (sym (ap (λ k. others_put k alt_node (Some b) n) k_is
+      ∙ ap (λ t. if t then n else w) not_few)) (record {
+        bs = ys ++ rest ∷ zs;
+        is_recorded = put_recorded n (n.open_atom.branches + b.nodes) (l.recorded ++ ys) zs rest
+            (e ∙ sym (append_assoc l.recorded ys zs)) (sym seam) ∙ append_assoc l.recorded ys (rest ∷ zs);
+        is_kept = kept_on h (kept refl refl);
+        shows = shown_append named ys (rest ∷ zs)
+            ∙ (λ i. p i ++ (shown_one named rest zs refl ∙ (λ j. reaches rest ∷ q j)) i);
+      })
+
+  alt_as : (l m : Log) (ts : Trees) (v : State) (x : Spans) (xs : List RecordedNode) → m.recorded ≡ l.recorded ++ xs →
+      m.open_atom.branches ≡ length l.recorded → (b : Barred named ts x xs) →
+      Parted l m (body_split (length (list_of ts)) m) (body_parts (alt ts) v x).0 (body_parts (alt ts) v x).1
+  alt_as l m ts v x xs e j b =
+      let all = b.ys ++ b.zs in
+      let there : m.recorded ≡ l.recorded ++ b.alt_node ∷ all = e ∙ ap (λ x. l.recorded ++ x) b.is_recorded in
+      let n : Log = record m { recorded = remove m.recorded m.open_atom.branches } in
+      let found : slice_get m.recorded m.open_atom.branches ≡ Some b.alt_node =
+      rw (there, j) (slice_get_seam l.recorded all b.alt_node) in
+      let bar : FirstBar = record { past = b.bar; nodes = length b.ys } in
+      let k : length (list_of ts) ≡ suc (length b.others) =
+      ap (λ ts. length (list_of ts)) b.is_tree ∙ ap (λ l. suc (length l)) (list_back b.others) in
+      let parts : body_parts (alt ts) v x
+      ≡ (b.first, one_or_node (record { start = b.bar; end = b.alt_node.end }) b.rest) =
+      ap (body_parts (alt ts) v) b.is_spans in
+      subst (λ p. Parted l m (body_split (length (list_of ts)) m) p.0 p.1) (sym parts)
+      (subst (λ w. Parted l m w b.first (one_or_node (record { start = b.bar; end = b.alt_node.end }) b.rest))
+      (sym (ap (λ o. alt_split (length (list_of ts)) o m) found
+      ∙ ap (λ o. others_put (length (list_of ts)) b.alt_node o n) b.has_bar))
+      (others_as l m n (length (list_of ts)) b.alt_node bar b.others b.first b.rest b.ys b.zs b.beside k (kept refl refl) j
+      (rw (there, j) (remove_seam l.recorded all b.alt_node)) refl b.shows_first b.shows_rest))
+
+  lacked_as : (l m : Log) (r : Tree) (v : State) (x : Spans) (xs : List RecordedNode) → m.recorded ≡ l.recorded ++ xs →
+      Fits named r x xs → Parted l m (branch_lacked (reach_of v.rest) m) x (alone (between v (done r v)))
+  lacked_as l m r v x xs e f =
+      let n = plain (reach_of v.rest) (reach_of v.rest) in
+      record {
+        bs = xs ++ n ∷ [];
+        is_recorded = ap (λ y. y ++ n ∷ []) e ∙ append_assoc l.recorded xs (n ∷ []);
+        is_kept = kept refl refl;
+        shows = shown_append named xs (n ∷ [])
+            ∙ (λ i. fits_shown named r x xs f i ++ shown_one named n [] refl i);
+      }
+
+  body_parted_as : (l m : Log) (r : Tree) (v : State) (x : Spans) (xs : List RecordedNode) → m.recorded ≡ l.recorded ++ xs →
+      m.open_atom.branches ≡ length l.recorded → Fits named r x xs →
+      Parted l m (body_parted r (reach_of v.rest) m) (body_parts r v x).0 (body_parts r v x).1
+  body_parted_as l m (row label.alt ts) v x xs e j f = alt_as l m ts v x xs e j f
+  body_parted_as l m (leaf a) v x xs e j f = lacked_as l m (leaf a) v x xs e f
+  body_parted_as l m (over w r) v x xs e j f = lacked_as l m (over w r) v x xs e f
+  body_parted_as l m (row label.concat ts) v x xs e j f = lacked_as l m (row label.concat ts) v x xs e f
+  body_parted_as l m (row label.conditional ts) v x xs e j f = lacked_as l m (row label.conditional ts) v x xs e f
+  body_parted_as l m (row label.expression ts) v x xs e j f = lacked_as l m (row label.expression ts) v x xs e f
+
+  -- a conditional, whose condition is recorded after l, and whose body after n
+  conditional_as : (start : ℕ) (l n m : Log) (c r : Tree) (v : State) (x y : Spans) (ys : List RecordedNode) (end : ℕ) →
+      Within start l n → n.recorded ≡ l.recorded ++ ys → Fits named c y ys → n.open_atom.branches ≡ length n.recorded →
+      PartRecorded n m r x → PieceRecorded named start l (conditional_recorded r (reach_of v.rest) end m)
+      (conditional_of c (branches_of r).0 (branches_of r).1)
+      (conditional_spans (record { start = start; end = end }) y (done r v) x)
+  conditional_as start l n m c r v x y ys end w e f j h =
+      by_test (is_empty (branches_of r).0 && is_empty (branches_of r).1)
+    where
+      branches : m.open_atom.branches ≡ length n.recorded
+      branches = h.is_kept.branches ∙ j
+
+      b : Parted n m (body_parted r (reach_of v.rest) m) (body_parts r v x).0 (body_parts r v x).1
+      b = body_parted_as n m r v x h.xs h.is_recorded branches h.fits
+
+      q : Log
+      q = body_parted r (reach_of v.rest) m
+
+      within : Within start l q
+      within = within_on w (kept_on h.is_kept b.is_kept)
+
+      p : Span
+      p = record { start = start; end = end }
+
+      parts : Spans × Spans
+      parts = body_parts r v x
+
+      by_test : (t : Bool) → PieceRecorded named start l
+          (if t then atom_ended (part_dropped q) else atom_closed end false q)
+          (if t then c else conditional c (branches_of r).0 (branches_of r).1)
+          (if t then y else node p (more_spans y (more_spans parts.0 (more_spans parts.1 no_spans))))
+      by_test true =
+          ended_as named start l (part_dropped q) c y ys
+          (record { around = within.around; start_is = within.start_is; height = within.height })
+          (rw (b.is_recorded, b.is_kept.branches ∙ branches) (take-append_seam n.recorded b.bs) ∙ e) f
+      by_test false =
+          closed_as named start l q (conditional c (branches_of r).0 (branches_of r).1)
+          (node p (more_spans y (more_spans parts.0 (more_spans parts.1 no_spans)))) end false (ys ++ b.bs) within
+          (b.is_recorded ∙ ap (λ z. z ++ b.bs) e ∙ append_assoc l.recorded ys b.bs)
+          (λ a i k. shown_one named a (ys ++ b.bs) k
+          ∙ (λ z. i z ∷ (shown_append named ys b.bs ∙ (λ z. fits_shown named c y ys f z
+          ++ (b.shows ∙ ap (λ o. in_preorder parts.0 ++ o) (sym (append-nil (in_preorder parts.1)))) z)) z))
+
+  -- the body of a conditional that begins at w
+  body_as : (w : State) (l n m : Log) (c : Tree) (left : ℕ) (x y : Spans) (ys : List RecordedNode) (q : Outcome Tree) →
+      Within (reach_of w.rest) l n → n.recorded ≡ l.recorded ++ ys → Fits named c y ys →
+      n.open_atom.branches ≡ length n.recorded → Holds (λ r v. PartRecorded n m r x) q →
+      Holds (λ r v. PieceRecorded named (reach_of w.rest) l (if_done q
+      (λ r v. conditional_recorded r (reach_of v.rest) (end_of (and_then q (conditional_after c left))) m) m) r
+      (conditional_spans (between w (and_then q (conditional_after c left))) y q x))
+      (and_then q (conditional_after c left))
+  body_as w l n m c left x y ys (done r v) k e f j h =
+      cond_both (bytes v.rest == left && not (is_condition c)) _ _ P (λ _. tt)
+      (λ _. closed_holds P (conditional_of c (branches_of r).0 (branches_of r).1) v
+      (λ u. conditional_as (reach_of w.rest) l n m c r v x y ys (reach_of u.rest) k e f j h) (λ _ _. tt))
+    where
+      P : Outcome Tree → Type 0
+      P o = Holds (λ t u. PieceRecorded named (reach_of w.rest) l (conditional_recorded r (reach_of v.rest) (end_of o) m) t
+          (conditional_spans (between w o) y (done r v) x)) o
+  body_as w l n m c left x y ys (failed k p) a e f j h = tt
+
+  -- ---- pieces and branches
+
+  -- some trees, with their spans and nodes
+  data Row : List Tree → Forest → List RecordedNode → Type 0 where
+    row_ends : Row [] no_spans []
+    row_goes_on : {r rs x f ys zs : _} (xs : List RecordedNode) → Fits named r x xs → Row rs f ys → zs ≡ xs ++ ys →
+        Row (r ∷ rs) (more_spans x f) zs
+
+  -- after the log l, the pieces are recorded
+  record PiecesRecorded (l m : Log) (rs : List Tree) (f : Forest) : Type 0 where
+    xs : List RecordedNode
+    is_recorded : m.recorded ≡ l.recorded ++ xs
+    is_around : m.around ≡ l.around
+    is_open : m.open_atom ≡ l.open_atom
+    row : Row rs f xs
+
+  abbrev PieceAs : Log → Log → Tree → Spans → Type 0
+  PieceAs l m r x = (start : ℕ) × PieceRecorded named start l m r x
+
+  none_as : (l : Log) → PiecesRecorded l l [] no_spans
+  none_as l = record {
+    xs = [];
+    is_recorded = sym (append-nil l.recorded);
+    is_around = refl;
+    is_open = refl;
+    row = row_ends;
+  }
+
+  in_front : (l m n : Log) (r : Tree) (x : Spans) (rs : List Tree) (f : Forest) → PieceAs l m r x →
+      PiecesRecorded (added r m) n (solid rs) f → PiecesRecorded l n (solid (r ∷ rs)) (solid_spans r x f)
+  in_front l m n r x rs f (start, h) = by_test (is_empty r)
+    where
+      by_test : (b : Bool) → PiecesRecorded (if b then left_out m else m) n (solid rs) f →
+          PiecesRecorded l n (if b then solid rs else r ∷ solid rs) (if b then f else more_spans x f)
+      by_test true k = record {
+        xs = k.xs;
+        is_recorded = k.is_recorded ∙ ap (λ y. y ++ k.xs)
+            (rw (h.is_recorded, h.is_last) (take-append_seam l.recorded h.xs));
+        is_around = k.is_around ∙ h.is_around;
+        is_open = k.is_open ∙ h.is_open;
+        row = k.row;
+      }
+      by_test false k = record {
+        xs = h.xs ++ k.xs;
+        is_recorded = k.is_recorded ∙ ap (λ y. y ++ k.xs) h.is_recorded ∙ append_assoc l.recorded h.xs k.xs;
+        is_around = k.is_around ∙ h.is_around;
+        is_open = k.is_open ∙ h.is_open;
+        row = row_goes_on h.xs h.fits k.row refl;
+      }
+
+  -- after the log l, the branch is recorded
+  record BranchRecorded (l m : Log) (r : Tree) (x : Spans) : Type 0 where
+    xs : List RecordedNode
+    is_recorded : m.recorded ≡ l.recorded ++ xs
+    is_around : m.around ≡ l.around
+    is_open : m.open_atom ≡ l.open_atom
+    fits : Fits named r x xs
+
+  row_shown : {rs : List Tree} {f : Forest} {xs : List RecordedNode} → Row rs f xs → shown named xs ≡ all_in_preorder f
+  row_shown row_ends = refl
+  row_shown (row_goes_on {r} {x} {ys} xs h k e) =
+      ap (shown named) e ∙ shown_append named xs ys ∙ (λ i. fits_shown named r x xs h i ++ row_shown k i)
+
+  -- the branch is a node of its own
+  branch_node : (s : State) (l m : Log) (r : Tree) (end : ℕ) (k : ℕ) (f : Forest) (xs : List RecordedNode) → (k == 1) ≡ false →
+      BranchBegun s l → m.recorded ≡ l.recorded ++ xs → m.around ≡ l.around → m.open_atom ≡ l.open_atom →
+      shown named xs ≡ all_in_preorder f →
+      ((ys : List RecordedNode) → shown named ys ≡ in_preorder (node (record { start = reach_of s.rest; end = end }) f) →
+      Fits named r (node (record { start = reach_of s.rest; end = end }) f) ys) →
+      BranchRecorded l (branch_ended k end m) r (node (record { start = reach_of s.rest; end = end }) f)
+  branch_node s l m r end k f xs t b e a o h fits =
+      let n = plain m.open_atom.branch end in
+      let p : reaches n ≡ record { start = reach_of s.rest; end = end } =
+      ap (λ (o : Open). record { start = o.branch; end = end }) o ∙ ap (λ x. record { start = x; end = end }) b.branch in
+      subst (λ w. BranchRecorded l w r (node (record { start = reach_of s.rest; end = end }) f))
+      (sym (ap (λ t. if t then m else put m.open_atom.pieces n m) t)) (record {
+        xs = n ∷ xs;
+        is_recorded = put_recorded m m.open_atom.pieces l.recorded xs n e (ap (λ (o : Open). o.pieces) o ∙ b.pieces);
+        is_around = a;
+        is_open = o;
+        fits = fits (n ∷ xs) (shown_one named n xs refl ∙ (λ i. p i ∷ h i));
+      })
+
+  branch_as : (s : State) (l m : Log) (rs : List Tree) (f : Forest) (end : ℕ) → BranchBegun s l →
+      PiecesRecorded l m rs f → BranchRecorded l (branch_ended (length rs) end m) (one_or concat rs)
+      (one_or_node (record { start = reach_of s.rest; end = end }) f)
+  branch_as s l m rs f end b h = by_row h.row h.is_recorded
+    where
+      by_row : {rs : List Tree} {f : Forest} {xs : List RecordedNode} → Row rs f xs → m.recorded ≡ l.recorded ++ xs →
+          BranchRecorded l (branch_ended (length rs) end m) (one_or concat rs)
+          (one_or_node (record { start = reach_of s.rest; end = end }) f)
+      by_row row_ends e =
+          branch_node s l m empty end 0 no_spans [] refl b e h.is_around h.is_open refl (λ ys h. h)
+      by_row (row_goes_on {r} {x} {zs} xs k row_ends j) e = record {
+        xs = zs;
+        is_recorded = e;
+        is_around = h.is_around;
+        is_open = h.is_open;
+        fits = subst (Fits named r x) (sym (append-nil xs) ∙ sym j) k;
+      }
+      by_row (row_goes_on {r} {x} {zs} xs k (row_goes_on {r = q} {rs} {x = y} {f} ys i g c) j) e =
+          let several : (suc (suc (length rs)) == 1) ≡ false = grind (arith, nat_tests) in
+          branch_node s l m (concat (trees_of (r ∷ q ∷ rs))) end (suc (suc (length rs)))
+          (more_spans x (more_spans y f)) zs several b e h.is_around h.is_open
+          (row_shown (row_goes_on xs k (row_goes_on ys i g c) j)) (λ ys h. h)
+
+  kept_branch : {l m : Log} {r : Tree} {x : Spans} → BranchRecorded l m r x → Kept l m
+  kept_branch h = kept h.is_around h.is_open
+
+  -- after the bar that is kept, branches are recorded
+  record LaterRecorded (b : FirstBar) (l m : Log) (rs : List Tree) (f : Forest) : Type 0 where
+    xs : List RecordedNode
+    is_recorded : m.recorded ≡ l.recorded ++ xs
+    is_kept : Kept l m
+    bar : m.open_atom.bar ≡ Some b
+    shows : shown named xs ≡ all_in_preorder f
+    beside : Beside rs f
+
+  begins : (u : Text) (s : State) (l : Log) → BranchBegun (at s u) (branch_begun (reach_of u) l)
+  begins u s l = record { branch = refl; pieces = refl }
+
+  later_last : (b : FirstBar) (l m : Log) (r : Tree) (x : Spans) → l.open_atom.bar ≡ Some b → BranchRecorded l m r x →
+      LaterRecorded b l m (r ∷ []) (more_spans x no_spans)
+  later_last b l m r x e h = record {
+    xs = h.xs;
+    is_recorded = h.is_recorded;
+    is_kept = kept_branch h;
+    bar = ap (λ (o : Open). o.bar) h.is_open ∙ e;
+    shows = fits_shown named r x h.xs h.fits ∙ sym (append-nil (in_preorder x));
+    beside = one_more;
+  }
+
+  more_beside : {rs : List Tree} {f : Forest} {r : Tree} {x : Spans} {p : ℕ} → Beside rs f →
+      Beside (r ∷ rs) (more_spans x (after_bar p f))
+  more_beside one_more = several_more
+  more_beside several_more = several_more
+
+  later_more : (b : FirstBar) (l m n : Log) (p : ℕ) (r : Tree) (x : Spans) (rs : List Tree) (f : Forest) →
+      BranchRecorded l m r x → LaterRecorded b (branch_begun p m) n rs f →
+      LaterRecorded b l n (r ∷ rs) (more_spans x (after_bar p f))
+  later_more b l m n p r x rs f h k = record {
+    xs = h.xs ++ k.xs;
+    is_recorded = k.is_recorded ∙ ap (λ y. y ++ k.xs) h.is_recorded ∙ append_assoc l.recorded h.xs k.xs;
+    is_kept = kept_on (kept_branch h) (record {
+      around = k.is_kept.around;
+      start = k.is_kept.start;
+      height = k.is_kept.height;
+      part = k.is_kept.part;
+      branches = k.is_kept.branches;
+    });
+    bar = k.bar;
+    shows = shown_append named h.xs k.xs ∙ (λ i. fits_shown named r x h.xs h.fits i ++ k.shows i);
+    beside = more_beside k.beside;
+  }
+
+  bar_kept : (l : Log) (b : FirstBar) (p : ℕ) → l.open_atom.bar ≡ Some b →
+      (branch_begun p l).open_atom.bar ≡ Some b
+  bar_kept l b p e = ap (λ o. Some (first_bar o p (length l.recorded - l.open_atom.branches))) e
+
+  -- a part of one branch, and of several
+  one_part : {l m : Log} {r : Tree} {x : Spans} → BranchRecorded l m r x → PartRecorded l m r x
+  one_part h = record { xs = h.xs; is_recorded = h.is_recorded; is_kept = kept_branch h; fits = h.fits }
+
+  several_part : (s : State) (l m n : Log) (p end : ℕ) (r : Tree) (x : Spans) (rs : List Tree) (f : Forest) →
+      PartBegun s l → BranchRecorded l m r x →
+      LaterRecorded (record { past = p; nodes = length m.recorded - m.open_atom.branches }) (branch_begun p m) n rs f →
+      PartRecorded l (choice_recorded (r ∷ rs) end n) (choice (r ∷ rs))
+      (node (record { start = reach_of s.rest; end = end }) (more_spans x (after_bar p f)))
+  several_part s l m n p end r x rs f g h k = by_beside k.beside k.shows
+    where
+      height : n.open_atom.branches ≡ length l.recorded
+      height = k.is_kept.branches ∙ ap (λ (o : Open). o.branches) h.is_open ∙ g.branches
+
+      alt : RecordedNode
+      alt = record { start = n.open_atom.part; end = end; unnamed = false; bar = n.open_atom.bar }
+
+      reaches_are : reaches alt ≡ record { start = reach_of s.rest; end = end }
+      reaches_are = ap (λ z. record { start = z; end = end })
+          (k.is_kept.part ∙ ap (λ (o : Open). o.part) h.is_open ∙ g.part)
+
+      nodes : length m.recorded - m.open_atom.branches ≡ length h.xs
+      nodes = omega (
+        arith,
+        ap length h.is_recorded,
+        length-append l.recorded h.xs,
+        ap (λ (o : Open). o.branches) h.is_open,
+        g.branches,
+      )
+
+      recorded : n.recorded ≡ l.recorded ++ (h.xs ++ k.xs)
+      recorded = k.is_recorded ∙ ap (λ y. y ++ k.xs) h.is_recorded ∙ append_assoc l.recorded h.xs k.xs
+
+      chosen : (rs : List Tree) (f : Forest) → Beside rs f → shown named k.xs ≡ all_in_preorder f →
+          PartRecorded l (choice_ended end n) (row label.alt (trees_of (r ∷ rs)))
+          (node (record { start = reach_of s.rest; end = end }) (more_spans x (after_bar p f)))
+      chosen rs f b e = record {
+        xs = alt ∷ h.xs ++ k.xs;
+        is_recorded = put_recorded n n.open_atom.branches l.recorded (h.xs ++ k.xs) alt recorded height;
+        is_kept = kept_on (kept_branch h) (record {
+          around = k.is_kept.around;
+          start = k.is_kept.start;
+          height = k.is_kept.height;
+          part = k.is_kept.part;
+          branches = k.is_kept.branches;
+        });
+        fits = record {
+          alt_node = alt;
+          bar = p;
+          one = r;
+          others = rs;
+          first = x;
+          rest = f;
+          ys = h.xs;
+          zs = k.xs;
+          is_tree = refl;
+          beside = b;
+          is_spans = ap (λ z. node z (more_spans x (after_bar p f))) (sym reaches_are);
+          is_recorded = refl;
+          returned = refl;
+          has_bar = k.bar ∙ ap (λ z. Some (record { past = p; nodes = z })) nodes;
+          shows_first = fits_shown named r x h.xs h.fits;
+          shows_rest = e;
+        };
+      }
+
+      by_beside : {rs : List Tree} {f : Forest} → Beside rs f → shown named k.xs ≡ all_in_preorder f →
+          PartRecorded l (choice_recorded (r ∷ rs) end n) (choice (r ∷ rs))
+          (node (record { start = reach_of s.rest; end = end }) (more_spans x (after_bar p f)))
+      by_beside (one_more {q} {z}) e = chosen (q ∷ []) (more_spans z no_spans) one_more e
+      by_beside (several_more {q} {p = t} {l = us} {z} {b} {f}) e =
+          chosen (q ∷ t ∷ us) (more_spans z (after_bar b f)) several_more e
+
+  -- ---- the productions
+
+  -- a leaf
+  leaf_as : (start end : ℕ) (l : Log) (r : Tree) → ((n : RecordedNode) → n.unnamed ≡ false →
+      reaches n ≡ record { start = start; end = end } →
+      Fits named r (alone (record { start = start; end = end })) (n ∷ [])) →
+      PieceRecorded named start l (leaf_recorded start end l) r (alone (record { start = start; end = end }))
+  leaf_as start end l r f = record {
+    xs = plain start end ∷ [];
+    is_recorded = refl;
+    is_around = refl;
+    is_open = refl;
+    is_last = refl;
+    fits = f (plain start end) refl refl;
+  }
+
+  -- a tree that has only its own span is no Alt
+  fits_alone : {t u : Text} {p : Span} (r : Tree) (n : RecordedNode) → Lies named t u r (alone p) → n.unnamed ≡ false →
+      reaches n ≡ p → Fits named r (alone p) (n ∷ [])
+  fits_alone (leaf a) n h e i = shown_one named n [] e ∙ (λ z. i z ∷ [])
+  fits_alone (over w r) n h e i = shown_one named n [] e ∙ (λ z. i z ∷ [])
+  fits_alone (row label.concat ts) n h e i = shown_one named n [] e ∙ (λ z. i z ∷ [])
+  fits_alone (row label.conditional ts) n h e i = shown_one named n [] e ∙ (λ z. i z ∷ [])
+  fits_alone (row label.expression ts) n h e i = shown_one named n [] e ∙ (λ z. i z ∷ [])
+  fits_alone (row label.alt ts) n (row_at label.alt k f h g) e i = absurd cc
+
+  -- an atom under its quantifiers
+  quantified_as : (start : ℕ) (l m : Log) (x : Spans) (d left : ℕ) (q : Outcome Tree) →
+      Holds (λ a v. PieceRecorded named start l m a x) q →
+      Holds (λ r v. PieceRecorded named start l (quants_recorded left q m) r (quants_spans left start q x))
+      (and_then q (quants d left))
+  quantified_as start l m x d left (done a s) h = quants_recorded_as named start l d left a s m x h
+  quantified_as start l m x d left (failed k p) h = tt
+
+  -- a group
+  grouped_as : (s : State) (l n m : Log) (x : Spans) (h : GroupKind) (position : ℕ) (q : Outcome Tree) →
+      Within (reach_of s.rest) l n → n.recorded ≡ l.recorded → Holds (λ r v. PartRecorded n m r x) q →
+      Holds (λ r v. PieceRecorded named (reach_of s.rest) l
+      (group_recorded h (end_of (seen_through (group_node h position) q)) m) r
+      (group_spans named h (between s (seen_through (group_node h position) q)) x)) (seen_through (group_node h position) q)
+  grouped_as s l n m x h position (done r v) w e k =
+      group_as named (reach_of s.rest) l m r x h position (reach_of v.rest) k.xs (within_on w k.is_kept)
+      (k.is_recorded ∙ ap (λ y. y ++ k.xs) e) k.fits
+  grouped_as s l n m x h position (failed k p) w e g = tt
+
+  -- an absent expression
+  expression_as : (s : State) (l n m w : Log) (b : ℕ) (a : Tree) (x y : Spans) (q : Outcome Tree) →
+      Within (reach_of s.rest) l n → n.recorded ≡ l.recorded → BranchRecorded n m a x →
+      Holds (λ r v. BranchRecorded (branch_begun b m) w r y) q →
+      Holds (λ r v. PieceRecorded named (reach_of s.rest) l
+      (atom_closed (end_of (and_then q (λ r. closed (expression a r)))) false w) r
+      (node (between s (and_then q (λ r. closed (expression a r)))) (more_spans x (more_spans y no_spans))))
+      (and_then q (λ r. closed (expression a r)))
+  expression_as s l n m w b a x y (done r v) k e f g =
+      closed_holds (λ o. Holds (λ t u. PieceRecorded named (reach_of s.rest) l (atom_closed (end_of o) false w) t
+      (node (between s o) (more_spans x (more_spans y no_spans)))) o) (expression a r) v
+      (λ u. closed_as named (reach_of s.rest) l w (expression a r)
+      (node (between s (done r u)) (more_spans x (more_spans y no_spans))) (reach_of u.rest) false (f.xs ++ g.xs)
+      (within_on k (kept_on (kept_branch f) (record {
+        around = g.is_around;
+        start = ap (λ (o : Open). o.start) g.is_open;
+        height = ap (λ (o : Open). o.height) g.is_open;
+        part = ap (λ (o : Open). o.part) g.is_open;
+        branches = ap (λ (o : Open). o.branches) g.is_open;
+      })))
+      (g.is_recorded ∙ ap (λ z. z ++ g.xs) (f.is_recorded ∙ ap (λ z. z ++ f.xs) e) ∙ append_assoc l.recorded f.xs g.xs)
+      (λ c i j. shown_one named c (f.xs ++ g.xs) j ∙ (λ z. i z ∷ (shown_append named f.xs g.xs
+      ∙ (λ z. fits_shown named a x f.xs f.fits z
+      ++ (fits_shown named r y g.xs g.fits ∙ sym (append-nil (in_preorder y))) z)) z))) (λ _ _. tt)
+  expression_as s l n m w b a x y (failed k p) i e f g = tt
+
+  -- a stopper or a clear
+  stopper_as : (s : State) (l n m : Log) (a : Tree) (x : Spans) (v : State) → Within (reach_of s.rest) l n →
+      n.recorded ≡ l.recorded → n.open_atom.branches ≡ length n.recorded → BranchRecorded n m a x →
+      Holds (λ r w. PieceRecorded named (reach_of s.rest) l (stopper_recorded a (end_of (closed (clear_or_stopper a) v)) m) r
+      (node (between s (closed (clear_or_stopper a) v)) (solid_spans a x no_spans))) (closed (clear_or_stopper a) v)
+  stopper_as s l n m a x v k e b f =
+      closed_holds (λ o. Holds (λ t u. PieceRecorded named (reach_of s.rest) l (stopper_recorded a (end_of o) m) t
+      (node (between s o) (solid_spans a x no_spans))) o) (clear_or_stopper a) v
+      (λ u. by_test (reach_of u.rest) (is_empty a)) (λ _ _. tt)
+    where
+      within : Within (reach_of s.rest) l m
+      within = within_on k (kept_branch f)
+
+      by_test : (end : ℕ) (t : Bool) → PieceRecorded named (reach_of s.rest) l
+          (atom_closed end false (if t then part_dropped m else m))
+          (if t then leaf label.clear else over label.stopper a)
+          (node (record { start = reach_of s.rest; end = end }) (if t then no_spans else more_spans x no_spans))
+      by_test end true =
+          closed_as named (reach_of s.rest) l (part_dropped m) (leaf label.clear)
+          (node (record { start = reach_of s.rest; end = end }) no_spans) end false []
+          (record { around = within.around; start_is = within.start_is; height = within.height })
+          (rw (f.is_recorded, ap (λ (o : Open). o.branches) f.is_open ∙ b) (take-append_seam n.recorded f.xs)
+          ∙ e ∙ sym (append-nil l.recorded))
+          (λ c i j. shown_one named c [] j ∙ (λ z. i z ∷ []))
+      by_test end false =
+          closed_as named (reach_of s.rest) l m (over label.stopper a)
+          (node (record { start = reach_of s.rest; end = end }) (more_spans x no_spans)) end false f.xs within
+          (f.is_recorded ∙ ap (λ z. z ++ f.xs) e)
+          (λ c i j. shown_one named c f.xs j
+          ∙ (λ z. i z ∷ (fits_shown named a x f.xs f.fits ∙ sym (append-nil (in_preorder x))) z))
+
+  -- the outcome of the parts decides that of the whole
+  alternation_of : (s : State) (l m : Log) (f : Forest) (q : Outcome (List Tree)) →
+      Holds (λ rs (v : State). PartRecorded l (choice_recorded rs (reach_of v.rest) m) (choice rs)
+      (one_or_node (record { start = reach_of s.rest; end = reach_of v.rest }) f)) q →
+      Holds (λ r v. PartRecorded l (if_done q (λ rs t. choice_recorded rs (reach_of t.rest) m) m) r
+      (one_or_node (between s (seen_through choice q)) f)) (seen_through choice q)
+  alternation_of s l m f (done rs v) h = h
+  alternation_of s l m f (failed k p) h = tt
+
+  branch_of : (s : State) (l m : Log) (f : Forest) (q : Outcome (List Tree)) → BranchBegun s l →
+      Holds (λ ps v. PiecesRecorded l m (solid ps) f) q →
+      Holds (λ r v. BranchRecorded l (if_done q (λ ps t. branch_ended (length (solid ps)) (reach_of t.rest) m) m) r
+      (one_or_node (between s (seen_through (λ ps. one_or concat (solid ps)) q)) f))
+      (seen_through (λ ps. one_or concat (solid ps)) q)
+  branch_of s l m f (done ps v) g h = branch_as s l m (solid ps) f (reach_of v.rest) g h
+  branch_of s l m f (failed k p) g h = tt
+
+  read_as : (s : State) (l : Log) (o : Outcome Tree) → Reads (IsLeaf s) s o →
+      Holds (λ r v. PieceRecorded named (reach_of s.rest) l (leaf_recorded (reach_of s.rest) (end_of o) l) r
+      (alone (between s o))) o
+  read_as s l (done a t) h =
+      leaf_as (reach_of s.rest) (reach_of t.rest) l a
+      (λ n i j. fits_alone a n (leaf_lies named a h.alone h.span.slice) i j)
+  read_as s l (failed k p) h = tt
+
+  inside_of : (l m : Log) (x : Spans) (q : Outcome Tree) → Holds (λ r v. PartRecorded l m r x) q →
+      Holds (λ r v. PartRecorded l m r x) (and_then q closed)
+  inside_of l m x q h =
+      then_holds (λ r v. PartRecorded l m r x) (λ r v. PartRecorded l m r x) q closed h
+      (λ r v k. closed_holds (Holds (λ r v. PartRecorded l m r x)) r v (λ u. k) (λ _ _. tt))
+
+  mutual
+    alternation_as : {d : ℕ} {s : State} {o : Outcome Tree} (a : Alternation d s o) (l : Log) → PartBegun s l →
+        Holds (λ r v. PartRecorded l (alternation_recorded a l) r (alternation_spans named a)) o
+    alternation_as {s} (alternation {q} b) l g =
+        alternation_of s l (branches_recorded b l) (branches_spans named b) q (choice_as b l g)
+
+    choice_as : {d : ℕ} {s : State} {o : Outcome (List Tree)} (a : Branches d s o) (l : Log) → PartBegun s l →
+        Holds (λ rs (v : State). PartRecorded l (choice_recorded rs (reach_of v.rest) (branches_recorded a l)) (choice rs)
+        (one_or_node (record { start = reach_of s.rest; end = reach_of v.rest }) (branches_spans named a))) o
+    choice_as (last b e) l g = one_part (branch_as_read b l g.branch)
+    choice_as {s} (more {u} {r} {q} b e m) l g =
+        let k = branch_recorded b l in
+        let h = branch_as_read b l g.branch in
+        let bar : FirstBar = record { past = reach_of u; nodes = length k.recorded - k.open_atom.branches } in
+        let is_first : (branch_begun (reach_of u) k).open_atom.bar ≡ Some bar =
+        ap (λ o. Some (first_bar o (reach_of u) (length k.recorded - k.open_atom.branches)))
+        (ap (λ (o : Open). o.bar) h.is_open ∙ g.bar) in
+        then_holds (λ rs v. LaterRecorded bar (branch_begun (reach_of u) k)
+        (branches_recorded m (branch_begun (reach_of u) k)) rs (branches_spans named m)) _ q _
+        (later_as m bar (branch_begun (reach_of u) k) is_first (record { branch = refl; pieces = refl }))
+        (λ rs v f. several_part s l k _ (reach_of u) (reach_of v.rest) r _ rs _ g h f)
+    choice_as (branch_error b) l g = tt
+
+    later_as : {d : ℕ} {s : State} {o : Outcome (List Tree)} (a : Branches d s o) (b : FirstBar) (l : Log) →
+        l.open_atom.bar ≡ Some b → BranchBegun s l →
+        Holds (λ rs v. LaterRecorded b l (branches_recorded a l) rs (branches_spans named a)) o
+    later_as (last {r} b e) c l i g = later_last c l (branch_recorded b l) r (branch_spans named b) i (branch_as_read b l g)
+    later_as (more {u} {r} {q} b e m) c l i g =
+        let k = branch_recorded b l in
+        let h = branch_as_read b l g in
+        then_holds (λ rs v. LaterRecorded c (branch_begun (reach_of u) k)
+        (branches_recorded m (branch_begun (reach_of u) k)) rs (branches_spans named m)) _ q _
+        (later_as m c (branch_begun (reach_of u) k)
+        (bar_kept k c (reach_of u) (ap (λ (o : Open). o.bar) h.is_open ∙ i)) (record { branch = refl; pieces = refl }))
+        (λ rs v f. later_more c l k _ (reach_of u) r _ rs _ h f)
+    later_as (branch_error b) c l i g = tt
+
+    branch_as_read : {d : ℕ} {s : State} {o : Outcome Tree} (a : Branch d s o) (l : Log) → BranchBegun s l →
+        Holds (λ r v. BranchRecorded l (branch_recorded a l) r (branch_spans named a)) o
+    branch_as_read {s} (branch {q} p) l g =
+        branch_of s l (pieces_recorded p l) (pieces_spans named p) q g (pieces_as p l)
+
+    pieces_as : {d : ℕ} {s : State} {o : Outcome (List Tree)} (a : Pieces d s o) (l : Log) →
+        Holds (λ ps v. PiecesRecorded l (pieces_recorded a l) (solid ps) (pieces_spans named a)) o
+    pieces_as (stop e) l = none_as l
+    pieces_as (next {r} {q} e a m) l =
+        let k = piece_recorded a l in
+        let h = piece_as_read a l in
+        then_holds (λ ps v. PiecesRecorded (added r k) (pieces_recorded m (added r k)) (solid ps) (pieces_spans named m)) _ q _
+        (pieces_as m (added r k)) (λ ps v f. in_front l k _ r _ ps _ h f)
+    pieces_as (piece_error e a) l = tt
+
+    piece_as_read : {d : ℕ} {s : State} {o : Outcome Tree} (a : Piece d s o) (l : Log) →
+        Holds (λ r v. PieceAs l (piece_recorded a l) r (piece_spans named a)) o
+    piece_as_read {d} {s} (piece {u} {q} i x) l =
+        some_piece (quants_recorded (bytes s.rest) q (atom_recorded x l))
+        (quants_spans (bytes s.rest) (reach_of u) q (atom_spans named x)) (reach_of u) _ (quantified_as (reach_of u) l (atom_recorded x l) (atom_spans named x) d (bytes s.rest) q
+        (atom_as x l))
+      where
+        some_piece : (m : Log) (x : Spans) (start : ℕ) (o : Outcome Tree) →
+            Holds (λ r v. PieceRecorded named start l m r x) o → Holds (λ r v. PieceAs l m r x) o
+        some_piece m x start (done r v) h = (start, h)
+        some_piece m x start (failed k p) h = tt
+    piece_as_read (layout_error i) l = tt
+
+    atom_as : {d : ℕ} {s : State} {o : Outcome Tree} (a : Atom d s o) (l : Log) →
+        Holds (λ r v. PieceRecorded named (reach_of s.rest) l (atom_recorded a l) r (atom_spans named a)) o
+    atom_as {d} {s} (atom {e = k} {q} e a) l =
+        let P = Holds (λ r v. PieceRecorded named (reach_of s.rest) l (atom_of_recorded a l) r (atom_of_spans named a)) in
+        let read_start = subst (StartReads s) e (start_reads d s) in
+        let h = atom_of_as a l read_start (subst (ConditionLies named s) e (condition_lies named d s)) in
+        after_keeps P (λ r t f i. i) k s.flags q h
+
+    atom_of_as : {k : AtomStart} {d : ℕ} {s : State} {o : Outcome Tree} (a : AtomOf k d s o) (l : Log) →
+        StartReads s k → ConditionLies named s k →
+        Holds (λ r v. PieceRecorded named (reach_of s.rest) l (atom_of_recorded a l) r (atom_of_spans named a)) o
+    atom_of_as {s} a_nothing l h c =
+        leaf_as (reach_of s.rest) (reach_of s.rest) l empty (λ n i j. shown_one named n [] i ∙ (λ z. j z ∷ []))
+    atom_of_as {s} {o} a_read l h c = read_as s l o h
+    atom_of_as {s} (a_group {t} {h = alt_node} {q} i) l h c =
+        let n = opened (reach_of s.rest) (reach_of t.rest) l in
+        grouped_as s l n (inside_recorded i n) (inside_spans named i) alt_node (reach_of s.rest) q
+        (opened_within (reach_of s.rest) (reach_of t.rest) l) refl (inside_as i n (part_begins t (atom_opened (reach_of s.rest) l)))
+    atom_of_as {s} (a_condition {t} {v} {c} i b) l h z =
+        let n = opened (reach_of s.rest) (reach_of t.rest) l in
+        let f = inside_as i n (part_begins t (atom_opened (reach_of s.rest) l)) in
+        let m = part_begun (reach_of v.rest) (inside_recorded i n) in
+        let w = within_on (opened_within (reach_of s.rest) (reach_of t.rest) l) f.is_kept in
+        body_as_read s b l m (inside_spans named i) f.xs
+        (record { around = w.around; start_is = w.start_is; height = w.height }) f.is_recorded f.fits (part_begins v (inside_recorded i n))
+    atom_of_as {s} (condition_error i) l h c = tt
+    atom_of_as {s} (a_body {t} {c} b) l h z =
+        let p = condition_span s t in
+        let w = opened_within (reach_of s.rest) (reach_of t.rest) l in
+        body_as_read s b l (body_opened s t l) (alone p) (plain p.start p.end ∷ [])
+        (record { around = w.around; start_is = w.start_is; height = w.height }) refl
+        (fits_alone c (plain p.start p.end) z refl refl)
+        (part_begins t (leaf_recorded p.start p.end (opened (reach_of s.rest) (reach_of t.rest) l)))
+    atom_of_as {s} (two_branches {t} {v} {u} {a} {q} b e m) l h c =
+        let n = opened (reach_of s.rest) (reach_of t.rest) l in
+        let k = branch_recorded b n in
+        let f = branch_as_read b n (part_begins t (atom_opened (reach_of s.rest) l)).branch in
+        expression_as s l n k (branch_recorded m (branch_begun (reach_of u) k)) (reach_of u) a (branch_spans named b)
+        (branch_spans named m) q (opened_within (reach_of s.rest) (reach_of t.rest) l) refl f
+        (branch_as_read m (branch_begun (reach_of u) k) (record { branch = refl; pieces = refl }))
+    atom_of_as {s} (one_branch {t} {v} {a} b e) l h c =
+        let n = opened (reach_of s.rest) (reach_of t.rest) l in
+        stopper_as s l n (branch_recorded b n) a (branch_spans named b) v (opened_within (reach_of s.rest) (reach_of t.rest) l) refl refl
+        (branch_as_read b n (part_begins t (atom_opened (reach_of s.rest) l)).branch)
+    atom_of_as {s} (absent_error b) l h c = tt
+
+    inside_as : {d : ℕ} {s : State} {o : Outcome Tree} (a : Inside d s o) (l : Log) → PartBegun s l →
+        Holds (λ r v. PartRecorded l (inside_recorded a l) r (inside_spans named a)) o
+    inside_as (inside {q} a) l g =
+        inside_of l (alternation_recorded a l) (alternation_spans named a) q (alternation_as a l g)
+
+    body_as_read : {d : ℕ} {c : Tree} {t : State} {o : Outcome Tree} (w : State) (a : Body d c t o) (l n : Log)
+        (y : Spans) (ys : List RecordedNode) → Within (reach_of w.rest) l n → n.recorded ≡ l.recorded ++ ys → Fits named c y ys →
+        PartBegun t n →
+        Holds (λ r v. PieceRecorded named (reach_of w.rest) l (body_recorded a n) r (body_spans named w y a)) o
+    body_as_read {c} {t} w (the_body {q} a) l n y ys k e f g =
+        body_as w l n (alternation_recorded a n) c (bytes t.rest) (alternation_spans named a) y ys q k e f g.branches
+        (alternation_as a n g)
+
+  -- ---- a whole text
+
+  pub whole_recorded : {d : ℕ} {s : State} {r : Tree} {t : State} (a : Alternation d s (done r t)) →
+      shown named (alternation_recorded a (started (reach_of s.rest))).recorded ≡ in_preorder (alternation_spans named a)
+  whole_recorded {s} {r} a =
+      let h = alternation_as a (started (reach_of s.rest)) (record {
+        part = refl;
+        branches = refl;
+        bar = refl;
+        branch = record { branch = refl; pieces = refl };
+      }) in
+      ap (shown named) h.is_recorded ∙ fits_shown named r (alternation_spans named a) h.xs h.fits
+
+pub whole_shown : {f : Flags} {text : Text} {r : Tree} {t : State} {m : Log} →
+    AlternationTo 0 (start f text) (done r t) (started (reach_of text)) m → ShowsWhole f text (ended r t) m
+whole_shown (a, e) = (
+  whole a,
+  λ named. ap (λ (m : Log). shown named m.recorded) (sym e) ∙ whole_recorded named a,
+)

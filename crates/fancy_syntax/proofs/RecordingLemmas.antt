@@ -1,0 +1,281 @@
+-- What is recorded for a text shows the spans of its derivation.
+use Rattle.std.proofs.Common.{◌≡◌, ℕ, zero, suc, ◌+◌, ◌-◌, min, Bool, true, false, ◌||◌, ◌&&◌, if◌then◌else◌, List, []}
+use Rattle.std.proofs.Common.{◌∷◌, ◌++◌, length, Option, Some, None, refl, sym, ap, ◌∙◌, arith, append-nil}
+use Rattle.std.proofs.Common.{length-append, nat_lt}
+use Rattle.std.specs.Prelude.{insert}
+use Rattle.std.specs.Option.{option_and_then}
+use Rattle.std.proofs.lemmas.Bool.{cond_both}
+use Rattle.std.proofs.lemmas.List.Edits.{insert-append_right}
+use Rattle.fancy_lex.specs.LayoutSteps.{Skipped, rest, rest_of, failed as open_comment}
+use Rattle.fancy_lex.specs.Reading.{choose}
+use Rattle.fancy_lex.specs.Text.{Text, bytes}
+use Rattle.fancy_lex.specs.ErrorTable.{not_repeatable, quantifier_too_deep}
+use Rattle.fancy_lex.specs.declared.flags.Flags.{Flags}
+use Rattle.fancy_parts.specs.Quantifier.{counts}
+use Rattle.fancy_parts.specs.declared.counts.Counts.{Counts}
+use Rattle.fancy_grammar.specs.Depth.{max_depth}
+use Rattle.fancy_grammar.specs.Label as label
+use Rattle.fancy_grammar.specs.Quantified.{quants, adjacent, max_adjacent, is_unmoved, quant, quant_at, with_counts}
+use Rattle.fancy_grammar.specs.Quantified.{suffix, is_swapped, quantified, is_repeatable, is_dropped, is_greedy, Suffix}
+use Rattle.fancy_grammar.specs.Spans.{Span, Spans, node, Forest, no_spans, more_spans, after_bar, around}
+use Rattle.fancy_grammar.specs.Spans.{in_preorder, all_in_preorder, if_done, under, quantifier_end, counted, quant_spans}
+use Rattle.fancy_grammar.specs.Spans.{adjacent_spans, quants_spans}
+use Rattle.fancy_grammar.specs.State.{skipped, State, at, Outcome, done, failed, failed_with, and_then, seen_through}
+use Rattle.fancy_grammar.specs.Tree.{Tree, leaf, over, row, Trees, trees_of, alt, repeat, atomic_group}
+use Rattle.fancy_grammar.proofs.OutcomeLemmas.{Holds}
+use Rattle.fancy_syntax.specs.Log.{Log, plain, put, reaches, shown, under_node, wrapped}
+use Rattle.fancy_syntax.specs.Recording.{counted_recorded, quant_recorded, adjacent_recorded, quants_recorded}
+use Rattle.fancy_syntax.specs.declared.grammar.recorded.Last.{Last}
+use Rattle.fancy_syntax.specs.declared.grammar.recorded.RecordedNode.{RecordedNode}
+
+-- a node inserted after those of the first list
+put_seam : (A xs : List RecordedNode) (x : RecordedNode) → insert (A ++ xs) (min (length A) (length (A ++ xs))) x ≡ A ++ x ∷ xs
+put_seam A xs x =
+    let n : min (length A) (length (A ++ xs)) ≡ length A = omega (arith, length-append A xs) in
+    let z : length A - length A ≡ 0 = omega arith in
+    ap (λ n. insert (A ++ xs) n x) n ∙ insert-append_right A xs (length A) (length A) x refl (omega arith)
+    ∙ ap (λ k. A ++ insert xs k x) z
+
+pub put_recorded : (l : Log) (h : ℕ) (A xs : List RecordedNode) (x : RecordedNode) → l.recorded ≡ A ++ xs → h ≡ length A →
+    (put h x l).recorded ≡ A ++ x ∷ xs
+put_recorded l h A xs x e i = rw (e, i) (put_seam A xs x)
+
+-- branches after the first, with their spans
+pub data Beside : List Tree → Forest → Type 0 where
+  one_more : {q z : _} → Beside (q ∷ []) (more_spans z no_spans)
+  several_more : {q p l z b f : _} → Beside (q ∷ p ∷ l) (more_spans z (after_bar b f))
+
+module _ (named : Bool) where
+  pub shown_one : (n : RecordedNode) (xs : List RecordedNode) → n.unnamed ≡ false → shown named (n ∷ xs) ≡ reaches n ∷ shown named xs
+  shown_one n xs e = by_named named
+    where
+      by_named : (b : Bool) → (if b && n.unnamed then shown named xs else reaches n ∷ shown named xs)
+          ≡ reaches n ∷ shown named xs
+      by_named true = rw e refl
+      by_named false = refl
+
+  pub shown_append : (xs ys : List RecordedNode) → shown named (xs ++ ys) ≡ shown named xs ++ shown named ys
+  shown_append [] ys = refl
+  shown_append (x ∷ xs) ys = by_test (named && x.unnamed) (shown_append xs ys)
+    where
+      by_test : (b : Bool) → shown named (xs ++ ys) ≡ shown named xs ++ shown named ys →
+          (if b then shown named (xs ++ ys) else reaches x ∷ shown named (xs ++ ys))
+          ≡ (if b then shown named xs else reaches x ∷ shown named xs) ++ shown named ys
+      by_test true h = h
+      by_test false h = ap (λ l. reaches x ∷ l) h
+
+  -- the nodes of an Alt of these branches, whose first bar is kept
+  pub record Barred (ts : Trees) (x : Spans) (xs : List RecordedNode) : Type 0 where
+    pub alt_node : RecordedNode
+    pub bar : ℕ
+    pub one : Tree
+    pub others : List Tree
+    pub first : Spans
+    pub rest : Forest
+    pub ys : List RecordedNode
+    pub zs : List RecordedNode
+    pub is_tree : ts ≡ trees_of (one ∷ others)
+    pub beside : Beside others rest
+    pub is_spans : x ≡ node (reaches alt_node) (more_spans first (after_bar bar rest))
+    pub is_recorded : xs ≡ alt_node ∷ ys ++ zs
+    pub returned : alt_node.unnamed ≡ false
+    pub has_bar : alt_node.bar ≡ Some (record { past = bar; nodes = length ys })
+    pub shows_first : shown named ys ≡ in_preorder first
+    pub shows_rest : shown named zs ≡ all_in_preorder rest
+
+  -- the nodes of a tree that has these spans
+  abbrev pub Fits : Tree → Spans → List RecordedNode → Type 0
+  Fits (alt ts) x xs = Barred ts x xs
+  Fits _ x xs = shown named xs ≡ in_preorder x
+
+  barred_shows : {ts : Trees} {x : Spans} {xs : List RecordedNode} → Barred ts x xs → shown named xs ≡ in_preorder x
+  barred_shows h =
+      ap (shown named) h.is_recorded ∙ shown_one h.alt_node (h.ys ++ h.zs) h.returned
+      ∙ ap (λ l. reaches h.alt_node ∷ l)
+      (shown_append h.ys h.zs ∙ (λ i. h.shows_first i ++ h.shows_rest i)) ∙ sym (ap in_preorder h.is_spans)
+
+  pub fits_shown : (r : Tree) (x : Spans) (xs : List RecordedNode) → Fits r x xs → shown named xs ≡ in_preorder x
+  fits_shown (leaf l) x xs h = h
+  fits_shown (over w t) x xs h = h
+  fits_shown (row label.alt ts) x xs h = barred_shows h
+  fits_shown (row label.concat ts) x xs h = h
+  fits_shown (row label.conditional ts) x xs h = h
+  fits_shown (row label.expression ts) x xs h = h
+
+  -- after the log l, the tree r is recorded as a piece that begins at the reach
+  pub record PieceRecorded (start : ℕ) (l m : Log) (r : Tree) (x : Spans) : Type 0 where
+    pub xs : List RecordedNode
+    pub is_recorded : m.recorded ≡ l.recorded ++ xs
+    pub is_around : m.around ≡ l.around
+    pub is_open : m.open_atom ≡ l.open_atom
+    pub is_last : m.last ≡ record { start = start; height = length l.recorded }
+    pub fits : Fits r x xs
+
+  module _ (start : ℕ) (l : Log) where
+    -- in a node
+    once : {m : Log} {a : Tree} {x : Spans} (w : _) (end : ℕ) → PieceRecorded start l m a x →
+        PieceRecorded start l (under_node end m) (over w a) (around (record { start = start; end = end }) x)
+    once {m} {a} {x} w end h =
+        let n = plain m.last.start end in
+        let p : reaches n ≡ record { start = start; end = end } =
+        ap (λ (k : Last). record { start = k.start; end = end }) h.is_last in
+        record {
+          xs = n ∷ h.xs;
+          is_recorded = put_recorded m m.last.height l.recorded h.xs n h.is_recorded (ap (λ (k : Last). k.height) h.is_last);
+          is_around = h.is_around;
+          is_open = h.is_open;
+          is_last = h.is_last;
+          fits = shown_one n h.xs refl
+              ∙ (λ i. p i ∷ (fits_shown a x h.xs h.fits ∙ sym (append-nil (in_preorder x))) i);
+        }
+
+    under_recorded : {m : Log} {a : Tree} {x : Spans} (f : Flags) (c : Counts) (k : Suffix) (end : ℕ) →
+        PieceRecorded start l m a x → PieceRecorded start l (wrapped end (is_swapped f c || k.possessive) m)
+        (quantified f c k a) (under f c k (record { start = start; end = end }) x)
+    under_recorded {m} {a} {x} f c k end h = by_test (is_swapped f c) k.possessive
+      where
+        p : Span
+        p = record { start = start; end = end }
+
+        twice : (low high : ℕ) → PieceRecorded start l (under_node end (under_node end m))
+            (atomic_group (repeat a low high (is_greedy f k.lazy))) (around p (around p x))
+        twice low high = once label.atomic_group end (once (label.repeat low high (is_greedy f k.lazy)) end h)
+
+        by_test : (b d : Bool) → PieceRecorded start l
+            (under_node end (if b || d then under_node end m else m))
+            (if b then atomic_group (repeat a c.high c.low (is_greedy f k.lazy))
+            else if d then atomic_group (repeat a c.low c.high (is_greedy f k.lazy))
+            else repeat a c.low c.high (is_greedy f k.lazy))
+            (if b || d then around p (around p x) else around p x)
+        by_test true d = twice c.high c.low
+        by_test false true = twice c.low c.high
+        by_test false false = once (label.repeat c.low c.high (is_greedy f k.lazy)) end h
+
+    -- the outcome is recorded
+    abbrev pub RecordedAs : Log → Spans → Outcome Tree → Type 0
+    RecordedAs m x o = Holds (λ r v. PieceRecorded start l m r x) o
+
+    quant_recorded_as : (left : ℕ) (a : Tree) (s : State) (m : Log) (x : Spans) → PieceRecorded start l m a x →
+        RecordedAs (quant_recorded a s m) (quant_spans start a s x) (quant left a s)
+    unfolding quant
+    quant_recorded_as left a s m x h = by_layout (skipped s)
+      where
+        by_operators : (c : Counts) (u : Text) (o : Outcome Suffix) →
+            RecordedAs
+            (if_done o (λ k v. wrapped (quantifier_end u k v) (is_swapped s.flags c || k.possessive) m) m)
+            (if_done o (λ k v. under s.flags c k (record { start = start; end = quantifier_end u k v }) x) x)
+            (seen_through (λ k. quantified s.flags c k a) o)
+        by_operators c u (done k v) = under_recorded s.flags c k (quantifier_end u k v) h
+        by_operators c u (failed k p) = tt
+
+        by_dropped : (o : Outcome Suffix) → RecordedAs m x (seen_through (λ k. a) o)
+        by_dropped (done k v) = h
+        by_dropped (failed k p) = tt
+
+        by_tests : (b d : Bool) (c : Counts) (u : Text) →
+            RecordedAs
+            (if b then if_done (suffix (at s u) c)
+            (λ k v. wrapped (quantifier_end u k v) (is_swapped s.flags c || k.possessive) m) m else m)
+            (if b then if_done (suffix (at s u) c)
+            (λ k v. under s.flags c k (record { start = start; end = quantifier_end u k v }) x) x else x)
+            (if b then seen_through (λ k. quantified s.flags c k a) (suffix (at s u) c)
+            else if d then seen_through (λ k. a) (suffix (at s u) c) else failed_with (not_repeatable u))
+        by_tests true d c u = by_operators c u (suffix (at s u) c)
+        by_tests false true c u = by_dropped (suffix (at s u) c)
+        by_tests false false c u = tt
+
+        by_counts : (v : Text) (o : Option (Counts × Text)) →
+            RecordedAs (choose o (counted_recorded a s m) m) (choose o (counted start a s x) x)
+            (with_counts left a (at s v) o)
+        by_counts v None = h
+        by_counts v (Some (c, u)) = by_tests (is_repeatable s.flags a) (is_dropped s.flags left a u) c u
+
+        by_layout : (j : Skipped) → RecordedAs
+            (choose (option_and_then (counts s.flags.ignore_space) (rest_of j)) (counted_recorded a s m) m)
+            (choose (option_and_then (counts s.flags.ignore_space) (rest_of j)) (counted start a s x) x)
+            (quant_at left a s j)
+        by_layout (rest v) = by_counts v (counts s.flags.ignore_space v)
+        by_layout (open_comment p) = tt
+
+    adjacent_recorded_as : (k d : ℕ) (a : Tree) (s : State) (m : Log) (x : Spans) → PieceRecorded start l m a x →
+        RecordedAs (adjacent_recorded k a s m) (adjacent_spans k start a s x) (adjacent k d a s)
+    unfolding adjacent
+    adjacent_recorded_as zero d a s m x h =
+        by_first (quant (bytes s.rest) a s) (quant_recorded_as (bytes s.rest) a s m x h)
+      where
+        n : Log
+        n = quant_recorded a s m
+
+        y : Spans
+        y = quant_spans start a s x
+
+        by_first : (o : Outcome Tree) → RecordedAs n y o → RecordedAs n y
+            (and_then o (λ b v. if is_unmoved s v then done b v else failed_with (quantifier_too_deep v.rest)))
+        by_first (done b v) i = cond_both (is_unmoved s v) _ _ (RecordedAs n y) (λ _. i) (λ _. tt)
+        by_first (failed j p) i = tt
+    adjacent_recorded_as (suc k) d a s m x h =
+        by_first (λ b v i. adjacent_recorded_as k (d + 1) b v (quant_recorded a s m) (quant_spans start a s x) i)
+        (quant (bytes s.rest) a s) (quant_recorded_as (bytes s.rest) a s m x h)
+      where
+        n : Log
+        n = quant_recorded a s m
+
+        y : Spans
+        y = quant_spans start a s x
+
+        by_tests : (c e : Bool) (b : Tree) (v : State) → PieceRecorded start l n b y →
+            RecordedAs (adjacent_recorded k b v n) (adjacent_spans k start b v y) (adjacent k (d + 1) b v) →
+            RecordedAs (if c then n else adjacent_recorded k b v n) (if c then y else adjacent_spans k start b v y)
+            (if c then done b v else if e then adjacent k (d + 1) b v else failed_with (quantifier_too_deep v.rest))
+        by_tests true e b v i j = i
+        by_tests false true b v i j = j
+        by_tests false false b v i j = tt
+
+        by_first : ((b : Tree) (v : State) → PieceRecorded start l n b y →
+            RecordedAs (adjacent_recorded k b v n) (adjacent_spans k start b v y) (adjacent k (d + 1) b v)) →
+            (o : Outcome Tree) → RecordedAs n y o → RecordedAs
+            (if_done o (λ b v. if is_unmoved s v then n else adjacent_recorded k b v n) n)
+            (if_done o (λ b v. if is_unmoved s v then y else adjacent_spans k start b v y) y)
+            (and_then o (λ b v. if is_unmoved s v then done b v
+            else if nat_lt (d + 1) max_depth then adjacent k (d + 1) b v else failed_with (quantifier_too_deep v.rest)))
+        by_first go_on (done b v) i = by_tests (is_unmoved s v) (nat_lt (d + 1) max_depth) b v i (go_on b v i)
+        by_first go_on (failed j p) i = tt
+
+    pub quants_recorded_as : (d left : ℕ) (a : Tree) (s : State) (m : Log) (x : Spans) → PieceRecorded start l m a x →
+        RecordedAs (quants_recorded left (done a s) m) (quants_spans left start (done a s) x) (quants d left a s)
+    quants_recorded_as d left a s m x h = by_first (quant left a s) (quant_recorded_as left a s m x h)
+      where
+        n : Log
+        n = quant_recorded a s m
+
+        y : Spans
+        y = quant_spans start a s x
+
+        by_mode : (c : Bool) (b : Tree) (v : State) → PieceRecorded start l n b y →
+            RecordedAs (if c then adjacent_recorded max_adjacent b v n else n)
+            (if c then adjacent_spans max_adjacent start b v y else y)
+            (if c then adjacent max_adjacent d b v else done b v)
+        by_mode true b v i = adjacent_recorded_as max_adjacent d b v n y i
+        by_mode false b v i = i
+
+        by_first : (o : Outcome Tree) → RecordedAs n y o → RecordedAs
+            (if_done o (λ b v. if v.flags.oniguruma_mode then adjacent_recorded max_adjacent b v n else n) n)
+            (if_done o (λ b v. if v.flags.oniguruma_mode then adjacent_spans max_adjacent start b v y else y) y)
+            (and_then o (λ b v. if v.flags.oniguruma_mode then adjacent max_adjacent d b v else done b v))
+        by_first (done b v) i = by_mode v.flags.oniguruma_mode b v i
+        by_first (failed k p) i = tt
+
+-- ---- the steps of adjacent quantifiers
+
+-- no byte is taken
+pub recorded_ends : (k : ℕ) (a : Tree) (s : State) (l : Log) {b : Tree} {t : State} →
+    quant (bytes s.rest) a s ≡ done b t → is_unmoved s t ≡ true → adjacent_recorded k a s l ≡ quant_recorded a s l
+recorded_ends zero a s l e u = refl
+recorded_ends (suc k) a s l e u = rw (e, u) refl
+
+-- one more quantifier is taken
+pub recorded_counts : (k j : ℕ) (a : Tree) (s : State) (l : Log) {b : Tree} {t : State} →
+    quant (bytes s.rest) a s ≡ done b t → is_unmoved s t ≡ false → k ≡ j + 1 →
+    adjacent_recorded k a s l ≡ adjacent_recorded j b t (quant_recorded a s l)
+recorded_counts zero j a s l e u i = absurd (omega (arith, i))
+recorded_counts (suc k) j a s l e u i = let same : k ≡ j = omega arith in rw (e, u, same) refl

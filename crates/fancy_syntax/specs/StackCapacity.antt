@@ -1,0 +1,39 @@
+-- The capacity of the parser's stack, in groups, from the start of a call.
+use Rattle.std.specs.Prelude.{ℕ, ◌+◌, ◌≤◌, ◌<◌, ◌==◌, nat_le, if◌then◌else◌, [], ◌∷◌, ⊤, vec_len, vec_capacity, Result, IsOk}
+use Rattle.std.specs.declared.alloc.AllocError.{AllocError}
+use Rattle.fancy_lex.specs.Characters.{open_paren}
+use Rattle.fancy_lex.specs.Text.{Text}
+use Rattle.fancy_grammar.specs.Depth.{most_open}
+use Rattle.fancy_grammar.specs.State.{State}
+use Rattle.fancy_syntax.specs.Log.{Log}
+use Rattle.fancy_syntax.specs.Machine.{HasRead}
+use Rattle.fancy_syntax.specs.declared.grammar.parser.Parser.{Parser}
+use Rattle.fancy_syntax.specs.declared.grammar.step.Step.{Step}
+use Rattle.fancy_syntax.specs.declared.grammar.step.Step.TheVariants as step
+
+-- how many opening parentheses a text has, whatever their role is
+abbrev pub open_parens : Text → ℕ
+open_parens [] = 0
+open_parens (c ∷ t) = if c == open_paren then open_parens t + 1 else open_parens t
+
+-- the largest number of groups that a text may have open at once
+abbrev pub groups_at_once : Text → ℕ
+groups_at_once t = if nat_le most_open (open_parens t) then most_open else open_parens t
+
+-- the stack has capacity for all groups of the text that can be open at once
+abbrev pub HasStackCapacity : Parser → Text → Type 0
+HasStackCapacity r text = groups_at_once text ≤ vec_capacity r.stack
+
+-- what has been read belongs to some text, and the stack has capacity for its groups
+abbrev pub IsReserved : Parser → Type 0
+IsReserved r = (start : State) × (none : Log) × (l : Log) × HasRead start none r l × HasStackCapacity r start.rest
+
+-- the stack has capacity for what the step opens
+abbrev pub HasCapacityFor : Step → Parser → Type 0
+HasCapacityFor (step.Piece piece) r = ⊤
+HasCapacityFor (step.Open open_group) r = vec_len r.stack < vec_capacity r.stack
+
+-- a group opens without an allocation
+abbrev pub OpensAlways : Step → Result (Unit {0}) AllocError → Type 0
+OpensAlways (step.Piece piece) r = ⊤
+OpensAlways (step.Open open_group) r = IsOk r

@@ -1,0 +1,17 @@
+//! The error kind that carries a message.
+ghost use Rattle.std.specs.Prelude.{chars};
+ghost use Rattle.fancy_lex.specs.Located as spec;
+ghost use Rattle.fancy_grammar.specs.Errors.{IsErrorAt};
+
+use fancy_lex::error::{ParseError, ReadError};
+use std::alloc::Global;
+
+/// The general error with this message, or out of memory.
+pub(crate) fn general(alloc: Global, message: &str, reach: usize) -> ReadError
+    ensures { IsErrorAt result (spec.general_parse_error (chars message.now)) reach }
+{
+    match String::from_str(alloc, message) {
+        Ok(message) => ReadError::At(reach, ParseError::GeneralParseError(message)),
+        Err(refused) => ReadError::from(refused),
+    }
+}

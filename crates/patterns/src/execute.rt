@@ -1,0 +1,181 @@
+//! What the program does with its arguments.
+use crate::rules::rules_chosen;
+use crate::words::{
+    canvas_chosen, command, flags_chosen, form_chosen, look_chosen, paints_chosen, verb_chosen,
+};
+use clap::error::ErrorKind;
+use clap::{ArgMatches, Error};
+use patterns_lint::rule::write_rules;
+use patterns_picture::picture::draw_picture;
+use patterns_program::draw::{draw_tree, write_tree};
+use patterns_program::progress::System;
+use patterns_program::run::{Job, Verb, run};
+use patterns_text::error::{RunError, give_up};
+use patterns_text::paint::Paints;
+use std::alloc::{AllocError, Global};
+use std::io::Write;
+
+/// The exit status if the arguments are wrong.
+const MISUSED: u8 = 2;
+
+/// Writes the help that was asked for to `out`, or what is wrong with the arguments to `err`.
+fn explain<O: Write, E: Write>(error: &Error, out: &mut O, err: &mut E) -> Result<u8, RunError> {
+    if error.kind() == ErrorKind::OutOfMemory {
+        return Err(RunError::Memory(AllocError));
+    }
+    if error.use_stderr() {
+        write!(err, "{error}")?;
+        return Ok(MISUSED);
+    }
+    write!(out, "{error}")?;
+    out.flush()?;
+    Ok(0)
+}
+
+/// Reports letters that are no flags.
+fn explain_flags<E: Write>(err: &mut E) -> Result<u8, RunError> {
+    writeln!(
+        err,
+        "patterns: --flags takes letters of imsUxuRon, or - for none"
+    )?;
+    Ok(MISUSED)
+}
+
+/// A call of the program: what it reads from and writes to, and the colours where the arguments leave them open.
+#[derive(Drop)]
+struct ProgramCall<'a, S, O, E> {
+    alloc: Global,
+    auto: Paints,
+    sources: &'a S,
+    out: &'a mut O,
+    err: &'a mut E,
+}
+
+impl<S: System, O: Write, E: Write> ProgramCall<'_, S, O, E> {
+    /// Draws the tree of a pattern, in lines of text or as a picture.
+    fn execute_pattern(
+        &mut self,
+        name: &str,
+        flags: u32,
+        pattern: &str,
+        matches: &ArgMatches<'_>,
+    ) -> u8 {
+        let alloc = self.alloc;
+        if name == "picture" {
+            let canvas = canvas_chosen(matches);
+            return draw_picture(alloc, flags, canvas, pattern, self.out, self.err);
+        }
+        if matches.get_flag("json") {
+            return write_tree(alloc, flags, pattern, self.out, self.err);
+        }
+        draw_tree(
+            alloc,
+            flags,
+            look_chosen(matches),
+            pattern,
+            self.out,
+            self.err,
+        )
+    }
+
+    /// Runs a subcommand over files.
+    fn execute_files(
+        &mut self,
+        verb: Verb,
+        flags: u32,
+        matches: &ArgMatches<'_>,
+    ) -> Result<u8, RunError> {
+        let Some(files) = matches.get_strs("files") else {
+            return Ok(MISUSED);
+        };
+        let Some(paints) = paints_chosen(matches, self.auto) else {
+            writeln!(self.err, "patterns: --color takes auto, always or never")?;
+            return Ok(MISUSED);
+        };
+        let job = Job {
+            verb,
+            flags,
+            form: form_chosen(matches),
+            is_quiet: matches.get_flag("quiet"),
+            paints,
+        };
+        Ok(run(self.alloc, job, files, self.sources, self.out, self.err))
+    }
+
+    /// Lists the rules of `lint`, or reports what they find in files.
+    fn execute_lint(&mut self, flags: u32, matches: &ArgMatches<'_>) -> Result<u8, RunError> {
+        if matches.get_flag("rules") {
+            write_rules(self.out)?;
+            self.out.flush()?;
+            return Ok(0);
+        }
+        let chosen = match rules_chosen(matches) {
+            Ok(chosen) => chosen,
+            Err(name) => {
+                writeln!(
+                    self.err,
+                    "patterns: no rule is named {name}; lint --rules lists them"
+                )?;
+                return Ok(MISUSED);
+            }
+        };
+        let verb = if matches.get_flag("json") {
+            Verb::LintJson(chosen)
+        } else {
+            Verb::Lint(chosen)
+        };
+        self.execute_files(verb, flags, matches)
+    }
+
+    /// Runs a subcommand.
+    fn execute_verb(&mut self, name: &str, matches: &ArgMatches<'_>) -> Result<u8, RunError> {
+        let Some(flags) = flags_chosen(matches) else {
+            return explain_flags(self.err);
+        };
+        if let Some(pattern) = matches.get_str("pattern") {
+            return Ok(self.execute_pattern(name, flags, pattern, matches));
+        }
+        if name == "lint" {
+            return self.execute_lint(flags, matches);
+        }
+        let Some(verb) = verb_chosen(name, matches) else {
+            return Ok(MISUSED);
+        };
+        self.execute_files(verb, flags, matches)
+    }
+
+    /// Runs the subcommand that the arguments choose, or reports what is wrong with them.
+    fn execute(&mut self, words: &[String]) -> Result<u8, RunError> {
+        match command(self.alloc)?.try_get_matches_from(words) {
+            Ok(matches) => match matches.subcommand() {
+                Some((name, chosen)) => self.execute_verb(name, chosen),
+                None => Ok(MISUSED),
+            },
+            Err(error) => explain(&error, self.out, self.err),
+        }
+    }
+}
+
+/// Does what the arguments ask, the program's name first, and returns the exit status: that of the run, or 0 if help
+/// was asked for, 2 if the arguments are wrong, and 3 if memory ran out or a write failed. Where the arguments leave it open,
+/// `auto` says which stream has colours.
+pub(crate) fn execute<'a, S: System, O: Write, E: Write>(
+    alloc: Global,
+    auto: Paints,
+    words: &[String],
+    sources: &'a S,
+    out: &'a mut O,
+    err: &'a mut E,
+) -> u8 {
+    let mut call = ProgramCall {
+        alloc,
+        auto,
+        sources,
+        out,
+        err,
+    };
+    match call.execute(words) {
+        Ok(status) => status,
+        Err(error) => give_up(call.err, error),
+    }
+}

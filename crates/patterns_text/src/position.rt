@@ -1,0 +1,198 @@
+//! Positions in a pattern, as a terminal shows them.
+ghost use Rattle.std.specs.Prelude.{◌≡◌, ◌+◌, chars, false};
+ghost use Rattle.unicode_width.specs.Width.{str_width};
+
+use crate::paint::{Ink, Paint};
+use crate::path::Path;
+use fancy_syntax::span::Span;
+use std::io::Write;
+use std::{fmt, io};
+use unicode_width::UnicodeWidthStr;
+
+/// Where a pattern is in its file.
+#[derive(Clone, Copy)]
+pub enum Spot<'a> {
+    /// Its first line has this number, counted from 1.
+    Line(u64),
+    /// It is a value of JSON.
+    Value {
+        path: Path<'a>,
+        /// Whether a number in a back reference is that of a group of another pattern, the `begin` beside this one.
+        refers_to_begin: bool,
+    },
+}
+
+/// Where a pattern is in its file, and the colours of what is written of it.
+#[derive(Clone, Copy)]
+pub struct Location<'a> {
+    /// The file's name as an argument.
+    pub file: &'a str,
+    pub spot: Spot<'a>,
+    /// Of reports: that it is refused, and what `lint` finds.
+    pub reported: Paint,
+    /// Of its groups, and of how it would change.
+    pub listed: Paint,
+}
+
+impl<'a> Location<'a> {
+    /// Where a pattern is, without colours.
+    pub fn plain(file: &'a str, line: u64) -> Location<'a> {
+        Location {
+            file,
+            spot: Spot::Line(line),
+            reported: Paint::Plain,
+            listed: Paint::Plain,
+        }
+    }
+
+    /// The line of the pattern that is so many lines below its first.
+    pub fn below(self, lines: usize) -> LineOf<'a> {
+        LineOf { at: self, lines }
+    }
+
+    /// Whether a number in a back reference is that of a group of another pattern.
+    pub fn refers_to_begin(self) -> bool {
+        matches!(
+            self.spot,
+            Spot::Value {
+                refers_to_begin: true,
+                ..
+            }
+        )
+    }
+}
+
+impl fmt::Display for Location<'_> {
+    fn fmt<W: fmt::Write>(&self, f: &mut fmt::Formatter<W>) -> fmt::Result {
+        write!(f, "{}", self.below(0))
+    }
+}
+
+/// A line of a pattern.
+#[derive(Clone, Copy)]
+pub struct LineOf<'a> {
+    at: Location<'a>,
+    /// How many lines of the pattern are above it.
+    lines: usize,
+}
+
+/// The file and the line; of a value of JSON the file, the path, and the line in the pattern if that is not the first.
+impl fmt::Display for LineOf<'_> {
+    fn fmt<W: fmt::Write>(&self, f: &mut fmt::Formatter<W>) -> fmt::Result {
+        let file = self.at.file;
+        match self.at.spot {
+            Spot::Line(line) => write!(f, "{file}:{}", line.saturating_add(self.lines as u64)),
+            Spot::Value { path, .. } if self.lines == 0 => write!(f, "{file}:{path}"),
+            Spot::Value { path, .. } => {
+                write!(f, "{file}:{path}:{}", self.lines.saturating_add(1))
+            }
+        }
+    }
+}
+
+/// The column after the text in its line, from 1. Each character takes as many columns as on a terminal; a tab or
+/// another control character takes one.
+pub fn column_after(text: &str) -> usize
+    ensures value { result ≡ 1 + str_width false (chars text.now) }
+{
+    text.width() + 1
+}
+
+/// A line of a pattern, cut at a place.
+#[derive(Clone, Copy)]
+pub struct Cut<'a> {
+    /// How many line feeds stand before the line.
+    pub above: usize,
+    pub before: &'a str,
+    pub after: &'a str,
+}
+
+impl Cut<'_> {
+    /// Cuts at a byte offset: before the character that it falls into, and behind the last one where it is past the
+    /// end.
+    pub fn at(pattern: &str, position: usize) -> Cut<'_> {
+        let (front, rest) = pattern.split_at(pattern.floor_char_boundary(position));
+        Cut {
+            above: front.matches('\n').count(),
+            before: front.rsplit_once('\n').map_or(front, |parts| parts.1),
+            after: rest.split_once('\n').map_or(rest, |parts| parts.0),
+        }
+    }
+}
+
+/// The place in words: its column, and its line where that is not the first.
+impl fmt::Display for Cut<'_> {
+    fn fmt<W: fmt::Write>(&self, f: &mut fmt::Formatter<W>) -> fmt::Result {
+        if self.above > 0 {
+            write!(f, "line {}, ", self.above.saturating_add(1))?;
+        }
+        write!(f, "column {}", column_after(self.before))
+    }
+}
+
+/// The columns of a part of a pattern, from the first one to the last one.
+#[derive(Clone, Copy)]
+pub struct Columns {
+    first: usize,
+    last: usize,
+}
+
+impl Columns {
+    /// Those of the span, in its line.
+    pub fn of(pattern: &str, span: Span) -> Columns {
+        let before = Cut::at(pattern, span.start).before;
+        let until = Cut::at(pattern, span.end).before;
+        Columns {
+            first: column_after(before),
+            last: until.width(),
+        }
+    }
+}
+
+impl fmt::Display for Columns {
+    fn fmt<W: fmt::Write>(&self, f: &mut fmt::Formatter<W>) -> fmt::Result {
+        write!(f, "{}-{}", self.first, self.last)
+    }
+}
+
+/// As many blanks as the text takes columns. A tab stays a tab, so that it takes what it takes in the text.
+#[derive(Clone, Copy)]
+pub struct Blank<'a>(pub &'a str);
+
+impl fmt::Display for Blank<'_> {
+    fn fmt<W: fmt::Write>(&self, f: &mut fmt::Formatter<W>) -> fmt::Result {
+        for (i, part) in self.0.split('\t').enumerate() {
+            if i > 0 {
+                f.write_char('\t')?;
+            }
+            for _ in 0..part.width() {
+                f.write_char(' ')?;
+            }
+        }
+        Ok(())
+    }
+}
+
+/// Writes where and why a pattern is refused, the line of the place, and a caret under the place.
+pub fn write_refusal<O: Write, K: fmt::Display>(
+    out: &mut O,
+    at: Location<'_>,
+    pattern: &str,
+    position: usize,
+    kind: &K,
+) -> io::Result<()> {
+    let Cut {
+        above,
+        before,
+        after,
+    } = Cut::at(pattern, position);
+    let (line, column) = (at.below(above), column_after(before));
+    let (bold, red, end) = (
+        at.reported.begin(Ink::Position),
+        at.reported.begin(Ink::Error),
+        at.reported.end(),
+    );
+    writeln!(out, "{bold}{line}:{column}:{end} {kind}")?;
+    writeln!(out, "{before}{after}")?;
+    writeln!(out, "{}{red}^{end}", Blank(before))
+}
