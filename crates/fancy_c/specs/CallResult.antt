@@ -17,7 +17,8 @@ use Rattle.fancy_grammar.specs.ParsedTree.{IsParsedTreeWith, IsSmall}
 use Rattle.fancy_grammar.specs.GroupInfo.{GroupInfo}
 use Rattle.fancy_grammar.specs.Tree.{Tree}
 use Rattle.fancy_c.specs.declared.call_result.TheConstants.{STATUS_NOT_UTF8, STATUS_REFUSED, STATUS_OUT_OF_MEMORY}
-use Rattle.fancy_c.specs.declared.call_result.TheConstants.{ERROR_NONE, ERROR_GENERAL_PARSE_ERROR, ERROR_UNCLOSED_OPEN_PAREN}
+use Rattle.fancy_c.specs.declared.call_result.TheConstants.{ERROR_NONE, ERROR_GENERAL_PARSE_ERROR}
+use Rattle.fancy_c.specs.declared.call_result.TheConstants.{ERROR_UNCLOSED_OPEN_PAREN}
 use Rattle.fancy_c.specs.declared.call_result.TheConstants.{ERROR_INVALID_REPEAT, ERROR_RECURSION_EXCEEDED}
 use Rattle.fancy_c.specs.declared.call_result.TheConstants.{ERROR_TRAILING_BACKSLASH, ERROR_INVALID_ESCAPE}
 use Rattle.fancy_c.specs.declared.call_result.TheConstants.{ERROR_UNCLOSED_UNICODE_NAME, ERROR_INVALID_HEX}

@@ -8,7 +8,8 @@ ghost use Rattle.fancy_grammar.specs.GroupInfo.{GroupInfo};
 ghost use Rattle.fancy_grammar.specs.Tree.{Tree};
 ghost use Rattle.fancy_syntax.specs.InfoViews.{info_of};
 ghost use Rattle.fancy_syntax.specs.View.{view};
-ghost use Rattle.fancy_c.specs.CallResult.{number_of_kind, IsTreeOfBytes, IsErrorOfBytes, IsNoUtf8, IsRefusalOf, result_of};
+ghost use Rattle.fancy_c.specs.CallResult.{number_of_kind, IsTreeOfBytes, IsErrorOfBytes, IsNoUtf8, IsRefusalOf};
+ghost use Rattle.fancy_c.specs.CallResult.{result_of};
 ghost use Rattle.fancy_c.specs.InfoRows.{AreSpansOfBytes};
 
 use crate::call_result::{

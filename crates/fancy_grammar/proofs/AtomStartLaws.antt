@@ -24,12 +24,14 @@ use Rattle.fancy_lex.specs.Reading.{Reading, gives, fails}
 use Rattle.fancy_lex.specs.Text.{Text, bytes, reach_of, strip_word}
 use Rattle.fancy_parts.proofs.FlagLaws.{leaves_letters}
 use Rattle.fancy_parts.proofs.GroupStartLaws.{takes_group_name, takes_named_reference, takes_named_call}
-use Rattle.fancy_parts.proofs.GroupStartLaws.{takes_condition_target, named_reference_at, named_call_at, condition_target_at}
+use Rattle.fancy_parts.proofs.GroupStartLaws.{takes_condition_target, named_reference_at, named_call_at}
+use Rattle.fancy_parts.proofs.GroupStartLaws.{condition_target_at}
 use Rattle.fancy_parts.specs.GroupName.{group_name}
 use Rattle.fancy_parts.specs.GroupReference.{named_reference, named_call, begins_target, condition_target}
 use Rattle.fancy_parts.specs.FlagLetters.{Letters, inline_flags, flag_group as scoped}
 use Rattle.fancy_parts.specs.LetterSteps.{letters}
-use Rattle.fancy_grammar.specs.AtomStart.{AtomStart, nothing, read, of_kind, condition, body, absent_branch, atom_start, start_of}
+use Rattle.fancy_grammar.specs.AtomStart.{AtomStart, nothing, read, of_kind, condition, body, absent_branch, atom_start}
+use Rattle.fancy_grammar.specs.AtomStart.{start_of}
 use Rattle.fancy_grammar.specs.AtomStart.{after_layout, group_start, after_question, condition_start, repeater_start}
 use Rattle.fancy_grammar.specs.AtomStart.{verb_start, flags_start, leaf_node, leaf_outcome, leaf_of, is_before_nothing}
 use Rattle.fancy_grammar.specs.AtomStart.{named_start, target_start, backref_node, call_node}
@@ -197,8 +199,10 @@ question_reads s z t h =
     after : (w u : Text) → strip_word w t ≡ Some u → Past s u
     after w u e = further s h.0 (word_slice w t u e)
 
-    named : (delimiter : ℕ) (w u : Text) → strip_word w t ≡ Some u → StartReads s (named_start z (group_name delimiter t u))
-    named delimiter w u e = name_reads s z t u (group_name delimiter t u) (after w u e) h.1 (takes_group_name delimiter t u)
+    named : (delimiter : ℕ) (w u : Text) → strip_word w t ≡ Some u → StartReads s
+        (named_start z (group_name delimiter t u))
+    named delimiter w u e = name_reads s z t u (group_name delimiter t u) (after w u e) h.1
+        (takes_group_name delimiter t u)
 
 group_reads : (s z : State) (t : Text) → Past s t → StartReads s (group_start z t)
 group_reads s z t h =

@@ -178,7 +178,8 @@ module _ (re : List ℕ) (valid : IsUtf8 re) where
       let same : bytes (chars re) - bytes u ≡ position_at (bytes (chars re)) (reach_of u) = omega arith in
       subst (IsCharBoundary re) same (cut_at re u valid (c.word, c.cut))
 
-  cut_both : {t a b : Text} → Slice (chars re) t → Slice t a → Slice a b → IsPosition (reach_of a) × IsPosition (reach_of b)
+  cut_both : {t a b : Text} → Slice (chars re) t → Slice t a → Slice a b →
+      IsPosition (reach_of a) × IsPosition (reach_of b)
   cut_both s f h = (cut_in s f, cut_in (on s f) h)
 
   mutual

@@ -14,7 +14,8 @@ use Rattle.fancy_grammar.proofs.Verdict.{only_tree, only_read, no_error}
 
 -- ---- a text that has a tree
 
-pub read_as : (f : Flags) (text : Text) (u t : Tree) (m : GroupInfo) → IsTreeOf f text u m → unpositioned u ≡ unpositioned t →
+pub read_as : (f : Flags) (text : Text) (u t : Tree) (m : GroupInfo) → IsTreeOf f text u m →
+    unpositioned u ≡ unpositioned t →
     IsReadAs f text t m
 read_as f text u t m a same = (u, only_read f text u m a, same)
 

@@ -212,17 +212,20 @@ Fills high d s r t =
 abbrev BranchesFit : ℕ → State → List Tree → State → Type 0
 BranchesFit d s l t =
     d < max_depth →
-    (sizes l + length l + 2 * bytes t.rest ≤ 2 * bytes s.rest + 2) × (widest l + levels_at_depth * d ≤ branch_levels) × (1 ≤ length l)
+    (sizes l + length l + 2 * bytes t.rest ≤ 2 * bytes s.rest + 2) × (widest l + levels_at_depth * d ≤ branch_levels) ×
+    (1 ≤ length l)
 
 -- for the contents of a group
 abbrev InsideFits : ℕ → State → Tree → State → Type 0
 InsideFits d s r t =
-    d + 1 < max_depth → (nodes r + 1 + 2 * bytes t.rest ≤ 2 * bytes s.rest) × (levels r + levels_at_depth * d ≤ inside_levels)
+    d + 1 < max_depth → (nodes r + 1 + 2 * bytes t.rest ≤ 2 * bytes s.rest) ×
+    (levels r + levels_at_depth * d ≤ inside_levels)
 
 -- for a condition, after which its body begins
 abbrev ConditionFits : ℕ → State → Tree → State → Type 0
 ConditionFits d s c t =
-    d + 1 < max_depth → (nodes c + 2 + 2 * bytes t.rest ≤ 2 * bytes s.rest) × (levels c + levels_at_depth * d ≤ inside_levels)
+    d + 1 < max_depth → (nodes c + 2 + 2 * bytes t.rest ≤ 2 * bytes s.rest) ×
+    (levels c + levels_at_depth * d ≤ inside_levels)
 
 -- the parts with these bounds
 abbrev IsAtom : ℕ → State → Tree → State → Type 0
@@ -339,7 +342,12 @@ mutual
       })
 
   pieces_read : {d : ℕ} {s : State} {o : Outcome (List Tree)} → Pieces d s o → Reads (ArePieces d s) s o
-  pieces_read (stop {s} e) = record { span = bare (current s.rest); read = tt; size = λ x. (omega arith, omega (arith, x)) }
+  pieces_read (stop {s} e) = record {
+    span = bare (current s.rest);
+    read = tt;
+    size = λ x.
+        (omega arith, omega (arith, x));
+  }
   pieces_read (next {d} {t} {q} {s} e a m) =
       let h = piece_read a in
       then_reads (ArePieces d t) (ArePieces d s) s t q _ h.span.slice (pieces_read m) (λ l v i. record {

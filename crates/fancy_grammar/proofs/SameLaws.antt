@@ -23,7 +23,8 @@ use Rattle.fancy_grammar.specs.Same.{same_assertion, same_verb, same_level, same
 use Rattle.fancy_grammar.specs.Label.{Leaf, Wrap, Row, empty, any, assertion, general_newline, literal, literal_bytes}
 use Rattle.fancy_grammar.specs.Label.{delegate, backref, backref_at_level, keep_out, continue_from_previous_match_end}
 use Rattle.fancy_grammar.specs.Label.{backref_exists, subroutine_call, verb, clear, ast_node, group, look_around}
-use Rattle.fancy_grammar.specs.Label.{repeat, atomic_group, define_group, repeater, stopper, ast_group, expression, conditional}
+use Rattle.fancy_grammar.specs.Label.{repeat, atomic_group, define_group, repeater, stopper, ast_group, expression}
+use Rattle.fancy_grammar.specs.Label.{conditional}
 use Rattle.fancy_grammar.specs.Label.{concat, alt, AstReference, ast_backref, ast_call, ast_condition}
 use Rattle.fancy_grammar.specs.Tree.{Tree, leaf, over, row, Trees, no_trees, more_trees}
 

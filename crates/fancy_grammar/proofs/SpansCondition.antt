@@ -115,7 +115,8 @@ module _ (o : Option Text) where
       cond_both (begins_target (c ∷ t)) _ _ (HasConditionText o)
       (λ _. by_target (condition_target (c ∷ t)) (closes_target (c ∷ t))) (λ _.
       cond_both (c == code "*") _ _ (HasConditionText o)
-      (λ _. choose_both (HasConditionText o) (verb_at t) _ _ (λ p i. (c ∷ t, e, (label.verb p.0, refl), by_verb p i)) tt) (λ _. tt))
+      (λ _. choose_both (HasConditionText o) (verb_at t) _ _ (λ p i. (c ∷ t, e, (label.verb p.0, refl), by_verb p i))
+      tt) (λ _. tt))
     where
       by_target : (r : Reading Reference) → ClosesIfGiven (c ∷ t) r → HasConditionText o (target_start s r)
       by_target (gives r u) h = (c ∷ t, e, (_, refl), h)

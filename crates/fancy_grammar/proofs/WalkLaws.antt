@@ -16,7 +16,8 @@ use Rattle.fancy_grammar.specs.GroupInfo.{GroupInfo, group_info, ascending, back
 use Rattle.fancy_grammar.specs.Resolved.{resolved, resolved_in, first_error, error_of}
 use Rattle.fancy_grammar.specs.Tree.{Tree}
 use Rattle.fancy_grammar.specs.Walk.{Resolver, Progress, nothing_recorded, progress_after, resolved_by}
-use Rattle.fancy_grammar.proofs.RecordLaws.{recorded_numeric, recorded_calls, recorded_self, recorded_error, recorded_backrefs}
+use Rattle.fancy_grammar.proofs.RecordLaws.{recorded_numeric, recorded_calls, recorded_self, recorded_error}
+use Rattle.fancy_grammar.proofs.RecordLaws.{recorded_backrefs}
 use Rattle.fancy_grammar.proofs.RecordLaws.{recorded_outside}
 
 -- what the walk knows agrees with the tree

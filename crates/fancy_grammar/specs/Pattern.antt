@@ -234,8 +234,10 @@ module _ (m : GroupInfo) where
         else repeated true t lo hi greedy (written t) p i) h
     written (over atomic_group t) p h = after_inline_flags t (in_parens (codes "?>") (written t Whole)) h
     written (over define_group t) p h = after_inline_flags t (in_parens (codes "?(DEFINE)") (written t Whole)) h
-    written (over repeater t) p h = after_inline_flags t (in_parens (codes "?~") (λ i. repeater_text (written t Whole i))) h
-    written (over stopper t) p h = after_inline_flags t (in_parens (codes "?~|") (λ i. stopper_text (written t Branch i))) h
+    written (over repeater t) p h = after_inline_flags t
+        (in_parens (codes "?~") (λ i. repeater_text (written t Whole i))) h
+    written (over stopper t) p h = after_inline_flags t
+        (in_parens (codes "?~|") (λ i. stopper_text (written t Branch i))) h
     written (row expression (more_trees a (more_trees e no_trees))) p h =
         after_inline_flags (row expression (more_trees a (more_trees e no_trees)))
         (in_parens (codes "?~|") (λ i. written a Branch i ++ (codes "|" ++ written e Branch (after a Branch i)))) h

@@ -123,7 +123,8 @@ IsWritableLeaf f m c (backref n casei) = n < 2 ^ 64
 IsWritableLeaf f m c (backref_at_level n level casei) = (n < 2 ^ 64) × IsLevelWritable level
 IsWritableLeaf f m c (subroutine_call n) = IsCallWritable (is_called_by_number m n) c n
 IsWritableLeaf f m c (backref_exists n level) = (n < 2 ^ 64) × IfSome level IsLevelWritable
-IsWritableLeaf f m c (ast_node (ast_call t) position) = IsCalledTarget t × (refers_to (info_numbers m) c call t ≡ unresolved)
+IsWritableLeaf f m c (ast_node (ast_call t) position) = IsCalledTarget t ×
+    (refers_to (info_numbers m) c call t ≡ unresolved)
 IsWritableLeaf f m c _ = ⊥
 
 abbrev mutual

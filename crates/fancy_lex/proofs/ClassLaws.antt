@@ -61,7 +61,8 @@ class_start_after : (out t : Text) → ◌≡◌ {A = Text × Text} (class_start
 unfolding class_start
 class_start_after out t =
     let start : Text × Text = (open_bracket ∷ [], t) in
-    ap (with_symbol close_bracket) (metacharacter_prepended caret out start) ∙ metacharacter_prepended close_bracket out (with_symbol caret start)
+    ap (with_symbol close_bracket) (metacharacter_prepended caret out start) ∙ metacharacter_prepended close_bracket out
+    (with_symbol caret start)
 
 class_start_bytes : (t : Text) → bytes (class_start [] t).1 ≤ bytes t
 unfolding class_start
@@ -140,7 +141,8 @@ mutual
       after f _ _ t u depth out opening (at_opening f k depth b out t opening u e) less w a v
       (run_items h k depth (out ++ opening) (omega (arith, less, l)))
   run_class {f} {b} {t} (class_items_error {u} {opening} e h) k depth out l =
-      at_opening f k depth b out t opening u e ∙ run_items h k depth (out ++ opening) (omega (arith, opening_bytes t opening u e, l))
+      at_opening f k depth b out t opening u e ∙ run_items h k depth (out ++ opening)
+      (omega (arith, opening_bytes t opening u e, l))
 
   run_items : {f : Flags} {b : Bool} {t : Text} {o : Written} → ClassItems f b t o →
       (k depth : ℕ) (out : Text) → bytes t < k → Runs f (class_from f k depth b out t) t depth out o

@@ -314,7 +314,8 @@ hex_stays f w t =
 
 cut_stays : (delimiter : ℕ) (t : Text) → StaysSome (cut_at delimiter t) (λ s. cut_at delimiter (t ++ s))
 cut_stays delimiter [] = tt
-cut_stays delimiter (c ∷ t) = some_if (c == delimiter) _ _ _ _ (λ s. refl) (some_map (λ w. c ∷ w) _ _ (cut_stays delimiter t))
+cut_stays delimiter (c ∷ t) = some_if (c == delimiter) _ _ _ _ (λ s. refl)
+    (some_map (λ w. c ∷ w) _ _ (cut_stays delimiter t))
 
 name_stays : (c : ℕ) (t : Text) → StaysSome (name_at (c ∷ t)) (λ s. name_at (c ∷ (t ++ s)))
 unfolding name_at

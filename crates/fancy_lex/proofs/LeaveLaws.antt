@@ -121,29 +121,30 @@ some_both t None f l m = tt
 
 -- ---- the clauses of a reader
 
-module _ {A B : Type 0} {position : ℕ} {t : Text} {o : Reading B} (f : A → B) (r : Result (A × Bor (List ℕ)) ReadError) where
-  -- the rest of the text in the code's result is a suffix of the text
-  pub given_cut : Leaves position t o → IsReadingOrNoMemory f r o → IfOk r (λ p. Ends t (chars p.1.now))
-  given_cut l g = by_result r l g
-    where
-      by_result : (r : Result (A × Bor (List ℕ)) ReadError) → {o : Reading B} → Leaves position t o →
-          IsReadingOrNoMemory f r o →
-          IfOk r (λ p. Ends t (chars p.1.now))
-      by_result (Ok p) (leaves {u} e) g = let same : u ≡ chars p.1.now = cc in subst (Ends t) same e
-      by_result (Ok p) (errs l) g = absurd cc
-      by_result (Err e) l g = tt
+module _ {A B : Type 0} {position : ℕ} {t : Text} {o : Reading B} (f : A → B) (r : Result (A × Bor (List ℕ)) ReadError)
+  where
+    -- the rest of the text in the code's result is a suffix of the text
+    pub given_cut : Leaves position t o → IsReadingOrNoMemory f r o → IfOk r (λ p. Ends t (chars p.1.now))
+    given_cut l g = by_result r l g
+      where
+        by_result : (r : Result (A × Bor (List ℕ)) ReadError) → {o : Reading B} → Leaves position t o →
+            IsReadingOrNoMemory f r o →
+            IfOk r (λ p. Ends t (chars p.1.now))
+        by_result (Ok p) (leaves {u} e) g = let same : u ≡ chars p.1.now = cc in subst (Ends t) same e
+        by_result (Ok p) (errs l) g = absurd cc
+        by_result (Err e) l g = tt
 
-  -- and the reach of its error is in the bound
-  pub given_position : {m : ℕ} → position ≤ m → reach_of t ≤ m → Leaves position t o → IsReadingOrNoMemory f r o →
-      IfErr r (λ e. LiesWithin m e)
-  given_position {m} given up l g = by_result r l g
-    where
-      by_result : (r : Result (A × Bor (List ℕ)) ReadError) → {o : Reading B} → Leaves position t o →
-          IsReadingOrNoMemory f r o →
-          IfErr r (λ e. LiesWithin m e)
-      by_result (Ok p) l g = tt
-      by_result (Err OutOfMemory) l g = tt
-      by_result (Err (At p k)) (leaves e) g = absurd cc
-      by_result (Err (At p k)) (errs {e} l) g =
-          let same : e ≡ record { reach = p; kind = kind_of k } = cc in
-          subst (λ (x : Located). x.reach ≤ m) same (lies_within given up l)
+    -- and the reach of its error is in the bound
+    pub given_position : {m : ℕ} → position ≤ m → reach_of t ≤ m → Leaves position t o → IsReadingOrNoMemory f r o →
+        IfErr r (λ e. LiesWithin m e)
+    given_position {m} given up l g = by_result r l g
+      where
+        by_result : (r : Result (A × Bor (List ℕ)) ReadError) → {o : Reading B} → Leaves position t o →
+            IsReadingOrNoMemory f r o →
+            IfErr r (λ e. LiesWithin m e)
+        by_result (Ok p) l g = tt
+        by_result (Err OutOfMemory) l g = tt
+        by_result (Err (At p k)) (leaves e) g = absurd cc
+        by_result (Err (At p k)) (errs {e} l) g =
+            let same : e ≡ record { reach = p; kind = kind_of k } = cc in
+            subst (λ (x : Located). x.reach ≤ m) same (lies_within given up l)

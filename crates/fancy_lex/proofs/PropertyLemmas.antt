@@ -17,7 +17,8 @@ use Rattle.fancy_lex.specs.Property.{lowercase}
 use Rattle.fancy_lex.specs.Text.{Text, cut_at}
 
 -- the text before a delimiter
-cut_first : (delimiter : ℕ) (w v : Text) → NonePass (λ d. d == delimiter) w → cut_at delimiter (w ++ (delimiter ∷ v)) ≡ Some (w, v)
+cut_first : (delimiter : ℕ) (w v : Text) → NonePass (λ d. d == delimiter) w →
+    cut_at delimiter (w ++ (delimiter ∷ v)) ≡ Some (w, v)
 cut_first delimiter [] v h = grind (arith, nat_tests)
 cut_first delimiter (c ∷ w) v h = rw (h.0, cut_first delimiter w v h.1) refl
 

@@ -1,5 +1,6 @@
 //! Layout: the comments and blanks between the parts of a pattern.
-ghost use Rattle.std.specs.Prelude.{◌≡◌, ℕ, ◌<◌, ◌≤◌, Bool, length, chars, MatchResult, IfOk, IfErr, IfSome, option_map, false};
+ghost use Rattle.std.specs.Prelude.{◌≡◌, ℕ, ◌<◌, ◌≤◌, Bool, length, chars, MatchResult, IfOk, IfErr, IfSome};
+ghost use Rattle.std.specs.Prelude.{option_map, false};
 ghost use Rattle.fancy_lex.specs.Text.{Text, EndsWith};
 ghost use Rattle.fancy_lex.specs.Layout as relation;
 ghost use Rattle.fancy_lex.specs.LayoutSteps as spec;

@@ -1,5 +1,6 @@
 //! Properties: the text after `\p` or `\P`, and the text that is written for the property.
-ghost use Rattle.std.specs.Prelude.{◌≡◌, Bool, true, false, ◌<◌, ◌++◌, length, chars, IfSome, OnOk, Some, None, option_map, if◌then◌else◌};
+ghost use Rattle.std.specs.Prelude.{◌≡◌, Bool, true, false, ◌<◌, ◌++◌, length, chars, IfSome, OnOk, Some, None};
+ghost use Rattle.std.specs.Prelude.{option_map, if◌then◌else◌};
 ghost use Rattle.std.specs.Str.{bytes_eq};
 ghost use Rattle.fancy_lex.specs.Property as spec;
 ghost use Rattle.fancy_lex.specs.PropertyViews.{view_property, view_form, other_form};

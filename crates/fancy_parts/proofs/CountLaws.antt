@@ -80,7 +80,11 @@ closed_past : {k : ℕ} {t u v : Text} → Takes k t u → Closed u v → Closed
 closed_past {v} a h = record {
   last_char = h.last_char;
   ascii = h.ascii;
-  ends = (a.word ++ h.ends.0, a.cut ∙ ap (λ x. a.word ++ x) h.ends.1 ∙ sym (append_assoc a.word h.ends.0 (h.last_char ∷ v)));
+  ends = (
+    a.word ++ h.ends.0,
+    a.cut ∙ ap (λ x. a.word ++ x) h.ends.1 ∙ sym
+        (append_assoc a.word h.ends.0 (h.last_char ∷ v)),
+  );
 }
 
 closes_past : {t u : Text} (o : Option (Counts × Text)) → Takes 0 t u → ClosesSome u o → ClosesSome t o

@@ -21,7 +21,8 @@ use Rattle.fancy_lex.specs.Reading.{Reading, gives, fails, ◌>=>◌, Returns, D
 use Rattle.fancy_lex.specs.Text.{Text, bytes}
 use Rattle.fancy_lex.specs.declared.error.ReadError.{ReadError}
 use Rattle.fancy_lex.specs.declared.flags.Flags.{Flags}
-use Rattle.fancy_parts.specs.FlagLetters.{Letters, inline_flags, flag_group, with_letter, LetterStep, flags_end, flags_go_on}
+use Rattle.fancy_parts.specs.FlagLetters.{Letters, inline_flags, flag_group, with_letter, LetterStep, flags_end}
+use Rattle.fancy_parts.specs.FlagLetters.{flags_go_on}
 use Rattle.fancy_parts.specs.FlagLetters.{NoLetter, nothing_closed, nothing_scoped, second_minus, names_no_flag}
 use Rattle.fancy_parts.specs.LetterSteps.{is_first, is_after_minus, unknown_letter, flag_or_error, step, after_step}
 use Rattle.fancy_parts.specs.LetterSteps.{letters_in, letters}
@@ -400,7 +401,8 @@ module _ (t : Text) where
     clears_at = clears_layout f.ignore_space clears at.0 b.w (c ∷ v) at.2 b.layout.units
 
     clears_as : (w : Text) → t ≡ w ++ (c ∷ v) → ClearsAfter w clears
-    clears_as w e = subst (λ s. ClearsAfter s clears) (append_cancel_right (at.0 ++ b.w) w (c ∷ v) (sym cut_at ∙ e)) clears_at
+    clears_as w e = subst (λ s. ClearsAfter s clears) (append_cancel_right (at.0 ++ b.w) w (c ∷ v) (sym cut_at ∙ e))
+        clears_at
 
   -- and after it
   reach_on : {clears b : Bool} {f g : Flags} {u v : Text} → Reached t clears u →

@@ -227,7 +227,8 @@ run_before t f r (w, cut, plain) e =
 
 pub run_capacity : (a b : String Global) (t f r whole : Text) → AreUnquoted t r → t ≡ f ++ r
     → Writing a b (quotes t) whole → HasCapacity b f
-run_capacity a b t f r whole s e w = writing_capacity a b f (quotes r) whole (writing_as _ _ _ _ _ (run_before t f r s e) w)
+run_capacity a b t f r whole s e w = writing_capacity a b f (quotes r) whole
+    (writing_as _ _ _ _ _ (run_before t f r s e) w)
 
 pub run_later : (a b d : String Global) (t f r whole : Text) → AreUnquoted t r → t ≡ f ++ r
     → Writing a b (quotes t) whole → Appended b d f → Writing a d (quotes r) whole

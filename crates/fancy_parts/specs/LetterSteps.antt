@@ -8,7 +8,8 @@ use Rattle.fancy_lex.specs.LayoutSteps.{layout}
 use Rattle.fancy_lex.specs.Reading.{Reading, gives, fails, ◌>=>◌, layout_reading}
 use Rattle.fancy_lex.specs.Text.{Text, bytes}
 use Rattle.fancy_lex.specs.declared.flags.Flags.{Flags}
-use Rattle.fancy_parts.specs.FlagLetters.{Letters, inline_flags, flag_group, with_letter, LetterStep, flags_end, flags_go_on}
+use Rattle.fancy_parts.specs.FlagLetters.{Letters, inline_flags, flag_group, with_letter, LetterStep, flags_end}
+use Rattle.fancy_parts.specs.FlagLetters.{flags_go_on}
 
 -- the letters of `t` before `u`
 abbrev pub letters_before : Text → Text → Text

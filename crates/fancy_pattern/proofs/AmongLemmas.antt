@@ -1,5 +1,6 @@
 -- Whether a text contains a delimiter, and how the text can be split at it.
-use Rattle.std.proofs.Common.{◌≡◌, ℕ, ◌==◌, List, [], ◌∷◌, refl, ap, ◌∙◌, arith, Bool, true, false, ◌||◌, Option, Some, None}
+use Rattle.std.proofs.Common.{◌≡◌, ℕ, ◌==◌, List, [], ◌∷◌, refl, ap, ◌∙◌, arith, Bool, true, false, ◌||◌, Option, Some}
+use Rattle.std.proofs.Common.{None}
 use Rattle.std.proofs.Common.{option_map, if◌then◌else◌, is_some}
 use Rattle.std.proofs.Math.Bool.{or-false}
 use Rattle.std.specs.Borrow.{Bor}

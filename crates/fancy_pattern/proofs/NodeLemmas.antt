@@ -157,7 +157,8 @@ module _ {S : Type 0} (holds : S → Text → Type 0) where
 
   -- ---- in a group, if it needs one
 
-  pub atom_writes : (a b : S) (i j : code.Context) (t : Tree) (p : Precedence) (l : Bool → List Needs) (text : Context → Text)
+  pub atom_writes : (a b : S) (i j : code.Context) (t : Tree) (p : Precedence) (l : Bool → List Needs)
+      (text : Context → Text)
       (n : Context → Context) (choice : Bool) → choice ≡ (is_operand p && not (is_repeatable i.flags t)) →
       Writes holds a b i j l (λ h. if choice then in_parens [] text h else text h) n →
       Writes holds a b i j l (as_atom t p text) n
@@ -185,12 +186,14 @@ module _ {S : Type 0} (holds : S → Text → Type 0) where
   -- ---- trees, each from its writer
 
   -- a capturing group; its opening is that of the number that the position inside has reached
-  pub group_writes : (a b c d e : S) (i j k o z : code.Context) (m : GroupInfo) (t : Tree) → Added holds a b (codes "(" ++ []) →
+  pub group_writes : (a b c d e : S) (i j k o z : code.Context) (m : GroupInfo) (t : Tree) →
+      Added holds a b (codes "(" ++ []) →
       ((h : Context) (l : List Needs) → IsContext i h l → IsContext j (deeper h) l) →
       ((h : Context) (l : List Needs) → IsContext j h l → IsContext k (past_groups 1 h) l) →
       Added holds b c (group_opening m k.opened) →
       Writes holds c d k o (λ o. needs_listed o t) (written m t Whole) (after t Whole) → Added holds d e (codes ")") →
-      ((h g : Context) (x l : List Needs) → IsContext i h x → IsContext o g l → IsContext z (record h { opened = g.opened }) l) →
+      ((h g : Context) (x l : List Needs) → IsContext i h x → IsContext o g l →
+      IsContext z (record h { opened = g.opened }) l) →
       Writes holds a e i z (λ o. needs_listed o t)
       (λ h. in_parens (group_opening m (h.opened + 1)) (written m t Whole) (past_groups 1 h))
       (past_groups (group_count t + 1))
@@ -212,12 +215,14 @@ module _ {S : Type 0} (holds : S → Text → Type 0) where
         );
   }
 
-  pub quantified_writes : (a b c : S) (i j k : code.Context) (m : GroupInfo) (t : Tree) (p : Precedence) (possessive : Bool)
+  pub quantified_writes : (a b c : S) (i j k : code.Context) (m : GroupInfo) (t : Tree) (p : Precedence)
+      (possessive : Bool)
       (lo hi : ℕ) (greedy : Bool) (left : ℕ) →
       ((h : Context) (l : List Needs) → IsContext i h l → left ≡ allowed p h) →
       Writes holds a b i j (λ o. needs_listed o t) (written m t (Operand left)) (after t (Operand left)) →
       Added holds b c (quantifier_text i.flags possessive (nat_lt 0 left && is_quantified i.flags t) lo hi greedy) →
-      ((h g : Context) (x l : List Needs) → IsContext i h x → IsContext j g l → IsContext k (record h { opened = g.opened }) l) →
+      ((h g : Context) (x l : List Needs) → IsContext i h x → IsContext j g l →
+      IsContext k (record h { opened = g.opened }) l) →
       Writes holds a c i k (λ o. needs_listed o t) (repeated possessive t lo hi greedy (written m t) p)
       (past_groups (group_count t))
   quantified_writes a b c i j k m t p possessive lo hi greedy left enough w symbol out = record {
@@ -236,7 +241,8 @@ module _ {S : Type 0} (holds : S → Text → Type 0) where
         );
   }
 
-  pub atomic_writes : (a b : S) (i j : code.Context) (m : GroupInfo) (t : Tree) (lo hi : ℕ) (greedy : Bool) (p : Precedence)
+  pub atomic_writes : (a b : S) (i j : code.Context) (m : GroupInfo) (t : Tree) (lo hi : ℕ) (greedy : Bool)
+      (p : Precedence)
       (choice : Bool) → choice ≡ (is_last_operand p || not (is_possessive i.flags lo hi)) →
       Writes holds a b i j (λ o. needs_below o (atomic_group (repeat t lo hi greedy)))
       (λ h. if choice then in_parens (codes "?>") (repeated false t lo hi greedy (written m t) Whole) h
@@ -353,7 +359,8 @@ module _ {S : Type 0} (holds : S → Text → Type 0) where
       (subst (λ x. (not (is_empty x) || is_alt t) ≡ false) none bars))
       (λ h. no_more_groups (after t Branch h)))
 
-  pub two_choices : (a b c d : S) (i j k : code.Context) (m : GroupInfo) (t e : Tree) → (is_empty t && is_empty e) ≡ false →
+  pub two_choices : (a b c d : S) (i j k : code.Context) (m : GroupInfo) (t e : Tree) →
+      (is_empty t && is_empty e) ≡ false →
       (not (is_empty e) || is_alt t) ≡ true →
       Writes holds a b i j (λ o. needs_listed o t) (written m t Branch) (after t Branch) →
       Added holds b c (codes "|") →
@@ -370,7 +377,8 @@ module _ {S : Type 0} (holds : S → Text → Type 0) where
       ((h : Context) (l : List Needs) → IsContext i h l → IsContext j (deeper h) l) →
       Writes holds b c j k (λ o. needs_listed o q) (λ h. condition_text m q (written m q Whole h)) (after q Whole) →
       Added holds c d (codes ")") → ChoiceWrites d e k o m t u → Added holds e f (codes ")") →
-      ((h g : Context) (x l : List Needs) → IsContext i h x → IsContext o g l → IsContext z (record h { opened = g.opened }) l) →
+      ((h g : Context) (x l : List Needs) → IsContext i h x → IsContext o g l →
+      IsContext z (record h { opened = g.opened }) l) →
       Writes holds a f i z (λ o. needs_below o (conditional q t u)) (parts_text m (conditional q t u))
       (past_groups (group_count (conditional q t u)))
   conditional_writes a b c d e f i j k o z m q t u opens at w symbol v closes out =
@@ -396,7 +404,8 @@ module _ {S : Type 0} (holds : S → Text → Type 0) where
       Added holds c d (codes "|") →
       Writes holds d e k o (λ o. needs_listed o u) (written m u Branch) (after u Branch) →
       Added holds e f (codes ")") →
-      ((h g : Context) (x l : List Needs) → IsContext i h x → IsContext o g l → IsContext z (record h { opened = g.opened }) l) →
+      ((h g : Context) (x l : List Needs) → IsContext i h x → IsContext o g l →
+      IsContext z (record h { opened = g.opened }) l) →
       Writes holds a f i z (λ o. needs_below o (expression t u))
       (parts_text m (expression t u)) (past_groups (group_count (expression t u)))
   expression_writes a b c d e f i j k o z m t u opens at w symbol v closes out =
@@ -434,7 +443,8 @@ module _ {S : Type 0} (holds : S → Text → Type 0) where
     writes = w;
   }
 
-  pub settled_repeat : (a b : S) (i j : code.Context) (m : GroupInfo) (t : Tree) (lo hi : ℕ) (greedy : Bool) (p : Precedence) →
+  pub settled_repeat : (a b : S) (i j : code.Context) (m : GroupInfo) (t : Tree) (lo hi : ℕ) (greedy : Bool)
+      (p : Precedence) →
       Writes holds a b i j (λ o. needs_listed o t)
       (in_parens_if (is_last_operand p) (codes "?:") (repeated false t lo hi greedy (written m t)) p)
       (past_groups (group_count t)) →
@@ -487,9 +497,11 @@ module _ {S : Type 0} (holds : S → Text → Type 0) where
 
   -- ---- rows
 
-  pub pieces_writes : (a b : S) (i j : code.Context) (m : GroupInfo) (ts : Trees) (p : Precedence) → takes_pieces p ≡ true →
+  pub pieces_writes : (a b : S) (i j : code.Context) (m : GroupInfo) (ts : Trees) (p : Precedence) →
+      takes_pieces p ≡ true →
       Writes holds a b i j (λ o. all_listed o ts) (written_all m false ts) (after_all ts Piece) →
-      Writes holds a b i j (λ o. all_listed o ts) (in_flag_group_unless (takes_pieces p) (concat ts) (written_all m false ts))
+      Writes holds a b i j (λ o. all_listed o ts)
+      (in_flag_group_unless (takes_pieces p) (concat ts) (written_all m false ts))
       (after (concat ts) p)
   pieces_writes a b i j m ts p e w =
       writes_as holds a b i j _ _ _ _ _ _ w (λ o. refl) (λ h. rw e refl) (λ h. rw e refl)
@@ -497,23 +509,28 @@ module _ {S : Type 0} (holds : S → Text → Type 0) where
   pub branches_writes : (a b : S) (i j : code.Context) (m : GroupInfo) (ts : Trees) (p : Precedence) →
       takes_branches p ≡ true →
       Writes holds a b i j (λ o. all_listed o ts) (written_branches m ts) (after_all ts Branch) →
-      Writes holds a b i j (λ o. all_listed o ts) (in_flag_group_unless (takes_branches p) (alt ts) (written_branches m ts))
+      Writes holds a b i j (λ o. all_listed o ts)
+      (in_flag_group_unless (takes_branches p) (alt ts) (written_branches m ts))
       (after (alt ts) p)
   branches_writes a b i j m ts p e w =
       writes_as holds a b i j _ _ _ _ _ _ w (λ o. refl) (λ h. rw e refl) (λ h. rw e refl)
 
-  pub concat_in_flag_group : (a b : S) (i j : code.Context) (m : GroupInfo) (ts : Trees) (p : Precedence) → takes_pieces p ≡ false →
+  pub concat_in_flag_group : (a b : S) (i j : code.Context) (m : GroupInfo) (ts : Trees) (p : Precedence) →
+      takes_pieces p ≡ false →
       Writes holds a b i j (λ o. all_listed o ts) (in_flag_group_unless false (concat ts) (written_all m false ts))
       (past_groups (group_count (concat ts))) →
-      Writes holds a b i j (λ o. all_listed o ts) (in_flag_group_unless (takes_pieces p) (concat ts) (written_all m false ts))
+      Writes holds a b i j (λ o. all_listed o ts)
+      (in_flag_group_unless (takes_pieces p) (concat ts) (written_all m false ts))
       (after (concat ts) p)
   concat_in_flag_group a b i j m ts p e w =
       writes_as holds a b i j _ _ _ _ _ _ w (λ o. refl) (λ h. rw e refl) (λ h. rw e refl)
 
-  pub alt_in_flag_group : (a b : S) (i j : code.Context) (m : GroupInfo) (ts : Trees) (p : Precedence) → takes_branches p ≡ false →
+  pub alt_in_flag_group : (a b : S) (i j : code.Context) (m : GroupInfo) (ts : Trees) (p : Precedence) →
+      takes_branches p ≡ false →
       Writes holds a b i j (λ o. all_listed o ts) (in_flag_group_unless false (alt ts) (written_branches m ts))
       (past_groups (group_count (alt ts))) →
-      Writes holds a b i j (λ o. all_listed o ts) (in_flag_group_unless (takes_branches p) (alt ts) (written_branches m ts))
+      Writes holds a b i j (λ o. all_listed o ts)
+      (in_flag_group_unless (takes_branches p) (alt ts) (written_branches m ts))
       (after (alt ts) p)
   alt_in_flag_group a b i j m ts p e w =
       writes_as holds a b i j _ _ _ _ _ _ w (λ o. refl) (λ h. rw e refl) (λ h. rw e refl)

@@ -89,7 +89,8 @@ module _ {S : Type 0} (holds : S → Text → Type 0) where
       (λ o. refl) (λ h. refl) (λ h. sym (after_next t ts Piece h))
 
   -- one more piece is written, and separated from digits before it if it has to be
-  pub on_piece : (a b c d : S) (i j k : code.Context) (m : GroupInfo) (digits : Bool) (position : ℕ) (t : Tree) (ts : Trees)
+  pub on_piece : (a b c d : S) (i j k : code.Context) (m : GroupInfo) (digits : Bool) (position : ℕ) (t : Tree)
+      (ts : Trees)
       (whole : Rest) → ((x : Text) → holds b x → position ≡ bytes x) →
       WritesOn holds a b i j (pieces_left m digits (more_trees t ts)) whole →
       Writes holds b c j k (λ o. needs_listed o t) (written m t Piece) (after t Piece) →

@@ -27,7 +27,8 @@ same_seam (c ∷ t) u (d ∷ v) w e b =
     let more = same_seam t u v w rest (omega arith) in
     (cc, more.1)
 
-pub front_utf8 : (s front : List ℕ) (position : ℕ) → IsUtf8 s → IsCharBoundary s position → front ≡ take position s → IsUtf8 front
+pub front_utf8 : (s front : List ℕ) (position : ℕ) → IsUtf8 s → IsCharBoundary s position → front ≡ take position s →
+    IsUtf8 front
 front_utf8 s front position u b e = subst IsUtf8 (sym e) (IsUtf8-take s position u b)
 
 -- the bytes before the split of the text t ++ u, and the bytes after it
@@ -73,7 +74,8 @@ inserted_parted s z front back position separator f is rest long joins e = recor
 }
 
 pub becomes_parted : {X E : Type 0} (r : Result X E) (s z : String Global) (front back : List ℕ) (position : ℕ)
-    (separator : Separator) → IsUtf8 front → front ≡ take position (string_bytes s) → back ≡ drop position (string_bytes s) →
+    (separator : Separator) → IsUtf8 front → front ≡ take position (string_bytes s) →
+    back ≡ drop position (string_bytes s) →
     length front ≡ position → needs_separator separator (chars back) ≡ true →
     OnOk r (string_bytes z ≡ insert_slice (string_bytes s) position (codes "(?#)")) →
     OnOk r (Changed (λ s t. text_of s ≡ t) s z position (parted separator))

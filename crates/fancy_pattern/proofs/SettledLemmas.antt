@@ -188,12 +188,14 @@ module _ {S : Type 0} (holds : S → Text → Type 0) where
 
   -- ---- a row, in a group if it needs one
 
-  pub flag_group_writes : (a b c d : S) (i j k e : code.Context) (n : Needs) (t : Tree) (text : Context → Text) (next : Context → Context) →
+  pub flag_group_writes : (a b c d : S) (i j k e : code.Context) (n : Needs) (t : Tree) (text : Context → Text)
+      (next : Context → Context) →
       n ≡ needs first i.flags.oniguruma_mode t →
       Added holds a b (codes "(?" ++ (letters_between i.flags (with_needs i.flags n) ++ codes ":")) →
       ((h : Context) (l : List Needs) → IsContext i h l → IsContext j (deeper (under (with_needs h.flags n) h)) l) →
       Writes holds b c j k (λ o. needs_below o t) text next → Added holds c d (codes ")") →
-      ((h g : Context) (x l : List Needs) → IsContext i h x → IsContext k g l → IsContext e (record h { opened = g.opened }) l) →
+      ((h g : Context) (x l : List Needs) → IsContext i h x → IsContext k g l →
+      IsContext e (record h { opened = g.opened }) l) →
       Writes holds a d i e (λ o. needs_below o t) (in_flag_group_unless false t text)
       (λ h. record h { opened = (next (deeper (under (settled h.flags t) h))).opened })
   flag_group_writes a b c d i j k e n t text next is_needed opens at w closes out = record {

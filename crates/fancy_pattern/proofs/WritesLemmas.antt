@@ -52,7 +52,8 @@ module _ {S : Type 0} (holds : S → Text → Type 0) where
         (then_added holds a b c (t1 h) (t2 (n1 h)) one.0 two.0, two.1);
   }
 
-  pub writes_as : (a b : S) (i j : code.Context) (l k : Bool → List Needs) (t u : Context → Text) (n m : Context → Context) →
+  pub writes_as : (a b : S) (i j : code.Context) (l k : Bool → List Needs) (t u : Context → Text)
+      (n m : Context → Context) →
       Writes holds a b i j l t n → ((o : Bool) → l o ≡ k o) → ((h : Context) → t h ≡ u h) → ((h : Context) → n h ≡ m h) →
       Writes holds a b i j k u m
   writes_as a b i j l k t u n m p el et en = record {
@@ -113,7 +114,8 @@ module _ {S : Type 0} (holds : S → Text → Type 0) where
       (n : Context → Context) → Added holds a b (codes "(" ++ opening) →
       ((h : Context) (r : List Needs) → IsContext i h r → IsContext j (deeper h) r) → Writes holds b c j k l t n →
       Added holds c d (codes ")") →
-      ((h g : Context) (x r : List Needs) → IsContext i h x → IsContext k g r → IsContext e (record h { opened = g.opened }) r) →
+      ((h g : Context) (x r : List Needs) → IsContext i h x → IsContext k g r →
+      IsContext e (record h { opened = g.opened }) r) →
       Writes holds a d i e l (in_parens opening t) (λ h. record h { opened = (n (deeper h)).opened })
   parens_writes a b c d i j k e opening l t n opens at p closes out = record {
     writes = λ h r is.

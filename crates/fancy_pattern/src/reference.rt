@@ -1,5 +1,6 @@
 //! References, calls and the targets of conditions.
-ghost use Rattle.std.specs.Prelude.{◌≡◌, ℕ, ◌++◌, [], ◌∷◌, ◌<◌, codes, chars, decimal, nat_lt, true, unsigned_abs, OnOk, if◌then◌else◌};
+ghost use Rattle.std.specs.Prelude.{◌≡◌, ℕ, ◌++◌, [], ◌∷◌, ◌<◌, codes, chars, decimal, nat_lt, true, unsigned_abs};
+ghost use Rattle.std.specs.Prelude.{OnOk, if◌then◌else◌};
 ghost use Rattle.std.specs.List.{list_all};
 ghost use Rattle.fancy_lex.specs.Characters.{◌∈◌, is_among};
 ghost use Rattle.fancy_lex.specs.NameViews.{view_target};

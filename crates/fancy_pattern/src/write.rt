@@ -1,5 +1,6 @@
 //! The walk that writes a tree's text.
-ghost use Rattle.std.specs.Prelude.{◌≡◌, ◌+◌, ◌++◌, not, ◌&&◌, ◌||◌, [], codes, nat_lt, true, false, if◌then◌else◌, List, OnOk};
+ghost use Rattle.std.specs.Prelude.{◌≡◌, ◌+◌, ◌++◌, not, ◌&&◌, ◌||◌, [], codes, nat_lt, true, false, if◌then◌else◌};
+ghost use Rattle.std.specs.Prelude.{List, OnOk};
 ghost use Rattle.std.specs.List.{list_all};
 ghost use Rattle.fancy_lex.specs.Number.{at_digit};
 ghost use Rattle.fancy_lex.specs.declared.flags.Flags.{Flags};
@@ -18,7 +19,8 @@ ghost use Rattle.fancy_pattern.specs.TextOutput.{Added, Changed};
 ghost use Rattle.fancy_syntax.specs.View.{view, views};
 ghost use Rattle.fancy_pattern.specs.Wheres.{IsContext, AreGroupNames, alone_text};
 ghost use Rattle.fancy_pattern.specs.Writers.{Writes, WritesSettled, needs_below, takes_inline_flags};
-ghost use Rattle.fancy_pattern.specs.Writers.{is_conditional, is_expression, parts_text, branches_needs, choice_text, after_branches};
+ghost use Rattle.fancy_pattern.specs.Writers.{is_conditional, is_expression, parts_text, branches_needs, choice_text};
+ghost use Rattle.fancy_pattern.specs.Writers.{after_branches};
 
 use crate::context::Context;
 use crate::flags::{open_flag_group, put_inline_flags};

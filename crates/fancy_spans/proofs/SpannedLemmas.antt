@@ -135,7 +135,8 @@ module _ (e : Expr) (es : List Expr) (s : List Span) (n : List ℕ) (w : AreWhol
       ∙ ap (take (length (sizes (view e)))) w.sized ∙ take-append_seam (sizes (view e)) (flat_map sizes (views es)) in
       record {
         sized = front;
-        spanned = length-take (first_size n) s ∙ ap (λ k. min (first_size n) k) w.spanned ∙ sym (length-take (first_size n) n);
+        spanned = length-take (first_size n) s ∙ ap (λ k. min (first_size n) k) w.spanned ∙ sym
+            (length-take (first_size n) n);
       }
 
   others_whole : AreWhole es (drop (first_size n) s) (drop (first_size n) n)

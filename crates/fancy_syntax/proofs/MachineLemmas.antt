@@ -22,8 +22,10 @@ use Rattle.fancy_grammar.specs.Grammar as grammar
 use Rattle.fancy_grammar.specs.Join.{solid, one_or, choice, is_empty}
 use Rattle.fancy_grammar.specs.Spans.{end_of}
 use Rattle.fancy_syntax.specs.Log.{Log, part_begun, branch_begun, branch_ended, atom_closed}
-use Rattle.fancy_syntax.specs.Recording.{PieceTo, PiecesTo, BranchTo, BranchesTo, AlternationTo, piece_recorded, pieces_recorded}
-use Rattle.fancy_syntax.specs.Recording.{branches_recorded, atom_recorded, inside_recorded, quants_recorded, group_recorded}
+use Rattle.fancy_syntax.specs.Recording.{PieceTo, PiecesTo, BranchTo, BranchesTo, AlternationTo, piece_recorded}
+use Rattle.fancy_syntax.specs.Recording.{pieces_recorded}
+use Rattle.fancy_syntax.specs.Recording.{branches_recorded, atom_recorded, inside_recorded, quants_recorded}
+use Rattle.fancy_syntax.specs.Recording.{group_recorded}
 use Rattle.fancy_syntax.specs.Recording.{conditional_recorded, stopper_recorded, choice_recorded, added}
 use Rattle.fancy_syntax.specs.View.{view}
 use Rattle.fancy_grammar.specs.AtomStart.{AtomStart, nothing, read, atom_start}
@@ -80,7 +82,8 @@ steps_piece {d} {left} s {t} {a = tree} n (Err e) v i k (x, y) h j =
     (λ c p g. piece_as k x (subst (λ z. quants d z tree t ≡ failed c p) i g)) h
 
 -- the start of the atom decides what a step records
-pub step_start : (d : ℕ) (s : State) {u : Text} {k : AtomStart} (l : Log) → skipped s ≡ rest u → atom_start d (at s u) ≡ k →
+pub step_start : (d : ℕ) (s : State) {u : Text} {k : AtomStart} (l : Log) → skipped s ≡ rest u →
+    atom_start d (at s u) ≡ k →
     step_recorded d s l ≡ start_recorded (bytes s.rest) (at s u) k l
 step_start d s {u} l i e =
     ap (λ z. skipped_recorded d s z l) i ∙ ap (λ k. start_recorded (bytes s.rest) (at s u) k l) e
@@ -104,13 +107,15 @@ pub steps_read : (d left : ℕ) (s : State) {t : State} {u : Text} {a : Tree} (l
     (v : State) → left ≡ bytes s.rest → skipped s ≡ rest u → atom_start d (at s u) ≡ read (done a t) →
     GivesPiece r (quants d left a t) v → GivesStep r d s l v (step_recorded d s l)
 steps_read d left s l r v i k e h =
-    steps_piece {d = d} {left = left} s (step_recorded d s l) r v i k (atom e a_read, refl) h (read_recorded d left s l i k e)
+    steps_piece {d = d} {left = left} s (step_recorded d s l) r v i k (atom e a_read, refl) h
+    (read_recorded d left s l i k e)
 
 pub steps_nothing : (d left : ℕ) (s : State) {u : Text} (l : Log) (r : Result Step ReadError)
     (v : State) → left ≡ bytes s.rest → skipped s ≡ rest u → atom_start d (at s u) ≡ nothing →
     GivesPiece r (quants d left empty (at s u)) v → GivesStep r d s l v (step_recorded d s l)
 steps_nothing d left s l r v i k e h =
-    steps_piece {d = d} {left = left} s (step_recorded d s l) r v i k (atom e a_nothing, refl) h (nothing_recorded d left s l i k e)
+    steps_piece {d = d} {left = left} s (step_recorded d s l) r v i k (atom e a_nothing, refl) h
+    (nothing_recorded d left s l i k e)
 
 -- a step that opens a part
 pub steps_open : {d : ℕ} {s t : State} {u : Text} {k : AtomStart} {p : OpenPart} {l : Log} → skipped s ≡ rest u →
@@ -482,7 +487,8 @@ levels_pop : {start : State} {none : Log} (gs : List Frame) (g : Frame) {d : ℕ
     {ts : List Tree} {o : OpenPart} {l : Log} → OpenGroups start none fs ts o d s l →
     fs ≡ gs ++ g ∷ [] → Outer start none gs g ts o d s l
 levels_pop gs g outermost e = absurd (push-not_nil gs g e)
-levels_pop {start} {none} gs g {ts} (inner {d} {s} {l = c} {t} {m} {frames} {below} {branches} {pieces} f i x l h a w j) e =
+levels_pop {start} {none} gs g {ts} (inner {d} {s} {l = c} {t} {m} {frames} {below} {branches} {pieces} f i x l h a w j)
+    e =
     let p = push-same frames gs f g (sym i ∙ e) in
     record {
       depth = d;
@@ -726,7 +732,8 @@ pub running_bar_error : {start t : State} {none l : Log} {u : Text} {stack : Lis
     {trees : List Tree} (o : Outcome Tree) → Running start none stack f trees t l →
     ends t.rest ≡ true → strip bar t.rest ≡ Some u → IsErrorOfBar (part_of f.open_group) t.rest o →
     Alternation 0 start o
-running_bar_error {start} {t} {none} {l = c} {u} {stack} {f} o h e b x = by_open (part_of f.open_group) h.levels h.reading x
+running_bar_error {start} {t} {none} {l = c} {u} {stack} {f} o h e b x = by_open (part_of f.open_group) h.levels
+    h.reading x
   where
     by_open : (p : OpenPart) → OpenGroups start none stack h.below p h.depth h.begin h.before →
         ReadSoFar h.depth p h.begin h.before h.branches h.pieces t c →

@@ -29,7 +29,8 @@ none_recorded : (left : ℕ) (a : Tree) (s : State) (l : Log) → ((k : ℕ) →
     quant_recorded a s l ≡ l → quants_recorded left (done a s) l ≡ l
 none_recorded left a s l e h =
     ap (λ o. if_done o (λ b t. if t.flags.oniguruma_mode then adjacent_recorded max_adjacent b t m else m) m) (e left)
-    ∙ either s.flags.oniguruma_mode (recorded_ends max_adjacent a s m (e (bytes s.rest)) (unmoved s) ∙ ap (quant_recorded a s) h ∙ h) h
+    ∙ either s.flags.oniguruma_mode (recorded_ends max_adjacent a s m (e (bytes s.rest)) (unmoved s) ∙ ap
+    (quant_recorded a s) h ∙ h) h
   where
     m : Log
     m = quant_recorded a s l

@@ -43,8 +43,10 @@ use Rattle.fancy_syntax.specs.Log.{Log, plain, put, reaches, shown, started, lea
 use Rattle.fancy_syntax.specs.Log.{body_opened, branch_begun, branch_ended, choice_ended, body_split, branch_lacked}
 use Rattle.fancy_syntax.specs.Log.{part_dropped, atom_closed, atom_ended, first_bar, alt_split, others_put}
 use Rattle.fancy_syntax.specs.Log.{atom_opened}
-use Rattle.fancy_syntax.specs.Recording.{alternation_recorded, branches_recorded, branch_recorded, pieces_recorded, piece_recorded}
-use Rattle.fancy_syntax.specs.Recording.{atom_recorded, atom_of_recorded, inside_recorded, body_recorded, quants_recorded, group_recorded}
+use Rattle.fancy_syntax.specs.Recording.{alternation_recorded, branches_recorded, branch_recorded, pieces_recorded}
+use Rattle.fancy_syntax.specs.Recording.{piece_recorded}
+use Rattle.fancy_syntax.specs.Recording.{atom_recorded, atom_of_recorded, inside_recorded, body_recorded}
+use Rattle.fancy_syntax.specs.Recording.{quants_recorded, group_recorded}
 use Rattle.fancy_syntax.specs.RecordedWhole.{ShowsWhole}
 use Rattle.fancy_syntax.specs.Recording.{AlternationTo}
 use Rattle.fancy_syntax.specs.Recording.{body_parted, conditional_recorded, stopper_recorded, choice_recorded, added}
@@ -117,7 +119,8 @@ opened_within : (start first : ℕ) (l : Log) → Within start l (opened start f
 opened_within start first l = record { around = refl; start_is = refl; height = refl }
 
 -- a group without a name, with a number and without
-unnamed_group : (named : Bool) (n : RecordedNode) (xs : List RecordedNode) (p : Span) (x : Spans) → shown named xs ≡ in_preorder x →
+unnamed_group : (named : Bool) (n : RecordedNode) (xs : List RecordedNode) (p : Span) (x : Spans) →
+    shown named xs ≡ in_preorder x →
     reaches n ≡ p → n.unnamed ≡ true →
     shown named (n ∷ xs) ≡ in_preorder (if is_counted named None then around p x else x)
 unnamed_group true n xs p x h i k = rw k h
@@ -133,7 +136,8 @@ module _ (named : Bool) where
   -- ---- the end of an atom
 
   module _ (start : ℕ) (l : Log) where
-    ended_as : (m : Log) (r : Tree) (x : Spans) (xs : List RecordedNode) → Within start l m → m.recorded ≡ l.recorded ++ xs →
+    ended_as : (m : Log) (r : Tree) (x : Spans) (xs : List RecordedNode) → Within start l m →
+        m.recorded ≡ l.recorded ++ xs →
         Fits named r x xs → PieceRecorded named start l (atom_ended m) r x
     ended_as m r x xs h e f =
         let n : length m.around - 1 ≡ length l.around =
@@ -160,7 +164,8 @@ module _ (named : Bool) where
         (f n (ap (λ s. record { start = s; end = end }) h.start_is) refl)
 
     -- a group around its contents
-    group_as : (m : Log) (r : Tree) (x : Spans) (h : GroupKind) (position end : ℕ) (xs : List RecordedNode) → Within start l m →
+    group_as : (m : Log) (r : Tree) (x : Spans) (h : GroupKind) (position end : ℕ) (xs : List RecordedNode) →
+        Within start l m →
         m.recorded ≡ l.recorded ++ xs → Fits named r x xs → PieceRecorded named start l (group_recorded h end m)
         (group_node h position r) (group_spans named h (record { start = start; end = end }) x)
     group_as m r x h position end xs w e f = by_kind h
@@ -224,7 +229,8 @@ module _ (named : Bool) where
   same m = kept refl refl
 
   -- the branches after the first bar
-  others_as : (l m n : Log) (k : ℕ) (alt_node : RecordedNode) (b : FirstBar) (others : List Tree) (first : Spans) (f : Forest)
+  others_as : (l m n : Log) (k : ℕ) (alt_node : RecordedNode) (b : FirstBar) (others : List Tree) (first : Spans)
+      (f : Forest)
       (ys zs : List RecordedNode) → Beside others f → k ≡ suc (length others) → Kept m n →
       n.open_atom.branches ≡ length l.recorded → n.recorded ≡ l.recorded ++ (ys ++ zs) → b.nodes ≡ length ys →
       shown named ys ≡ in_preorder first → shown named zs ≡ all_in_preorder f →
@@ -243,7 +249,8 @@ module _ (named : Bool) where
       let seam : length (l.recorded ++ ys) ≡ n.open_atom.branches + b.nodes =
       omega (arith, length-append l.recorded ys, j, c) in
       let w = put (n.open_atom.branches + b.nodes) rest n in
-      subst (λ m'. Parted l m m' first (one_or_node (reaches rest) f)) (sym (ap (λ k. others_put k alt_node (Some b) n) k_is
+      subst (λ m'. Parted l m m' first (one_or_node (reaches rest) f))
+      (sym (ap (λ k. others_put k alt_node (Some b) n) k_is
       ∙ ap (λ t. if t then n else w) not_few)) (record {
         bs = ys ++ rest ∷ zs;
         is_recorded = put_recorded n (n.open_atom.branches + b.nodes) (l.recorded ++ ys) zs rest
@@ -287,7 +294,8 @@ module _ (named : Bool) where
             ∙ (λ i. fits_shown named r x xs f i ++ shown_one named n [] refl i);
       }
 
-  body_parted_as : (l m : Log) (r : Tree) (v : State) (x : Spans) (xs : List RecordedNode) → m.recorded ≡ l.recorded ++ xs →
+  body_parted_as : (l m : Log) (r : Tree) (v : State) (x : Spans) (xs : List RecordedNode) →
+      m.recorded ≡ l.recorded ++ xs →
       m.open_atom.branches ≡ length l.recorded → Fits named r x xs →
       Parted l m (body_parted r (reach_of v.rest) m) (body_parts r v x).0 (body_parts r v x).1
   body_parted_as l m (row label.alt ts) v x xs e j f = alt_as l m ts v x xs e j f
@@ -422,7 +430,8 @@ module _ (named : Bool) where
       ap (shown named) e ∙ shown_append named xs ys ∙ (λ i. fits_shown named r x xs h i ++ row_shown k i)
 
   -- the branch is a node of its own
-  branch_node : (s : State) (l m : Log) (r : Tree) (end : ℕ) (k : ℕ) (f : Forest) (xs : List RecordedNode) → (k == 1) ≡ false →
+  branch_node : (s : State) (l m : Log) (r : Tree) (end : ℕ) (k : ℕ) (f : Forest) (xs : List RecordedNode) →
+      (k == 1) ≡ false →
       BranchBegun s l → m.recorded ≡ l.recorded ++ xs → m.around ≡ l.around → m.open_atom ≡ l.open_atom →
       shown named xs ≡ all_in_preorder f →
       ((ys : List RecordedNode) → shown named ys ≡ in_preorder (node (record { start = reach_of s.rest; end = end }) f) →
@@ -629,7 +638,8 @@ module _ (named : Bool) where
       Within (reach_of s.rest) l n → n.recorded ≡ l.recorded → Holds (λ r v. PartRecorded n m r x) q →
       Holds (λ r v. PieceRecorded named (reach_of s.rest) l
       (group_recorded h (end_of (seen_through (group_node h position) q)) m) r
-      (group_spans named h (between s (seen_through (group_node h position) q)) x)) (seen_through (group_node h position) q)
+      (group_spans named h (between s (seen_through (group_node h position) q)) x))
+      (seen_through (group_node h position) q)
   grouped_as s l n m x h position (done r v) w e k =
       group_as named (reach_of s.rest) l m r x h position (reach_of v.rest) k.xs (within_on w k.is_kept)
       (k.is_recorded ∙ ap (λ y. y ++ k.xs) e) k.fits
@@ -664,7 +674,8 @@ module _ (named : Bool) where
   -- a stopper or a clear
   stopper_as : (s : State) (l n m : Log) (a : Tree) (x : Spans) (v : State) → Within (reach_of s.rest) l n →
       n.recorded ≡ l.recorded → n.open_atom.branches ≡ length n.recorded → BranchRecorded n m a x →
-      Holds (λ r w. PieceRecorded named (reach_of s.rest) l (stopper_recorded a (end_of (closed (clear_or_stopper a) v)) m) r
+      Holds (λ r w. PieceRecorded named (reach_of s.rest) l
+      (stopper_recorded a (end_of (closed (clear_or_stopper a) v)) m) r
       (node (between s (closed (clear_or_stopper a) v)) (solid_spans a x no_spans))) (closed (clear_or_stopper a) v)
   stopper_as s l n m a x v k e b f =
       closed_holds (λ o. Holds (λ t u. PieceRecorded named (reach_of s.rest) l (stopper_recorded a (end_of o) m) t
@@ -749,7 +760,8 @@ module _ (named : Bool) where
     later_as : {d : ℕ} {s : State} {o : Outcome (List Tree)} (a : Branches d s o) (b : FirstBar) (l : Log) →
         l.open_atom.bar ≡ Some b → BranchBegun s l →
         Holds (λ rs v. LaterRecorded b l (branches_recorded a l) rs (branches_spans named a)) o
-    later_as (last {r} b e) c l i g = later_last c l (branch_recorded b l) r (branch_spans named b) i (branch_as_read b l g)
+    later_as (last {r} b e) c l i g = later_last c l (branch_recorded b l) r (branch_spans named b) i
+        (branch_as_read b l g)
     later_as (more {u} {r} {q} b e m) c l i g =
         let k = branch_recorded b l in
         let h = branch_as_read b l g in
@@ -771,7 +783,8 @@ module _ (named : Bool) where
     pieces_as (next {r} {q} e a m) l =
         let k = piece_recorded a l in
         let h = piece_as_read a l in
-        then_holds (λ ps v. PiecesRecorded (added r k) (pieces_recorded m (added r k)) (solid ps) (pieces_spans named m)) _ q _
+        then_holds (λ ps v. PiecesRecorded (added r k) (pieces_recorded m (added r k)) (solid ps)
+        (pieces_spans named m)) _ q _
         (pieces_as m (added r k)) (λ ps v f. in_front l k _ r _ ps _ h f)
     pieces_as (piece_error e a) l = tt
 
@@ -779,7 +792,8 @@ module _ (named : Bool) where
         Holds (λ r v. PieceAs l (piece_recorded a l) r (piece_spans named a)) o
     piece_as_read {d} {s} (piece {u} {q} i x) l =
         some_piece (quants_recorded (bytes s.rest) q (atom_recorded x l))
-        (quants_spans (bytes s.rest) (reach_of u) q (atom_spans named x)) (reach_of u) _ (quantified_as (reach_of u) l (atom_recorded x l) (atom_spans named x) d (bytes s.rest) q
+        (quants_spans (bytes s.rest) (reach_of u) q (atom_spans named x)) (reach_of u) _
+        (quantified_as (reach_of u) l (atom_recorded x l) (atom_spans named x) d (bytes s.rest) q
         (atom_as x l))
       where
         some_piece : (m : Log) (x : Spans) (start : ℕ) (o : Outcome Tree) →
@@ -805,14 +819,16 @@ module _ (named : Bool) where
     atom_of_as {s} (a_group {t} {h = alt_node} {q} i) l h c =
         let n = opened (reach_of s.rest) (reach_of t.rest) l in
         grouped_as s l n (inside_recorded i n) (inside_spans named i) alt_node (reach_of s.rest) q
-        (opened_within (reach_of s.rest) (reach_of t.rest) l) refl (inside_as i n (part_begins t (atom_opened (reach_of s.rest) l)))
+        (opened_within (reach_of s.rest) (reach_of t.rest) l) refl
+        (inside_as i n (part_begins t (atom_opened (reach_of s.rest) l)))
     atom_of_as {s} (a_condition {t} {v} {c} i b) l h z =
         let n = opened (reach_of s.rest) (reach_of t.rest) l in
         let f = inside_as i n (part_begins t (atom_opened (reach_of s.rest) l)) in
         let m = part_begun (reach_of v.rest) (inside_recorded i n) in
         let w = within_on (opened_within (reach_of s.rest) (reach_of t.rest) l) f.is_kept in
         body_as_read s b l m (inside_spans named i) f.xs
-        (record { around = w.around; start_is = w.start_is; height = w.height }) f.is_recorded f.fits (part_begins v (inside_recorded i n))
+        (record { around = w.around; start_is = w.start_is; height = w.height }) f.is_recorded f.fits
+        (part_begins v (inside_recorded i n))
     atom_of_as {s} (condition_error i) l h c = tt
     atom_of_as {s} (a_body {t} {c} b) l h z =
         let p = condition_span s t in
@@ -830,7 +846,8 @@ module _ (named : Bool) where
         (branch_as_read m (branch_begun (reach_of u) k) (record { branch = refl; pieces = refl }))
     atom_of_as {s} (one_branch {t} {v} {a} b e) l h c =
         let n = opened (reach_of s.rest) (reach_of t.rest) l in
-        stopper_as s l n (branch_recorded b n) a (branch_spans named b) v (opened_within (reach_of s.rest) (reach_of t.rest) l) refl refl
+        stopper_as s l n (branch_recorded b n) a (branch_spans named b) v
+        (opened_within (reach_of s.rest) (reach_of t.rest) l) refl refl
         (branch_as_read b n (part_begins t (atom_opened (reach_of s.rest) l)).branch)
     atom_of_as {s} (absent_error b) l h c = tt
 
@@ -840,7 +857,8 @@ module _ (named : Bool) where
         inside_of l (alternation_recorded a l) (alternation_spans named a) q (alternation_as a l g)
 
     body_as_read : {d : ℕ} {c : Tree} {t : State} {o : Outcome Tree} (w : State) (a : Body d c t o) (l n : Log)
-        (y : Spans) (ys : List RecordedNode) → Within (reach_of w.rest) l n → n.recorded ≡ l.recorded ++ ys → Fits named c y ys →
+        (y : Spans) (ys : List RecordedNode) → Within (reach_of w.rest) l n → n.recorded ≡ l.recorded ++ ys →
+        Fits named c y ys →
         PartBegun t n →
         Holds (λ r v. PieceRecorded named (reach_of w.rest) l (body_recorded a n) r (body_spans named w y a)) o
     body_as_read {c} {t} w (the_body {q} a) l n y ys k e f g =

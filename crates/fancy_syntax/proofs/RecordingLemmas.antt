@@ -29,7 +29,8 @@ use Rattle.fancy_syntax.specs.declared.grammar.recorded.Last.{Last}
 use Rattle.fancy_syntax.specs.declared.grammar.recorded.RecordedNode.{RecordedNode}
 
 -- a node inserted after those of the first list
-put_seam : (A xs : List RecordedNode) (x : RecordedNode) → insert (A ++ xs) (min (length A) (length (A ++ xs))) x ≡ A ++ x ∷ xs
+put_seam : (A xs : List RecordedNode) (x : RecordedNode) → insert (A ++ xs) (min (length A) (length (A ++ xs))) x ≡ A ++
+    x ∷ xs
 put_seam A xs x =
     let n : min (length A) (length (A ++ xs)) ≡ length A = omega (arith, length-append A xs) in
     let z : length A - length A ≡ 0 = omega arith in
@@ -46,7 +47,8 @@ pub data Beside : List Tree → Forest → Type 0 where
   several_more : {q p l z b f : _} → Beside (q ∷ p ∷ l) (more_spans z (after_bar b f))
 
 module _ (named : Bool) where
-  pub shown_one : (n : RecordedNode) (xs : List RecordedNode) → n.unnamed ≡ false → shown named (n ∷ xs) ≡ reaches n ∷ shown named xs
+  pub shown_one : (n : RecordedNode) (xs : List RecordedNode) → n.unnamed ≡ false →
+      shown named (n ∷ xs) ≡ reaches n ∷ shown named xs
   shown_one n xs e = by_named named
     where
       by_named : (b : Bool) → (if b && n.unnamed then shown named xs else reaches n ∷ shown named xs)
@@ -121,7 +123,8 @@ module _ (named : Bool) where
         ap (λ (k : Last). record { start = k.start; end = end }) h.is_last in
         record {
           xs = n ∷ h.xs;
-          is_recorded = put_recorded m m.last.height l.recorded h.xs n h.is_recorded (ap (λ (k : Last). k.height) h.is_last);
+          is_recorded = put_recorded m m.last.height l.recorded h.xs n h.is_recorded
+              (ap (λ (k : Last). k.height) h.is_last);
           is_around = h.is_around;
           is_open = h.is_open;
           is_last = h.is_last;

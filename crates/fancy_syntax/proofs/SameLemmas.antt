@@ -18,7 +18,8 @@ use Rattle.fancy_syntax.specs.declared.expr.Expr.{Expr}
 pub same_with_positions : (s t : Tree) → same (positioned true s) (positioned true t) ≡ same s t
 same_with_positions s t = λ i. same (positioned_is s i) (positioned_is t i)
 
-pub same_without_positions : (s t : Tree) → same (positioned false s) (positioned false t) ≡ same (unpositioned s) (unpositioned t)
+pub same_without_positions : (s t : Tree) → same (positioned false s) (positioned false t) ≡ same (unpositioned s)
+    (unpositioned t)
 same_without_positions s t = λ i. same (unpositioned_is s i) (unpositioned_is t i)
 
 -- ---- lists
@@ -29,7 +30,8 @@ positioned_view p x = positioned p (view x)
 abbrev pub positioned_views : Bool → List Expr → List Tree
 positioned_views p = map (positioned_view p)
 
-positioned_all_views : (p : Bool) (xs : List Expr) → positioned_all p (trees_of (views xs)) ≡ trees_of (positioned_views p xs)
+positioned_all_views : (p : Bool) (xs : List Expr) → positioned_all p (trees_of (views xs)) ≡ trees_of
+    (positioned_views p xs)
 positioned_all_views p [] = refl
 positioned_all_views p (x ∷ xs) = ap (more_trees (positioned_view p x)) (positioned_all_views p xs)
 

@@ -17,7 +17,8 @@ use Rattle.fancy_grammar.specs.Join.{solid, is_empty}
 use Rattle.fancy_grammar.specs.Slices.{Slice}
 use Rattle.fancy_grammar.specs.Spans.{if_done}
 use Rattle.fancy_syntax.specs.Log.{Log, leaf_recorded, opened, body_opened, part_begun, branch_begun, atom_closed}
-use Rattle.fancy_syntax.specs.Recording.{PieceTo, PiecesTo, BranchTo, BranchesTo, AlternationTo, inside_recorded, branch_recorded}
+use Rattle.fancy_syntax.specs.Recording.{PieceTo, PiecesTo, BranchTo, BranchesTo, AlternationTo, inside_recorded}
+use Rattle.fancy_syntax.specs.Recording.{branch_recorded}
 use Rattle.fancy_syntax.specs.Recording.{group_recorded, conditional_recorded, stopper_recorded, quants_recorded, added}
 use Rattle.fancy_syntax.specs.Parsed.{group_kind, state}
 use Rattle.fancy_grammar.specs.Errors.{IsErrorAmong}

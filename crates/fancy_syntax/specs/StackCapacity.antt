@@ -1,5 +1,6 @@
 -- The capacity of the parser's stack, in groups, from the start of a call.
-use Rattle.std.specs.Prelude.{ℕ, ◌+◌, ◌≤◌, ◌<◌, ◌==◌, nat_le, if◌then◌else◌, [], ◌∷◌, ⊤, vec_len, vec_capacity, Result, IsOk}
+use Rattle.std.specs.Prelude.{ℕ, ◌+◌, ◌≤◌, ◌<◌, ◌==◌, nat_le, if◌then◌else◌, [], ◌∷◌, ⊤, vec_len, vec_capacity, Result}
+use Rattle.std.specs.Prelude.{IsOk}
 use Rattle.std.specs.declared.alloc.AllocError.{AllocError}
 use Rattle.fancy_lex.specs.Characters.{open_paren}
 use Rattle.fancy_lex.specs.Text.{Text}

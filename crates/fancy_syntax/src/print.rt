@@ -1,5 +1,6 @@
 //! Printing a tree as a pattern.
-ghost use Rattle.std.specs.Prelude.{◌≡◌, ℕ, ◌+◌, ◌<◌, ◌≤◌, Bool, List, [], ◌++◌, true, false, IfOk, IfSome, IsOk, OnOk, OnErr};
+ghost use Rattle.std.specs.Prelude.{◌≡◌, ℕ, ◌+◌, ◌<◌, ◌≤◌, Bool, List, [], ◌++◌, true, false, IfOk, IfSome, IsOk, OnOk};
+ghost use Rattle.std.specs.Prelude.{OnErr};
 ghost use Rattle.std.specs.Prelude.{None, is_some, string_bytes, string_len, string_capacity, chars, encode_utf8_all};
 ghost use Rattle.fancy_lex.specs.Text.{bytes};
 ghost use Rattle.fancy_grammar.specs.HasDelegate.{has_delegate};

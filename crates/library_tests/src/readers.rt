@@ -131,7 +131,7 @@ fn read_reference<'a>(pattern: &'a str, opening: &str) -> ReadResult<'a> {
     })
 }
 
-fn read<'a>(alloc: Global, reader: &Reader, pattern: &'a str) -> Answer<'a> {
+fn read<'a>(alloc: Global, reader: &Reader, pattern: &'a str) -> ReadResult<'a> {
     match reader {
         Reader::Escape(flags) => read_escape(alloc, pattern, *flags),
         Reader::Class(flags) => read_class(alloc, pattern, *flags),
@@ -142,18 +142,18 @@ fn read<'a>(alloc: Global, reader: &Reader, pattern: &'a str) -> Answer<'a> {
 
 /// Whether the reader says this of the pattern.
 fn says(alloc: Global, reader: &Reader, pattern: &str, wanted: &str) -> Result<bool, AllocError> {
-    let said = match read(alloc, reader, pattern) {
+    let found = match read(alloc, reader, pattern) {
         Ok((read, rest)) => format!(in alloc; "{read} then {rest}")?,
-        Err(Failure::OutOfMemory) => return Err(AllocError),
-        Err(failure) => format!(in alloc; "{}", failure.in_pattern(pattern))?,
+        Err(ReadError::OutOfMemory) => return Err(AllocError),
+        Err(error) => format!(in alloc; "{}", error.in_pattern(pattern))?,
     };
-    Ok(said.as_str() == wanted)
+    Ok(found.as_str() == wanted)
 }
 
 /// The first pattern of which its reader says another thing.
 pub(crate) fn first_wrong(
     alloc: Global,
-    rows: &'static [Row],
+    rows: &'static [ReaderRow],
 ) -> Result<Option<&'static str>, AllocError> {
     for (reader, pattern, wanted) in rows {
         if !says(alloc, reader, pattern, wanted)? {

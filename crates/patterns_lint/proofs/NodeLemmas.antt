@@ -7,7 +7,8 @@ use Rattle.fancy_syntax.specs.declared.expr.Absent.{Absent, out-Absent, map-Abse
 use Rattle.fancy_syntax.specs.declared.expr.Absent.TheOpen.{Absent-F, AstNode-F, Expr-F}
 use Rattle.fancy_syntax.specs.declared.expr.AstNode.{out-AstNode, map-AstNode, fold_out-AstNode}
 use Rattle.fancy_syntax.specs.declared.expr.AstNode as ast
-use Rattle.fancy_syntax.specs.declared.expr.Expr.{Expr, AstNode, SubroutineCall, roll-Expr, out-Expr, roll-out-Expr, map-Expr}
+use Rattle.fancy_syntax.specs.declared.expr.Expr.{Expr, AstNode, SubroutineCall, roll-Expr, out-Expr, roll-out-Expr}
+use Rattle.fancy_syntax.specs.declared.expr.Expr.{map-Expr}
 use Rattle.fancy_syntax.specs.declared.expr.Expr.{fold_out-Expr, the_lemmas}
 use Rattle.fancy_syntax.specs.declared.expr.Expr.TheVariants as variant
 use Rattle.patterns_lint.specs.Empty.{matches_only_empty, can_match_empty, has_group}
@@ -79,4 +80,5 @@ pub not_call : (total : ℕ) (e : Expr) → ((n : _) → e ≡ SubroutineCall n 
     is_unresolved_call total (view e) ≡ false
 not_call total e h k =
     ap (is_unresolved_call total) (fold_out-Expr Tree (ℕ → Tree) Tree absent_step ast_step expr_step e)
-    ∙ calls_nothing total (out-Expr e) (λ n i. h n (sym (roll-out-Expr e) ∙ i)) (λ n p i. k n p (sym (roll-out-Expr e) ∙ i))
+    ∙ calls_nothing total (out-Expr e) (λ n i. h n (sym (roll-out-Expr e) ∙ i))
+    (λ n p i. k n p (sym (roll-out-Expr e) ∙ i))

@@ -24,7 +24,8 @@ use Rattle.fancy_parts.specs.GroupReference.{named_reference, named_call, begins
 use Rattle.fancy_parts.specs.LetterSteps.{letters}
 use Rattle.fancy_parts.specs.Quantifier.{counts}
 use Rattle.fancy_parts.specs.declared.counts.Counts.{Counts}
-use Rattle.fancy_grammar.specs.AtomStart.{AtomStart, nothing, read, of_kind, condition, body, absent_branch, atom_start, start_of}
+use Rattle.fancy_grammar.specs.AtomStart.{AtomStart, nothing, read, of_kind, condition, body, absent_branch, atom_start}
+use Rattle.fancy_grammar.specs.AtomStart.{start_of}
 use Rattle.fancy_grammar.specs.AtomStart.{start_anchor, end_anchor, leaf_node, leaf_outcome, leaf_of}
 use Rattle.fancy_grammar.specs.AtomStart.{backref_node, call_node, is_before_nothing, named_start, target_start}
 use Rattle.fancy_grammar.specs.AtomStart.{flags_start}

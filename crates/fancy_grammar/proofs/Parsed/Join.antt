@@ -235,7 +235,8 @@ module _ {f : Flags} {text : Text} {t : Tree} {m : GroupInfo} (a : IsTreeOf f te
       subst (AreReferencesWritable f m 0) (sym a.3)
       (met f m text (bytes text) named numbers_of total (omega (arith, small, fit))
       (λ w. each_numbered w (numbered_openings f (openings raw))) (numbers_are a) 0 raw (derived_parsed a.1)
-      (derived_read a.1.1) all_numeric (subst (λ x. AllByRecursion IsParsedTreeNode (preorder x)) a.3 (parsed_tree_with a).nodes)
+      (derived_read a.1.1) all_numeric (subst (λ x. AllByRecursion IsParsedTreeNode (preorder x)) a.3
+      (parsed_tree_with a).nodes)
       (omega arith))
 
   -- the tree is writable
@@ -243,7 +244,8 @@ module _ {f : Flags} {text : Text} {t : Tree} {m : GroupInfo} (a : IsTreeOf f te
   parsed_is_writable small = record {
     group_info = info_of_tree a info_numeric info_self;
     names = names_writable a;
-    nodes = nodes_writable f m 0 t (parsed_tree_with a).nodes (nodes_resolved a) (references_writable small) (info_counted a);
+    nodes = nodes_writable f m 0 t (parsed_tree_with a).nodes (nodes_resolved a) (references_writable small)
+        (info_counted a);
     fits = parsed_fits f text t m a;
   }
 

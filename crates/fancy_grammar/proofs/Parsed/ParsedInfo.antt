@@ -10,7 +10,8 @@ use Rattle.fancy_lex.specs.Text.{Text}
 use Rattle.fancy_lex.specs.declared.flags.Flags.{Flags}
 use Rattle.fancy_parts.specs.Ranks.{Opening, only_named, numbered_openings, named_groups, names, numbers}
 use Rattle.fancy_grammar.specs.ParseResult.{IsTreeOf}
-use Rattle.fancy_grammar.specs.ParsedTree.{IsParsedTreeNode, IsParsedTree, IsParsedTreeWith, is_group, groups, groups_referred}
+use Rattle.fancy_grammar.specs.ParsedTree.{IsParsedTreeNode, IsParsedTree, IsParsedTreeWith, is_group, groups}
+use Rattle.fancy_grammar.specs.ParsedTree.{groups_referred}
 use Rattle.fancy_grammar.specs.Items.{openings}
 use Rattle.fancy_grammar.specs.Items.{numbers_in}
 use Rattle.fancy_grammar.specs.Label.{group, ast_group}

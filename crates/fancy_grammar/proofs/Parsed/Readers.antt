@@ -19,7 +19,8 @@ use Rattle.fancy_lex.specs.Number.{number}
 use Rattle.fancy_lex.specs.Reading.{Reading, gives, fails, ◌>=>◌, layout_reading, read_or}
 use Rattle.fancy_lex.specs.Text.{Text, strip, bytes, cut_at}
 use Rattle.fancy_lex.specs.declared.flags.Flags.{Flags}
-use Rattle.fancy_parts.specs.FlagLetters.{Letters, inline_flags, flag_group, LetterStep, flags_end, flags_go_on, with_letter}
+use Rattle.fancy_parts.specs.FlagLetters.{Letters, inline_flags, flag_group, LetterStep, flags_end, flags_go_on}
+use Rattle.fancy_parts.specs.FlagLetters.{with_letter}
 use Rattle.fancy_parts.specs.GroupName.{group_name}
 use Rattle.fancy_parts.specs.LetterSteps.{step, unknown_letter, flag_or_error, after_step, letters_in, letters}
 use Rattle.fancy_parts.specs.Quantifier.{counts, braced_counts, counts_from, in_braces, spaced_count, count}
@@ -250,7 +251,8 @@ pub name_free : (delimiter : ℕ) (t u : Text) → IfGives (IsFreeOf delimiter) 
 unfolding group_name
 name_free delimiter t u = by_name (name_before delimiter u) (before_free delimiter u)
   where
-    by_name : (o : Option (Text × Text)) → IfNameFree delimiter o → IfGives (IsFreeOf delimiter) (read_or (group_not_named t) o)
+    by_name : (o : Option (Text × Text)) → IfNameFree delimiter o → IfGives (IsFreeOf delimiter)
+        (read_or (group_not_named t) o)
     by_name None h = tt
     by_name (Some (w, v)) h = h
 

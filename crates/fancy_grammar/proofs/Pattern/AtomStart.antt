@@ -19,7 +19,8 @@ use Rattle.fancy_parts.specs.FlagLetters.{Letters, inline_flags, flag_group as s
 use Rattle.fancy_parts.specs.GroupName.{group_name}
 use Rattle.fancy_parts.specs.GroupReference.{named_reference, named_call, begins_target, condition_target}
 use Rattle.fancy_parts.specs.LetterSteps.{letters}
-use Rattle.fancy_grammar.specs.AtomStart.{AtomStart, nothing, read, of_kind, condition, body, absent_branch, atom_start, start_of}
+use Rattle.fancy_grammar.specs.AtomStart.{AtomStart, nothing, read, of_kind, condition, body, absent_branch, atom_start}
+use Rattle.fancy_grammar.specs.AtomStart.{start_of}
 use Rattle.fancy_grammar.specs.AtomStart.{after_layout, group_start, after_question, condition_start, repeater_start}
 use Rattle.fancy_grammar.specs.AtomStart.{flags_start, leaf_node, leaf_outcome, leaf_of, is_before_nothing}
 use Rattle.fancy_grammar.specs.AtomStart.{named_start, target_start, backref_node, call_node}
@@ -33,7 +34,8 @@ use Rattle.fancy_grammar.specs.Verb.{verb_at}
 use Rattle.fancy_grammar.proofs.OutcomeLemmas.{Holds}
 use Rattle.fancy_grammar.proofs.Parsed.Readers.{IsModeOf, letters_mode}
 use Rattle.fancy_grammar.proofs.Pattern.Suited.{Suits}
-use Rattle.fancy_grammar.proofs.Pattern.SuitedEscapes.{IsBare, IsSuited, suited_escape, literal_suits, delegate_suits, dot_suits}
+use Rattle.fancy_grammar.proofs.Pattern.SuitedEscapes.{IsBare, IsSuited, suited_escape, literal_suits, delegate_suits}
+use Rattle.fancy_grammar.proofs.Pattern.SuitedEscapes.{dot_suits}
 use Rattle.fancy_grammar.proofs.Pattern.SuitedEscapes.{start_suits, end_suits}
 
 -- no group may open if this many are open

@@ -201,7 +201,8 @@ abbrev pub is_raw_group : Tree → Bool
 is_raw_group (ast_group m p t) = true
 is_raw_group _ = false
 
-position_free : (μ : GroupInfo) (s : Text) (f : Flags) (r : Tree) (c : ℕ) → is_raw_group r ≡ false → AreGroups μ s c (items r) →
+position_free : (μ : GroupInfo) (s : Text) (f : Flags) (r : Tree) (c : ℕ) → is_raw_group r ≡ false →
+    AreGroups μ s c (items r) →
     is_repeatable f (resolved_in 0 μ.numbered_groups_ignored (info_numbers μ) c r) ≡ is_repeatable f r
 position_free μ s f (ast_group m p t) c g h = absurd (true≢false g)
 position_free μ s f (ast_node r p) c g h =

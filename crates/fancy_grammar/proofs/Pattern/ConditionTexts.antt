@@ -39,7 +39,8 @@ use Rattle.fancy_grammar.proofs.Pattern.Commented.{commented_whole}
 use Rattle.fancy_grammar.proofs.Pattern.Conditionals.{Before}
 use Rattle.fancy_grammar.proofs.Pattern.Conditions.{ConditionAt, condition_at}
 use Rattle.fancy_grammar.proofs.Pattern.Groups.{question_at}
-use Rattle.fancy_grammar.proofs.Pattern.Leaves.{is_metacharacter, some_verb, reads_spelled, begins_spelled, fail_read, accept_read}
+use Rattle.fancy_grammar.proofs.Pattern.Leaves.{is_metacharacter, some_verb, reads_spelled, begins_spelled, fail_read}
+use Rattle.fancy_grammar.proofs.Pattern.Leaves.{accept_read}
 use Rattle.fancy_grammar.proofs.Pattern.Leaves.{commit_read, skip_read, prune_read}
 use Rattle.fancy_grammar.proofs.Pattern.Rules.{Clear, Stops, ends_close, WholeAt, Rest, no_more, lead, reads_branch}
 use Rattle.fancy_grammar.proofs.Pattern.Rules.{reads_only}
@@ -159,7 +160,8 @@ module _ (μ : GroupInfo) (i : Context) (d : MayOpen i) where
     WholeBefore s = (z : Text) → WholeAt μ (deeper i) (s ++ code ")" ∷ z) g (code ")" ∷ z) x
 
     as_alternation : (s : Text) (w : WholeBefore s) → ((z : Text) →
-        atom_start i.depth (st i.flags (codes "(?(" ++ (s ++ code ")" ∷ z))) ≡ condition (st i.flags (s ++ code ")" ∷ z))) →
+        atom_start i.depth (st i.flags (codes "(?(" ++ (s ++ code ")" ∷ z))) ≡ condition
+        (st i.flags (s ++ code ")" ∷ z))) →
         Before μ i s g x
     as_alternation s w starts = record {
       node = λ z. (w z).tree;

@@ -104,7 +104,8 @@ raw_alt : (μ : GroupInfo) (s : Text) (r : Tree) (c : ℕ) → is_raw_group r �
     is_alt (resolved_in 0 μ.numbered_groups_ignored (info_numbers μ) c r) ≡ is_alt r
 raw_alt μ s (ast_group m p t) c g h = absurd (true≢false g)
 raw_alt μ s (ast_node r p) c g h =
-    node_determined is_alt false (info_meaning μ c r) r p (λ n i. refl) (λ n l i. refl) (λ n. refl) (λ n l. refl) (λ q. refl)
+    node_determined is_alt false (info_meaning μ c r) r p (λ n i. refl) (λ n l i. refl) (λ n. refl) (λ n l. refl)
+    (λ q. refl)
     h.0
 raw_alt μ s (row label.concat ts) c g h = refl
 raw_alt μ s (row label.alt ts) c g h = refl

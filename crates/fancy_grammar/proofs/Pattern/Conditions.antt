@@ -38,7 +38,8 @@ use Rattle.fancy_grammar.specs.Writable.{IsLevelWritable}
 use Rattle.fancy_grammar.proofs.Pattern.Becomes.{Becomes, info_numbers, in_longer}
 use Rattle.fancy_grammar.proofs.Pattern.Groups.{question_at, cut_before}
 use Rattle.fancy_grammar.proofs.Pattern.Leaves.{LeafAt}
-use Rattle.fancy_grammar.proofs.Pattern.Names.{delimited_read, written_level, number_written, digits_without, both_undelimited}
+use Rattle.fancy_grammar.proofs.Pattern.Names.{delimited_read, written_level, number_written, digits_without}
+use Rattle.fancy_grammar.proofs.Pattern.Names.{both_undelimited}
 use Rattle.fancy_grammar.proofs.Pattern.Names.{level_written, digit_ids, number_target, written_as}
 use Rattle.fancy_grammar.proofs.Pattern.References.{reference_becomes, fits, last_is, reference_text}
 use Rattle.fancy_grammar.proofs.Pattern.Rules.{begins_by, AtomAt}

@@ -83,7 +83,8 @@ capture_at d f t l c = paren_at d f t l c.no_layout ∙ capture_start f (code "(
 
 -- ---- names
 
-pub cut_before : (delimiter : ℕ) (w v : Text) → is_among delimiter w ≡ false → cut_at delimiter (w ++ delimiter ∷ v) ≡ Some (w, v)
+pub cut_before : (delimiter : ℕ) (w v : Text) → is_among delimiter w ≡ false →
+    cut_at delimiter (w ++ delimiter ∷ v) ≡ Some (w, v)
 cut_before delimiter [] v h = grind (arith, nat_tests)
 cut_before delimiter (c ∷ []) v h =
     let other : (c == delimiter) ≡ false = grind (arith, nat_tests) in rw (other, cut_before delimiter [] v refl) refl

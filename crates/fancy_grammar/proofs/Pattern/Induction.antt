@@ -24,7 +24,8 @@ use Rattle.fancy_grammar.specs.PatternNeeds.{inline_flags, settled, letters_betw
 use Rattle.fancy_grammar.specs.Quantified.{is_repeatable}
 use Rattle.fancy_grammar.specs.Tree.{Tree, leaf, concat}
 use Rattle.fancy_grammar.specs.declared.precedence.Precedence.TheVariants.{Piece}
-use Rattle.fancy_grammar.proofs.Pattern.Groups.{begins_inline_flags, inline_flags_rest, flag_group_text, flag_group_at, reads_flag_group}
+use Rattle.fancy_grammar.proofs.Pattern.Groups.{begins_inline_flags, inline_flags_rest, flag_group_text, flag_group_at}
+use Rattle.fancy_grammar.proofs.Pattern.Groups.{reads_flag_group}
 use Rattle.fancy_grammar.proofs.Pattern.Groups.{begins_letters, inner}
 use Rattle.fancy_grammar.proofs.Pattern.Needed.{no_inline_flags}
 use Rattle.fancy_grammar.proofs.Pattern.Quantifiers.{NoName, no_name}
@@ -190,7 +191,8 @@ module _ (μ : GroupInfo) (t : Tree) (h : Context) (solid : is_empty t ≡ false
       q.stops refl) q.no_bar)) in (
         set_begins s (λ v. subst (Begins h.flags.ignore_space) (sym (same v))
             (begins_by h.flags.ignore_space (code "(") _
-            (not_asking (text ++ code ")" ∷ v) (no_question (text ++ code ")" ∷ v) (first v).clear.no_quantifier)) refl refl
+            (not_asking (text ++ code ")" ∷ v) (no_question (text ++ code ")" ∷ v) (first v).clear.no_quantifier)) refl
+            refl
             refl)),
         λ u v. subst (λ z. BareAt μ h z v t) (sym (set_none s v u))
             (subst (λ f. BareAt μ (under f h) (s ++ v) v t) u (here v)),

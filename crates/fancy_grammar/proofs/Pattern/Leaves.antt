@@ -62,7 +62,8 @@ pub reads_leaf : (μ : GroupInfo) (h : Context) (s v : Text) (l : Leaf) → IsNo
 reads_leaf μ h s v l k e = record { tree = leaf l; derives = atom e a_read; becomes = leaf_becomes μ s h.opened l k }
 
 -- an escape that is this leaf
-reads_escape : (μ : GroupInfo) (h : Context) (t v : Text) (e : Escape) (l : Leaf) → IsNoReference l → leaf_node e ≡ leaf l →
+reads_escape : (μ : GroupInfo) (h : Context) (t v : Text) (e : Escape) (l : Leaf) → IsNoReference l →
+    leaf_node e ≡ leaf l →
     escape h.flags false t ≡ gives e v → AtomAt μ h (code "\\" ∷ t) v (leaf l)
 reads_escape μ h t v e l k same q =
     reads_leaf μ h (code "\\" ∷ t) v l k
@@ -233,7 +234,8 @@ newline_at μ h u e =
 -- ---- one character
 
 -- a character that is this leaf
-alone_at : (μ : GroupInfo) (h : Context) (c : ℕ) (l : Leaf) → IsNoReference l → ((x : Bool) (v : Text) → Begins x (c ∷ v)) →
+alone_at : (μ : GroupInfo) (h : Context) (c : ℕ) (l : Leaf) → IsNoReference l →
+    ((x : Bool) (v : Text) → Begins x (c ∷ v)) →
     ((v : Text) → atom_start h.depth (st h.flags (c ∷ v)) ≡ read (done (leaf l) (st h.flags v))) → LeafAt μ h (c ∷ []) l
 alone_at μ h c l k b q = record {
   reads = λ v m _. reads_leaf μ h (c ∷ v) v l k (q v);

@@ -197,9 +197,11 @@ no_sign [] h = absurd (omega (arith, h.0))
 no_sign (d ∷ ds) h = rw (digit_apart d (code "+") refl ((digit_is d h.1.0).0)) refl
 
 -- a character that is no digit is not among digits
-pub digits_without : (delimiter : ℕ) → is_ascii_digit delimiter ≡ false → (ds : Text) → AllDigits 10 ds → is_among delimiter ds ≡ false
+pub digits_without : (delimiter : ℕ) → is_ascii_digit delimiter ≡ false → (ds : Text) → AllDigits 10 ds →
+    is_among delimiter ds ≡ false
 digits_without delimiter k [] h = refl
-digits_without delimiter k (c ∷ []) h = ne_eqb delimiter c (λ e. false≢true (sym k ∙ (ap is_ascii_digit e ∙ (digit_is c h.0).0)))
+digits_without delimiter k (c ∷ []) h = ne_eqb delimiter c
+    (λ e. false≢true (sym k ∙ (ap is_ascii_digit e ∙ (digit_is c h.0).0)))
 digits_without delimiter k (c ∷ d ∷ ds) h =
     rw (ne_eqb delimiter c (λ e. false≢true (sym k ∙ (ap is_ascii_digit e ∙ (digit_is c h.0).0))))
     (digits_without delimiter k (d ∷ ds) h.1)
@@ -284,7 +286,8 @@ sign_no_delimiter delimiter sign [] i m h = no_sign delimiter sign i m
   where
     no_sign : (delimiter sign : ℕ) → sign ∈ "+-" ≡ true → delimiter ∈ ">)" ≡ true → (delimiter == sign) ≡ false
     no_sign delimiter sign i m = grind (arith, nat_tests)
-sign_no_delimiter delimiter sign (d ∷ ds) i m h = rw (no_sign delimiter sign i m) (digits_without delimiter (no_digit delimiter m) (d ∷ ds) h)
+sign_no_delimiter delimiter sign (d ∷ ds) i m h = rw (no_sign delimiter sign i m)
+    (digits_without delimiter (no_digit delimiter m) (d ∷ ds) h)
   where
     no_sign : (delimiter sign : ℕ) → sign ∈ "+-" ≡ true → delimiter ∈ ">)" ≡ true → (delimiter == sign) ≡ false
     no_sign delimiter sign i m = grind (arith, nat_tests)
@@ -324,7 +327,8 @@ both_undelimited delimiter [] v h k = k
 both_undelimited delimiter (c ∷ []) [] h k = h
 both_undelimited delimiter (c ∷ []) (d ∷ v) h k = rw h k
 both_undelimited delimiter (c ∷ d ∷ w) v h k =
-    let (a, b) = or_parts (delimiter == c) (is_among delimiter (d ∷ w)) h in rw a (both_undelimited delimiter (d ∷ w) v b k)
+    let (a, b) = or_parts (delimiter == c) (is_among delimiter (d ∷ w)) h in rw a
+    (both_undelimited delimiter (d ∷ w) v b k)
 
 run_before : (w ds : Text) (sign : ℕ) → AllByRecursion (λ c. is_id_char c ≡ true) w → is_id_char sign ≡ false →
     ◌≡◌ {A = Text × Text} (id_run (w ++ sign ∷ ds)) (w, sign ∷ ds)

@@ -213,7 +213,8 @@ module _ (in_mode : Bool) (z : ℕ) (named : Bool) (numbers_of : Text → List �
         FitsOrTarget in_mode d b f o (reference_node z m (ast_condition t level) position)
     reference_fitted (number k) t level position = tt
     reference_fitted m t level position =
-        leaf_fit in_mode (label.ast_node (ast_condition t level) (position_at z position)) (d + 1) Whole refl (λ _ g o. refl)
+        leaf_fit in_mode (label.ast_node (ast_condition t level) (position_at z position)) (d + 1) Whole refl
+        (λ _ g o. refl)
         (λ e. absurd (false≢true e))
 
     target_needs : (m : Meaning) (t : Target) (level : Option ℤ) (position : ℕ) →

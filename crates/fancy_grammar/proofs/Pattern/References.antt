@@ -167,7 +167,8 @@ not_of_all back_reference t h = refl
 not_of_all condition t h = refl
 
 -- what is no number is not written with one
-pub not_in_digits : (μ : GroupInfo) (s : Text) (r : AstReference) (m : Meaning) (p : ℕ) → is_by_number (target_of r) ≡ false →
+pub not_in_digits : (μ : GroupInfo) (s : Text) (r : AstReference) (m : Meaning) (p : ℕ) →
+    is_by_number (target_of r) ≡ false →
     is_numbered μ (reference_node 0 m r 0) ≡ false → is_numbered_call_of_all μ (reference_node 0 m r 0) ≡ false →
     AgreesWithInfo μ s r m p
 not_in_digits μ s r m p e none never = record {
@@ -268,7 +269,8 @@ module _ (μ : GroupInfo) (h : Context) (numbered : (k : ℕ) → IfSome (name_o
           (same_Some q.name w (sym q.fit ∙ e))
           (backref_by μ h n q.name (by_name q.name) None (label.backref n h.flags.casei)
           (λ v. name_read q.name q.plain v) (written_as q.name q.plain []) meant (λ _ _. refl) refl
-          (λ t. not_in_digits μ _ (ast_backref (by_name q.name) h.flags.casei None) (number n) (reach_of t) refl none refl))
+          (λ t. not_in_digits μ _ (ast_backref (by_name q.name) h.flags.casei None) (number n) (reach_of t) refl none
+          refl))
 
   -- the same with a level
   pub level_at : (n : ℕ) (z : ℤ) → n < 2 ^ 64 → IsLevelWritable z →

@@ -127,7 +127,8 @@ module _ (μ : GroupInfo) where
       inside_whole : FitsInside → (v : Text) →
           WholeAt μ (deeper context) (inside v) context.flags (code ")" ∷ v) (over (label.repeat lo hi greedy) t)
       inside_whole d v =
-          repeat_whole (deeper context) ordered repeatable_in_context again (a1 (allowed Whole (deeper context)) d.1) (code ")" ∷ v)
+          repeat_whole (deeper context) ordered repeatable_in_context again (a1 (allowed Whole (deeper context)) d.1)
+          (code ")" ∷ v)
           (ends_close h.flags.ignore_space v)
 
       -- its text as an operand, if no flag has to be set
@@ -159,7 +160,8 @@ module _ (μ : GroupInfo) where
           by_piece μ x h refl (Fits x Whole h) (Fits x (Operand zero) h)
           (repeated false t lo hi greedy (written μ t) Whole context)
           (inline_flags h.flags (settled h.flags t) ++ in_opening (codes "?:")) (λ d. d.0)
-          (λ d. under_begins false context ordered no_possessive repeatable_in_context again (allowed Whole context) (a _ d.1))
+          (λ d. under_begins false context ordered no_possessive repeatable_in_context again (allowed Whole context)
+          (a _ d.1))
           (λ d. under_leads false context ordered no_possessive repeatable_in_context again (a _ d.1))
           refl
           (λ _ _. set_begins μ x h refl (in_opening (codes "?:"))
@@ -234,7 +236,8 @@ module _ (μ : GroupInfo) where
         one_reads : (b : Bool) → is_possessive context.flags lo hi ≡ b → OneFits b r → (v : Text) →
             NoName context.flags.ignore_space v → Follows μ atomic v → (b ≡ true → Apart context.flags.ignore_space v) →
             OperandAt μ context (suc r) (one_text b r ++ v) v atomic
-        one_reads true e d v m y p = under_reads true context ordered (λ _. e) repeatable_in_context again r (a r d) v (p refl)
+        one_reads true e d v m y p = under_reads true context ordered (λ _. e) repeatable_in_context again r (a r d) v
+            (p refl)
         one_reads false e d v m y p =
             operand_atom μ context (suc r) (in_opening (codes "?>") ++ v) v atomic (in_atomic d v m y)
 

@@ -51,7 +51,8 @@ mutual
   all_unpositioned : (ts : Trees) → preorder_all (unpositioned_all ts) ≡ map unpositioned (preorder_all ts)
   all_unpositioned no_trees = refl
   all_unpositioned (more_trees t ts) =
-      ap₂ (λ a b. a ++ b) (preorder_unpositioned t) (all_unpositioned ts) ∙ sym (both_unpositioned (preorder t) (preorder_all ts))
+      ap₂ (λ a b. a ++ b) (preorder_unpositioned t) (all_unpositioned ts) ∙ sym
+      (both_unpositioned (preorder t) (preorder_all ts))
 
 -- whether some node is such
 module _ (such : Tree → Bool) (free : (t : Tree) → such (unpositioned t) ≡ such t) where

@@ -141,7 +141,8 @@ module _ (μ : GroupInfo) (h : Context) (t : Target) (position : ℕ) (none : is
 abbrev MayOpenFor : Context → Text → Type 0
 MayOpenFor h s = MayOpenIf (starts_with nat_eq s (codes "(")) h
 
-pub unresolved_at : (μ : GroupInfo) (h : Context) (t : Target) (position : ℕ) → MayOpenFor h (unresolved_text (ast_call t)) →
+pub unresolved_at : (μ : GroupInfo) (h : Context) (t : Target) (position : ℕ) →
+    MayOpenFor h (unresolved_text (ast_call t)) →
     IsCalledTarget t → refers_to (info_numbers μ) h.opened call t ≡ unresolved →
     LeafAt μ h (unresolved_text (ast_call t)) (label.ast_node (ast_call t) position)
 unresolved_at μ h (by_number n) position l k meant = absurd k
@@ -150,7 +151,8 @@ unresolved_at μ h (relative (negsuc n)) position l k meant =
     let z = negsuc n in
     let same : suc n ≡ n + 1 = omega arith in
     subst
-    (λ m. LeafAt μ h (delimited (codes "\\g") (code "-" ∷ decimal m)) (label.ast_node (ast_call (relative z)) position)) same
+    (λ m. LeafAt μ h (delimited (codes "\\g") (code "-" ∷ decimal m)) (label.ast_node (ast_call (relative z)) position))
+    same
     (in_delimiters μ h (relative z) position refl meant (code "-" ∷ decimal (suc n))
     (distance_delimited (code "-") n z refl (omega (arith, k)) refl refl)
     (distance_called (code "-") n z refl (omega (arith, k)) refl refl))

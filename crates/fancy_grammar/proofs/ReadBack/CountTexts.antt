@@ -173,7 +173,8 @@ operator_read : (lo hi : ℕ) (s : Text) → lo < 2 ^ 64 → hi < 2 ^ 64 → IsO
 unfolding counts_text operator counts
 operator_read lo hi s l h =
     cond_both ((lo == 0) && (hi == 1)) _ _ (OperatorIs lo hi s)
-    (λ e. let (a, b) = and_parts _ _ e in sign_operator lo hi 0 1 (code "?") s (eqb-true lo 0 a) (eqb-true hi 1 b) refl refl
+    (λ e. let (a, b) = and_parts _ _ e in sign_operator lo hi 0 1 (code "?") s (eqb-true lo 0 a) (eqb-true hi 1 b) refl
+    refl
     refl)
     (λ _. cond_both ((lo == 0) && (hi == most)) _ _ (OperatorIs lo hi s)
     (λ e. let (a, b) = and_parts _ _ e in

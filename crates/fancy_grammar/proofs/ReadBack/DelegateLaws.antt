@@ -110,8 +110,10 @@ large_whole w h =
     (braced_large (unicode_flags false) false w [] (no_brace w h))
 
 single_whole : (b : Bool) (c : ℕ) → (c == code "{") ≡ false → IsScalar c → IsWhole (letter b ++ c ∷ [])
-single_whole false c h k = escape_whole (code "p" ∷ c ∷ []) _ _ (and_from _ true k refl) (single_small (unicode_flags false) false c [] h)
-single_whole true c h k = escape_whole (code "P" ∷ c ∷ []) _ _ (and_from _ true k refl) (single_large (unicode_flags false) false c [] h)
+single_whole false c h k = escape_whole (code "p" ∷ c ∷ []) _ _ (and_from _ true k refl)
+    (single_small (unicode_flags false) false c [] h)
+single_whole true c h k = escape_whole (code "P" ∷ c ∷ []) _ _ (and_from _ true k refl)
+    (single_large (unicode_flags false) false c [] h)
 
 letters_whole : Each (λ c. IsWhole (code "\\" ∷ c ∷ [])) (codes "dDsSwW")
 unfolding class_of escape_at lone_escape

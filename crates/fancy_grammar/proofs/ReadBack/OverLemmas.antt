@@ -45,7 +45,8 @@ abbrev mutual
   pub branch_positions : Trees → ℕ → ℕ
   branch_positions no_trees d = 0
   branch_positions (more_trees t ts) d =
-      if nat_le max_depth (d + nest t BRANCH) then position t BRANCH d else bytes (printed t BRANCH) + barred_positions ts d
+      if nat_le max_depth (d + nest t BRANCH) then position t BRANCH d else bytes (printed t BRANCH) + barred_positions
+      ts d
 
   pub barred_positions : Trees → ℕ → ℕ
   barred_positions no_trees d = 0

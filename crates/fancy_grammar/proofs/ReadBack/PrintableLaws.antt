@@ -174,4 +174,8 @@ mutual
 
   are_printable : (ts : Trees) → all_printable ts ≡ true → ArePrintable ts
   are_printable no_trees h = tt
-  are_printable (more_trees t ts) h = (is_printable t (first_so (printable t) _ h), are_printable ts (second_so (printable t) _ h))
+  are_printable (more_trees t ts) h = (
+    is_printable t (first_so (printable t) _ h),
+    are_printable ts
+        (second_so (printable t) _ h),
+  )

@@ -391,7 +391,8 @@ pub flag_group_at : (d : ℕ) (f g : Flags) (t u : Text) → Kept f → d + 1 < 
     atom_start d (st f (code "(" ∷ code "?" ∷ t)) ≡ of_kind flag_group (st g u)
 flag_group_at d f g t u k l o q e = opening_at d f (code "?" ∷ t) k l o ∙ q ∙ ap flags_start e
 
-pub reads_flag_group : (d : ℕ) (f g : Flags) (s t v : Text) (x : Tree) → atom_start d (st f s) ≡ of_kind flag_group (st g t) →
+pub reads_flag_group : (d : ℕ) (f g : Flags) (s t v : Text) (x : Tree) →
+    atom_start d (st f s) ≡ of_kind flag_group (st g t) →
     WholeAs (d + 1) g t (code ")" ∷ v) x → AtomAs d f s v x
 reads_flag_group d f g s t v x e w =
     record { tree = w.tree; derives = atom e (a_group (inside w.derives)); becomes = w.becomes }

@@ -65,7 +65,11 @@ pub begins_opening : (x : ℕ) (s : Text) → (x == code "#") ≡ false → Begi
 begins_opening x s e = record { clear = record { no_comment = rw e refl; no_quantifier = refl }; goes = refl }
 
 pub begins_group : (s : Text) → Clear s → Begins (code "(" ∷ s)
-begins_group s c = record { clear = record { no_comment = not_asking s (clear_lazy s c); no_quantifier = refl }; goes = refl }
+begins_group s c = record {
+  clear = record { no_comment = not_asking s (clear_lazy s c); no_quantifier = refl };
+  goes =
+      refl;
+}
 
 -- the operand of a quantifier begins an atom
 pub begins_repeated : (t : Tree) → is_repeatable (unicode_flags false) (normal false t) ≡ true →

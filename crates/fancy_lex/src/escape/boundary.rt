@@ -1,5 +1,6 @@
 //! Word boundaries after `\b` and `\B`.
-ghost use Rattle.std.specs.Prelude.{◌≡◌, ℕ, ◌+◌, ◌<◌, ◌≤◌, Bool, ◌∷◌, length, chars, IfSome, IfErr, IfOk, MatchResult, option_map};
+ghost use Rattle.std.specs.Prelude.{◌≡◌, ℕ, ◌+◌, ◌<◌, ◌≤◌, Bool, ◌∷◌, length, chars, IfSome, IfErr, IfOk, MatchResult};
+ghost use Rattle.std.specs.Prelude.{option_map};
 ghost use Rattle.fancy_lex.specs.Boundary as spec;
 ghost use Rattle.fancy_lex.specs.BoundarySteps as steps;
 ghost use Rattle.fancy_lex.specs.Escaped.{Escape};
@@ -7,7 +8,8 @@ ghost use Rattle.fancy_lex.specs.EscapeViews.{escape_of};
 ghost use Rattle.fancy_lex.specs.Located.{invalid_escape};
 ghost use Rattle.fancy_lex.specs.ErrorViews.{LiesWithin};
 ghost use Rattle.fancy_lex.specs.ErrorTable.{boundary_start, boundary_not_closed};
-ghost use Rattle.fancy_lex.specs.Reading.{Reading, Returns, CarriesText, Reports, Derives, gives, fails, error_at, layout_reading};
+ghost use Rattle.fancy_lex.specs.Reading.{Reading, Returns, CarriesText, Reports, Derives, gives, fails, error_at};
+ghost use Rattle.fancy_lex.specs.Reading.{layout_reading};
 ghost use Rattle.fancy_lex.specs.BoundaryName as name_spec;
 ghost use Rattle.fancy_lex.specs.LayoutSteps.{layout};
 ghost use Rattle.fancy_lex.specs.Text.{EndsWith, Text, text_of};

@@ -1,5 +1,6 @@
 //! Hex codes after `\x`, `\u` and `\U`.
-ghost use Rattle.std.specs.Prelude.{◌≡◌, ℕ, ◌+◌, ◌*◌, ◌-◌, ◌<◌, ◌≤◌, length, chars, IfSome, IfErr, IfOk, option_map, false, true};
+ghost use Rattle.std.specs.Prelude.{◌≡◌, ℕ, ◌+◌, ◌*◌, ◌-◌, ◌<◌, ◌≤◌, length, chars, IfSome, IfErr, IfOk, option_map};
+ghost use Rattle.std.specs.Prelude.{false, true};
 ghost use Rattle.fancy_lex.specs.Characters.{close_brace};
 ghost use Rattle.fancy_lex.specs.EscapeViews.{escape_of};
 ghost use Rattle.fancy_lex.specs.ErrorViews.{LiesWithin};

@@ -1,5 +1,6 @@
 //! The openings of groups: what follows a parenthesis and a question mark or an asterisk.
-ghost use Rattle.std.specs.Prelude.{◌≡◌, ◌<◌, ◌≤◌, length, chars, codes, ◌++◌, Some, None, IfOk, IfSome, option_map, MatchResult};
+ghost use Rattle.std.specs.Prelude.{◌≡◌, ◌<◌, ◌≤◌, length, chars, codes, ◌++◌, Some, None, IfOk, IfSome, option_map};
+ghost use Rattle.std.specs.Prelude.{MatchResult};
 ghost use Rattle.fancy_lex.specs.ErrorTable.{unknown_verb};
 ghost use Rattle.fancy_parts.specs.LetterSteps.{letters};
 ghost use Rattle.fancy_parts.specs.GroupName as names;

@@ -12,7 +12,8 @@ ghost use Rattle.fancy_syntax.specs.Log.{Log};
 ghost use Rattle.fancy_syntax.specs.Machine.{Takes, HasRead, HasReadTo, taken_recorded};
 ghost use Rattle.fancy_syntax.specs.Recording.{AlternationTo};
 ghost use Rattle.fancy_syntax.specs.Parsed.{state};
-ghost use Rattle.fancy_syntax.specs.StackCapacity.{groups_at_once, HasStackCapacity, IsReserved, HasCapacityFor, OpensAlways};
+ghost use Rattle.fancy_syntax.specs.StackCapacity.{groups_at_once, HasStackCapacity, IsReserved, HasCapacityFor};
+ghost use Rattle.fancy_syntax.specs.StackCapacity.{OpensAlways};
 ghost use Rattle.fancy_syntax.specs.View.{view, views};
 
 use crate::expr::Expr;

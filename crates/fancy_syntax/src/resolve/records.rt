@@ -4,7 +4,8 @@ ghost use Rattle.fancy_lex.specs.Located.{Located};
 ghost use Rattle.fancy_lex.specs.IdReference.{amount_bound};
 ghost use Rattle.fancy_parts.specs.Groups.{meaning_of};
 ghost use Rattle.fancy_grammar.specs.Errors.{IsErrorIn};
-ghost use Rattle.fancy_syntax.specs.Records.{IsErrorRecorded, progress_of, number_meant, recorded_one, form_recorded, meaning_recorded};
+ghost use Rattle.fancy_syntax.specs.Records.{IsErrorRecorded, progress_of, number_meant, recorded_one, form_recorded};
+ghost use Rattle.fancy_syntax.specs.Records.{meaning_recorded};
 ghost use Rattle.fancy_grammar.specs.Walk.{nothing_recorded, number_in};
 
 use fancy_lex::error::ReadError;

@@ -98,7 +98,8 @@ opening_property _ _ u x w z (negated n) = record { space = refl; control = refl
 opening_property _ _ u x w z closing = record { space = refl; control = refl }
 opening_property _ _ u x w z negated_closing = record { space = refl; control = refl }
 
-opening_no_caret : (t opening u x w z : Text) → OpeningOf t opening u → strip (code "^") (((opening ++ x) ++ w) ++ z) ≡ None
+opening_no_caret : (t opening u x w z : Text) → OpeningOf t opening u →
+    strip (code "^") (((opening ++ x) ++ w) ++ z) ≡ None
 opening_no_caret t _ _ x w z (bare n m) = refl
 opening_no_caret _ _ u x w z (negated n) = refl
 opening_no_caret _ _ u x w z closing = refl

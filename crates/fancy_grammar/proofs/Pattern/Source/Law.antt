@@ -348,7 +348,8 @@ module _ (f g : Flags) (same : f.unicode ≡ g.unicode) where
   SourcedRead (gives e t) = Sourced e
   SourcedRead (fails x) = Unit {0}
 
-  sourced_then : {A : Type 0} (o : Reading A) (k : A → Text → Reading Escape) → ((a : A) (t : Text) → SourcedRead (k a t)) →
+  sourced_then : {A : Type 0} (o : Reading A) (k : A → Text → Reading Escape) →
+      ((a : A) (t : Text) → SourcedRead (k a t)) →
       SourcedRead (o >=> k)
   sourced_then (gives a t) k h = h a t
   sourced_then (fails e) k h = tt
@@ -383,7 +384,8 @@ module _ (f g : Flags) (same : f.unicode ≡ g.unicode) where
   property_sourced p c (d ∷ t) = from (name_at (d ∷ t)) (name_free (d ∷ t))
     where
       from : (o : Option (PropertyName × Text)) → IsNameFree o →
-          SourcedRead (choose (option_map {T = PropertyName × Text} {U = Property × Text} (λ q. (prop (c ∈ "P") q.0, q.1)) o)
+          SourcedRead (choose (option_map {T = PropertyName × Text} {U = Property × Text}
+          (λ q. (prop (c ∈ "P") q.0, q.1)) o)
           (λ q. gives (leaves.delegate (property_text g.unicode false q.0) g.casei) q.1)
           (fails (property_not_closed p)))
       from None h = tt

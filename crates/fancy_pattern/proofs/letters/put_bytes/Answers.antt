@@ -9,7 +9,8 @@ loop-byte-init g c = adding_starts g.S.TextOutput.holds c.args.out.now _
 
 pub loop-byte-preserved : goal.loop-byte-preserved
 loop-byte-preserved g c =
-    adding_later g.S.TextOutput.holds _ _ _ _ _ _ _ (mapped_at byte_text c.args.bytes.now c.loop-byte.byte-index (omega arith))
+    adding_later g.S.TextOutput.holds _ _ _ _ _ _ _
+    (mapped_at byte_text c.args.bytes.now c.loop-byte.byte-index (omega arith))
     c.loop-byte.invariant c.in_ok-put_byte.ensures
 
 pub returns : goal.returns

@@ -18,7 +18,8 @@ loop-c-preserved-in-Some-replaced_at g c =
     let found = c.in-Some-replaced_at.found in
     record {
       text = search rules;
-      writing = part_written g.S.TextOutput.holds c.args.out.now c.loop-c.out c.put_text.new.self c.args.unicode c.loop-c.seen
+      writing = part_written g.S.TextOutput.holds c.args.out.now c.loop-c.out c.put_text.new.self c.args.unicode
+          c.loop-c.seen
           _ (chars c.loop-c.rest.now) (chars found.rest.now) _ (part_of found)
           (begins_replaced _ _ c.in-Some.c (chars c.in-Some.tail.now) _ found c.in-Some.ensures.value
           (c.in-Some-replaced_at.ensures _ c.in-Some.ensures.value)) refl c.loop-c.invariant.writing
@@ -29,17 +30,20 @@ pub loop-c-smaller : goal.loop-c-smaller
 loop-c-smaller g c =
     part_shorter c.args.unicode c.loop-c.seen (chars c.loop-c.rest.now) (chars c.in_ok-rest-in-None.rest.now)
     (single_part c.in-Some.c (chars c.in-Some.tail.now))
-    (begins_single _ _ c.in-Some.c (chars c.in-Some.tail.now) _ c.in-Some.ensures.value (c.in-None.ensures _ c.in-Some.ensures.value))
+    (begins_single _ _ c.in-Some.c (chars c.in-Some.tail.now) _ c.in-Some.ensures.value
+    (c.in-None.ensures _ c.in-Some.ensures.value))
     c.in_ok-rest-in-None.ensures.rest
 
 pub loop-c-preserved : goal.loop-c-preserved
 loop-c-preserved g c =
     record {
       text = search rules;
-      writing = part_written g.S.TextOutput.holds c.args.out.now c.loop-c.out c.put_unit.new.out c.args.unicode c.loop-c.seen
+      writing = part_written g.S.TextOutput.holds c.args.out.now c.loop-c.out c.put_unit.new.out c.args.unicode
+          c.loop-c.seen
           _ (chars c.loop-c.rest.now) (chars c.in_ok-rest-in-None.rest.now) _
           (single_part c.in-Some.c (chars c.in-Some.tail.now))
-          (begins_single _ _ c.in-Some.c (chars c.in-Some.tail.now) _ c.in-Some.ensures.value (c.in-None.ensures _ c.in-Some.ensures.value))
+          (begins_single _ _ c.in-Some.c (chars c.in-Some.tail.now) _ c.in-Some.ensures.value
+          (c.in-None.ensures _ c.in-Some.ensures.value))
           (seen_still c.loop-c.seen c.in-Some.c (chars c.in-Some.tail.now)) c.loop-c.invariant.writing
           c.in_ok-rest-in-None.ensures;
     }

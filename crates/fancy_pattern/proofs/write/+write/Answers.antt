@@ -32,7 +32,8 @@ use Rattle.fancy_pattern.proofs.NodeLemmas.{settled_define, settled_repeater, se
 use Rattle.fancy_pattern.proofs.NodeLemmas.{settled_conditional, pieces_writes, branches_writes, concat_in_flag_group}
 use Rattle.fancy_pattern.proofs.NodeLemmas.{alt_in_flag_group, condition_of, conditional_is, expression_is}
 use Rattle.fancy_pattern.proofs.write.+write.Goals as goal
-use Rattle.fancy_pattern.proofs.write.+write.Goals.{put_settled-in_default-via-in-Absent+in_default, put_settled-in_default-via-in_default}
+use Rattle.fancy_pattern.proofs.write.+write.Goals.{put_settled-in_default-via-in-Absent+in_default}
+use Rattle.fancy_pattern.proofs.write.+write.Goals.{put_settled-in_default-via-in_default}
 
 -- ---- groups
 
@@ -50,19 +51,23 @@ pub put_look_around-returns-then-is_operand : goal.put_look_around-returns-then-
 put_look_around-returns-then-is_operand g t c = λ m names.
     let child = view c.args.child.now in
     let inner = in_parens (look_opening c.args.look) (written m child Whole) in
-    let w = subst (λ x. Writes g.S.TextOutput.holds c.open.new.out c.put_in_group.new.out c.open.new.context c.put_in_group.new.context
+    let w = subst (λ x. Writes g.S.TextOutput.holds c.open.new.out c.put_in_group.new.out c.open.new.context
+    c.put_in_group.new.context
     (λ o. needs_listed o child) (in_parens x (written m child Whole)) (past_groups (group_count child)))
     (sym c.look_opening.ensures.text) (c.in_ok-put_in_group.ensures m names) in
     on_then _ _ _ c.close.ensures
-    (λ closed. look_writes g.S.TextOutput.holds _ _ _ _ child c.args.look c.args.precedence (λ o. needs_listed o child) inner
+    (λ closed. look_writes g.S.TextOutput.holds _ _ _ _ child c.args.look c.args.precedence (λ o. needs_listed o child)
+    inner
     (past_groups (group_count child)) true (sym c.if-is_operand.true ∙ c.is_operand.ensures)
-    (parens_writes g.S.TextOutput.holds _ _ _ _ _ _ _ _ _ _ _ _ c.in_ok-open.ensures.0 c.in_ok-open.ensures.1 w closed.0 closed.1))
+    (parens_writes g.S.TextOutput.holds _ _ _ _ _ _ _ _ _ _ _ _ c.in_ok-open.ensures.0 c.in_ok-open.ensures.1 w closed.0
+    closed.1))
 
 pub put_look_around-returns : goal.put_look_around-returns
 put_look_around-returns g t c = λ m names. on_then _ _ _ (c.put_in_group-2.ensures m names)
     (λ w. look_writes g.S.TextOutput.holds _ _ _ _ (view c.args.child.now) c.args.look c.args.precedence _ _ _ false
     (sym c.if-is_operand.false ∙ c.is_operand.ensures)
-    (subst (λ x. Writes g.S.TextOutput.holds c.args.out.now c.put_in_group-2.new.out c.args.context.now c.put_in_group-2.new.context
+    (subst (λ x. Writes g.S.TextOutput.holds c.args.out.now c.put_in_group-2.new.out c.args.context.now
+    c.put_in_group-2.new.context
     (λ o. needs_listed o (view c.args.child.now)) (in_parens x (written m (view c.args.child.now) Whole))
     (past_groups (group_count (view c.args.child.now)))) (sym c.look_opening-2.ensures.text) w))
 
@@ -76,14 +81,16 @@ pub put_repeater-returns : goal.put_repeater-returns
 put_repeater-returns g t c = λ m names. on_then _ _ _ c.close.ensures
     (λ closed. parens_writes g.S.TextOutput.holds _ _ _ _ _ _ _ _ _ _ _ _ c.in_ok-open.ensures.0
     c.in_ok-open.ensures.1
-    (changed_writes g.S.TextOutput.holds _ _ _ _ _ _ _ _ _ _ c.len-position.ensures (c.in_ok-put_tree.ensures m names) c.in_ok-part.ensures)
+    (changed_writes g.S.TextOutput.holds _ _ _ _ _ _ _ _ _ _ c.len-position.ensures (c.in_ok-put_tree.ensures m names)
+    c.in_ok-part.ensures)
     closed.0 closed.1)
 
 pub put_stopper-returns : goal.put_stopper-returns
 put_stopper-returns g t c = λ m names. on_then _ _ _ c.close.ensures
     (λ closed. parens_writes g.S.TextOutput.holds _ _ _ _ _ _ _ _ _ _ _ _ c.in_ok-open.ensures.0
     c.in_ok-open.ensures.1
-    (changed_writes g.S.TextOutput.holds _ _ _ _ _ _ _ _ _ _ c.len-position.ensures (c.in_ok-put_tree.ensures m names) c.in_ok-fill.ensures)
+    (changed_writes g.S.TextOutput.holds _ _ _ _ _ _ _ _ _ _ c.len-position.ensures (c.in_ok-put_tree.ensures m names)
+    c.in_ok-fill.ensures)
     closed.0 closed.1)
 
 pub put_expression-returns-in_default : goal.put_expression-returns-in_default
@@ -102,7 +109,8 @@ put_expression-returns g t c = λ m names e.
     let is : view c.args.tree.now ≡ expression (view c.deref.result.now) (view c.deref-2.result.now)
     = search (rules, the_lemmas) in
     on_then _ _ _ c.close.ensures
-    (λ closed. subst (λ x. Writes g.S.TextOutput.holds c.args.out.now c.close.new.out c.args.context.now c.close.new.context (λ o. needs_below o x) (parts_text m x)
+    (λ closed. subst (λ x. Writes g.S.TextOutput.holds c.args.out.now c.close.new.out c.args.context.now
+    c.close.new.context (λ o. needs_below o x) (parts_text m x)
     (past_groups (group_count x))) (sym is)
     (expression_writes g.S.TextOutput.holds _ _ _ _ _ _ _ _ _ _ _ m _ _ c.in_ok-open.ensures.0
     c.in_ok-open.ensures.1 (c.in_ok-put_tree.ensures m names) c.in_ok-put.ensures (c.in_ok-put_tree-2.ensures m names)
@@ -122,12 +130,15 @@ put_conditional-returns g t c = λ m names e.
     let first = subst (λ x. Writes g.S.TextOutput.holds c.open.new.out c.put_condition.new.out c.open.new.context
     c.put_condition.new.context (λ o. needs_listed o x) (λ h. condition_text m x (written m x Whole h)) (after x Whole))
     (found ∙ ap condition_of is) (c.in_ok-put_condition.ensures m names) in
-    let rest = subst (λ x. Writes g.S.TextOutput.holds c.put.new.self c.put_choice.new.out c.put_condition.new.context c.put_choice.new.context
+    let rest = subst (λ x. Writes g.S.TextOutput.holds c.put.new.self c.put_choice.new.out c.put_condition.new.context
+    c.put_choice.new.context
     (λ o. branches_needs o x) (choice_text m x) (after_branches x)) is (c.in_ok-put_choice.ensures m names e) in
     on_then _ _ _ c.close.ensures
-    (λ closed. subst (λ x. Writes g.S.TextOutput.holds c.args.out.now c.close.new.out c.args.context.now c.close.new.context (λ o. needs_below o x) (parts_text m x)
+    (λ closed. subst (λ x. Writes g.S.TextOutput.holds c.args.out.now c.close.new.out c.args.context.now
+    c.close.new.context (λ o. needs_below o x) (parts_text m x)
     (past_groups (group_count x))) (sym is)
-    (conditional_writes g.S.TextOutput.holds _ _ _ _ _ _ _ _ _ _ _ m q shape.1.0 shape.1.1.0 c.in_ok-open.ensures.0 c.in_ok-open.ensures.1
+    (conditional_writes g.S.TextOutput.holds _ _ _ _ _ _ _ _ _ _ _ m q shape.1.0 shape.1.1.0 c.in_ok-open.ensures.0
+    c.in_ok-open.ensures.1
     first c.in_ok-put.ensures rest closed.0 closed.1))
 
 -- ---- quantifiers
@@ -136,7 +147,8 @@ pub put_quantified-returns : goal.put_quantified-returns
 put_quantified-returns g t c = λ m names.
     let q = c.args.quantifier in
     on_then _ _ _ c.put_quantifier.ensures
-    (λ added. quantified_writes g.S.TextOutput.holds _ _ _ _ _ _ m (view c.args.child.now) c.args.precedence q.possessive q.lo q.hi q.greedy
+    (λ added. quantified_writes g.S.TextOutput.holds _ _ _ _ _ _ m (view c.args.child.now) c.args.precedence
+    q.possessive q.lo q.hi q.greedy
     c.allowed-allowed.result c.allowed-allowed.ensures (c.in_ok-put_tree.ensures m names)
     (subst (λ b. Added g.S.TextOutput.holds c.put_tree.new.out c.put_quantifier.new.out
     (quantifier_text c.args.context.now.flags q.possessive b q.lo q.hi q.greedy)) c.is_adjacent-adjacent.ensures added)
@@ -171,7 +183,8 @@ put_repeat-returns g t c = λ m names.
 
 pub put_atomic-returns-in_default : goal.put_atomic-returns-in_default
 put_atomic-returns-in_default g t c = λ m names. on_then _ _ _ (c.put_in_group.ensures m names)
-    (λ w. atomic_in_group g.S.TextOutput.holds _ _ _ _ m (view c.args.child.now) c.args.precedence (search (rules, the_lemmas)) w)
+    (λ w. atomic_in_group g.S.TextOutput.holds _ _ _ _ m (view c.args.child.now) c.args.precedence
+    (search (rules, the_lemmas)) w)
 
 pub put_atomic-returns-then-grouped : goal.put_atomic-returns-then-grouped
 put_atomic-returns-then-grouped g t c = λ m names.
@@ -179,9 +192,11 @@ put_atomic-returns-then-grouped g t c = λ m names.
     let is : view c.args.child.now ≡ repeat repeated c.in-Repeat.lo c.in-Repeat.hi c.in-Repeat.greedy
     = search (rules, the_lemmas) in
     on_then _ _ _ (c.put_quantified_in_group.ensures m names)
-    (λ w. subst (λ x. WritesSettled g.S.TextOutput.holds c.args.out.now c.put_quantified_in_group.new.out c.args.context.now c.put_quantified_in_group.new.context m (atomic_group x)
+    (λ w. subst (λ x. WritesSettled g.S.TextOutput.holds c.args.out.now c.put_quantified_in_group.new.out
+    c.args.context.now c.put_quantified_in_group.new.context m (atomic_group x)
     c.args.precedence) (sym is)
-    (atomic_writes g.S.TextOutput.holds _ _ _ _ m repeated c.in-Repeat.lo c.in-Repeat.hi c.in-Repeat.greedy c.args.precedence true
+    (atomic_writes g.S.TextOutput.holds _ _ _ _ m repeated c.in-Repeat.lo c.in-Repeat.hi c.in-Repeat.greedy
+    c.args.precedence true
     (sym c.if-grouped.true ∙ c.needs_atomic_group-grouped.ensures)
     (past_writes g.S.TextOutput.holds _ _ _ _ _ (λ o. needs first o repeated) _ _ _ c.pass_node.ensures w)))
 
@@ -191,9 +206,11 @@ put_atomic-returns g t c = λ m names.
     let is : view c.args.child.now ≡ repeat repeated c.in-Repeat.lo c.in-Repeat.hi c.in-Repeat.greedy
     = search (rules, the_lemmas) in
     on_then _ _ _ (c.put_quantified.ensures m names)
-    (λ w. subst (λ x. WritesSettled g.S.TextOutput.holds c.args.out.now c.put_quantified.new.out c.args.context.now c.put_quantified.new.context m (atomic_group x)
+    (λ w. subst (λ x. WritesSettled g.S.TextOutput.holds c.args.out.now c.put_quantified.new.out c.args.context.now
+    c.put_quantified.new.context m (atomic_group x)
     c.args.precedence) (sym is)
-    (atomic_writes g.S.TextOutput.holds _ _ _ _ m repeated c.in-Repeat.lo c.in-Repeat.hi c.in-Repeat.greedy c.args.precedence false
+    (atomic_writes g.S.TextOutput.holds _ _ _ _ m repeated c.in-Repeat.lo c.in-Repeat.hi c.in-Repeat.greedy
+    c.args.precedence false
     (sym c.if-grouped.false ∙ c.needs_atomic_group-grouped.ensures)
     (past_writes g.S.TextOutput.holds _ _ _ _ _ (λ o. needs first o repeated) _ _ _ c.pass_node.ensures w)))
 
@@ -205,7 +222,8 @@ put_condition-returns-in-BackrefExistsCondition g t c = λ m names.
     let level = c.in-BackrefExistsCondition.relative_recursion_level in
     let is : view c.args.condition.now ≡ backref_exists n level = search (rules, the_lemmas) in
     on_then _ _ _ (c.put_target.ensures m names)
-    (λ w. subst (λ x. Writes g.S.TextOutput.holds c.args.out.now c.put_target.new.out c.args.context.now c.pass_node.new.self
+    (λ w. subst (λ x. Writes g.S.TextOutput.holds c.args.out.now c.put_target.new.out c.args.context.now
+    c.pass_node.new.self
     (λ o. needs_listed o x) (λ h. condition_text m x (written m x Whole h)) (after x Whole)) (sym is)
     (word_writes g.S.TextOutput.holds _ _ _ _ m (label.backref_exists n level) (target_text m n level) refl (λ x. refl) w
     c.pass_node.ensures))
@@ -225,7 +243,8 @@ put_condition-returns-in-BacktrackingControlVerb g t c = λ m names.
 pub put_condition-returns-in_ok-put_tree-in_default : goal.put_condition-returns-in_ok-put_tree-in_default
 put_condition-returns-in_ok-put_tree-in_default g t c = λ m names. on_then _ _ _ c.part.ensures
     (λ w. condition_writes g.S.TextOutput.holds _ _ _ _ m (view c.args.condition.now) (search (rules, the_lemmas))
-    (changed_writes g.S.TextOutput.holds _ _ _ _ _ _ _ _ _ _ c.len-position.ensures (c.in_ok-put_tree-in_default.ensures m names) w))
+    (changed_writes g.S.TextOutput.holds _ _ _ _ _ _ _ _ _ _ c.len-position.ensures
+    (c.in_ok-put_tree-in_default.ensures m names) w))
 
 pub put_choice-returns-in_default : goal.put_choice-returns-in_default
 put_choice-returns-in_default g t c = λ m names e.
@@ -242,7 +261,8 @@ put_choice-returns-then-are_empty g t c = λ m names e.
     let empty_is : c.are_empty.result ≡ (is_empty t && is_empty f)
     = c.are_empty.ensures ∙ (λ i. is_empty (first i) && is_empty (other i)) in
     on_then _ _ _ c.put_ascii.ensures
-    (λ w. subst (λ x. Writes g.S.TextOutput.holds c.args.out.now c.put_ascii.new.out c.args.context.now c.pass_node-then-are_empty.new.self
+    (λ w. subst (λ x. Writes g.S.TextOutput.holds c.args.out.now c.put_ascii.new.out c.args.context.now
+    c.pass_node-then-are_empty.new.self
     (λ o. branches_needs o x) (choice_text m x) (after_branches x)) (sym is)
     (no_choice g.S.TextOutput.holds _ _ _ _ _ m t f (sym empty_is ∙ c.if-are_empty.true) w
     c.pass_node.ensures c.pass_node-then-are_empty.ensures))
@@ -261,9 +281,11 @@ put_choice-returns-then-not-needs_bar g t c = λ m names e.
     let second : view c.deref-5.result.now ≡ f = search (rules, the_lemmas) in
     let bar_is : c.needs_bar.result ≡ (not (is_empty f) || is_alt t)
     = c.needs_bar.ensures ∙ (λ i. not (is_empty (second i)) || is_alt (again i)) in
-    let w = subst (λ x. Writes g.S.TextOutput.holds c.args.out.now c.put_tree.new.out c.args.context.now c.put_tree.new.context
+    let w = subst (λ x. Writes g.S.TextOutput.holds c.args.out.now c.put_tree.new.out c.args.context.now
+    c.put_tree.new.context
     (λ o. needs_listed o x) (written m x Branch) (after x Branch)) one (c.in_ok-put_tree.ensures m names) in
-    subst (λ x. Writes g.S.TextOutput.holds c.args.out.now c.put_tree.new.out c.args.context.now c.pass_node-then-not-needs_bar.new.self (λ o. branches_needs o x) (choice_text m x)
+    subst (λ x. Writes g.S.TextOutput.holds c.args.out.now c.put_tree.new.out c.args.context.now
+    c.pass_node-then-not-needs_bar.new.self (λ o. branches_needs o x) (choice_text m x)
     (after_branches x)) (sym is)
     (one_choice g.S.TextOutput.holds _ _ _ _ _ m t f (sym empty_is ∙ c.if-are_empty.false)
     (sym bar_is ∙ c.if-not-needs_bar.true) w c.pass_node-then-not-needs_bar.ensures)
@@ -282,16 +304,21 @@ put_choice-returns g t c = λ m names e.
     let second : view c.deref-5.result.now ≡ f = search (rules, the_lemmas) in
     let bar_is : c.needs_bar.result ≡ (not (is_empty f) || is_alt t)
     = c.needs_bar.ensures ∙ (λ i. not (is_empty (second i)) || is_alt (again i)) in
-    let w = subst (λ x. Writes g.S.TextOutput.holds c.args.out.now c.put_tree.new.out c.args.context.now c.put_tree.new.context
+    let w = subst (λ x. Writes g.S.TextOutput.holds c.args.out.now c.put_tree.new.out c.args.context.now
+    c.put_tree.new.context
     (λ o. needs_listed o x) (written m x Branch) (after x Branch)) one (c.in_ok-put_tree.ensures m names) in
     let last : view c.deref-6.result.now ≡ f = search (rules, the_lemmas) in
     on_then _ _ _ (c.put_tree-2.ensures m names)
-    (λ v. subst (λ x. Writes g.S.TextOutput.holds c.args.out.now c.put_tree-2.new.out c.args.context.now c.put_tree-2.new.context (λ o. branches_needs o x) (choice_text m x)
+    (λ v. subst (λ x. Writes g.S.TextOutput.holds c.args.out.now c.put_tree-2.new.out c.args.context.now
+    c.put_tree-2.new.context (λ o. branches_needs o x) (choice_text m x)
     (after_branches x)) (sym is)
-    (two_choices g.S.TextOutput.holds c.args.out.now c.put_tree.new.out c.put.new.self c.put_tree-2.new.out c.args.context.now
-    c.put_tree.new.context c.put_tree-2.new.context m t f (sym empty_is ∙ c.if-are_empty.false) (sym bar_is ∙ c.if-not-needs_bar.false) w
+    (two_choices g.S.TextOutput.holds c.args.out.now c.put_tree.new.out c.put.new.self c.put_tree-2.new.out
+    c.args.context.now
+    c.put_tree.new.context c.put_tree-2.new.context m t f (sym empty_is ∙ c.if-are_empty.false)
+    (sym bar_is ∙ c.if-not-needs_bar.false) w
     c.in_ok-put.ensures
-    (subst (λ x. Writes g.S.TextOutput.holds c.put.new.self c.put_tree-2.new.out c.put_tree.new.context c.put_tree-2.new.context (λ o. needs_listed o x)
+    (subst (λ x. Writes g.S.TextOutput.holds c.put.new.self c.put_tree-2.new.out c.put_tree.new.context
+    c.put_tree-2.new.context (λ o. needs_listed o x)
     (written m x Whole) (after x Whole)) last v)))
 
 -- ---- rows
@@ -306,32 +333,38 @@ put_pieces-loop-piece-preserved g t c = λ m names.
     let step = left_step pieces i c.piece-item.result c.loop-piece-test.true c.piece-item.is in
     on_as g.S.TextOutput.holds _ _ _ _ _ _ _ (ap (λ b. pieces_left m b (left pieces (i + 1)))
     (sym (c.is_in_digits-after_digits.ensures m names)))
-    (on_piece g.S.TextOutput.holds _ _ _ _ _ _ _ m c.loop-piece.after_digits c.len-position.result (view c.piece-item.result)
+    (on_piece g.S.TextOutput.holds _ _ _ _ _ _ _ m c.loop-piece.after_digits c.len-position.result
+    (view c.piece-item.result)
     (left pieces (i + 1)) _ c.len-position.ensures
-    (on_as g.S.TextOutput.holds _ _ _ _ _ _ _ (ap (pieces_left m c.loop-piece.after_digits) step) (c.loop-piece.invariant m names))
+    (on_as g.S.TextOutput.holds _ _ _ _ _ _ _ (ap (pieces_left m c.loop-piece.after_digits) step)
+    (c.loop-piece.invariant m names))
     (c.in_ok-put_tree.ensures m names) c.in_ok-part_after_digits.ensures)
 
 pub put_pieces-returns : goal.put_pieces-returns
 put_pieces-returns g t c = λ m names.
     let none = left_end c.args.pieces.now c.loop-piece.piece-index c.loop-piece-test.false in
     pieces_end g.S.TextOutput.holds _ _ _ _ m c.loop-piece.after_digits _
-    (on_as g.S.TextOutput.holds _ _ _ _ _ _ _ (ap (pieces_left m c.loop-piece.after_digits) none) (c.loop-piece.invariant m names))
+    (on_as g.S.TextOutput.holds _ _ _ _ _ _ _ (ap (pieces_left m c.loop-piece.after_digits) none)
+    (c.loop-piece.invariant m names))
 
 pub put_branches-loop-branch-init : goal.put_branches-loop-branch-init
 put_branches-loop-branch-init g t c = λ m names.
     let is = first_branch c.args.branches.now c.first-item.result c.in-len1-up.len_at_least c.first-item.is in
     on_first g.S.TextOutput.holds _ _ _ _ _ _ m (view c.first-item.result) _ _
-    (on_as g.S.TextOutput.holds _ _ _ _ _ _ _ (ap (all_branches m) is) (on_starts g.S.TextOutput.holds _ _ _)) (c.in_ok-put_tree.ensures m names)
+    (on_as g.S.TextOutput.holds _ _ _ _ _ _ _ (ap (all_branches m) is) (on_starts g.S.TextOutput.holds _ _ _))
+    (c.in_ok-put_tree.ensures m names)
 
 pub put_branches-loop-branch-preserved : goal.put_branches-loop-branch-preserved
 put_branches-loop-branch-preserved g t c = λ m names.
     let step = left_step _ c.loop-branch.branch-index c.branch-item.result c.loop-branch-test.true c.branch-item.is in
     on_branch g.S.TextOutput.holds _ _ _ _ _ _ _ m (view c.branch-item.result) _ _
-    (on_as g.S.TextOutput.holds _ _ _ _ _ _ _ (ap (barred_left m) step) (c.loop-branch.invariant m names)) c.in_ok-put.ensures
+    (on_as g.S.TextOutput.holds _ _ _ _ _ _ _ (ap (barred_left m) step) (c.loop-branch.invariant m names))
+    c.in_ok-put.ensures
     (c.in_ok-put_tree-2.ensures m names)
 
 pub put_branches-returns-in_default : goal.put_branches-returns-in_default
-put_branches-returns-in_default g t c = λ m names. no_branches g.S.TextOutput.holds _ _ m c.args.branches.now c.in_default.len_below
+put_branches-returns-in_default g t c = λ m names. no_branches g.S.TextOutput.holds _ _ m c.args.branches.now
+    c.in_default.len_below
 
 pub put_branches-returns : goal.put_branches-returns
 put_branches-returns g t c = λ m names.
@@ -348,8 +381,10 @@ pub put_concat-returns : goal.put_concat-returns
 put_concat-returns g t c = λ m names e.
     let ts = trees_of (views c.args.pieces.now) in
     on_then _ _ _ c.close.ensures
-    (λ closed. concat_in_flag_group g.S.TextOutput.holds _ _ _ _ m ts c.args.precedence (sym c.takes_pieces.ensures ∙ c.if-takes_pieces.false)
-    (flag_group_writes g.S.TextOutput.holds _ _ _ _ _ _ _ _ c.args.needs (concat ts) (written_all m false ts) _ e c.in_ok-open_flag_group.ensures.0
+    (λ closed. concat_in_flag_group g.S.TextOutput.holds _ _ _ _ m ts c.args.precedence
+    (sym c.takes_pieces.ensures ∙ c.if-takes_pieces.false)
+    (flag_group_writes g.S.TextOutput.holds _ _ _ _ _ _ _ _ c.args.needs (concat ts) (written_all m false ts) _ e
+    c.in_ok-open_flag_group.ensures.0
     c.in_ok-open_flag_group.ensures.1 (c.in_ok-put_pieces.ensures m names) closed.0 closed.1))
 
 pub put_alt-returns-then-takes_branches : goal.put_alt-returns-then-takes_branches
@@ -361,8 +396,10 @@ pub put_alt-returns : goal.put_alt-returns
 put_alt-returns g t c = λ m names e.
     let ts = trees_of (views c.args.branches.now) in
     on_then _ _ _ c.close.ensures
-    (λ closed. alt_in_flag_group g.S.TextOutput.holds _ _ _ _ m ts c.args.precedence (sym c.takes_branches.ensures ∙ c.if-takes_branches.false)
-    (flag_group_writes g.S.TextOutput.holds _ _ _ _ _ _ _ _ c.args.needs (alt ts) (written_branches m ts) _ e c.in_ok-open_flag_group.ensures.0
+    (λ closed. alt_in_flag_group g.S.TextOutput.holds _ _ _ _ m ts c.args.precedence
+    (sym c.takes_branches.ensures ∙ c.if-takes_branches.false)
+    (flag_group_writes g.S.TextOutput.holds _ _ _ _ _ _ _ _ c.args.needs (alt ts) (written_branches m ts) _ e
+    c.in_ok-open_flag_group.ensures.0
     c.in_ok-open_flag_group.ensures.1 (c.in_ok-put_branches.ensures m names) closed.0 closed.1))
 
 -- ---- any tree
@@ -371,35 +408,42 @@ pub put_settled-returns-in-Group : goal.put_settled-returns-in-Group
 put_settled-returns-in-Group g t c = λ m names.
     let is : view c.args.tree.now ≡ group (view c.deref.result.now) = search (rules, the_lemmas) in
     on_then _ _ _ (c.put_group.ensures m names)
-    (λ w. subst (λ x. WritesSettled g.S.TextOutput.holds c.args.out.now c.put_group.new.out c.args.context.now c.put_group.new.context m x c.args.precedence) (sym is)
+    (λ w. subst (λ x. WritesSettled g.S.TextOutput.holds c.args.out.now c.put_group.new.out c.args.context.now
+    c.put_group.new.context m x c.args.precedence) (sym is)
     (settled_group g.S.TextOutput.holds _ _ _ _ m _ c.args.precedence w))
 
 pub put_settled-returns-in-LookAround : goal.put_settled-returns-in-LookAround
 put_settled-returns-in-LookAround g t c = λ m names.
-    let is : view c.args.tree.now ≡ look_around (view c.deref-in-LookAround.result.now) c.in-LookAround.look = search (rules, the_lemmas) in
+    let is : view c.args.tree.now ≡ look_around (view c.deref-in-LookAround.result.now) c.in-LookAround.look = search
+    (rules, the_lemmas) in
     on_then _ _ _ (c.put_look_around.ensures m names)
-    (λ w. subst (λ x. WritesSettled g.S.TextOutput.holds c.args.out.now c.put_look_around.new.out c.args.context.now c.put_look_around.new.context m x c.args.precedence) (sym is)
+    (λ w. subst (λ x. WritesSettled g.S.TextOutput.holds c.args.out.now c.put_look_around.new.out c.args.context.now
+    c.put_look_around.new.context m x c.args.precedence) (sym is)
     (settled_look g.S.TextOutput.holds _ _ _ _ m _ _ c.args.precedence w))
 
 pub put_settled-returns-in-Repeat : goal.put_settled-returns-in-Repeat
 put_settled-returns-in-Repeat g t c = λ m names.
-    let is : view c.args.tree.now ≡ repeat (view c.deref-in-Repeat.result.now) c.in-Repeat.lo c.in-Repeat.hi c.in-Repeat.greedy = search (rules, the_lemmas) in
+    let is : view c.args.tree.now ≡ repeat (view c.deref-in-Repeat.result.now) c.in-Repeat.lo c.in-Repeat.hi
+    c.in-Repeat.greedy = search (rules, the_lemmas) in
     on_then _ _ _ (c.put_repeat.ensures m names)
-    (λ w. subst (λ x. WritesSettled g.S.TextOutput.holds c.args.out.now c.put_repeat.new.out c.args.context.now c.put_repeat.new.context m x c.args.precedence) (sym is)
+    (λ w. subst (λ x. WritesSettled g.S.TextOutput.holds c.args.out.now c.put_repeat.new.out c.args.context.now
+    c.put_repeat.new.context m x c.args.precedence) (sym is)
     (settled_repeat g.S.TextOutput.holds _ _ _ _ m _ _ _ _ c.args.precedence w))
 
 pub put_settled-returns-in-AtomicGroup : goal.put_settled-returns-in-AtomicGroup
 put_settled-returns-in-AtomicGroup g t c = λ m names.
     let is : view c.args.tree.now ≡ atomic_group (view c.deref-in-AtomicGroup.result.now) = search (rules, the_lemmas) in
     on_then _ _ _ (c.put_atomic.ensures m names)
-    (λ w. subst (λ x. WritesSettled g.S.TextOutput.holds c.args.out.now c.put_atomic.new.out c.args.context.now c.put_atomic.new.context m x c.args.precedence) (sym is)
+    (λ w. subst (λ x. WritesSettled g.S.TextOutput.holds c.args.out.now c.put_atomic.new.out c.args.context.now
+    c.put_atomic.new.context m x c.args.precedence) (sym is)
     (w))
 
 pub put_settled-returns-in-DefineGroup : goal.put_settled-returns-in-DefineGroup
 put_settled-returns-in-DefineGroup g t c = λ m names.
     let is : view c.args.tree.now ≡ define_group (view c.deref-in-DefineGroup.result.now) = search (rules, the_lemmas) in
     on_then _ _ _ (c.put_in_group.ensures m names)
-    (λ w. subst (λ x. WritesSettled g.S.TextOutput.holds c.args.out.now c.put_in_group.new.out c.args.context.now c.put_in_group.new.context m x c.args.precedence) (sym is)
+    (λ w. subst (λ x. WritesSettled g.S.TextOutput.holds c.args.out.now c.put_in_group.new.out c.args.context.now
+    c.put_in_group.new.context m x c.args.precedence) (sym is)
     (settled_define g.S.TextOutput.holds _ _ _ _ m _ c.args.precedence w))
 
 pub put_settled-returns-in-Conditional : goal.put_settled-returns-in-Conditional
@@ -408,17 +452,20 @@ put_settled-returns-in-Conditional g t c = λ m names.
     let shape = conditional_is (view c.args.tree.now) e in
     let is : view c.args.tree.now ≡ conditional shape.0 shape.1.0 shape.1.1.0 = shape.1.1.1 in
     on_then _ _ _ (c.put_conditional.ensures m names e)
-    (λ w. subst (λ x. WritesSettled g.S.TextOutput.holds c.args.out.now c.put_conditional.new.out c.args.context.now c.put_conditional.new.context m x c.args.precedence)
+    (λ w. subst (λ x. WritesSettled g.S.TextOutput.holds c.args.out.now c.put_conditional.new.out c.args.context.now
+    c.put_conditional.new.context m x c.args.precedence)
     (sym is)
     (settled_conditional g.S.TextOutput.holds _ _ _ _ m shape.0 shape.1.0 shape.1.1.0 c.args.precedence
-    (subst (λ x. Writes g.S.TextOutput.holds c.args.out.now c.put_conditional.new.out c.args.context.now c.put_conditional.new.context (λ o. needs_below o x)
+    (subst (λ x. Writes g.S.TextOutput.holds c.args.out.now c.put_conditional.new.out c.args.context.now
+    c.put_conditional.new.context (λ o. needs_below o x)
     (parts_text m x) (past_groups (group_count x))) is w)))
 
 pub put_settled-returns-in-Absent-Repeater : goal.put_settled-returns-in-Absent-Repeater
 put_settled-returns-in-Absent-Repeater g t c = λ m names.
     let is : view c.args.tree.now ≡ repeater (view c.deref-in-Absent-Repeater.result.now) = search (rules, the_lemmas) in
     on_then _ _ _ (c.put_repeater.ensures m names)
-    (λ w. subst (λ x. WritesSettled g.S.TextOutput.holds c.args.out.now c.put_repeater.new.out c.args.context.now c.put_repeater.new.context m x c.args.precedence) (sym is)
+    (λ w. subst (λ x. WritesSettled g.S.TextOutput.holds c.args.out.now c.put_repeater.new.out c.args.context.now
+    c.put_repeater.new.context m x c.args.precedence) (sym is)
     (settled_repeater g.S.TextOutput.holds _ _ _ _ m _ c.args.precedence w))
 
 pub put_settled-returns-in-Absent-Expression : goal.put_settled-returns-in-Absent-Expression
@@ -427,17 +474,20 @@ put_settled-returns-in-Absent-Expression g t c = λ m names.
     let shape = expression_is (view c.args.tree.now) e in
     let is : view c.args.tree.now ≡ expression shape.0 shape.1.0 = shape.1.1 in
     on_then _ _ _ (c.put_expression.ensures m names e)
-    (λ w. subst (λ x. WritesSettled g.S.TextOutput.holds c.args.out.now c.put_expression.new.out c.args.context.now c.put_expression.new.context m x c.args.precedence)
+    (λ w. subst (λ x. WritesSettled g.S.TextOutput.holds c.args.out.now c.put_expression.new.out c.args.context.now
+    c.put_expression.new.context m x c.args.precedence)
     (sym is)
     (settled_expression g.S.TextOutput.holds _ _ _ _ m shape.0 shape.1.0 c.args.precedence
-    (subst (λ x. Writes g.S.TextOutput.holds c.args.out.now c.put_expression.new.out c.args.context.now c.put_expression.new.context (λ o. needs_below o x)
+    (subst (λ x. Writes g.S.TextOutput.holds c.args.out.now c.put_expression.new.out c.args.context.now
+    c.put_expression.new.context (λ o. needs_below o x)
     (parts_text m x) (past_groups (group_count x))) is w)))
 
 pub put_settled-returns-in-Absent-Stopper : goal.put_settled-returns-in-Absent-Stopper
 put_settled-returns-in-Absent-Stopper g t c = λ m names.
     let is : view c.args.tree.now ≡ stopper (view c.deref-in-Absent-Stopper.result.now) = search (rules, the_lemmas) in
     on_then _ _ _ (c.put_stopper.ensures m names)
-    (λ w. subst (λ x. WritesSettled g.S.TextOutput.holds c.args.out.now c.put_stopper.new.out c.args.context.now c.put_stopper.new.context m x c.args.precedence) (sym is)
+    (λ w. subst (λ x. WritesSettled g.S.TextOutput.holds c.args.out.now c.put_stopper.new.out c.args.context.now
+    c.put_stopper.new.context m x c.args.precedence) (sym is)
     (settled_stopper g.S.TextOutput.holds _ _ _ _ m _ c.args.precedence w))
 
 pub put_settled-returns-in_default : goal.put_settled-returns-in_default
@@ -454,9 +504,11 @@ pub put_tree-returns-in-Empty : goal.put_tree-returns-in-Empty
 put_tree-returns-in-Empty g t c = λ m names.
     let is : view c.args.tree.now ≡ empty = search (rules, the_lemmas) in
     on_then _ _ _ c.put_empty.ensures
-    (λ w. subst (λ x. Writes g.S.TextOutput.holds c.args.out.now c.put_empty.new.out c.args.context.now c.next_node-needs.new.self
+    (λ w. subst (λ x. Writes g.S.TextOutput.holds c.args.out.now c.put_empty.new.out c.args.context.now
+    c.next_node-needs.new.self
     (λ o. needs_listed o x) (written m x c.args.precedence) (after x c.args.precedence)) (sym is)
-    (node_writes g.S.TextOutput.holds _ _ _ _ _ c.next_node-needs.result m empty c.args.precedence c.next_node-needs.ensures
+    (node_writes g.S.TextOutput.holds _ _ _ _ _ c.next_node-needs.result m empty c.args.precedence
+    c.next_node-needs.ensures
     (λ e. empty_writes g.S.TextOutput.holds _ _ _ _ m c.args.precedence (text_writes g.S.TextOutput.holds _ _ _ _ w))))
 
 pub put_tree-returns-in-Concat : goal.put_tree-returns-in-Concat
@@ -464,18 +516,22 @@ put_tree-returns-in-Concat g t c = λ m names.
     let ts = trees_of (views c.deref.result.now) in
     let is : view c.args.tree.now ≡ concat ts = search (rules, the_lemmas) in
     on_then _ _ _ (on_when _ _ (c.put_concat.ensures m names))
-    (λ w. subst (λ x. Writes g.S.TextOutput.holds c.args.out.now c.put_concat.new.out c.args.context.now c.put_concat.new.context (λ o. needs_listed o x)
+    (λ w. subst (λ x. Writes g.S.TextOutput.holds c.args.out.now c.put_concat.new.out c.args.context.now
+    c.put_concat.new.context (λ o. needs_listed o x)
     (written m x c.args.precedence) (after x c.args.precedence)) (sym is)
-    (node_writes g.S.TextOutput.holds _ _ _ _ _ c.next_node-needs.result m (concat ts) c.args.precedence c.next_node-needs.ensures w))
+    (node_writes g.S.TextOutput.holds _ _ _ _ _ c.next_node-needs.result m (concat ts) c.args.precedence
+    c.next_node-needs.ensures w))
 
 pub put_tree-returns-in-Alt : goal.put_tree-returns-in-Alt
 put_tree-returns-in-Alt g t c = λ m names.
     let ts = trees_of (views c.deref-in-Alt.result.now) in
     let is : view c.args.tree.now ≡ alt ts = search (rules, the_lemmas) in
     on_then _ _ _ (on_when _ _ (c.put_alt.ensures m names))
-    (λ w. subst (λ x. Writes g.S.TextOutput.holds c.args.out.now c.put_alt.new.out c.args.context.now c.put_alt.new.context (λ o. needs_listed o x)
+    (λ w. subst (λ x. Writes g.S.TextOutput.holds c.args.out.now c.put_alt.new.out c.args.context.now
+    c.put_alt.new.context (λ o. needs_listed o x)
     (written m x c.args.precedence) (after x c.args.precedence)) (sym is)
-    (node_writes g.S.TextOutput.holds _ _ _ _ _ c.next_node-needs.result m (alt ts) c.args.precedence c.next_node-needs.ensures w))
+    (node_writes g.S.TextOutput.holds _ _ _ _ _ c.next_node-needs.result m (alt ts) c.args.precedence
+    c.next_node-needs.ensures w))
 
 pub put_tree-returns-in_ok-put_inline_flags-in_default : goal.put_tree-returns-in_ok-put_inline_flags-in_default
 put_tree-returns-in_ok-put_inline_flags-in_default g t c = λ m names.
@@ -483,5 +539,6 @@ put_tree-returns-in_ok-put_inline_flags-in_default g t c = λ m names.
     on_then _ _ _ (c.put_settled.ensures m names)
     (λ w. node_writes g.S.TextOutput.holds _ _ _ _ _ c.next_node-needs.result m (view c.args.tree.now) c.args.precedence
     c.next_node-needs.ensures
-    (λ e. settled_writes g.S.TextOutput.holds _ _ _ _ _ _ c.next_node-needs.result m (view c.args.tree.now) c.args.precedence takes e
+    (λ e. settled_writes g.S.TextOutput.holds _ _ _ _ _ _ c.next_node-needs.result m (view c.args.tree.now)
+    c.args.precedence takes e
     c.in_ok-put_inline_flags-in_default.ensures.0 c.in_ok-put_inline_flags-in_default.ensures.1 w))

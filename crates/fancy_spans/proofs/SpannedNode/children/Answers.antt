@@ -17,4 +17,5 @@ returns-clause-whole c w =
 pub returns-clause-spans : goal.returns-clause-spans
 returns-clause-spans c w =
     side_spans _ _ _
-    (children_whole _ _ _ _ c.children_iter.ensures.trees c.past_first.ensures c.past_first-2.ensures w) ∙ c.past_first.ensures
+    (children_whole _ _ _ _ c.children_iter.ensures.trees c.past_first.ensures c.past_first-2.ensures w) ∙
+    c.past_first.ensures

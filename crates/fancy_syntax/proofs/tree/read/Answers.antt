@@ -17,7 +17,8 @@ use Rattle.fancy_syntax.specs.LogViews.{returned_spans}
 use Rattle.fancy_syntax.specs.RecordedWhole.{IsRecordedWhole}
 use Rattle.fancy_syntax.specs.View.{view}
 use Rattle.fancy_syntax.specs.declared.tree.ExprTree.{ExprTree}
-use Rattle.fancy_grammar.proofs.Verdict.{only_reading, only_resolving, reading_positioned, resolving_positioned, text_order}
+use Rattle.fancy_grammar.proofs.Verdict.{only_reading, only_resolving, reading_positioned, resolving_positioned}
+use Rattle.fancy_grammar.proofs.Verdict.{text_order}
 use Rattle.fancy_syntax.proofs.tree.read.Goals as goal
 
 pub returns-in_err-raw-clause-error : goal.returns-in_err-raw-clause-error

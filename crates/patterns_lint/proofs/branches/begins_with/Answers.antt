@@ -32,4 +32,5 @@ returns-in_default c =
 
 pub returns : goal.returns
 returns c =
-    sym (c.loop-piece.invariant ∙ begins_end c.args.earlier.now c.loop-piece.piece-index c.loop-piece.rest.now c.loop-piece-test.false)
+    sym (c.loop-piece.invariant ∙ begins_end c.args.earlier.now c.loop-piece.piece-index c.loop-piece.rest.now
+    c.loop-piece-test.false)

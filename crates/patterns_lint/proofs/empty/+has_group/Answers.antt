@@ -21,4 +21,5 @@ any_has_group-returns-then-has_group t c =
 
 pub any_has_group-returns : goal.any_has_group-returns
 any_has_group-returns t c =
-    sym (c.loop-tree.invariant ∙ ap any_has_group (left_end c.args.trees.now c.loop-tree.tree-index c.loop-tree-test.false))
+    sym (c.loop-tree.invariant ∙ ap any_has_group
+    (left_end c.args.trees.now c.loop-tree.tree-index c.loop-tree-test.false))

@@ -7,7 +7,8 @@ use Rattle.patterns_program.specs.Line.{breaks_line}
 use Rattle.patterns_program.proofs.printing.text_of.Goals as goal
 
 -- the bytes of a text break the line where a string of that text does
-breaks : (s : String Global) (t : Text) (w pattern : List ℕ) → text_of s ≡ t → w ≡ string_bytes s → breaks_line w pattern ≡ true → breaks_line (encode_utf8_all t) pattern ≡ true
+breaks : (s : String Global) (t : Text) (w pattern : List ℕ) → text_of s ≡ t → w ≡ string_bytes s →
+    breaks_line w pattern ≡ true → breaks_line (encode_utf8_all t) pattern ≡ true
 breaks s t w pattern text bytes is =
     ap (λ b. breaks_line b pattern)
     (ap encode_utf8_all (sym text) ∙ encodes-chars (string_bytes s) (IsUtf8-string_bytes s) ∙ sym bytes)

@@ -22,26 +22,30 @@ returns-in_err-read_atom_start-clause-value g c l =
     let e = err_from_is_err_and c.from_residual-in_err-read_atom_start.result
     c.from_residual-in_err-read_atom_start.ensures.1 in
     rw (e.1, e.2)
-    (IsErrorAmong-map (λ o. atom_start c.args.depth (at (state c.args.current.now) (chars c.in_ok-current.field-0.now)) ≡ read o)
+    (IsErrorAmong-map (λ o. atom_start c.args.depth (at (state c.args.current.now) (chars c.in_ok-current.field-0.now))
+    ≡ read o)
     (Piece c.args.depth (state c.args.current.now))
     c.in_err-read_atom_start.field-0.0 (λ k p h. piece c.in_ok-current.ensures.value (atom h a_read))
     c.in_err-read_atom_start.ensures.value)
 
 pub returns-then-is_unquantified-clause-value : goal.returns-then-is_unquantified-clause-value
 returns-then-is_unquantified-clause-value g c l =
-    steps_read c.args.depth c.byte_len-left.result (state c.args.current.now) l (Ok (step.Piece _)) _ c.byte_len-left.ensures c.in_ok-current.ensures.value
+    steps_read c.args.depth c.byte_len-left.result (state c.args.current.now) l (Ok (step.Piece _)) _
+    c.byte_len-left.ensures c.in_ok-current.ensures.value
     (rw c.in-Read.is at c.in_ok-read_atom_start.ensures.value)
     (c.is_unquantified.ensures.quants c.if-is_unquantified.true _ _ _)
 
 pub returns-else-is_unquantified-clause-value : goal.returns-else-is_unquantified-clause-value
 returns-else-is_unquantified-clause-value g c l =
-    steps_read c.args.depth c.byte_len-left.result (state c.args.current.now) l _ _ c.byte_len-left.ensures c.in_ok-current.ensures.value
+    steps_read c.args.depth c.byte_len-left.result (state c.args.current.now) l _ _ c.byte_len-left.ensures
+    c.in_ok-current.ensures.value
     (rw c.in-Read.is at c.in_ok-read_atom_start.ensures.value) c.piece-in-Read.ensures.value
 
 pub returns-in_ok-record_leaf-in-Nothing-clause-value : goal.returns-in_ok-record_leaf-in-Nothing-clause-value
 returns-in_ok-record_leaf-in-Nothing-clause-value g c l =
     let stays = rw c.in-Nothing.is at c.in_ok-read_atom_start.ensures.stays in
-    steps_nothing c.args.depth c.byte_len-left.result (state c.args.current.now) l _ _ c.byte_len-left.ensures c.in_ok-current.ensures.value
+    steps_nothing c.args.depth c.byte_len-left.result (state c.args.current.now) l _ _ c.byte_len-left.ensures
+    c.in_ok-current.ensures.value
     (rw c.in-Nothing.is at c.in_ok-read_atom_start.ensures.value)
     (rw (view_Empty, stays) at c.piece.ensures.value)
 

@@ -149,7 +149,8 @@ pub rewrite_absent-returns-in_ok-rewrite_child-in-Expression :
 rewrite_absent-returns-in_ok-rewrite_child-in-Expression t c =
     let one = c.rewrite_child-in-Expression in let two = c.rewrite_child-in-Expression-2 in
     let first = c.in_ok-rewrite_child-in-Expression.ensures in
-    two_resolved (resolver_of c.args.resolver.now) (progress_of c.args.progress.now) (progress_of one.new.progress) two.result
+    two_resolved (resolver_of c.args.resolver.now) (progress_of c.args.progress.now) (progress_of one.new.progress)
+    two.result
     two.new.progress one.new.child two.new.child c.in-Expression.is first.1 first.0 two.ensures
 
 -- the walk stops at the first error, which is that of the walk over all the parts

@@ -6,7 +6,8 @@ use Rattle.fancy_syntax.proofs.SameLemmas.{same_with_positions}
 use Rattle.fancy_syntax.proofs.expr.equality.AstNodePartialEq.eq.Goals as goal
 
 pub returns-clause-value : goal.returns-clause-value
-returns-clause-value c = c.is_same_node.ensures ∙ same_with_positions (view_ast c.args.self.now 0) (view_ast c.args.other.now 0)
+returns-clause-value c = c.is_same_node.ensures ∙ same_with_positions (view_ast c.args.self.now 0)
+    (view_ast c.args.other.now 0)
 
 pub returns-clause-decides : goal.returns-clause-decides
 returns-clause-decides c = Decides-at _ _ (returns-clause-value c) (same-Decides _ _)

@@ -9,7 +9,8 @@ use Rattle.fancy_syntax.specs.Recording.{choice_recorded}
 use Rattle.fancy_syntax.specs.Parsed.{state}
 use Rattle.fancy_syntax.specs.View.{view, views}
 use Rattle.fancy_syntax.specs.declared.grammar.frame.Frame.{Frame}
-use Rattle.fancy_syntax.proofs.MachineLemmas.{running_error, running_step, running_end, running_closing, choice_closed, joined}
+use Rattle.fancy_syntax.proofs.MachineLemmas.{running_error, running_step, running_end, running_closing, choice_closed}
+use Rattle.fancy_syntax.proofs.MachineLemmas.{joined}
 use Rattle.fancy_grammar.proofs.OutcomeLemmas.{IsErrorAmong-map}
 use Rattle.fancy_syntax.proofs.grammar.parser.Parser.close.Goals as goal
 
@@ -30,7 +31,8 @@ returns-in_err-step-clause-reading g c start none l h =
     let f = c.in_ok-inner.ensures in
     let r = c.replace-open_group.ensures in
     let w = running_closing c.pop.new.self.items c.replace-open_group.new.dest (views c.finish.new.trees.items)
-    (view c.in_ok-inner.inner) (part_of c.replace-open_group.result.open_group) (ap (λ (f : Frame). part_of f.open_group) r.value)
+    (view c.in_ok-inner.inner) (part_of c.replace-open_group.result.open_group)
+    (ap (λ (f : Frame). part_of f.open_group) r.value)
     h c.requires.last c.requires.no_bar
     (f.tree h.below h.branches h.pieces h.holds) (f.below h.below h.branches h.pieces h.holds)
     (rw r.after c.in-Some.ensures.items) in
@@ -40,14 +42,16 @@ returns-in_err-step-clause-reading g c start none l h =
     (Alternation 0 start) c.in_err-step.field-0.0
     (λ k p a. running_error w.outer w.more (subst (λ d. Piece d w.current (failed k p)) n a))
     (c.in_err-step.ensures.value w.current w.inside w.recorded w.before
-    (choice_closed h.branches h.pieces (state c.args.self.now.current) l) w.began.0 w.began.1 (rw n w.opens) (rw n w.whole)))
+    (choice_closed h.branches h.pieces (state c.args.self.now.current) l) w.began.0 w.began.1 (rw n w.opens)
+    (rw n w.whole)))
 
 pub returns-clause-reading : goal.returns-clause-reading
 returns-clause-reading g c start none l h =
     let f = c.in_ok-inner.ensures in
     let r = c.replace-open_group.ensures in
     let w = running_closing c.pop.new.self.items c.replace-open_group.new.dest (views c.finish.new.trees.items)
-    (view c.in_ok-inner.inner) (part_of c.replace-open_group.result.open_group) (ap (λ (f : Frame). part_of f.open_group) r.value)
+    (view c.in_ok-inner.inner) (part_of c.replace-open_group.result.open_group)
+    (ap (λ (f : Frame). part_of f.open_group) r.value)
     h c.requires.last c.requires.no_bar
     (f.tree h.below h.branches h.pieces h.holds) (f.below h.below h.branches h.pieces h.holds)
     (rw r.after c.in-Some.ensures.items) in
@@ -57,7 +61,8 @@ returns-clause-reading g c start none l h =
     let k = close_recorded c.replace-open_group.new.dest.piece.left c.replace-open_group.new.dest.piece.flags
     (part_of c.replace-open_group.result.open_group) (view c.in_ok-inner.inner) (state c.args.self.now.current) m in
     let steps = subst (λ d. IsStep d w.current w.recorded made (state c.close.new.current) k) n
-    (c.in_ok-step.ensures.value w.current w.inside w.recorded w.before m w.began.0 w.began.1 (rw n w.opens) (rw n w.whole)) in
+    (c.in_ok-step.ensures.value w.current w.inside w.recorded w.before m w.began.0 w.began.1 (rw n w.opens)
+    (rw n w.whole)) in
     let taken = c.in_ok-take.ensures in (
       _,
       rw taken.current (running_step k made w.outer w.began w.more steps taken.taken),

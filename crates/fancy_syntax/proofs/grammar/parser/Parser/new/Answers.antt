@@ -8,5 +8,6 @@ use Rattle.fancy_syntax.proofs.grammar.parser.Parser.new.Goals as goal
 pub returns-clause-reading : goal.returns-clause-reading
 returns-clause-reading c l =
     let f = c.new.ensures in
-    running_start (state c.args.start) l _ _ _ (c.reserve_exact.ensures.items ∙ c.new-2.ensures.items) (ap views c.in_ok-with_capacity.ensures.items)
+    running_start (state c.args.start) l _ _ _ (c.reserve_exact.ensures.items ∙ c.new-2.ensures.items)
+    (ap views c.in_ok-with_capacity.ensures.items)
     f.branches f.pieces (ap part_of f.open_group)

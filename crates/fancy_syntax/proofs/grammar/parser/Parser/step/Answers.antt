@@ -45,6 +45,7 @@ take-requires g c =
     let steps = subst (λ d. IsStep d (state c.args.self.now.current) l made (state c.read_step.new.current) k) n
     (c.in_ok-step.ensures.value l) in
     record {
-      reserved = capacity_for_step (state c.read_step.new.current) k made _ h steps (subst (OpensBelow made) n c.in_ok-step.ensures.below) reserved
+      reserved = capacity_for_step (state c.read_step.new.current) k made _ h steps
+          (subst (OpensBelow made) n c.in_ok-step.ensures.below) reserved
           (omega (arith, c.args.self.now.stack.ok.0));
     }

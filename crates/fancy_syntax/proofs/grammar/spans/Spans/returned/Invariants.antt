@@ -7,4 +7,5 @@ use Rattle.fancy_syntax.proofs.grammar.spans.Spans.returned.Given as goal
 
 abbrev pub invariant-loop-recorded : goal.invariant-loop-recorded
 invariant-loop-recorded l =
-    spans_of l.spans ≡ map (positioned (bytes (chars l.pattern))) (shown l.named (take l.recorded-index l.fn.self.recorded.items))
+    spans_of l.spans ≡ map (positioned (bytes (chars l.pattern)))
+    (shown l.named (take l.recorded-index l.fn.self.recorded.items))
