@@ -27,7 +27,7 @@ fn sum_of_amounts(alloc: Global, lines: &str, stage: Stage) -> Result<usize> {
     Ok(sum)
 }
 
-/// Writes what `fre` answers on each pattern, a line each.
+/// Writes what `fre` writes for each pattern, a line each.
 fn write_results<O: Write>(alloc: Global, lines: &str, out: &mut O) -> Result<()> {
     for line in lines.lines() {
         let sample = Sample::read(alloc, line).context(format_args!("{line}"))?;

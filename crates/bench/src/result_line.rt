@@ -1,4 +1,4 @@
-//! What `fre` answers, in a line.
+//! What `fre` writes, in a line.
 use crate::sample::Sample;
 use anyhow::Result;
 use fre_program::program::fre_run;

@@ -38,7 +38,7 @@ impl Stage {
     }
 
     /// The bytes of the pattern where it is only decoded; 1 where it is read, or is printable; the spans of its nodes, or
-    /// the bytes of its tree's text, where these are made. 0 where the pattern has a fault, or its tree is not printable.
+    /// the bytes of its tree's text, where these are made. 0 where the pattern is invalid, or its tree is not printable.
     pub(crate) fn amount(self, alloc: Global, sample: &Sample) -> Result<usize> {
         let [word, pattern] = &sample.words;
         let flags = flags_named(word.as_str()).context("no flags")?;
@@ -49,7 +49,7 @@ impl Stage {
         }
     }
 
-    /// The same of a pattern that has no fault.
+    /// The same for a valid pattern.
     fn amount_under(self, alloc: Global, pattern: &str, flags: u32) -> Result<usize, Error> {
         match self {
             Stage::Decode => Ok(pattern.len()),

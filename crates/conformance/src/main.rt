@@ -23,7 +23,7 @@ use std::rt::Files;
 use std::{env, fs};
 use texts::{is_written, replay_writing};
 
-/// What the program answers now; an error where memory was refused. It writes into room that is there, so that what is
+/// What the program writes now; an error where memory was refused. It writes into capacity that it has, so that what is
 /// refused is no write.
 fn result_now(alloc: Global, record: &Reading) -> Result<RunResult> {
     let recorded = &record.run_result;
@@ -46,7 +46,7 @@ fn is_cloned(alloc: Global, error: &Error) -> Result<bool> {
 }
 
 /// Whether a clone of the pattern's tree is equal to it, and the tree is written as a text that is read as it; or, where
-/// the pattern has a fault, whether a clone of its error says the same.
+/// the pattern is invalid, whether a clone of its error says the same.
 fn is_kept(alloc: Global, record: &Reading) -> Result<bool> {
     let [word, pattern] = &record.words;
     let Some(flags) = flags_named(word.as_str()) else {
@@ -59,7 +59,7 @@ fn is_kept(alloc: Global, record: &Reading) -> Result<bool> {
     }
 }
 
-/// Whether a pattern is answered as recorded.
+/// Whether the result for a pattern is as recorded.
 fn replay_reading(alloc: Global, record: &Reading) -> Result<bool> {
     Ok(is_kept(alloc, record)? && result_now(alloc, record)?.is(&record.run_result))
 }
@@ -84,7 +84,7 @@ fn replay_printing(alloc: Global, record: &Printing) -> Result<bool> {
     Ok(copy == tree && text_now(alloc, &copy, record.precedence)? == record.text)
 }
 
-/// Whether a line of a file is answered as recorded.
+/// Whether the result for a line of a file is as recorded.
 fn replay_line(alloc: Global, line: &str) -> Result<bool> {
     Ok(match Record::read(alloc, line)? {
         Record::Reading(record) => replay_reading(alloc, &record)?,

@@ -1,11 +1,11 @@
-//! Recorded answers: the lines of the files, whose fields tabs part. Texts are in hexadecimal, `-` or nothing where
+//! Recorded results: the lines of the files, whose fields tabs part. Texts are in hexadecimal, `-` or nothing where
 //! empty.
 use crate::comparison::RunResult;
 use anyhow::{Result, bail};
 use std::alloc::Global;
 use std::str;
 
-/// Flags, a pattern, and what is answered: the status, standard output and standard error.
+/// Flags, a pattern, and the result: the status, standard output and standard error.
 #[derive(Drop)]
 pub(crate) struct Reading {
     /// The flags and the pattern.
@@ -36,7 +36,7 @@ pub(crate) enum Record {
     Printing(Printing),
 }
 
-/// What stands between the separators. To collect it would ask for room by what is expected, and do without it where
+/// What is between the separators. To collect it would request capacity by what is expected, and do without it where
 /// that is refused; here each refusal is passed on.
 pub(crate) fn parts(alloc: Global, line: &str, separator: char) -> Result<Vec<&str>> {
     let mut parts = Vec::new(alloc);

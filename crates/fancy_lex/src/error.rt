@@ -1,9 +1,11 @@
 //! Errors: why a pattern cannot be parsed.
 ghost use Rattle.std.specs.Prelude.{◌≡◌, ◌++◌, chars, false, IfOk, IsOk, Some};
 ghost use Rattle.fancy_lex.specs.Located.{kind_text, carries_text};
+ghost use Rattle.fancy_lex.specs.Text.{reach_of};
+ghost use Rattle.fancy_lex.specs.declared.error.ReadError.TheVariants.{At};
 ghost use Rattle.fancy_lex.specs.ErrorViews.{kind_of, error_text, error_in, SameError, error_carries_text};
 
-use crate::text::position_at;
+use crate::text::{Reach, position_at, reach};
 use std::alloc::{AllocError, AllocFailed, Global};
 use std::fmt;
 
@@ -29,12 +31,19 @@ pub enum Error {
 pub enum ReadError {
     /// The error in the pattern: its reach, which is the number of bytes from its position to one past the end of the
     /// pattern, and its kind.
-    At(usize, ParseError),
+    At(Reach, ParseError),
     /// Memory ran out. This says nothing about the pattern.
     OutOfMemory,
 }
 
 impl ReadError {
+    /// The error of this kind at the position where `rest` begins.
+    pub fn at(rest: &str, kind: ParseError) -> ReadError
+        ensures { result ≡ At (reach_of (chars rest.now)) kind.entry }
+    {
+        ReadError::At(reach(rest), kind)
+    }
+
     /// The error of a reader in this pattern.
     pub fn in_pattern(self, pattern: &str) -> Error
         ensures { result ≡ error_in (chars pattern.now) self }

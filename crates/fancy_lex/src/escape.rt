@@ -17,7 +17,7 @@ use crate::escape::reference::{back_reference, group_number, numbered_reference,
 use crate::flags::Flags;
 use crate::name::target::{Call, Reference};
 use crate::property::{Property, PropertyName, read_property};
-use crate::text::{next, push, reach_before};
+use crate::text::{Reach, next, push, reach_before};
 use std::alloc::{AllocError, Global};
 
 pub mod boundary;
@@ -115,7 +115,7 @@ fn letter_name(alloc: Global, c: char) -> Result<String, AllocError>
 
 /// The error of a letter that is no escape.
 #[cold]
-fn unknown_escape(alloc: Global, c: char, reach: usize) -> ReadError
+fn unknown_escape(alloc: Global, c: char, reach: Reach) -> ReadError
     ensures { Reports result (spec.unknown_escape reach c) }
 {
     match letter_name(alloc, c) {
@@ -156,7 +156,7 @@ fn number_escape(
     text: &str,
     flags: Flags,
     inside: bool,
-    reach: usize,
+    reach: Reach,
 ) -> Result<(Escaped<'_>, &str), ReadError>
     ensures value { Reads escape_of result (spec.number_escape flags inside reach (chars text.now)) }
     ensures shorter { IfOk result (λ p. length p.1.now < length text.now) }
@@ -197,7 +197,7 @@ fn call_escape<'a>(
     alloc: Global,
     text: &'a str,
     letter: char,
-    reach: usize,
+    reach: Reach,
 ) -> Result<(Escaped<'a>, &'a str), ReadError>
     ensures value { Returns escape_of result (spec.call_escape reach letter (chars text.now)) }
     ensures within { IfOk result (λ p. length p.1.now ≤ length text.now) }
@@ -217,7 +217,7 @@ fn property<'a>(
     letter: char,
     flags: Flags,
     inside: bool,
-    reach: usize,
+    reach: Reach,
 ) -> Result<(Escaped<'a>, &'a str), ReadError>
     ensures value { Returns escape_of result (spec.property flags inside reach letter (chars text.now)) }
     ensures within { IfOk result (λ p. length p.1.now ≤ length text.now) }
@@ -364,7 +364,7 @@ fn read_escape<'a>(
     text: &'a str,
     flags: Flags,
     inside: bool,
-    reach: usize,
+    reach: Reach,
 ) -> Result<(Escaped<'a>, &'a str), ReadError>
     ensures value { Returns escape_of result (spec.escape_at flags inside reach (chars text.now)) }
     ensures shorter { IfOk result (λ p. length p.1.now < length text.now) }

@@ -61,16 +61,20 @@ pub fn is_same_text(a: &str, b: &str) -> bool
     a == b
 }
 
+/// A position, by the number of bytes from there to one past the end of the pattern. The end of the pattern has the reach
+/// 1, and the position past it 0.
+pub type Reach = usize;
+
 /// The reach of the end of a pattern.
-pub const AT_END: usize = 1;
+pub const AT_END: Reach = 1;
 
 /// The reach of one past the end of a pattern.
-pub const PAST_END: usize = 0;
+pub const PAST_END: Reach = 0;
 
 /// The reach of the position where `text`, a suffix of the pattern, begins: the number of bytes from there to one past
 /// the end of the pattern.
 #[inline]
-pub fn reach(text: &str) -> usize
+pub fn reach(text: &str) -> Reach
     ensures { result ≡ reach_of (chars text.now) }
 {
     text.len() + 1
@@ -78,7 +82,7 @@ pub fn reach(text: &str) -> usize
 
 /// The reach of the byte before `text`.
 #[inline]
-pub fn reach_before(text: &str) -> usize
+pub fn reach_before(text: &str) -> Reach
     ensures { result ≡ reach_of (chars text.now) + 1 }
 {
     text.len() + 2
@@ -86,7 +90,7 @@ pub fn reach_before(text: &str) -> usize
 
 /// The position in the pattern that has this reach.
 #[inline]
-pub fn position_at(pattern: &str, reach: usize) -> usize
+pub fn position_at(pattern: &str, reach: Reach) -> usize
     ensures { result ≡ position_at (bytes (chars pattern.now)) reach }
 {
     (pattern.len() + 1).saturating_sub(reach)

@@ -3,7 +3,7 @@ use crate::tests::{is_result, run_refusing};
 use std::alloc::{AllocError, Global};
 use std::str;
 
-/// The nodes and the levels of the answered tree, by its lines.
+/// The nodes and the levels of the parsed tree, by its lines.
 fn measured(out: &[u8]) -> (usize, usize) {
     let out = str::from_utf8(out).unwrap_or("");
     let (tree, _) = out.split_once("marks ").unwrap_or(("", ""));

@@ -5,7 +5,7 @@ use std::io;
 use std::io::{ErrorKind, Write};
 
 /// Takes what is written, and refuses one write or flush, the one with this number. It remembers whether a flush stands
-/// behind the last write.
+/// after the last write.
 #[derive(Drop)]
 pub(crate) struct Refusing {
     pub(crate) text: Vec<u8>,
@@ -188,7 +188,7 @@ fn reports_write(run: &Run, status: u8, out: &str, err: &str) -> Option<bool> {
     )
 }
 
-/// How many writes there are, each of which was refused in turn and told of; none where one was not told of, or they do
+/// How many writes there are, each of which was refused in turn and reported; none where one was not reported, or they do
 /// not end.
 fn writes(
     alloc: Global,

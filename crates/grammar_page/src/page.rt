@@ -5,7 +5,7 @@ use fancy_lex::flags::{
 };
 use std::alloc::Global;
 
-/// What a column tells of a pattern, and which flags it adds.
+/// What a column says of a pattern, and which flags it adds.
 #[derive(Clone, Copy)]
 pub(crate) enum Column {
     /// Its tree, or its error.

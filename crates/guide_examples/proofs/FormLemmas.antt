@@ -25,13 +25,13 @@ pub form_of : (f : Flags) (pattern : Text) (t : Tree) (m : GroupInfo) (text : Op
 form_of f pattern t m None found exact is back = (t, m, found, sym exact)
 form_of f pattern t m (Some s) found exact is back = (t, m, found, is, back)
 
--- where a pattern has one tree, its Groups are as many as the marks say
+-- where a pattern has one tree, its Groups are as many as the group information says
 pub count_of : (f : Flags) (pattern : Text) (t : Tree) (m : GroupInfo) →
     ((e : Tree) (k : GroupInfo) → IsTreeOf f pattern e k → (e ≡ t) × (k ≡ m)) →
     (e : Tree) (k : GroupInfo) → IsTreeOf f pattern e k → length (groups e) ≡ m.total_groups
 count_of f pattern t m only e k h = groups_total h ∙ ap (λ k. k.total_groups) (only e k h).1
 
--- a text that is read as a tree with the marks of the pattern's tree has those marks
+-- a text that is read as a tree with the group information of the pattern's tree has that information
 pub info_kept : (f : Flags) (pattern : Text) (t u : Tree) (m : GroupInfo) (text : Option (String Global)) →
     IsTreeOf f pattern t m → IfSome text (λ s. IsReadAs f (chars (string_bytes s)) u m) →
     IfSome text (λ s. HasInfoOf f pattern (chars (string_bytes s)))

@@ -19,6 +19,6 @@ IsFormOf f pattern w = (t : Tree) × (m : GroupInfo) × IsTreeOf f pattern t m �
 abbrev pub HasNoForm : Flags → Text → Type 0
 HasNoForm f pattern = (t : Tree) × (m : GroupInfo) × IsTreeOf f pattern t m × (printable t ≡ false)
 
--- the text has a tree with the marks that the pattern's tree has
+-- the text has a tree with the group information that the pattern's tree has
 abbrev pub HasInfoOf : Flags → Text → Text → Type 0
 HasInfoOf f pattern text = (t : Tree) × (u : Tree) × (m : GroupInfo) × IsTreeOf f pattern t m × IsTreeOf f text u m

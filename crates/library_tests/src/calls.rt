@@ -50,7 +50,7 @@ fn parse_tree_reads_with_unicode_alone(rt: HostRuntime) -> Result<(), Error> {
     Ok(())
 }
 
-/// Puts the text of the tree behind the other, where it is printable.
+/// Puts the text of the tree after the other, where it is printable.
 fn put(alloc: Global, tree: &Expr, precedence: u8, text: &mut String) -> Result<(), AllocError> {
     if tree.is_printable(alloc)? {
         tree.to_str(text, precedence)?;
@@ -58,7 +58,7 @@ fn put(alloc: Global, tree: &Expr, precedence: u8, text: &mut String) -> Result<
     Ok(())
 }
 
-/// Whether the tree's text is put behind `start`. Where memory is refused for it, `start` is what stands there.
+/// Whether the tree's text is put after `start`. Where memory is refused for it, `start` is what is there.
 pub(crate) fn is_put_after(
     alloc: Global,
     tree: &Expr,
@@ -198,7 +198,7 @@ fn nested_text(alloc: Global, tree: &Expr, groups: usize) -> Result<Option<Strin
 /// How many groups can be open.
 const MOST_OPEN: usize = 63;
 
-/// Whether it is the fault of a group behind so many, each of which opens with one byte.
+/// Whether it is the error of a group after so many, each of which opens with one byte.
 fn is_too_deep(error: &Error) -> bool {
     matches!(
         error,
@@ -206,7 +206,7 @@ fn is_too_deep(error: &Error) -> bool {
     )
 }
 
-/// How many groups the text has; none where it nests too deeply behind as many as can be open.
+/// How many groups the text has; none where it nests too deeply after as many as can be open.
 fn groups(alloc: Global, text: &str) -> Result<Option<usize>, Error> {
     match Expr::parse_tree(alloc, text) {
         Ok(tree) => Ok(Some(tree.total_groups)),

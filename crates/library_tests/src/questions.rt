@@ -6,7 +6,7 @@ use fancy_syntax::error::Error;
 use fancy_syntax::expr::Expr;
 use std::alloc::Global;
 
-/// Whether it is printable, one group nests in its text, its text at the precedence is put behind the first text and is
+/// Whether it is printable, one group nests in its text, its text at the precedence is put after the first text and is
 /// the second, the text reads as it and it has so many groups, or there is such a node below its own.
 #[derive(Clone, Copy)]
 pub(crate) enum Question {

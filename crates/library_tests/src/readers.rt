@@ -1,4 +1,4 @@
-//! What the readers say of a pattern, and what they leave of it; or the fault.
+//! What the readers say of a pattern, and what they leave of it; or the error.
 use crate::{classes, escapes, references};
 use fancy_lex::class::{class, push_delegate};
 use fancy_lex::error::ReadError;

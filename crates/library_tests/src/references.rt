@@ -80,7 +80,7 @@ static ROWS: [ReaderRow; 33] = [
         "Parsing error at position 1: Could not parse group name",
     ),
     (Name, "(?P'n'a)", "nothing then (?P'n'a)"),
-    // where a name is wanting
+    // where a name is missing
     (Reference(r"\k"), r"\k<+0>", NAMELESS_AT_2),
     (Reference(r"\k"), r"\k<>", NAMELESS_AT_2),
     (Reference(r"\k"), r"\k<a", NAMELESS_AT_2),

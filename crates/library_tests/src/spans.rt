@@ -230,7 +230,7 @@ fn a_walk_meets_each_node_with_its_span(rt: HostRuntime) -> Result<(), Error> {
     Ok(())
 }
 
-/// The texts of the children that have one in the pattern, with a bar behind each.
+/// The texts of the children that have one in the pattern, with a bar after each.
 fn texts_of_children(
     alloc: Global,
     node: SpannedNode<'_>,

@@ -6,7 +6,7 @@ use std::io;
 use std::io::{BufRead, Chain, ErrorKind, Read, Write};
 use std::time::{Clock, Duration};
 
-/// Nothing to read; or a fault where one would read on.
+/// Nothing to read; or an error where one would read on.
 #[derive(Clone, Copy)]
 pub(crate) struct End {
     is_broken: bool,

@@ -14,7 +14,7 @@ missing_group total (backref_at_level n level casei) = above total n
 missing_group total (backref_exists n level) = above total n
 missing_group _ _ = None
 
--- a call of a group where there are fewer, or one that was not resolved: no other node of an answered tree is as it was
+-- a call of a group where there are fewer, or one that was not resolved: no other node of a parsed tree is as it was
 -- read
 abbrev pub is_unresolved_call : ℕ → Tree → Bool
 is_unresolved_call total (subroutine_call n) = nat_lt total n

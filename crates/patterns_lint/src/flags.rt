@@ -1,4 +1,4 @@
-//! Flags that are set where they are set already. No node tells of a flag group, so that the text is read again: what
+//! Flags that are set where they are set already. No node records a flag group, so that the text is read again: what
 //! stands for a leaf is passed over, and what is left is what opens and closes groups.
 use crate::problem::{Found, Problem};
 use fancy_lex::flags::Flags;
@@ -39,7 +39,7 @@ fn with(flags: Flags, letter: char, on: bool) -> Flags {
     }
 }
 
-/// The text after the name that begins the text, and after its closing mark.
+/// The text after the name that begins the text, and after its closing delimiter.
 fn after_name(text: &str, delimiter: char) -> &str {
     match text.split_once(delimiter) {
         Some((_, rest)) => rest,
@@ -73,7 +73,7 @@ impl<'a> GroupReader<'a> {
         past_layout(text, flags.ignore_space).unwrap_or("")
     }
 
-    /// Passes over the leaf that begins here, and answers whether one does.
+    /// Passes over the leaf that begins here, and returns whether one does.
     fn pass_leaf(&mut self) -> bool {
         let Some((leaf, more)) = self.leaves.split_first() else {
             return false;
@@ -111,7 +111,7 @@ impl<'a> GroupReader<'a> {
         self.rest = rest;
     }
 
-    /// Reads the letter of a flag, which is before the text, and answers the flags then.
+    /// Reads the letter of a flag, which is before the text, and returns the flags then.
     fn letter(
         &mut self,
         flags: Flags,

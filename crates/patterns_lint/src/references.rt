@@ -86,7 +86,7 @@ impl<'a> Ways<'a> {
         self.before_loop.is_some_and(|before| before < group)
     }
 
-    /// Adds a group of this one's name to those on the way, and answers whether there was one.
+    /// Adds a group of this one's name to those on the way, and returns whether there was one.
     fn add_name(&mut self, group: usize) -> bool {
         let Some(name) = self.captures.get(group).and_then(|capture| capture.name) else {
             return false;

@@ -47,7 +47,7 @@ fn shortened(words: &str) -> &str {
     words.split_once(", ").map_or(words, |parts| parts.0)
 }
 
-/// How often a node is repeated. That it is greedy is not told, nor what the rail past an optional one tells.
+/// How often a node is repeated. That it is greedy is left out, and so is what the rail past an optional one shows.
 fn of_repeat(words: &str) -> &str {
     let words = words.strip_prefix("repeat ").unwrap_or(words);
     let words = words.strip_suffix(", greedy").unwrap_or(words);

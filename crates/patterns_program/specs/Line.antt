@@ -26,8 +26,8 @@ breaks_line w pattern = (is_new (code "\n") w pattern || is_new (code "\r") w pa
 abbrev pub MayKeep : Comments → List ℕ → Type 0
 MayKeep comments pattern = (comments ≡ kept.Keep) × (list_any (λ b. b == code "#") pattern ≡ true)
 
--- the bytes are the tree's text, for the line of the pattern: under the flags it is read as the tree with its marks, and
--- it stands in a line
+-- the bytes are the tree's text, for the line of the pattern: under the flags it is read as the tree with its group
+-- information, and it stands in a line
 pub record IsLineOf (f : Flags) (pattern : List ℕ) (t : Tree) (m : GroupInfo) (w : List ℕ) : Type 0 where
   pub utf8 : IsUtf8 w
   pub is : chars w ≡ pattern_text f t m

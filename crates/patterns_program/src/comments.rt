@@ -1,4 +1,4 @@
-//! The comments of a pattern. No node tells of one, so that the text is read again: a `#` is a comment's if it is neither a
+//! The comments of a pattern. No node records one, so that the text is read again: a `#` is a comment's if it is neither a
 //! leaf's own, nor in the name of a group. Of a leaf's text only what may be layout is not its own.
 use fancy_lex::layout::past_layout;
 use fancy_spans::{SpannedNode, SpannedTree};
@@ -81,7 +81,7 @@ fn in_leaf(leaf: &Expr, text: &str) -> Option<usize> {
     }
 }
 
-/// The mark before a group's name, the name, and the mark after it, where the span is that of a group with a name.
+/// The delimiter before a group's name, the name, and the delimiter after it, where the span is that of a group with a name.
 fn name_span(pattern: &str, group: Span) -> Span {
     let inside = pattern.get(group.start.saturating_add(1)..).unwrap_or("");
     let (_, group_text) = split_layout(inside);

@@ -108,7 +108,7 @@ pub struct Cut<'a> {
 }
 
 impl Cut<'_> {
-    /// Cuts at a byte offset: before the character that it falls into, and behind the last one where it is past the
+    /// Cuts at a byte offset: before the character that it falls into, and after the last one where it is past the
     /// end.
     pub fn at(pattern: &str, position: usize) -> Cut<'_> {
         let (front, rest) = pattern.split_at(pattern.floor_char_boundary(position));

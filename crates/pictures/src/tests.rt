@@ -99,7 +99,7 @@ fn page(rt: HostRuntime) -> Result<(), Fail> {
     Ok(())
 }
 
-/// A write that fails is told.
+/// A write that fails is reported.
 #[test]
 fn refused_write(rt: HostRuntime) -> Result<(), Fail> {
     let mut buffer = [0; 100];

@@ -18,7 +18,7 @@ use crate::error::{ParseError, ReadError};
 use crate::escape::{Assertion, Escaped};
 use crate::flags::Flags;
 use crate::layout::{begins_layout, past_layout, skip};
-use crate::text::{after, next, push};
+use crate::text::{Reach, after, next, push};
 use std::alloc::Global;
 
 /// The boundary without a name.
@@ -101,7 +101,7 @@ fn known_boundary(text: &str, ignore_space: bool) -> Option<(Assertion, &str)>
 }
 
 /// The error of braces that are not closed.
-fn unclosed_error(alloc: Global, reach: usize) -> ReadError
+fn unclosed_error(alloc: Global, reach: Reach) -> ReadError
     ensures { Reports {A = Escape} result (fails (boundary_not_closed reach)) }
 {
     match String::from_str(alloc, r"\b{...}") {
@@ -123,7 +123,7 @@ fn next_in_name<'a>(
     alloc: Global,
     text: &'a str,
     ignore_space: bool,
-    reach: usize,
+    reach: Reach,
 ) -> Result<(char, &'a str), ReadError>
     ensures value { MatchResult result
         (λ p. layout_reading (layout ignore_space (chars text.now)) ≡ gives tt (p.0 ∷ chars p.1.now))
@@ -143,7 +143,7 @@ fn find_closing_brace(
     alloc: Global,
     text: &str,
     ignore_space: bool,
-    reach: usize,
+    reach: Reach,
 ) -> Result<(), ReadError>
     ensures found { IfOk result (λ _. (negated : Bool) →
         CarriesText (name_spec.name_error ignore_space reach negated (chars text.now))) }
@@ -166,7 +166,7 @@ fn bare_escape(
     text: &str,
     negated: bool,
     ignore_space: bool,
-    reach: usize,
+    reach: Reach,
 ) -> Result<String, ReadError>
     ensures value { let error = name_spec.name_error ignore_space reach negated (chars text.now) in
         MatchResult result (λ s. error ≡ error_at reach (invalid_escape (text_of s))) (λ e. Reports e error) }
@@ -191,7 +191,7 @@ fn named_boundary<'a>(
     text: &'a str,
     negated: bool,
     ignore_space: bool,
-    reach: usize,
+    reach: Reach,
 ) -> Result<(Escaped<'a>, &'a str), ReadError>
     ensures value { Returns escape_of result (steps.named_boundary ignore_space reach negated (chars text.now)) }
     ensures shorter { IfOk result (λ p. length p.1.now < length text.now) }
@@ -212,7 +212,7 @@ fn read_boundary<'a>(
     text: &'a str,
     negated: bool,
     flags: Flags,
-    reach: usize,
+    reach: Reach,
 ) -> Result<(Escaped<'a>, &'a str), ReadError>
     ensures value { Returns escape_of result (steps.boundary flags.ignore_space reach negated (chars text.now)) }
     ensures within { IfOk result (λ p. length p.1.now ≤ length text.now) }
@@ -237,7 +237,7 @@ pub fn boundary<'a>(
     text: &'a str,
     negated: bool,
     flags: Flags,
-    reach: usize,
+    reach: Reach,
 ) -> Result<(Escaped<'a>, &'a str), ReadError>
     ensures value { Returns escape_of result (steps.boundary flags.ignore_space reach negated (chars text.now)) }
     ensures derives { Derives escape_of result (spec.Boundary flags.ignore_space reach negated (chars text.now)) }

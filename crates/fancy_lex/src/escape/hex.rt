@@ -13,7 +13,7 @@ use crate::error::{ParseError, ReadError};
 use crate::escape::Escaped;
 use crate::flags::Flags;
 use crate::layout::{begins_layout, skip};
-use crate::text::{after, next, reach};
+use crate::text::{Reach, after, next, reach};
 
 /// The value of the digit at the front, and the text after it.
 #[tactic(auto, unfolding(crate::specs::Hex::hex_digit))]
@@ -44,7 +44,7 @@ fn fixed_digits(text: &str, width: u32) -> Option<(u32, &str)>
 }
 
 /// Reads the closing brace after some digits.
-fn closing_brace(text: &str, value: u32, reach: usize) -> Result<(u32, &str), ReadError>
+fn closing_brace(text: &str, value: u32, reach: Reach) -> Result<(u32, &str), ReadError>
     ensures value { Reads (λ v. v) result (spec.closing_brace reach true value (strip close_brace (chars text.now))) }
     ensures shorter { IfOk result (λ p. length p.1.now < length text.now) }
 {
@@ -55,7 +55,7 @@ fn closing_brace(text: &str, value: u32, reach: usize) -> Result<(u32, &str), Re
 }
 
 /// Reads up to eight digits, each with layout after it, and the closing brace.
-fn hex_digits(text: &str, ignore_space: bool, reach: usize) -> Result<(u32, &str), ReadError>
+fn hex_digits(text: &str, ignore_space: bool, reach: Reach) -> Result<(u32, &str), ReadError>
     ensures value { Reads (λ v. v) result (spec.hex_digits ignore_space reach 8 false 0 (chars text.now)) }
     ensures shorter { IfOk result (λ p. length p.1.now < length text.now) }
 {
@@ -76,7 +76,7 @@ fn hex_digits(text: &str, ignore_space: bool, reach: usize) -> Result<(u32, &str
 
 /// Reads the code after the opening brace.
 #[tactic(auto, unfolding(crate::specs::Hex::braced_value))]
-fn braced_value(text: &str, ignore_space: bool, reach: usize) -> Result<(u32, &str), ReadError>
+fn braced_value(text: &str, ignore_space: bool, reach: Reach) -> Result<(u32, &str), ReadError>
     ensures value { Reads (λ v. v) result (spec.braced_value ignore_space reach (chars text.now)) }
     ensures shorter { IfOk result (λ p. length p.1.now < length text.now) }
 {
@@ -86,7 +86,7 @@ fn braced_value(text: &str, ignore_space: bool, reach: usize) -> Result<(u32, &s
 
 /// Reads a code of `width` digits, or one in braces; its error is at `reach`.
 #[tactic(auto, unfolding(crate::specs::Hex::value))]
-fn value(text: &str, width: u32, ignore_space: bool, reach: usize) -> Result<(u32, &str), ReadError>
+fn value(text: &str, width: u32, ignore_space: bool, reach: Reach) -> Result<(u32, &str), ReadError>
     requires width { width ≤ 8 }
     ensures value { Reads (λ v. v) result (spec.value ignore_space reach width (chars text.now)) }
     ensures within { IfOk result (λ p. length p.1.now ≤ length text.now) }

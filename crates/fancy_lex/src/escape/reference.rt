@@ -13,7 +13,7 @@ use crate::name::id::{IdReference, id_reference};
 use crate::name::number::number;
 use crate::name::number_text::number_text;
 use crate::name::target::{Call, Reference, Target, reference_by_name, target_of_name};
-use crate::text::{next, reach};
+use crate::text::{Reach, next, reach};
 
 /// Reads all the digits at the front, which are the number of a group. The error is InvalidBackref at the text's reach,
 /// if there is no digit, or the number does not fit in a word.
@@ -27,7 +27,7 @@ pub(crate) fn group_number(text: &str) -> Result<(usize, &str), ReadError>
 {
     match number(text) {
         Some((Some(number), rest)) => Ok((number, rest)),
-        _ => Err(ReadError::At(reach(text), ParseError::InvalidBackref)),
+        _ => Err(ReadError::at(text, ParseError::InvalidBackref)),
     }
 }
 
@@ -106,7 +106,7 @@ fn numbered_call(text: &str) -> Result<(Call<'_>, &str), ReadError>
 /// The call by this name at the reach; None if the name is relative and no id reference.
 #[inline(always)]
 #[tactic(auto, unfolding(crate::specs::EscapeReference::written_call))]
-fn written_call(name: &str, reach: usize) -> Option<Call<'_>>
+fn written_call(name: &str, reach: Reach) -> Option<Call<'_>>
     ensures value { spec.written_call reach (chars name.now) ≡ option_map view_call result }
 {
     let target = call_target(name)?;
@@ -116,7 +116,7 @@ fn written_call(name: &str, reach: usize) -> Option<Call<'_>>
 /// Reads a call in delimiters.
 #[inline(always)]
 #[tactic(auto, unfolding(crate::specs::EscapeReference::delimited_call))]
-fn delimited_call(text: &str, reach: usize) -> Option<(Call<'_>, &str)>
+fn delimited_call(text: &str, reach: Reach) -> Option<(Call<'_>, &str)>
     ensures value { spec.delimited_call reach (chars text.now) ≡ option_map (view_read view_call) result }
     ensures shorter { IfSome result (λ p. length p.1.now < length text.now) }
 {

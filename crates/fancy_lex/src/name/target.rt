@@ -12,7 +12,7 @@ use crate::name::CaptureGroupTarget;
 use crate::name::id::{IdReference, amount, id_reference};
 use crate::name::number::number;
 use crate::name::number_text::number_text;
-use crate::text::next;
+use crate::text::{Reach, next};
 use std::alloc::{AllocError, Global};
 
 /// The group that a reference refers to; its name is a slice of the pattern.
@@ -47,7 +47,7 @@ pub struct Reference<'a> {
     /// The level of recursion, if one is written.
     pub level: Option<isize>,
     /// The number of bytes from the reference to one past the end of the pattern.
-    pub reach: usize,
+    pub reach: Reach,
 }
 
 /// What calls a group.
@@ -55,7 +55,7 @@ pub struct Reference<'a> {
 pub struct Call<'a> {
     pub target: Target<'a>,
     /// The number of bytes from the call to one past the end of the pattern.
-    pub reach: usize,
+    pub reach: Reach,
 }
 
 /// The group that a name refers to: by number if the name is a number text, and otherwise by name.
@@ -72,7 +72,7 @@ pub fn target_of_name(name: &str) -> Target<'_>
 
 /// The reference at the reach to this group at this level.
 #[inline(always)]
-fn reference_to(reach: usize, target: Target<'_>, level: Option<isize>) -> Reference<'_>
+fn reference_to(reach: Reach, target: Target<'_>, level: Option<isize>) -> Reference<'_>
     ensures { view_reference result ≡ spec.reference_to reach (view_borrowed target.entry) level }
 {
     Reference {
@@ -87,7 +87,7 @@ fn reference_to(reach: usize, target: Target<'_>, level: Option<isize>) -> Refer
 /// after it is no level.
 #[inline(always)]
 #[tactic(auto, unfolding(crate::specs::NumberText::whole_number), using(crate::proofs::NumberIds::numbers_written))]
-fn reference_by_number(text: &str, amounts: bool, reach: usize) -> Option<Reference<'_>>
+fn reference_by_number(text: &str, amounts: bool, reach: Reach) -> Option<Reference<'_>>
     ensures value { MatchOption result (whole_number (chars text.now) ≡ None)
         (λ r. spec.written_reference reach amounts (chars text.now) ≡ Some (view_reference r)) }
 {
@@ -106,7 +106,7 @@ fn reference_by_number(text: &str, amounts: bool, reach: usize) -> Option<Refere
 /// without an id is relative, and one after an id is a level.
 #[inline(always)]
 #[tactic(auto, unfolding(crate::specs::Referred::written_reference, crate::specs::Referred::reference_of))]
-fn written_reference(text: &str, amounts: bool, reach: usize) -> Option<Reference<'_>>
+fn written_reference(text: &str, amounts: bool, reach: Reach) -> Option<Reference<'_>>
     ensures value { spec.written_reference reach amounts (chars text.now) ≡ option_map view_reference result }
 {
     // A number is an id too, and reading it is faster.
@@ -131,7 +131,7 @@ fn written_reference(text: &str, amounts: bool, reach: usize) -> Option<Referenc
 pub fn reference_by_name<'a>(
     name: Option<(&'a str, &'a str)>,
     amounts: bool,
-    reach: usize,
+    reach: Reach,
 ) -> Result<(Reference<'a>, &'a str), ReadError>
     ensures value { Reads view_reference result (spec.reference_by_name reach amounts (parts name.entry)) }
     ensures rest { IfOk result (λ p. IfSome name.entry (λ q. p.1.now ≡ q.1.now) × IsSome name.entry) }

@@ -10,7 +10,7 @@ ghost use Rattle.fancy_parts.specs.FlagReads.{letters_of, step_of};
 use fancy_lex::error::{ParseError, ReadError};
 use fancy_lex::flags::Flags;
 use fancy_lex::layout::skip;
-use fancy_lex::text::{AT_END, front, next, reach};
+use fancy_lex::text::{AT_END, front, next};
 use std::alloc::{AllocError, Global};
 
 /// The result of the letters of a flag group.
@@ -73,7 +73,7 @@ fn unknown_flag(alloc: Global, letters: &str, rest: &str) -> ReadError
     ensures { Reports result (steps.unknown_letter (chars letters.now) (chars rest.now)) }
 {
     match flag_text(alloc, letters, rest) {
-        Ok(text) => ReadError::At(reach(letters), ParseError::UnknownFlag(text)),
+        Ok(text) => ReadError::at(letters, ParseError::UnknownFlag(text)),
         Err(_) => ReadError::OutOfMemory,
     }
 }
@@ -144,7 +144,7 @@ fn flag_letter<'a>(
     }
     if letter == 'u' {
         if clears == flags.unicode {
-            return Err(ReadError::At(reach(current), ParseError::ChangingUnicodeModeUnsupported));
+            return Err(ReadError::at(current, ParseError::ChangingUnicodeModeUnsupported));
         }
         return Ok((LetterStep::GoesOn { clears, flags }, rest));
     }

@@ -4,10 +4,11 @@ ghost use Rattle.fancy_lex.specs.Located as spec;
 ghost use Rattle.fancy_grammar.specs.Errors.{IsErrorAt};
 
 use fancy_lex::error::{ParseError, ReadError};
+use fancy_lex::text::Reach;
 use std::alloc::Global;
 
 /// The general error with this message, or out of memory.
-pub(crate) fn general(alloc: Global, message: &str, reach: usize) -> ReadError
+pub(crate) fn general(alloc: Global, message: &str, reach: Reach) -> ReadError
     ensures { IsErrorAt result (spec.general_parse_error (chars message.now)) reach }
 {
     match String::from_str(alloc, message) {

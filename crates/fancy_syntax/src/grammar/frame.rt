@@ -14,6 +14,7 @@ use crate::grammar::spanning::Spanning;
 use crate::grammar::trees::{push, take_above, take_branch};
 use fancy_lex::error::ReadError;
 use fancy_lex::flags::Flags;
+use fancy_lex::text::Reach;
 use std::alloc::{AllocError, Global};
 
 /// An open part.
@@ -22,7 +23,7 @@ pub(crate) enum OpenGroup<'a> {
     /// The whole text.
     Top,
     /// A group that opens at the reach.
-    Group { kind: GroupKind<'a>, reach: usize },
+    Group { kind: GroupKind<'a>, reach: Reach },
     /// The condition of a conditional.
     Condition,
     /// The body of a conditional with this condition; that many bytes were left at its start.
@@ -79,7 +80,7 @@ impl<'a> Frame<'a> {
         &mut self,
         alloc: Global,
         trees: &mut Vec<Expr>,
-        reach: usize,
+        reach: Reach,
         spans: &mut S,
     ) -> Result<(), ReadError>
         requires { self.old.pieces ≤ vec_len trees.old }
@@ -113,7 +114,7 @@ impl<'a> Frame<'a> {
         &mut self,
         alloc: Global,
         trees: &mut Vec<Expr>,
-        reach: usize,
+        reach: Reach,
         spans: &mut S,
     ) -> Result<(), AllocError>
         requires { self.old.pieces ≤ vec_len trees.old }
@@ -136,7 +137,7 @@ impl<'a> Frame<'a> {
         &self,
         alloc: Global,
         trees: &mut Vec<Expr>,
-        reach: usize,
+        reach: Reach,
         spans: &mut S,
     ) -> Result<Expr, AllocError>
         requires branches { self.now.branches ≤ self.now.pieces }

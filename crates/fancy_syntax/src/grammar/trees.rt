@@ -9,6 +9,7 @@ ghost use Rattle.fancy_syntax.specs.View.{view, views};
 
 use crate::expr::Expr;
 use crate::grammar::spanning::Spanning;
+use fancy_lex::text::Reach;
 use std::alloc::{AllocError, Global};
 use std::mem;
 
@@ -51,7 +52,7 @@ pub(crate) fn take_branch<S: Spanning>(
     alloc: Global,
     trees: &mut Vec<Expr>,
     height: usize,
-    reach: usize,
+    reach: Reach,
     spans: &mut S,
 ) -> Result<Expr, AllocError>
     requires { height ≤ vec_len trees.old }

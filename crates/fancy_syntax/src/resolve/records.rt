@@ -10,7 +10,7 @@ ghost use Rattle.fancy_grammar.specs.Walk.{nothing_recorded, number_in};
 
 use fancy_lex::error::ReadError;
 use fancy_lex::name::CaptureGroupTarget;
-use fancy_lex::text::position_at;
+use fancy_lex::text::{Reach, position_at};
 use fancy_parts::ranks::{Groups, Meaning, Role, meaning_after};
 use fancy_parts::written::is_numeric;
 use std::alloc::Global;
@@ -90,7 +90,7 @@ impl Progress {
 pub(super) fn refer(
     resolver: &Resolver,
     progress: &mut Progress,
-    reach: usize,
+    reach: Reach,
     role: Role,
     target: &CaptureGroupTarget,
 ) -> Result<Option<usize>, Stopped>
@@ -113,7 +113,7 @@ pub(super) fn refer(
 fn record_form(
     resolver: &Resolver,
     progress: &mut Progress,
-    reach: usize,
+    reach: Reach,
     role: Role,
     target: &CaptureGroupTarget,
 )
@@ -136,7 +136,7 @@ fn record_form(
 fn record_meaning(
     resolver: &Resolver,
     progress: &mut Progress,
-    reach: usize,
+    reach: Reach,
     role: Role,
     meaning: Meaning,
 ) -> Result<Option<usize>, Stopped>

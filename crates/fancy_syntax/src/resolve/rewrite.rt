@@ -17,7 +17,7 @@ use crate::expr::{Absent, AstNode, Expr};
 use crate::resolve::records::{Progress, Resolver, Stopped, refer};
 use crate::resolve::survey::{is_counted_name, may_hold_items};
 use fancy_lex::name::CaptureGroupTarget;
-use fancy_lex::text::position_at;
+use fancy_lex::text::{Reach, position_at};
 use fancy_parts::ranks::Role;
 use std::mem;
 
@@ -131,7 +131,7 @@ fn take_target(reference: &mut AstNode) -> CaptureGroupTarget
 #[inline(never)]
 fn resolve_group(
     node: AstNode,
-    reach: usize,
+    reach: Reach,
     resolver: &Resolver,
     progress: &mut Progress,
 ) -> Result<Expr, Stopped>
@@ -157,7 +157,7 @@ fn resolve_group(
 /// What the reference that is read at the reach is resolved to, or `None` if it stays.
 fn resolve_reference(
     node: &AstNode,
-    reach: usize,
+    reach: Reach,
     resolver: &Resolver,
     progress: &mut Progress,
 ) -> Result<Option<Expr>, Stopped>
@@ -208,7 +208,7 @@ fn resolve_backref(
     target: &CaptureGroupTarget,
     casei: bool,
     relative_recursion_level: Option<isize>,
-    reach: usize,
+    reach: Reach,
     resolver: &Resolver,
     progress: &mut Progress,
 ) -> Result<Option<Expr>, Stopped>

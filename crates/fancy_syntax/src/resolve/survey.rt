@@ -10,6 +10,7 @@ ghost use Rattle.fancy_syntax.specs.View.{view, view_absent, view_ast, views};
 ghost use Rattle.fancy_grammar.specs.Walk as spec;
 
 use crate::expr::{Absent, AstNode, Expr};
+use fancy_lex::text::Reach;
 use fancy_parts::ranks::Groups;
 use std::alloc::{AllocError, Global};
 
@@ -106,7 +107,7 @@ pub(super) fn may_hold_items(tree: &Expr) -> bool
 fn survey_node(
     alloc: Global,
     node: &AstNode,
-    reach: usize,
+    reach: Reach,
     named: bool,
     found: &mut Survey,
 ) -> Result<(), AllocError>

@@ -6,6 +6,7 @@ ghost use Rattle.fancy_grammar.specs.Tree.{ast_group};
 ghost use Rattle.fancy_syntax.specs.View.{view};
 
 use crate::expr::{Absent, AstNode, Expr, LookAround};
+use fancy_lex::text::Reach;
 use std::alloc::{AllocError, Global};
 
 /// The kind of a group.
@@ -26,7 +27,7 @@ pub(crate) enum GroupKind<'a> {
 pub(crate) fn node(
     alloc: Global,
     kind: GroupKind,
-    reach: usize,
+    reach: Reach,
     inner: Expr,
 ) -> Result<Expr, AllocError>
     ensures { IfOk result (λ e. view e ≡ spec.group_node (group_kind kind.entry) reach (view inner)) }
@@ -44,7 +45,7 @@ pub(crate) fn node(
 }
 
 /// The node of a capturing group.
-fn capture(alloc: Global, name: Option<&str>, reach: usize, inner: Expr) -> Result<Expr, AllocError>
+fn capture(alloc: Global, name: Option<&str>, reach: Reach, inner: Expr) -> Result<Expr, AllocError>
     ensures { IfOk result (λ e. view e ≡ ast_group (option_map
         (λ t. chars t.now) name.entry) reach (view inner)) }
 {
