@@ -1,4 +1,4 @@
-//! The code of `docs/using.md`: each module is a part of that page, and `main` writes what they return.
+//! The code of `docs/library.md`: each module is a part of that page, and `main` writes what they return.
 #![tactic(auto)]
 
 mod changes;

@@ -1,7 +1,7 @@
 //! How a position is shown.
 use std::alloc::{AllocError, Global};
 
-/// The column of a position, in characters from 1. At the end, and one byte past it, it is that after the last character.
+/// The column of a position, in characters from 1. At or past the end, the column after the last character.
 pub fn column(pattern: &str, position: usize) -> usize {
     let before = pattern
         .char_indices()
