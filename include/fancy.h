@@ -1,8 +1,8 @@
 /* Patterns of fancy-regex, parsed and printed by proved code.
  *
  * Each call parses a pattern anew, keeps nothing, and owns nothing when it returns. It writes to buffers of the caller,
- * from their start and never past their end: either a whole text or tree, or nothing. docs/from-c.md says how to build and
- * link the library, what is proved, and what the caller has to guarantee.
+ * from their start and never past their end: either a whole text or tree, or nothing. docs/c.md says how to build and link
+ * the library, what is proved, and what the caller has to guarantee.
  *
  * A pattern is UTF-8 and need not be NUL-terminated. Lengths, sizes, positions and the capacities of text buffers are in
  * bytes; the capacities for nodes, names and back references are counts of items. A pointer may be null if its length or

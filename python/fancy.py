@@ -98,7 +98,10 @@ class ErrorKind(enum.IntEnum):
         before that text, as `Invalid escape: `."""
         if self is ErrorKind.NOT_UTF8:
             return "Not UTF-8"
-        return _text(lambda buffer, capacity: _library.fancy_error_text(self, buffer, capacity))[1].decode()
+        got, text = _text(lambda buffer, capacity: _library.fancy_error_text(self, buffer, capacity))
+        if got.status == _OUT_OF_MEMORY:
+            raise MemoryError
+        return text.decode()
 
 
 class AssertionKind(enum.IntEnum):
