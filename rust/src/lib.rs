@@ -18,7 +18,7 @@
 //! - [`parse`] returns an owned [`Tree`], with the types and names of fancy-regex: [`Expr`] and what is in it.
 //! - [`Rows`] holds a tree as the library writes it, in buffers that later patterns use again. It is for programs that only look.
 //! - [`check`] says only whether a pattern is valid.
-//! - [`to_pattern`] and [`print`] write the tree of a pattern as a pattern again.
+//! - [`to_pattern`] and [`print()`] write the tree of a pattern as a pattern again.
 //!
 //! Positions and spans are byte offsets. The functions may be called in several threads at once. What the library returns is
 //! checked, and a library that is something else than libfancy is an error ([`Error::Library`]), not a panic.
@@ -107,7 +107,7 @@ pub fn to_pattern(pattern: &str, flags: Flags) -> Result<String, Error> {
     }
 }
 
-/// What a printed text has to be, for [`print`].
+/// What a printed text has to be, for [`print()`].
 #[derive(Debug, Clone, Copy, PartialEq, Eq, PartialOrd, Ord, Hash)]
 #[repr(u8)]
 pub enum Precedence {

@@ -46,7 +46,7 @@ fn nothing_panics() {
         ];
         if let Err(error) = outcome {
             assert!(!error.to_string().is_empty());
-            assert!(error.position().map_or(true, |position| position <= pattern.len() + 1));
+            assert!(error.position().is_none_or(|position| position <= pattern.len() + 1));
         }
         look(&rows, pattern);
         kinds.into_iter().for_each(|kind| *outcomes.entry(kind).or_default() += 1);
