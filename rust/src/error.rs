@@ -1,7 +1,7 @@
 //! Why a pattern has no tree.
 
+use crate::call::{self, Text};
 use crate::ffi::CallResult;
-use crate::text::{self, Text};
 use crate::{ffi, numbers, Flags};
 use std::fmt;
 
@@ -191,8 +191,8 @@ impl ParseError {
 
 /// The message of the error of a pattern.
 fn message(pattern: &str, flags: Flags) -> Result<String, Error> {
-    let call = |buffer: &mut [u8]| ffi::message(pattern, flags.bits(), buffer);
-    match text::written(pattern, call, &[numbers::STATUS_REFUSED])? {
+    let write = |buffer: &mut [u8]| ffi::message(pattern, flags.bits(), buffer);
+    match call::written(pattern, write, numbers::STATUS_REFUSED)? {
         Text::Written(message) => Ok(message),
         Text::Not(result) if result.status == numbers::STATUS_OUT_OF_MEMORY => Err(Error::OutOfMemory),
         Text::Not(_) => Err(Error::Library("an error that is gone when the pattern is parsed again")),

@@ -26,6 +26,7 @@
 #![warn(missing_docs, missing_debug_implementations)]
 #![deny(unsafe_code, unsafe_op_in_unsafe_fn)]
 
+mod call;
 mod error;
 mod expr;
 #[allow(unsafe_code)]
@@ -34,7 +35,6 @@ mod flags;
 mod node;
 mod numbers;
 mod rows;
-mod text;
 mod tree;
 
 pub use error::{Error, ParseError};
@@ -45,7 +45,7 @@ pub use node::{AbsentKind, CallTarget, Children, Kind, NodeRef};
 pub use rows::Rows;
 pub use tree::{GroupInfo, Span, Tree};
 
-use text::Text;
+use call::Text;
 
 /// Parses a pattern under flags.
 ///
@@ -77,7 +77,7 @@ pub fn parse(pattern: &str, flags: Flags) -> Result<Tree, Error> {
 /// assert_eq!(check("[a-z", Flags::UNICODE), Err(Error::ParseError(4, ParseError::InvalidClass)));
 /// ```
 pub fn check(pattern: &str, flags: Flags) -> Result<(), Error> {
-    text::ready()?;
+    call::ready()?;
     let result = ffi::check(pattern, flags.bits());
     match result.status {
         numbers::STATUS_OK => Ok(()),
@@ -100,8 +100,8 @@ pub fn check(pattern: &str, flags: Flags) -> Result<(), Error> {
 /// # Ok::<(), fancy_syntax::Error>(())
 /// ```
 pub fn to_pattern(pattern: &str, flags: Flags) -> Result<String, Error> {
-    let call = |buffer: &mut [u8]| ffi::pattern(pattern, flags.bits(), buffer);
-    match text::written(pattern, call, &[numbers::STATUS_OK])? {
+    let write = |buffer: &mut [u8]| ffi::pattern(pattern, flags.bits(), buffer);
+    match call::written(pattern, write, numbers::STATUS_OK)? {
         Text::Written(text) => Ok(text),
         Text::Not(result) => Err(Error::of(result, pattern, flags)),
     }
@@ -139,8 +139,8 @@ pub enum Precedence {
 /// # Ok::<(), fancy_syntax::Error>(())
 /// ```
 pub fn print(pattern: &str, flags: Flags, precedence: Precedence) -> Result<Option<String>, Error> {
-    let call = |buffer: &mut [u8]| ffi::print(pattern, flags.bits(), precedence as u8, buffer);
-    match text::written(pattern, call, &[numbers::STATUS_OK])? {
+    let write = |buffer: &mut [u8]| ffi::print(pattern, flags.bits(), precedence as u8, buffer);
+    match call::written(pattern, write, numbers::STATUS_OK)? {
         Text::Written(text) => Ok(Some(text)),
         Text::Not(result) if result.status == numbers::STATUS_NOT_PRINTABLE => Ok(None),
         Text::Not(result) => Err(Error::of(result, pattern, flags)),

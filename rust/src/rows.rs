@@ -1,8 +1,8 @@
 //! The buffers that the library writes a tree to.
 
+use crate::call::{grow, ready};
 use crate::ffi::{self, CallResult, Info, Name, Node};
 use crate::node::{self, Kind, NodeRef};
-use crate::text::{grow, ready};
 use crate::{numbers, Error, Flags, GroupInfo, Tree};
 use std::fmt;
 

@@ -1,4 +1,4 @@
-//! Calls of the library that write a text.
+//! What the calls of the library share: a version that is known, buffers, and texts that are written.
 
 use crate::ffi::{self, CallResult};
 use crate::{numbers, Error};
@@ -15,7 +15,7 @@ fn bound(length: usize) -> usize {
     length.saturating_mul(64).saturating_add(1024)
 }
 
-/// Says an error if the library has another major version, so that its structs may be laid out in another way.
+/// Returns an error if the library has another major version: then its structs may be laid out in another way.
 pub(crate) fn ready() -> Result<(), Error> {
     match ffi::version() / 1_000_000 {
         numbers::VERSION_MAJOR => Ok(()),
@@ -23,12 +23,12 @@ pub(crate) fn ready() -> Result<(), Error> {
     }
 }
 
-/// Makes a call with a buffer, and once more with a longer one if it says that the buffer is too short. There is a text if the
-/// call returns one of these statuses.
+/// Makes a call with a buffer, and once more with a longer one if the first is too short. There is a text if the call returns
+/// this status.
 pub(crate) fn written(
     pattern: &str,
     mut call: impl FnMut(&mut [u8]) -> CallResult,
-    statuses: &[u32],
+    status: u32,
 ) -> Result<Text, Error> {
     ready()?;
     let mut buffer = Vec::new();
@@ -41,7 +41,7 @@ pub(crate) fn written(
         grow(&mut buffer, result.size)?;
         result = call(&mut buffer);
     }
-    if !statuses.contains(&result.status) {
+    if result.status != status {
         return Ok(Text::Not(result));
     }
     if result.size > buffer.len() {
