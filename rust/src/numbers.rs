@@ -120,8 +120,8 @@ mod tests {
 
     /// `FANCY_NAME = 1` and `#define FANCY_NAME 1`, as a name without `FANCY_`, and a number.
     fn constants(header: &str) -> BTreeMap<String, u32> {
-        let words = header.split(|c: char| !(c.is_ascii_alphanumeric() || c == '_' || c == '='));
-        let words: Vec<&str> = words.filter(|word| !word.is_empty() && *word != "=").collect();
+        let is_part = |c: char| c.is_ascii_alphanumeric() || c == '_' || c == '*';
+        let words: Vec<&str> = header.split(|c| !is_part(c)).filter(|word| !word.is_empty()).collect();
         let pairs = words.windows(2).filter_map(|pair| {
             let name = pair[0].strip_prefix("FANCY_")?;
             Some((name.to_owned(), pair[1].parse().ok()?))
