@@ -1,5 +1,5 @@
-//! Random strings as patterns. `RANDOM_STRINGS` says how many, and `RANDOM_RECORDS` names a file to which the results are written
-//! as the records of `crates/conformance/data`, for another program to compare.
+//! Random strings as patterns. `RANDOM_STRINGS` says how many, `RANDOM_SEED` which, and `RANDOM_RECORDS` names a file to which
+//! the results are written as the records of `crates/conformance/data`, for another program to compare.
 
 mod common;
 
@@ -174,10 +174,12 @@ fn check_error(pattern: &str, flags: Flags, error: &Error) {
 
 #[test]
 fn random_strings() {
-    let count = std::env::var("RANDOM_STRINGS").map_or(10_000, |count| count.parse().unwrap());
+    let number = |name, or| std::env::var(name).map_or(or, |number| number.parse::<u64>().unwrap());
+    let count = number("RANDOM_STRINGS", 10_000);
     let records = std::env::var_os("RANDOM_RECORDS");
     let mut records = records.map(|file| BufWriter::new(File::create(file).unwrap()));
-    let mut random = Random(0x9E37_79B9_7F4A_7C15);
+    // far apart, also for seeds that follow one another
+    let mut random = Random((number("RANDOM_SEED", 0) + 1).wrapping_mul(0x9E37_79B9_7F4A_7C15));
     let mut rows = Rows::new();
     let mut invalid = 0;
     for _ in 0..count {
