@@ -164,12 +164,15 @@ fn push_start<'a>(out: &mut String, text: &'a str) -> Result<&'a str, AllocError
     push_symbol(out, text, ']')
 }
 
+/// The initial capacity of a class's text, in bytes, which few classes exceed.
+const CLASS_CAPACITY: usize = 24;
+
 /// Reads a class and those nested in it through its last bracket: the text that is written, and the rest of the text.
 fn read_class(alloc: Global, text: &str, flags: Flags) -> Result<(String, &str), ReadError>
     ensures value { IsReadingOrNoMemory text_of result (spec.class flags (chars text.now)) }
     ensures shorter { IfOk result (λ p. length p.1.now < length text.now) }
 {
-    let mut out = String::new(alloc);
+    let mut out = String::with_capacity(alloc, CLASS_CAPACITY)?;
     let mut rest = push_start(&mut out, text)?;
     let mut outer = 0usize;
     let mut seen = false;

@@ -39,7 +39,7 @@ pub enum ReadError {
 impl ReadError {
     /// The error of this kind at the position where `rest` begins.
     pub fn at(rest: &str, kind: ParseError) -> ReadError
-        ensures { result ≡ At (reach_of (chars rest.now)) kind.entry }
+        ensures { result ≡ At (reach_of (chars rest.now)) kind }
     {
         ReadError::At(reach(rest), kind)
     }
