@@ -5,9 +5,9 @@ use std::alloc::Global;
 use std::str;
 use std::test::Fail;
 
-/// Patterns, and the widths and heights of their pictures. Round the tree are 36 pixels at either side, and 16 above it; below
-/// it are 24, the lines of the pattern, 24 for each, and 16. A character is 9 wide, a small one 7; the box of a character is
-/// 13 wide and 24 high.
+/// Patterns, and the widths and heights of their pictures. Around the tree there are 36 pixels at either side, and 16
+/// above it; below it there are 24, the lines of the pattern, 24 for each, and 16. A character is 9 wide, a small one 7;
+/// the box of a character is 13 wide and 24 high.
 static SIZES: [(&str, usize, usize); 12] = [
     ("", 72 + 24, 40 + 24 + 40),
     ("a", 72 + 13, 40 + 24 + 40),
