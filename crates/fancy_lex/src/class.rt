@@ -139,7 +139,7 @@ fn push_escape(out: &mut String, escaped: Escaped, seen: bool) -> Result<bool, A
     }
 }
 
-/// Adds the delimiter if the text begins with it, and returns the text after it.
+/// Adds the symbol and returns the text after it, if the text begins with it; otherwise returns the text.
 fn push_symbol<'a>(out: &mut String, text: &'a str, symbol: char) -> Result<&'a str, AllocError>
     ensures value { IfOk result
         (λ r. spec.with_symbol symbol (text_of out.old, chars text.now) ≡ (text_of out.new, chars r.now)) }

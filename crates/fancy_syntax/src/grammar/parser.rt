@@ -34,7 +34,7 @@ use std::mem;
 /// What has been read of a text so far.
 #[derive(Drop)]
 pub(crate) struct Parser<'a> {
-    /// The position of the loop.
+    /// The flags that hold, and the rest of the text.
     pub(crate) current: State<'a>,
     /// The innermost open group.
     pub(crate) frame: Frame<'a>,
