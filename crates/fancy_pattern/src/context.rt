@@ -4,7 +4,7 @@ ghost use Rattle.fancy_lex.specs.declared.flags.Flags.{Flags};
 ghost use Rattle.fancy_grammar.specs.Pattern as spec;
 ghost use Rattle.fancy_grammar.specs.PatternNeeds.{with_needs};
 ghost use Rattle.fancy_grammar.specs.declared.needs.Needs.{Needs};
-ghost use Rattle.fancy_pattern.specs.Wheres.{IsContext};
+ghost use Rattle.fancy_pattern.specs.ContextViews.{IsContext};
 
 use crate::needs::{no_needs, with_needs};
 use fancy_grammar::depth::MAX_DEPTH;

@@ -17,7 +17,7 @@ ghost use Rattle.fancy_grammar.specs.declared.needs.Needs.{Needs};
 ghost use Rattle.fancy_grammar.specs.declared.precedence.Precedence.TheVariants.{Whole, Branch, Piece};
 ghost use Rattle.fancy_pattern.specs.TextOutput.{Added, Changed};
 ghost use Rattle.fancy_syntax.specs.View.{view, views};
-ghost use Rattle.fancy_pattern.specs.Wheres.{IsContext, AreGroupNames, alone_text};
+ghost use Rattle.fancy_pattern.specs.ContextViews.{IsContext, AreGroupNames, alone_text};
 ghost use Rattle.fancy_pattern.specs.Writers.{Writes, WritesSettled, needs_below, takes_inline_flags};
 ghost use Rattle.fancy_pattern.specs.Writers.{is_conditional, is_expression, parts_text, branches_needs, choice_text};
 ghost use Rattle.fancy_pattern.specs.Writers.{after_branches};
