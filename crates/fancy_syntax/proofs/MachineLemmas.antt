@@ -535,9 +535,9 @@ running_start start none stack f trees e x i j k = record {
 
 -- the contents of the stack do not depend on where the piece began
 pub running_began : {start t : State} {none l : Log} {stack : List Frame} {f : Frame} {trees : List Tree}
-    (piece : PieceStart) → Running start none stack f trees t l →
-    Running start none stack (record f { piece = piece }) trees t l
-running_began piece h = record {
+    (begun : PieceStart) → Running start none stack f trees t l →
+    Running start none stack (record f { piece = begun }) trees t l
+running_began begun h = record {
   depth = h.depth;
   begin = h.begin;
   before = h.before;
