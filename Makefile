@@ -1,6 +1,7 @@
 # Installs the programs: `make install` proves and builds `patterns` and `fre`, and installs them below PREFIX with their man pages and the
 # completions of `patterns` for bash, zsh and fish, inside DESTDIR where that is set. The library for C is installed by `make -C c install`.
-# Needs the toolchain. From nothing it takes about half an hour on four processors; after `rt ci`, seconds.
+# `make uninstall` with the same variables removes the files. Needs the toolchain. The first build takes about half an hour on four processors;
+# after `rt ci` it takes seconds.
 PREFIX = /usr/local
 BINDIR = $(PREFIX)/bin
 DATADIR = $(PREFIX)/share

@@ -1,5 +1,5 @@
-# Sourced by the scripts that ask what a crate depends on. Sets `uses`: the libraries of each crate, as crates.txt has them, with those of
-# the toolchain.
+# Sourced by the scripts that need to know what a crate depends on. Sets `uses`: the libraries of each crate, from crates.txt, and those that
+# every crate uses.
 declare -A uses=()
 while IFS=: read -r crate libraries; do
     uses[${crate%% *}]="core std$libraries"

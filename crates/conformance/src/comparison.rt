@@ -1,6 +1,6 @@
-//! How an answer stands to the recorded one.
+//! How a result compares with the recorded one.
 
-/// What the program says where memory was refused.
+/// What the program says where memory ran out.
 pub(crate) const OUT_OF_MEMORY: &str = "out of memory\n";
 
 /// What a run ended with, and what it wrote.
@@ -12,7 +12,7 @@ pub(crate) struct RunResult {
 }
 
 impl RunResult {
-    /// Whether the run came to no answer, since memory was refused: what is on standard output is a beginning of the
+    /// Whether the run has no result, since memory ran out: what is on standard output is a beginning of the
     /// recorded lines.
     pub(crate) fn is_out_of_memory(&self, recorded: &RunResult) -> bool {
         self.status == 3
@@ -20,7 +20,7 @@ impl RunResult {
             && recorded.out.starts_with(&self.out)
     }
 
-    /// Whether the answer is the recorded one, byte by byte.
+    /// Whether the result is the recorded one, byte by byte.
     pub(crate) fn is(&self, recorded: &RunResult) -> bool {
         self.status == recorded.status && self.out == recorded.out && self.err == recorded.err
     }

@@ -23,8 +23,8 @@ use std::rt::Files;
 use std::{env, fs};
 use texts::{is_written, replay_writing};
 
-/// What the program writes now; an error where memory was refused. It writes into capacity that it has, so that what is
-/// refused is no write.
+/// What the program writes now; an error where memory ran out. It writes into capacity that it has, so that no write
+/// fails.
 fn result_now(alloc: Global, record: &Reading) -> Result<RunResult> {
     let recorded = &record.run_result;
     let mut out = Vec::with_capacity(alloc, recorded.out.len())?;
@@ -45,8 +45,8 @@ fn is_cloned(alloc: Global, error: &Error) -> Result<bool> {
     Ok(format!(in alloc; "{copy}")? == message)
 }
 
-/// Whether a clone of the pattern's tree is equal to it, and the tree is written as a text that is read as it; or, where
-/// the pattern is invalid, whether a clone of its error says the same.
+/// Whether a clone of the pattern's tree is equal to it, and the tree is written as a text that parses back as it; or,
+/// where the pattern is invalid, whether a clone of its error says the same.
 fn is_kept(alloc: Global, record: &Reading) -> Result<bool> {
     let [word, pattern] = &record.words;
     let Some(flags) = flags_named(word.as_str()) else {
@@ -64,8 +64,8 @@ fn replay_reading(alloc: Global, record: &Reading) -> Result<bool> {
     Ok(is_kept(alloc, record)? && result_now(alloc, record)?.is(&record.run_result))
 }
 
-/// The text of the tree now, none where it is not printable. A refusal of memory for the text is said to be one, and
-/// leaves nothing of it.
+/// The text of the tree now, none where it is not printable. If memory runs out for the text, the error says so, and
+/// nothing of the text is left.
 fn text_now(alloc: Global, tree: &Expr, precedence: u8) -> Result<Option<String>> {
     if !tree.is_printable(alloc)? {
         return Ok(None);

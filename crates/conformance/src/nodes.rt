@@ -141,7 +141,7 @@ fn reference(alloc: Global, words: &[&str]) -> Result<Expr> {
     })
 }
 
-/// The node of a line with this child alone.
+/// The node of a line with only this child.
 fn over_one(alloc: Global, words: &[&str], child: Expr) -> Result<Expr> {
     let child = Box::new(alloc, child)?;
     Ok(match words {

@@ -1,4 +1,4 @@
-//! Recorded results: the lines of the files, whose fields tabs part. Texts are in hexadecimal, `-` or nothing where
+//! Recorded results: the lines of the files, whose fields tabs separate. Texts are in hexadecimal, `-` or nothing where
 //! empty.
 use crate::comparison::RunResult;
 use anyhow::{Result, bail};
@@ -36,8 +36,8 @@ pub(crate) enum Record {
     Printing(Printing),
 }
 
-/// What is between the separators. To collect it would request capacity by what is expected, and do without it where
-/// that is refused; here each refusal is passed on.
+/// What is between the separators. `collect` would first try to allocate the expected capacity, and go on if that
+/// fails; here each failed allocation is an error.
 pub(crate) fn parts(alloc: Global, line: &str, separator: char) -> Result<Vec<&str>> {
     let mut parts = Vec::new(alloc);
     for part in line.split(separator) {

@@ -8,7 +8,7 @@ use fancy_syntax::tree::ExprTree;
 use fre_program::flag_word::flags_named;
 use std::alloc::Global;
 
-/// The tree of a pattern, none where it is refused.
+/// The tree of a pattern, none where it is invalid.
 fn tree_of(alloc: Global, pattern: &str, flags: u32) -> Result<Option<ExprTree>> {
     match Expr::parse_tree_with_flags(alloc, pattern, flags) {
         Ok(tree) => Ok(Some(tree)),
@@ -17,7 +17,8 @@ fn tree_of(alloc: Global, pattern: &str, flags: u32) -> Result<Option<ExprTree>>
     }
 }
 
-/// Whether the tree has a text, which is read as the tree but for places, and is the text of what is read.
+/// Whether the tree has a text that parses back as the tree, except for positions, and the tree parsed back has the
+/// same text.
 pub(crate) fn is_written(alloc: Global, tree: &ExprTree, flags: u32) -> Result<bool> {
     let Some(text) = to_pattern(alloc, tree, flags)? else {
         return Ok(false);

@@ -72,19 +72,19 @@ pub record IsErrorOfBytes (f : Flags) (bytes : List ℕ) (k : Kind) (offset : �
 abbrev pub IsNoUtf8 : List ℕ → ℕ → Type 0
 IsNoUtf8 bytes offset = (¬ IsUtf8 bytes) × (offset ≡ utf8_valid_len bytes)
 
--- the refusal is that of the bytes, or memory ran out
+-- the bytes are refused for this reason: they are not UTF-8, or the pattern is invalid; or memory ran out
 abbrev pub IsRefusalOf : BytesRefusal → Flags → List ℕ → Type 0
 IsRefusalOf (NoUtf8 offset) f bytes = IsNoUtf8 bytes offset
 IsRefusalOf (Parse (ParseError offset kind)) f bytes = IsErrorOfBytes f bytes (kind_of kind) offset
 IsRefusalOf (Parse OutOfMemory) f bytes = Unit {0}
 
--- the answer has the kind and the position, and the number of bytes of the kind's message
+-- the result has the kind and the position, and the number of bytes of the kind's message
 pub record IsReported (a : CallResult) (offset : ℕ) (k : Kind) : Type 0 where
   pub kind : a.kind ≡ number_of_kind k
   pub position : a.position ≡ offset
   pub size : a.size ≡ length (kind_text k)
 
--- the answer for a refusal
+-- the result for bytes that are refused
 abbrev pub result_of : BytesRefusal → CallResult
 result_of (NoUtf8 p) = record { status = STATUS_NOT_UTF8; kind = ERROR_NONE; position = p; size = 0 }
 result_of (Parse (ParseError p k)) =

@@ -18,7 +18,7 @@ pub(crate) fn fill(buffer: &mut [u8], text: &[u8]) -> bool
     true
 }
 
-/// Writes the text at the front of the buffer if it fits, and returns the answer for the caller.
+/// Writes the text at the front of the buffer if it fits, and returns the result for the caller.
 pub(crate) fn write(buffer: &mut [u8], text: &[u8]) -> CallResult
     ensures read { result.status ≡ STATUS_OK → Fills buffer.old buffer.new text.now }
     ensures short { result.status ≡ STATUS_BUFFER_TOO_SHORT → length buffer.old < length text.now }

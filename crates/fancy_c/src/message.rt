@@ -64,7 +64,7 @@ fn report(alloc: Global, offset: usize, kind: &ParseError, buffer: &mut [u8]) ->
     }
 }
 
-/// Parses a pattern as `fancy_check_nonnull` does, and if it is refused, writes the message of its error to the front
+/// Parses a pattern as `fancy_check_nonnull` does, and if it is invalid, writes the message of its error to the front
 /// of `buffer`, without its position. Returns what `fancy_check_nonnull` returns, with the size of the message in
 /// bytes, but `STATUS_BUFFER_TOO_SHORT` if the message does not fit: then too with the kind, the position and the size.
 /// Unless it returns `STATUS_REFUSED`, nothing is written.

@@ -33,7 +33,7 @@ pub(crate) enum BytesRefusal {
 }
 
 impl BytesRefusal {
-    /// The answer for the caller in C.
+    /// The result for the caller in C.
     pub(crate) fn call_result(&self) -> CallResult
         ensures { result ≡ result_of self.now }
     {

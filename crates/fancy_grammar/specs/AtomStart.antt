@@ -32,26 +32,26 @@ use Rattle.fancy_grammar.specs.declared.kinds.LookAround.TheVariants.{LookBehind
 
 -- the start of an atom, which decides its rule
 pub data AtomStart : Type 0 where
-  nothing : AtomStart  -- no atom: it is Empty, and takes no character
+  nothing : AtomStart  -- no character of an atom: the atom is Empty
   read : Outcome Tree → AtomStart  -- an atom without branches, read at once, or an error: its outcome
-  of_kind : GroupKind → State → AtomStart  -- a group of one alternation, which begins at the state
+  of_kind : GroupKind → State → AtomStart  -- a group of this kind; its alternation begins at the state
   condition : State → AtomStart  -- a conditional whose condition is an alternation, which begins at the state
   body : Tree → State → AtomStart  -- a conditional whose condition is this tree; its body begins at the state
   absent_branch : State → AtomStart  -- `(?~|` of an absent expression, stopper or clear; a branch begins at the state
 
--- no atom can begin here: this error
+-- no atom can begin here: reading ends with this error
 abbrev pub refused : Located → AtomStart
 refused e = read (failed_with e)
 
--- the start of each line; in Oniguruma mode it has a variant of its own
+-- the assertion of the start of a line; in Oniguruma mode it is another variant
 abbrev pub start_of_line : Flags → Assertion
 start_of_line f = if f.oniguruma_mode then StartLineOniguruma f.crlf else StartLine f.crlf
 
--- what `^` means: under MULTI the start of each line
+-- what `^` stands for: under MULTI the start of each line
 abbrev pub start_anchor : Flags → Assertion
 start_anchor f = if f.multi then start_of_line f else StartText
 
--- what `$` means: under MULTI the end of each line
+-- what `$` stands for: under MULTI the end of each line
 abbrev pub end_anchor : Flags → Assertion
 end_anchor f = if f.multi then EndLine f.crlf else EndText
 
@@ -78,7 +78,7 @@ leaf_node (escaped.delegate t casei) = delegate t casei
 leaf_node (escaped.backref r casei) = backref_node casei r
 leaf_node (escaped.subroutine_call c) = call_node c
 
--- what a reader returns, as the outcome of a leaf
+-- what a reader returns at this state, as the outcome of a leaf
 abbrev pub leaf_outcome : {A : Type 0} → (A → Tree) → State → Reading A → Outcome Tree
 leaf_outcome node s (gives a t) = done (node a) (at s t)
 leaf_outcome node s (fails e) = failed_with e
@@ -107,7 +107,7 @@ abbrev pub target_start : State → Reading Reference → AtomStart
 target_start s (gives r u) = body (condition_node r) (at s u)
 target_start s (fails e) = refused e
 
--- a flag group, whose letters were read
+-- inline flags, or a flag group, whose letters were read
 abbrev pub flags_start : Reading Letters → AtomStart
 flags_start (gives (inline_flags f) u) = read (done empty (record { flags = f; rest = u }))
 flags_start (gives (scoped f) u) = of_kind flag_group (record { flags = f; rest = u })
@@ -136,7 +136,7 @@ abbrev pub repeater_start : State → Text → AtomStart
 repeater_start s [] = refused group_not_closed
 repeater_start s (c ∷ t) = of_kind repeater (at s (c ∷ t))
 
--- after the question mark that opens a group: the first row whose word is next, or else the letters of flags
+-- after the question mark that opens a group: the first row whose characters come next, or else flag letters
 abbrev pub after_question : State → Text → AtomStart
 after_question s t =
     choose (strip_word (codes "=") t) (λ u. of_kind (look LookAhead) (at s u)) (

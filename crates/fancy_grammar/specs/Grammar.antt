@@ -1,8 +1,8 @@
 -- The grammar: what each production reads from a state, at a depth of open groups.
--- A part that another part follows has a rule of its own for its error. If a part is the last one, its outcome decides
--- the outcome of the whole.
+-- A production has several parts, one after another. The last part decides the outcome of the whole. Each part before
+-- it has a rule of its own for its error.
 -- Layout, classes, the letters of flag groups, boundaries, hex codes, numbers, names and id references are read by
--- functions in the premises. `Premises` states that these agree with the relations in the same files.
+-- functions in the premises. Those that loop have a relation too; `Premises` states that the two agree.
 use Rattle.std.specs.Prelude.{◌≡◌, ℕ, ◌+◌, ◌==◌, Bool, true, false, not, ◌&&◌, List, [], ◌∷◌, Some, None}
 use Rattle.std.specs.Prelude.{if◌then◌else◌}
 use Prim.Native.Char.{code}
@@ -53,24 +53,24 @@ abbrev pub branches_of : Tree → Tree × Tree
 branches_of (alt (more_trees t ts)) = (t, choice (list_of ts))
 branches_of r = (r, empty)
 
--- the conditional of the condition c, whose body began when this many bytes were left; only a condition on a group may
--- have no body
+-- the conditional of the condition c and the body r, which began when `left` bytes were left and ends at s; only a
+-- condition on a group may have no body
 abbrev pub conditional_after : Tree → ℕ → Tree → State → Outcome Tree
 conditional_after c left r s =
     if bytes s.rest == left && not (is_condition c) then failed_with (body_missing s.rest)
     else closed (conditional_of c (branches_of r).0 (branches_of r).1) s
 
--- the branch after `(?~|`, if no other branch follows
+-- the node of the one branch after `(?~|`: a clear if it is empty, and otherwise a stopper
 abbrev pub clear_or_stopper : Tree → Tree
 clear_or_stopper a = if is_empty a then clear else stopper a
 
 -- ---- the flags after an atom
 
--- what is read, with these flags after it
+-- the same outcome, but with these flags after what is read
 abbrev pub restored : Flags → Outcome Tree → Outcome Tree
 restored f q = and_then q (λ r t. done r (record t { flags = f }))
 
--- after a group, the flags f from before it hold again; what is read at once, such as `(?flags)`, leaves its own flags
+-- after a group, the flags f from before it hold again; what is read at once, such as inline flags, leaves its own
 abbrev pub after_atom : AtomStart → Flags → Outcome Tree → Outcome Tree
 after_atom nothing f q = q
 after_atom (read o) f q = q

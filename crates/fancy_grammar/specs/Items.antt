@@ -55,7 +55,7 @@ openings_in (reference r reach ∷ l) = openings_in l
 abbrev pub openings : Tree → List Opening
 openings r = openings_in (items r)
 
--- ---- what the references mean
+-- ---- what the references refer to
 
 -- the references among the items, each with its reach and its meaning; `numbers_of` gives the numbers of each name, and
 -- c groups that have a number open before the items

@@ -32,10 +32,10 @@ use Rattle.fancy_grammar.specs.declared.kinds.BacktrackingControlVerb.TheVariant
 use Rattle.fancy_grammar.specs.declared.precedence.Precedence.{Precedence}
 use Rattle.fancy_grammar.specs.declared.precedence.Precedence.TheVariants.{Whole, Branch, Piece, Operand}
 
--- ---- where a text is written
+-- ---- the context in which a text is written
 
 pub record Context : Type 0 where
-  pub flags : Flags  -- the flags that hold here
+  pub flags : Flags  -- the flags that hold there
   pub opened : ℕ  -- how many groups with a number opened before
   pub depth : ℕ  -- how many groups are open
 
@@ -48,13 +48,13 @@ past_groups n h = record h { opened = h.opened + n }
 abbrev pub deeper : Context → Context
 deeper h = record h { depth = h.depth + 1 }
 
--- pieces may follow one another here
+-- several pieces are allowed at this precedence
 abbrev pub takes_pieces : Precedence → Bool
 takes_pieces Whole = true
 takes_pieces Branch = true
 takes_pieces _ = false
 
--- branches, with bars between them, may be written here
+-- several branches are allowed at this precedence
 abbrev pub takes_branches : Precedence → Bool
 takes_branches Whole = true
 takes_branches _ = false
@@ -64,7 +64,7 @@ abbrev pub is_operand : Precedence → Bool
 is_operand (Operand k) = true
 is_operand _ = false
 
--- a quantifier follows, and no other may come before it
+-- a quantifier follows, and no other is allowed before it
 abbrev pub is_last_operand : Precedence → Bool
 is_last_operand (Operand zero) = true
 is_last_operand _ = false

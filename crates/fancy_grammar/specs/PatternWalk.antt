@@ -24,6 +24,6 @@ abbrev mutual
   all_listed o no_trees = []
   all_listed o (more_trees t ts) = needs_listed o t ++ all_listed o ts
 
--- where the text after these trees is written, if each of them is written at this precedence
+-- the context of the text after these trees, if each of them is written at this precedence
 abbrev pub after_all : Trees → Precedence → Context → Context
 after_all ts p h = past_groups (group_count_all ts) (under (flags_after_all ts p h.flags) h)

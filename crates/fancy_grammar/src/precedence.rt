@@ -1,4 +1,4 @@
-//! Where the text of a tree is used.
+//! Which part of a pattern the text of a tree is.
 
 /// The part of a pattern that a text has to be.
 #[derive(Clone, Copy)]

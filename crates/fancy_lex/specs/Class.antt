@@ -48,7 +48,8 @@ joint needed = if needed then codes "&&" else []
 abbrev pub escape_in_class : Bool → Escape → Text
 escape_in_class seen e = joint (seen && is_negated e) ++ escape_text e
 
--- adds the delimiter to the text that is written, if the rest begins with it
+-- p is the text that is written, with the rest of the text: the symbol passes from the rest to the text, if the rest
+-- begins with it
 abbrev pub with_symbol : ℕ → Text × Text → Text × Text
 with_symbol symbol p = choose {B = Text × Text} (strip symbol p.1) (λ u. (p.0 ++ symbol ∷ [], u)) p
 

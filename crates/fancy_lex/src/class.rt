@@ -139,7 +139,7 @@ fn push_escape(out: &mut String, escaped: Escaped, seen: bool) -> Result<bool, A
     }
 }
 
-/// Adds the delimiter if the text begins with it, and returns the text after it.
+/// Adds the symbol and returns the text after it, if the text begins with it; otherwise returns the text.
 fn push_symbol<'a>(out: &mut String, text: &'a str, symbol: char) -> Result<&'a str, AllocError>
     ensures value { IfOk result
         (λ r. spec.with_symbol symbol (text_of out.old, chars text.now) ≡ (text_of out.new, chars r.now)) }
@@ -164,12 +164,15 @@ fn push_start<'a>(out: &mut String, text: &'a str) -> Result<&'a str, AllocError
     push_symbol(out, text, ']')
 }
 
+/// The initial capacity of a class's text, in bytes, which few classes exceed.
+const CLASS_CAPACITY: usize = 24;
+
 /// Reads a class and those nested in it through its last bracket: the text that is written, and the rest of the text.
 fn read_class(alloc: Global, text: &str, flags: Flags) -> Result<(String, &str), ReadError>
     ensures value { IsReadingOrNoMemory text_of result (spec.class flags (chars text.now)) }
     ensures shorter { IfOk result (λ p. length p.1.now < length text.now) }
 {
-    let mut out = String::new(alloc);
+    let mut out = String::with_capacity(alloc, CLASS_CAPACITY)?;
     let mut rest = push_start(&mut out, text)?;
     let mut outer = 0usize;
     let mut seen = false;

@@ -39,12 +39,12 @@ pub enum ReadError {
 impl ReadError {
     /// The error of this kind at the position where `rest` begins.
     pub fn at(rest: &str, kind: ParseError) -> ReadError
-        ensures { result ≡ At (reach_of (chars rest.now)) kind.entry }
+        ensures { result ≡ At (reach_of (chars rest.now)) kind }
     {
         ReadError::At(reach(rest), kind)
     }
 
-    /// The error of a reader in this pattern.
+    /// The same error, with its position in this pattern in place of its reach.
     pub fn in_pattern(self, pattern: &str) -> Error
         ensures { result ≡ error_in (chars pattern.now) self }
     {
@@ -67,12 +67,12 @@ pub enum ParseError {
     /// Never returned: braces that are no quantifier are literals, as in `a{x}`.
     InvalidRepeat,
     /// A group inside 63 others, at its parenthesis. Under `FLAG_ONIGURUMA_MODE` also too many consecutive quantifiers,
-    /// or ones nested too deeply: `a******` at 7, the end of the last one.
+    /// or quantifiers nested too deeply: `a******` at 7, the end of the last one.
     RecursionExceeded,
     /// The pattern ends with a backslash: `a\` at 1.
     TrailingBackslash,
     /// An unknown escape, `\y` at 0, or word boundary, `\b{x}` at 0: at the backslash. It holds the escape without
-    /// what is ignored in it, or `\b{...}` if the braces of the boundary are not closed.
+    /// the layout in it, or `\b{...}` if the braces of the boundary are not closed.
     InvalidEscape(String),
     /// The braces of a Unicode property are not closed: `\p{Greek` at 0, the backslash.
     UnclosedUnicodeName,
@@ -82,10 +82,10 @@ pub enum ParseError {
     InvalidCodepointValue,
     /// The pattern ends inside a class, `[a` at 2; or a class has an escape in digits, `[\1]` at 1.
     InvalidClass,
-    /// An unknown flag letter, a second minus, or a flag group without letters: `(?z)` at 2, right after the `?`. It
-    /// holds the group as written, from `(?` through the offending character.
+    /// An unknown flag letter, or a second minus: `(?z)` at 2, right after the `?`. Also flags without a letter: `(?)`,
+    /// `(?-)` and `(?-:a)` at 2. It holds the text from `(?` through the offending character.
     UnknownFlag(String),
-    /// A flag group changes the Unicode setting: `(?-u)a` at 3, its `u`.
+    /// Inline flags, or those of a flag group, would change the Unicode flag: `(?-u)a` at 3, the `u`.
     ChangingUnicodeModeUnsupported,
     /// A back reference or condition by a name that no group has, `\k<b>` at 2, or by a relative number that
     /// leads below group 0, `\k<-2>` at 2; or the digits after `\` or `\g` are above `usize::MAX`, at the first digit.
@@ -102,7 +102,7 @@ pub enum ParseError {
 }
 
 impl ParseError {
-    /// The words of the kind, and the text after them that the kind carries, which is empty if it carries none.
+    /// The message of the kind, in two parts: its words, and the text that the kind carries, empty if it carries none.
     fn words(&self) -> (&'static str, &str)
         ensures { kind_text (kind_of self.now) ≡ result.0.now ++ result.1.now }
     {

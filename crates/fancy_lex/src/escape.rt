@@ -86,7 +86,7 @@ pub enum Escaped<'a> {
     SubroutineCall(Call<'a>),
 }
 
-/// The text of a delegate, which is not built yet.
+/// What the text of a delegate will be. The text itself is not built yet.
 #[derive(Clone, Copy)]
 pub enum DelegateText<'a> {
     /// A backslash and the letter.
@@ -95,7 +95,8 @@ pub enum DelegateText<'a> {
     HexDigit,
     /// `[^0-9A-Fa-f]`.
     NotHexDigit,
-    /// The text that is written for the property, with UNICODE or without, in a class or outside.
+    /// The text that is written for the property, with UNICODE if `unicode`, and in a class if
+    /// `inside`.
     Property {
         property: Property<'a>,
         unicode: bool,
@@ -141,16 +142,16 @@ fn delegate(inner: DelegateText<'static>) -> Escaped<'static>
     }
 }
 
-/// Whether the character is a literal after a backslash. Letters and digits are not, nor are `<` and `>` outside a
-/// class.
+/// Whether the character after a backslash stands for itself. ASCII letters and digits do not, nor do `<` and `>`
+/// outside a class.
 fn is_itself(c: char, inside: bool) -> bool
     ensures { result ≡ spec.is_itself inside c }
 {
     !c.is_ascii_alphanumeric() && (inside || !matches!(c, '<' | '>'))
 }
 
-/// Reads digits, which are a back reference. In a class the error is InvalidClass at `reach`, unless their number does
-/// not fit in a word.
+/// Reads digits, which are a back reference outside a class. In a class they are an error: that of the number if it
+/// does not fit in a word, and otherwise InvalidClass at `reach`.
 #[tactic(auto, unfolding(crate::specs::Escape::number_escape))]
 fn number_escape(
     text: &str,
@@ -237,7 +238,7 @@ fn property<'a>(
     Ok((Escaped::Delegate { inner, casei }, rest))
 }
 
-/// The property whose name is the character at the front.
+/// The property whose name is the character at the front; None if a brace is there, or nothing.
 #[inline(always)]
 #[tactic(auto, unfolding(crate::specs::Escape::property, crate::specs::Property::read_property, crate::specs::Property::name_at))]
 fn short_property(text: &str, letter: char, flags: Flags) -> Option<(Escaped<'static>, &str)>
@@ -283,7 +284,7 @@ fn word_boundary(c: char, boundary: Assertion, flags: Flags) -> Escaped<'static>
     }
 }
 
-/// The leaf of the letter after a backslash, in a class and outside, if it is the whole escape.
+/// The leaf that a letter after a backslash has in a class as well as outside, if the letter is the whole escape.
 #[inline(always)]
 fn lone_anywhere(c: char, flags: Flags) -> Option<Escaped<'static>>
     ensures { spec.row_of c (spec.lone_anywhere flags c) ≡ option_map escape_of result }
@@ -306,7 +307,7 @@ fn lone_anywhere(c: char, flags: Flags) -> Option<Escaped<'static>>
     }
 }
 
-/// The leaf of the letter after a backslash in a class, if it is the whole escape, and an escape only there.
+/// The leaf that a letter after a backslash has only in a class, if the letter is the whole escape.
 fn lone_in_class(c: char) -> Option<Escaped<'static>>
     ensures { spec.row_of c (spec.lone_in_class c) ≡ option_map escape_of result }
 {
@@ -317,7 +318,7 @@ fn lone_in_class(c: char) -> Option<Escaped<'static>>
     }
 }
 
-/// The leaf of the character after a backslash outside a class, if it is the whole escape, and an escape only there.
+/// The leaf that a character after a backslash has only outside a class, if the character is the whole escape.
 #[inline(always)]
 fn lone_outside(c: char, flags: Flags) -> Option<Escaped<'static>>
     ensures { spec.row_of c (spec.lone_outside flags c) ≡ option_map escape_of result }
@@ -339,8 +340,8 @@ fn lone_outside(c: char, flags: Flags) -> Option<Escaped<'static>>
     }
 }
 
-/// The leaf of the character after a backslash, if it is the whole escape. None if more belongs to the escape, and for
-/// a letter that is no escape.
+/// The leaf of the character after a backslash, if it is the whole escape. None if the escape has more characters, and
+/// for a letter that is no escape.
 #[inline(always)]
 #[tactic(auto, unfolding(crate::specs::Escape::lone_escape))]
 fn lone_escape(c: char, flags: Flags, inside: bool) -> Option<Escaped<'static>>
@@ -388,7 +389,7 @@ fn read_escape<'a>(
     }
 }
 
-/// The call at the front, after its letter, if it can be parsed.
+/// The call at the front, after its `g`, if it can be parsed.
 #[inline(always)]
 #[tactic(auto, using(crate::proofs::EscapeLemmas::call_is))]
 fn short_call(text: &str) -> Option<(Escaped<'_>, &str)>
@@ -413,9 +414,9 @@ fn code_width(letter: char) -> u32
     }
 }
 
-/// The escape at the front, after a backslash outside a class, if a look-ahead parses all of it, and the text after it:
-/// a single character, a code of a fixed number of digits without whitespace and comments before them, a property of
-/// one character, a reference or a call.
+/// The escape at the front, after a backslash outside a class, and the text after it, if the escape is a short one: a
+/// single character, a code of a fixed number of digits without whitespace and comments before them, a property whose
+/// name is one character, a reference or a call. None for any other escape, and for one that cannot be parsed.
 #[inline(always)]
 #[tactic(auto, unfolding(crate::specs::Escape::escape_at, crate::specs::Escape::lone_escape, crate::specs::Escape::outside, crate::specs::Escape::number_escape))]
 pub fn short_escape(text: &str, flags: Flags) -> Option<(Escaped<'_>, &str)>
@@ -439,9 +440,9 @@ pub fn short_escape(text: &str, flags: Flags) -> Option<(Escaped<'_>, &str)>
 
 /// Parses what follows a backslash, in a class if `inside` says so.
 ///
-/// The errors, at the backslash if nothing else is named: TrailingBackslash at the end of the text; InvalidEscape for a
-/// letter that is no escape, for a `g` at the end of the text, and for a boundary whose braces are not closed or hold
-/// no name; UnclosedUnicodeName for a property whose braces are not closed; InvalidClass for digits in a class;
+/// The errors, at the backslash if no other position is named: TrailingBackslash at the end of the text; InvalidEscape
+/// for a letter that is no escape, for a `g` at the end of the text, and for a boundary whose braces are not closed or
+/// hold no name; UnclosedUnicodeName for a property whose braces are not closed; InvalidClass for digits in a class;
 /// InvalidBackref at the first digit, if the number does not fit in `usize`; those of `hex` after `x`, `u` and `U`;
 /// those of `back_reference` after `k`, and of `subroutine_call` after `g`, outside a class; UnclosedOpenParen if a
 /// comment is not closed.

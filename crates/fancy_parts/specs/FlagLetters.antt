@@ -25,13 +25,14 @@ with_letter f on c =
     else if c == code "x" then Some (record f { ignore_space = on })
     else None
 
--- the result of one letter: the letters end there, or go on under these flags; then `clears` says whether the next ones
--- clear their flags or set them
+-- the result of one character: the letters end with it, or go on under these flags; then `clears` says whether the next
+-- ones clear their flags or set them
 pub data LetterStep : Type 0 where
   flags_end : Letters → LetterStep
   flags_go_on : (clears : Bool) → Flags → LetterStep
 
--- the character is no flag letter; `w` is the text of the letters before it, and `clears` says whether a minus was read
+-- the character c is an error there; `w` is the text of the letters before it, and `clears` says whether a minus was
+-- read
 pub data NoLetter (w : Text) (clears : Bool) (f : Flags) (c : ℕ) : Type 0 where
   nothing_closed : c ≡ code ")" → (w ≡ []) ⊎ (w ≡ codes "-") → NoLetter w clears f c
   nothing_scoped : c ≡ code ":" → w ≡ codes "-" → NoLetter w clears f c
@@ -40,7 +41,7 @@ pub data NoLetter (w : Text) (clears : Bool) (f : Flags) (c : ℕ) : Type 0 wher
 
 -- `t` is the text that begins with the letters
 module _ (t : Text) where
-  -- one letter, delimiter or error, before `u`
+  -- one character, a flag letter, a minus, a `)`, a `:` or none of these, before `u`
   pub data Letter (w : Text) (clears : Bool) (f : Flags) (c : ℕ) (u : Text) : Reading LetterStep → Type 0 where
     flag : {g : _} → with_letter f (not clears) c ≡ Some g → Letter w clears f c u (gives (flags_go_on clears g) u)
     same_mode : c ≡ code "u" → f.unicode ≡ not clears → Letter w clears f c u (gives (flags_go_on clears f) u)
@@ -50,7 +51,7 @@ module _ (t : Text) where
     no_letter : NoLetter w clears f c → Letter w clears f c u (fails (no_flag_letter t (w ++ c ∷ [])))
     other_mode : c ≡ code "u" → f.unicode ≡ clears → Letter w clears f c u (fails (mode_changed (c ∷ u)))
 
-  -- layout, and after it one letter, delimiter or error, before `v`; `w` is the text of the letters before it
+  -- layout, and after it one character, before `v`; `w` is the text of the letters before it
   pub record Next (clears : Bool) (f : Flags) (u v : Text) (q : Reading LetterStep) : Type 0 where
     pub c : ℕ
     pub w : Text

@@ -7,7 +7,7 @@ use Rattle.fancy_lex.specs.LayoutSteps.{past_layout}
 use Rattle.fancy_lex.specs.Number.{number}
 use Rattle.fancy_parts.specs.declared.counts.Counts.{Counts}
 
--- the greatest count, which means no limit
+-- the greatest count, which stands for no limit
 abbrev pub most : ℕ
 most = 2 ^ 64 - 1
 

@@ -5,7 +5,7 @@
 pub struct Counts {
     /// The least count.
     pub low: usize,
-    /// The greatest count; `usize::MAX` means no limit.
+    /// The greatest count; `usize::MAX` stands for no limit.
     pub high: usize,
     /// Whether the counts are in braces, and not written as an operator.
     pub braces: bool,

@@ -1,4 +1,5 @@
-//! Writing into a string with enough capacity, which cannot fail, and the lengths that give the capacity.
+//! Writing into a string that has enough capacity, which cannot fail; and the length of an ASCII text, which is the
+//! capacity that the text takes.
 ghost use Rattle.std.specs.Prelude.{◌≡◌, ◌∷◌, [], true, nat_lt, chars};
 ghost use Rattle.std.specs.List.{list_all};
 ghost use Rattle.fancy_lex.specs.Text.{bytes};
@@ -13,7 +14,7 @@ pub fn ascii_len(text: &str) -> usize
     text.len()
 }
 
-/// Writes a character.
+/// Appends a character. The string must have the capacity for it.
 #[inline]
 pub fn put(buf: &mut String, c: char)
     requires { HasCapacity buf.old (c ∷ []) }
@@ -22,7 +23,7 @@ pub fn put(buf: &mut String, c: char)
     buf.push(c).unwrap();
 }
 
-/// Writes a text of ASCII characters.
+/// Appends a text of ASCII characters.
 #[inline]
 pub fn put_ascii(buf: &mut String, text: &str)
     requires ascii { list_all (λ b. nat_lt b 128) text.now ≡ true }
@@ -32,7 +33,7 @@ pub fn put_ascii(buf: &mut String, text: &str)
     buf.push_str(text).unwrap();
 }
 
-/// Writes a text.
+/// Appends a text.
 #[inline]
 pub fn put_text(buf: &mut String, text: &str)
     requires { HasCapacity buf.old (chars text.now) }

@@ -6,7 +6,7 @@ use Rattle.std.specs.Option.{option_or}
 use Rattle.std.specs.Ordering.{nat_cmp}
 use Rattle.std.proofs.lemmas.List.Folds.{find-append}
 use Rattle.fancy_grammar.specs.PatternReference.{Named}
-use Rattle.fancy_pattern.specs.Wheres.{IsNameOf, AreNames}
+use Rattle.fancy_pattern.specs.ContextViews.{IsNameOf, AreNames}
 use Rattle.fancy_pattern.specs.declared.names.GroupName.{GroupName}
 
 -- the number is among those passed

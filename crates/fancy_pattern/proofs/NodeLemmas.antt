@@ -25,7 +25,7 @@ use Rattle.fancy_grammar.specs.declared.needs.Needs.{Needs}
 use Rattle.fancy_grammar.specs.declared.precedence.Precedence.{Precedence}
 use Rattle.fancy_grammar.specs.declared.precedence.Precedence.TheVariants.{Whole, Branch, Piece, Operand}
 use Rattle.fancy_pattern.specs.TextOutput.{Added, Changed, parted}
-use Rattle.fancy_pattern.specs.Wheres.{IsContext}
+use Rattle.fancy_pattern.specs.ContextViews.{IsContext}
 use Rattle.fancy_pattern.specs.Writers.{Writes, WritesSettled, needs_below, is_conditional, is_expression, parts_text}
 use Rattle.fancy_pattern.specs.declared.context.Context as code
 use Rattle.fancy_pattern.specs.declared.separator.Separator.TheVariants.{Condition}

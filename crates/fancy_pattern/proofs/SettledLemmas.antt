@@ -17,7 +17,7 @@ use Rattle.fancy_grammar.specs.declared.precedence.Precedence.{Precedence}
 use Rattle.fancy_grammar.specs.declared.precedence.Precedence.TheVariants.{Whole}
 use Rattle.fancy_grammar.proofs.ContextLemmas.{mode_after}
 use Rattle.fancy_pattern.specs.TextOutput.{Added}
-use Rattle.fancy_pattern.specs.Wheres.{IsContext, alone_text}
+use Rattle.fancy_pattern.specs.ContextViews.{IsContext, alone_text}
 use Rattle.fancy_pattern.specs.Writers.{Writes, WritesSettled, needs_below, takes_inline_flags}
 use Rattle.fancy_pattern.specs.declared.context.Context as code
 use Rattle.fancy_pattern.proofs.OutputLemmas.{added_as, then_added}

@@ -7,7 +7,7 @@ use Rattle.fancy_lex.specs.Text.{Text, bytes}
 use Rattle.fancy_grammar.specs.Pattern.{Context, deeper, in_parens}
 use Rattle.fancy_grammar.specs.declared.needs.Needs.{Needs}
 use Rattle.fancy_pattern.specs.TextOutput.{Added, Changed}
-use Rattle.fancy_pattern.specs.Wheres.{IsContext}
+use Rattle.fancy_pattern.specs.ContextViews.{IsContext}
 use Rattle.fancy_pattern.specs.Writers.{Writes}
 use Rattle.fancy_pattern.specs.declared.context.Context as code
 use Rattle.fancy_pattern.proofs.OutputLemmas.{added_nothing, added_as, then_added}

@@ -7,6 +7,6 @@ pub use Rattle.fancy_grammar.specs.OfPattern
 -- The definitions that only the private contracts and the proofs of the code use: the writing of texts.
 
 pub mod TextOutput
-pub mod Wheres
+pub mod ContextViews
 pub mod Writers
 pub mod Source

@@ -10,11 +10,11 @@ use Rattle.fancy_grammar.specs.declared.needs.Needs.{Needs}
 use Rattle.fancy_grammar.specs.declared.precedence.Precedence.{Precedence}
 use Rattle.fancy_grammar.specs.declared.precedence.Precedence.TheVariants.{Whole, Branch}
 use Rattle.fancy_pattern.specs.TextOutput.{Added}
-use Rattle.fancy_pattern.specs.Wheres.{IsContext}
+use Rattle.fancy_pattern.specs.ContextViews.{IsContext}
 use Rattle.fancy_pattern.specs.declared.context.Context as code
 
--- from the first position, a writer wrote this text, passed nodes with these needs in the current mode, and reached the
--- position of what follows
+-- in the first context, a writer wrote this text, passed nodes with these needs in the current mode, and ended in the
+-- context of what follows
 pub record Writes {S : Type 0} (holds : S → Text → Type 0) (old new : S) (from to : code.Context)
     (needs : Bool → List Needs) (text : Context → Text) (next : Context → Context) : Type 0 where
   pub writes : (h : Context) (l : List Needs) → IsContext from h (needs h.flags.oniguruma_mode ++ l) →
@@ -39,7 +39,7 @@ parts_text m (expression a e) h =
     in_parens (codes "?~|") (λ i. written m a Branch i ++ (codes "|" ++ written m e Branch (after a Branch i))) h
 parts_text m _ h = []
 
--- the branches of a conditional: the needs of their nodes, their text, and the position of what follows
+-- the branches of a conditional: the needs of their nodes, their text, and the context of what follows
 abbrev pub branches_needs : Bool → Tree → List Needs
 branches_needs o (conditional c t e) = all_listed o (more_trees t (more_trees e no_trees))
 branches_needs o _ = []

@@ -1,10 +1,10 @@
-//! The position of a text.
+//! The context in which a text is written.
 ghost use Rattle.std.specs.Prelude.{◌≡◌, ◌∷◌, List, OnOk};
 ghost use Rattle.fancy_lex.specs.declared.flags.Flags.{Flags};
 ghost use Rattle.fancy_grammar.specs.Pattern as spec;
 ghost use Rattle.fancy_grammar.specs.PatternNeeds.{with_needs};
 ghost use Rattle.fancy_grammar.specs.declared.needs.Needs.{Needs};
-ghost use Rattle.fancy_pattern.specs.Wheres.{IsContext};
+ghost use Rattle.fancy_pattern.specs.ContextViews.{IsContext};
 
 use crate::needs::{no_needs, with_needs};
 use fancy_grammar::depth::MAX_DEPTH;
@@ -12,12 +12,12 @@ use fancy_grammar::needs::Needs;
 use fancy_lex::flags::Flags;
 use std::alloc::AllocError;
 
-/// The position of a text.
+/// The context in which a text is written.
 #[derive(Clone, Copy)]
 pub(crate) struct Context<'a> {
-    /// The flags in effect there.
+    /// The flags that hold there.
     pub(crate) flags: Flags,
-    /// How many groups opened before it.
+    /// How many groups with a number opened before it.
     pub(crate) opened: usize,
     /// How many levels are left: one more than the groups that may still open in it.
     pub(crate) left: usize,
@@ -26,7 +26,7 @@ pub(crate) struct Context<'a> {
 }
 
 impl<'a> Context<'a> {
-    /// The start of a pattern.
+    /// The context at the start of a pattern.
     pub(crate) fn at_start(flags: Flags, needs: &'a [Needs]) -> Context<'a>
         ensures { IsContext result (record { flags = flags; opened = 0; depth = 0 }) needs.now }
     {

@@ -4,7 +4,7 @@ ghost use Rattle.fancy_grammar.specs.Pattern as pattern;
 ghost use Rattle.fancy_grammar.specs.PatternNeeds as spec;
 ghost use Rattle.fancy_grammar.specs.declared.needs.Needs.{Needs};
 ghost use Rattle.fancy_pattern.specs.TextOutput.{Added};
-ghost use Rattle.fancy_pattern.specs.Wheres.{IsContext};
+ghost use Rattle.fancy_pattern.specs.ContextViews.{IsContext};
 
 use crate::context::Context;
 use crate::needs::are_met;

@@ -4,7 +4,7 @@ ghost use Rattle.std.specs.List.{list_all};
 ghost use Rattle.fancy_grammar.specs.Pattern as spec;
 ghost use Rattle.fancy_grammar.specs.declared.needs.Needs.{Needs};
 ghost use Rattle.fancy_pattern.specs.TextOutput.{Added};
-ghost use Rattle.fancy_pattern.specs.Wheres.{IsContext};
+ghost use Rattle.fancy_pattern.specs.ContextViews.{IsContext};
 
 use crate::context::Context;
 use crate::output::{TextOutput, put_ascii};

@@ -8,7 +8,7 @@ ghost use Rattle.fancy_grammar.specs.PatternReference as reference;
 ghost use Rattle.fancy_grammar.specs.declared.needs.Needs.{Needs};
 ghost use Rattle.fancy_pattern.specs.TextOutput.{Added};
 ghost use Rattle.fancy_syntax.specs.View.{view};
-ghost use Rattle.fancy_pattern.specs.Wheres.{IsContext, AreGroupNames, alone_text};
+ghost use Rattle.fancy_pattern.specs.ContextViews.{IsContext, AreGroupNames, alone_text};
 
 use crate::context::Context;
 use crate::letters::{put_bytes, put_literal};

@@ -7,7 +7,7 @@ ghost use Rattle.fancy_grammar.specs.GroupInfo.{GroupInfo};
 ghost use Rattle.fancy_grammar.specs.PatternReference as spec;
 ghost use Rattle.fancy_grammar.specs.PatternReference.{Named};
 ghost use Rattle.fancy_syntax.specs.InfoViews.{info_of};
-ghost use Rattle.fancy_pattern.specs.Wheres.{AreNames, AreGroupNames, IsNameOf};
+ghost use Rattle.fancy_pattern.specs.ContextViews.{AreNames, AreGroupNames, IsNameOf};
 
 use fancy_lex::name::id::id_reference;
 use fancy_lex::name::number_text::number_text;

@@ -10,7 +10,7 @@ ghost use Rattle.fancy_grammar.specs.Pattern.{Context};
 ghost use Rattle.fancy_grammar.specs.PatternReference as spec;
 ghost use Rattle.fancy_pattern.specs.TextOutput.{Added};
 ghost use Rattle.fancy_syntax.specs.View.{view_ast};
-ghost use Rattle.fancy_pattern.specs.Wheres.{AreGroupNames, alone_text};
+ghost use Rattle.fancy_pattern.specs.ContextViews.{AreGroupNames, alone_text};
 
 use crate::names::GroupNames;
 use crate::output::{TextOutput, put_ascii};

@@ -81,7 +81,7 @@ fn is_same_result(a: &ExprTree, b: &ExprTree) -> bool
     a.expr.is_same_but_for_positions(&b.expr)
 }
 
-/// Whether a text is read that was refused with this error: it is not, unless memory ran out.
+/// Whether a text that failed with this error can be parsed: it cannot, or memory ran out and nothing is known.
 fn is_read_after(error: Error) -> Result<bool, AllocError>
     ensures { (f : Flags) (text : Text) → IsOnlyError error f text →
         IfOk result (λ b. (b ≡ false) × ((t : Tree) (m : GroupInfo) → IsTreeOf f text t m → ⊥)) }

@@ -17,7 +17,7 @@ ghost use Rattle.fancy_grammar.specs.declared.needs.Needs.{Needs};
 ghost use Rattle.fancy_grammar.specs.declared.precedence.Precedence.TheVariants.{Whole, Branch, Piece};
 ghost use Rattle.fancy_pattern.specs.TextOutput.{Added, Changed};
 ghost use Rattle.fancy_syntax.specs.View.{view, views};
-ghost use Rattle.fancy_pattern.specs.Wheres.{IsContext, AreGroupNames, alone_text};
+ghost use Rattle.fancy_pattern.specs.ContextViews.{IsContext, AreGroupNames, alone_text};
 ghost use Rattle.fancy_pattern.specs.Writers.{Writes, WritesSettled, needs_below, takes_inline_flags};
 ghost use Rattle.fancy_pattern.specs.Writers.{is_conditional, is_expression, parts_text, branches_needs, choice_text};
 ghost use Rattle.fancy_pattern.specs.Writers.{after_branches};
@@ -40,7 +40,7 @@ use fancy_syntax::expr::repeatable::is_repeatable;
 use fancy_syntax::expr::{Absent, Expr, LookAround};
 use std::alloc::AllocError;
 
-/// Writes the whole text, after the flags that all leaves need.
+/// Writes the whole text: first the flags that all leaves need (`agreed`), then the tree.
 pub(crate) fn put_pattern<S: TextOutput>(
     out: &mut S,
     names: &GroupNames,
@@ -58,7 +58,7 @@ pub(crate) fn put_pattern<S: TextOutput>(
     put_tree(out, names, tree, Precedence::Whole, &mut context)
 }
 
-/// Writes a tree's text at its position, and moves to the position of what follows.
+/// Writes a tree's text in its context, which then becomes the context of what follows.
 #[cycle(write)]
 fn put_tree<S: TextOutput>(
     out: &mut S,
@@ -83,7 +83,7 @@ fn put_tree<S: TextOutput>(
     }
 }
 
-/// Writes an Empty: as a group, if several pieces are not allowed there.
+/// Writes an Empty: nothing, or `()` if several pieces are not allowed there.
 #[tactic(auto, using(crate::proofs::OutputLemmas::added_steps))]
 fn put_empty<S: TextOutput>(out: &mut S, precedence: Precedence) -> Result<(), AllocError>
     ensures { OnOk result (Added S.holds out.old out.new (if spec.takes_pieces precedence then [] else codes "()")) }
@@ -95,14 +95,14 @@ fn put_empty<S: TextOutput>(out: &mut S, precedence: Precedence) -> Result<(), A
     }
 }
 
-/// Whether several pieces may follow one another there.
+/// Whether several pieces are allowed at this precedence.
 fn takes_pieces(precedence: Precedence) -> bool
     ensures { result ≡ spec.takes_pieces precedence }
 {
     matches!(precedence, Precedence::Whole | Precedence::Branch)
 }
 
-/// Whether several branches are allowed there.
+/// Whether several branches are allowed at this precedence.
 fn takes_branches(precedence: Precedence) -> bool
     ensures { result ≡ spec.takes_branches precedence }
 {
@@ -181,7 +181,7 @@ fn put_pieces<S: TextOutput>(
     Ok(())
 }
 
-/// Separates what was written from the position on from the reference in digits before it, if there is one.
+/// If a reference in digits is before the position, and a digit follows, inserts a separator at the position.
 fn part_after_digits<S: TextOutput>(
     out: &mut S,
     position: usize,
@@ -252,7 +252,7 @@ fn put_branches<S: TextOutput>(
     Ok(())
 }
 
-/// Writes any other tree once its flags are set.
+/// Writes a tree that is no Empty, Concat or Alt. The flags that it needs are set already.
 #[cycle(write)]
 fn put_settled<S: TextOutput>(
     out: &mut S,
@@ -393,7 +393,7 @@ fn put_group<S: TextOutput>(
     close(out, &outside, context)
 }
 
-/// Writes a Repeat, in a group if no quantifier is allowed before the one that follows.
+/// Writes a Repeat, in a group if a quantifier follows before which no other is allowed.
 #[cycle(write)]
 fn put_repeat<S: TextOutput>(
     out: &mut S,
@@ -416,15 +416,15 @@ fn put_repeat<S: TextOutput>(
     put_quantified(out, names, child, quantifier, precedence, context)
 }
 
-/// Whether an atomic group of a Repeat with these counts is written as a group: no quantifier is read as such a group,
-/// or none is allowed before the one that follows.
+/// Whether an atomic group of a Repeat with these counts is written as a group: no possessive quantifier parses as it,
+/// or a quantifier follows before which no other is allowed.
 fn needs_atomic_group(lo: usize, hi: usize, precedence: Precedence, flags: Flags) -> bool
     ensures { result ≡ (spec.is_last_operand precedence || not (spec_quantifier.is_possessive flags lo hi)) }
 {
     is_last_operand(precedence) || !is_possessive(lo, hi, flags)
 }
 
-/// Writes an AtomicGroup. That of a Repeat is written as a possessive quantifier, if one is read as such a group.
+/// Writes an AtomicGroup. That of a Repeat is written as a possessive quantifier, if one parses as it.
 #[cycle(write)]
 fn put_atomic<S: TextOutput>(
     out: &mut S,
@@ -483,7 +483,7 @@ fn put_quantified_in_group<S: TextOutput>(
     close(out, &outside, context)
 }
 
-/// Whether the quantifier of the tree directly follows another.
+/// Whether the quantifier directly follows another, that of the child.
 fn is_adjacent(allowed: usize, child: &Expr, flags: Flags) -> bool
     ensures { result ≡ (nat_lt 0 allowed && spec_quantifier.is_quantified flags (view child.now)) }
 {
@@ -577,7 +577,7 @@ fn are_empty(true_branch: &Expr, false_branch: &Expr) -> bool
     matches!(true_branch, Expr::Empty) && matches!(false_branch, Expr::Empty)
 }
 
-/// Whether a bar follows the first branch of a Conditional: without it, an Alt would be read as both branches.
+/// Whether a bar follows the first branch of a Conditional. Without it, an Alt there would be parsed as both branches.
 fn needs_bar(true_branch: &Expr, false_branch: &Expr) -> bool
     ensures { result ≡ (not (is_empty (view false_branch.now)) || spec.is_alt (view true_branch.now)) }
 {
@@ -618,7 +618,7 @@ fn put_choice<S: TextOutput>(
     put_tree(out, names, false_branch, Precedence::Whole, context)
 }
 
-/// Writes an absent repeater. If a bar came first, it would be another absent form.
+/// Writes an absent repeater. A bar right after the `(?~` would make it another absent form, and so it is separated.
 #[cycle(write)]
 fn put_repeater<S: TextOutput>(
     out: &mut S,
@@ -677,7 +677,7 @@ fn fill<S: TextOutput>(out: &mut S, position: usize) -> Result<(), AllocError>
     }
 }
 
-/// Writes an absent stopper. Without a text it would be a clear.
+/// Writes an absent stopper. If its child has no text, `()` is written, since the stopper would be a clear otherwise.
 #[cycle(write)]
 fn put_stopper<S: TextOutput>(
     out: &mut S,

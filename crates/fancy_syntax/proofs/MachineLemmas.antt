@@ -48,6 +48,7 @@ use Rattle.fancy_grammar.specs.Errors.{IsErrorAmong}
 use Rattle.fancy_grammar.specs.State.{ends, skipped, State, at, Outcome, done, failed, failed_with, and_then, seen_through}
 use Rattle.fancy_grammar.specs.Tree.{Tree, concat, empty, expression}
 use Rattle.fancy_syntax.specs.declared.grammar.frame.Frame.{Frame}
+use Rattle.fancy_syntax.specs.declared.grammar.frame.PieceStart.{PieceStart}
 use Rattle.fancy_syntax.specs.declared.grammar.step.Step.{Step}
 use Rattle.fancy_syntax.specs.declared.grammar.step.Step.TheVariants as step
 use Rattle.fancy_lex.proofs.TextLemmas.{strip_is}
@@ -533,10 +534,10 @@ running_start start none stack f trees e x i j k = record {
 }
 
 -- the contents of the stack do not depend on where the piece began
-pub running_began : {start t : State} {none l : Log} {stack : List Frame} {f : Frame} {trees : List Tree} (left : ℕ)
-    (flags : Flags) → Running start none stack f trees t l →
-    Running start none stack (record f { left = left; flags = flags }) trees t l
-running_began left flags h = record {
+pub running_began : {start t : State} {none l : Log} {stack : List Frame} {f : Frame} {trees : List Tree}
+    (begun : PieceStart) → Running start none stack f trees t l →
+    Running start none stack (record f { piece = begun }) trees t l
+running_began begun h = record {
   depth = h.depth;
   begin = h.begin;
   before = h.before;

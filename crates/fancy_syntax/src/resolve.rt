@@ -22,7 +22,7 @@ mod survey;
 use crate::expr::Expr;
 use crate::resolve::records::{Progress, Resolver};
 use crate::resolve::rewrite::rewrite;
-use crate::resolve::survey::{Survey, survey};
+use crate::resolve::survey::{Surveyed, survey};
 use crate::tree::ExprTree;
 use fancy_lex::error::ReadError;
 use fancy_lex::flags::Flags;
@@ -47,7 +47,7 @@ pub(crate) fn resolve(
         drop(raw);
         return Err(ReadError::OutOfMemory);
     };
-    let Survey { groups, met } = found;
+    let Surveyed { groups, met } = found;
     let resolver = Resolver {
         pattern,
         named,
@@ -121,7 +121,7 @@ fn walk(
 
 /// The groups that have a number, and whether only named groups have one, which the flag may ask for.
 #[inline(always)]
-fn find_groups(alloc: Global, tree: &Expr, ignore: bool) -> Result<(bool, Survey), AllocError>
+fn find_groups(alloc: Global, tree: &Expr, ignore: bool) -> Result<(bool, Surveyed), AllocError>
     requires { length (openings (view tree.now)) < amount_bound }
     ensures named { IfOk result (λ p. p.0 ≡ (ignore && list_any is_named (openings (view tree.now)))) }
     ensures total { IfOk result (λ p. p.1.groups.total ≡ length (numbered_openings_in p.0 (openings (view tree.now)))) }
@@ -129,14 +129,14 @@ fn find_groups(alloc: Global, tree: &Expr, ignore: bool) -> Result<(bool, Survey
         (λ p. (groups_of p.1.groups).names ≡ named_groups (numbered_openings_in p.0 (openings (view tree.now)))) }
     ensures met { IfOk result (λ p. p.1.met ≡ has_items (items (view tree.now))) }
 {
-    let mut found = Survey::new(alloc);
+    let mut found = Surveyed::new(alloc);
     survey(alloc, tree, ignore, &mut found)?;
     // Nothing was met, so no group has a name.
     if !found.met {
         return Ok((false, found));
     }
     if ignore && found.groups.total == 0 {
-        let mut unnamed = Survey::new(alloc);
+        let mut unnamed = Surveyed::new(alloc);
         survey(alloc, tree, false, &mut unnamed)?;
         return Ok((false, unnamed));
     }

@@ -53,7 +53,7 @@ fn bounds_of_deepest(alloc: Global) -> Result<(usize, usize, usize), AllocError>
     Ok((pattern.len(), nodes, levels))
 }
 
-/// Whether the pattern with one more quantifier is refused for it.
+/// Whether the pattern with one more quantifier is invalid for it.
 fn is_deepest(alloc: Global) -> Result<bool, AllocError> {
     let mut pattern = deepest(alloc)?;
     pattern.push('*')?;

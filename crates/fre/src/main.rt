@@ -6,8 +6,8 @@ use std::io::BufWriter;
 use std::process::ExitCode;
 use std::{env, io};
 
-/// The arguments after the program's name. Each refused request is an error here: `collect` would first request capacity
-/// for all of them, and do with less.
+/// The arguments after the program's name. Each failed allocation is an error here: `collect` would first try to
+/// allocate capacity for all of them, and go on with less.
 fn words_after_name(rt: &HostRuntime) -> io::Result<Vec<String>> {
     let mut words = Vec::new(rt.alloc());
     for word in env::args(rt)?.skip(1) {

@@ -1,11 +1,11 @@
-//! What the program writes, and what it does where a write is refused.
+//! What the program writes, and what it does where a write fails.
 use fre_program::program::fre_run;
 use std::alloc::{AllocError, Global};
 use std::io;
 use std::io::{ErrorKind, Write};
 
-/// Takes what is written, and refuses one write or flush, the one with this number. It remembers whether a flush stands
-/// after the last write.
+/// Takes what is written. One write or flush fails, the one with this number. It remembers whether a flush follows the
+/// last write.
 #[derive(Drop)]
 pub(crate) struct Refusing {
     pub(crate) text: Vec<u8>,
@@ -24,7 +24,7 @@ impl Refusing {
         }
     }
 
-    /// Counts down to the write that is refused.
+    /// Counts down to the write that fails.
     fn count(&mut self) -> io::Result<()> {
         let Some(left) = self.refused else {
             return Ok(());
@@ -53,7 +53,7 @@ impl Write for Refusing {
     }
 }
 
-/// What a run came to, whose writes are refused so.
+/// The result of a run, and what its two outputs got.
 #[derive(Drop)]
 pub(crate) struct Run {
     status: u8,
@@ -164,16 +164,16 @@ pub(crate) fn is_result(
 
 const CANNOT_WRITE: &[u8] = b"cannot write\n";
 
-/// Words, whether their lines on standard error are refused or those on standard output, and the status, the output and
-/// the error of a run in which no write is refused.
+/// Words; whether writes to standard error fail, or those to standard output; and the status, the output and the error
+/// of a run in which no write fails.
 static WRITES: [(&[&str], bool, u8, &str, &str); 3] = [
     (&["u", "(a|b)c*"], false, 0, ACCEPTED, ""),
     (&["-", "a("], true, 1, "", REFUSED),
     (&["z", "a"], true, 2, "", USAGE),
 ];
 
-/// Whether the run whose write is refused says so, and has written a beginning; none where no write was refused, and
-/// then it ended well.
+/// Whether the run whose write failed says so, and has written a beginning; none where no write failed, and then it
+/// ended well.
 fn reports_write(run: &Run, status: u8, out: &str, err: &str) -> Option<bool> {
     if !run.out.has_refused && !run.err.has_refused && run.status == status {
         return None;
@@ -188,8 +188,8 @@ fn reports_write(run: &Run, status: u8, out: &str, err: &str) -> Option<bool> {
     )
 }
 
-/// How many writes there are, each of which was refused in turn and reported; none where one was not reported, or they do
-/// not end.
+/// How many writes there are, each of which failed in turn and was reported; none where one was not reported, or they
+/// do not end.
 fn writes(
     alloc: Global,
     words: &[&str],

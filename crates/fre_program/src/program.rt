@@ -58,7 +58,7 @@ fn run_pattern<O: Write, E: Write>(
     }
 }
 
-/// Writes why the pattern is refused.
+/// Writes why the pattern is invalid.
 fn refuse<E: Write>(err: &mut E, refusal: &Error) -> Result<Verdict, ProgramError>
     ensures { IfOk result (λ verdict. verdict ≡ Verdict.Refused) }
 {
@@ -89,7 +89,7 @@ pub fn out_of_memory<E: Write>(err: &mut E) -> u8
 }
 
 /// Runs the program on its arguments, without its name, and returns the exit status: 0 if the pattern is accepted, with
-/// its tree on `out`; 1 if it is refused, with the error on `err`; 2 if the arguments are not well formed, with the
+/// its tree on `out`; 1 if it is invalid, with the error on `err`; 2 if the arguments are not well formed, with the
 /// usage on `err`; 3 if memory ran out or a write failed, which is reported on `err` if that is possible, and `out` may
 /// then have part of the output.
 pub fn fre_run<O: Write, E: Write>(alloc: Global, words: &[String], out: &mut O, err: &mut E) -> u8

@@ -16,7 +16,7 @@ pub(crate) enum Column {
     Words,
 }
 
-/// The column with this head beside patterns; none for a head that is not known, so that no example is left out unseen.
+/// The column with this heading beside patterns; none for an unknown heading, so that no example is left out unseen.
 fn column_headed(header: &str) -> Option<Column> {
     Some(match header {
         "reads as" | "is returned as" | "is returned here as" | "outside it" => Column::Reading(0),
@@ -30,7 +30,7 @@ fn column_headed(header: &str) -> Option<Column> {
     })
 }
 
-/// The flag that a cell adds, or the head of the patterns.
+/// The flag that a cell adds, or the heading of the patterns.
 fn flag_of(cell: &str) -> u32 {
     if cell.contains("under that flag") {
         FLAG_IGNORE_NUMBERED_GROUPS_WHEN_NAMED_GROUPS_EXIST
@@ -69,7 +69,7 @@ impl Table {
         Ok(!line.starts_with("|---"))
     }
 
-    /// Begins a table with this head. Where its first column has no patterns, the others have only words.
+    /// Begins a table with this heading. Where its first column has no patterns, the others have only words.
     fn begin(&mut self, header: &[String]) -> Result<()> {
         let first = header.first().context("no head")?;
         let has_patterns = first.starts_with("pattern");
@@ -94,8 +94,8 @@ impl Table {
     }
 }
 
-/// The cells of a line without the blanks around them. Bars part them, but for a bar after a backslash, which stands for
-/// itself; the first comes after the first bar.
+/// The cells of a line without the blanks around them. Bars separate them, except for a bar after a backslash, which
+/// stands for itself; the first comes after the first bar.
 pub(crate) fn cells(alloc: Global, line: &str) -> Result<Vec<String>> {
     let mut cells = Vec::new(alloc);
     let mut cell = String::new(alloc);

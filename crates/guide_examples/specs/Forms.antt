@@ -10,7 +10,7 @@ use Rattle.fancy_syntax.specs.ReadBack.{IsReadBack}
 use Rattle.fancy_syntax.specs.Tree.{Tree}
 use Rattle.fancy_syntax.specs.declared.print.TheConstants.{WHOLE}
 
--- the bytes are the text of the pattern's tree; it reads as the tree in normal form, or is refused for its depth alone
+-- the bytes are the text of the pattern's tree; it parses back as the normal form, or fails only for its depth
 abbrev pub IsFormOf : Flags → Text → List ℕ → Type 0
 IsFormOf f pattern w = (t : Tree) × (m : GroupInfo) × IsTreeOf f pattern t m × (w ≡ encode_utf8_all (printed t WHOLE))
     × IsReadBack t WHOLE (chars w)

@@ -1,7 +1,7 @@
 //! What is said of groups and references.
 use fancy_syntax::{Expr, ExprTree};
 
-/// The group that a reference by the name means: the last one of that name.
+/// The group that a reference by the name refers to: the last one of that name.
 pub fn group_named(tree: &ExprTree, name: &str) -> Option<usize> {
     tree.named_groups.get(name)?.last().copied()
 }

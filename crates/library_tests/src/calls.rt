@@ -22,7 +22,7 @@ fn is_plain(tree: &ExprTree, groups: usize) -> bool {
         && tree.out_of_range_backref.is_none()
 }
 
-/// Whether the text reads as the tree with Unicode alone, and has so many groups.
+/// Whether the text reads as the tree with Unicode only, and has so many groups.
 pub(crate) fn reads_as(
     alloc: Global,
     text: &str,
@@ -33,7 +33,7 @@ pub(crate) fn reads_as(
     Ok(again.expr == *tree && is_plain(&again, groups))
 }
 
-/// Trees by hand, and what reads as them with Unicode alone.
+/// Trees by hand, and what reads as them with Unicode only.
 static READ: [QuestionRow; 3] = [
     (Source::Empty, Question::ReadsAs("", 0), true),
     (Source::EmptyOrEmpty, Question::ReadsAs("|", 0), true),
@@ -58,7 +58,7 @@ fn put(alloc: Global, tree: &Expr, precedence: u8, text: &mut String) -> Result<
     Ok(())
 }
 
-/// Whether the tree's text is put after `start`. Where memory is refused for it, `start` is what is there.
+/// Whether the tree's text is put after `start`. Where memory runs out for it, `start` is what is there.
 pub(crate) fn is_put_after(
     alloc: Global,
     tree: &Expr,

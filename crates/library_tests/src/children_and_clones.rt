@@ -5,7 +5,7 @@ use fancy_syntax::error::Error;
 use fancy_syntax::expr::Expr;
 use std::alloc::{AllocError, Global};
 
-/// Whether the letter is the one of this place, counted from 1: a, b, c.
+/// Whether the letter is the one of this position, counted from 1: a, b, c.
 fn is_letter_at(val: &str, position: usize) -> bool {
     match position {
         1 => val == "a",
@@ -15,7 +15,7 @@ fn is_letter_at(val: &str, position: usize) -> bool {
 }
 
 /// How many children come: first the written ones, so many, and then none that is written, nor is another letter than
-/// its place says.
+/// its position says.
 fn counted(tree: &Expr, written: usize) -> Option<usize> {
     let mut count = 0usize;
     for child in tree.children_iter() {
@@ -33,7 +33,7 @@ fn counted(tree: &Expr, written: usize) -> Option<usize> {
     Some(count)
 }
 
-/// Writes in the place of child k. Whether there is one.
+/// Writes at the position of child k. Whether there is one.
 fn write(tree: &mut Expr, k: usize) -> bool {
     let Some(child) = tree.child_mut(k) else {
         return false;
@@ -125,7 +125,7 @@ fn part_equals_alone(alloc: Global, tree: &Expr, all: &[Expr], i: usize) -> Resu
     Ok(true)
 }
 
-/// Whether the clone of each equals it alone, and so does the clone of the node or the absent form in it.
+/// Whether the clone of each equals only it, and so does the clone of the node or the absent form in it.
 fn are_equal_alone(alloc: Global, all: &[Expr]) -> Result<bool, Error> {
     for (i, tree) in all.iter().enumerate() {
         if !clone_equals_alone(alloc, tree, all, i)? || !part_equals_alone(alloc, tree, all, i)? {

@@ -1,4 +1,4 @@
-//! Classes: those that no recorded pattern of `conformance` has alone.
+//! Classes: those that no recorded pattern of `conformance` has by itself.
 use crate::readers::Reader::Class;
 use crate::readers::{ReaderRow, first_wrong};
 use fancy_lex::flags::{FLAG_IGNORE_SPACE, FLAG_UNICODE};
@@ -25,7 +25,7 @@ static ROWS: [ReaderRow; 7] = [
         r"[\x { 4 1 } ]",
         "[A ] then ",
     ),
-    // why no class stands there
+    // why there is no class there
     (
         Class(FLAG_UNICODE),
         r"[\p{a",

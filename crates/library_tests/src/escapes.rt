@@ -1,4 +1,4 @@
-//! Escapes outside a class: those that no recorded pattern of `conformance` has alone.
+//! Escapes outside a class: those that no recorded pattern of `conformance` has by itself.
 use crate::readers::Reader::Escape;
 use crate::readers::{ReaderRow, first_wrong};
 use fancy_lex::flags::{
@@ -9,7 +9,7 @@ use std::alloc::AllocError;
 const SPACED: u32 = FLAG_UNICODE | FLAG_IGNORE_SPACE;
 
 static ROWS: [ReaderRow; 8] = [
-    // what escapes stand for
+    // what escapes represent
     (
         Escape(FLAG_UNICODE),
         "\\p{\u{C9}A}",

@@ -1,4 +1,4 @@
-//! Questions of one tree. What owns a tree is dear to prove, so one function alone does it for all questions.
+//! Questions of one tree. A function that owns a tree is costly to prove, so one function does it for all questions.
 use crate::calls::{is_put_after, nests_once, reads_as};
 use crate::nodes::has_below;
 use crate::trees::{Source, tree_of};
@@ -17,7 +17,7 @@ pub(crate) enum Question {
     Below(&'static str),
 }
 
-/// Where a tree comes from, a question of it, and the answer.
+/// Where a tree comes from, a question of it, and the right answer.
 pub(crate) type QuestionRow = (Source, Question, bool);
 
 fn evaluate(alloc: Global, tree: &Expr, question: &Question) -> Result<bool, Error> {
@@ -41,7 +41,7 @@ fn ask(alloc: Global, source: &Source, question: &Question) -> Result<bool, Erro
     evaluate(alloc, &tree, question)
 }
 
-/// The number of the first row whose answer is another.
+/// The number of the first row whose answer is wrong.
 pub(crate) fn first_wrong(alloc: Global, rows: &[QuestionRow]) -> Result<Option<usize>, Error> {
     for (i, (source, question, wanted)) in rows.iter().enumerate() {
         if ask(alloc, source, question)? != *wanted {

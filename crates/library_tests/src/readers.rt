@@ -26,8 +26,7 @@ pub(crate) enum Reader {
 /// A reader, a pattern, and what the reader says of it.
 pub(crate) type ReaderRow = (Reader, &'static str, &'static str);
 
-/// What was read; of a reference or a call also its place. What a delegate or a class is written as stands in memory of
-/// its own.
+/// What was read; of a reference or a call also its position. The text of a delegate or a class is allocated.
 #[derive(Drop)]
 enum ReadItem<'a> {
     Nothing,
@@ -150,7 +149,7 @@ fn says(alloc: Global, reader: &Reader, pattern: &str, wanted: &str) -> Result<b
     Ok(found.as_str() == wanted)
 }
 
-/// The first pattern of which its reader says another thing.
+/// The first pattern of which its reader says something else.
 pub(crate) fn first_wrong(
     alloc: Global,
     rows: &'static [ReaderRow],

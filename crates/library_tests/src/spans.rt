@@ -1,4 +1,4 @@
-//! Where the nodes of patterns stand.
+//! The spans of the nodes of patterns.
 use fancy_spans::{SpannedNode, SpannedTree};
 use fancy_syntax::error::Error;
 use fancy_syntax::expr::Expr;

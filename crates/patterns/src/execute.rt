@@ -1,5 +1,5 @@
 //! What the program does with its arguments.
-use crate::rules::rules_chosen;
+use crate::rules::{rule_names, rules_chosen};
 use crate::words::{
     canvas_chosen, command, flags_chosen, form_chosen, look_chosen, paints_chosen, verb_chosen,
 };
@@ -88,16 +88,12 @@ impl<S: System, O: Write, E: Write> ProgramCall<'_, S, O, E> {
         let Some(files) = matches.get_strs("files") else {
             return Ok(MISUSED);
         };
-        let Some(paints) = paints_chosen(matches, self.auto) else {
-            writeln!(self.err, "patterns: --color takes auto, always or never")?;
-            return Ok(MISUSED);
-        };
         let job = Job {
             verb,
             flags,
             form: form_chosen(matches),
             is_quiet: matches.get_flag("quiet"),
-            paints,
+            paints: paints_chosen(matches, self.auto),
         };
         Ok(run(self.alloc, job, files, self.sources, self.out, self.err))
     }
@@ -109,16 +105,7 @@ impl<S: System, O: Write, E: Write> ProgramCall<'_, S, O, E> {
             self.out.flush()?;
             return Ok(0);
         }
-        let chosen = match rules_chosen(matches) {
-            Ok(chosen) => chosen,
-            Err(name) => {
-                writeln!(
-                    self.err,
-                    "patterns: no rule is named {name}; lint --rules lists them"
-                )?;
-                return Ok(MISUSED);
-            }
-        };
+        let chosen = rules_chosen(matches);
         let verb = if matches.get_flag("json") {
             Verb::LintJson(chosen)
         } else {
@@ -146,7 +133,8 @@ impl<S: System, O: Write, E: Write> ProgramCall<'_, S, O, E> {
 
     /// Runs the subcommand that the arguments choose, or reports what is wrong with them.
     fn execute(&mut self, words: &[String]) -> Result<u8, RunError> {
-        match command(self.alloc)?.try_get_matches_from(words) {
+        let rules = rule_names(self.alloc)?;
+        match command(self.alloc, &rules)?.try_get_matches_from(words) {
             Ok(matches) => match matches.subcommand() {
                 Some((name, chosen)) => self.execute_verb(name, chosen),
                 None => Ok(MISUSED),

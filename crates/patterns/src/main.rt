@@ -32,8 +32,8 @@ fn paints_of(rt: &HostRuntime, terminals: Terminals) -> Result<Paints, AllocErro
     })
 }
 
-/// The arguments. Each refused request is an error here: `collect` would first request capacity for all of them, and do
-/// with less.
+/// The arguments. Each failed allocation is an error here: `collect` would first try to allocate capacity for all of
+/// them, and go on with less.
 fn arguments(rt: &HostRuntime) -> io::Result<Vec<String>> {
     let mut words = Vec::new(rt.alloc());
     for word in env::args(rt)? {

@@ -63,7 +63,7 @@ impl<'a> Sources for Memory<'a> {
     }
 }
 
-/// The clock stands still.
+/// A clock that does not move.
 impl Clock for Memory<'_> {
     fn monotonic(&self) -> io::Result<Duration> {
         Ok(Duration::ZERO)

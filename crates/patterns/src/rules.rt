@@ -1,7 +1,8 @@
 //! The rules of `lint` that the arguments choose.
 use clap::ArgMatches;
 use patterns_lint::chosen::{Chosen, Level};
-use patterns_lint::rule::Rule;
+use patterns_lint::rule::{RULES, Rule};
+use std::alloc::{AllocError, Global};
 
 /// The options that give a level to a rule.
 static OPTIONS: [(&str, Level); 3] = [
@@ -10,27 +11,31 @@ static OPTIONS: [(&str, Level); 3] = [
     ("deny", Level::Deny),
 ];
 
-/// Gives the level to the rules of these names; returns a name that no rule has, if there is one.
-fn set_levels<'a>(chosen: &mut Chosen, names: &[&'a str], level: Level) -> Option<&'a str> {
-    for name in names {
-        let Some(rule) = Rule::named(name) else {
-            return Some(name);
-        };
-        chosen.set(rule, level);
+/// The names of all rules, which these options take.
+pub(crate) fn rule_names(alloc: Global) -> Result<Vec<&'static str>, AllocError> {
+    let mut names = Vec::with_capacity(alloc, RULES.len())?;
+    for rule in RULES.iter() {
+        names.push(rule.name())?;
     }
-    None
+    Ok(names)
 }
 
-/// The levels that the arguments choose, or a name that no rule has. Where an argument allows a rule and another denies
-/// it, it is denied.
-pub(crate) fn rules_chosen<'a>(matches: &ArgMatches<'a>) -> Result<Chosen, &'a str> {
-    let mut chosen = Chosen::new();
-    for (option, level) in OPTIONS.iter() {
-        if let Some(names) = matches.get_strs(option)
-            && let Some(unknown) = set_levels(&mut chosen, names, *level)
-        {
-            return Err(unknown);
+/// Gives the level to the rules of these names.
+fn set_levels(chosen: &mut Chosen, names: &[&str], level: Level) {
+    for name in names {
+        if let Some(rule) = Rule::named(name) {
+            chosen.set(rule, level);
         }
     }
-    Ok(chosen)
+}
+
+/// The levels that the arguments choose. Where an argument allows a rule and another denies it, it is denied.
+pub(crate) fn rules_chosen(matches: &ArgMatches<'_>) -> Chosen {
+    let mut chosen = Chosen::new();
+    for (option, level) in OPTIONS.iter() {
+        if let Some(names) = matches.get_strs(option) {
+            set_levels(&mut chosen, names, *level);
+        }
+    }
+    chosen
 }

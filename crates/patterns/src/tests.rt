@@ -1,4 +1,4 @@
-//! What no run from outside shows: a reader and writers that fail, and colours on one terminal alone. What the program
+//! What no run from outside shows: a reader and writers that fail, and colours on one terminal only. What the program
 //! writes is compared by `.ci/patterns` with the folder `data`.
 use crate::execute::execute;
 use crate::memory::{Limited, Memory};
@@ -85,13 +85,13 @@ fn files_that_cannot_be_read(rt: HostRuntime) -> Result<(), Fail> {
     Ok(())
 }
 
-/// Colours on the output alone.
+/// Colours on the output only.
 const OUT: Paints = Paints {
     out: Paint::Colored,
     err: Paint::Plain,
 };
 
-/// Colours on the error alone.
+/// Colours on the error only.
 const ERR: Paints = Paints {
     out: Paint::Plain,
     err: Paint::Colored,
@@ -107,7 +107,7 @@ const COLORED_REFUSAL: &str = "\x1b[1m-:1:2:\x1b[0m Opening parenthesis without 
  \x1b[1;31m^\x1b[0m
 ";
 
-/// Words, and which of the two streams alone has colours, so that what is written of `(` has some.
+/// Words, and the one of the two streams that has colours, so that what is written of `(` has some.
 static STREAMS: [(&[&str], Paints, &str); 6] = [
     (&["patterns", "check"], OUT, COLORED_REFUSAL),
     (&["patterns", "check"], ERR, PLAIN_REFUSAL),
@@ -121,7 +121,7 @@ static STREAMS: [(&[&str], Paints, &str); 6] = [
     ),
 ];
 
-/// Whether the refusal of `(` is written so, on one of the streams.
+/// Whether the error of `(` is written so, on one of the streams.
 fn is_refused(alloc: Global, auto: Paints, words: &[&str], refusal: &str) -> Result<bool, Fail> {
     let run = run(alloc, auto, words, usize::MAX)?;
     Ok(

@@ -50,9 +50,11 @@ const JSON_HELP: &str = "Writes JSON, one object per line, to standard output";
 
 const QUIET_HELP: &str = "Shows neither progress nor the final summary on standard error";
 
+/// When to write colours.
+static WHEN: [&str; 3] = ["auto", "always", "never"];
+
 const COLOR_HELP: &str =
-    "When to write colours: always, never, or auto, which is to a terminal unless the environment variable NO_COLOR is \
-set and not empty";
+    "When to write colours; auto is to a terminal, unless the environment variable NO_COLOR is set and not empty";
 
 const CHECK_EXAMPLE: &str = r"Example: patterns check dates.txt
 
@@ -169,6 +171,7 @@ fn color_arg<'a>(alloc: Global) -> Arg<'a> {
     Arg::new(alloc, "color")
         .long("color")
         .value_name("WHEN")
+        .value_parser(WHEN.as_slice())
         .default_value("auto")
         .help(COLOR_HELP)
 }
@@ -275,24 +278,26 @@ fn format_command<'a>(alloc: Global) -> Result<Command<'a>, AllocError> {
 }
 
 /// An option that gives a level to a rule.
-fn level_arg<'a>(alloc: Global, name: &'a str, help: &'a str) -> Arg<'a> {
+fn level_arg<'a>(alloc: Global, name: &'a str, help: &'a str, rules: &'a [&'a str]) -> Arg<'a> {
     Arg::new(alloc, name)
         .long(name)
         .value_name("RULE")
+        .value_parser(rules)
+        .hide_possible_values(true)
         .action(ArgAction::Append)
         .help(help)
 }
 
-fn lint_command<'a>(alloc: Global) -> Result<Command<'a>, AllocError> {
+fn lint_command<'a>(alloc: Global, names: &'a [&'a str]) -> Result<Command<'a>, AllocError> {
     let rules = Arg::new(alloc, "rules")
         .long("rules")
         .action(ArgAction::SetTrue)
         .help("Lists the rules with an example of each, and reads no file");
     with_values(alloc, over_files(alloc, "lint", LINT, LINT_EXAMPLE)?)?
         .long_about(LINT_MORE)
-        .arg(level_arg(alloc, "allow", "Silences a rule"))?
-        .arg(level_arg(alloc, "warn", "Makes the reports of a rule warnings"))?
-        .arg(level_arg(alloc, "deny", "Makes the reports of a rule errors"))?
+        .arg(level_arg(alloc, "allow", "Silences a rule", names))?
+        .arg(level_arg(alloc, "warn", "Makes the reports of a rule warnings", names))?
+        .arg(level_arg(alloc, "deny", "Makes the reports of a rule errors", names))?
         .arg(json_arg(alloc))?
         .arg(rules)
 }
@@ -303,8 +308,8 @@ fn groups_command<'a>(alloc: Global) -> Result<Command<'a>, AllocError> {
         .arg(json_arg(alloc))
 }
 
-/// The command line.
-pub(crate) fn command<'a>(alloc: Global) -> Result<Command<'a>, AllocError> {
+/// The command line, with the names of the rules of `lint`.
+pub(crate) fn command<'a>(alloc: Global, rules: &'a [&'a str]) -> Result<Command<'a>, AllocError> {
     Command::new(alloc, "patterns")
         .bin_name("patterns")?
         .version(VERSION)
@@ -315,19 +320,17 @@ pub(crate) fn command<'a>(alloc: Global) -> Result<Command<'a>, AllocError> {
         .subcommand(check_command(alloc)?)?
         .subcommand(tree_command(alloc)?)?
         .subcommand(picture_command(alloc)?)?
-        .subcommand(lint_command(alloc)?)?
+        .subcommand(lint_command(alloc, rules)?)?
         .subcommand(format_command(alloc)?)?
         .subcommand(groups_command(alloc)?)
 }
 
-/// The colours that the arguments choose for the two streams; `auto` where they leave it open, and none if it is another
-/// word.
-pub(crate) fn paints_chosen(matches: &ArgMatches<'_>, auto: Paints) -> Option<Paints> {
-    match matches.get_str("color")? {
-        "auto" => Some(auto),
-        "always" => Some(Paints::both(Paint::Colored)),
-        "never" => Some(Paints::both(Paint::Plain)),
-        _ => None,
+/// The colours that the arguments choose for the two streams; `auto` where they leave it open.
+pub(crate) fn paints_chosen(matches: &ArgMatches<'_>, auto: Paints) -> Paints {
+    match matches.get_str("color") {
+        Some("always") => Paints::both(Paint::Colored),
+        Some("never") => Paints::both(Paint::Plain),
+        _ => auto,
     }
 }
 

@@ -20,7 +20,7 @@ ast_cases : (f : Tree → Bool) (b : Bool) → ((r : AstReference) (p : ℕ) →
     (v : AstNode-F Absent ast.AstNode Expr) (position : ℕ) →
     f (ast_step (map-AstNode Absent ast.AstNode Expr Tree (ℕ → Tree) Tree view_absent view_ast view v) position) ≡ b
 ast_cases f b h k (AstNode-F.AstGroup name inner) position = k _ position _
-ast_cases f b h k (AstNode-F.AstNode::Backref t casei level) position = h _ position
+ast_cases f b h k (AstNode-F.AstNode::Backref casei t level) position = h _ position
 ast_cases f b h k (AstNode-F.AstNode::SubroutineCall t) position = h _ position
 ast_cases f b h k (AstNode-F.AstNode::BackrefExistsCondition t level) position = h _ position
 

@@ -3,7 +3,7 @@ use Rattle.std.specs.Prelude.{Bool, true, false, ◌&&◌, ◌||◌, not, List, 
 use Rattle.std.specs.Str.{bytes_eq}
 use Rattle.fancy_grammar.specs.Tree.{Tree, literal, concat, list_of}
 
--- what stands in a row in a branch
+-- the pieces of a branch
 abbrev pub pieces : Tree → List Tree
 pieces (concat ts) = list_of ts
 pieces t = t ∷ []

@@ -69,7 +69,7 @@ abbrev mutual
   any_can_match_empty (more_trees t ts) = can_match_empty t || any_can_match_empty ts
 
 abbrev mutual
-  -- whether a capturing group stands in a tree
+  -- whether a capturing group is in a tree
   pub has_group : Tree → Bool
   has_group (leaf l) = false
   has_group (over label.group t) = true

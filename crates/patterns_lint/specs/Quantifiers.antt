@@ -9,8 +9,8 @@ use Rattle.patterns_lint.specs.Empty.{matches_only_empty, can_match_empty, has_g
 abbrev pub no_limit : ℕ
 no_limit = 0xFFFF_FFFF_FFFF_FFFF
 
--- a quantifier on what matches nothing but the empty text; but an optional group is none, since whether it matched may
--- be asked later
+-- a quantifier on what matches nothing but the empty text; an optional group is no such case, since a condition may
+-- test later whether it matched
 abbrev pub is_quantified_assertion : Tree → Bool
 is_quantified_assertion (repeat t lo hi greedy) = matches_only_empty t && not ((hi == 1) && has_group t)
 is_quantified_assertion _ = false

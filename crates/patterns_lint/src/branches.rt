@@ -85,7 +85,7 @@ pub(crate) struct Situation {
 pub(crate) struct Earlier {
     /// By all that they hold.
     whole: HashMap<u64, usize>,
-    /// Those of literals alone, by their text.
+    /// Those of literals only, by their text.
     literals: HashMap<u64, usize>,
 }
 
@@ -189,7 +189,7 @@ impl Earlier {
     }
 }
 
-/// The fingerprint of the text of a branch that is literals alone.
+/// The fingerprint of the text of a branch that is literals only.
 fn text_of(branch: &Expr) -> Option<Fingerprint> {
     let mut text = Fingerprint::new();
     for piece in pieces(branch) {

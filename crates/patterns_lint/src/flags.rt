@@ -1,5 +1,5 @@
-//! Flags that are set where they are set already. No node records a flag group, so that the text is read again: what
-//! stands for a leaf is passed over, and what is left is what opens and closes groups.
+//! Flags that are set where they are set already. No node records inline flags or flag groups, so the text is read
+//! again: the text of each leaf is passed over, and what is left opens and closes groups.
 use crate::problem::{Found, Problem};
 use fancy_lex::flags::Flags;
 use fancy_lex::layout::past_layout;
@@ -7,7 +7,7 @@ use fancy_lex::text::{after, next};
 use fancy_syntax::span::Span;
 use std::alloc::{AllocError, Global};
 
-/// Whether the flag of this letter is set; none for a letter of no flag that a pattern can change.
+/// Whether the flag of this letter is set; None if it is not the letter of a flag that a pattern can change.
 fn is_set(flags: Flags, letter: char) -> Option<bool> {
     match letter {
         'i' => Some(flags.casei),
@@ -20,7 +20,7 @@ fn is_set(flags: Flags, letter: char) -> Option<bool> {
     }
 }
 
-/// The flags with that of the letter set or cleared.
+/// The flags with the flag of the letter set or cleared.
 fn with(flags: Flags, letter: char, on: bool) -> Flags {
     match letter {
         'i' => Flags { casei: on, ..flags },
@@ -39,7 +39,7 @@ fn with(flags: Flags, letter: char, on: bool) -> Flags {
     }
 }
 
-/// The text after the name that begins the text, and after its closing delimiter.
+/// What follows the name at the front and its closing delimiter.
 fn after_name(text: &str, delimiter: char) -> &str {
     match text.split_once(delimiter) {
         Some((_, rest)) => rest,
@@ -47,15 +47,15 @@ fn after_name(text: &str, delimiter: char) -> &str {
     }
 }
 
-/// A reading of a pattern's groups.
+/// Reads a pattern again, to find its flags and where its groups open and close.
 #[derive(Drop)]
 struct GroupReader<'a> {
     pattern: &'a str,
     rest: &'a str,
-    /// The leaves that are still to come.
+    /// The spans of the leaves that are not passed yet.
     leaves: &'a [Span],
     flags: Flags,
-    /// The flags from before each group that is open; none for a condition, after which they stay.
+    /// For each open group the flags from before it. None for a condition, since flags that it sets stay after it.
     outer: Vec<Option<Flags>>,
     /// Whether the next parenthesis opens a condition.
     opens_condition: bool,
@@ -68,7 +68,7 @@ impl<'a> GroupReader<'a> {
         self.pattern.len().saturating_sub(text.len())
     }
 
-    /// The text without the layout that begins it.
+    /// The text after the layout at its front.
     fn past_layout(&self, text: &'a str, flags: Flags) -> &'a str {
         past_layout(text, flags.ignore_space).unwrap_or("")
     }
@@ -90,7 +90,7 @@ impl<'a> GroupReader<'a> {
         true
     }
 
-    /// Opens a group, whose inside begins at the text.
+    /// Opens a group, whose contents begin at `inside`.
     fn open(&mut self, inside: &'a str) -> Result<(), AllocError> {
         let outer = if self.opens_condition {
             None
@@ -103,7 +103,7 @@ impl<'a> GroupReader<'a> {
         Ok(())
     }
 
-    /// Closes a group, before the text.
+    /// Closes a group; `rest` is the text after its parenthesis.
     fn close(&mut self, rest: &'a str) {
         if let Some(Some(flags)) = self.outer.pop() {
             self.flags = flags;
@@ -111,7 +111,7 @@ impl<'a> GroupReader<'a> {
         self.rest = rest;
     }
 
-    /// Reads the letter of a flag, which is before the text, and returns the flags then.
+    /// Reads the letter of a flag, which ends where `rest` begins, and returns the flags after it.
     fn letter(
         &mut self,
         flags: Flags,
@@ -131,7 +131,7 @@ impl<'a> GroupReader<'a> {
         Ok(with(flags, letter, !clears))
     }
 
-    /// Reads the letters of a flag group.
+    /// Reads the letters of inline flags or of a flag group.
     fn letters(&mut self, text: &'a str) -> Result<(), AllocError> {
         let mut clears = false;
         let mut flags = self.flags;
@@ -159,7 +159,7 @@ impl<'a> GroupReader<'a> {
         Ok(())
     }
 
-    /// Reads what stands after a parenthesis and a question mark.
+    /// Reads the rest of an opening, after its parenthesis and its question mark.
     fn opening(&mut self, text: &'a str) -> Result<(), AllocError> {
         let Some((c, rest)) = next(text) else {
             return self.open(text);
@@ -179,7 +179,7 @@ impl<'a> GroupReader<'a> {
         }
     }
 
-    /// Reads a leaf, a group's head, its end, or a character of no meaning here.
+    /// Reads a leaf, the opening or the end of a group, or another character, such as a quantifier or a bar.
     fn turn(&mut self) -> Result<(), AllocError> {
         self.rest = self.past_layout(self.rest, self.flags);
         if self.pass_leaf() {

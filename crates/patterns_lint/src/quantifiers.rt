@@ -7,8 +7,8 @@ use crate::empty::{can_match_empty, has_group, matches_only_empty};
 use crate::problem::Problem;
 use fancy_syntax::expr::Expr;
 
-/// Whether what is repeated matches nothing but the empty text. An optional one that holds a group is none: whether the
-/// group matched may be asked later.
+/// Whether what is repeated matches nothing but the empty text. An optional one that holds a group is no such case:
+/// a condition may test later whether the group matched.
 fn is_quantified_assertion(tree: &Expr) -> bool
     ensures { result ≡ spec.is_quantified_assertion (view tree.now) }
 {

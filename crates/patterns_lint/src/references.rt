@@ -81,7 +81,7 @@ impl<'a> Ways<'a> {
         })
     }
 
-    /// Whether an earlier repetition of a loop round here may have matched the group, which has opened.
+    /// Whether an earlier repetition of a loop around this point may have matched the group, which has opened.
     fn is_in_loop(&self, group: usize) -> bool {
         self.before_loop.is_some_and(|before| before < group)
     }
@@ -109,7 +109,7 @@ impl<'a> Ways<'a> {
         }
     }
 
-    /// Notes that the group may have matched, or cannot have.
+    /// Records that the group may have matched, or cannot have.
     fn set_matched(&mut self, group: usize, may_have_matched: bool) {
         if let Some(capture) = self.captures.get_mut(group) {
             capture.may_have_matched = may_have_matched;
@@ -158,7 +158,7 @@ impl<'a> Ways<'a> {
         }
     }
 
-    /// Notes that something refers to the group.
+    /// Records that something refers to the group.
     fn refer(&mut self, group: usize) {
         if let Some(capture) = self.captures.get_mut(group) {
             capture.is_referred_to = true;

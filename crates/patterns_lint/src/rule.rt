@@ -56,7 +56,7 @@ pub static RULES: [Rule; 14] = [
     Rule::SingleCharacterClass,
 ];
 
-/// What is said of a rule.
+/// The texts of a rule.
 #[derive(Clone, Copy)]
 struct RuleInfo {
     name: &'static str,
@@ -66,7 +66,7 @@ struct RuleInfo {
 }
 
 impl Rule {
-    /// What is said of the rule.
+    /// The texts of the rule.
     fn about(self) -> RuleInfo
         ensures name { result.name.now ≡ rule_name self }
     {

@@ -18,7 +18,7 @@ pub(crate) struct PatternInfo<'a> {
     pub(crate) pattern: &'a str,
     /// How many groups have a number.
     pub(crate) total: usize,
-    /// Whether it has calls, so that a group may be matched elsewhere than it stands.
+    /// Whether it has calls, so that a group may also be matched where it is called.
     pub(crate) has_calls: bool,
 }
 

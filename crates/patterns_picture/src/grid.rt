@@ -6,14 +6,14 @@ use std::alloc::{AllocError, Global};
 use std::io::Write;
 use std::{fmt, io};
 
-/// Where a character stands.
+/// Where a character is.
 #[derive(Clone, Copy, PartialEq, Eq)]
 struct Cell {
     line: usize,
     column: usize,
 }
 
-/// Where each character of the pattern stands, and where the first one does in the picture.
+/// Where each character of the pattern is, and where the first one is in the picture.
 #[derive(Drop)]
 pub(crate) struct Grid<'a> {
     pattern: &'a str,
@@ -86,7 +86,7 @@ impl<'a> Grid<'a> {
         Ok(())
     }
 
-    /// Where the character at the byte offset stands.
+    /// Where the character at the byte offset is.
     fn cell(&self, byte: usize) -> Cell {
         self.cells.get(byte).copied().unwrap_or(self.next)
     }

@@ -41,7 +41,7 @@ fn any_words(newline: bool, crlf: bool) -> &'static str {
     }
 }
 
-/// The words of a leaf without what stands before a colon, and from a comma on.
+/// The words of a leaf without what is before a colon, and from a comma on.
 fn shortened(words: &str) -> &str {
     let words = words.split_once(": ").map_or(words, |parts| parts.1);
     words.split_once(", ").map_or(words, |parts| parts.0)
@@ -66,7 +66,7 @@ impl<'a> Words<'a> {
         }
     }
 
-    /// Writes what the node is. The number is that of the last group that has begun.
+    /// Writes what the node is. The number is that of the last group that has opened.
     fn write(&mut self, node: &Expr, groups: usize) -> io::Result<()> {
         self.buffer.clear();
         if is_reference(node) {
@@ -100,7 +100,7 @@ impl<'a> Words<'a> {
         }
     }
 
-    /// What the node is. The number is that of the last group that has begun, the node itself counted.
+    /// What the node is. The number is that of the last group that has opened, the node itself counted.
     pub(crate) fn of(&mut self, node: &Expr, groups: usize) -> io::Result<&str> {
         self.write(node, groups)?;
         Ok(str::from_utf8(&self.buffer).unwrap_or("").trim_end())

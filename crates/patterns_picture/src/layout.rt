@@ -16,7 +16,7 @@ pub(crate) struct Drawn<'a> {
     pub(crate) node: &'a Expr,
     pub(crate) span: Span,
     pub(crate) shape: Shape,
-    /// How many groups have begun, the node itself counted.
+    /// How many groups have opened, the node itself counted.
     pub(crate) groups: usize,
     children: usize,
     /// How many nodes it has, itself counted.
@@ -44,7 +44,7 @@ impl Drawn<'_> {
         self.left.saturating_add(self.size.width / 2)
     }
 
-    /// The text that stands in its box, where it has one.
+    /// The text in its box, where it has one.
     pub(crate) fn text<'t>(&'t self, pattern: &'t str) -> &'t str {
         match self.node {
             Expr::Literal { val, .. } if val.as_str() == " " => "\u{2423}",

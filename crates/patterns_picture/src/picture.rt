@@ -36,7 +36,7 @@ fn write<O: Write>(
     Ok(())
 }
 
-/// Writes the picture of the pattern on `out`, or on `err` where and why it is refused.
+/// Writes the picture of the pattern on `out`, or on `err` where and why it is invalid.
 fn draw_or_report<O: Write, E: Write>(
     subject: Subject<'_>,
     canvas: Canvas,
@@ -59,9 +59,9 @@ fn draw_or_report<O: Write, E: Write>(
     }
 }
 
-/// Draws the tree of a pattern as a railroad diagram, and returns the exit status: 0 if the pattern is accepted, with the
-/// picture on `out`; 1 if it is refused, with the position and the reason on `err`; 3 if memory ran out or a write failed,
-/// which is reported on `err` if that is possible, and `out` may then have part of the output.
+/// Draws the tree of a pattern as a railroad diagram, and returns the exit status: 0 if the pattern is valid, with the
+/// picture on `out`; 1 if it is invalid, with the position and the reason on `err`; 3 if memory ran out or a write
+/// failed, which is reported on `err` if that is possible, and `out` may then have part of the output.
 pub fn draw_picture<O: Write, E: Write>(
     alloc: Global,
     flags: u32,

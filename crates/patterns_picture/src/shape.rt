@@ -5,7 +5,7 @@ use fancy_syntax::expr::{Absent, Expr};
 /// How a node is drawn.
 #[derive(Clone, Copy, PartialEq, Eq)]
 pub(crate) enum Shape {
-    /// As a rail alone.
+    /// As only a rail.
     Nothing,
     /// As a text without a border, so that characters in a row look as one.
     Character,

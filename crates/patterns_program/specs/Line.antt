@@ -12,7 +12,7 @@ use Rattle.fancy_syntax.specs.Tree.{Tree}
 use Rattle.patterns_program.specs.declared.printing.Comments.{Comments}
 use Rattle.patterns_program.specs.declared.printing.Comments.TheVariants as kept
 
--- whether a byte stands in the text, and not in the pattern
+-- whether a byte is in the text, and not in the pattern
 abbrev pub is_new : ℕ → List ℕ → List ℕ → Bool
 is_new byte w pattern = list_any (λ b. b == byte) w && not (list_any (λ b. b == byte) pattern)
 
@@ -27,7 +27,7 @@ abbrev pub MayKeep : Comments → List ℕ → Type 0
 MayKeep comments pattern = (comments ≡ kept.Keep) × (list_any (λ b. b == code "#") pattern ≡ true)
 
 -- the bytes are the tree's text, for the line of the pattern: under the flags it is read as the tree with its group
--- information, and it stands in a line
+-- information, and it fits in a line
 pub record IsLineOf (f : Flags) (pattern : List ℕ) (t : Tree) (m : GroupInfo) (w : List ℕ) : Type 0 where
   pub utf8 : IsUtf8 w
   pub is : chars w ≡ pattern_text f t m

@@ -8,7 +8,7 @@ use crate::reporter::{Reporter, parse};
 use patterns_text::error::RunError;
 use patterns_text::subject::Subject;
 
-/// Reports the error of the pattern, if it is refused.
+/// Reports the error of the pattern, if it is invalid.
 pub(crate) fn check<R: Reporter>(
     subject: Subject<'_>,
     reporter: &mut R,

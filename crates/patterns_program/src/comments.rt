@@ -81,7 +81,7 @@ fn in_leaf(leaf: &Expr, text: &str) -> Option<usize> {
     }
 }
 
-/// The delimiter before a group's name, the name, and the delimiter after it, where the span is that of a group with a name.
+/// The span of a group's name with the delimiters around it, where the span is that of a group with a name.
 fn name_span(pattern: &str, group: Span) -> Span {
     let inside = pattern.get(group.start.saturating_add(1)..).unwrap_or("");
     let (_, group_text) = split_layout(inside);
@@ -105,7 +105,7 @@ fn name_span(pattern: &str, group: Span) -> Span {
 struct Search<'a> {
     pattern: &'a str,
     names: Names<'a>,
-    /// How many groups have begun.
+    /// How many groups have opened.
     groups: usize,
     /// Where that ends which has been searched.
     end: usize,

@@ -13,7 +13,7 @@ use patterns_text::subject::Subject;
 use std::alloc::Global;
 use std::io::Write;
 
-/// Reports the tree of the pattern, or its error if it is refused.
+/// Reports the tree of the pattern, or its error if it is invalid.
 fn report_tree<R: Reporter>(subject: Subject<'_>, reporter: &mut R) -> Result<u8, RunError>
     ensures read { result ≡ Ok 0 → IsAccepted subject.entry }
     ensures refused { result ≡ Ok 1 → IsRefused subject.entry }
@@ -29,7 +29,7 @@ fn report_tree<R: Reporter>(subject: Subject<'_>, reporter: &mut R) -> Result<u8
 }
 
 /// Draws the tree of a pattern, and returns the exit status: 0 if the pattern is accepted, with its tree and then its
-/// group information on `out`; 1 if it is refused, with the position and the reason on `err`; 3 if memory ran out or a
+/// group information on `out`; 1 if it is invalid, with the position and the reason on `err`; 3 if memory ran out or a
 /// write failed, which is reported on `err` if that is possible, and `out` may then have part of the output.
 pub fn draw_tree<O: Write, E: Write>(
     alloc: Global,
@@ -50,9 +50,9 @@ pub fn draw_tree<O: Write, E: Write>(
     }
 }
 
-/// Writes the tree of a pattern as a line of JSON, and returns the status: 0 if the pattern is accepted, with the tree on
-/// `out`; 1 if it is refused, with the error on `out`; 3 if memory ran out or a write failed, which is reported on `err` if
-/// that is possible. Then `out` may hold a beginning.
+/// Writes the tree of a pattern as a line of JSON, and returns the status: 0 if the pattern is valid, with the tree on
+/// `out`; 1 if it is invalid, with the error on `out`; 3 if memory ran out or a write failed, which is reported on
+/// `err` if that is possible. Then `out` may hold a beginning.
 pub fn write_tree<O: Write, E: Write>(
     alloc: Global,
     flags: u32,

@@ -8,7 +8,7 @@ use crate::reporter::{Reporter, parse};
 use patterns_text::error::RunError;
 use patterns_text::subject::Subject;
 
-/// Reports the groups of the pattern and what its references and calls refer to, or its error if it is refused.
+/// Reports the groups of the pattern and what its references and calls refer to, or its error if it is invalid.
 pub(crate) fn list_groups<R: Reporter>(
     subject: Subject<'_>,
     reporter: &mut R,

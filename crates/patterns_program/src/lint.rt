@@ -27,7 +27,7 @@ fn count_denied(found: &[Found<'_>], chosen: &Chosen, tally: &mut Tally) -> bool
     is_denied
 }
 
-/// Reports the likely mistakes in the pattern, or its error if it is refused.
+/// Reports the likely mistakes in the pattern, or its error if it is invalid.
 pub(crate) fn lint<R: Reporter>(
     subject: Subject<'_>,
     chosen: &Chosen,

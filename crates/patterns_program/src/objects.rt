@@ -25,7 +25,7 @@ use std::io::Write;
 /// What is reported of each pattern as JSON.
 #[derive(Clone, Copy)]
 pub enum Report {
-    /// Why it is refused, if it is.
+    /// Why it is invalid, if it is.
     Check,
     /// Its groups, and what its references and calls refer to.
     Groups,

@@ -7,7 +7,7 @@ ghost use Rattle.patterns_program.specs.declared.outcome.Outcome.TheVariants.{Go
 pub(crate) enum Outcome {
     /// Each is read, and as the verb asks.
     Good,
-    /// Some pattern is not: it is refused, or its text would change.
+    /// Some pattern is not: it is invalid, it stays because of a comment, or its text would change.
     Refused,
     /// Some file, or some line of one, holds no text that could be read.
     Unread,

@@ -39,7 +39,7 @@ pub enum Comments {
     Drop,
 }
 
-/// Whether a byte stands in the text, and not in the pattern.
+/// Whether a byte is in the text, and not in the pattern.
 fn is_new(byte: u8, text: &str, pattern: &str) -> bool
     ensures { result ≡ spec.is_new byte text.now pattern.now }
 {
@@ -105,8 +105,8 @@ fn keeps_comment<E: Write>(
     Ok(true)
 }
 
-/// Writes the text of the pattern's tree as a line of the output, or a record. A pattern that is refused, or whose comments
-/// are kept, is written unchanged, and the position and the reason are reported.
+/// Writes the text of the pattern's tree as a line of the output, or a record. A pattern that is invalid, or whose
+/// comments are kept, is written unchanged, and the position and the reason are reported.
 pub(crate) fn format_pattern<O: Write, E: Write>(
     subject: Subject<'_>,
     ending: Ending,
@@ -148,7 +148,7 @@ fn write_change<O: Write>(out: &mut O, subject: Subject<'_>, text: &str) -> io::
 }
 
 /// Whether the pattern would be written unchanged. If not, what it is and what it would be is written to the output; if it
-/// is refused, or its comments are kept, the position and the reason are reported.
+/// is invalid, or its comments are kept, the position and the reason are reported.
 pub(crate) fn is_formatted<O: Write, E: Write>(
     subject: Subject<'_>,
     comments: Comments,

@@ -97,7 +97,7 @@ pub(crate) struct Screen<'a, C, O, E> {
     clock: &'a C,
     /// When the line is shown next: never, if none.
     due: Option<Instant>,
-    /// How many bytes of patterns are done since the clock was asked.
+    /// How many bytes of patterns are done since the clock was read.
     bytes: usize,
     files: u64,
     done: u64,
@@ -178,7 +178,7 @@ impl<C: Clock, O: Write, E: Write> Screen<'_, C, O, E> {
         self.show_if_due(tally)
     }
 
-    /// Goes on from a pattern that has so many bytes. The clock is asked once in 8 KiB.
+    /// Goes on from a pattern that has so many bytes. The clock is read once in 8 KiB.
     pub(crate) fn end_pattern(&mut self, bytes: usize, tally: &Tally) -> io::Result<()>
         ensures silent { IsNone self.old.due →
             Keeps (E.contents self.old.err.stream.now) (E.contents self.new.err.stream.now) }

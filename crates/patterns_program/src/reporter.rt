@@ -10,7 +10,7 @@ use patterns_text::subject::{Refusal, Subject};
 
 /// What writes reports on patterns.
 pub(crate) trait Reporter {
-    /// Writes where and why the pattern is refused.
+    /// Writes where and why the pattern is invalid.
     fn error(&mut self, subject: Subject<'_>, refusal: &Refusal) -> Result<(), RunError>;
 
     /// Writes the likely mistakes in the pattern, or the first ones and how many more there are. Each is of a rule that is
@@ -35,7 +35,7 @@ pub(crate) trait Reporter {
 /// How many likely mistakes are reported of a pattern. Each report shows the pattern's line, which may be long.
 pub(crate) const MAX_REPORTS: usize = 100;
 
-/// The tree of the pattern; `None` if the pattern is refused, and then the error is reported.
+/// The tree of the pattern; `None` if the pattern is invalid, and then the error is reported.
 pub(crate) fn parse<R: Reporter>(
     subject: Subject<'_>,
     reporter: &mut R,

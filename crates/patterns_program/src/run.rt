@@ -33,7 +33,7 @@ pub const STANDARD_INPUT: &str = "-";
 /// What is done with each pattern.
 #[derive(Clone, Copy)]
 pub enum Verb {
-    /// Check it; if it is refused, the position and the reason are written to the output.
+    /// Check it; if it is invalid, the position and the reason are written to the output.
     Check,
     /// Write it in one form.
     Format(Comments),
@@ -55,7 +55,7 @@ pub struct Job<'a> {
     pub verb: Verb,
     pub flags: u32,
     pub form: FileFormat<'a>,
-    /// Whether the run says neither how far it is nor, at its end, what became of the patterns.
+    /// Whether the run says neither how far it is nor, at its end, what the outcomes of the patterns are.
     pub is_quiet: bool,
     pub paints: Paints,
 }
@@ -197,7 +197,7 @@ impl<C: Clock, O: Write, E: Write> FileRun<'_, C, O, E> {
         }
     }
 
-    /// Counts what became of a pattern that has so many bytes.
+    /// Counts the outcome of a pattern that has so many bytes.
     fn count(&mut self, found: Outcome, bytes: usize) -> io::Result<()> {
         self.tally.add(found);
         self.screen.end_pattern(bytes, &self.tally)
@@ -308,8 +308,7 @@ impl<C: Clock, O: Write, E: Write> FileRun<'_, C, O, E> {
 /// read; 3 if memory ran out or a write failed, which is reported on `err` if that is possible, and `out` may then have
 /// part of the output. A pattern of a file of records ends as the job says, and is reported with the number of its first
 /// line; a NUL that ends a pattern ends a line too. A text of JSON is reported with its path. The file `-` is standard
-/// input. The last line on `err` says how many patterns there were and what became of them, unless the job is quiet or
-/// the status is 3.
+/// input. The last line on `err` counts the patterns and their outcomes, unless the job is quiet or the status is 3.
 ///
 /// Where `err` is a terminal and the job is not quiet, a line on it says how far the run is, once that takes longer than
 /// a second; it is erased before anything else is written.

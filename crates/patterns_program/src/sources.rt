@@ -12,6 +12,6 @@ pub trait Sources {
     /// Opens the file of this name.
     fn open(&self, name: &str) -> io::Result<Self::File>;
 
-    /// The standard input, from where it stands.
+    /// The standard input, from its position on.
     fn input(&self) -> io::Result<Self::Input>;
 }

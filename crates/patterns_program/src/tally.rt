@@ -3,7 +3,7 @@ use crate::outcome::Outcome;
 use patterns_lint::chosen::Level;
 use std::fmt;
 
-/// How many patterns a run has met, and what became of them.
+/// How many patterns a run has met, and with which outcomes.
 #[derive(Clone, Copy)]
 pub(crate) struct Tally {
     pub(crate) patterns: u64,
@@ -48,7 +48,7 @@ impl Tally {
         }
     }
 
-    /// How many patterns are refused.
+    /// How many patterns count as refused: those that are invalid, or stay because of a comment.
     fn refused(&self) -> u64 {
         self.failed
             .saturating_sub(self.changed)

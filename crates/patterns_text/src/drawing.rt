@@ -26,7 +26,7 @@ pub struct Look {
     pub has_spans: bool,
 }
 
-/// What stands before a node: for each level from the first whether the node that it runs through is the last there.
+/// What is before a node: for each level from the first whether the node that it runs through is the last there.
 #[derive(Clone, Copy)]
 struct BranchLines<'a> {
     style: Style,
@@ -34,7 +34,7 @@ struct BranchLines<'a> {
 }
 
 impl Style {
-    /// What stands before a node itself.
+    /// What is before a node itself.
     fn own(self, is_last: bool) -> &'static str {
         match (self, is_last) {
             (Style::Lines, false) => "├─ ",
@@ -44,7 +44,7 @@ impl Style {
         }
     }
 
-    /// What stands at a level before what is below its node.
+    /// What is at a level before what is below its node.
     fn above(self, is_last: bool) -> &'static str {
         match (self, is_last) {
             (_, true) => "   ",

@@ -1,4 +1,4 @@
-//! What is written of a pattern as text: where it is, why it is refused, its nodes in words, its tree drawn, its groups.
+//! What is written of a pattern as text: where it is, why it is invalid, its nodes in words, its tree, its groups.
 #![tactic(auto)]
 
 pub mod drawing;

@@ -28,7 +28,7 @@ pub struct Location<'a> {
     /// The file's name as an argument.
     pub file: &'a str,
     pub spot: Spot<'a>,
-    /// Of reports: that it is refused, and what `lint` finds.
+    /// Of reports: that it is invalid, and what `lint` finds.
     pub reported: Paint,
     /// Of its groups, and of how it would change.
     pub listed: Paint,
@@ -98,10 +98,10 @@ pub fn column_after(text: &str) -> usize
     text.width() + 1
 }
 
-/// A line of a pattern, cut at a place.
+/// A line of a pattern, cut at a position.
 #[derive(Clone, Copy)]
 pub struct Cut<'a> {
-    /// How many line feeds stand before the line.
+    /// How many line feeds are before the line.
     pub above: usize,
     pub before: &'a str,
     pub after: &'a str,
@@ -120,7 +120,7 @@ impl Cut<'_> {
     }
 }
 
-/// The place in words: its column, and its line where that is not the first.
+/// The position in words: its column, and its line where that is not the first.
 impl fmt::Display for Cut<'_> {
     fn fmt<W: fmt::Write>(&self, f: &mut fmt::Formatter<W>) -> fmt::Result {
         if self.above > 0 {
@@ -173,7 +173,7 @@ impl fmt::Display for Blank<'_> {
     }
 }
 
-/// Writes where and why a pattern is refused, the line of the place, and a caret under the place.
+/// Writes where and why a pattern is invalid, the line of the position, and a caret under the position.
 pub fn write_refusal<O: Write, K: fmt::Display>(
     out: &mut O,
     at: Location<'_>,

@@ -23,7 +23,7 @@ pub struct Subject<'a> {
     pub pattern: &'a str,
 }
 
-/// Why a pattern is refused.
+/// Why a pattern is invalid.
 #[derive(Drop)]
 pub struct Refusal {
     /// The position of the error, as a byte offset.
@@ -32,7 +32,7 @@ pub struct Refusal {
 }
 
 impl Refusal {
-    /// Writes where and why the pattern is refused, its line at the position, and a caret under the position.
+    /// Writes where and why the pattern is invalid, its line at the position, and a caret under the position.
     pub fn write<O: Write>(&self, out: &mut O, subject: Subject<'_>) -> io::Result<()> {
         write_refusal(out, subject.at, subject.pattern, self.position, &self.kind)
     }
@@ -54,8 +54,8 @@ impl<'a> Subject<'a> {
         }
     }
 
-    /// The tree of the pattern with its group information and its spans, or why the pattern is refused. Any other error is
-    /// that memory ran out.
+    /// The tree of the pattern with its group information and its spans, or why the pattern is invalid. Any other error
+    /// is that memory ran out.
     pub fn parse(self) -> Result<Result<SpannedTree, Refusal>, RunError>
         ensures read { IfOk result (λ parsed. OnOk parsed (IsAccepted self.entry)) }
         ensures tree { IfOk result (λ parsed. IfOk parsed (λ t. IsParsedAs self.entry t.tree)) }

@@ -5,9 +5,9 @@ use std::alloc::Global;
 use std::str;
 use std::test::Fail;
 
-/// Patterns, and the widths and heights of their pictures. Round the tree are 36 pixels at either side, and 16 above it; below
-/// it stand 24, the lines of the pattern, 24 for each, and 16. A character is 9 wide, a small one 7; the box of a character is
-/// 13 wide and 24 high.
+/// Patterns, and the widths and heights of their pictures. Around the tree there are 36 pixels at either side, and 16
+/// above it; below it there are 24, the lines of the pattern, 24 for each, and 16. A character is 9 wide, a small one 7;
+/// the box of a character is 13 wide and 24 high.
 static SIZES: [(&str, usize, usize); 12] = [
     ("", 72 + 24, 40 + 24 + 40),
     ("a", 72 + 13, 40 + 24 + 40),
@@ -19,7 +19,7 @@ static SIZES: [(&str, usize, usize); 12] = [
     ("a|b", 72 + 53, 40 + 60 + 40),
     ("a|b|cd", 72 + 66, 40 + 96 + 40),
     ("a?", 72 + 53, 40 + 32 + 40),
-    // Words stand above a loop, and the rails have 8 above and below.
+    // Words are above a loop, and the rails have 8 above and below.
     ("a+", 72 + 117, 40 + 48 + 40),
     ("a*", 72 + 117, 40 + 56 + 40),
     // A group has words above its inside, 12 at either side and 8 below.
@@ -56,7 +56,7 @@ fn sizes(rt: HostRuntime) -> Result<(), Fail> {
     Ok(())
 }
 
-/// What is written of a pattern that is refused.
+/// What is written of a pattern that is invalid.
 #[test]
 fn refused(rt: HostRuntime) -> Result<(), Fail> {
     let mut out = Vec::new(rt.alloc());

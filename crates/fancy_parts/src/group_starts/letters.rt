@@ -1,4 +1,4 @@
-//! The letters of a flag group.
+//! The letters of inline flags and of flag groups.
 ghost use Rattle.std.specs.Prelude.{◌≡◌, ℕ, ◌+◌, ◌<◌, ◌++◌, ◌∷◌, length, chars, codes, ◌||◌, IfErr, IfOk};
 ghost use Rattle.fancy_lex.specs.Reading.{Reading, Returns, Reports, Derives};
 ghost use Rattle.fancy_lex.specs.Text.{Text, EndsWith, text_of};
@@ -13,16 +13,17 @@ use fancy_lex::layout::skip;
 use fancy_lex::text::{AT_END, front, next};
 use std::alloc::{AllocError, Global};
 
-/// The result of the letters of a flag group.
+/// Whether the letters are inline flags or those of a flag group, with the flags that they make.
 #[derive(Clone, Copy)]
 pub enum Letters {
-    /// Closed by a parenthesis: these flags hold from there on.
+    /// A parenthesis ends them: these flags hold from there on.
     InlineFlags(Flags),
-    /// Closed by a colon: these flags hold inside the group.
+    /// A colon ends them: these flags hold inside the group.
     FlagGroup(Flags),
 }
 
-/// The result of one letter: the letters end there, or go on and then clear their flags or set them.
+/// The result of one character: the letters end with it, or go on under these flags; then `clears` says whether the
+/// letters after it clear flags or set them.
 #[derive(Clone, Copy)]
 enum LetterStep {
     Ends(Letters),
@@ -78,7 +79,7 @@ fn unknown_flag(alloc: Global, letters: &str, rest: &str) -> ReadError
     }
 }
 
-/// Whether none of the letters before `current` was read.
+/// Whether `current` is where the letters begin.
 #[tactic(auto, using(fancy_lex::proofs::TextLemmas::bytes_chars))]
 fn is_first(letters: &str, current: &str) -> bool
     ensures { result ≡ steps.is_first (chars letters.now) (chars current.now) }
@@ -86,7 +87,7 @@ fn is_first(letters: &str, current: &str) -> bool
     current.len() == letters.len()
 }
 
-/// Whether only a minus sign was read of the letters before `current`.
+/// Whether a minus is all that is between the start of the letters and `current`.
 #[tactic(auto, using(fancy_lex::proofs::TextLemmas::bytes_chars))]
 fn is_after_minus(letters: &str, clears: bool, current: &str) -> bool
     ensures { result ≡ steps.is_after_minus (chars letters.now) clears (chars current.now) }
@@ -94,7 +95,7 @@ fn is_after_minus(letters: &str, clears: bool, current: &str) -> bool
     clears && current.len() + 1 == letters.len()
 }
 
-/// Whether a parenthesis at `current` has no letter before it.
+/// Whether a parenthesis at `current` would end letters of which there are none: nothing is before it, or only a minus.
 fn closes_nothing(letters: &str, clears: bool, current: &str) -> bool
     ensures { let first = steps.is_first (chars letters.now) (chars current.now) in
         result ≡ (first || steps.is_after_minus (chars letters.now) clears (chars current.now)) }
@@ -102,7 +103,7 @@ fn closes_nothing(letters: &str, clears: bool, current: &str) -> bool
     is_first(letters, current) || is_after_minus(letters, clears, current)
 }
 
-/// Reads the letter at `current`.
+/// Reads the character at `current`: a flag letter, a minus, or the parenthesis or the colon that ends the letters.
 fn flag_letter<'a>(
     alloc: Global,
     letters: &str,
@@ -154,7 +155,7 @@ fn flag_letter<'a>(
     }
 }
 
-/// Reads the letters of a flag group, one after another.
+/// Reads the letters one after another.
 fn read_letters(alloc: Global, text: &str, flags: Flags) -> Result<(Letters, &str), ReadError>
     ensures value { Returns letters_of result (steps.letters flags (chars text.now)) }
     ensures shorter { IfOk result (λ p. length p.1.now < length text.now) }
@@ -179,10 +180,11 @@ fn read_letters(alloc: Global, text: &str, flags: Flags) -> Result<(Letters, &st
     }
 }
 
-/// Parses the letters of a flag group, which begin after the `(?`: what they set, and the text after the parenthesis or
-/// the colon. UnknownFlag at the first letter for a letter that is no flag, for a second minus, and if there is no
-/// letter before the end; ChangingUnicodeModeUnsupported at a `u` that is not the mode; UnclosedOpenParen if the text
-/// ends, or a comment is not closed.
+/// Parses flag letters, which begin after the `(?`: the flags that they make, and the text after the parenthesis or the
+/// colon that ends them. The errors: UnknownFlag at the start of the letters for a letter that is no flag, for a second
+/// minus, for a parenthesis without a letter before it, and for a colon after only a minus;
+/// ChangingUnicodeModeUnsupported at a `u` that would change the Unicode flag; UnclosedOpenParen if the text ends, or a
+/// comment is not closed.
 pub fn flag_letters(alloc: Global, text: &str, flags: Flags) -> Result<(Letters, &str), ReadError>
     ensures value { Returns letters_of result (steps.letters flags (chars text.now)) }
     ensures derives { Derives letters_of result (spec.GroupLetters flags (chars text.now)) }

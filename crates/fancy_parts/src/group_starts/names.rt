@@ -30,8 +30,8 @@ impl ClosingDelimiter {
 }
 
 /// Parses the name of a group after its opening delimiter: one or more characters, taken literally, and the closing
-/// delimiter. `opening` is the text after the question mark of the group. The error is InvalidGroupName at the question
-/// delimiter, if there is no name or no closing delimiter.
+/// delimiter. `opening` is the text after the question mark of the group. The error is InvalidGroupName at that
+/// question mark, if there is no name or no closing delimiter.
 #[tactic(auto, unfolding(crate::specs::GroupName::group_name))]
 pub fn group_name<'a>(
     opening: &str,

@@ -5,7 +5,7 @@ use Rattle.fancy_grammar.specs.PatternWalk.{needs_listed}
 use Rattle.fancy_lex.specs.Text.{text_of}
 use Rattle.fancy_syntax.specs.InfoViews.{info_of}
 use Rattle.fancy_syntax.specs.View.{view}
-use Rattle.fancy_pattern.specs.Wheres.{IsContext}
+use Rattle.fancy_pattern.specs.ContextViews.{IsContext}
 use Rattle.fancy_pattern.proofs.WritesLemmas.{ok_then}
 use Rattle.fancy_pattern.proofs.text_of_tree.Goals as goal
 

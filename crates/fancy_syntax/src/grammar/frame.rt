@@ -75,7 +75,7 @@ impl<'a> Frame<'a> {
 
     /// Ends the open branch at the bar at the reach, and opens what comes next.
     ///
-    /// No bar may follow the second branch of an absent expression: the general error, at the bar.
+    /// No bar may follow the second branch of an absent expression: GeneralParseError, at the bar.
     pub(crate) fn bar<S: Spanning>(
         &mut self,
         alloc: Global,
@@ -132,7 +132,7 @@ impl<'a> Frame<'a> {
         Ok(())
     }
 
-    /// Ends the group, whose last branch ends at the reach: the tree of its inside.
+    /// Ends the group, whose last branch ends at the reach, and returns the tree of its contents.
     pub(crate) fn finish<S: Spanning>(
         &self,
         alloc: Global,

@@ -34,7 +34,7 @@ use std::mem;
 /// What has been read of a text so far.
 #[derive(Drop)]
 pub(crate) struct Parser<'a> {
-    /// The position of the loop.
+    /// The flags that hold, and the rest of the text.
     pub(crate) current: State<'a>,
     /// The innermost open group.
     pub(crate) frame: Frame<'a>,
@@ -48,7 +48,7 @@ pub(crate) struct Parser<'a> {
 ///
 /// If it takes more than 1,024 bytes, malloc merges its free blocks at each request, and then returns the small blocks
 /// of a tree slowly.
-const TREES: usize = 12;
+const TREES: usize = 14;
 
 impl<'a> Parser<'a> {
     /// A parser that has read nothing yet.

@@ -36,7 +36,7 @@ pub(crate) fn plain<'a>(current: State<'a>) -> Option<(char, &'a str)>
     Some((c, rest))
 }
 
-/// The meaning of the escape at the front and what follows it, if a look ahead reads all of it and no layout or
+/// The leaf of the escape at the front and what follows it, if a look ahead reads all of it and no layout or
 /// quantifier follows. Each way to record spans has a copy of its own, which is inlined at its call.
 #[inline(always)]
 pub(crate) fn plain_escape<'a, S: Spanning>(current: State<'a>) -> Option<(Escaped<'a>, &'a str)>

@@ -40,7 +40,7 @@ pub(crate) enum Step<'a> {
     Open(OpenGroup<'a>),
 }
 
-/// A part of a group whose inside was read.
+/// A part of a group whose contents were read.
 #[derive(Drop)]
 pub(crate) struct FinishedPart<'a> {
     pub(crate) open_group: OpenGroup<'a>,
@@ -128,8 +128,8 @@ fn piece<'a, S: Spanning>(
     }
 }
 
-/// Ends the open part if no branch follows: a piece, or the part that comes next. A quantifier after the piece is read
-/// under the flags at its start. A returned error is the error of the piece.
+/// Ends a part that no bar follows: the piece ends with it, or the next part of the same group opens. A quantifier
+/// after the piece is read under the flags at the start of the piece. A returned error is the error of the piece.
 pub(crate) fn close<'a, S: Spanning>(
     alloc: Global,
     part: FinishedPart<'a>,
@@ -174,9 +174,9 @@ fn goes_on(open_group: &OpenGroup) -> bool
     matches!(open_group, OpenGroup::Condition)
 }
 
-/// Reads the closing parenthesis of the open part: the tree of the part.
+/// Reads the closing parenthesis of the part, and returns the tree of the part.
 ///
-/// The general error if a conditional has no body; else the error of `close_paren`.
+/// The error is GeneralParseError if a conditional lacks a body that it needs; otherwise that of `close_paren`.
 fn end_part<S: Spanning>(
     alloc: Global,
     open_group: OpenGroup,
@@ -217,8 +217,8 @@ fn read_end(alloc: Global, open_group: &OpenGroup, current: &mut State) -> Resul
     close_paren(current)
 }
 
-/// Whether the open part is the body of a conditional that takes no byte before the text, with a condition that needs a
-/// body.
+/// Whether the open part is the body of a conditional, has no byte before `text`, and may not be empty, since its
+/// condition is not on a group.
 fn lacks_body(open_group: &OpenGroup, text: &str) -> bool
     ensures { (s : states.State) → s.rest ≡ chars text.now → result ≡ machine.lacks_body (part_of open_group.now) s }
 {
@@ -228,8 +228,8 @@ fn lacks_body(open_group: &OpenGroup, text: &str) -> bool
     }
 }
 
-/// The tree of the open part, around the tree read inside. Its closing parenthesis begins at the first reach and ends
-/// at the second.
+/// The tree of the part, made of the tree of its contents. Its closing parenthesis begins at the reach `paren` and ends
+/// at the reach `end`.
 fn node_of_part<S: Spanning>(
     alloc: Global,
     open_group: OpenGroup,
@@ -261,7 +261,7 @@ fn node_of_part<S: Spanning>(
     }
 }
 
-/// Ends a group of one alternation at the reach. A flag group has no node.
+/// Records the end, at the reach, of a group of one alternation. A flag group has no node.
 #[inline(always)]
 fn close_group<S: Spanning>(kind: &GroupKind, end: usize, spans: &mut S) -> Result<(), AllocError>
     ensures { (l : Log) → S.records spans.old l → OnOk result (S.records spans.new (group_recorded (group_kind kind.now) end l)) }
@@ -276,8 +276,8 @@ fn close_group<S: Spanning>(kind: &GroupKind, end: usize, spans: &mut S) -> Resu
     }
 }
 
-/// Records the branches of the body of a conditional, which ends at the reach. If it is an Alt, they are its first
-/// branch and the choice among the others; else the body and an Empty.
+/// Records the two branches of a conditional, whose body ends at the reach. If the body is an Alt, they are its first
+/// branch and the choice among the others; otherwise they are the body and an Empty.
 #[inline(always)]
 fn part_body<S: Spanning>(body: &Expr, end: usize, spans: &mut S) -> Result<(), AllocError>
     ensures { (l : Log) → S.records spans.old l → OnOk result (S.records spans.new (body_parted (view body.now) end l)) }

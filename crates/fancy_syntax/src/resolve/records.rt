@@ -35,24 +35,25 @@ pub(super) struct Progress {
     pub(super) passed: usize,
     /// The numbers of back references, up to the number of groups.
     pub(super) backrefs: BTreeSet<usize>,
-    /// The first of the other numbers.
+    /// The first number of a back reference above the number of groups.
     pub(super) out_of_range: Option<usize>,
     /// Whether some reference is written as a number.
     pub(super) numeric: bool,
-    /// Whether some call is written.
+    /// Whether there is a call.
     pub(super) calls: bool,
-    /// Whether some call by the number 0 is written.
+    /// Whether there is a call by the number 0.
     pub(super) self_recursive: bool,
-    /// The error at which the walk stopped, or out of memory.
+    /// Why the walk stopped, if it did: the error of a reference, or out of memory.
     pub(super) error: Option<ReadError>,
 }
 
-/// The walk stopped: its `Progress` says why. An error itself has seven words, which each call would pass on.
+/// The walk stopped; its `Progress` says why. This type is empty, since an error takes seven words, which each call
+/// would have to pass on.
 #[derive(Debug, Drop)]
 pub(super) struct Stopped;
 
 impl Progress {
-    /// Nothing passed, and nothing recorded.
+    /// At the start: no group has opened, and nothing is recorded.
     pub(super) fn new(alloc: Global) -> Progress
         ensures { progress_of result ≡ nothing_recorded }
     {
@@ -85,7 +86,8 @@ impl Progress {
     }
 }
 
-/// Records the reference, and returns the number that it refers to, or its error.
+/// Records the reference, and returns the number that it refers to. None for a call that refers to no group. An error
+/// is recorded.
 #[inline(always)]
 pub(super) fn refer(
     resolver: &Resolver,
@@ -132,7 +134,8 @@ fn record_form(
     }
 }
 
-/// Records the number that the reference refers to, and returns it, or the error.
+/// Records what the reference refers to, and returns its number. None for a call that refers to no group. An error is
+/// recorded.
 fn record_meaning(
     resolver: &Resolver,
     progress: &mut Progress,

@@ -16,20 +16,20 @@ use std::alloc::{AllocError, Global};
 
 /// What the first walk found.
 #[derive(Debug, Drop)]
-pub(super) struct Survey {
+pub(super) struct Surveyed {
     /// The groups that have a number.
     pub(super) groups: Groups,
     /// Whether a capturing group or a reference was found, for the second walk to resolve.
     pub(super) met: bool,
 }
 
-impl Survey {
+impl Surveyed {
     /// No groups, and nothing found.
-    pub(super) fn new(alloc: Global) -> Survey
+    pub(super) fn new(alloc: Global) -> Surveyed
         ensures groups { groups_of result.groups ≡ no_groups }
         ensures met { result.met ≡ false }
     {
-        Survey {
+        Surveyed {
             groups: Groups::new(alloc),
             met: false,
         }
@@ -43,7 +43,7 @@ pub(super) fn survey(
     alloc: Global,
     tree: &Expr,
     named: bool,
-    found: &mut Survey,
+    found: &mut Surveyed,
 ) -> Result<(), AllocError>
     requires { found.old.groups.total + length (openings_in (items (view tree.now))) < amount_bound }
     ensures found { IfOk result
@@ -109,7 +109,7 @@ fn survey_node(
     node: &AstNode,
     reach: Reach,
     named: bool,
-    found: &mut Survey,
+    found: &mut Surveyed,
 ) -> Result<(), AllocError>
     requires { found.old.groups.total + length (openings_in (items (view_ast node.now reach))) < amount_bound }
     ensures found { IfOk result
@@ -141,7 +141,7 @@ fn survey_group(
     name: Option<&str>,
     inner: &Expr,
     named: bool,
-    found: &mut Survey,
+    found: &mut Surveyed,
 ) -> Result<(), AllocError>
     requires { found.old.groups.total + 1 + length (openings_in (items (view inner.now))) < amount_bound }
     ensures found { let name = option_map (λ t. chars t.now) name.entry in
@@ -163,7 +163,7 @@ fn survey_absent(
     alloc: Global,
     absent: &Absent,
     named: bool,
-    found: &mut Survey,
+    found: &mut Surveyed,
 ) -> Result<(), AllocError>
     requires { found.old.groups.total + length (openings_in (items (view_absent absent.now))) < amount_bound }
     ensures found { IfOk result
@@ -190,7 +190,7 @@ fn survey_all(
     alloc: Global,
     trees: &[Expr],
     named: bool,
-    found: &mut Survey,
+    found: &mut Surveyed,
 ) -> Result<(), AllocError>
     requires { found.old.groups.total + length (openings_in (items_all (trees_of (views trees.now)))) < amount_bound }
     ensures found { IfOk result

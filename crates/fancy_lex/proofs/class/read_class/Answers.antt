@@ -13,7 +13,7 @@ loop-c-init c = record {
   same = (
     suc (bytes (chars c.args.text.now)),
     omega (arith, bytes_chars c.args.text.now c.utf8.text, c.in_ok-rest.ensures.within),
-    class_init _ _ _ _ _ (ap chars c.new-out.ensures.bytes ∙ chars-nil) c.in_ok-rest.ensures.value,
+    class_init _ _ _ _ _ (ap chars c.in_ok-out.ensures.bytes ∙ chars-nil) c.in_ok-rest.ensures.value,
   );
   within = omega (arith, c.in_ok-rest.ensures.within);
 }

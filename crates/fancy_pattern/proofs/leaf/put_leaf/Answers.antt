@@ -5,7 +5,7 @@ use Rattle.std.proofs.lemmas.Int.{to_z-of_z}
 use Rattle.fancy_grammar.specs.PatternReference.{call_text, backref_at_level_text}
 use Rattle.fancy_grammar.specs.Tree.{subroutine_call, backref_at_level}
 use Rattle.fancy_syntax.specs.View.{view}
-use Rattle.fancy_pattern.specs.Wheres.{alone_text}
+use Rattle.fancy_pattern.specs.ContextViews.{alone_text}
 use Rattle.fancy_syntax.specs.declared.expr.Expr.{SubroutineCall, BackrefWithRelativeRecursionLevel, the_lemmas}
 use Rattle.fancy_pattern.proofs.OutputLemmas.{last_as}
 use Rattle.fancy_pattern.proofs.leaf.put_leaf.Goals as goal

@@ -2,7 +2,7 @@ use Rattle.std.proofs.Common.{false}
 use Rattle.fancy_grammar.specs.GroupInfo.{GroupInfo}
 use Rattle.fancy_grammar.specs.Tree.{trees_of}
 use Rattle.fancy_syntax.specs.View.{views}
-use Rattle.fancy_pattern.specs.Wheres.{AreGroupNames}
+use Rattle.fancy_pattern.specs.ContextViews.{AreGroupNames}
 use Rattle.fancy_syntax.proofs.PrintLemmas.{left}
 use Rattle.fancy_pattern.proofs.RowLemmas.{WritesOn, pieces_left, all_branches, barred_left}
 use Rattle.fancy_pattern.proofs.write.+write.Given as goal

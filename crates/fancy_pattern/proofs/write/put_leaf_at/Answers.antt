@@ -1,6 +1,6 @@
 use Rattle.std.proofs.Common.{true, false, [], sym, ◌∙◌}
 use Rattle.fancy_syntax.specs.View.{view}
-use Rattle.fancy_pattern.specs.Wheres.{alone_text}
+use Rattle.fancy_pattern.specs.ContextViews.{alone_text}
 use Rattle.fancy_pattern.proofs.NodeLemmas.{atom_writes}
 use Rattle.fancy_pattern.proofs.WritesLemmas.{on_then, parens_writes, positioned_writes, on_positioned}
 use Rattle.fancy_pattern.proofs.write.put_leaf_at.Goals as goal

@@ -36,9 +36,9 @@ returns-in_err-step-clause-reading g c start none l h =
     h c.requires.last c.requires.no_bar
     (f.tree h.below h.branches h.pieces h.holds) (f.below h.below h.branches h.pieces h.holds)
     (rw r.after c.in-Some.ensures.items) in
-    let n : c.len.result ≡ length c.pop.new.self.items = omega (arith, c.len.ensures, c.pop.new.self.ok.0) in
+    let n : c.len-depth.result ≡ length c.pop.new.self.items = omega (arith, c.len-depth.ensures, c.pop.new.self.ok.0) in
     let e = err_from_is_err_and c.from_residual-in_err-step.result c.from_residual-in_err-step.ensures.1 in
-    rw (e.1, e.2) (IsErrorAmong-map (Piece c.len.result w.current)
+    rw (e.1, e.2) (IsErrorAmong-map (Piece c.len-depth.result w.current)
     (Alternation 0 start) c.in_err-step.field-0.0
     (λ k p a. running_error w.outer w.more (subst (λ d. Piece d w.current (failed k p)) n a))
     (c.in_err-step.ensures.value w.current w.inside w.recorded w.before
@@ -55,7 +55,7 @@ returns-clause-reading g c start none l h =
     h c.requires.last c.requires.no_bar
     (f.tree h.below h.branches h.pieces h.holds) (f.below h.below h.branches h.pieces h.holds)
     (rw r.after c.in-Some.ensures.items) in
-    let n : c.len.result ≡ length c.pop.new.self.items = omega (arith, c.len.ensures, c.pop.new.self.ok.0) in
+    let n : c.len-depth.result ≡ length c.pop.new.self.items = omega (arith, c.len-depth.ensures, c.pop.new.self.ok.0) in
     let made = c.in_ok-step.step in
     let m = choice_closed h.branches h.pieces (state c.args.self.now.current) l in
     let k = close_recorded c.replace-open_group.new.dest.piece.left c.replace-open_group.new.dest.piece.flags

@@ -31,8 +31,8 @@ returns-clause-reading g c start none l h =
     let taken = c.in_ok-take.ensures in (
       _,
       rw taken.current
-          (running_step k made (running_began c.byte_len-self.result c.args.self.now.current.flags h)
-          (c.byte_len-self.ensures, refl) c.requires.more steps taken.taken),
+          (running_step k made (running_began (record { left = c.byte_len.result; flags = c.args.self.now.current.flags }) h)
+          (c.byte_len.ensures, refl) c.requires.more steps taken.taken),
       λ n. taken.spans k (c.in_ok-step.ensures.spans l n),
     )
 

@@ -1,4 +1,4 @@
--- How the position of a writer of texts, and what it knows besides the tree, correspond to the definition.
+-- How the context of a writer of texts, and what it knows besides the tree, correspond to the definition.
 use Rattle.std.specs.Prelude.{◌≡◌, ℕ, ◌-◌, ◌==◌, List, [], chars, find, Option, Some, None, ⊤}
 use Rattle.std.specs.BTreeMap.{BTreeMap, get}
 use Rattle.std.specs.List.{list_any}
@@ -14,9 +14,9 @@ use Rattle.fancy_pattern.specs.declared.context.Context as code
 use Rattle.fancy_pattern.specs.declared.names.GroupNames as group_names
 use Rattle.fancy_pattern.specs.declared.names.GroupName as name
 
--- ---- the position of a text
+-- ---- the context of a text
 
--- the same position, before nodes with these needs
+-- the same context, before nodes with these needs
 pub record IsContext (i : code.Context) (h : Context) (l : List Needs) : Type 0 where
   pub flags : i.flags ≡ h.flags
   pub opened : i.opened ≡ h.opened
@@ -50,7 +50,7 @@ pub record AreGroupNames (k : group_names.GroupNames) (m : GroupInfo) : Type 0 w
 
 -- ---- leaves
 
--- the text of a leaf; an empty text for a tree that holds others
+-- the text of a tree that is a leaf; an empty text for any other tree
 abbrev pub alone_text : GroupInfo → Tree → Context → Text
 alone_text m (leaf l) h = leaf_text m l h
 alone_text m t h = []
