@@ -1,0 +1,27 @@
+# Completion of `patterns` for bash. Made by tools/man.
+_patterns() {
+    local word=${COMP_WORDS[COMP_CWORD]} before=${COMP_WORDS[COMP_CWORD - 1]} options=
+    if ((COMP_CWORD == 1)); then
+        mapfile -t COMPREPLY < <(compgen -W 'check tree picture lint format groups help --help --version' -- "$word")
+        return
+    fi
+    case $before in
+        --color) mapfile -t COMPREPLY < <(compgen -W 'auto always never' -- "$word") && return ;;
+        --allow | --warn | --deny) mapfile -t COMPREPLY < <(compgen -W 'missing-group useless-backreference unresolved-call duplicate-group-name unused-capturing-group duplicate-branch unreachable-branch empty-branch quantified-assertion empty-loop useless-quantifier zero-quantifier useless-flag single-character-class' -- "$word") && return ;;
+        --flags | --keys) return ;;
+    esac
+    case ${COMP_WORDS[1]} in
+        check) options='--flags -z --null-data --quiet --color --textmate --keys --json -h --help' ;;
+        tree) options='--flags --ascii --spans --json -h --help' ;;
+        picture) options='--flags --html -h --help' ;;
+        lint) options='--flags -z --null-data --quiet --color --textmate --keys --allow --warn --deny --json --rules -h --help' ;;
+        format) options='--flags -z --null-data --quiet --color --check --drop-comments -h --help' ;;
+        groups) options='--flags -z --null-data --quiet --color --textmate --keys --json -h --help' ;;
+        help) options='check tree picture lint format groups' ;;
+    esac
+    case $word in
+        -*) mapfile -t COMPREPLY < <(compgen -W "$options" -- "$word") ;;
+        *) mapfile -t COMPREPLY < <(compgen -f -- "$word") ;;
+    esac
+}
+complete -o filenames -F _patterns patterns
