@@ -1,0 +1,180 @@
+/* A library with the symbols of libfancy that returns what `fancy.h` rules out: wrong counts, kinds, ends, spans, sizes and bools, and texts that
+ * are not UTF-8. It keeps to the capacities of the buffers, since no caller can see to that. `.ci/from-rust` links the crate in `rust/` with it.
+ * The answers are drawn at random, always the same; it is for one thread. */
+#include "../include/fancy.h"
+
+#include <string.h>
+
+static uint64_t state = 88172645463325252u;
+
+static uint64_t draw(void) {
+    state ^= state << 13;
+    state ^= state >> 7;
+    state ^= state << 17;
+    return state;
+}
+
+static size_t below(size_t bound) { return (size_t)((draw() >> 11) % bound); }
+
+/* A number that is small, near a size, or as large as there is. */
+static size_t number(size_t size) {
+    switch (below(6)) {
+    case 0: return below(4);
+    case 1: return size + below(3) - 1;
+    case 2: return SIZE_MAX - below(2);
+    case 3: return size * (1 + below(70));
+    case 4: return (size_t)draw();
+    default: return below(size + 1);
+    }
+}
+
+static fancy_result result(uint32_t status, uint32_t kind, size_t position, size_t size) {
+    fancy_result it = {status, kind, position, size};
+    return it;
+}
+
+static fancy_result any_result(size_t size) {
+    return result((uint32_t)below(9), (uint32_t)(below(20) ? below(20) : draw()), number(size), number(size));
+}
+
+static void write_noise(void *buffer, size_t size) {
+    unsigned char *bytes = buffer;
+    for (size_t i = 0; i < size; i++) bytes[i] = (unsigned char)draw();
+}
+
+uint32_t fancy_version(void) { return below(200) ? FANCY_VERSION : (uint32_t)draw(); }
+
+fancy_result fancy_check_nonnull(const char *pattern, size_t length, uint32_t flags) {
+    (void)pattern, (void)flags;
+    return below(2) ? result(FANCY_STATUS_OK, 0, 0, 0) : any_result(length);
+}
+
+/* A text: one that is right, one that is not UTF-8, or none. */
+static fancy_result text(uint32_t status, size_t length, char *buffer, size_t capacity) {
+    static const char words[] = "Invalid escape: \\y, General parsing error: \xc3\xa9";
+    size_t size = below(sizeof words);
+    if (below(4) == 0) {
+        write_noise(buffer, below(capacity + 1));
+        return any_result(length);
+    }
+    if (size > capacity) return result(FANCY_STATUS_BUFFER_TOO_SHORT, 0, 0, size);
+    memcpy(buffer, words, size);
+    return result(status, FANCY_ERROR_INVALID_ESCAPE, below(length + 2), size);
+}
+
+fancy_result fancy_message_nonnull(const char *pattern, size_t length, uint32_t flags, char *buffer, size_t capacity) {
+    (void)pattern, (void)flags;
+    return text(FANCY_STATUS_REFUSED, length, buffer, capacity);
+}
+
+fancy_result fancy_error_text_nonnull(uint32_t kind, char *buffer, size_t capacity) {
+    (void)kind;
+    return text(FANCY_STATUS_OK, 47, buffer, capacity);
+}
+
+fancy_result fancy_print_nonnull(const char *pattern, size_t length, uint32_t flags, uint8_t precedence, char *buffer,
+                                 size_t capacity) {
+    (void)pattern, (void)flags, (void)precedence;
+    return text(FANCY_STATUS_OK, length, buffer, capacity);
+}
+
+fancy_result fancy_pattern_nonnull(const char *pattern, size_t length, uint32_t flags, char *buffer, size_t capacity) {
+    (void)pattern, (void)flags;
+    return text(FANCY_STATUS_OK, length, buffer, capacity);
+}
+
+/* ---- trees */
+
+static const unsigned char leaves[] = {1, 2, 3, 4, 5, 6, 12, 13, 14, 16, 17, 18, 20, 21, 24};
+static const unsigned char parents[] = {FANCY_NODE_GROUP, FANCY_NODE_LOOK_AROUND, FANCY_NODE_REPEAT, FANCY_NODE_ATOMIC_GROUP,
+                                        FANCY_NODE_DEFINE_GROUP};
+
+typedef struct {
+    fancy_node *nodes;
+    size_t capacity, count, texts_size;
+} tree;
+
+/* Writes a node with descendants, and returns whether there was capacity for it. */
+static bool grow(tree *t, size_t levels) {
+    if (t->count == t->capacity) return false;
+    size_t index = t->count++, children = 0;
+    fancy_node *node = &t->nodes[index];
+    memset(node, 0, sizeof *node);
+    node->kind = leaves[below(sizeof leaves)];
+    node->which = 1 + (uint32_t)below(3);
+    node->text_size = t->texts_size < 2 ? 0 : 2;
+    if (levels > 0 && below(4) > 0) {
+        if (below(2)) node->kind = parents[below(sizeof parents)], children = 1;
+        else node->kind = FANCY_NODE_CONCAT + (uint32_t)below(2), children = below(4);
+        if (below(12) == 0) node->kind = FANCY_NODE_CONDITIONAL, children = 3;
+        if (below(12) == 0) node->kind = FANCY_NODE_ABSENT, node->which = FANCY_ABSENT_EXPRESSION, children = 2;
+    }
+    for (size_t i = 0; i < children; i++)
+        if (!grow(t, levels - 1)) return false;
+    node->end = t->count;
+    return true;
+}
+
+/* Groups in groups, as many as there is capacity for. */
+static void grow_deep(tree *t) {
+    for (t->count = 0; t->count < t->capacity; t->count++) {
+        memset(&t->nodes[t->count], 0, sizeof *t->nodes);
+        t->nodes[t->count].kind = t->count + 1 < t->capacity ? FANCY_NODE_GROUP : FANCY_NODE_EMPTY;
+        t->nodes[t->count].end = t->capacity;
+    }
+}
+
+static void spoil(fancy_node *node, size_t count) {
+    switch (below(9)) {
+    case 0: node->kind = (uint32_t)number(24); break;
+    case 1: node->which = (uint32_t)number(12); break;
+    case 2: node->end = number(count); break;
+    case 3: node->text = number(64); break;
+    case 4: node->text_size = number(64); break;
+    case 5: node->start = number(8); break;
+    case 6: node->stop = number(8); break;
+    case 7: node->kind = 1 + (uint32_t)below(24); break;
+    default: memset(&node->newline, (int)draw(), 6); break;
+    }
+}
+
+fancy_result fancy_parse_nonnull(const char *pattern, size_t length, uint32_t flags, fancy_node *nodes, size_t node_capacity,
+                                 char *texts, size_t texts_capacity, fancy_name *names, size_t name_capacity,
+                                 size_t *backrefs, size_t backref_capacity, fancy_info *info) {
+    (void)pattern, (void)flags;
+    tree t = {nodes, below(2 * length + 1) + 1, 0, below(texts_capacity + 1)};
+    if (t.capacity > node_capacity) t.capacity = node_capacity;
+    size_t mode = below(16);
+    memset(info, 0, sizeof *info);
+    if (mode < 3) {
+        write_noise(info, sizeof *info);
+        info->node_count = number(2 * length + 1);
+        info->texts_size = number(texts_capacity);
+        info->name_count = number(name_capacity);
+        info->backref_count = number(backref_capacity);
+        return mode == 0 ? any_result(length) : result(mode == 1 ? FANCY_STATUS_BUFFER_TOO_SHORT : FANCY_STATUS_OK, 0, 0, 0);
+    }
+    memset(texts, 0, t.texts_size);
+    for (size_t i = 0; i + 1 < t.texts_size; i += 2) memcpy(texts + i, "\xc3\xa9", 2);
+    if (mode == 3) t.capacity = node_capacity < 2 * length + 1 ? node_capacity : 2 * length + 1, grow_deep(&t);
+    else while (t.count = 0, !grow(&t, 5)) continue;
+    info->node_count = t.count;
+    info->texts_size = t.texts_size;
+    info->name_count = below(name_capacity < length ? name_capacity + 1 : length + 1);
+    info->backref_count = below(backref_capacity < length ? backref_capacity + 1 : length + 1);
+    for (size_t i = 0; i < info->name_count; i++) {
+        fancy_name name = {0, t.texts_size < 2 ? 0 : 2, below(9)};
+        names[i] = name;
+    }
+    for (size_t i = 0; i < info->backref_count; i++) backrefs[i] = number(9);
+    info->total_groups = number(9);
+    memset(&info->has_out_of_range_backref, (int)below(2), 5);
+    switch (mode) {
+    case 4: case 5: case 6: case 7: spoil(&nodes[below(t.count)], t.count); break;
+    case 8: write_noise(texts, t.texts_size); break;
+    case 9: if (info->name_count > 0) names[below(info->name_count)].text_size = number(4); break;
+    case 10: memset(&info->has_out_of_range_backref, (int)draw(), 5); break;
+    case 11: write_noise(nodes, below(node_capacity + 1) * sizeof *nodes); break;
+    }
+    return result(FANCY_STATUS_OK, 0, 0, 0);
+}

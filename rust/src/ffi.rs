@@ -1,0 +1,130 @@
+//! The calls of `fancy.h`, version 1. This is the only file of the crate with `unsafe` code.
+//!
+//! What is called are the proved functions, whose names end in `_nonnull`: they take no null pointer, and a slice never
+//! has one. A bool of C is read as a `u8`, so that each byte is a valid one, whatever the library writes.
+
+use core::ffi::c_char;
+
+/// `fancy_result`
+#[repr(C)]
+#[derive(Debug, Clone, Copy)]
+pub(crate) struct CallResult {
+    pub status: u32,
+    pub kind: u32,
+    pub position: usize,
+    pub size: usize,
+}
+
+/// `fancy_node`
+#[repr(C)]
+#[derive(Debug, Clone, Copy, Default)]
+pub(crate) struct Node {
+    pub kind: u32,
+    pub which: u32,
+    pub end: usize,
+    pub text: usize,
+    pub text_size: usize,
+    pub lo: usize,
+    pub hi: usize,
+    pub group: usize,
+    pub level: isize,
+    pub position: usize,
+    pub start: usize,
+    pub stop: usize,
+    pub newline: u8,
+    pub crlf: u8,
+    pub unicode: u8,
+    pub casei: u8,
+    pub greedy: u8,
+    pub has_level: u8,
+}
+
+/// `fancy_name`
+#[repr(C)]
+#[derive(Debug, Clone, Copy, Default)]
+pub(crate) struct Name {
+    pub text: usize,
+    pub text_size: usize,
+    pub group: usize,
+}
+
+/// `fancy_info`
+#[repr(C)]
+#[derive(Debug, Clone, Copy, Default)]
+pub(crate) struct Info {
+    pub node_count: usize,
+    pub texts_size: usize,
+    pub name_count: usize,
+    pub backref_count: usize,
+    pub total_groups: usize,
+    pub out_of_range_backref: usize,
+    pub has_out_of_range_backref: u8,
+    pub numeric_capture_group_references: u8,
+    pub contains_subroutines: u8,
+    pub self_recursive: u8,
+    pub numbered_groups_ignored: u8,
+}
+
+#[rustfmt::skip]
+extern "C" {
+    fn fancy_version() -> u32;
+    fn fancy_check_nonnull(pattern: *const c_char, length: usize, flags: u32) -> CallResult;
+    fn fancy_message_nonnull(pattern: *const c_char, length: usize, flags: u32, buffer: *mut c_char, capacity: usize) -> CallResult;
+    #[cfg(test)]
+    fn fancy_error_text_nonnull(kind: u32, buffer: *mut c_char, capacity: usize) -> CallResult;
+    fn fancy_parse_nonnull(pattern: *const c_char, length: usize, flags: u32, nodes: *mut Node, node_capacity: usize,
+        texts: *mut c_char, texts_capacity: usize, names: *mut Name, name_capacity: usize,
+        backrefs: *mut usize, backref_capacity: usize, info: *mut Info) -> CallResult;
+    fn fancy_print_nonnull(pattern: *const c_char, length: usize, flags: u32, precedence: u8, buffer: *mut c_char, capacity: usize) -> CallResult;
+    fn fancy_pattern_nonnull(pattern: *const c_char, length: usize, flags: u32, buffer: *mut c_char, capacity: usize) -> CallResult;
+}
+
+// All that `docs/c.md` asks of a caller about pointers is asked of each call below: none is null, each is aligned, each points
+// to as many items as the length or capacity beside it says, no two buffers overlap, and nobody else uses a buffer meanwhile.
+// Slices and distinct mutable borrows have all of this, and their items are initialized integers.
+
+pub(crate) fn version() -> u32 {
+    // SAFETY: it has no argument, and returns a constant
+    unsafe { fancy_version() }
+}
+
+pub(crate) fn check(pattern: &str, flags: u32) -> CallResult {
+    // SAFETY: the pattern is a slice
+    unsafe { fancy_check_nonnull(pattern.as_ptr().cast(), pattern.len(), flags) }
+}
+
+#[rustfmt::skip]
+pub(crate) fn message(pattern: &str, flags: u32, buffer: &mut [u8]) -> CallResult {
+    // SAFETY: the pattern and the buffer are slices, the second a mutable borrow
+    unsafe { fancy_message_nonnull(pattern.as_ptr().cast(), pattern.len(), flags, buffer.as_mut_ptr().cast(), buffer.len()) }
+}
+
+#[cfg(test)]
+pub(crate) fn error_text(kind: u32, buffer: &mut [u8]) -> CallResult {
+    // SAFETY: the buffer is a slice, mutably borrowed
+    unsafe { fancy_error_text_nonnull(kind, buffer.as_mut_ptr().cast(), buffer.len()) }
+}
+
+#[rustfmt::skip]
+pub(crate) fn parse(pattern: &str, flags: u32, nodes: &mut [Node], texts: &mut [u8], names: &mut [Name],
+    backrefs: &mut [usize], info: &mut Info) -> CallResult {
+    // SAFETY: the pattern is a slice; the four buffers are slices, and these and `info` are distinct mutable borrows; their
+    // items are integers, so whatever is written to them is valid; the structs are laid out as those of `fancy.h`
+    unsafe {
+        fancy_parse_nonnull(pattern.as_ptr().cast(), pattern.len(), flags, nodes.as_mut_ptr(), nodes.len(),
+            texts.as_mut_ptr().cast(), texts.len(), names.as_mut_ptr(), names.len(),
+            backrefs.as_mut_ptr(), backrefs.len(), info)
+    }
+}
+
+#[rustfmt::skip]
+pub(crate) fn print(pattern: &str, flags: u32, precedence: u8, buffer: &mut [u8]) -> CallResult {
+    // SAFETY: the pattern and the buffer are slices, the second a mutable borrow
+    unsafe { fancy_print_nonnull(pattern.as_ptr().cast(), pattern.len(), flags, precedence, buffer.as_mut_ptr().cast(), buffer.len()) }
+}
+
+#[rustfmt::skip]
+pub(crate) fn pattern(pattern: &str, flags: u32, buffer: &mut [u8]) -> CallResult {
+    // SAFETY: the pattern and the buffer are slices, the second a mutable borrow
+    unsafe { fancy_pattern_nonnull(pattern.as_ptr().cast(), pattern.len(), flags, buffer.as_mut_ptr().cast(), buffer.len()) }
+}

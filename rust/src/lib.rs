@@ -1,0 +1,158 @@
+//! Parses patterns in the syntax of [fancy-regex](https://docs.rs/fancy-regex/0.20.0) 0.20.0 into trees, by libfancy, whose
+//! functions are proved to meet their contracts. It does not match patterns against text. The page `docs/rust.md` of the
+//! repository says how to build and link, what is proved, and what is only tested: this crate.
+//!
+//! ```
+//! use fancy_syntax::{parse, Expr, Flags};
+//!
+//! let tree = parse(r"(?<year>\d{4})-", Flags::UNICODE)?;
+//! assert_eq!(tree.groups.named_groups["year"], [1]);
+//! let Expr::Concat(parts) = &tree.expr else { unreachable!() };
+//! assert!(matches!(parts[0], Expr::Group(_)));
+//!
+//! let error = parse("a(", Flags::UNICODE).unwrap_err();
+//! assert_eq!(error.to_string(), "Parsing error at position 2: Opening parenthesis without closing parenthesis");
+//! # Ok::<(), fancy_syntax::Error>(())
+//! ```
+//!
+//! - [`parse`] returns an owned [`Tree`], with the types and names of fancy-regex: [`Expr`] and what is in it.
+//! - [`Rows`] holds a tree as the library writes it, in buffers that later patterns use again. It is for programs that only look.
+//! - [`check`] says only whether a pattern is valid.
+//! - [`to_pattern`] and [`print()`] write the tree of a pattern as a pattern again.
+//!
+//! Positions and spans are byte offsets. The functions may be called in several threads at once. What the library returns is
+//! checked, and a library that is something else than libfancy is an error ([`Error::Library`]), not a panic.
+
+#![warn(missing_docs, missing_debug_implementations)]
+#![deny(unsafe_code, unsafe_op_in_unsafe_fn)]
+
+mod call;
+mod error;
+mod expr;
+#[allow(unsafe_code)]
+mod ffi;
+mod flags;
+mod node;
+mod numbers;
+mod rows;
+mod tree;
+
+pub use error::{Error, ParseError};
+pub use expr::{Absent, Assertion, AstNode, BacktrackingControlVerb, CaptureGroupTarget, Expr, LookAround};
+pub use expr::{ExprChildrenIter, ExprChildrenIterMut, Walk};
+pub use flags::Flags;
+pub use node::{AbsentKind, CallTarget, Children, Kind, NodeRef};
+pub use rows::Rows;
+pub use tree::{GroupInfo, Span, Tree};
+
+use call::Text;
+
+/// Parses a pattern under flags.
+///
+/// # Errors
+///
+/// [`Error::ParseError`] if the pattern is invalid, with the position and the kind of its error, which is its only one;
+/// [`Error::OutOfMemory`] if an allocation of the library failed; [`Error::Library`] if the library is not libfancy.
+///
+/// ```
+/// use fancy_syntax::{parse, Expr, Flags};
+/// let tree = parse("a|b", Flags::UNICODE | Flags::CASEI)?;
+/// let Expr::Alt(branches) = tree.expr else { unreachable!() };
+/// assert_eq!(branches[0], Expr::Literal { val: "a".to_owned(), casei: true });
+/// # Ok::<(), fancy_syntax::Error>(())
+/// ```
+pub fn parse(pattern: &str, flags: Flags) -> Result<Tree, Error> {
+    Rows::new().parse(pattern, flags).map(Rows::to_tree)
+}
+
+/// Checks whether a pattern is valid. It is cheaper than [`parse`], since no tree is returned.
+///
+/// # Errors
+///
+/// Those of [`parse`].
+///
+/// ```
+/// use fancy_syntax::{check, Error, Flags, ParseError};
+/// assert_eq!(check("[a-z]", Flags::UNICODE), Ok(()));
+/// assert_eq!(check("[a-z", Flags::UNICODE), Err(Error::ParseError(4, ParseError::InvalidClass)));
+/// ```
+pub fn check(pattern: &str, flags: Flags) -> Result<(), Error> {
+    call::ready()?;
+    let result = ffi::check(pattern, flags.bits());
+    match result.status {
+        numbers::STATUS_OK => Ok(()),
+        _ => Err(Error::of(result, pattern, flags)),
+    }
+}
+
+/// Writes the tree of a pattern as a pattern again: one that is parsed, under the same flags, as the same tree with the same
+/// groups and names. Comments, ignored whitespace, and the choice among several ways to write the same node are lost.
+///
+/// The library has no call that takes a tree, so this parses the pattern, and a tree that was changed cannot be written.
+///
+/// # Errors
+///
+/// Those of [`parse`]. Every valid pattern has a text.
+///
+/// ```
+/// use fancy_syntax::{to_pattern, Flags};
+/// assert_eq!(to_pattern("(?x) a {2,2}  # twice", Flags::UNICODE)?, "a{2}");
+/// # Ok::<(), fancy_syntax::Error>(())
+/// ```
+pub fn to_pattern(pattern: &str, flags: Flags) -> Result<String, Error> {
+    let write = |buffer: &mut [u8]| ffi::pattern(pattern, flags.bits(), buffer);
+    match call::written(pattern, write, numbers::STATUS_OK)? {
+        Text::Written(text) => Ok(text),
+        Text::Not(result) => Err(Error::of(result, pattern, flags)),
+    }
+}
+
+/// What a printed text has to be, for [`print()`].
+#[derive(Debug, Clone, Copy, PartialEq, Eq, PartialOrd, Ord, Hash)]
+#[repr(u8)]
+pub enum Precedence {
+    /// A whole pattern, or the inside of a group.
+    Whole = numbers::PRECEDENCE_WHOLE as u8,
+    /// A branch of an alternation: an alternation is put into a group.
+    Branch = numbers::PRECEDENCE_BRANCH as u8,
+    /// A part of a concatenation: a concatenation is put into a group too.
+    Piece = numbers::PRECEDENCE_PIECE as u8,
+    /// The operand of a quantifier: a repetition is put into a group too.
+    Operand = numbers::PRECEDENCE_OPERAND as u8,
+}
+
+/// Writes the tree of a pattern in the syntax of the crate `regex`; `None` if it has a node that has no text there: a reference,
+/// a look-around, an atomic group, a call and the like. The text is to be parsed with no flag or with [`Flags::UNICODE`] only.
+/// It is the text that `to_str` of fancy-regex writes.
+///
+/// The library has no call that takes a tree, so this parses the pattern, and a tree that was changed cannot be printed.
+///
+/// # Errors
+///
+/// Those of [`parse`].
+///
+/// ```
+/// use fancy_syntax::{print, Flags, Precedence};
+/// assert_eq!(print("(?i)a|b", Flags::UNICODE, Precedence::Whole)?.as_deref(), Some("(?i:a)|(?i:b)"));
+/// assert_eq!(print("a|b", Flags::UNICODE, Precedence::Operand)?.as_deref(), Some("(?:a|b)"));
+/// assert_eq!(print("(?=a)", Flags::UNICODE, Precedence::Whole)?, None);
+/// # Ok::<(), fancy_syntax::Error>(())
+/// ```
+pub fn print(pattern: &str, flags: Flags, precedence: Precedence) -> Result<Option<String>, Error> {
+    let write = |buffer: &mut [u8]| ffi::print(pattern, flags.bits(), precedence as u8, buffer);
+    match call::written(pattern, write, numbers::STATUS_OK)? {
+        Text::Written(text) => Ok(Some(text)),
+        Text::Not(result) if result.status == numbers::STATUS_NOT_PRINTABLE => Ok(None),
+        Text::Not(result) => Err(Error::of(result, pattern, flags)),
+    }
+}
+
+/// The version of libfancy that is linked: major, minor and patch.
+///
+/// ```
+/// assert_eq!(fancy_syntax::library_version().0, 1);
+/// ```
+pub fn library_version() -> (u32, u32, u32) {
+    let number = ffi::version();
+    (number / 1_000_000, number / 1000 % 1000, number % 1000)
+}

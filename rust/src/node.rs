@@ -1,0 +1,423 @@
+//! The nodes of a tree, seen in the rows that the library wrote.
+
+use crate::ffi::Node;
+use crate::{numbers, Absent, Assertion, AstNode, BacktrackingControlVerb, CaptureGroupTarget};
+use crate::{Expr, LookAround, Rows, Span};
+use std::fmt;
+
+/// A node of a tree that is in [`Rows`]. It is as small as two words, and no call but [`to_expr`](NodeRef::to_expr) allocates.
+#[derive(Clone, Copy)]
+pub struct NodeRef<'a> {
+    rows: &'a Rows,
+    index: usize,
+}
+
+/// What a node is, with its fields and without its children. The variants have the names of those of [`Expr`].
+#[derive(Debug, Clone, Copy, PartialEq, Eq)]
+#[allow(missing_docs)] // the fields are those of `Expr`
+pub enum Kind<'a> {
+    /// As [`Expr::Empty`].
+    Empty,
+    /// As [`Expr::Any`].
+    Any { newline: bool, crlf: bool },
+    /// As [`Expr::Assertion`].
+    Assertion(Assertion),
+    /// As [`Expr::GeneralNewline`].
+    GeneralNewline { unicode: bool },
+    /// As [`Expr::Literal`].
+    Literal { val: &'a str, casei: bool },
+    /// As [`Expr::LiteralBytes`].
+    LiteralBytes { bytes: &'a [u8] },
+    /// As [`Expr::Concat`].
+    Concat,
+    /// As [`Expr::Alt`].
+    Alt,
+    /// As [`Expr::Group`].
+    Group,
+    /// As [`Expr::LookAround`].
+    LookAround(LookAround),
+    /// As [`Expr::Repeat`].
+    Repeat { lo: usize, hi: usize, greedy: bool },
+    /// As [`Expr::Delegate`].
+    Delegate { inner: &'a str, casei: bool },
+    /// As [`Expr::Backref`].
+    Backref { group: usize, casei: bool },
+    /// As [`Expr::BackrefWithRelativeRecursionLevel`].
+    BackrefWithRelativeRecursionLevel { group: usize, relative_level: isize, casei: bool },
+    /// As [`Expr::AtomicGroup`].
+    AtomicGroup,
+    /// As [`Expr::KeepOut`].
+    KeepOut,
+    /// As [`Expr::ContinueFromPreviousMatchEnd`].
+    ContinueFromPreviousMatchEnd,
+    /// As [`Expr::BackrefExistsCondition`].
+    BackrefExistsCondition { group: usize, relative_recursion_level: Option<isize> },
+    /// As [`Expr::Conditional`]. Its three children are the condition, the branch taken if it holds, and the other one.
+    Conditional,
+    /// As [`Expr::SubroutineCall`].
+    SubroutineCall(usize),
+    /// As [`Expr::BacktrackingControlVerb`].
+    BacktrackingControlVerb(BacktrackingControlVerb),
+    /// As [`Expr::Absent`].
+    Absent(AbsentKind),
+    /// As [`Expr::DefineGroup`].
+    DefineGroup,
+    /// As [`Expr::AstNode`]: a call that cannot be resolved, with its position.
+    AstNode(CallTarget<'a>, usize),
+}
+
+/// Which absent form a node is, without its children.
+#[derive(Debug, Clone, Copy, PartialEq, Eq)]
+pub enum AbsentKind {
+    /// As [`Absent::Repeater`], with one child.
+    Repeater,
+    /// As [`Absent::Expression`], with two children.
+    Expression,
+    /// As [`Absent::Stopper`], with one child.
+    Stopper,
+    /// As [`Absent::Clear`].
+    Clear,
+}
+
+/// What a call that cannot be resolved names.
+#[derive(Debug, Clone, Copy, PartialEq, Eq)]
+pub enum CallTarget<'a> {
+    /// As [`CaptureGroupTarget::ByNumber`].
+    ByNumber(usize),
+    /// As [`CaptureGroupTarget::ByName`].
+    ByName(&'a str),
+    /// As [`CaptureGroupTarget::Relative`].
+    Relative(isize),
+}
+
+/// The children of a node: [`NodeRef::children`].
+#[derive(Debug, Clone)]
+pub struct Children<'a> {
+    next: NodeRef<'a>,
+    end: usize,
+}
+
+impl<'a> NodeRef<'a> {
+    pub(crate) fn new(rows: &'a Rows, index: usize) -> NodeRef<'a> {
+        NodeRef { rows, index }
+    }
+
+    fn row(self) -> &'a Node {
+        self.rows.node(self.index)
+    }
+
+    /// What the node is, with its fields.
+    ///
+    /// ```
+    /// use fancy_syntax::{Flags, Kind, Rows};
+    /// let mut rows = Rows::new();
+    /// let root = rows.parse("é", Flags::UNICODE)?.root();
+    /// assert_eq!(root.kind(), Kind::Literal { val: "é", casei: false });
+    /// # Ok::<(), fancy_syntax::Error>(())
+    /// ```
+    pub fn kind(self) -> Kind<'a> {
+        // every row was read once when the pattern was parsed
+        Kind::read(self.row(), self.rows.texts()).unwrap_or(Kind::Empty)
+    }
+
+    /// The part of the pattern that the node was parsed from.
+    ///
+    /// ```
+    /// use fancy_syntax::{Flags, Rows};
+    /// let mut rows = Rows::new();
+    /// let root = rows.parse("(a)b", Flags::UNICODE)?.root();
+    /// let spans: Vec<_> = root.children().map(|child| child.span()).collect();
+    /// assert_eq!(spans, [0..3, 3..4]);
+    /// # Ok::<(), fancy_syntax::Error>(())
+    /// ```
+    pub fn span(self) -> Span {
+        self.row().start..self.row().stop
+    }
+
+    /// The text of the pattern at the span. The rows do not keep the pattern, so pass it again. `None` if it is another text,
+    /// and the span ends after it or splits a character of it.
+    ///
+    /// ```
+    /// use fancy_syntax::{Flags, Rows};
+    /// let pattern = r"(?<year>\d{4})-";
+    /// let mut rows = Rows::new();
+    /// let root = rows.parse(pattern, Flags::UNICODE)?.root();
+    /// let first = root.children().next();
+    /// assert_eq!(first.and_then(|child| child.text(pattern)), Some(r"(?<year>\d{4})"));
+    /// # Ok::<(), fancy_syntax::Error>(())
+    /// ```
+    pub fn text(self, pattern: &str) -> Option<&str> {
+        pattern.get(self.span())
+    }
+
+    /// The index of the node in preorder, from 0.
+    ///
+    /// ```
+    /// use fancy_syntax::{Flags, Rows};
+    /// let mut rows = Rows::new();
+    /// let root = rows.parse("(a)b", Flags::UNICODE)?.root();
+    /// let indices: Vec<_> = root.children().map(|child| child.index()).collect();
+    /// assert_eq!(indices, [1, 3]);
+    /// # Ok::<(), fancy_syntax::Error>(())
+    /// ```
+    pub fn index(self) -> usize {
+        self.index
+    }
+
+    /// The children of the node, in the order of the pattern.
+    ///
+    /// ```
+    /// use fancy_syntax::{Flags, Rows};
+    /// let mut rows = Rows::new();
+    /// let root = rows.parse("a|b|c", Flags::UNICODE)?.root();
+    /// assert_eq!(root.children().count(), 3);
+    /// # Ok::<(), fancy_syntax::Error>(())
+    /// ```
+    pub fn children(self) -> Children<'a> {
+        Children { next: NodeRef::new(self.rows, self.index + 1), end: self.row().end }
+    }
+
+    /// The node and its descendants in preorder.
+    ///
+    /// ```
+    /// use fancy_syntax::{Flags, Kind, Rows};
+    /// let mut rows = Rows::new();
+    /// let root = rows.parse("(a(b))c", Flags::UNICODE)?.root();
+    /// assert_eq!(root.walk().filter(|node| node.kind() == Kind::Group).count(), 2);
+    /// # Ok::<(), fancy_syntax::Error>(())
+    /// ```
+    pub fn walk(self) -> impl ExactSizeIterator<Item = NodeRef<'a>> + DoubleEndedIterator {
+        (self.index..self.row().end).map(move |index| NodeRef::new(self.rows, index))
+    }
+
+    /// The node and its descendants as an owned tree.
+    ///
+    /// ```
+    /// use fancy_syntax::{Expr, Flags, Rows};
+    /// let mut rows = Rows::new();
+    /// let root = rows.parse(r"\K|\G", Flags::UNICODE)?.root();
+    /// assert_eq!(root.to_expr(), Expr::Alt(vec![Expr::KeepOut, Expr::ContinueFromPreviousMatchEnd]));
+    /// # Ok::<(), fancy_syntax::Error>(())
+    /// ```
+    pub fn to_expr(self) -> Expr {
+        // backwards, so that the children of a node are built before it: they are the last ones, the first child at the end
+        let mut built = Vec::new();
+        for node in self.walk().rev() {
+            let expr = node.with_children(&mut built);
+            built.push(expr);
+        }
+        built.pop().unwrap_or(Expr::Empty)
+    }
+
+    fn with_children(self, built: &mut Vec<Expr>) -> Expr {
+        match self.kind() {
+            Kind::Empty => Expr::Empty,
+            Kind::Any { newline, crlf } => Expr::Any { newline, crlf },
+            Kind::Assertion(which) => Expr::Assertion(which),
+            Kind::GeneralNewline { unicode } => Expr::GeneralNewline { unicode },
+            Kind::Literal { val, casei } => Expr::Literal { val: val.to_owned(), casei },
+            Kind::LiteralBytes { bytes } => Expr::LiteralBytes { bytes: bytes.to_owned() },
+            Kind::Concat => Expr::Concat(self.children_among(built)),
+            Kind::Alt => Expr::Alt(self.children_among(built)),
+            Kind::Group => Expr::Group(child(built)),
+            Kind::LookAround(which) => Expr::LookAround(child(built), which),
+            Kind::Repeat { lo, hi, greedy } => Expr::Repeat { child: child(built), lo, hi, greedy },
+            Kind::Delegate { inner, casei } => Expr::Delegate { inner: inner.to_owned(), casei },
+            Kind::Backref { group, casei } => Expr::Backref { group, casei },
+            Kind::BackrefWithRelativeRecursionLevel { group, relative_level, casei } => {
+                Expr::BackrefWithRelativeRecursionLevel { group, relative_level, casei }
+            }
+            Kind::AtomicGroup => Expr::AtomicGroup(child(built)),
+            Kind::KeepOut => Expr::KeepOut,
+            Kind::ContinueFromPreviousMatchEnd => Expr::ContinueFromPreviousMatchEnd,
+            Kind::BackrefExistsCondition { group, relative_recursion_level } => {
+                Expr::BackrefExistsCondition { group, relative_recursion_level }
+            }
+            Kind::Conditional => {
+                Expr::Conditional { condition: child(built), true_branch: child(built), false_branch: child(built) }
+            }
+            Kind::SubroutineCall(group) => Expr::SubroutineCall(group),
+            Kind::BacktrackingControlVerb(which) => Expr::BacktrackingControlVerb(which),
+            Kind::Absent(which) => Expr::Absent(which.with_children(built)),
+            Kind::DefineGroup => Expr::DefineGroup { definitions: child(built) },
+            Kind::AstNode(target, position) => Expr::AstNode(AstNode::SubroutineCall(target.to_owned()), position),
+        }
+    }
+
+    fn children_among(self, built: &mut Vec<Expr>) -> Vec<Expr> {
+        let first = built.len().saturating_sub(self.children().count());
+        let mut children = built.split_off(first);
+        children.reverse();
+        children
+    }
+}
+
+/// The next child of a node among the nodes that were built. There is one: the rows were counted when they were parsed.
+fn child(built: &mut Vec<Expr>) -> Box<Expr> {
+    Box::new(built.pop().unwrap_or(Expr::Empty))
+}
+
+impl fmt::Debug for NodeRef<'_> {
+    fn fmt(&self, f: &mut fmt::Formatter<'_>) -> fmt::Result {
+        write!(f, "{:?} at {:?}", self.kind(), self.span())
+    }
+}
+
+impl<'a> Iterator for Children<'a> {
+    type Item = NodeRef<'a>;
+
+    fn next(&mut self) -> Option<NodeRef<'a>> {
+        if self.next.index >= self.end {
+            return None;
+        }
+        let child = self.next;
+        self.next.index = child.row().end;
+        Some(child)
+    }
+}
+
+impl AbsentKind {
+    fn read(which: u32) -> Option<AbsentKind> {
+        Some(match which {
+            numbers::ABSENT_REPEATER => AbsentKind::Repeater,
+            numbers::ABSENT_EXPRESSION => AbsentKind::Expression,
+            numbers::ABSENT_STOPPER => AbsentKind::Stopper,
+            numbers::ABSENT_CLEAR => AbsentKind::Clear,
+            _ => return None,
+        })
+    }
+
+    fn with_children(self, built: &mut Vec<Expr>) -> Absent {
+        match self {
+            AbsentKind::Repeater => Absent::Repeater(child(built)),
+            AbsentKind::Expression => Absent::Expression { absent: child(built), exp: child(built) },
+            AbsentKind::Stopper => Absent::Stopper(child(built)),
+            AbsentKind::Clear => Absent::Clear,
+        }
+    }
+}
+
+impl CallTarget<'_> {
+    fn to_owned(self) -> CaptureGroupTarget {
+        match self {
+            CallTarget::ByNumber(group) => CaptureGroupTarget::ByNumber(group),
+            CallTarget::ByName(name) => CaptureGroupTarget::ByName(name.to_owned()),
+            CallTarget::Relative(distance) => CaptureGroupTarget::Relative(distance),
+        }
+    }
+}
+
+impl<'a> Kind<'a> {
+    /// What a row is; `None` if it is not one that `fancy.h` allows, or its text is not UTF-8.
+    pub(crate) fn read(row: &Node, texts: &'a [u8]) -> Option<Kind<'a>> {
+        let crlf = row.crlf != 0;
+        let casei = row.casei != 0;
+        let group = row.group;
+        Some(match row.kind {
+            numbers::NODE_EMPTY => Kind::Empty,
+            numbers::NODE_ANY => Kind::Any { newline: row.newline != 0, crlf },
+            numbers::NODE_ASSERTION => Kind::Assertion(assertion(row.which, crlf)?),
+            numbers::NODE_GENERAL_NEWLINE => Kind::GeneralNewline { unicode: row.unicode != 0 },
+            numbers::NODE_LITERAL => Kind::Literal { val: text(row, texts)?, casei },
+            numbers::NODE_LITERAL_BYTES => Kind::LiteralBytes { bytes: bytes(texts, row.text, row.text_size)? },
+            numbers::NODE_CONCAT => Kind::Concat,
+            numbers::NODE_ALT => Kind::Alt,
+            numbers::NODE_GROUP => Kind::Group,
+            numbers::NODE_LOOK_AROUND => Kind::LookAround(look_around(row.which)?),
+            numbers::NODE_REPEAT => Kind::Repeat { lo: row.lo, hi: row.hi, greedy: row.greedy != 0 },
+            numbers::NODE_DELEGATE => Kind::Delegate { inner: text(row, texts)?, casei },
+            numbers::NODE_BACKREF => Kind::Backref { group, casei },
+            numbers::NODE_BACKREF_AT_LEVEL => {
+                let relative_level = row.level;
+                Kind::BackrefWithRelativeRecursionLevel { group, relative_level, casei }
+            }
+            numbers::NODE_ATOMIC_GROUP => Kind::AtomicGroup,
+            numbers::NODE_KEEP_OUT => Kind::KeepOut,
+            numbers::NODE_CONTINUE_FROM_PREVIOUS_MATCH_END => Kind::ContinueFromPreviousMatchEnd,
+            numbers::NODE_BACKREF_EXISTS_CONDITION => {
+                let relative_recursion_level = (row.has_level != 0).then_some(row.level);
+                Kind::BackrefExistsCondition { group, relative_recursion_level }
+            }
+            numbers::NODE_CONDITIONAL => Kind::Conditional,
+            numbers::NODE_SUBROUTINE_CALL => Kind::SubroutineCall(group),
+            numbers::NODE_VERB => Kind::BacktrackingControlVerb(verb(row.which)?),
+            numbers::NODE_ABSENT => Kind::Absent(AbsentKind::read(row.which)?),
+            numbers::NODE_DEFINE_GROUP => Kind::DefineGroup,
+            numbers::NODE_AST_NODE => Kind::AstNode(call_target(row, texts)?, row.position),
+            _ => return None,
+        })
+    }
+
+    /// Whether a node of this kind may have so many children.
+    pub(crate) fn takes(self, children: usize) -> bool {
+        match self {
+            Kind::Concat | Kind::Alt => true,
+            Kind::Group
+            | Kind::LookAround(_)
+            | Kind::Repeat { .. }
+            | Kind::AtomicGroup
+            | Kind::DefineGroup
+            | Kind::Absent(AbsentKind::Repeater | AbsentKind::Stopper) => children == 1,
+            Kind::Absent(AbsentKind::Expression) => children == 2,
+            Kind::Conditional => children == 3,
+            _ => children == 0,
+        }
+    }
+}
+
+/// A part of a buffer; `None` if it is not inside.
+pub(crate) fn bytes(texts: &[u8], start: usize, size: usize) -> Option<&[u8]> {
+    texts.get(start..start.checked_add(size)?)
+}
+
+fn text<'a>(row: &Node, texts: &'a [u8]) -> Option<&'a str> {
+    std::str::from_utf8(bytes(texts, row.text, row.text_size)?).ok()
+}
+
+fn call_target<'a>(row: &Node, texts: &'a [u8]) -> Option<CallTarget<'a>> {
+    Some(match row.which {
+        numbers::TARGET_BY_NUMBER => CallTarget::ByNumber(row.group),
+        numbers::TARGET_BY_NAME => CallTarget::ByName(text(row, texts)?),
+        numbers::TARGET_RELATIVE => CallTarget::Relative(row.level),
+        _ => return None,
+    })
+}
+
+fn look_around(which: u32) -> Option<LookAround> {
+    Some(match which {
+        numbers::LOOK_AHEAD => LookAround::LookAhead,
+        numbers::LOOK_AHEAD_NEG => LookAround::LookAheadNeg,
+        numbers::LOOK_BEHIND => LookAround::LookBehind,
+        numbers::LOOK_BEHIND_NEG => LookAround::LookBehindNeg,
+        _ => return None,
+    })
+}
+
+fn verb(which: u32) -> Option<BacktrackingControlVerb> {
+    Some(match which {
+        numbers::VERB_FAIL => BacktrackingControlVerb::Fail,
+        numbers::VERB_ACCEPT => BacktrackingControlVerb::Accept,
+        numbers::VERB_COMMIT => BacktrackingControlVerb::Commit,
+        numbers::VERB_SKIP => BacktrackingControlVerb::Skip,
+        numbers::VERB_PRUNE => BacktrackingControlVerb::Prune,
+        _ => return None,
+    })
+}
+
+fn assertion(which: u32, crlf: bool) -> Option<Assertion> {
+    Some(match which {
+        numbers::ASSERTION_START_TEXT => Assertion::StartText,
+        numbers::ASSERTION_END_TEXT => Assertion::EndText,
+        numbers::ASSERTION_END_TEXT_IGNORE_TRAILING_NEWLINES => Assertion::EndTextIgnoreTrailingNewlines { crlf },
+        numbers::ASSERTION_START_LINE => Assertion::StartLine { crlf },
+        numbers::ASSERTION_START_LINE_ONIGURUMA => Assertion::StartLineOniguruma { crlf },
+        numbers::ASSERTION_END_LINE => Assertion::EndLine { crlf },
+        numbers::ASSERTION_LEFT_WORD_BOUNDARY => Assertion::LeftWordBoundary,
+        numbers::ASSERTION_LEFT_WORD_HALF_BOUNDARY => Assertion::LeftWordHalfBoundary,
+        numbers::ASSERTION_RIGHT_WORD_BOUNDARY => Assertion::RightWordBoundary,
+        numbers::ASSERTION_RIGHT_WORD_HALF_BOUNDARY => Assertion::RightWordHalfBoundary,
+        numbers::ASSERTION_WORD_BOUNDARY => Assertion::WordBoundary,
+        numbers::ASSERTION_NOT_WORD_BOUNDARY => Assertion::NotWordBoundary,
+        _ => return None,
+    })
+}

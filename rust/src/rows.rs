@@ -1,0 +1,303 @@
+//! The buffers that the library writes a tree to.
+
+use crate::call::{grow, ready};
+use crate::ffi::{self, CallResult, Info, Name, Node};
+use crate::node::{self, Kind, NodeRef};
+use crate::{numbers, Error, Flags, GroupInfo, Tree};
+use std::fmt;
+
+/// A tree has at most so many levels (`docs/proved.md`).
+const MAX_LEVELS: usize = 832;
+
+/// The tree of one pattern, as the library writes it: a row for each node, in buffers that the next pattern uses again.
+///
+/// It is for programs that only look at trees. Nothing is allocated for a node, and once the buffers are long enough, nothing
+/// for a pattern. [`parse`](crate::parse) copies the rows to an owned [`Tree`].
+///
+/// ```
+/// use fancy_syntax::{Flags, Kind, Rows};
+/// let mut rows = Rows::new();
+/// for (pattern, groups) in [("(a|b)c*", 1), ("[a-z]+", 0)] {
+///     let root = rows.parse(pattern, Flags::UNICODE)?.root();
+///     assert_eq!(root.walk().filter(|node| node.kind() == Kind::Group).count(), groups);
+/// }
+/// # Ok::<(), fancy_syntax::Error>(())
+/// ```
+#[derive(Clone)]
+pub struct Rows {
+    /// At least one. The first `info.node_count` are the tree, and were checked; so it is with the other buffers.
+    nodes: Vec<Node>,
+    texts: Vec<u8>,
+    names: Vec<Name>,
+    backrefs: Vec<usize>,
+    info: Info,
+    /// How many levels each node has below it, while rows are checked.
+    levels: Vec<usize>,
+}
+
+impl Default for Rows {
+    fn default() -> Rows {
+        Rows::new()
+    }
+}
+
+impl Rows {
+    /// The tree of the empty pattern, with small buffers.
+    ///
+    /// ```
+    /// use fancy_syntax::{Kind, Rows};
+    /// assert_eq!(Rows::new().root().kind(), Kind::Empty);
+    /// ```
+    pub fn new() -> Rows {
+        let mut rows = Rows {
+            nodes: vec![Node::default()],
+            texts: Vec::new(),
+            names: Vec::new(),
+            backrefs: Vec::new(),
+            info: Info::default(),
+            levels: Vec::new(),
+        };
+        rows.clear();
+        rows
+    }
+
+    /// Parses a pattern into the buffers. What they held before is gone.
+    ///
+    /// # Errors
+    ///
+    /// [`Error::ParseError`] if the pattern is invalid; [`Error::OutOfMemory`] if an allocation of the library failed, or if a
+    /// buffer cannot be made as long as the tree needs; [`Error::Library`] if the library is not libfancy. After an error these
+    /// are the rows of the empty pattern.
+    ///
+    /// ```
+    /// use fancy_syntax::{Flags, Rows};
+    /// let mut rows = Rows::new();
+    /// assert_eq!(rows.parse("ab", Flags::UNICODE)?.root().children().count(), 2);
+    /// assert!(rows.parse("(", Flags::UNICODE).is_err());
+    /// assert_eq!(rows.root().children().count(), 0);
+    /// # Ok::<(), fancy_syntax::Error>(())
+    /// ```
+    pub fn parse(&mut self, pattern: &str, flags: Flags) -> Result<&Rows, Error> {
+        let outcome = self.fill(pattern, flags).and_then(|()| self.check(pattern));
+        if outcome.is_err() {
+            self.clear();
+        }
+        outcome.map(|()| &*self)
+    }
+
+    /// The root of the tree.
+    ///
+    /// ```
+    /// use fancy_syntax::{Flags, Rows};
+    /// let mut rows = Rows::new();
+    /// assert_eq!(rows.parse("(a|b)c*", Flags::UNICODE)?.root().span(), 0..7);
+    /// # Ok::<(), fancy_syntax::Error>(())
+    /// ```
+    pub fn root(&self) -> NodeRef<'_> {
+        NodeRef::new(self, 0)
+    }
+
+    /// The names of groups, each with the number of its group, in the order of their bytes. A name that several groups have
+    /// comes once for each.
+    ///
+    /// ```
+    /// use fancy_syntax::{Flags, Rows};
+    /// let mut rows = Rows::new();
+    /// let names = rows.parse("(?<b>x)(?<a>y)", Flags::UNICODE)?.names();
+    /// assert_eq!(names.collect::<Vec<_>>(), [("a", 2), ("b", 1)]);
+    /// # Ok::<(), fancy_syntax::Error>(())
+    /// ```
+    pub fn names(&self) -> impl ExactSizeIterator<Item = (&str, usize)> {
+        self.names[..self.info.name_count].iter().map(|name| (self.name(name).unwrap_or_default(), name.group))
+    }
+
+    /// The group numbers of back references, from 0 up to [`total_groups`](Rows::total_groups), in ascending order, each once.
+    ///
+    /// ```
+    /// use fancy_syntax::{Flags, Rows};
+    /// let mut rows = Rows::new();
+    /// assert_eq!(rows.parse(r"(a)(b)\2\1\2", Flags::UNICODE)?.backrefs(), [1, 2]);
+    /// # Ok::<(), fancy_syntax::Error>(())
+    /// ```
+    pub fn backrefs(&self) -> &[usize] {
+        &self.backrefs[..self.info.backref_count]
+    }
+
+    /// How many groups have a number.
+    ///
+    /// ```
+    /// use fancy_syntax::{Flags, Rows};
+    /// let mut rows = Rows::new();
+    /// assert_eq!(rows.parse("(a)(?:b)(c)", Flags::UNICODE)?.total_groups(), 2);
+    /// # Ok::<(), fancy_syntax::Error>(())
+    /// ```
+    pub fn total_groups(&self) -> usize {
+        self.info.total_groups
+    }
+
+    /// All that is known of the groups and references of the pattern, in maps and sets of its own.
+    ///
+    /// ```
+    /// use fancy_syntax::{Flags, Rows};
+    /// let mut rows = Rows::new();
+    /// let groups = rows.parse(r"(?<n>a)\g<n>\2", Flags::UNICODE)?.groups();
+    /// assert_eq!(groups.named_groups["n"], [1]);
+    /// assert!(groups.contains_subroutines);
+    /// assert_eq!(groups.out_of_range_backref, Some(2));
+    /// # Ok::<(), fancy_syntax::Error>(())
+    /// ```
+    pub fn groups(&self) -> GroupInfo {
+        let info = &self.info;
+        let mut groups = GroupInfo {
+            backrefs: self.backrefs().iter().copied().collect(),
+            total_groups: info.total_groups,
+            out_of_range_backref: (info.has_out_of_range_backref != 0).then_some(info.out_of_range_backref),
+            numeric_capture_group_references: info.numeric_capture_group_references != 0,
+            contains_subroutines: info.contains_subroutines != 0,
+            self_recursive: info.self_recursive != 0,
+            numbered_groups_ignored: info.numbered_groups_ignored != 0,
+            ..GroupInfo::default()
+        };
+        for (name, group) in self.names() {
+            match groups.named_groups.get_mut(name) {
+                Some(numbers) => numbers.push(group),
+                None => drop(groups.named_groups.insert(name.to_owned(), vec![group])),
+            }
+        }
+        groups
+    }
+
+    /// The tree with its spans and group information, in memory of its own.
+    ///
+    /// ```
+    /// use fancy_syntax::{parse, Flags, Rows};
+    /// let mut rows = Rows::new();
+    /// let tree = rows.parse("a|b", Flags::UNICODE)?.to_tree();
+    /// assert_eq!(tree, parse("a|b", Flags::UNICODE)?);
+    /// # Ok::<(), fancy_syntax::Error>(())
+    /// ```
+    pub fn to_tree(&self) -> Tree {
+        Tree {
+            expr: self.root().to_expr(),
+            spans: self.root().walk().map(NodeRef::span).collect(),
+            groups: self.groups(),
+        }
+    }
+
+    pub(crate) fn node(&self, index: usize) -> &Node {
+        &self.nodes[index]
+    }
+
+    pub(crate) fn texts(&self) -> &[u8] {
+        &self.texts[..self.info.texts_size]
+    }
+
+    fn name(&self, name: &Name) -> Option<&str> {
+        std::str::from_utf8(node::bytes(self.texts(), name.text, name.text_size)?).ok()
+    }
+
+    /// Makes these the rows of the empty pattern. The buffers stay.
+    fn clear(&mut self) {
+        self.nodes[0] = Node { kind: numbers::NODE_EMPTY, end: 1, ..Node::default() };
+        self.info = Info { node_count: 1, ..Info::default() };
+    }
+
+    /// Lets the library write. For all but few patterns the first buffers are long enough; if not, it says what it needs.
+    fn fill(&mut self, pattern: &str, flags: Flags) -> Result<(), Error> {
+        ready()?;
+        let length = pattern.len();
+        grow(&mut self.nodes, length.saturating_add(8))?;
+        grow(&mut self.texts, length.saturating_mul(2).saturating_add(32))?;
+        grow(&mut self.names, 8)?;
+        grow(&mut self.backrefs, 8)?;
+        let mut result = self.call(pattern, flags);
+        if result.status == numbers::STATUS_BUFFER_TOO_SHORT {
+            self.check_sizes(length)?;
+            self.lengthen()?;
+            result = self.call(pattern, flags);
+        }
+        match result.status {
+            numbers::STATUS_OK => self.check_sizes(length),
+            _ => Err(Error::of(result, pattern, flags)),
+        }
+    }
+
+    fn call(&mut self, pattern: &str, flags: Flags) -> CallResult {
+        self.info = Info::default();
+        let Rows { nodes, texts, names, backrefs, info, .. } = self;
+        ffi::parse(pattern, flags.bits(), nodes, texts, names, backrefs, info)
+    }
+
+    /// Checks the sizes of a tree, so that those of no tree are never allocated. A pattern of n bytes has at most 2 n + 1 nodes.
+    /// For the rest there is no proved bound; no pattern is known that needs as much as 7 n bytes of texts, n names or n back
+    /// references.
+    fn check_sizes(&self, length: usize) -> Result<(), Error> {
+        let info = &self.info;
+        let bound = length.saturating_mul(64).saturating_add(64);
+        if info.node_count > length.saturating_mul(2).saturating_add(1)
+            || [info.texts_size, info.name_count, info.backref_count].iter().any(|size| *size > bound)
+        {
+            return Err(Error::Library("a tree that is larger than any"));
+        }
+        Ok(())
+    }
+
+    /// Makes each buffer as long as the library said that it has to be.
+    fn lengthen(&mut self) -> Result<(), Error> {
+        let info = self.info;
+        grow(&mut self.nodes, info.node_count)?;
+        grow(&mut self.texts, info.texts_size)?;
+        grow(&mut self.names, info.name_count)?;
+        grow(&mut self.backrefs, info.backref_count)
+    }
+
+    /// Checks that what the library wrote is a tree, so that nobody who looks at it later has to.
+    fn check(&mut self, pattern: &str) -> Result<(), Error> {
+        let info = &self.info;
+        if info.node_count > self.nodes.len()
+            || info.texts_size > self.texts.len()
+            || info.name_count > self.names.len()
+            || info.backref_count > self.backrefs.len()
+        {
+            return Err(Error::Library("a tree that is larger than its buffers"));
+        }
+        if info.node_count == 0 || self.node(0).end != info.node_count {
+            return Err(Error::Library("a node that is in no tree"));
+        }
+        grow(&mut self.levels, self.info.node_count)?;
+        for index in (0..self.info.node_count).rev() {
+            self.check_node(index, pattern)?;
+        }
+        if self.names[..self.info.name_count].iter().any(|name| self.name(name).is_none()) {
+            return Err(Error::Library("a name that is not UTF-8"));
+        }
+        Ok(())
+    }
+
+    /// Checks a node, after those with higher indices: so the ends of its descendants lie after them.
+    fn check_node(&mut self, index: usize, pattern: &str) -> Result<(), Error> {
+        let row = &self.nodes[index];
+        let kind = Kind::read(row, self.texts())
+            .ok_or(Error::Library("a node of no kind, or with a text that is not UTF-8"))?;
+        let (mut children, mut levels, mut child) = (0, 0, index + 1);
+        while child < row.end.min(self.info.node_count) {
+            children += 1;
+            levels = levels.max(self.levels[child]);
+            child = self.nodes[child].end;
+        }
+        if child != row.end || !kind.takes(children) || levels >= MAX_LEVELS {
+            return Err(Error::Library("nodes that are no tree"));
+        }
+        if row.start > row.stop || !pattern.is_char_boundary(row.start) || !pattern.is_char_boundary(row.stop) {
+            return Err(Error::Library("a span that is no part of the pattern"));
+        }
+        self.levels[index] = levels + 1;
+        Ok(())
+    }
+}
+
+impl fmt::Debug for Rows {
+    fn fmt(&self, f: &mut fmt::Formatter<'_>) -> fmt::Result {
+        f.debug_list().entries(self.root().walk()).finish()
+    }
+}

@@ -1,0 +1,60 @@
+//! A tree with the spans of its nodes and the group information of its pattern.
+
+use crate::Expr;
+use std::collections::{BTreeMap, BTreeSet};
+use std::ops::Range;
+
+/// A part of a pattern, in byte offsets. Both ends are character boundaries, so that `&pattern[span]` is a text.
+pub type Span = Range<usize>;
+
+/// The tree of a pattern, with the spans of its nodes and the group information.
+#[derive(Debug, Clone, PartialEq, Eq)]
+pub struct Tree {
+    /// The root of the tree.
+    pub expr: Expr,
+    /// The part of the pattern that each node was parsed from, in preorder, as [`walk`](Tree::walk) goes.
+    pub spans: Vec<Span>,
+    /// What is known of the groups and references of the pattern.
+    pub groups: GroupInfo,
+}
+
+/// What is known of the groups and references of a pattern, under the names of fancy-regex.
+#[derive(Debug, Clone, Default, PartialEq, Eq)]
+pub struct GroupInfo {
+    /// For each name the numbers of its groups, in ascending order.
+    pub named_groups: BTreeMap<String, Vec<usize>>,
+    /// The group numbers of back references, from 0 up to `total_groups`.
+    pub backrefs: BTreeSet<usize>,
+    /// How many groups have a number.
+    pub total_groups: usize,
+    /// The number of the first back reference above `total_groups`.
+    pub out_of_range_backref: Option<usize>,
+    /// Whether some call is by a number, or some back reference is a backslash and digits.
+    pub numeric_capture_group_references: bool,
+    /// Whether there is a call.
+    pub contains_subroutines: bool,
+    /// Whether there is a call by the number 0.
+    pub self_recursive: bool,
+    /// Whether the groups without a name have no number.
+    pub numbered_groups_ignored: bool,
+}
+
+impl Tree {
+    /// Each node with its span, in preorder: each node before its children, and these in the order of the pattern.
+    ///
+    /// After a change of `expr` the spans are still those of the parsed nodes, one after another; nodes for which there is none
+    /// have the span `0..0`.
+    ///
+    /// ```
+    /// use fancy_syntax::{parse, Expr, Flags};
+    /// let pattern = "(?<y>a|b)c*";
+    /// let tree = parse(pattern, Flags::UNICODE)?;
+    /// let repeat = tree.walk().find(|(node, _)| matches!(node, Expr::Repeat { .. }));
+    /// assert_eq!(repeat.map(|(_, span)| &pattern[span]), Some("c*"));
+    /// # Ok::<(), fancy_syntax::Error>(())
+    /// ```
+    pub fn walk(&self) -> impl Iterator<Item = (&Expr, Span)> {
+        let spans = self.spans.iter().cloned().chain(std::iter::repeat(0..0));
+        self.expr.walk().zip(spans)
+    }
+}

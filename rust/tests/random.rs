@@ -1,0 +1,208 @@
+//! Random strings as patterns. `RANDOM_STRINGS` says how many, `RANDOM_SEED` which, and `RANDOM_RECORDS` names a file to which
+//! the results are written as the records of `crates/conformance/data`, for another program to compare.
+
+mod common;
+
+use common::*;
+use fancy_syntax::{check, parse, print, to_pattern, AstNode, Error, Expr, Flags, Precedence, Rows, Tree};
+use std::fs::File;
+use std::io::{BufWriter, Write};
+
+const PIECES: &[&str] = &[
+    "(",
+    ")",
+    "(?:",
+    "(?i)",
+    "(?<n>",
+    "(?'n'",
+    "(?P<m>",
+    "(?>",
+    "(?=",
+    "(?!",
+    "(?<=",
+    "(?<!",
+    "(?~",
+    "(?~|",
+    "(?(1)",
+    "(?(<n>)",
+    "(?(DEFINE)",
+    "(?#",
+    "(?x-i:",
+    "[",
+    "]",
+    "[^",
+    "&&",
+    "[:alpha:]",
+    "|",
+    "*",
+    "+",
+    "?",
+    "{2,3}",
+    "{,4}",
+    "{",
+    "}",
+    "^",
+    "$",
+    ".",
+    "\\",
+    "\\d",
+    "\\b",
+    "\\b{start}",
+    "\\p{",
+    "\\p{Greek}",
+    "\\x{41}",
+    "\\xff",
+    "\\h",
+    "\\1",
+    "\\12",
+    "\\k<n>",
+    "\\k<-1>",
+    "\\k<n+1>",
+    "\\g<n>",
+    "\\g<0>",
+    "\\g<+1>",
+    "(?&n)",
+    "(?P=n)",
+    "(*FAIL)",
+    "(*X)",
+    "\\K",
+    "\\G",
+    "\\R",
+    "\\Q",
+    "#",
+    " ",
+    "\n",
+    "a",
+    "b",
+    "0",
+    "1",
+    "n",
+    "-",
+    "<",
+    ">",
+    "'",
+    "!",
+    "=",
+    ":",
+    ",",
+    "é",
+    "α",
+    "€",
+    "😀",
+];
+
+/// xorshift64
+struct Random(u64);
+
+impl Random {
+    fn below(&mut self, bound: usize) -> usize {
+        self.0 ^= self.0 << 13;
+        self.0 ^= self.0 >> 7;
+        self.0 ^= self.0 << 17;
+        (self.0 >> 11) as usize % bound
+    }
+
+    fn character(&mut self) -> char {
+        let bound = if self.below(2) == 0 { 0x80 } else { 0x11_0000 };
+        char::from_u32(self.below(bound) as u32).unwrap_or('a')
+    }
+
+    /// Up to ten parts: characters, or pieces of patterns, or pieces among which some characters are.
+    fn pattern(&mut self) -> String {
+        let kind = self.below(4);
+        let mut pattern = String::new();
+        for _ in 0..self.below(10) {
+            if kind == 0 || kind == 1 && self.below(4) == 0 {
+                pattern.push(self.character());
+            } else {
+                pattern.push_str(PIECES[self.below(PIECES.len())]);
+            }
+        }
+        pattern
+    }
+}
+
+/// The tree with the positions of unresolved calls set to 0, which a text for the tree need not keep.
+fn without_positions(mut expr: Expr) -> Expr {
+    fn clear(node: &mut Expr) {
+        if let Expr::AstNode(AstNode::SubroutineCall(_), position) = node {
+            *position = 0;
+        }
+        node.children_iter_mut().for_each(clear);
+    }
+    clear(&mut expr);
+    expr
+}
+
+/// Checks the spans of a tree: each is in that of the parent, and children follow one another.
+fn check_spans(pattern: &str, tree: &Tree) {
+    assert_eq!(tree.spans.len(), tree.expr.walk().count());
+    fn within<'a>(node: &Expr, spans: &mut impl Iterator<Item = &'a fancy_syntax::Span>) -> (usize, usize) {
+        let span = spans.next().unwrap();
+        let mut from = span.start;
+        for child in node.children_iter() {
+            let (start, stop) = within(child, spans);
+            assert!(from <= start && stop <= span.end);
+            from = stop;
+        }
+        (span.start, span.end)
+    }
+    within(&tree.expr, &mut tree.spans.iter());
+    assert!(tree.spans.iter().all(|span| pattern.get(span.clone()).is_some()));
+}
+
+fn check_tree(pattern: &str, flags: Flags, tree: &Tree) {
+    check_spans(pattern, tree);
+    let text = to_pattern(pattern, flags).unwrap();
+    let again = parse(&text, flags).unwrap();
+    assert_eq!(without_positions(again.expr), without_positions(tree.expr.clone()), "{pattern} {text}");
+    assert_eq!(again.groups, tree.groups, "{pattern} {text}");
+    assert_eq!(to_pattern(&text, flags).unwrap(), text);
+    for precedence in [Precedence::Whole, Precedence::Branch, Precedence::Piece, Precedence::Operand] {
+        if let Some(text) = print(pattern, flags, precedence).unwrap() {
+            assert!(matches!(parse(&text, Flags::UNICODE), Ok(_) | Err(Error::ParseError(..))));
+        }
+    }
+}
+
+fn check_error(pattern: &str, flags: Flags, error: &Error) {
+    let Error::ParseError(position, _) = error else { panic!("{pattern}: {error}") };
+    assert!(*position == pattern.len() + 1 || pattern.is_char_boundary(*position));
+    assert_eq!(to_pattern(pattern, flags).as_ref(), Err(error));
+    assert_eq!(print(pattern, flags, Precedence::Whole).as_ref(), Err(error));
+}
+
+#[test]
+fn random_strings() {
+    let number = |name, or| std::env::var(name).map_or(or, |number| number.parse::<u64>().unwrap());
+    let count = number("RANDOM_STRINGS", 10_000);
+    let records = std::env::var_os("RANDOM_RECORDS");
+    let mut records = records.map(|file| BufWriter::new(File::create(file).unwrap()));
+    // far apart, also for seeds that follow one another
+    let mut random = Random((number("RANDOM_SEED", 0) + 1).wrapping_mul(0x9E37_79B9_7F4A_7C15));
+    let mut rows = Rows::new();
+    let mut invalid = 0;
+    for _ in 0..count {
+        let pattern = random.pattern();
+        let flags = Flags::from_bits_truncate(random.below(512) as u32);
+        let outcome = parse(&pattern, flags);
+        assert_eq!(check(&pattern, flags), outcome.clone().map(drop));
+        match &outcome {
+            Ok(tree) => {
+                check_tree(&pattern, flags, tree);
+                assert_eq!(rows.parse(&pattern, flags).unwrap().to_tree(), *tree);
+            }
+            Err(error) => {
+                check_error(&pattern, flags, error);
+                assert_eq!(rows.parse(&pattern, flags).unwrap_err(), *error);
+                invalid += 1;
+            }
+        }
+        if let Some(file) = &mut records {
+            let (status, output, error) = recorded_of(&pattern, flags, &outcome);
+            let (pattern, output, error) = (hex(pattern.as_bytes()), hex(output.as_bytes()), hex(error.as_bytes()));
+            writeln!(file, "{}\t{pattern}\t{status}\t{output}\t{error}", letters_of(flags)).unwrap();
+        }
+    }
+    println!("{count} random strings, {invalid} of them invalid");
+}

@@ -1,0 +1,96 @@
+//! Compares what the crate returns with recorded results: `crates/conformance/data` has them, and says how they came about.
+
+mod common;
+
+use common::*;
+use fancy_syntax::{check, parse, to_pattern, Flags, Rows};
+
+fn lines(name: &str) -> Vec<Vec<String>> {
+    let file = format!("{}/../crates/conformance/data/{name}.tsv", env!("CARGO_MANIFEST_DIR"));
+    let text = std::fs::read_to_string(&file).unwrap_or_else(|error| panic!("{file}: {error}"));
+    let fields = |line: &str| line.split('\t').map(str::to_owned).collect();
+    text.lines().map(fields).collect()
+}
+
+fn pattern_of(field: &str) -> String {
+    String::from_utf8(unhex(field)).unwrap()
+}
+
+/// Compares each pattern of a file, in an owned tree and in rows that are used for all of them. Returns how many there were.
+fn compare(name: &str) -> usize {
+    let mut rows = Rows::new();
+    let mut count = 0;
+    for line in lines(name) {
+        // fewer fields: a tree to print; flags that are none: an error of the program's
+        let [letters, pattern, status, output, error] = &line[..] else { continue };
+        let Some(flags) = flags_of(letters) else { continue };
+        let pattern = pattern_of(pattern);
+        let tree = parse(&pattern, flags);
+        let got = recorded_of(&pattern, flags, &tree);
+        let wanted = (status.parse().unwrap(), pattern_of(output), pattern_of(error));
+        assert_eq!(got, wanted, "{letters} {pattern}");
+        assert_eq!(check(&pattern, flags), tree.clone().map(drop));
+        let in_rows = rows.parse(&pattern, flags);
+        match &tree {
+            Ok(tree) => {
+                let rows = in_rows.unwrap();
+                assert_eq!(row_lines(rows.root()), expr_lines(tree));
+                assert_eq!(rows.to_tree(), *tree);
+                assert_eq!(rows.total_groups(), tree.groups.total_groups);
+            }
+            Err(error) => assert_eq!(in_rows.unwrap_err(), *error),
+        }
+        count += 1;
+    }
+    count
+}
+
+/// The files with results of parsing. Two others have trees to print, which the crate cannot do, and texts, which are below.
+const FILES: [&str; 17] = [
+    "classes",
+    "damaged",
+    "damaged_groups",
+    "deep",
+    "deep_groups",
+    "escapes",
+    "groups",
+    "layout",
+    "lines",
+    "long",
+    "numbered",
+    "oniguruma",
+    "printed",
+    "random",
+    "references",
+    "rows",
+    "short",
+];
+
+#[test]
+fn worked_examples() {
+    assert_eq!(compare("rows") + compare("numbered"), 333);
+}
+
+#[test]
+fn all_results() {
+    assert_eq!(FILES.map(compare).iter().sum::<usize>(), 22_452);
+}
+
+#[test]
+fn the_texts() {
+    let texts = lines("texts");
+    assert_eq!(texts.len(), 3071);
+    for line in texts {
+        let [word, letters, pattern, text] = &line[..] else { panic!("{line:?}") };
+        let (flags, pattern) = (flags_of(letters).unwrap(), pattern_of(pattern));
+        assert_eq!((word.as_str(), to_pattern(&pattern, flags)), ("text", Ok(pattern_of(text))), "{letters} {pattern}");
+    }
+}
+
+#[test]
+fn a_long_pattern() {
+    let pattern = "(a|b)".repeat(20_000);
+    let tree = parse(&pattern, Flags::UNICODE).unwrap();
+    assert_eq!(tree.groups.total_groups, 20_000);
+    assert_eq!(tree.walk().count(), 80_001);
+}

@@ -1,0 +1,38 @@
+//! What a failed allocation of the library does: the call returns an error that says so, and the next call has the result of any other. With
+//! libfancy no allocation fails here; where `FANCY_REFUSES` is set, it is linked with `.ci/refusing.c`.
+
+use fancy_syntax::{check, parse, print, to_pattern, Error, Flags, Precedence, Rows};
+use std::fmt::Debug;
+
+/// Makes a call many times. Each result has to be the same, unless memory was refused. Returns how often it was.
+fn refusals<T: Debug + PartialEq>(mut call: impl FnMut() -> Result<T, Error>) -> usize {
+    let mut first = None;
+    let mut refused = 0;
+    for _ in 0..300 {
+        match call() {
+            Err(Error::OutOfMemory) => refused += 1,
+            result => match &first {
+                None => first = Some(result),
+                Some(first) => assert_eq!(result, *first),
+            },
+        }
+    }
+    assert!(first.is_some());
+    refused
+}
+
+#[test]
+fn a_failed_allocation_is_an_error() {
+    let mut refused = 0;
+    let mut rows = Rows::new();
+    for pattern in ["", "(a|b)c*", r"(?<n>[a-z]+)\k<n>", r"a\q", "((a", "(?i)é{2,3}|b"] {
+        let flags = Flags::UNICODE;
+        refused += refusals(|| parse(pattern, flags));
+        refused += refusals(|| rows.parse(pattern, flags).map(Rows::to_tree));
+        refused += refusals(|| check(pattern, flags));
+        refused += refusals(|| to_pattern(pattern, flags));
+        refused += refusals(|| print(pattern, flags, Precedence::Piece));
+    }
+    println!("{refused} times out of memory");
+    assert_eq!(refused > 0, std::env::var_os("FANCY_REFUSES").is_some());
+}

@@ -1,0 +1,62 @@
+//! Everything is called and looked at, for whatever the library returns. With libfancy there is no error of the library; with
+//! `.ci/strange.c`, which is linked instead where `FANCY_STRANGE` is set, there are many. Nothing may panic.
+
+use fancy_syntax::{check, parse, print, to_pattern, Error, Flags, Precedence, Rows};
+use std::collections::BTreeMap;
+
+fn kind_of<T>(outcome: &Result<T, Error>) -> &'static str {
+    match outcome {
+        Ok(_) => "results",
+        Err(Error::OutOfMemory) => "out of memory",
+        Err(Error::Library(what)) => what,
+        Err(_) => "errors of the pattern",
+    }
+}
+
+/// Looks at all of the rows, and returns how many nodes there are.
+fn look(rows: &Rows, pattern: &str) -> usize {
+    let root = rows.root();
+    for node in root.walk() {
+        assert!(node.text(pattern).is_some());
+        assert!(node.children().all(|child| child.index() > node.index()));
+    }
+    let tree = rows.to_tree();
+    assert_eq!(tree, tree.clone());
+    assert_eq!(tree.walk().count(), root.walk().len());
+    assert!(rows.names().all(|(name, _)| name.len() < 1 << 20));
+    assert!(rows.backrefs().len() <= 64 * (pattern.len() + 64));
+    format!("{rows:?}{:?}", tree.groups).len().min(root.walk().len())
+}
+
+#[test]
+fn nothing_panics() {
+    let rounds = std::env::var("STRANGE_ROUNDS").map_or(100, |rounds| rounds.parse().unwrap());
+    let patterns = ["", "a", "é(a|b)c*", r"(?<n>a)\k<n>", r"\q", "((((", &"(é)".repeat(300)];
+    let mut outcomes = BTreeMap::<&str, usize>::new();
+    let mut rows = Rows::new();
+    for round in 0..rounds {
+        let pattern = patterns[round % patterns.len()];
+        let outcome = rows.parse(pattern, Flags::UNICODE);
+        let kinds = [
+            kind_of(&outcome),
+            kind_of(&parse(pattern, Flags::all())),
+            kind_of(&check(pattern, Flags::empty())),
+            kind_of(&to_pattern(pattern, Flags::UNICODE)),
+            kind_of(&print(pattern, Flags::UNICODE, Precedence::Whole)),
+        ];
+        if let Err(error) = outcome {
+            assert!(!error.to_string().is_empty());
+            assert!(error.position().is_none_or(|position| position <= pattern.len() + 1));
+        }
+        look(&rows, pattern);
+        kinds.into_iter().for_each(|kind| *outcomes.entry(kind).or_default() += 1);
+    }
+    let of_the_library =
+        outcomes.keys().filter(|kind| !["results", "out of memory", "errors of the pattern"].contains(kind));
+    let of_the_library = of_the_library.count();
+    match std::env::var_os("FANCY_STRANGE") {
+        None => assert_eq!(of_the_library, 0, "{outcomes:?}"),
+        Some(_) => assert!(of_the_library >= 10, "{outcomes:?}"),
+    }
+    println!("{outcomes:#?}");
+}
