@@ -40,8 +40,8 @@ pub data AtomStart : Type 0 where
   absent_branch : State → AtomStart  -- `(?~|` of an absent expression, stopper or clear; a branch begins at the state
 
 -- no atom can begin here: reading ends with this error
-abbrev pub refused : Located → AtomStart
-refused e = read (failed_with e)
+abbrev pub error_start : Located → AtomStart
+error_start e = read (failed_with e)
 
 -- the assertion of the start of a line; in Oniguruma mode it is another variant
 abbrev pub start_of_line : Flags → Assertion
@@ -94,38 +94,38 @@ leaf_of s c t =
     else done (literal (c ∷ []) s.flags.casei) (at s t)
 
 -- before these characters the atom is Empty; it is Empty at the end of the text too
-abbrev pub is_before_nothing : ℕ → Bool
-is_before_nothing c = c ∈ "+*?|)"
+abbrev pub begins_no_atom : ℕ → Bool
+begins_no_atom c = c ∈ "+*?|)"
 
 -- a group whose name was read
 abbrev pub named_start : State → Reading Text → AtomStart
 named_start s (gives w u) = of_kind (capture (Some w)) (at s u)
-named_start s (fails e) = refused e
+named_start s (fails e) = error_start e
 
 -- a conditional whose target was read
 abbrev pub target_start : State → Reading Reference → AtomStart
 target_start s (gives r u) = body (condition_node r) (at s u)
-target_start s (fails e) = refused e
+target_start s (fails e) = error_start e
 
 -- inline flags, or a flag group, whose letters were read
 abbrev pub flags_start : Reading Letters → AtomStart
 flags_start (gives (inline_flags f) u) = read (done empty (record { flags = f; rest = u }))
 flags_start (gives (scoped f) u) = of_kind flag_group (record { flags = f; rest = u })
-flags_start (fails e) = refused e
+flags_start (fails e) = error_start e
 
 -- a verb; its name and closing parenthesis follow its asterisk
 abbrev pub verb_start : State → Text → AtomStart
 verb_start s t =
-    choose (verb_at t) (λ p. read (done (verb p.0) (at s p.1))) (refused (unknown_verb (code "*" ∷ t)))
+    choose (verb_at t) (λ p. read (done (verb p.0) (at s p.1))) (error_start (unknown_verb (code "*" ∷ t)))
 
 -- a verb as the condition of a conditional, after its asterisk
 abbrev pub verb_condition : State → Text → AtomStart
 verb_condition s t =
-    choose (verb_at t) (λ p. body (verb p.0) (at s p.1)) (refused (unknown_verb (code "*" ∷ t)))
+    choose (verb_at t) (λ p. body (verb p.0) (at s p.1)) (error_start (unknown_verb (code "*" ∷ t)))
 
 -- after `(?(`, which may not end the text: a condition, which is a target, a verb, or an alternation
 abbrev pub condition_start : State → Text → AtomStart
-condition_start s [] = refused group_not_closed
+condition_start s [] = error_start group_not_closed
 condition_start s (c ∷ t) =
     if begins_target (c ∷ t) then target_start s (condition_target (c ∷ t))
     else if c == code "*" then verb_condition s t
@@ -133,7 +133,7 @@ condition_start s (c ∷ t) =
 
 -- after `(?~`, which may not end the text: an alternation
 abbrev pub repeater_start : State → Text → AtomStart
-repeater_start s [] = refused group_not_closed
+repeater_start s [] = error_start group_not_closed
 repeater_start s (c ∷ t) = of_kind repeater (at s (c ∷ t))
 
 -- after the question mark that opens a group: the first row whose characters come next, or else flag letters
@@ -166,15 +166,15 @@ group_start s t =
 -- after the parenthesis, and after the layout that follows it
 abbrev pub after_layout : State → Skipped → AtomStart
 after_layout s (rest u) = group_start s u
-after_layout s (open_comment p) = refused (comment_not_closed p)
+after_layout s (open_comment p) = error_start (comment_not_closed p)
 
 -- the start of an atom, inside d groups
 abbrev pub start_of : ℕ → State → Text → AtomStart
 start_of d s [] = nothing
 start_of d s (c ∷ t) =
     if c == code "(" then (
-    if nat_le max_depth (d + 1) then refused (group_too_deep (c ∷ t)) else after_layout s (skipped (at s t)))
-    else if is_before_nothing c then nothing
+    if nat_le max_depth (d + 1) then error_start (group_too_deep (c ∷ t)) else after_layout s (skipped (at s t)))
+    else if begins_no_atom c then nothing
     else read (leaf_of s c t)
 
 unfoldable pub atom_start : ℕ → State → AtomStart

@@ -11,7 +11,7 @@ use Rattle.fancy_parts.specs.Quantifier.{counts}
 use Rattle.fancy_parts.specs.declared.counts.Counts.{Counts}
 use Rattle.fancy_grammar.specs.Depth.{max_depth}
 use Rattle.fancy_grammar.specs.Join.{is_empty}
-use Rattle.fancy_grammar.specs.State.{skipped, State, at, Outcome, done, failed_with, and_then, seen_through}
+use Rattle.fancy_grammar.specs.State.{skipped, State, at, Outcome, done, failed_with, and_then, mapped}
 use Rattle.fancy_grammar.specs.Label as label
 use Rattle.fancy_grammar.specs.Tree.{Tree, leaf, over, repeat, atomic_group}
 
@@ -75,8 +75,8 @@ suffix s c = suffix_at s c (skipped s)
 abbrev pub with_counts : ℕ → Tree → State → Option (Counts × Text) → Outcome Tree
 with_counts left a s None = done a s
 with_counts left a s (Some (c, t)) =
-    if is_repeatable s.flags a then seen_through (λ m. quantified s.flags c m a) (suffix (at s t) c)
-    else if is_dropped s.flags left a t then seen_through (λ m. a) (suffix (at s t) c)
+    if is_repeatable s.flags a then mapped (λ m. quantified s.flags c m a) (suffix (at s t) c)
+    else if is_dropped s.flags left a t then mapped (λ m. a) (suffix (at s t) c)
     else failed_with (not_repeatable t)
 
 -- after the layout that precedes a quantifier
