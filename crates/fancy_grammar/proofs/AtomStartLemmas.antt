@@ -8,12 +8,13 @@ use Prim.Native.Char.{code}
 use Rattle.fancy_lex.proofs.ReadingLemmas.{choose_both}
 use Rattle.fancy_lex.specs.Located.{target_not_repeatable}
 use Rattle.fancy_lex.specs.ErrorTable.{group_too_deep}
-use Rattle.fancy_lex.specs.LayoutSteps.{layout, layout_from, Skipped, rest, failed as open_comment}
+use Rattle.fancy_lex.specs.LayoutSteps.{layout, layout_from, is_layout, Skipped, rest, failed as open_comment}
 use Rattle.fancy_lex.specs.Reading.{Reading, gives, fails, choose}
 use Rattle.fancy_lex.specs.Referred.{Reference}
 use Rattle.fancy_lex.specs.Text.{Text, bytes, reach_of, strip_word}
 use Rattle.fancy_parts.specs.FlagLetters.{Letters, inline_flags, flag_group as scoped}
 use Rattle.fancy_parts.specs.GroupReference.{begins_target, condition_target}
+use Rattle.fancy_parts.specs.LetterSteps.{letters, letters_in}
 use Rattle.fancy_parts.specs.Quantifier.{counts, as_operator, most}
 use Rattle.fancy_parts.specs.declared.counts.Counts.{Counts}
 use Rattle.fancy_grammar.specs.AtomStart.{AtomStart, nothing, read, of_kind, condition, body, atom_start, start_of}
@@ -21,11 +22,13 @@ use Rattle.fancy_grammar.specs.AtomStart.{group_start, after_question, condition
 use Rattle.fancy_grammar.specs.AtomStart.{verb_condition, named_start, target_start, flags_start, after_layout}
 use Rattle.fancy_grammar.specs.AtomStart.{error_start, leaf_of, begins_no_atom}
 use Rattle.fancy_grammar.specs.Depth.{max_depth}
+use Rattle.fancy_grammar.specs.GroupKind as kinds
 use Rattle.fancy_grammar.specs.GroupKind.{GroupKind, define}
 use Rattle.fancy_grammar.specs.Quantified.{quant, quants, adjacent, max_adjacent}
 use Rattle.fancy_grammar.specs.State.{ends, skipped, State, at, Outcome, done, failed, and_then}
 use Rattle.fancy_grammar.specs.Tree.{Tree, empty}
 use Rattle.fancy_grammar.specs.Verb.{verb_at}
+use Rattle.fancy_grammar.proofs.PlainLemmas.{no_layout as passes_none}
 
 -- ---- a parenthesis opens something
 
@@ -118,6 +121,18 @@ begins_no_atom_at d s c t e = by_tests (c == code "(") (begins_no_atom c) _ (dee
     by_tests true b x f e = absurd (f e)
     by_tests false true x f e = refl
     by_tests false false x f e = absurd (read_there _ e)
+
+-- ---- a flag group without letters
+
+colon_no_layout : (x : Bool) → is_layout x (code ":") ≡ false
+colon_no_layout true = refl
+colon_no_layout false = refl
+
+pub bare_flag_group : (s : State) (t u : Text) → t ≡ code ":" ∷ u → after_question s t ≡ of_kind kinds.flag_group (at s u)
+unfolding letters letters_in
+bare_flag_group s t u e =
+    ap (after_question s) e
+    ∙ rw (passes_none (code ":") s.flags.ignore_space u refl (colon_no_layout s.flags.ignore_space)) refl
 
 -- ---- the rows of conditionals
 

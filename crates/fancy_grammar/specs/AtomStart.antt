@@ -1,5 +1,5 @@
 -- The start of an atom.
-use Rattle.std.specs.Prelude.{ℕ, ◌+◌, Bool, false, ◌==◌, nat_le, [], ◌∷◌, if◌then◌else◌, Some, None, codes}
+use Rattle.std.specs.Prelude.{ℕ, ◌+◌, Bool, false, ◌==◌, nat_le, List, [], ◌∷◌, if◌then◌else◌, Some, None, codes}
 use Prim.Native.Char.{code}
 use Rattle.fancy_lex.specs.Characters.{◌∈◌}
 use Rattle.fancy_lex.specs.Class.{class}
@@ -11,7 +11,7 @@ use Rattle.fancy_lex.specs.ErrorTable.{comment_not_closed, group_too_deep, group
 use Rattle.fancy_lex.specs.LayoutSteps.{Skipped, rest, failed as open_comment}
 use Rattle.fancy_lex.specs.Reading.{Reading, gives, fails, choose}
 use Rattle.fancy_lex.specs.Referred.{Reference, Call}
-use Rattle.fancy_lex.specs.Text.{Text, strip_word}
+use Rattle.fancy_lex.specs.Text.{Text}
 use Rattle.fancy_lex.specs.declared.escape.Assertion.{Assertion}
 use Rattle.fancy_lex.specs.declared.escape.Assertion.TheVariants.{StartText, EndText, StartLine, StartLineOniguruma}
 use Rattle.fancy_lex.specs.declared.escape.Assertion.TheVariants.{EndLine}
@@ -26,7 +26,7 @@ use Rattle.fancy_grammar.specs.Label.{ast_backref, ast_call, ast_condition}
 use Rattle.fancy_grammar.specs.State.{State, at, skipped, Outcome, done, failed_with}
 use Rattle.fancy_grammar.specs.Tree.{Tree, empty, any, assertion, general_newline, literal, literal_bytes, delegate}
 use Rattle.fancy_grammar.specs.Tree.{keep_out, continue_from_previous_match_end, verb, ast_node}
-use Rattle.fancy_grammar.specs.Verb.{verb_at}
+use Rattle.fancy_grammar.specs.Verb.{by_word, verb_at}
 use Rattle.fancy_grammar.specs.declared.kinds.LookAround.TheVariants.{LookAhead, LookAheadNeg, LookBehind}
 use Rattle.fancy_grammar.specs.declared.kinds.LookAround.TheVariants.{LookBehindNeg}
 
@@ -136,32 +136,35 @@ abbrev pub repeater_start : State → Text → AtomStart
 repeater_start s [] = error_start group_not_closed
 repeater_start s (c ∷ t) = of_kind repeater (at s (c ∷ t))
 
--- after the question mark that opens a group: the first row whose characters come next, or else flag letters
+-- what may follow the question mark that opens a group, each with what the text after it begins
+abbrev pub after_question_words : State → Text → List (Text × (Text → AtomStart))
+after_question_words s t =
+    (codes "=", λ u. of_kind (look LookAhead) (at s u))
+    ∷ (codes "!", λ u. of_kind (look LookAheadNeg) (at s u))
+    ∷ (codes "<=", λ u. of_kind (look LookBehind) (at s u))
+    ∷ (codes "<!", λ u. of_kind (look LookBehindNeg) (at s u))
+    ∷ (codes "<", λ u. named_start s (group_name (code ">") t u))
+    ∷ (codes "'", λ u. named_start s (group_name (code "'") t u))
+    ∷ (codes "P<", λ u. named_start s (group_name (code ">") t u))
+    ∷ (codes "P=", λ u. read (leaf_outcome (backref_node s.flags.casei) s (named_reference u)))
+    ∷ (codes "P>", λ u. read (leaf_outcome call_node s (named_call u)))
+    ∷ (codes "~|", λ u. absent_branch (at s u))
+    ∷ (codes "~", λ u. repeater_start s u)
+    ∷ (codes ">", λ u. of_kind atomic (at s u))
+    ∷ (codes "(DEFINE)", λ u. of_kind define (at s u))
+    ∷ (codes "(", λ u. condition_start s u)
+    ∷ []
+
+-- after the question mark that opens a group: one of these, or flag letters
 abbrev pub after_question : State → Text → AtomStart
-after_question s t =
-    choose (strip_word (codes "=") t) (λ u. of_kind (look LookAhead) (at s u)) (
-    choose (strip_word (codes "!") t) (λ u. of_kind (look LookAheadNeg) (at s u)) (
-    choose (strip_word (codes "<=") t) (λ u. of_kind (look LookBehind) (at s u)) (
-    choose (strip_word (codes "<!") t) (λ u. of_kind (look LookBehindNeg) (at s u)) (
-    choose (strip_word (codes "<") t) (λ u. named_start s (group_name (code ">") t u)) (
-    choose (strip_word (codes "'") t) (λ u. named_start s (group_name (code "'") t u)) (
-    choose (strip_word (codes "P<") t) (λ u. named_start s (group_name (code ">") t u)) (
-    choose (strip_word (codes "P=") t) (λ u. read (leaf_outcome (backref_node s.flags.casei) s (named_reference u))) (
-    choose (strip_word (codes "P>") t) (λ u. read (leaf_outcome call_node s (named_call u))) (
-    choose (strip_word (codes "~|") t) (λ u. absent_branch (at s u)) (
-    choose (strip_word (codes "~") t) (λ u. repeater_start s u) (
-    choose (strip_word (codes ">") t) (λ u. of_kind atomic (at s u)) (
-    choose (strip_word (codes "(DEFINE)") t) (λ u. of_kind define (at s u)) (
-    choose (strip_word (codes "(") t) (λ u. condition_start s u)
-    (flags_start (letters s.flags t)))))))))))))))
+after_question s t = by_word (after_question_words s t) t (flags_start (letters s.flags t))
 
 -- after the parenthesis and layout: a question mark with the kind of the group, a verb, or a capturing group without a
 -- name
 abbrev pub group_start : State → Text → AtomStart
 group_start s t =
-    choose (strip_word (codes "?") t) (λ u. after_question s u) (
-    choose (strip_word (codes "*") t) (λ u. verb_start s u)
-    (of_kind (capture None) (at s t)))
+    by_word ((codes "?", λ u. after_question s u) ∷ (codes "*", λ u. verb_start s u) ∷ []) t
+    (of_kind (capture None) (at s t))
 
 -- after the parenthesis, and after the layout that follows it
 abbrev pub after_layout : State → Skipped → AtomStart

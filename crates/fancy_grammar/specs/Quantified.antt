@@ -97,17 +97,19 @@ abbrev pub may_count : ℕ → ℕ → Bool
 may_count zero d = false
 may_count (suc k) d = nat_lt (d + 1) max_depth
 
--- adjacent quantifiers at depth d: each that reads a byte counts, and is one level deeper; k of them may count
+-- a quantifier that counts, where none more may
+abbrev pub too_many : Tree → State → Outcome Tree
+too_many b t = failed_with (quantifier_too_deep t.rest)
+
+-- one adjacent quantifier; if it reads a byte it counts, and `more` reads those after it
+abbrev pub one_adjacent : (Tree → State → Outcome Tree) → Tree → State → Outcome Tree
+one_adjacent more a s = and_then (quant (bytes s.rest) a s) (λ b t. if is_unmoved s t then done b t else more b t)
+
+-- adjacent quantifiers at depth d: each that counts is one level deeper, and k of them may count
 unfoldable pub adjacent : ℕ → ℕ → Tree → State → Outcome Tree
-adjacent zero d a s =
-    and_then (quant (bytes s.rest) a s) (λ b t.
-    if is_unmoved s t then done b t
-    else failed_with (quantifier_too_deep t.rest))
+adjacent zero d a s = one_adjacent too_many a s
 adjacent (suc k) d a s =
-    and_then (quant (bytes s.rest) a s) (λ b t.
-    if is_unmoved s t then done b t
-    else if nat_lt (d + 1) max_depth then adjacent k (d + 1) b t
-    else failed_with (quantifier_too_deep t.rest))
+    one_adjacent (λ b t. if nat_lt (d + 1) max_depth then adjacent k (d + 1) b t else too_many b t) a s
 
 -- how many adjacent quantifiers may follow the first
 abbrev pub max_adjacent : ℕ

@@ -5,7 +5,8 @@ use Rattle.std.proofs.lemmas.Bool.{not-true}
 use Prim.Native.Char.{code}
 use Rattle.fancy_lex.specs.Characters.{◌∈◌}
 use Rattle.fancy_lex.specs.Class.{class_start, escape_in_class, is_negated, is_plain_in_class, written, Class}
-use Rattle.fancy_lex.specs.Class.{class_items, ClassItems, close, plain, escaped, nested}
+use Rattle.fancy_lex.specs.Class.{class_items, ClassItems, close, nested}
+use Rattle.fancy_lex.proofs.ClassLaws.{ReadClass, from_items, ReadItems, at_close, at_plain, at_escape, at_nested}
 use Rattle.fancy_lex.specs.Text.{Text, strip}
 use Rattle.fancy_lex.specs.declared.flags.Flags.{Flags}
 use Rattle.fancy_grammar.specs.PatternSource.{source_from}
@@ -126,44 +127,44 @@ opening_set _ _ u x w z caret_free property (negated n) =
 opening_set _ _ u x w z caret_free property closing = record { space = refl; control = refl }
 opening_set _ _ u x w z caret_free property negated_closing = record { space = refl; control = refl }
 
-items_property : {f : Flags} {b a : Bool} {t w v : Text} → ClassItems f b t (written w a v) → (z : Text) →
+items_property : {f : Flags} {b a : Bool} {t w v : Text} → ReadItems f b t w a v → (z : Text) →
     NoProperty (w ++ z)
-items_property close z = record { space = refl; control = refl }
-items_property (plain {c} p h) z =
+items_property at_close z = record { space = refl; control = refl }
+items_property (at_plain {c} p h) z =
     let e = apart (λ c. c ∈ "\\[]") c (plain_not c p) (code "\\") refl in
     record { space = rw e refl; control = rw e refl }
-items_property {f} {b} (escaped {t} {u} {w} {e} q h) z =
+items_property {f} {b} (at_escape {t} {u} {w} {e} q h) z =
     subst NoProperty (sym (append_assoc (escape_in_class b e) w z))
     ((escape_in f b false (none_below b) t u e q).front.property (w ++ z))
-items_property (nested {w} (class_items {t} {u} {opening} {w = x} e h) k) z =
+items_property (at_nested {w} (from_items {t} {u} {opening} {w = x} e h) k) z =
     opening_property t opening u x w z (opening_is t opening u e)
 
-items_no_caret : {f : Flags} {b a : Bool} {t w v : Text} → ClassItems f b t (written w a v) →
+items_no_caret : {f : Flags} {b a : Bool} {t w v : Text} → ReadItems f b t w a v →
     strip (code "^") t ≡ None → (z : Text) → strip (code "^") (w ++ z) ≡ None
-items_no_caret close n z = refl
-items_no_caret (plain {c} {t} {w} p h) n z = none_again (code "^") c t (w ++ z) n
-items_no_caret {f} {b} (escaped {t} {u} {w} {e} q h) n z =
+items_no_caret at_close n z = refl
+items_no_caret (at_plain {c} {t} {w} p h) n z = none_again (code "^") c t (w ++ z) n
+items_no_caret {f} {b} (at_escape {t} {u} {w} {e} q h) n z =
     subst (λ y. strip (code "^") y ≡ None) (sym (append_assoc (escape_in_class b e) w z))
     ((escape_in f b false (none_below b) t u e q).front.no_caret (w ++ z))
-items_no_caret (nested {w} (class_items {t} {u} {opening} {w = x} e h) k) n z =
+items_no_caret (at_nested {w} (from_items {t} {u} {opening} {w = x} e h) k) n z =
     opening_no_caret t opening u x w z (opening_is t opening u e)
 
-items_set : {f : Flags} {b a : Bool} {t w v : Text} → ClassItems f b t (written w a v) → b ≡ true → (z : Text) →
+items_set : {f : Flags} {b a : Bool} {t w v : Text} → ReadItems f b t w a v → b ≡ true → (z : Text) →
     NoSet (w ++ z)
-items_set close seen z = record { space = refl; control = refl }
-items_set (plain {c} p h) seen z =
+items_set at_close seen z = record { space = refl; control = refl }
+items_set (at_plain {c} p h) seen z =
     let e = apart (λ c. c ∈ "\\[]") c (plain_not c p) (code "[") refl in
     record { space = rw e refl; control = rw e refl }
-items_set {f} {b} (escaped {t} {u} {w} {e} q h) seen z =
+items_set {f} {b} (at_escape {t} {u} {w} {e} q h) seen z =
     subst NoSet (sym (append_assoc (escape_in_class b e) w z))
     ((escape_in f b false (none_below b) t u e q).front.set seen (w ++ z))
-items_set (nested {w} (class_items {t} {u} {opening} {w = x} e h) k) seen z =
+items_set (at_nested {w} (from_items {t} {u} {opening} {w = x} e h) k) seen z =
     opening_set t opening u x w z (items_no_caret h) (items_property h (w ++ z)) (opening_is t opening u e)
 
-items_joined : {f : Flags} {b a : Bool} {t w v : Text} → ClassItems f b t (written w a v) → b ≡ true → (z : Text) →
+items_joined : {f : Flags} {b a : Bool} {t w v : Text} → ReadItems f b t w a v → b ≡ true → (z : Text) →
     NoJoined (w ++ z)
-items_joined close seen z = record { space = refl; control = refl }
-items_joined (plain {c} {w} p h) seen z = at (c == code "&") refl
+items_joined at_close seen z = record { space = refl; control = refl }
+items_joined (at_plain {c} {w} p h) seen z = at (c == code "&") refl
   where
     rest : NoSet (w ++ z)
     rest = items_set h seen z
@@ -171,10 +172,10 @@ items_joined (plain {c} {w} p h) seen z = at (c == code "&") refl
     at : (b : Bool) → (c == code "&") ≡ b → NoJoined (c ∷ (w ++ z))
     at true e = record { space = rw e rest.space; control = rw e rest.control }
     at false e = record { space = rw e refl; control = rw e refl }
-items_joined {f} {b} (escaped {t} {u} {w} {e} q h) seen z =
+items_joined {f} {b} (at_escape {t} {u} {w} {e} q h) seen z =
     subst NoJoined (sym (append_assoc (escape_in_class b e) w z))
     ((escape_in f b false (none_below b) t u e q).front.joined seen (w ++ z))
-items_joined (nested {w} (class_items {t} {u} {opening} {w = x} e h) k) seen z =
+items_joined (at_nested {w} (from_items {t} {u} {opening} {w = x} e h) k) seen z =
     opening_joined t opening u x w z (opening_is t opening u e)
 
 -- ---- the induction
@@ -183,7 +184,7 @@ items_joined (nested {w} (class_items {t} {u} {opening} {w = x} e h) k) seen z =
 pub record ClassSource (u σ : Bool) (x : Text) (m : Bool) : Type 0 where
   pub tail : Text
   pub after : Bool
-  pub is : (z : Text) → source_from u σ 0 (x ++ z) ≡ (code "[" ∷ tail) ++ source_from u after 0 z
+  pub is : (z : Text) → source_from u σ (x ++ z) ≡ (code "[" ∷ tail) ++ source_from u after z
   pub below : IsBelow after m
   pub reads : (g : Flags) → g.unicode ≡ u → (r : Text) → Class g σ (tail ++ r) (written x after r)
 
@@ -191,7 +192,7 @@ pub record ClassSource (u σ : Bool) (x : Text) (m : Bool) : Type 0 where
 record ItemsSource (u σ : Bool) (t w : Text) (a : Bool) : Type 0 where
   source : Text
   after : Bool
-  is : (z : Text) → source_from u σ 0 (w ++ z) ≡ source ++ source_from u after 0 z
+  is : (z : Text) → source_from u σ (w ++ z) ≡ source ++ source_from u after z
   below : IsBelow after a
   reads : (g : Flags) → g.unicode ≡ u → (r : Text) → ClassItems g σ (source ++ r) (written w after r)
   no_caret : strip (code "^") t ≡ None → (r : Text) → strip (code "^") (source ++ r) ≡ None
@@ -254,7 +255,7 @@ plain_source u σ a c t w h joined i = record {
   after = i.after;
   is =
       λ z. char_on u σ c (w ++ z) h (λ e seen. joined seen z) ∙ (ap (λ q. char_source c ++ q) (i.is z)
-      ∙ sym (append_assoc (char_source c) i.source (source_from u i.after 0 z)));
+      ∙ sym (append_assoc (char_source c) i.source (source_from u i.after z)));
   below = i.below;
   reads =
       λ g like r. subst (λ q. ClassItems g σ q (written (c ∷ w) i.after r))
@@ -274,8 +275,8 @@ escaped_source u b σ n a t s x w e i = record {
   source = e.source ++ i.source;
   after = i.after;
   is =
-      λ z. ap (source_from u σ 0) (append_assoc x w z) ∙ (e.reads.is (w ++ z) ∙ (ap (λ q. e.source ++ q) (i.is z)
-      ∙ sym (append_assoc e.source i.source (source_from u i.after 0 z))));
+      λ z. ap (source_from u σ) (append_assoc x w z) ∙ (e.reads.is (w ++ z) ∙ (ap (λ q. e.source ++ q) (i.is z)
+      ∙ sym (append_assoc e.source i.source (source_from u i.after z))));
   below = i.below;
   reads =
       λ g like r. subst (λ q. ClassItems g σ q (written (x ++ w) i.after r)) (sym (append_assoc e.source i.source r))
@@ -294,8 +295,8 @@ nested_source u σ m a t s x w c i = record {
   source = (code "[" ∷ c.tail) ++ i.source;
   after = i.after;
   is =
-      λ z. ap (source_from u σ 0) (append_assoc x w z) ∙ (c.is (w ++ z) ∙ (ap (λ q. (code "[" ∷ c.tail) ++ q) (i.is z)
-      ∙ sym (append_assoc (code "[" ∷ c.tail) i.source (source_from u i.after 0 z))));
+      λ z. ap (source_from u σ) (append_assoc x w z) ∙ (c.is (w ++ z) ∙ (ap (λ q. (code "[" ∷ c.tail) ++ q) (i.is z)
+      ∙ sym (append_assoc (code "[" ∷ c.tail) i.source (source_from u i.after z))));
   below = i.below;
   reads =
       λ g like r. subst (λ q. ClassItems g σ (code "[" ∷ q) (written (x ++ w) i.after r))
@@ -306,22 +307,22 @@ nested_source u σ m a t s x w c i = record {
 }
 
 mutual
-  pub class_source_of : {f : Flags} {b m : Bool} {t x v : Text} → Class f b t (written x m v) → (σ : Bool) →
+  pub class_source_of : {f : Flags} {b m : Bool} {t x v : Text} → ReadClass f b t x m v → (σ : Bool) →
       IsBelow σ b → ClassSource f.unicode σ x m
-  class_source_of {f} (class_items {a} {t} {u} {opening} {w} e h) σ below =
+  class_source_of {f} (from_items {a} {t} {u} {opening} {w} e h) σ below =
       with_class_start f.unicode σ a t opening u w (opening_is t opening u e) (items_property h) (items_no_caret h)
       (items_source_of h σ below)
 
-  items_source_of : {f : Flags} {b a : Bool} {t w v : Text} → ClassItems f b t (written w a v) → (σ : Bool) →
+  items_source_of : {f : Flags} {b a : Bool} {t w v : Text} → ReadItems f b t w a v → (σ : Bool) →
       IsBelow σ b → ItemsSource f.unicode σ t w a
-  items_source_of {f} {b} (close {v}) σ below = close_source f.unicode σ b v below
-  items_source_of {f} (plain {c} {a} {t} {w} p h) σ below =
+  items_source_of {f} {b} (at_close {v}) σ below = close_source f.unicode σ b v below
+  items_source_of {f} (at_plain {c} {a} {t} {w} p h) σ below =
       plain_source f.unicode σ a c t w (plain_not c p) (λ seen z. items_joined h (below seen) z)
       (items_source_of h σ below)
-  items_source_of {f} {b} (escaped {a} {t} {u} {w} {e} q h) σ below =
+  items_source_of {f} {b} (at_escape {a} {t} {u} {w} {e} q h) σ below =
       let i = escape_in f b σ below t u e q in
       escaped_source f.unicode b σ (is_negated e) a (code "\\" ∷ t) u (escape_in_class b e) w i
       (items_source_of h i.after i.below)
-  items_source_of {f} {b} (nested {m} {a} {t} {u} {x} {w} k h) σ below =
+  items_source_of {f} {b} (at_nested {m} {a} {t} {u} {x} {w} k h) σ below =
       let c = class_source_of k σ below in
       nested_source f.unicode σ m a (code "[" ∷ t) u x w c (items_source_of h c.after c.below)

@@ -92,10 +92,10 @@ digit_seen : (d : ℕ) → d < 16 → is_unseen (upper_hex_digit d) ≡ false
 digit_seen d h = grind (arith, nat_tests)
 
 digit_on : (u σ : Bool) (d : ℕ) (t : Text) → d < 16 →
-    source_from u σ 0 (upper_hex_digit d ∷ t) ≡ upper_hex_digit d ∷ source_from u σ 0 t
+    source_from u σ (upper_hex_digit d ∷ t) ≡ upper_hex_digit d ∷ source_from u σ t
 digit_on u σ d t h =
     (char_read u σ (upper_hex_digit d) (digit_plain d h) (digit_joint d h)).is t
-    ∙ ap (λ s. s ++ source_from u σ 0 t) (shown_source (upper_hex_digit d) (digit_seen d h))
+    ∙ ap (λ s. s ++ source_from u σ t) (shown_source (upper_hex_digit d) (digit_seen d h))
 
 byte_read : (σ : Bool) (v : ℕ) → 0x80 ≤ v → v ≤ 0xFF → Reads false σ σ (byte_text v) (byte_text v)
 byte_read σ v l h =

@@ -26,7 +26,7 @@ use Rattle.fancy_lex.specs.Reading.{Reading, gives, fails, choose, layout_readin
 use Rattle.fancy_lex.specs.Referred.{Reference}
 use Rattle.fancy_lex.specs.Text.{Text, strip, reach_of}
 use Rattle.fancy_lex.specs.declared.flags.Flags.{Flags}
-use Rattle.fancy_lex.proofs.ClassLaws.{class_complete, class_reads}
+use Rattle.fancy_lex.proofs.ClassLaws.{class_complete, class_reads, read_class}
 use Rattle.fancy_lex.proofs.LoneLemmas.{AtRows, of_lone}
 use Rattle.fancy_lex.proofs.ReadingLemmas.{choose_both}
 use Rattle.fancy_grammar.specs.PatternNeeds.{is_hex_class}
@@ -166,7 +166,7 @@ pub class_has_source : (f g : Flags) (t v s : Text) → f.unicode ≡ g.unicode 
 class_has_source f g t v s same e casei =
     let (a, h) = subst (OuterClass g t) e (class_reads g t) in
     by_hex (is_hex_class s) refl
-    (subst (λ u. ClassSource u false s a) (sym same) (class_source_of h false (λ e. absurd cc)))
+    (subst (λ u. ClassSource u false s a) (sym same) (class_source_of (read_class h) false (λ e. absurd cc)))
   where
     by_hex : (b : Bool) {m : Bool} → is_hex_class s ≡ b → ClassSource f.unicode false s m → HasSource f s casei
     by_hex true hex c =

@@ -135,13 +135,13 @@ rowless_reads g inside negated w v h = from (strip caret w) refl
         ∙ rowless_text g.unicode inside negated w h)))
 
 rowless_on : (u σ negated : Bool) (w z : Text) → IsRowless w →
-    source_from u σ 0 (property_written negated w ++ z)
-    ≡ (backslash ∷ property_body negated (strip caret w) w) ++ source_from u σ 0 z
+    source_from u σ (property_written negated w ++ z)
+    ≡ (backslash ∷ property_body negated (strip caret w) w) ++ source_from u σ z
 rowless_on u σ negated w z h =
-    ap (source_from u σ 0) (property_before negated w z)
+    ap (source_from u σ) (property_before negated w z)
     ∙ (part_on u σ backslash (negated_letter negated ∷ code "{" ∷ (w ++ code "}" ∷ z)) (named_property negated w) z
     (part_is u σ negated)
-    ∙ ap (λ q. q ++ source_from u σ 0 z) (named_is negated (strip caret w) w))
+    ∙ ap (λ q. q ++ source_from u σ z) (named_is negated (strip caret w) w))
   where
     own : (negated : Bool) → property_part negated (code "{" ∷ (w ++ code "}" ∷ z)) ≡ part (named_property negated w) z
     own negated =
@@ -200,8 +200,8 @@ short_reads g inside true c v h = single_large g inside c v h
 short_reads g inside false c v h = single_small g inside c v h
 
 pub short_on : (u σ negated : Bool) (c : ℕ) (z : Text) → (c == code "{") ≡ false →
-    source_from u σ 0 (backslash ∷ negated_letter negated ∷ c ∷ z)
-    ≡ backslash ∷ negated_letter negated ∷ c ∷ source_from u σ 0 z
+    source_from u σ (backslash ∷ negated_letter negated ∷ c ∷ z)
+    ≡ backslash ∷ negated_letter negated ∷ c ∷ source_from u σ z
 short_on u σ negated c z h =
     part_on u σ backslash (negated_letter negated ∷ c ∷ z) (backslash ∷ negated_letter negated ∷ c ∷ []) z
     (part_is u σ negated)

@@ -24,7 +24,7 @@ use Rattle.fancy_grammar.proofs.PatternLaws.Source.Characters.{no_letter, unseen
 -- a part of the text of a class; σ and τ say whether the source before it, and the source with it, has a negated set of
 -- the rows: its source comes before that of what follows, and is read as the part
 pub record Reads (u σ τ : Bool) (text source : Text) : Type 0 where
-  pub is : (z : Text) → source_from u σ 0 (text ++ z) ≡ source ++ source_from u τ 0 z
+  pub is : (z : Text) → source_from u σ (text ++ z) ≡ source ++ source_from u τ z
   pub reads : (g : Flags) → g.unicode ≡ u → (v r w : Text) (a : Bool) → ClassItems g τ v (written w a r) →
       ClassItems g σ (source ++ v) (written (text ++ w) a r)
 
@@ -32,8 +32,8 @@ pub both_read : (u σ ρ τ : Bool) (t t' s s' : Text) → Reads u σ ρ t s →
     Reads u σ τ (t ++ t') (s ++ s')
 both_read u σ ρ τ t t' s s' x y = record {
   is =
-      λ z. ap (source_from u σ 0) (append_assoc t t' z) ∙ (x.is (t' ++ z) ∙ (ap (λ q. s ++ q) (y.is z)
-      ∙ sym (append_assoc s s' (source_from u τ 0 z))));
+      λ z. ap (source_from u σ) (append_assoc t t' z) ∙ (x.is (t' ++ z) ∙ (ap (λ q. s ++ q) (y.is z)
+      ∙ sym (append_assoc s s' (source_from u τ z))));
   reads =
       λ g like v r w a k. subst (λ q. ClassItems g σ q (written ((t ++ t') ++ w) a r)) (sym (append_assoc s s' v))
       (subst (λ q. ClassItems g σ (s ++ (s' ++ v)) (written q a r)) (sym (append_assoc t t' w))
@@ -100,7 +100,7 @@ word_read u σ (c ∷ w) h =
 
 -- an escape whose source is read as the escape
 pub escape_read : (u σ τ : Bool) (x d : Text) →
-    ((z : Text) → source_from u σ 0 (x ++ z) ≡ backslash ∷ (d ++ source_from u τ 0 z)) →
+    ((z : Text) → source_from u σ (x ++ z) ≡ backslash ∷ (d ++ source_from u τ z)) →
     ((g : Flags) → g.unicode ≡ u → (v : Text) → (e : Escape) × (escape g true (d ++ v) ≡ gives e v)
     × (escape_in_class σ e ≡ x) × ((σ || is_negated e) ≡ τ)) → Reads u σ τ x (backslash ∷ d)
 escape_read u σ τ x d is reads = record {
@@ -111,7 +111,7 @@ escape_read u σ τ x d is reads = record {
 
 -- and is no negated set
 pub single_read : (u σ : Bool) (x d : Text) →
-    ((z : Text) → source_from u σ 0 (x ++ z) ≡ backslash ∷ (d ++ source_from u σ 0 z)) →
+    ((z : Text) → source_from u σ (x ++ z) ≡ backslash ∷ (d ++ source_from u σ z)) →
     ((g : Flags) → g.unicode ≡ u → (v : Text) → (e : Escape) × (escape g true (d ++ v) ≡ gives e v)
     × (escape_text e ≡ x) × (is_negated e ≡ false)) → Reads u σ σ x (backslash ∷ d)
 single_read u σ x d is reads =
@@ -119,7 +119,7 @@ single_read u σ x d is reads =
     (λ g like v. let (e, q, text_is, n) = reads g like v in (e, q, alone σ e n ∙ text_is, same_after σ e n))
 
 escape_on : (u σ : Bool) (c : ℕ) (t : Text) → c ∈ "pPxt" ≡ false →
-    source_from u σ 0 (backslash ∷ c ∷ t) ≡ backslash ∷ c ∷ source_from u σ 0 t
+    source_from u σ (backslash ∷ c ∷ t) ≡ backslash ∷ c ∷ source_from u σ t
 escape_on u σ c t h =
     let (p, h1) = or_parts (c == code "p") _ h in
     let (q, h2) = or_parts (c == code "P") _ h1 in
@@ -151,10 +151,10 @@ pub record SetItems (u σ : Bool) (items source : Text) : Type 0 where
 
 module _ (u σ : Bool) (items source : Text) (i : SetItems u σ items source) where
   set_closes : (z : Text) →
-      source_from u σ 0 (items ++ code "]" ∷ z) ≡ (source ++ codes "]") ++ source_from u σ 0 z
+      source_from u σ (items ++ code "]" ∷ z) ≡ (source ++ codes "]") ++ source_from u σ z
   set_closes z =
       i.read.is (code "]" ∷ z) ∙ (ap (λ q. source ++ q) (close_on u σ z)
-      ∙ sym (append_assoc source (codes "]") (source_from u σ 0 z)))
+      ∙ sym (append_assoc source (codes "]") (source_from u σ z)))
 
   pub closed_items : (g : Flags) → g.unicode ≡ u → (v : Text) →
       ClassItems g σ (source ++ code "]" ∷ v) (written (items ++ codes "]") σ v)
@@ -163,7 +163,7 @@ module _ (u σ : Bool) (items source : Text) (i : SetItems u σ items source) wh
   pub bracket_read : Reads u σ σ (code "[" ∷ (items ++ codes "]")) (code "[" ∷ (source ++ codes "]"))
   bracket_read = record {
     is =
-        λ z. ap (λ q. source_from u σ 0 (code "[" ∷ q)) (append_assoc items (codes "]") z)
+        λ z. ap (λ q. source_from u σ (code "[" ∷ q)) (append_assoc items (codes "]") z)
         ∙ (open_on u σ (items ++ code "]" ∷ z) (i.no_property (code "]" ∷ z)) (i.no_caret_text (code "]" ∷ z))
         ∙ ap (λ q. code "[" ∷ q) (set_closes z));
     reads =
@@ -177,7 +177,7 @@ module _ (u σ : Bool) (items source : Text) (i : SetItems u σ items source) wh
   pub negated_read : Reads u σ σ (codes "[^" ++ (items ++ codes "]")) (codes "[^" ++ (source ++ codes "]"))
   negated_read = record {
     is =
-        λ z. ap (λ q. source_from u σ 0 (codes "[^" ++ q)) (append_assoc items (codes "]") z)
+        λ z. ap (λ q. source_from u σ (codes "[^" ++ q)) (append_assoc items (codes "]") z)
         ∙ (open_caret_on u σ (items ++ code "]" ∷ z) (i.no_property (code "]" ∷ z))
         ∙ ap (λ q. codes "[^" ++ q) (set_closes z));
     reads =

@@ -161,8 +161,8 @@ pub record IsRow (t name : Text) : Type 0 where
   free : HasNoBrace name
   text : property_text true true (prop false (braced name)) ≡ codes "[^" ++ t
   negated : is_negated_set (codes "[^" ++ t) ≡ true
-  at : (σ : Bool) (z : Text) → source_from true σ 0 ((joint σ ++ (codes "[^" ++ t)) ++ z)
-      ≡ (codes "\\p{" ++ (name ++ codes "}")) ++ source_from true true 0 z
+  at : (σ : Bool) (z : Text) → source_from true σ ((joint σ ++ (codes "[^" ++ t)) ++ z)
+      ≡ (codes "\\p{" ++ (name ++ codes "}")) ++ source_from true true z
 
 module _ (t name : Text) (row : IsRow t name) where
   pub set_read : (σ : Bool) → Reads true σ true (joint σ ++ (codes "[^" ++ t)) (codes "\\p{" ++ (name ++ codes "}"))
@@ -229,8 +229,8 @@ pub graph : IsRow (codes "\\p{White_Space}\\p{C}]") (codes "graph")
 unfolding property_text
 graph = record { free = free_of (codes "graph") refl; text = refl; negated = refl; at = at }
   where
-    at : (σ : Bool) (z : Text) → source_from true σ 0 ((joint σ ++ codes "[^\\p{White_Space}\\p{C}]") ++ z)
-        ≡ codes "\\p{graph}" ++ source_from true true 0 z
+    at : (σ : Bool) (z : Text) → source_from true σ ((joint σ ++ codes "[^\\p{White_Space}\\p{C}]") ++ z)
+        ≡ codes "\\p{graph}" ++ source_from true true z
     at true z = source_goes_on true true (code "&") (codes "&[^\\p{White_Space}\\p{C}]" ++ z)
     at false z = source_goes_on true false (code "[") (codes "^\\p{White_Space}\\p{C}]" ++ z)
 
@@ -238,8 +238,8 @@ pub print : IsRow (codes "\\p{C}\\t\\n\\v\\f\\r]") (codes "print")
 unfolding property_text
 print = record { free = free_of (codes "print") refl; text = refl; negated = refl; at = at }
   where
-    at : (σ : Bool) (z : Text) → source_from true σ 0 ((joint σ ++ codes "[^\\p{C}\\t\\n\\v\\f\\r]") ++ z)
-        ≡ codes "\\p{print}" ++ source_from true true 0 z
+    at : (σ : Bool) (z : Text) → source_from true σ ((joint σ ++ codes "[^\\p{C}\\t\\n\\v\\f\\r]") ++ z)
+        ≡ codes "\\p{print}" ++ source_from true true z
     at true z = source_goes_on true true (code "&") (codes "&[^\\p{C}\\t\\n\\v\\f\\r]" ++ z)
     at false z = source_goes_on true false (code "[") (codes "^\\p{C}\\t\\n\\v\\f\\r]" ++ z)
 

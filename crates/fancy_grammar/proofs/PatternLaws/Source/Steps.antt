@@ -99,15 +99,15 @@ or_false true = refl
 or_false false = refl
 
 pub part_on : (u σ : Bool) (c : ℕ) (t s v : Text) → part_at u σ c t ≡ part s v →
-    source_from u σ 0 (c ∷ t) ≡ s ++ source_from u σ 0 v
+    source_from u σ (c ∷ t) ≡ s ++ source_from u σ v
 part_on u σ c t s v e =
     source_goes_on u σ c t
-    ∙ (ap (λ (p : Part). p.source ++ source_from u (σ || p.negated) 0 p.rest) e
-    ∙ ap (λ b. s ++ source_from u b 0 v) (or_false σ))
+    ∙ (ap (λ (p : Part). p.source ++ source_from u (σ || p.negated) p.rest) e
+    ∙ ap (λ b. s ++ source_from u b v) (or_false σ))
 
 single_on : (u σ : Bool) (c : ℕ) (t s v : Text) → replaced_part σ (replaced u) (c ∷ t) ≡ None →
     single_part c t ≡ part s v →
-    source_from u σ 0 (c ∷ t) ≡ s ++ source_from u σ 0 v
+    source_from u σ (c ∷ t) ≡ s ++ source_from u σ v
 single_on u σ c t s v e h = part_on u σ c t s v (ap (λ o. choose o (λ p. p) (single_part c t)) e ∙ h)
 
 -- a character that is no backslash
@@ -121,7 +121,7 @@ single_is c (d ∷ t) h = rw h refl
 -- a character that denotes itself in a class; no negated set of the rows comes after two `&`
 pub char_on : (u σ : Bool) (c : ℕ) (t : Text) → c ∈ "\\[]" ≡ false →
     ((c == code "&") ≡ true → σ ≡ true → NoJoined t) →
-    source_from u σ 0 (c ∷ t) ≡ char_source c ++ source_from u σ 0 t
+    source_from u σ (c ∷ t) ≡ char_source c ++ source_from u σ t
 char_on u σ c t h k =
     let is_not = apart (λ c. c ∈ "\\[]") c h in
     single_on u σ c t (char_source c) t (none (is_not (code "\\") refl) (is_not (code "[") refl))
@@ -136,21 +136,21 @@ char_on u σ c t h k =
             (joint_none u σ t (k e))
         by_test false e = plain_none u σ c t a b e
 
-pub close_on : (u σ : Bool) (t : Text) → source_from u σ 0 (code "]" ∷ t) ≡ code "]" ∷ source_from u σ 0 t
+pub close_on : (u σ : Bool) (t : Text) → source_from u σ (code "]" ∷ t) ≡ code "]" ∷ source_from u σ t
 close_on u σ t = single_on u σ (code "]") t (codes "]") t (plain_none u σ (code "]") t refl refl refl)
     (single_is (code "]") t refl)
 
-caret_on : (u σ : Bool) (t : Text) → source_from u σ 0 (code "^" ∷ t) ≡ code "^" ∷ source_from u σ 0 t
+caret_on : (u σ : Bool) (t : Text) → source_from u σ (code "^" ∷ t) ≡ code "^" ∷ source_from u σ t
 caret_on u σ t = single_on u σ (code "^") t (codes "^") t (plain_none u σ (code "^") t refl refl refl)
     (single_is (code "^") t refl)
 
 -- the opening bracket of a class
 pub open_on : (u σ : Bool) (t : Text) → NoProperty t → strip (code "^") t ≡ None →
-    source_from u σ 0 (code "[" ∷ t) ≡ code "[" ∷ source_from u σ 0 t
+    source_from u σ (code "[" ∷ t) ≡ code "[" ∷ source_from u σ t
 open_on u σ t h k = single_on u σ (code "[") t (codes "[") t (bracket_none u σ t h k) (single_is (code "[") t refl)
 
 pub open_caret_on : (u σ : Bool) (t : Text) → NoProperty t →
-    source_from u σ 0 (codes "[^" ++ t) ≡ codes "[^" ++ source_from u σ 0 t
+    source_from u σ (codes "[^" ++ t) ≡ codes "[^" ++ source_from u σ t
 open_caret_on u σ t h =
     single_on u σ (code "[") (code "^" ∷ t) (codes "[") (code "^" ∷ t) (caret_none u σ t h)
     (single_is (code "[") (code "^" ∷ t) refl)
