@@ -72,7 +72,7 @@ pub(crate) struct Screen<'a, S, O, E> {
     system: &'a S,
     /// When the line is shown next: never, if none.
     due: Option<Instant>,
-    bytes: usize,
+    bytes_in_step: usize,
 }
 
 impl<'a, S: System, O: Write, E: Write> Screen<'a, S, O, E> {
@@ -93,7 +93,7 @@ impl<'a, S: System, O: Write, E: Write> Screen<'a, S, O, E> {
             },
             system,
             due: begin.and_then(first_due),
-            bytes: 0,
+            bytes_in_step: 0,
         }
     }
 
@@ -103,8 +103,8 @@ impl<'a, S: System, O: Write, E: Write> Screen<'a, S, O, E> {
             Keeps (E.contents self.old.err.stream.now) (E.contents self.new.err.stream.now) }
         ensures never { IsNone self.old.due → IsNone self.new.due }
     {
-        self.bytes = (self.bytes % STEP).saturating_add(bytes);
-        if self.bytes >= STEP
+        self.bytes_in_step = (self.bytes_in_step % STEP).saturating_add(bytes);
+        if self.bytes_in_step >= STEP
             && let Ok(now) = Instant::now(self.system)
             && strikes(&mut self.due, now)
         {
