@@ -10,6 +10,7 @@ use std::io::{ErrorKind, Write};
 pub(crate) struct FailingWriter {
     pub(crate) text: Vec<u8>,
     refused: Option<usize>,
+    kind: ErrorKind,
     has_failed: bool,
     is_flushed: bool,
 }
@@ -19,6 +20,7 @@ impl FailingWriter {
         FailingWriter {
             text: Vec::new(alloc),
             refused,
+            kind: ErrorKind::StorageFull,
             has_failed: false,
             is_flushed: true,
         }
@@ -32,7 +34,7 @@ impl FailingWriter {
         self.refused = left.checked_sub(1);
         if left == 0 {
             self.has_failed = true;
-            return Err(io::Error::from(ErrorKind::BrokenPipe));
+            return Err(io::Error::from(self.kind));
         }
         Ok(())
     }
@@ -75,9 +77,18 @@ pub(crate) fn run_failing(
     refused_out: Option<usize>,
     refused_err: Option<usize>,
 ) -> Result<Run, AllocError> {
+    let out = FailingWriter::new(alloc, refused_out);
+    let err = FailingWriter::new(alloc, refused_err);
+    run_on(alloc, words, out, err)
+}
+
+fn run_on(
+    alloc: Global,
+    words: &[&str],
+    mut out: FailingWriter,
+    mut err: FailingWriter,
+) -> Result<Run, AllocError> {
     let words = owned(alloc, words)?;
-    let mut out = FailingWriter::new(alloc, refused_out);
-    let mut err = FailingWriter::new(alloc, refused_err);
     let status = fre_run(alloc, &words, &mut out, &mut err);
     Ok(Run { status, out, err })
 }
@@ -218,6 +229,22 @@ fn refused_writes(rt: HostRuntime) -> Result<(), AllocError> {
     for (words, on_error, status, out, err) in WRITES.iter() {
         let writes = writes(rt.alloc(), words, *on_error, *status, out, err)?;
         assert!(rt; writes.is_some_and(|writes| writes > 0), "{words:?}");
+    }
+    Ok(())
+}
+
+/// Whether a run ends silently whose output is a pipe that is closed before this write, and has written a beginning.
+fn ends_silently(alloc: Global, closed: usize) -> Result<bool, AllocError> {
+    let mut out = FailingWriter::new(alloc, Some(closed));
+    out.kind = ErrorKind::BrokenPipe;
+    let run = run_on(alloc, &["u", "(a|b)c*"], out, FailingWriter::new(alloc, None))?;
+    Ok(run.status == 3 && ACCEPTED.as_bytes().starts_with(&run.out.text) && run.err.text.is_empty())
+}
+
+#[test]
+fn closed_pipes(rt: HostRuntime) -> Result<(), AllocError> {
+    for closed in 0..20 {
+        assert!(rt; ends_silently(rt.alloc(), closed)?, "write {closed}");
     }
     Ok(())
 }

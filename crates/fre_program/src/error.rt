@@ -1,6 +1,7 @@
 //! Why a run has no result.
 use std::alloc::AllocError;
 use std::io;
+use std::io::ErrorKind;
 use thiserror::Error;
 
 #[derive(Debug, Drop, Error)]
@@ -11,4 +12,14 @@ pub(crate) enum ProgramError {
     Memory(#[from(alloc)] AllocError),
     #[error("cannot write")]
     Write(#[from] io::Error),
+}
+
+impl ProgramError {
+    /// Whether nobody reads what the run writes any more, as in `fre u PATTERN | head -1`.
+    pub(crate) fn is_broken_pipe(&self) -> bool {
+        match self {
+            ProgramError::Usage | ProgramError::Memory(_) => false,
+            ProgramError::Write(error) => error.kind() == ErrorKind::BrokenPipe,
+        }
+    }
 }

@@ -72,11 +72,13 @@ fn explain<E: Write>(err: &mut E) -> Result<(), ProgramError> {
     Ok(())
 }
 
-/// Tries to write why the run has no result.
+/// Tries to write why the run has no result, unless that is because the reader of an output closed it.
 fn give_up<E: Write>(err: &mut E, error: ProgramError) -> u8
     ensures { result ≡ 3 }
 {
-    let _ = writeln!(err, "{error}");
+    if !error.is_broken_pipe() {
+        let _ = writeln!(err, "{error}");
+    }
     3
 }
 
@@ -90,8 +92,8 @@ pub fn out_of_memory<E: Write>(err: &mut E) -> u8
 
 /// Runs the program on its arguments, without its name, and returns the exit status: 0 if the pattern is accepted, with
 /// its tree on `out`; 1 if it is invalid, with the error on `err`; 2 if the arguments are not well formed, with the
-/// usage on `err`; 3 if memory ran out or a write failed, which is reported on `err` if that is possible, and `out` may
-/// then have part of the output.
+/// usage on `err`; 3 if memory ran out or a write failed, which is reported on `err` if that is possible, unless the
+/// reader of an output closed it, and `out` may then have part of the output.
 pub fn fre_run<O: Write, E: Write>(alloc: Global, words: &[String], out: &mut O, err: &mut E) -> u8
     ensures accepted { result ≡ 0 → OfWords HasTree words.now }
     ensures refused { result ≡ 1 → OfWords HasError words.now }

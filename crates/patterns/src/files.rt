@@ -1,6 +1,6 @@
 //! The files of the system, its clock, and what the outputs are.
-use patterns_program::progress::{System, Terminals};
-use patterns_program::sources::Sources;
+use patterns_program::sources::{Sources, System, Terminals};
+use std::env::Env;
 use std::fs::File;
 use std::io::{BufReader, IsTerminal, Stdin};
 use std::time::{Clock, Duration};
@@ -36,11 +36,18 @@ impl Clock for Host<'_> {
     }
 }
 
+/// Whether the variable `TERM` says that terminals know no escape codes. It is read without an allocation.
+fn is_dumb(rt: &HostRuntime) -> bool {
+    let mut term = [0; 4];
+    rt.var("TERM", &mut term).is_ok() && term == *b"dumb"
+}
+
 impl System for Host<'_> {
     fn terminals(&self) -> Terminals {
+        let is_dumb = is_dumb(self.rt);
         Terminals {
-            out: self.rt.stdout().is_terminal(),
-            err: self.rt.stderr().is_terminal(),
+            out: !is_dumb && self.rt.stdout().is_terminal(),
+            err: !is_dumb && self.rt.stderr().is_terminal(),
         }
     }
 }

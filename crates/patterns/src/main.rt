@@ -8,7 +8,7 @@ mod words;
 
 use execute::execute;
 use files::Host;
-use patterns_program::progress::{System, Terminals};
+use patterns_program::sources::{System, Terminals};
 use patterns_text::error::{RunError, give_up};
 use patterns_text::paint::{Paint, Paints};
 use std::alloc::AllocError;

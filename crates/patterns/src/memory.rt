@@ -1,6 +1,5 @@
 //! Files, and writers, that lie in memory.
-use patterns_program::progress::{System, Terminals};
-use patterns_program::sources::Sources;
+use patterns_program::sources::{Sources, System, Terminals};
 use std::alloc::Global;
 use std::io;
 use std::io::{BufRead, Chain, ErrorKind, Read, Write};

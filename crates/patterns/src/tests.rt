@@ -42,21 +42,27 @@ a)b
  ^
 ";
 
-/// Whether a run whose output takes so many bytes says that it cannot write, and has written a beginning.
-fn reports_write(alloc: Global, capacity: usize) -> Result<bool, Fail> {
+const NOT_UTF_8: &str = "mixed:4: the line is not valid UTF-8\n";
+
+/// Whether a run whose outputs take so many bytes, and are closed then, ends silently, and has written a beginning.
+fn ends_silently(alloc: Global, capacity: usize) -> Result<bool, Fail> {
     let run = run(
         alloc,
         Paints::both(Paint::Plain),
         &["patterns", "check", "mixed"],
         capacity,
     )?;
-    Ok(run.status == 3 && MIXED.as_bytes().starts_with(&run.out.text))
+    Ok(
+        run.status == 3
+            && MIXED.as_bytes().starts_with(&run.out.text)
+            && NOT_UTF_8.as_bytes().starts_with(&run.err.text),
+    )
 }
 
 #[test]
-fn refused_writes(rt: HostRuntime) -> Result<(), Fail> {
+fn closed_pipes(rt: HostRuntime) -> Result<(), Fail> {
     for capacity in 0..MIXED.len() {
-        assert!(rt; reports_write(rt.alloc(), capacity)?, "{capacity} bytes");
+        assert!(rt; ends_silently(rt.alloc(), capacity)?, "{capacity} bytes");
     }
     Ok(())
 }

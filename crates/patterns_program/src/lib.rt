@@ -12,7 +12,7 @@ mod lint;
 pub mod objects;
 mod outcome;
 pub mod printing;
-pub mod progress;
+mod progress;
 mod reporter;
 pub mod run;
 pub mod sources;

@@ -9,8 +9,8 @@ use crate::lint::lint;
 use crate::objects::{Json, Report};
 use crate::outcome::Outcome;
 use crate::printing::{Comments, format_pattern, is_formatted};
-use crate::progress::{Screen, System};
-use crate::sources::Sources;
+use crate::progress::{STEP, Screen};
+use crate::sources::System;
 use crate::tally::Tally;
 use crate::text::{Stream, Text};
 use crate::values::keys::Keys;
@@ -24,7 +24,6 @@ use patterns_text::position::{Location, Spot};
 use patterns_text::subject::Subject;
 use std::alloc::{AllocError, Global};
 use std::io::{BufRead, ErrorKind, Write};
-use std::time::Clock;
 use std::{io, str};
 
 /// The file name that stands for standard input.
@@ -141,10 +140,10 @@ fn process<O: Write, E: Write>(
 }
 
 /// The same, on a screen.
-fn process_on<C: Clock, O: Write, E: Write>(
+fn process_on<S: System, O: Write, E: Write>(
     subject: Subject<'_>,
     job: Job<'_>,
-    screen: &mut Screen<'_, C, O, E>,
+    screen: &mut Screen<'_, S, O, E>,
     tally: &mut Tally,
 ) -> Result<Outcome, RunError> {
     let Screen { out, err, .. } = screen;
@@ -153,14 +152,15 @@ fn process_on<C: Clock, O: Write, E: Write>(
 
 /// A run over files.
 #[derive(Drop)]
-struct FileRun<'a, C, O, E> {
+struct FileRun<'a, S, O, E> {
     alloc: Global,
     job: Job<'a>,
-    screen: Screen<'a, C, O, E>,
+    sources: &'a S,
+    screen: Screen<'a, S, O, E>,
     tally: Tally,
 }
 
-impl<C: Clock, O: Write, E: Write> FileRun<'_, C, O, E> {
+impl<S: System, O: Write, E: Write> FileRun<'_, S, O, E> {
     /// Says that the line is no text; where lines are formatted, it is written as it was.
     fn pass_over(&mut self, at: Location<'_>, line: &[u8]) -> io::Result<()> {
         writeln!(self.screen.err, "{at}: the line is not valid UTF-8")?;
@@ -197,10 +197,10 @@ impl<C: Clock, O: Write, E: Write> FileRun<'_, C, O, E> {
         }
     }
 
-    /// Counts the outcome of a pattern that has so many bytes.
+    /// Counts the outcome of a pattern that has so many bytes, and an end.
     fn count(&mut self, found: Outcome, bytes: usize) -> io::Result<()> {
         self.tally.add(found);
-        self.screen.end_pattern(bytes, &self.tally)
+        self.screen.go_on(bytes.saturating_add(1), &self.tally)
     }
 
     /// Does the verb's work on each line of a reader.
@@ -271,29 +271,26 @@ impl<C: Clock, O: Write, E: Write> FileRun<'_, C, O, E> {
     }
 
     /// Does the verb's work on each pattern of a file.
-    fn process_file<S: Sources>(&mut self, file: &str, sources: &S) -> Result<Outcome, RunError> {
+    fn process_file(&mut self, file: &str) -> Result<Outcome, RunError> {
         if file == STANDARD_INPUT {
-            return match sources.input() {
+            return match self.sources.input() {
                 Ok(mut input) => self.process_reader(file, &mut input),
                 Err(error) => unread(file, error, &mut self.screen.err),
             };
         }
-        match sources.open(file) {
+        match self.sources.open(file) {
             Ok(mut opened) => self.process_reader(file, &mut opened),
             Err(error) => unread(file, error, &mut self.screen.err),
         }
     }
 
     /// Does the verb's work on each pattern of each file, and sees that it is written.
-    fn process_files<S: Sources>(
-        &mut self,
-        files: &[&str],
-        sources: &S,
-    ) -> Result<Outcome, RunError> {
+    fn process_files(&mut self, files: &[&str]) -> Result<Outcome, RunError> {
         let mut outcome = Outcome::Good;
         for (done, file) in files.iter().enumerate() {
-            self.screen.begin_file(done, &self.tally)?;
-            outcome = outcome.and(self.process_file(file, sources)?);
+            self.tally.done = done;
+            self.screen.go_on(STEP, &self.tally)?;
+            outcome = outcome.and(self.process_file(file)?);
         }
         self.screen.out.flush()?;
         if !self.job.is_quiet {
@@ -325,11 +322,16 @@ pub fn run<S: System, O: Write, E: Write>(
     let mut work = FileRun {
         alloc,
         job,
-        screen: Screen::new(sources, job.is_quiet, files.len(), out, err),
-        tally: Tally::new(),
+        sources,
+        screen: Screen::new(sources, job.is_quiet, out, err),
+        tally: Tally::new(files.len()),
     };
-    match work.process_files(files, sources) {
+    match work.process_files(files) {
         Ok(outcome) => outcome.status(),
-        Err(error) => give_up(&mut work.screen.err, error),
+        Err(error) => {
+            // Erases the line, which stays otherwise if nothing is reported.
+            let _ = work.screen.err.write_all(b"");
+            give_up(&mut work.screen.err, error)
+        }
     }
 }

@@ -1,6 +1,7 @@
-//! Where patterns are read from.
+//! What a run asks the system for.
 use std::io;
 use std::io::BufRead;
+use std::time::Clock;
 
 /// What opens the files of a run.
 pub trait Sources {
@@ -14,4 +15,17 @@ pub trait Sources {
 
     /// The standard input, from its position on.
     fn input(&self) -> io::Result<Self::Input>;
+}
+
+/// Which of the two outputs are terminals that know escape codes.
+#[derive(Clone, Copy)]
+pub struct Terminals {
+    pub out: bool,
+    pub err: bool,
+}
+
+/// What a run asks the system for: files, the time, and what its outputs are.
+pub trait System: Sources + Clock {
+    /// Which of the outputs are terminals.
+    fn terminals(&self) -> Terminals;
 }

@@ -1,12 +1,15 @@
-//! The line that ends a run over files.
+//! What a run over files has met, the line that ends it, and what is said of it before.
 use crate::outcome::Outcome;
 use patterns_lint::chosen::Level;
 use std::fmt;
 
-/// How many patterns a run has met, and with which outcomes.
+/// How many files and patterns a run has met, and with which outcomes.
 #[derive(Clone, Copy)]
 pub(crate) struct Tally {
-    pub(crate) patterns: u64,
+    /// All files, and those that are done.
+    files: usize,
+    pub(crate) done: usize,
+    patterns: u64,
     /// Those that are not as the verb asks.
     failed: u64,
     /// Those among them that are accepted, and would be written otherwise.
@@ -18,8 +21,11 @@ pub(crate) struct Tally {
 }
 
 impl Tally {
-    pub(crate) fn new() -> Tally {
+    /// Of a run over so many files that begins.
+    pub(crate) fn new(files: usize) -> Tally {
         Tally {
+            files,
+            done: 0,
             patterns: 0,
             failed: 0,
             changed: 0,
@@ -58,7 +64,7 @@ impl Tally {
 
 /// A number with commas between the thousands.
 #[derive(Clone, Copy)]
-pub(crate) struct Thousands(pub(crate) u64);
+struct Thousands(u64);
 
 /// What the groups of three digits are multiples of.
 static GROUPS: [u64; 7] = [
@@ -113,5 +119,19 @@ impl fmt::Display for Tally {
             write!(f, ", {}", Counted(self.warnings, "warning"))?;
         }
         Ok(())
+    }
+}
+
+/// How far a run is.
+#[derive(Clone, Copy)]
+pub(crate) struct Progress<'a>(pub(crate) &'a Tally);
+
+impl fmt::Display for Progress<'_> {
+    fn fmt<W: fmt::Write>(&self, f: &mut fmt::Formatter<W>) -> fmt::Result {
+        let Progress(tally) = *self;
+        let done = Thousands(tally.done as u64);
+        let files = Counted(tally.files as u64, "file");
+        let patterns = Counted(tally.patterns, "pattern");
+        write!(f, "{done} of {files}, {patterns}")
     }
 }

@@ -3,7 +3,7 @@ ghost use Rattle.std.specs.Prelude.{◌≡◌};
 
 use std::alloc::AllocError;
 use std::io;
-use std::io::Write;
+use std::io::{ErrorKind, Write};
 use thiserror::Error;
 
 /// Why a run ended before its work was done.
@@ -17,10 +17,23 @@ pub enum RunError {
     Write(#[from] io::Error),
 }
 
-/// Reports on `err`, if that is possible, why the run ends, and returns the exit status for that, 3.
+impl RunError {
+    /// Whether nobody reads what the run writes any more, as in `patterns groups FILE | head -1`.
+    fn is_broken_pipe(&self) -> bool {
+        match self {
+            RunError::Memory(_) => false,
+            RunError::Write(error) => error.kind() == ErrorKind::BrokenPipe,
+        }
+    }
+}
+
+/// Reports on `err`, if that is possible, why the run ends, and returns the exit status for that, 3. Nothing is reported if
+/// the reader of an output closed it.
 pub fn give_up<E: Write>(err: &mut E, error: RunError) -> u8
     ensures status { result ≡ 3 }
 {
-    let _ = writeln!(err, "patterns: {error}");
+    if !error.is_broken_pipe() {
+        let _ = writeln!(err, "patterns: {error}");
+    }
     3
 }
