@@ -39,28 +39,24 @@ const FILES_HELP: &str = "Files with one pattern per line, in UTF-8; - is standa
 
 const NULL_HELP: &str = "A pattern ends with NUL, and not with its line";
 
-const TEXTMATE_HELP: &str =
-    "Each file is JSON, as the grammars of TextMate and VS Code, and
+const TEXTMATE_HELP: &str = "Each file is JSON, as the grammars of TextMate and VS Code, and
 its texts under the keys match, begin, end, while, firstLineMatch,
 foldingStartMarker and foldingStopMarker are the patterns; in
 those under end and while, a back reference such as \\1 refers to
 a group of begin";
 
-const KEYS_HELP: &str =
-    "Each file is JSON, and its texts under these keys are the
+const KEYS_HELP: &str = "Each file is JSON, and its texts under these keys are the
 patterns; with --textmate too, those under its keys are as well";
 
 const JSON_HELP: &str = "Writes JSON, one object per line, to standard output";
 
-const QUIET_HELP: &str =
-    "Shows neither progress nor the final summary on standard error,
+const QUIET_HELP: &str = "Shows neither progress nor the final summary on standard error,
 and no note on a file whose name tells of another format";
 
 /// When to write colours.
 static WHEN: [&str; 3] = ["auto", "always", "never"];
 
-const COLOR_HELP: &str =
-    "When to write colours; auto is to a terminal, unless the
+const COLOR_HELP: &str = "When to write colours; auto is to a terminal, unless the
 environment variable NO_COLOR is set and not empty";
 
 const CHECK_EXAMPLE: &str = r"Example: patterns check dates.txt
@@ -82,8 +78,7 @@ const TREE_EXAMPLE: &str = r#"Example: patterns tree '(a|b)+'
 
 const TREE: &str = "Draws the tree of a pattern, and describes its groups and references";
 
-const SPANS_HELP: &str =
-    "Writes after each node its span, as START..END in byte offsets,
+const SPANS_HELP: &str = "Writes after each node its span, as START..END in byte offsets,
 and its text";
 
 const PICTURE_EXAMPLE: &str =
@@ -91,15 +86,13 @@ const PICTURE_EXAMPLE: &str =
 
 const PICTURE: &str = "Draws the tree of a pattern as a railroad diagram, in SVG";
 
-const HTML_HELP: &str =
-    "Writes a page of HTML with the diagram, the tree, and the groups
+const HTML_HELP: &str = "Writes a page of HTML with the diagram, the tree, and the groups
 and references";
 
 const FORMAT: &str =
     "Writes each pattern in one form, which parses to the same tree under the same flags";
 
-const IS_CHECK_HELP: &str =
-    "Writes no pattern, and reports each line that would change, with
+const IS_CHECK_HELP: &str = "Writes no pattern, and reports each line that would change, with
 the line now and the line then; the exit status is 1 if a line
 would change or a pattern is invalid";
 
@@ -121,8 +114,7 @@ when it is silent.
 --allow, --warn and --deny take the names of rules, with commas between, or all. Each can be given
 several times. Of those that name a rule the last one counts, and all names every rule.";
 
-const MAX_WARNINGS_HELP: &str =
-    "The exit status is 1 if there are more warnings than this";
+const MAX_WARNINGS_HELP: &str = "The exit status is 1 if there are more warnings than this";
 
 const GROUPS: &str = "Lists the groups of each pattern, and what its references and calls refer to";
 

@@ -55,7 +55,10 @@ impl Note {
         if is_extension(extension, "json") {
             return Some(Note::Json);
         }
-        if UNREADABLE.iter().any(|known| is_extension(extension, known)) {
+        if UNREADABLE
+            .iter()
+            .any(|known| is_extension(extension, known))
+        {
             return Some(Note::Unreadable);
         }
         None

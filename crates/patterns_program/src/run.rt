@@ -117,12 +117,7 @@ fn process<O: Write, E: Write>(
     match verb {
         Verb::Check => check(subject, &mut Text::new(out, err, verb.errors())),
         Verb::Format(kept) => {
-            format_pattern(
-                subject,
-                end,
-                kept,
-                &mut Text::new(out, err, verb.errors()),
-            )
+            format_pattern(subject, end, kept, &mut Text::new(out, err, verb.errors()))
         }
         Verb::IsFormatted(kept) => {
             is_formatted(
@@ -376,7 +371,10 @@ impl<C: Clock, O: Write, E: Write> FileRun<'_, C, O, E> {
         match self.job.max_warnings {
             Some(most) if most < self.tally.warnings => {
                 let warnings = Counted(self.tally.warnings, "warning");
-                writeln!(self.screen.err, "patterns: {warnings}, and --max-warnings is {most}")?;
+                writeln!(
+                    self.screen.err,
+                    "patterns: {warnings}, and --max-warnings is {most}"
+                )?;
                 Ok(Outcome::Refused)
             }
             Some(_) | None => Ok(Outcome::Good),

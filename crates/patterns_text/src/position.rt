@@ -26,7 +26,10 @@ impl FilePosition {
     pub fn after(self, text: &str) -> FilePosition {
         match text.rsplit_once('\n') {
             Some((above, before)) => FilePosition {
-                line: self.line.saturating_add(above.matches('\n').count() as u64).saturating_add(1),
+                line: self
+                    .line
+                    .saturating_add(above.matches('\n').count() as u64)
+                    .saturating_add(1),
                 column: column_after(before) as u64,
             },
             None => FilePosition {

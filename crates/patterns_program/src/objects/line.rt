@@ -32,8 +32,8 @@ fn write_spot(alloc: Global, writer: &mut Writer, spot: Spot<'_>) -> Result<(), 
         Spot::Line(line) => write_number(writer, "line", line),
         Spot::Value { position, path, .. } => {
             write_text(writer, "path", format!(in alloc; "{path}")?.as_str())?;
-            write_number(writer, "line", position.line)?;
-            write_number(writer, "column", position.column)
+            write_number(writer, "file_line", position.line)?;
+            write_number(writer, "file_column", position.column)
         }
     }
 }

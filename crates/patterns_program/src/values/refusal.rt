@@ -2,7 +2,7 @@
 use crate::lines::lines_in;
 use crate::values::nesting::Nesting;
 use crate::values::strings::{StringError, string_error};
-use json::{MAX_DEPTH, MAX_LEN, Reader, Scratch};
+use json::{MAX_DEPTH, MAX_LEN, Reader, Scratch, Token};
 use patterns_text::error::RunError;
 use patterns_text::position::{Cut, column_after};
 use std::alloc::{AllocError, Global};
@@ -19,8 +19,16 @@ enum Reason {
     Followed,
     Comment,
     TrailingComma,
-    /// A value or a key follows another without a comma or a colon between.
+    /// A value or a key follows a value without a comma between.
     Unseparated,
+    /// A string is where a key has to be, and no colon follows it.
+    NoColon,
+    /// A value other than a string is where a key has to be.
+    NoKey,
+    /// A key is where a value has to be.
+    NoObject,
+    /// A bracket closes what another kind of bracket has opened, or nothing.
+    Bracket,
     SingleQuote,
     String(StringError),
     Other,
@@ -35,7 +43,11 @@ impl Reason {
             Reason::Followed => ": something follows its value",
             Reason::Comment => ": it has a comment",
             Reason::TrailingComma => ": a comma is before a closing bracket",
-            Reason::Unseparated => ": a comma or a colon is missing",
+            Reason::Unseparated => ": a comma is missing",
+            Reason::NoColon => ": a key has no colon",
+            Reason::NoKey => ": a key is not a string",
+            Reason::NoObject => ": a key is not in an object",
+            Reason::Bracket => ": a closing bracket does not fit",
             Reason::SingleQuote => ": strings are in double quotes",
             Reason::String(StringError::Unclosed) => ": a string has no end in its line",
             Reason::String(StringError::Control) => {
@@ -60,20 +72,20 @@ impl fmt::Display for Reason {
     }
 }
 
-/// Why a character is wrong that comes after these parts of a text of JSON.
+/// Why a character that begins no token is wrong after this part of a text of JSON.
 fn reason_of(found: char, before: &str) -> Reason {
-    match (found, before.trim_end().chars().next_back()) {
-        ('/' | '#', _) => Reason::Comment,
-        ('\'', _) => Reason::SingleQuote,
-        (']' | '}', Some(',')) => Reason::TrailingComma,
-        ('"' | '{' | '[' | '-' | 'a'..='z' | '0'..='9', Some('"' | '}' | ']' | 'a'..='z' | '0'..='9')) => {
-            Reason::Unseparated
-        }
+    let last = before.trim_end().chars().next_back();
+    match found {
+        '/' | '#' => Reason::Comment,
+        '\'' => Reason::SingleQuote,
+        ']' | '}' if last == Some(',') => Reason::TrailingComma,
+        '"' | '{' | '[' | '-' | 'a'..='z' | '0'..='9'
+            if !matches!(last, Some(',' | ':' | '{' | '[')) => { Reason::Unseparated }
         _ => Reason::Other,
     }
 }
 
-/// Where and why a token is wrong that begins at this byte offset.
+/// Where and why no token begins at this byte offset.
 fn reason_at(text: &str, start: usize) -> (usize, Reason) {
     let (before, after) = text.split_at(text.floor_char_boundary(start));
     if let Some((at, error)) = after.strip_prefix('"').and_then(string_error) {
@@ -91,6 +103,18 @@ fn reason_at(text: &str, start: usize) -> (usize, Reason) {
     }
 }
 
+/// Where and why a token is wrong that begins at this byte offset.
+fn reason_for(token: Token<'_>, text: &str, start: usize) -> (usize, Reason) {
+    match token {
+        Token::Bad => reason_at(text, start),
+        Token::String(_) => (start, Reason::NoColon),
+        Token::Key(_) => (start, Reason::NoObject),
+        Token::EndObject | Token::EndArray => (start, Reason::Bracket),
+        Token::BeginObject | Token::BeginArray | Token::Number(_) | Token::Bool(_) | Token::Null =>
+            (start, Reason::NoKey),
+    }
+}
+
 /// The byte offset up to which a text is JSON that nests at most 128 deep, and why not further.
 fn end_of_json(alloc: Global, text: &str) -> Result<(usize, Reason), AllocError> {
     let mut scratch = Scratch::new(alloc);
@@ -101,11 +125,12 @@ fn end_of_json(alloc: Global, text: &str) -> Result<(usize, Reason), AllocError>
         let Some(token) = reader.next() else {
             break;
         };
-        if nesting.is_complete() {
-            return Ok((start, Reason::Followed));
-        }
         if !nesting.takes(token) {
-            return Ok(reason_at(text, start));
+            let (position, reason) = reason_for(token, text, start);
+            if nesting.is_complete() && !matches!(reason, Reason::Comment) {
+                return Ok((start, Reason::Followed));
+            }
+            return Ok((position, reason));
         }
         nesting.pass(token)?;
         if nesting.depth() > MAX_DEPTH {
