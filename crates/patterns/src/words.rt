@@ -51,13 +51,14 @@ patterns; with --textmate too, those under its keys are as well";
 const JSON_HELP: &str = "Writes JSON, one object per line, to standard output";
 
 const QUIET_HELP: &str = "Shows neither progress nor the final summary on standard error,
-and no note on a file whose name tells of another format";
+and no note on a file whose name is that of another format";
 
 /// When to write colours.
 static WHEN: [&str; 3] = ["auto", "always", "never"];
 
 const COLOR_HELP: &str = "When to write colours; auto is to a terminal, unless the
-environment variable NO_COLOR is set and not empty";
+environment variable NO_COLOR is set and
+not empty";
 
 const CHECK_EXAMPLE: &str = r"Example: patterns check dates.txt
 

@@ -22,21 +22,20 @@ impl FileFormat<'_> {
         }
     }
 
-    /// What is to be said of a file that is read so, if its name tells that it consists of no lines of patterns.
-    pub(crate) fn note(self, file: &str) -> Option<Note> {
+    /// The other format that a file has by its name, if it is read as lines of patterns.
+    pub(crate) fn other_format(self, file: &str) -> Option<OtherFormat> {
         let FileFormat::Records(Ending::Line) = self else {
             return None;
         };
-        Note::on(file)
+        OtherFormat::of(file)
     }
 }
 
-/// What is said of a file whose lines are read as patterns, and whose name tells of another format.
+/// A format of files that do not consist of lines of patterns.
 #[derive(Clone, Copy)]
-pub(crate) enum Note {
-    /// It is JSON.
+pub(crate) enum OtherFormat {
     Json,
-    /// It is a property list or YAML.
+    /// A property list or YAML, which no option reads.
     Unreadable,
 }
 
@@ -48,29 +47,30 @@ fn is_extension(extension: &str, known: &str) -> bool {
     extension.eq_ignore_ascii_case(known)
 }
 
-impl Note {
-    /// What is said of a file of this name.
-    fn on(file: &str) -> Option<Note> {
+impl OtherFormat {
+    /// That of a file of this name.
+    fn of(file: &str) -> Option<OtherFormat> {
         let extension = Path::new(file).extension()?;
         if is_extension(extension, "json") {
-            return Some(Note::Json);
+            return Some(OtherFormat::Json);
         }
         if UNREADABLE
             .iter()
             .any(|known| is_extension(extension, known))
         {
-            return Some(Note::Unreadable);
+            return Some(OtherFormat::Unreadable);
         }
         None
     }
 }
 
-impl fmt::Display for Note {
+/// How a file of this format is read, and how it can be read.
+impl fmt::Display for OtherFormat {
     fn fmt<W: fmt::Write>(&self, f: &mut fmt::Formatter<W>) -> fmt::Result {
         f.write_str("each line is read as a pattern; ")?;
         f.write_str(match self {
-            Note::Json => "with --textmate or --keys, check, lint and groups read JSON",
-            Note::Unreadable => "no option reads this format",
+            OtherFormat::Json => "with --textmate or --keys, check, lint and groups read JSON",
+            OtherFormat::Unreadable => "no option reads this format",
         })
     }
 }

@@ -4,7 +4,7 @@ use std::io;
 use std::io::{BufRead, Chain, Read};
 
 /// The byte order mark, U+FEFF, which some editors put at the start of a file.
-pub(crate) const MARK: &[u8] = b"\xEF\xBB\xBF";
+pub(crate) const BOM: &[u8] = b"\xEF\xBB\xBF";
 
 /// What ends a record.
 #[derive(Clone, Copy)]
@@ -61,7 +61,7 @@ pub(crate) fn next_record<'b, R: BufRead>(
 /// The start of a reader: whether it is the byte order mark, and if not, its bytes, which are still to be read.
 #[derive(Drop)]
 pub(crate) struct Start {
-    pub(crate) has_mark: bool,
+    pub(crate) has_bom: bool,
     unread: Vec<u8>,
 }
 
@@ -69,15 +69,15 @@ impl Start {
     /// Takes the start off the reader.
     pub(crate) fn take<R: BufRead>(alloc: Global, reader: &mut R) -> io::Result<Start> {
         let mut unread = Vec::new(alloc);
-        reader.take(MARK.len() as u64).read_to_end(&mut unread)?;
-        let has_mark = unread.as_slice() == MARK;
-        if has_mark {
+        reader.take(BOM.len() as u64).read_to_end(&mut unread)?;
+        let has_bom = unread.as_slice() == BOM;
+        if has_bom {
             unread.clear();
         }
-        Ok(Start { has_mark, unread })
+        Ok(Start { has_bom, unread })
     }
 
-    /// The reader from its start on, or from past the mark.
+    /// The reader from its start on, or from past the byte order mark.
     pub(crate) fn chain<'s, R: BufRead>(&'s self, reader: &'s mut R) -> Chain<&'s [u8], &'s mut R> {
         self.unread.as_slice().chain(reader)
     }

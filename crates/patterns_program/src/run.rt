@@ -4,7 +4,7 @@ ghost use Rattle.std.specs.Prelude.{◌≤◌};
 use crate::check::check;
 use crate::form::FileFormat;
 use crate::groups::list_groups;
-use crate::lines::{MARK, Record, Start, lines_in, next_record};
+use crate::lines::{BOM, Record, Start, lines_in, next_record};
 use crate::lint::lint;
 use crate::objects::{Json, Report};
 use crate::outcome::Outcome;
@@ -55,8 +55,8 @@ pub struct Job<'a> {
     pub verb: Verb,
     pub flags: u32,
     pub form: FileFormat<'a>,
-    /// Whether the run says neither how far it is nor, at its end, what the outcomes of the patterns are; and nothing of files
-    /// whose names tell of another format.
+    /// Whether the run says neither how far it is nor, at its end, what the outcomes of the patterns are; and not
+    /// that a file is read as lines whose name is that of a file of another format.
     pub is_quiet: bool,
     /// How many warnings of `lint` the run may have, if that is limited.
     pub max_warnings: Option<u64>,
@@ -209,9 +209,9 @@ impl<C: Clock, O: Write, E: Write> FileRun<'_, C, O, E> {
 
     /// Writes the byte order mark of a file that is formatted, if nothing is written yet: in the middle of the output it would
     /// be part of a pattern.
-    fn write_mark(&mut self) -> io::Result<()> {
+    fn write_bom(&mut self) -> io::Result<()> {
         if let (true, Written::Nothing) = (self.job.verb.writes_patterns(), self.written) {
-            self.screen.out.write_all(MARK)?;
+            self.screen.out.write_all(BOM)?;
         }
         Ok(())
     }
@@ -287,8 +287,8 @@ impl<C: Clock, O: Write, E: Write> FileRun<'_, C, O, E> {
             Ok(start) => start,
             Err(error) => return unread(file, error, &mut self.screen.err),
         };
-        if start.has_mark {
-            self.write_mark()?;
+        if start.has_bom {
+            self.write_bom()?;
         }
         self.process_records(file, &mut start.chain(reader))
     }
@@ -326,13 +326,13 @@ impl<C: Clock, O: Write, E: Write> FileRun<'_, C, O, E> {
         Ok(outcome)
     }
 
-    /// Says how the file is read, if its name tells of another format.
-    fn write_note(&mut self, file: &str) -> io::Result<()> {
+    /// Says how the file is read, if its name is that of a file of another format.
+    fn write_other_format(&mut self, file: &str) -> io::Result<()> {
         if self.job.is_quiet {
             return Ok(());
         }
-        if let Some(note) = self.job.form.note(file) {
-            writeln!(self.screen.err, "patterns: {file}: {note}")?;
+        if let Some(format) = self.job.form.other_format(file) {
+            writeln!(self.screen.err, "patterns: {file}: {format}")?;
         }
         Ok(())
     }
@@ -359,7 +359,7 @@ impl<C: Clock, O: Write, E: Write> FileRun<'_, C, O, E> {
         }
         match sources.open(file) {
             Ok(mut opened) => {
-                self.write_note(file)?;
+                self.write_other_format(file)?;
                 self.process_reader(file, &mut opened)
             }
             Err(error) => unread(file, error, &mut self.screen.err),

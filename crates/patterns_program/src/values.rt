@@ -5,7 +5,7 @@ mod refusal;
 mod strings;
 pub(crate) mod trail;
 
-use crate::lines::MARK;
+use crate::lines::BOM;
 use crate::values::refusal::{write_not_text, write_refusal, write_too_long};
 use json::{MAX_LEN, Scratch, is_valid};
 use patterns_text::error::RunError;
@@ -21,7 +21,7 @@ pub(crate) fn text_of<'a, E: Write>(
     bytes: &'a [u8],
     err: &mut E,
 ) -> Result<Option<&'a str>, RunError> {
-    let bytes = bytes.strip_prefix(MARK).unwrap_or(bytes);
+    let bytes = bytes.strip_prefix(BOM).unwrap_or(bytes);
     let text = match str::from_utf8(bytes) {
         Ok(text) => text,
         Err(error) => {

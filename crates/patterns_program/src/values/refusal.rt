@@ -35,7 +35,7 @@ enum Reason {
 }
 
 impl Reason {
-    /// What is wrong, in words; nothing where only the position tells.
+    /// What is wrong, in words; nothing where there is only a position.
     fn text(self) -> &'static str {
         match self {
             Reason::TooDeep | Reason::Other => "",
