@@ -66,10 +66,12 @@ pub(crate) struct Start {
 }
 
 impl Start {
-    /// Takes the start off the reader.
+    /// Takes the start off the reader. It waits for no more than the first byte, unless that is one of the mark.
     pub(crate) fn take<R: BufRead>(alloc: Global, reader: &mut R) -> io::Result<Start> {
         let mut unread = Vec::new(alloc);
-        reader.take(BOM.len() as u64).read_to_end(&mut unread)?;
+        if reader.fill_buf()?.first() == BOM.first() {
+            reader.take(BOM.len() as u64).read_to_end(&mut unread)?;
+        }
         let has_bom = unread.as_slice() == BOM;
         if has_bom {
             unread.clear();

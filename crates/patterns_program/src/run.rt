@@ -158,7 +158,7 @@ fn process_on<C: Clock, O: Write, E: Write>(
 #[derive(Clone, Copy)]
 enum Written {
     Nothing,
-    /// The last pattern with its end.
+    /// A byte order mark, or the last pattern with its end.
     Ended,
     /// The last pattern, which had no end: the last one of its file.
     Unended,
@@ -212,6 +212,7 @@ impl<C: Clock, O: Write, E: Write> FileRun<'_, C, O, E> {
     fn write_bom(&mut self) -> io::Result<()> {
         if let (true, Written::Nothing) = (self.job.verb.writes_patterns(), self.written) {
             self.screen.out.write_all(BOM)?;
+            self.written = Written::Ended;
         }
         Ok(())
     }
