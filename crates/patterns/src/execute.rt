@@ -1,7 +1,8 @@
 //! What the program does with its arguments.
 use crate::rules::{rule_names, rules_chosen};
 use crate::words::{
-    canvas_chosen, command, flags_chosen, form_chosen, look_chosen, paints_chosen, verb_chosen,
+    canvas_chosen, command, flags_chosen, form_chosen, look_chosen, max_warnings_chosen,
+    paints_chosen, verb_chosen,
 };
 use clap::error::ErrorKind;
 use clap::{ArgMatches, Error};
@@ -93,6 +94,7 @@ impl<S: System, O: Write, E: Write> ProgramCall<'_, S, O, E> {
             flags,
             form: form_chosen(matches),
             is_quiet: matches.get_flag("quiet"),
+            max_warnings: max_warnings_chosen(matches),
             paints: paints_chosen(matches, self.auto),
         };
         Ok(run(self.alloc, job, files, self.sources, self.out, self.err))
@@ -105,7 +107,7 @@ impl<S: System, O: Write, E: Write> ProgramCall<'_, S, O, E> {
             self.out.flush()?;
             return Ok(0);
         }
-        let chosen = rules_chosen(matches);
+        let chosen = rules_chosen(self.alloc, matches)?;
         let verb = if matches.get_flag("json") {
             Verb::LintJson(chosen)
         } else {

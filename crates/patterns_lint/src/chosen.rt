@@ -1,5 +1,5 @@
 //! Which rules of `lint` speak, and how.
-ghost use Rattle.std.specs.Prelude.{◌≡◌, Contains};
+ghost use Rattle.std.specs.Prelude.{◌≡◌, Contains, replicate};
 
 use crate::rule::Rule;
 
@@ -39,6 +39,13 @@ impl Chosen {
             .get(rule as usize)
             .copied()
             .unwrap_or(Level::Warn)
+    }
+
+    /// Gives every rule this level.
+    pub fn set_all(&mut self, level: Level)
+        ensures { self.new.levels ≡ replicate 14 level }
+    {
+        self.levels = [level; 14];
     }
 
     /// Gives the rule this level.

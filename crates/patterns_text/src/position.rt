@@ -9,6 +9,37 @@ use std::io::Write;
 use std::{fmt, io};
 use unicode_width::UnicodeWidthStr;
 
+/// A position in a file.
+#[derive(Clone, Copy)]
+pub struct FilePosition {
+    /// The line, from 1.
+    pub line: u64,
+    /// The column in the line, from 1.
+    pub column: u64,
+}
+
+impl FilePosition {
+    /// The start of a file.
+    pub const START: FilePosition = FilePosition { line: 1, column: 1 };
+
+    /// The position after a text that begins here.
+    pub fn after(self, text: &str) -> FilePosition {
+        match text.rsplit_once('\n') {
+            Some((above, before)) => FilePosition {
+                line: self
+                    .line
+                    .saturating_add(above.matches('\n').count() as u64)
+                    .saturating_add(1),
+                column: column_after(before) as u64,
+            },
+            None => FilePosition {
+                line: self.line,
+                column: self.column.saturating_add(text.width() as u64),
+            },
+        }
+    }
+}
+
 /// Where a pattern is in its file.
 #[derive(Clone, Copy)]
 pub enum Spot<'a> {
@@ -16,6 +47,8 @@ pub enum Spot<'a> {
     Line(u64),
     /// It is a value of JSON.
     Value {
+        /// Where its quote is.
+        position: FilePosition,
         path: Path<'a>,
         /// Whether a number in a back reference is that of a group of another pattern, the `begin` beside this one.
         refers_to_begin: bool,
@@ -76,15 +109,25 @@ pub struct LineOf<'a> {
     lines: usize,
 }
 
-/// The file and the line; of a value of JSON the file, the path, and the line in the pattern if that is not the first.
+impl fmt::Display for FilePosition {
+    fn fmt<W: fmt::Write>(&self, f: &mut fmt::Formatter<W>) -> fmt::Result {
+        write!(f, "{}:{}", self.line, self.column)
+    }
+}
+
+/// The file and the line; of a value of JSON the file, the position there, the path, and the line in the pattern if that is
+/// not the first.
 impl fmt::Display for LineOf<'_> {
     fn fmt<W: fmt::Write>(&self, f: &mut fmt::Formatter<W>) -> fmt::Result {
         let file = self.at.file;
         match self.at.spot {
             Spot::Line(line) => write!(f, "{file}:{}", line.saturating_add(self.lines as u64)),
-            Spot::Value { path, .. } if self.lines == 0 => write!(f, "{file}:{path}"),
-            Spot::Value { path, .. } => {
-                write!(f, "{file}:{path}:{}", self.lines.saturating_add(1))
+            Spot::Value { position, path, .. } if self.lines == 0 => {
+                write!(f, "{file}:{position}: {path}")
+            }
+            Spot::Value { position, path, .. } => {
+                let line = self.lines.saturating_add(1);
+                write!(f, "{file}:{position}: {path}:{line}")
             }
         }
     }

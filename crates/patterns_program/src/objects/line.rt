@@ -26,12 +26,14 @@ pub(crate) fn write_bool(writer: &mut Writer, name: &str, is_so: bool) -> Result
     writer.boolean(is_so)
 }
 
-/// Writes the field that says where in its file a pattern is.
+/// Writes the fields that say where in its file a pattern is.
 fn write_spot(alloc: Global, writer: &mut Writer, spot: Spot<'_>) -> Result<(), AllocError> {
     match spot {
         Spot::Line(line) => write_number(writer, "line", line),
-        Spot::Value { path, .. } => {
-            write_text(writer, "path", format!(in alloc; "{path}")?.as_str())
+        Spot::Value { position, path, .. } => {
+            write_text(writer, "path", format!(in alloc; "{path}")?.as_str())?;
+            write_number(writer, "file_line", position.line)?;
+            write_number(writer, "file_column", position.column)
         }
     }
 }
