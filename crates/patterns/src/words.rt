@@ -78,6 +78,9 @@ const TREE: &str = "Draws the tree of a pattern, and describes its groups and re
 const SPANS_HELP: &str =
     "Writes after each node its span, as START..END in byte offsets, and its text";
 
+const ALL_HELP: &str =
+    "Draws each node in its own line; otherwise adjacent letters are drawn as one literal";
+
 const PICTURE_EXAMPLE: &str =
     r"Example: patterns picture '(?<year>\d{4})-(?<month>\d\d)' >date.svg";
 
@@ -237,6 +240,10 @@ fn tree_command<'a>(alloc: Global) -> Result<Command<'a>, AllocError> {
         .long("spans")
         .action(ArgAction::SetTrue)
         .help(SPANS_HELP);
+    let all = Arg::new(alloc, "all")
+        .long("all")
+        .action(ArgAction::SetTrue)
+        .help(ALL_HELP);
     Command::new(alloc, "tree")
         .about(TREE)
         .before_help(TREE_EXAMPLE)
@@ -244,6 +251,7 @@ fn tree_command<'a>(alloc: Global) -> Result<Command<'a>, AllocError> {
         .arg(flags_arg(alloc))?
         .arg(ascii)?
         .arg(spans)?
+        .arg(all)?
         .arg(json_arg(alloc))?
         .arg(pattern_arg(alloc))
 }
@@ -386,6 +394,7 @@ pub(crate) fn look_chosen(matches: &ArgMatches<'_>) -> Look {
     Look {
         style,
         has_spans: matches.get_flag("spans"),
+        has_each_literal: matches.get_flag("all"),
     }
 }
 

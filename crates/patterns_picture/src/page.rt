@@ -51,6 +51,7 @@ fn write_drawn_tree<O: Write>(
     let look = Look {
         style: Style::Lines,
         has_spans: false,
+        has_each_literal: false,
     };
     let mut text = Vec::new(subject.alloc);
     write_tree(subject, look, parsed, &mut text)?;
