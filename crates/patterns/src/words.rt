@@ -1,7 +1,8 @@
 //! The arguments of the program.
+use clap::builder::ValueParser;
 use clap::{Arg, ArgAction, ArgMatches, Command};
 use fre_program::flag_word::flags_named;
-use patterns_picture::picture::Canvas;
+use patterns_picture::picture::{Canvas, WIDTH};
 use patterns_program::form::FileFormat;
 use patterns_program::lines::Ending;
 use patterns_program::objects::Report;
@@ -81,6 +82,11 @@ const SPANS_HELP: &str =
 const ALL_HELP: &str =
     "Draws each node in its own line; otherwise adjacent letters are drawn as one literal";
 
+const POSITION_HELP: &str =
+    "Reads the pattern from a file, at a position as reports write it: FILE:LINE, or FILE:PATH for a text of JSON, such as \
+grammar.json:patterns[0].match; columns may follow. A FILE without more has one line; - is standard input. FILE is the \
+longest beginning that names a file, so it may have colons";
+
 const PICTURE_EXAMPLE: &str =
     r"Example: patterns picture '(?<year>\d{4})-(?<month>\d\d)' >date.svg";
 
@@ -88,6 +94,9 @@ const PICTURE: &str = "Draws the tree of a pattern as a railroad diagram, in SVG
 
 const HTML_HELP: &str =
     "Writes a page of HTML with the diagram, the tree, and the groups and references";
+
+const WIDTH_HELP: &str =
+    "Breaks rows of the diagram into lines that fit in so many pixels; a box that is wider by itself stays so";
 
 const FORMAT: &str =
     "Writes each pattern in one form, which parses to the same tree under the same flags";
@@ -220,11 +229,19 @@ fn json_arg<'a>(alloc: Global) -> Arg<'a> {
         .help(JSON_HELP)
 }
 
-fn pattern_arg<'a>(alloc: Global) -> Arg<'a> {
-    Arg::new(alloc, "pattern")
+/// The two arguments of which one gives the pattern.
+fn with_pattern<'a>(alloc: Global, command: Command<'a>) -> Result<Command<'a>, AllocError> {
+    let file = Arg::new(alloc, "file")
+        .long("file")
+        .value_name("POSITION")
+        .allow_hyphen_values(true)
+        .help(POSITION_HELP)
+        .conflicts_with("pattern")?;
+    let pattern = Arg::new(alloc, "pattern")
         .value_name("PATTERN")
-        .required(true)
-        .help("The pattern; put -- before one that begins with -")
+        .required_unless_present("file")?
+        .help("The pattern; put -- before one that begins with -");
+    command.arg(file)?.arg(pattern)
 }
 
 fn check_command<'a>(alloc: Global) -> Result<Command<'a>, AllocError> {
@@ -244,7 +261,7 @@ fn tree_command<'a>(alloc: Global) -> Result<Command<'a>, AllocError> {
         .long("all")
         .action(ArgAction::SetTrue)
         .help(ALL_HELP);
-    Command::new(alloc, "tree")
+    let command = Command::new(alloc, "tree")
         .about(TREE)
         .before_help(TREE_EXAMPLE)
         .after_help(LETTERS)
@@ -252,8 +269,8 @@ fn tree_command<'a>(alloc: Global) -> Result<Command<'a>, AllocError> {
         .arg(ascii)?
         .arg(spans)?
         .arg(all)?
-        .arg(json_arg(alloc))?
-        .arg(pattern_arg(alloc))
+        .arg(json_arg(alloc))?;
+    with_pattern(alloc, command)
 }
 
 fn picture_command<'a>(alloc: Global) -> Result<Command<'a>, AllocError> {
@@ -261,13 +278,20 @@ fn picture_command<'a>(alloc: Global) -> Result<Command<'a>, AllocError> {
         .long("html")
         .action(ArgAction::SetTrue)
         .help(HTML_HELP);
-    Command::new(alloc, "picture")
+    let width = Arg::new(alloc, "width")
+        .long("width")
+        .value_name("PIXELS")
+        .value_parser(ValueParser::unsigned(1, u32::MAX as u64))
+        .default_value("960")
+        .help(WIDTH_HELP);
+    let command = Command::new(alloc, "picture")
         .about(PICTURE)
         .before_help(PICTURE_EXAMPLE)
         .after_help(LETTERS)
         .arg(flags_arg(alloc))?
         .arg(html)?
-        .arg(pattern_arg(alloc))
+        .arg(width)?;
+    with_pattern(alloc, command)
 }
 
 fn format_command<'a>(alloc: Global) -> Result<Command<'a>, AllocError> {
@@ -405,6 +429,11 @@ pub(crate) fn canvas_chosen(matches: &ArgMatches<'_>) -> Canvas {
     } else {
         Canvas::Svg
     }
+}
+
+/// How wide a picture may be, as the arguments choose, in pixels.
+pub(crate) fn width_chosen(matches: &ArgMatches<'_>) -> usize {
+    matches.get_one("width").unwrap_or(WIDTH)
 }
 
 /// The flags that the arguments choose; none if the letters are wrong.

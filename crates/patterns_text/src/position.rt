@@ -14,6 +14,8 @@ use unicode_width::UnicodeWidthStr;
 pub enum Spot<'a> {
     /// Its first line has this number, counted from 1.
     Line(u64),
+    /// It is the value of JSON at the path that is written so.
+    Path(&'a str),
     /// It is a value of JSON.
     Value {
         path: Path<'a>,
@@ -36,13 +38,18 @@ pub struct Location<'a> {
 
 impl<'a> Location<'a> {
     /// Where a pattern is, without colours.
-    pub fn plain(file: &'a str, line: u64) -> Location<'a> {
+    pub fn at(file: &'a str, spot: Spot<'a>) -> Location<'a> {
         Location {
             file,
-            spot: Spot::Line(line),
+            spot,
             reported: Paint::Plain,
             listed: Paint::Plain,
         }
+    }
+
+    /// The line where a pattern is, without colours.
+    pub fn plain(file: &'a str, line: u64) -> Location<'a> {
+        Location::at(file, Spot::Line(line))
     }
 
     /// The line of the pattern that is so many lines below its first.
@@ -82,6 +89,8 @@ impl fmt::Display for LineOf<'_> {
         let file = self.at.file;
         match self.at.spot {
             Spot::Line(line) => write!(f, "{file}:{}", line.saturating_add(self.lines as u64)),
+            Spot::Path(path) if self.lines == 0 => write!(f, "{file}:{path}"),
+            Spot::Path(path) => write!(f, "{file}:{path}:{}", self.lines.saturating_add(1)),
             Spot::Value { path, .. } if self.lines == 0 => write!(f, "{file}:{path}"),
             Spot::Value { path, .. } => {
                 write!(f, "{file}:{path}:{}", self.lines.saturating_add(1))

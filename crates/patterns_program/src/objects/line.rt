@@ -30,6 +30,7 @@ pub(crate) fn write_bool(writer: &mut Writer, name: &str, is_so: bool) -> Result
 fn write_spot(alloc: Global, writer: &mut Writer, spot: Spot<'_>) -> Result<(), AllocError> {
     match spot {
         Spot::Line(line) => write_number(writer, "line", line),
+        Spot::Path(path) => write_text(writer, "path", path),
         Spot::Value { path, .. } => {
             write_text(writer, "path", format!(in alloc; "{path}")?.as_str())
         }

@@ -19,6 +19,11 @@ impl<'a> Trail<'a> {
         }
     }
 
+    /// The path of the node that the walk has come to.
+    pub(crate) fn path(&self) -> Path<'_> {
+        Path { steps: &self.steps }
+    }
+
     /// Where the node is that the walk has come to, if it is a text under one of the keys, and that text.
     pub(crate) fn pattern(&self, node: Node<'a>, keys: Keys<'_>) -> Option<(Spot<'_>, &'a str)> {
         let Node::String(text) = node else {
@@ -27,7 +32,7 @@ impl<'a> Trail<'a> {
         match self.steps.last() {
             Some(PathStep::Member(key)) if keys.has(key) => {
                 let spot = Spot::Value {
-                    path: Path { steps: &self.steps },
+                    path: self.path(),
                     refers_to_begin: keys.refers_to_begin(key),
                 };
                 Some((spot, text))
