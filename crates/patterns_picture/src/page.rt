@@ -19,7 +19,7 @@ pre { font: 14px ui-monospace, Menlo, 'DejaVu Sans Mono', 'Liberation Mono', mon
 h2 { font-size: 18px }
 table { border-collapse: collapse }
 th, td { border: 1px solid #8c959f; padding: 4px 8px; text-align: left }
-code { font: 14px ui-monospace, Menlo, 'DejaVu Sans Mono', 'Liberation Mono', monospace }
+code { font: 14px ui-monospace, Menlo, 'DejaVu Sans Mono', 'Liberation Mono', monospace; white-space: pre-wrap }
 .wide { overflow-x: auto }
 @media (prefers-color-scheme: dark) { body { color: #e6edf3; background: #0d1117 } }
 </style>

@@ -1,4 +1,6 @@
 //! A pattern of a file, chosen by its position as reports write it.
+ghost use Rattle.std.specs.Prelude.{◌≡◌};
+
 use crate::lines::{Ending, next_record};
 use crate::run::{STANDARD_INPUT, unread};
 use crate::sources::Sources;
@@ -22,7 +24,9 @@ pub struct FilePattern<'a> {
 
 impl FilePattern<'_> {
     /// The pattern, and what is needed to parse it under the flags and to report on it.
-    pub fn subject(&self, alloc: Global, flags: u32) -> Subject<'_> {
+    pub fn subject(&self, alloc: Global, flags: u32) -> Subject<'_>
+        ensures flags { result.flags ≡ flags }
+    {
         Subject {
             alloc,
             flags,
