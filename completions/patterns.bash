@@ -12,8 +12,8 @@ _patterns() {
     esac
     case ${COMP_WORDS[1]} in
         check) options='--flags -z --null-data --quiet --color --textmate --keys --json -h --help' ;;
-        tree) options='--flags --ascii --spans --json -h --help' ;;
-        picture) options='--flags --html -h --help' ;;
+        tree) options='--flags --ascii --spans --all --json --file -h --help' ;;
+        picture) options='--flags --html --width --file -h --help' ;;
         lint) options='--flags -z --null-data --quiet --color --textmate --keys --allow --warn --deny --max-warnings --json --rules -h --help' ;;
         format) options='--flags -z --null-data --quiet --color --check --drop-comments -h --help' ;;
         groups) options='--flags -z --null-data --quiet --color --textmate --keys --json -h --help' ;;

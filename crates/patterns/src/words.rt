@@ -1,7 +1,8 @@
 //! The arguments of the program.
+use clap::builder::ValueParser;
 use clap::{Arg, ArgAction, ArgMatches, Command, value_parser};
 use fre_program::flag_word::flags_named;
-use patterns_picture::picture::Canvas;
+use patterns_picture::picture::{Canvas, WIDTH};
 use patterns_program::form::FileFormat;
 use patterns_program::lines::Ending;
 use patterns_program::objects::Report;
@@ -82,6 +83,15 @@ const TREE: &str = "Draws the tree of a pattern, and describes its groups and re
 const SPANS_HELP: &str = "Writes after each node its span, as START..END in byte offsets,
 and its text";
 
+const ALL_HELP: &str = "Draws each node in its own line; otherwise adjacent letters are
+drawn as one literal";
+
+const POSITION_HELP: &str = "Reads the pattern from a file, at a position: FILE:LINE, or for a
+text of JSON FILE:PATH, as in grammar.json:patterns[0].match; also
+with the columns, or the line and column of a text of JSON, that
+reports write. FILE alone has one line; - is standard input. FILE is
+the longest beginning that names a file, so it may have colons";
+
 const PICTURE_EXAMPLE: &str =
     r"Example: patterns picture '(?<year>\d{4})-(?<month>\d\d)' >date.svg";
 
@@ -89,6 +99,9 @@ const PICTURE: &str = "Draws the tree of a pattern as a railroad diagram, in SVG
 
 const HTML_HELP: &str = "Writes a page of HTML with the diagram, the tree, and the groups
 and references";
+
+const WIDTH_HELP: &str = "Breaks rows of the diagram into lines that fit in so many pixels; a
+box that is wider by itself stays so";
 
 const FORMAT: &str =
     "Writes each pattern in one form, which parses to the same tree under the same flags";
@@ -233,11 +246,19 @@ fn json_arg<'a>(alloc: Global) -> Arg<'a> {
         .help(JSON_HELP)
 }
 
-fn pattern_arg<'a>(alloc: Global) -> Arg<'a> {
-    Arg::new(alloc, "pattern")
+/// The two arguments of which one gives the pattern.
+fn with_pattern<'a>(alloc: Global, command: Command<'a>) -> Result<Command<'a>, AllocError> {
+    let file = Arg::new(alloc, "file")
+        .long("file")
+        .value_name("POSITION")
+        .allow_hyphen_values(true)
+        .help(POSITION_HELP)
+        .conflicts_with("pattern")?;
+    let pattern = Arg::new(alloc, "pattern")
         .value_name("PATTERN")
-        .required(true)
-        .help("The pattern; put -- before one that begins with -")
+        .required_unless_present("file")?
+        .help("The pattern; put -- before one that begins with -");
+    command.arg(file)?.arg(pattern)
 }
 
 fn check_command<'a>(alloc: Global) -> Result<Command<'a>, AllocError> {
@@ -253,15 +274,20 @@ fn tree_command<'a>(alloc: Global) -> Result<Command<'a>, AllocError> {
         .long("spans")
         .action(ArgAction::SetTrue)
         .help(SPANS_HELP);
-    Command::new(alloc, "tree")
+    let all = Arg::new(alloc, "all")
+        .long("all")
+        .action(ArgAction::SetTrue)
+        .help(ALL_HELP);
+    let command = Command::new(alloc, "tree")
         .about(TREE)
         .before_help(TREE_EXAMPLE)
         .after_help(LETTERS)
         .arg(flags_arg(alloc))?
         .arg(ascii)?
         .arg(spans)?
-        .arg(json_arg(alloc))?
-        .arg(pattern_arg(alloc))
+        .arg(all)?
+        .arg(json_arg(alloc))?;
+    with_pattern(alloc, command)
 }
 
 fn picture_command<'a>(alloc: Global) -> Result<Command<'a>, AllocError> {
@@ -269,13 +295,20 @@ fn picture_command<'a>(alloc: Global) -> Result<Command<'a>, AllocError> {
         .long("html")
         .action(ArgAction::SetTrue)
         .help(HTML_HELP);
-    Command::new(alloc, "picture")
+    let width = Arg::new(alloc, "width")
+        .long("width")
+        .value_name("PIXELS")
+        .value_parser(ValueParser::unsigned(1, u32::MAX as u64))
+        .default_value("960")
+        .help(WIDTH_HELP);
+    let command = Command::new(alloc, "picture")
         .about(PICTURE)
         .before_help(PICTURE_EXAMPLE)
         .after_help(LETTERS)
         .arg(flags_arg(alloc))?
         .arg(html)?
-        .arg(pattern_arg(alloc))
+        .arg(width)?;
+    with_pattern(alloc, command)
 }
 
 fn format_command<'a>(alloc: Global) -> Result<Command<'a>, AllocError> {
@@ -416,6 +449,7 @@ pub(crate) fn look_chosen(matches: &ArgMatches<'_>) -> Look {
     Look {
         style,
         has_spans: matches.get_flag("spans"),
+        has_each_literal: matches.get_flag("all"),
     }
 }
 
@@ -426,6 +460,11 @@ pub(crate) fn canvas_chosen(matches: &ArgMatches<'_>) -> Canvas {
     } else {
         Canvas::Svg
     }
+}
+
+/// How wide a picture may be, as the arguments choose, in pixels.
+pub(crate) fn width_chosen(matches: &ArgMatches<'_>) -> usize {
+    matches.get_one("width").unwrap_or(WIDTH)
 }
 
 /// The flags that the arguments choose; none if the letters are wrong.

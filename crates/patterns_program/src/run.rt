@@ -96,7 +96,11 @@ fn located<'a>(job: Job<'_>, file: &'a str, spot: Spot<'a>) -> Location<'a> {
 }
 
 /// Says that a file cannot be opened, or not be read further; gives up if that is because memory ran out.
-fn unread<E: Write>(file: &str, error: io::Error, err: &mut E) -> Result<Outcome, RunError> {
+pub(crate) fn unread<E: Write>(
+    file: &str,
+    error: io::Error,
+    err: &mut E,
+) -> Result<Outcome, RunError> {
     if error.kind() == ErrorKind::OutOfMemory {
         return Err(RunError::Memory(AllocError));
     }

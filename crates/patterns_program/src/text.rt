@@ -42,6 +42,7 @@ impl<'a, O: Write, E: Write> Text<'a, O, E> {
             look: Look {
                 style: Style::Lines,
                 has_spans: false,
+                has_each_literal: false,
             },
         }
     }

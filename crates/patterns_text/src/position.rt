@@ -45,6 +45,12 @@ impl FilePosition {
 pub enum Spot<'a> {
     /// Its first line has this number, counted from 1.
     Line(u64),
+    /// It is the value of JSON at the path that is written so.
+    Path {
+        /// Where its quote is.
+        position: FilePosition,
+        path: &'a str,
+    },
     /// It is a value of JSON.
     Value {
         /// Where its quote is.
@@ -69,13 +75,18 @@ pub struct Location<'a> {
 
 impl<'a> Location<'a> {
     /// Where a pattern is, without colours.
-    pub fn plain(file: &'a str, line: u64) -> Location<'a> {
+    pub fn at(file: &'a str, spot: Spot<'a>) -> Location<'a> {
         Location {
             file,
-            spot: Spot::Line(line),
+            spot,
             reported: Paint::Plain,
             listed: Paint::Plain,
         }
+    }
+
+    /// The line where a pattern is, without colours.
+    pub fn plain(file: &'a str, line: u64) -> Location<'a> {
+        Location::at(file, Spot::Line(line))
     }
 
     /// The line of the pattern that is so many lines below its first.
@@ -115,6 +126,19 @@ impl fmt::Display for FilePosition {
     }
 }
 
+/// The line in a pattern that is so many lines below its first, after a colon; nothing for the first.
+#[derive(Clone, Copy)]
+struct Below(usize);
+
+impl fmt::Display for Below {
+    fn fmt<W: fmt::Write>(&self, f: &mut fmt::Formatter<W>) -> fmt::Result {
+        if self.0 == 0 {
+            return Ok(());
+        }
+        write!(f, ":{}", self.0.saturating_add(1))
+    }
+}
+
 /// The file and the line; of a value of JSON the file, the position there, the path, and the line in the pattern if that is
 /// not the first.
 impl fmt::Display for LineOf<'_> {
@@ -122,12 +146,11 @@ impl fmt::Display for LineOf<'_> {
         let file = self.at.file;
         match self.at.spot {
             Spot::Line(line) => write!(f, "{file}:{}", line.saturating_add(self.lines as u64)),
-            Spot::Value { position, path, .. } if self.lines == 0 => {
-                write!(f, "{file}:{position}: {path}")
+            Spot::Path { position, path } => {
+                write!(f, "{file}:{position}: {path}{}", Below(self.lines))
             }
             Spot::Value { position, path, .. } => {
-                let line = self.lines.saturating_add(1);
-                write!(f, "{file}:{position}: {path}:{line}")
+                write!(f, "{file}:{position}: {path}{}", Below(self.lines))
             }
         }
     }

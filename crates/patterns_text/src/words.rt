@@ -8,17 +8,19 @@ use fre_program::hex::Hex;
 use std::io::Write;
 use std::{fmt, io};
 
-/// A text in which each control character is written as its code.
+/// A text in which each control character is written as an escape of a pattern.
 #[derive(Clone, Copy)]
 pub struct Visible<'a>(pub &'a str);
 
 impl fmt::Display for Visible<'_> {
     fn fmt<W: fmt::Write>(&self, f: &mut fmt::Formatter<W>) -> fmt::Result {
         for c in self.0.chars() {
-            if c.is_control() {
-                write!(f, r"\u{{{:x}}}", u32::from(c))?;
-            } else {
-                f.write_char(c)?;
+            match c {
+                '\n' => f.write_str(r"\n")?,
+                '\r' => f.write_str(r"\r")?,
+                '\t' => f.write_str(r"\t")?,
+                _ if c.is_control() => write!(f, r"\u{{{:x}}}", u32::from(c))?,
+                _ => f.write_char(c)?,
             }
         }
         Ok(())
@@ -247,6 +249,19 @@ pub fn is_reference(node: &Expr) -> bool {
     )
 }
 
+/// A literal, described. Each control character is written as an escape.
+#[derive(Clone, Copy)]
+pub struct LiteralWords<'a> {
+    pub text: &'a str,
+    pub casei: bool,
+}
+
+impl fmt::Display for LiteralWords<'_> {
+    fn fmt<W: fmt::Write>(&self, f: &mut fmt::Formatter<W>) -> fmt::Result {
+        write!(f, "literal {:?}{}", self.text, case_words(self.casei))
+    }
+}
+
 /// A node that is neither a reference nor a group, described.
 #[derive(Clone, Copy)]
 pub struct Held<'a>(pub &'a Expr);
@@ -255,7 +270,11 @@ impl fmt::Display for Held<'_> {
     fn fmt<W: fmt::Write>(&self, f: &mut fmt::Formatter<W>) -> fmt::Result {
         match self.0 {
             Expr::Literal { val, casei } => {
-                write!(f, "literal {:?}{}", val.as_str(), case_words(*casei))
+                let literal = LiteralWords {
+                    text: val.as_str(),
+                    casei: *casei,
+                };
+                write!(f, "{literal}")
             }
             Expr::LiteralBytes { bytes } => write!(f, "bytes {}", Hex(bytes)),
             Expr::Delegate { inner, casei } => {

@@ -80,7 +80,7 @@ fn reason_of(found: char, before: &str) -> Reason {
         '\'' => Reason::SingleQuote,
         ']' | '}' if last == Some(',') => Reason::TrailingComma,
         '"' | '{' | '[' | '-' | 'a'..='z' | '0'..='9'
-            if !matches!(last, Some(',' | ':' | '{' | '[')) => { Reason::Unseparated }
+            if last.is_some_and(|c| !matches!(c, ',' | ':' | '{' | '[')) => { Reason::Unseparated }
         _ => Reason::Other,
     }
 }

@@ -41,12 +41,17 @@ impl<'a> Trail<'a> {
     }
 
     /// Where the last token begins, in lines and columns.
-    fn position(&mut self) -> FilePosition {
+    pub(crate) fn position(&mut self) -> FilePosition {
         let (known, position) = self.known;
         let passed = self.text.get(known..self.start).unwrap_or("");
         let found = position.after(passed);
         self.known = (self.start, found);
         found
+    }
+
+    /// The path of the value that the walk has come to.
+    pub(crate) fn path(&self) -> Path<'_> {
+        Path { steps: &self.steps }
     }
 
     /// Where the token is that the walk has come to, if it is a text under one of the keys, and that text.
@@ -65,7 +70,7 @@ impl<'a> Trail<'a> {
         let position = self.position();
         let spot = Spot::Value {
             position,
-            path: Path { steps: &self.steps },
+            path: self.path(),
             refers_to_begin: keys.refers_to_begin(key),
         };
         Some((spot, text))
