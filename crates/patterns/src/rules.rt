@@ -1,7 +1,9 @@
 //! The rules of `lint` that the arguments choose.
+use crate::words::form_chosen;
 use clap::ArgMatches;
 use patterns_lint::chosen::{Chosen, Level};
 use patterns_lint::rule::{RULES, Rule};
+use patterns_program::form::FileFormat;
 use std::alloc::{AllocError, Global};
 
 /// The options that give a level to a rule.
@@ -31,7 +33,10 @@ fn set_levels(chosen: &mut Chosen, names: &[&str], level: Level) {
 
 /// The levels that the arguments choose. Where an argument allows a rule and another denies it, it is denied.
 pub(crate) fn rules_chosen(matches: &ArgMatches<'_>) -> Chosen {
-    let mut chosen = Chosen::new();
+    let mut chosen = match form_chosen(matches) {
+        FileFormat::Records(_) => Chosen::new(),
+        FileFormat::Values(_) => Chosen::for_values(),
+    };
     for (option, level) in OPTIONS.iter() {
         if let Some(names) = matches.get_strs(option) {
             set_levels(&mut chosen, names, *level);

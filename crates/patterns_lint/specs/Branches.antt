@@ -1,7 +1,7 @@
--- Branches that are never reached.
-use Rattle.std.specs.Prelude.{Bool, true, false, ◌&&◌, ◌||◌, not, List, [], ◌∷◌}
+-- Branches that are never reached, and branches that belong together.
+use Rattle.std.specs.Prelude.{Bool, true, false, ◌≡◌, ◌==◌, ◌&&◌, ◌||◌, not, List, [], ◌∷◌, ⊥}
 use Rattle.std.specs.Str.{bytes_eq}
-use Rattle.fancy_grammar.specs.Tree.{Tree, literal, concat, list_of}
+use Rattle.fancy_grammar.specs.Tree.{Tree, literal, repeat, concat, list_of}
 
 -- the pieces of a branch
 abbrev pub pieces : Tree → List Tree
@@ -23,3 +23,8 @@ begins_with (e ∷ es) (t ∷ ts) = covers e t && begins_with es ts
 -- the earlier one does
 abbrev pub is_unreachable : Tree → Tree → Bool
 is_unreachable earlier later = begins_with (pieces earlier) (pieces later)
+
+-- two branches that differ in the count alone: the same operand, quantified with other counts
+abbrev pub DifferInCount : Tree → Tree → Type 0
+DifferInCount (repeat t lo hi greedy) (repeat u low high is_greedy) = (t ≡ u) × ((lo == low) && (hi == high) ≡ false)
+DifferInCount _ _ = ⊥

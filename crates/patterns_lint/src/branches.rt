@@ -1,7 +1,9 @@
 //! Branches that are likely mistakes.
-ghost use Rattle.std.specs.Prelude.{◌≡◌, ◌↔◌, true, IsTrue, IfSome, IsSomeAnd, slice_get};
+ghost use Rattle.std.specs.Prelude.{◌≡◌, ◌↔◌, ℕ, true, false, [], Some, None, ⊥, IsTrue, IfSome, IsSomeAnd, slice_get};
+ghost use Rattle.fancy_grammar.specs.Tree.{empty};
 ghost use Rattle.fancy_syntax.specs.View.{view, views};
 ghost use Rattle.patterns_lint.specs.Branches as spec;
+ghost use Rattle.patterns_lint.specs.declared.problem.Problem.TheVariants as problem;
 
 use crate::fingerprint::Fingerprint;
 use crate::problem::Problem;
@@ -68,6 +70,62 @@ fn is_equal(earlier: &Expr, later: &Expr) -> bool
     *earlier == *later
 }
 
+/// Whether the two are the same operand, quantified with other counts.
+fn differ_in_count(one: &Expr, other: &Expr) -> bool
+    ensures { IsTrue result ↔ spec.DifferInCount (view one.now) (view other.now) }
+{
+    match (one, other) {
+        (
+            Expr::Repeat { child, lo, hi, .. },
+            Expr::Repeat {
+                child: operand,
+                lo: low,
+                hi: high,
+                ..
+            },
+        ) => is_equal(child, operand) && !(*lo == *low && *hi == *high),
+        _ => false,
+    }
+}
+
+/// Whether a branch beside the one of this index differs from it in the count alone.
+pub(crate) fn has_count_twin(branches: &[Expr], i: usize) -> bool {
+    let Some(branch) = branches.get(i) else {
+        return false;
+    };
+    let next = branches.get(i.saturating_add(1));
+    let before = branches.get(i.wrapping_sub(1));
+    next.is_some_and(|other| differ_in_count(branch, other))
+        || before.is_some_and(|other| differ_in_count(branch, other))
+}
+
+/// Whether the branch consists of letters, digits and `_`.
+fn is_word(branch: &Expr) -> bool {
+    for piece in pieces(branch) {
+        let Expr::Literal { val, .. } = piece else {
+            return false;
+        };
+        if !val
+            .as_str()
+            .chars()
+            .all(|c| c.is_alphanumeric() || c == '_')
+        {
+            return false;
+        }
+    }
+    true
+}
+
+/// Whether each branch is a word.
+pub(crate) fn is_word_list(branches: &[Expr]) -> bool {
+    for branch in branches {
+        if !is_word(branch) {
+            return false;
+        }
+    }
+    true
+}
+
 /// Where a branch is.
 #[derive(Clone, Copy)]
 pub(crate) struct Situation {
@@ -75,8 +133,7 @@ pub(crate) struct Situation {
     pub(crate) is_last: bool,
     /// Whether nothing follows its alternation; otherwise another branch may be tried after one that matched.
     pub(crate) is_at_end: bool,
-    /// Whether the pattern has calls, so that something may follow where the alternation is called. An empty branch may
-    /// come first then, to end a recursion.
+    /// Whether the pattern has calls, so that something may follow where the alternation is called.
     pub(crate) has_calls: bool,
 }
 
@@ -158,17 +215,21 @@ impl Earlier {
         None
     }
 
-    /// What is wrong with a branch after these, which has this fingerprint.
+    /// What is wrong with a branch after these, which has this fingerprint. An empty branch that is the first or the last
+    /// one says "or nothing".
     pub(crate) fn problem(
         &self,
         earlier: &[Expr],
         branch: &Expr,
         whole: Fingerprint,
         situation: Situation,
-    ) -> Option<Problem<'static>> {
+    ) -> Option<Problem<'static>>
+        ensures first { view branch.now ≡ empty → views earlier.now ≡ [] → result ≡ None }
+        ensures last { view branch.now ≡ empty → situation.is_last ≡ true → result ≡ None }
+        ensures followed { situation.is_at_end ≡ false → (i : ℕ) → result ≡ Some (problem.UnreachableBranch i) → ⊥ }
+    {
         if let Expr::Empty = branch {
-            let may_be_empty = situation.is_last || situation.has_calls && earlier.is_empty();
-            return if may_be_empty {
+            return if situation.is_last || earlier.is_empty() {
                 None
             } else {
                 Some(Problem::EmptyBranch)

@@ -13,11 +13,13 @@ use crate::progress::{Screen, System};
 use crate::sources::Sources;
 use crate::tally::Tally;
 use crate::text::{Stream, Text};
+use crate::values::grammar::OpenRules;
 use crate::values::keys::Keys;
 use crate::values::trail::Trail;
 use crate::values::values_of;
 use json::Scratch;
 use patterns_lint::chosen::Chosen;
+use patterns_lint::grammar::GrammarRule;
 use patterns_text::error::{RunError, give_up};
 use patterns_text::paint::Paints;
 use patterns_text::position::{Location, Spot};
@@ -74,6 +76,18 @@ impl Verb {
     }
 }
 
+impl Job<'_> {
+    /// Whether it reports what the rules of a grammar say of groups.
+    fn reads_rules(self, keys: Keys<'_>) -> bool {
+        let is_lint = match self.verb {
+            Verb::Lint(_) | Verb::LintJson(_) => true,
+            Verb::Check | Verb::Format(_) | Verb::IsFormatted(_) | Verb::Groups | Verb::Json(_) =>
+                false,
+        };
+        is_lint && matches!(keys, Keys::TextMate)
+    }
+}
+
 /// Where a pattern is, with the colours of the streams that the verb writes to.
 fn located<'a>(job: Job<'_>, file: &'a str, spot: Spot<'a>) -> Location<'a> {
     let reported = match job.verb.errors() {
@@ -100,6 +114,7 @@ fn unread<E: Write>(file: &str, error: io::Error, err: &mut E) -> Result<Outcome
 /// Does the verb's work on a pattern.
 fn process<O: Write, E: Write>(
     subject: Subject<'_>,
+    grammar: Option<&GrammarRule>,
     job: Job<'_>,
     out: &mut O,
     err: &mut E,
@@ -129,6 +144,7 @@ fn process<O: Write, E: Write>(
         Verb::Lint(chosen) => {
             lint(
                 subject,
+                grammar,
                 &chosen,
                 &mut Text::new(out, err, verb.errors()),
                 tally,
@@ -136,19 +152,20 @@ fn process<O: Write, E: Write>(
         }
         Verb::Json(Report::Check) => check(subject, &mut Json { out }),
         Verb::Json(Report::Groups) => list_groups(subject, &mut Json { out }),
-        Verb::LintJson(chosen) => lint(subject, &chosen, &mut Json { out }, tally),
+        Verb::LintJson(chosen) => lint(subject, grammar, &chosen, &mut Json { out }, tally),
     }
 }
 
 /// The same, on a screen.
 fn process_on<C: Clock, O: Write, E: Write>(
     subject: Subject<'_>,
+    grammar: Option<&GrammarRule>,
     job: Job<'_>,
     screen: &mut Screen<'_, C, O, E>,
     tally: &mut Tally,
 ) -> Result<Outcome, RunError> {
     let Screen { out, err, .. } = screen;
-    process(subject, job, out, err, tally)
+    process(subject, grammar, job, out, err, tally)
 }
 
 /// A run over files.
@@ -171,11 +188,12 @@ impl<C: Clock, O: Write, E: Write> FileRun<'_, C, O, E> {
         Ok(())
     }
 
-    /// Does the verb's work on a pattern.
+    /// Does the verb's work on a pattern; `grammar` is what the object around it says, if it is one of a grammar.
     fn process_pattern<'p>(
         &mut self,
         pattern: &'p str,
         at: Location<'p>,
+        grammar: Option<&GrammarRule>,
     ) -> Result<Outcome, RunError> {
         let subject = Subject {
             alloc: self.alloc,
@@ -183,13 +201,19 @@ impl<C: Clock, O: Write, E: Write> FileRun<'_, C, O, E> {
             at,
             pattern,
         };
-        process_on(subject, self.job, &mut self.screen, &mut self.tally)
+        process_on(
+            subject,
+            grammar,
+            self.job,
+            &mut self.screen,
+            &mut self.tally,
+        )
     }
 
     /// Does the verb's work on a line.
     fn process_line<'p>(&mut self, line: &'p [u8], at: Location<'p>) -> Result<Outcome, RunError> {
         match str::from_utf8(line) {
-            Ok(pattern) => self.process_pattern(pattern, at),
+            Ok(pattern) => self.process_pattern(pattern, at, None),
             Err(_) => {
                 self.pass_over(at, line)?;
                 Ok(Outcome::Unread)
@@ -245,15 +269,22 @@ impl<C: Clock, O: Write, E: Write> FileRun<'_, C, O, E> {
             return Ok(Outcome::Unread);
         };
         let mut trail = Trail::new(self.alloc);
+        let grammar = if self.job.reads_rules(keys) {
+            values.nodes()
+        } else {
+            &[]
+        };
+        let mut rules = OpenRules::new(self.alloc, self.job.flags, grammar);
         let mut outcome = Outcome::Good;
         for node in values.nodes() {
             if let Some((spot, pattern)) = trail.pattern(*node, keys) {
                 let at = located(self.job, file, spot);
-                let found = self.process_pattern(pattern, at)?;
+                let found = self.process_pattern(pattern, at, rules.rule()?.as_ref())?;
                 outcome = outcome.and(found);
                 self.count(found, pattern.len())?;
             }
             trail.pass(*node)?;
+            rules.pass()?;
         }
         Ok(outcome)
     }
