@@ -1,9 +1,8 @@
 //! Branches that are likely mistakes.
-ghost use Rattle.std.specs.Prelude.{◌≡◌, ◌↔◌, ℕ, true, false, [], Some, None, ⊥, IsTrue, IfSome, IsSomeAnd, slice_get};
-ghost use Rattle.fancy_grammar.specs.Tree.{empty};
+ghost use Rattle.std.specs.Prelude.{◌≡◌, ◌↔◌, ℕ, true, false, Some, ⊥, IsTrue, IfSome, IsSomeAnd, slice_get};
 ghost use Rattle.fancy_syntax.specs.View.{view, views};
 ghost use Rattle.patterns_lint.specs.Branches as spec;
-ghost use Rattle.patterns_lint.specs.declared.problem.Problem.TheVariants as problem;
+ghost use Rattle.patterns_lint.specs.declared.problem.Problem.TheVariants as reported;
 
 use crate::fingerprint::Fingerprint;
 use crate::problem::Problem;
@@ -70,6 +69,17 @@ fn is_equal(earlier: &Expr, later: &Expr) -> bool
     *earlier == *later
 }
 
+/// What is wrong with an empty branch: nothing if it is the first or the last one, which says "or nothing".
+fn empty_branch_problem(is_first: bool, is_last: bool) -> Option<Problem<'static>>
+    ensures { result ≡ spec.empty_branch_problem is_first is_last }
+{
+    if is_first || is_last {
+        None
+    } else {
+        Some(Problem::EmptyBranch)
+    }
+}
+
 /// Whether the two are the same operand, quantified with other counts.
 fn differ_in_count(one: &Expr, other: &Expr) -> bool
     ensures { IsTrue result ↔ spec.DifferInCount (view one.now) (view other.now) }
@@ -94,7 +104,7 @@ pub(crate) fn has_count_twin(branches: &[Expr], i: usize) -> bool {
         return false;
     };
     let next = branches.get(i.saturating_add(1));
-    let before = branches.get(i.wrapping_sub(1));
+    let before = i.checked_sub(1).and_then(|index| branches.get(index));
     next.is_some_and(|other| differ_in_count(branch, other))
         || before.is_some_and(|other| differ_in_count(branch, other))
 }
@@ -215,8 +225,7 @@ impl Earlier {
         None
     }
 
-    /// What is wrong with a branch after these, which has this fingerprint. An empty branch that is the first or the last
-    /// one says "or nothing".
+    /// What is wrong with a branch after these, which has this fingerprint.
     pub(crate) fn problem(
         &self,
         earlier: &[Expr],
@@ -224,16 +233,10 @@ impl Earlier {
         whole: Fingerprint,
         situation: Situation,
     ) -> Option<Problem<'static>>
-        ensures first { view branch.now ≡ empty → views earlier.now ≡ [] → result ≡ None }
-        ensures last { view branch.now ≡ empty → situation.is_last ≡ true → result ≡ None }
-        ensures followed { situation.is_at_end ≡ false → (i : ℕ) → result ≡ Some (problem.UnreachableBranch i) → ⊥ }
+        ensures followed { situation.is_at_end ≡ false → (i : ℕ) → result ≡ Some (reported.UnreachableBranch i) → ⊥ }
     {
         if let Expr::Empty = branch {
-            return if situation.is_last || earlier.is_empty() {
-                None
-            } else {
-                Some(Problem::EmptyBranch)
-            };
+            return empty_branch_problem(earlier.is_empty(), situation.is_last);
         }
         if let Some(i) = self.equal_to(earlier, branch, whole) {
             return Some(Problem::DuplicateBranch {

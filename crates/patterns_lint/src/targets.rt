@@ -1,5 +1,5 @@
 //! References to groups that are not there.
-ghost use Rattle.std.specs.Prelude.{◌≡◌, if◌then◌else◌, nat_lt, Some, None, IfSome};
+ghost use Rattle.std.specs.Prelude.{◌≡◌, if◌then◌else◌, nat_lt, Some, None, OnSome};
 ghost use Rattle.fancy_syntax.specs.View.{view};
 ghost use Rattle.patterns_lint.specs.Targets as spec;
 
@@ -31,7 +31,7 @@ pub(crate) fn is_of_digits(text: &str) -> bool {
 
 /// The group of the back reference, which has this text, if it is a backslash and digits, and `begin` has fewer groups.
 pub(crate) fn missing_begin_group(tree: &Expr, text: &str, total: usize) -> Option<usize>
-    ensures { IfSome result (λ group. spec.missing_group total (view tree.now) ≡ Some group) }
+    ensures { OnSome result (result ≡ spec.missing_group total (view tree.now)) }
 {
     if is_of_digits(text) {
         missing_group(tree, total)
