@@ -143,6 +143,8 @@ pub(crate) struct Situation {
     pub(crate) is_last: bool,
     /// Whether nothing follows its alternation; otherwise another branch may be tried after one that matched.
     pub(crate) is_at_end: bool,
+    /// Whether an engine may add `\b` after its alternation, which is a list of words.
+    pub(crate) may_be_extended: bool,
     /// Whether the pattern has calls, so that something may follow where the alternation is called.
     pub(crate) has_calls: bool,
 }
@@ -234,6 +236,7 @@ impl Earlier {
         situation: Situation,
     ) -> Option<Problem<'static>>
         ensures followed { situation.is_at_end ≡ false → (i : ℕ) → result ≡ Some (reported.UnreachableBranch i) → ⊥ }
+        ensures extended { situation.may_be_extended ≡ true → (i : ℕ) → result ≡ Some (reported.UnreachableBranch i) → ⊥ }
     {
         if let Expr::Empty = branch {
             return empty_branch_problem(earlier.is_empty(), situation.is_last);
@@ -243,7 +246,7 @@ impl Earlier {
                 earlier: i.saturating_add(1),
             });
         }
-        if !situation.is_at_end || situation.has_calls {
+        if !situation.is_at_end || situation.may_be_extended || situation.has_calls {
             return None;
         }
         let i = self.beginning_of(earlier, branch)?;

@@ -137,6 +137,7 @@ struct AltBranches<'b> {
     all: &'b [Expr],
     earlier: Earlier,
     is_at_end: bool,
+    may_be_extended: bool,
     has_calls: bool,
 }
 
@@ -169,11 +170,11 @@ impl<'b> AltBranches<'b> {
             | Expr::DefineGroup { .. }
             | Expr::AstNode(..) => &[],
         };
-        let may_be_extended = around.is_whole && !about.is_complete && is_word_list(all);
         AltBranches {
             all,
             earlier: Earlier::none(about.alloc),
-            is_at_end: around.is_at_end && !may_be_extended,
+            is_at_end: around.is_at_end,
+            may_be_extended: around.is_whole && !about.is_complete && is_word_list(all),
             has_calls: about.has_calls,
         }
     }
@@ -186,6 +187,7 @@ impl<'b> AltBranches<'b> {
         let situation = Situation {
             is_last: i.saturating_add(1) == self.all.len(),
             is_at_end: self.is_at_end,
+            may_be_extended: self.may_be_extended,
             has_calls: self.has_calls,
         };
         let before = self.all.get(..i).unwrap_or(&[]);
