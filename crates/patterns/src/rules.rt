@@ -1,7 +1,9 @@
 //! The rules of `lint` that the arguments choose.
+use crate::words::form_chosen;
 use clap::ArgMatches;
 use patterns_lint::chosen::{Chosen, Level};
 use patterns_lint::rule::{RULES, Rule};
+use patterns_program::form::FileFormat;
 use std::alloc::{AllocError, Global};
 
 /// The options that give a level to rules.
@@ -65,7 +67,10 @@ fn choices<'a>(alloc: Global, matches: &ArgMatches<'a>) -> Result<Vec<Choice<'a>
 
 /// The levels that the arguments choose: of several for a rule, the last one.
 pub(crate) fn rules_chosen(alloc: Global, matches: &ArgMatches<'_>) -> Result<Chosen, AllocError> {
-    let mut chosen = Chosen::new();
+    let mut chosen = match form_chosen(matches) {
+        FileFormat::Records(_) => Chosen::new(),
+        FileFormat::Values(_) => Chosen::for_values(),
+    };
     for choice in &choices(alloc, matches)? {
         match Rule::named(choice.name) {
             Some(rule) => chosen.set(rule, choice.level),

@@ -1,5 +1,7 @@
 //! What `lint` finds in a pattern.
+use crate::grammar::CaptureKey;
 use crate::rule::Rule;
+use crate::targets::is_of_digits;
 use fancy_syntax::span::Span;
 use patterns_text::names::Named;
 use std::fmt;
@@ -8,26 +10,52 @@ use std::fmt;
 #[derive(Clone, Copy)]
 pub enum Problem<'a> {
     /// A reference to a group above the number of groups.
-    MissingGroup { group: usize, total: usize },
+    MissingGroup {
+        group: usize,
+        total: usize,
+    },
+    /// A reference to a group above the number of groups of `begin`.
+    MissingBeginGroup {
+        group: usize,
+        total: usize,
+    },
+    /// A number under a key of captures, above the number of groups.
+    MissingCaptureGroup {
+        key: CaptureKey,
+        group: usize,
+        total: usize,
+    },
     /// A back reference to a group that cannot have matched.
-    UselessBackreference { group: Named<'a> },
+    UselessBackreference {
+        group: Named<'a>,
+    },
     /// A call that refers to no group.
     UnresolvedCall,
     /// A group with the name of another.
-    DuplicateGroupName { group: Named<'a> },
+    DuplicateGroupName {
+        group: Named<'a>,
+    },
     /// A group without a name that nothing refers to.
-    UnusedCapturingGroup { group: usize },
+    UnusedCapturingGroup {
+        group: usize,
+    },
     /// A branch that is equal to an earlier one, counted from 1.
-    DuplicateBranch { earlier: usize },
+    DuplicateBranch {
+        earlier: usize,
+    },
     /// A branch that an earlier one leaves nothing to match.
-    UnreachableBranch { earlier: usize },
+    UnreachableBranch {
+        earlier: usize,
+    },
     EmptyBranch,
     QuantifiedAssertion,
     EmptyLoop,
     UselessQuantifier,
     ZeroQuantifier,
     /// A flag that is set already.
-    UselessFlag { letter: char },
+    UselessFlag {
+        letter: char,
+    },
     SingleCharacterClass,
 }
 
@@ -43,8 +71,7 @@ impl Found<'_> {
     pub fn is_of_digits(&self, pattern: &str) -> bool {
         match self.problem {
             Problem::MissingGroup { .. } | Problem::UselessBackreference { .. } => {
-                let text = self.span.text(pattern).unwrap_or("");
-                matches!(text.as_bytes(), [b'\\', b'0'..=b'9', ..])
+                is_of_digits(self.span.text(pattern).unwrap_or(""))
             }
             _ => false,
         }
@@ -56,6 +83,8 @@ impl Problem<'_> {
     pub fn rule(self) -> Rule {
         match self {
             Problem::MissingGroup { .. } => Rule::MissingGroup,
+            Problem::MissingBeginGroup { .. } => Rule::MissingBeginGroup,
+            Problem::MissingCaptureGroup { .. } => Rule::MissingCaptureGroup,
             Problem::UselessBackreference { .. } => Rule::UselessBackreference,
             Problem::UnresolvedCall => Rule::UnresolvedCall,
             Problem::DuplicateGroupName { .. } => Rule::DuplicateGroupName,
@@ -98,6 +127,21 @@ impl fmt::Display for Problem<'_> {
                     Total(*total)
                 )
             }
+            Problem::MissingBeginGroup { group, total } => {
+                write!(
+                    f,
+                    "reference to group {group}, but begin has {}",
+                    Total(*total)
+                )
+            }
+            Problem::MissingCaptureGroup { key, group, total } => {
+                write!(
+                    f,
+                    "number {group} in {}, but the pattern has {}",
+                    key.name(),
+                    Total(*total)
+                )
+            }
             Problem::UselessBackreference { group } => {
                 write!(
                     f,
@@ -119,7 +163,7 @@ impl fmt::Display for Problem<'_> {
                 f,
                 "branch that is never reached: whenever it would match, branch {earlier} matches first"
             ),
-            Problem::EmptyBranch => f.write_str("empty branch before another branch"),
+            Problem::EmptyBranch => f.write_str("empty branch between others"),
             Problem::QuantifiedAssertion => {
                 f.write_str("quantifier on what matches only the empty text")
             }

@@ -13,11 +13,13 @@ use crate::progress::{STEP, Screen};
 use crate::sources::System;
 use crate::tally::{Counted, Tally};
 use crate::text::{Stream, Text};
+use crate::values::grammar::{OpenRules, grammar_of};
 use crate::values::keys::Keys;
 use crate::values::text_of;
 use crate::values::trail::Trail;
 use json::Scratch;
 use patterns_lint::chosen::Chosen;
+use patterns_lint::grammar::GrammarRule;
 use patterns_text::error::{RunError, give_up};
 use patterns_text::paint::Paints;
 use patterns_text::position::{Location, Spot};
@@ -81,6 +83,18 @@ impl Verb {
     }
 }
 
+impl Job<'_> {
+    /// Whether it reports what the rules of a grammar say of groups.
+    fn reads_rules(self, keys: Keys<'_>) -> bool {
+        let is_lint = match self.verb {
+            Verb::Lint(_) | Verb::LintJson(_) => true,
+            Verb::Check | Verb::Format(_) | Verb::IsFormatted(_) | Verb::Groups | Verb::Json(_) =>
+                false,
+        };
+        is_lint && keys.has_textmate
+    }
+}
+
 /// Where a pattern is, with the colours of the streams that the verb writes to.
 fn located<'a>(job: Job<'_>, file: &'a str, spot: Spot<'a>) -> Location<'a> {
     let reported = match job.verb.errors() {
@@ -108,15 +122,29 @@ pub(crate) fn unread<E: Write>(
     Ok(Outcome::Unread)
 }
 
-/// Does the verb's work on a pattern that ends so.
+/// A pattern of a file, and what the file has around it.
+#[derive(Clone, Copy)]
+struct Entry<'a> {
+    subject: Subject<'a>,
+    /// What it ends with.
+    end: &'a [u8],
+    /// What the object around it says of groups, if it is one of a grammar.
+    grammar: Option<&'a GrammarRule>,
+}
+
+/// Does the verb's work on a pattern.
 fn process<O: Write, E: Write>(
-    subject: Subject<'_>,
-    end: &[u8],
+    entry: Entry<'_>,
     verb: Verb,
     out: &mut O,
     err: &mut E,
     tally: &mut Tally,
 ) -> Result<Outcome, RunError> {
+    let Entry {
+        subject,
+        end,
+        grammar,
+    } = entry;
     match verb {
         Verb::Check => check(subject, &mut Text::new(out, err, verb.errors())),
         Verb::Format(kept) => {
@@ -134,6 +162,7 @@ fn process<O: Write, E: Write>(
         Verb::Lint(chosen) => {
             lint(
                 subject,
+                grammar,
                 &chosen,
                 &mut Text::new(out, err, verb.errors()),
                 tally,
@@ -141,20 +170,19 @@ fn process<O: Write, E: Write>(
         }
         Verb::Json(Report::Check) => check(subject, &mut Json { out }),
         Verb::Json(Report::Groups) => list_groups(subject, &mut Json { out }),
-        Verb::LintJson(chosen) => lint(subject, &chosen, &mut Json { out }, tally),
+        Verb::LintJson(chosen) => lint(subject, grammar, &chosen, &mut Json { out }, tally),
     }
 }
 
 /// The same, on a screen.
 fn process_on<S: System, O: Write, E: Write>(
-    subject: Subject<'_>,
-    end: &[u8],
+    entry: Entry<'_>,
     verb: Verb,
     screen: &mut Screen<'_, S, O, E>,
     tally: &mut Tally,
 ) -> Result<Outcome, RunError> {
     let Screen { out, err, .. } = screen;
-    process(subject, end, verb, out, err, tally)
+    process(entry, verb, out, err, tally)
 }
 
 /// What has been written of the patterns that are formatted.
@@ -189,12 +217,13 @@ impl<S: System, O: Write, E: Write> FileRun<'_, S, O, E> {
         Ok(())
     }
 
-    /// Does the verb's work on a pattern that ends so.
+    /// Does the verb's work on a pattern that ends so; `grammar` is what the object around it says, if it is one of a grammar.
     fn process_pattern<'p>(
         &mut self,
         pattern: &'p str,
         end: &[u8],
         at: Location<'p>,
+        grammar: Option<&GrammarRule>,
     ) -> Result<Outcome, RunError> {
         let subject = Subject {
             alloc: self.alloc,
@@ -202,13 +231,12 @@ impl<S: System, O: Write, E: Write> FileRun<'_, S, O, E> {
             at,
             pattern,
         };
-        process_on(
+        let entry = Entry {
             subject,
             end,
-            self.job.verb,
-            &mut self.screen,
-            &mut self.tally,
-        )
+            grammar,
+        };
+        process_on(entry, self.job.verb, &mut self.screen, &mut self.tally)
     }
 
     /// Writes the byte order mark of a file that is formatted, if nothing is written yet: in the middle of the output it would
@@ -243,7 +271,7 @@ impl<S: System, O: Write, E: Write> FileRun<'_, S, O, E> {
     ) -> Result<Outcome, RunError> {
         self.write_missing_end(record.end)?;
         match str::from_utf8(record.text) {
-            Ok(pattern) => self.process_pattern(pattern, record.end, at),
+            Ok(pattern) => self.process_pattern(pattern, record.end, at, None),
             Err(_) => {
                 self.pass_over(at, record)?;
                 Ok(Outcome::Unread)
@@ -315,6 +343,13 @@ impl<S: System, O: Write, E: Write> FileRun<'_, S, O, E> {
         };
         let mut scratch = Scratch::new(self.alloc);
         let mut trail = Trail::new(self.alloc, text, &mut scratch)?;
+        let mut grammar_scratch = Scratch::new(self.alloc);
+        let grammar = if self.job.reads_rules(keys) {
+            grammar_of(self.alloc, text, &mut grammar_scratch)?
+        } else {
+            None
+        };
+        let mut rules = OpenRules::new(self.alloc, self.job.flags, grammar);
         let mut outcome = Outcome::Good;
         for _ in 0..=text.len() {
             let Some(token) = trail.next() else {
@@ -322,11 +357,12 @@ impl<S: System, O: Write, E: Write> FileRun<'_, S, O, E> {
             };
             if let Some((spot, pattern)) = trail.pattern(token, keys) {
                 let at = located(self.job, file, spot);
-                let found = self.process_pattern(pattern, b"\n", at)?;
+                let found = self.process_pattern(pattern, b"\n", at, rules.rule()?.as_ref())?;
                 outcome = outcome.and(found);
                 self.count(found, pattern.len())?;
             }
             trail.pass(token)?;
+            rules.pass()?;
         }
         Ok(outcome)
     }

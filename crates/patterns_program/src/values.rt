@@ -1,4 +1,5 @@
 //! Patterns that are texts in a file of JSON.
+pub(crate) mod grammar;
 pub mod keys;
 mod nesting;
 mod refusal;
