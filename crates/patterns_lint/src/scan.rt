@@ -9,6 +9,7 @@ use crate::walk::Walk;
 use fancy_spans::SpannedNode;
 use fancy_syntax::expr::{Absent, Expr, LookAround};
 use fancy_syntax::span::Span;
+use patterns_text::excerpt::{Label, Related};
 use std::alloc::{AllocError, Global};
 
 /// What the rules know of the pattern.
@@ -104,6 +105,8 @@ fn is_child_at_end(tree: &Expr, index: usize, is_at_end: bool) -> bool {
 struct AltBranches<'b> {
     all: &'b [Expr],
     earlier: Earlier,
+    /// Where each of those before the next one is.
+    spans: Vec<Span>,
     is_at_end: bool,
     has_calls: bool,
 }
@@ -140,13 +143,27 @@ impl<'b> AltBranches<'b> {
         AltBranches {
             all,
             earlier: Earlier::none(about.alloc),
+            spans: Vec::new(about.alloc),
             is_at_end,
             has_calls: about.has_calls,
         }
     }
 
-    /// What is wrong with the branch of this index, which is the next one.
-    fn next_problem(&mut self, i: usize) -> Result<Option<Problem<'static>>, AllocError> {
+    /// The branch that the problem names.
+    fn related(&self, problem: Problem<'_>) -> Option<Related> {
+        let number = problem.earlier_branch()?;
+        Some(Related {
+            span: *self.spans.get(number.saturating_sub(1))?,
+            label: Label::Branch(number),
+        })
+    }
+
+    /// What is wrong with the branch of this index and this span, which is the next one.
+    fn next_problem(
+        &mut self,
+        i: usize,
+        span: Span,
+    ) -> Result<Option<Problem<'static>>, AllocError> {
         let Some(branch) = self.all.get(i) else {
             return Ok(None);
         };
@@ -159,6 +176,7 @@ impl<'b> AltBranches<'b> {
         let whole = Fingerprint::of(branch);
         let problem = self.earlier.problem(before, branch, whole, situation);
         self.earlier.add(i, branch, whole)?;
+        self.spans.push(span)?;
         Ok(problem)
     }
 }
@@ -190,8 +208,8 @@ pub(crate) fn scan<'a>(
     let mut branches = AltBranches::of(node.expr(), about, is_at_end);
     let mut index = 0usize;
     for child in node.children() {
-        if let Some(problem) = branches.next_problem(index)? {
-            walk.report(child.span(), problem)?;
+        if let Some(problem) = branches.next_problem(index, child.span())? {
+            walk.report_beside(child.span(), problem, branches.related(problem))?;
         }
         scan(
             child,

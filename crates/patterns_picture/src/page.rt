@@ -36,7 +36,7 @@ fn write_groups<O: Write>(
     let names = Names::of(alloc, &parsed.tree)?;
     let nodes = nodes_of(alloc, parsed)?;
     let mut text = Vec::new(alloc);
-    write_numbered(&mut text, Lead::Indent, pattern, &nodes, &names)?;
+    write_numbered(&mut text, Lead::Indent, &nodes, &names)?;
     write_references(&mut text, Lead::Indent, pattern, &nodes, &names)?;
     write_section(out, "Groups and references", &text)?;
     Ok(())

@@ -21,6 +21,7 @@ use patterns_lint::chosen::Chosen;
 use patterns_text::error::{RunError, give_up};
 use patterns_text::paint::Paints;
 use patterns_text::position::{Location, Spot};
+use patterns_text::shown::Shown;
 use patterns_text::subject::Subject;
 use std::alloc::{AllocError, Global};
 use std::io::{BufRead, ErrorKind, Write};
@@ -93,7 +94,7 @@ fn unread<E: Write>(file: &str, error: io::Error, err: &mut E) -> Result<Outcome
     if error.kind() == ErrorKind::OutOfMemory {
         return Err(RunError::Memory(AllocError));
     }
-    writeln!(err, "patterns: {file}: {error}")?;
+    writeln!(err, "patterns: {}: {error}", Shown(file))?;
     Ok(Outcome::Unread)
 }
 

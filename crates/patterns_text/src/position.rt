@@ -2,8 +2,10 @@
 ghost use Rattle.std.specs.Prelude.{◌≡◌, ◌+◌, chars, false};
 ghost use Rattle.unicode_width.specs.Width.{str_width};
 
+use crate::excerpt::{Related, write_excerpt};
 use crate::paint::{Ink, Paint};
 use crate::path::Path;
+use crate::shown::Shown;
 use fancy_syntax::span::Span;
 use std::io::Write;
 use std::{fmt, io};
@@ -79,7 +81,7 @@ pub struct LineOf<'a> {
 /// The file and the line; of a value of JSON the file, the path, and the line in the pattern if that is not the first.
 impl fmt::Display for LineOf<'_> {
     fn fmt<W: fmt::Write>(&self, f: &mut fmt::Formatter<W>) -> fmt::Result {
-        let file = self.at.file;
+        let file = Shown(self.at.file);
         match self.at.spot {
             Spot::Line(line) => write!(f, "{file}:{}", line.saturating_add(self.lines as u64)),
             Spot::Value { path, .. } if self.lines == 0 => write!(f, "{file}:{path}"),
@@ -130,69 +132,23 @@ impl fmt::Display for Cut<'_> {
     }
 }
 
-/// The columns of a part of a pattern, from the first one to the last one.
-#[derive(Clone, Copy)]
-pub struct Columns {
-    first: usize,
-    last: usize,
-}
-
-impl Columns {
-    /// Those of the span, in its line.
-    pub fn of(pattern: &str, span: Span) -> Columns {
-        let before = Cut::at(pattern, span.start).before;
-        let until = Cut::at(pattern, span.end).before;
-        Columns {
-            first: column_after(before),
-            last: until.width(),
-        }
-    }
-}
-
-impl fmt::Display for Columns {
-    fn fmt<W: fmt::Write>(&self, f: &mut fmt::Formatter<W>) -> fmt::Result {
-        write!(f, "{}-{}", self.first, self.last)
-    }
-}
-
-/// As many blanks as the text takes columns. A tab stays a tab, so that it takes what it takes in the text.
-#[derive(Clone, Copy)]
-pub struct Blank<'a>(pub &'a str);
-
-impl fmt::Display for Blank<'_> {
-    fn fmt<W: fmt::Write>(&self, f: &mut fmt::Formatter<W>) -> fmt::Result {
-        for (i, part) in self.0.split('\t').enumerate() {
-            if i > 0 {
-                f.write_char('\t')?;
-            }
-            for _ in 0..part.width() {
-                f.write_char(' ')?;
-            }
-        }
-        Ok(())
-    }
-}
-
-/// Writes where and why a pattern is invalid, the line of the position, and a caret under the position.
+/// Writes where and why a pattern is invalid, the line of the position, and a caret under the position. A related part is
+/// underlined too.
 pub fn write_refusal<O: Write, K: fmt::Display>(
     out: &mut O,
     at: Location<'_>,
     pattern: &str,
     position: usize,
     kind: &K,
+    related: Option<Related>,
 ) -> io::Result<()> {
-    let Cut {
-        above,
-        before,
-        after,
-    } = Cut::at(pattern, position);
+    let Cut { above, before, .. } = Cut::at(pattern, position);
     let (line, column) = (at.below(above), column_after(before));
-    let (bold, red, end) = (
-        at.reported.begin(Ink::Position),
-        at.reported.begin(Ink::Error),
-        at.reported.end(),
-    );
+    let (bold, end) = (at.reported.begin(Ink::Position), at.reported.end());
     writeln!(out, "{bold}{line}:{column}:{end} {kind}")?;
-    writeln!(out, "{before}{after}")?;
-    writeln!(out, "{}{red}^{end}", Blank(before))
+    let span = Span {
+        start: position,
+        end: position,
+    };
+    write_excerpt(out, Ink::Error, at, pattern, span, related)
 }

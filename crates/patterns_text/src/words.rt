@@ -1,6 +1,7 @@
 //! Nodes described for people.
 use crate::names::Names;
 use crate::position::Cut;
+use crate::shown::{Code, is_hidden};
 use fancy_lex::escape::Assertion;
 use fancy_lex::name::CaptureGroupTarget;
 use fancy_syntax::expr::{Absent, AstNode, BacktrackingControlVerb, Expr, LookAround};
@@ -8,15 +9,15 @@ use fre_program::hex::Hex;
 use std::io::Write;
 use std::{fmt, io};
 
-/// A text in which each control character is written as its code.
+/// A text in which each hidden character is written as its code.
 #[derive(Clone, Copy)]
 pub struct Visible<'a>(pub &'a str);
 
 impl fmt::Display for Visible<'_> {
     fn fmt<W: fmt::Write>(&self, f: &mut fmt::Formatter<W>) -> fmt::Result {
         for c in self.0.chars() {
-            if c.is_control() {
-                write!(f, r"\u{{{:x}}}", u32::from(c))?;
+            if is_hidden(c) {
+                write!(f, "{}", Code(c))?;
             } else {
                 f.write_char(c)?;
             }
