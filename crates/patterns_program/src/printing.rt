@@ -102,7 +102,7 @@ fn keeps_comment<E: Write>(
     let Some(position) = first_comment(subject, parsed)? else {
         return Ok(false);
     };
-    write_refusal(err, subject.at, subject.pattern, position, &LOST, None)?;
+    write_refusal(err, subject.at, subject.pattern, position, LOST, None)?;
     Ok(true)
 }
 

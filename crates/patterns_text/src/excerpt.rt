@@ -71,15 +71,11 @@ impl<'a> Line<'a> {
         }
     }
 
-    /// The part of the span that is in the line, which the span begins in. An empty part is that of the next character.
+    /// The part of the span that is in the line, which the span begins in.
     fn part(self, span: Span) -> Part {
         let start = span.start.saturating_sub(self.start).min(self.text.len());
         let end = span.end.saturating_sub(self.start).min(self.text.len());
-        let next = self.slice(start, self.text.len()).chars().next();
-        Part {
-            start,
-            end: end.max(start.saturating_add(next.map_or(0, |c| c.len_utf8()))),
-        }
+        Part { start, end }
     }
 
     /// The part of the span, if the span begins in the line.
@@ -201,7 +197,7 @@ impl<'a> Underline<'a> {
     }
 
     /// Underlines the part with as many signs as it takes columns, and at least one.
-    fn mark<O: Write>(&mut self, out: &mut O, part: Part, ink: Ink, sign: u8) -> io::Result<()> {
+    fn draw<O: Write>(&mut self, out: &mut O, part: Part, ink: Ink, sign: u8) -> io::Result<()> {
         self.move_to(out, part.start)?;
         let end = part.end.clamp(self.written, self.window.end);
         let width = shown_width(self.window.line.slice(self.written, end));
@@ -214,7 +210,7 @@ impl<'a> Underline<'a> {
     }
 
     /// Underlines what of the part is between the offsets, if that is something.
-    fn mark_between<O: Write>(
+    fn draw_between<O: Write>(
         &mut self,
         out: &mut O,
         part: Part,
@@ -224,7 +220,7 @@ impl<'a> Underline<'a> {
         let start = part.start.max(start);
         let end = part.end.min(end);
         if start < end {
-            self.mark(out, Part { start, end }, Ink::Position, b'-')?;
+            self.draw(out, Part { start, end }, Ink::Position, b'-')?;
         }
         Ok(())
     }
@@ -240,7 +236,7 @@ fn write_part<O: Write>(
 ) -> io::Result<()> {
     writeln!(out, "{window}")?;
     let mut underline = Underline::begin(out, paint, window)?;
-    underline.mark(out, part, ink, b'^')?;
+    underline.draw(out, part, ink, b'^')?;
     out.write_all(b"\n")
 }
 
@@ -255,9 +251,9 @@ fn write_both<O: Write>(
 ) -> io::Result<()> {
     writeln!(out, "{window}")?;
     let mut underline = Underline::begin(out, paint, window)?;
-    underline.mark_between(out, other, 0, part.start)?;
-    underline.mark(out, part, ink, b'^')?;
-    underline.mark_between(out, other, part.end, usize::MAX)?;
+    underline.draw_between(out, other, 0, part.start)?;
+    underline.draw(out, part, ink, b'^')?;
+    underline.draw_between(out, other, part.end, usize::MAX)?;
     out.write_all(b"\n")?;
     let mut below = Underline::begin(out, paint, window)?;
     below.move_to(out, other.start)?;

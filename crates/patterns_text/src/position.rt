@@ -134,18 +134,18 @@ impl fmt::Display for Cut<'_> {
 
 /// Writes where and why a pattern is invalid, the line of the position, and a caret under the position. A related part is
 /// underlined too.
-pub fn write_refusal<O: Write, K: fmt::Display>(
+pub fn write_refusal<O: Write>(
     out: &mut O,
     at: Location<'_>,
     pattern: &str,
     position: usize,
-    kind: &K,
+    message: &str,
     related: Option<Related>,
 ) -> io::Result<()> {
     let Cut { above, before, .. } = Cut::at(pattern, position);
     let (line, column) = (at.below(above), column_after(before));
     let (bold, end) = (at.reported.begin(Ink::Position), at.reported.end());
-    writeln!(out, "{bold}{line}:{column}:{end} {kind}")?;
+    writeln!(out, "{bold}{line}:{column}:{end} {}", Shown(message))?;
     let span = Span {
         start: position,
         end: position,

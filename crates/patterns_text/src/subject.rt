@@ -61,9 +61,15 @@ impl Refusal {
 
     /// Writes where and why the pattern is invalid, its line at the position, a caret under the position, and what helps.
     pub fn write<O: Write>(&self, out: &mut O, subject: Subject<'_>) -> Result<(), RunError> {
-        let Subject { at, pattern, .. } = subject;
+        let Subject {
+            alloc,
+            at,
+            pattern,
+            ..
+        } = subject;
         let Advice { related, hint } = self.advice(subject)?;
-        write_refusal(out, at, pattern, self.position, &self.kind, related)?;
+        let message = format!(in alloc; "{}", self.kind)?;
+        write_refusal(out, at, pattern, self.position, message.as_str(), related)?;
         if let Some(hint) = hint {
             writeln!(out, "help: {hint}")?;
         }
