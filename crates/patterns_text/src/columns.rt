@@ -1,4 +1,5 @@
 //! The columns of the parts of a pattern that are listed, counted in one pass over the pattern.
+use crate::position::Point;
 use crate::words::is_reference;
 use fancy_spans::SpannedNode;
 use fancy_syntax::expr::Expr;
@@ -20,16 +21,35 @@ impl fmt::Display for Columns {
     }
 }
 
-/// How many columns are before each of some positions, in its line.
+impl Point {
+    /// What is before the end of the text that follows.
+    fn after(self, text: &str) -> Point {
+        let Point { above, columns } = self;
+        match text.rsplit_once('\n') {
+            Some((lines, line)) => Point {
+                above: above
+                    .saturating_add(lines.matches('\n').count())
+                    .saturating_add(1),
+                columns: line.width(),
+            },
+            None => Point {
+                above,
+                columns: columns.saturating_add(text.width()),
+            },
+        }
+    }
+}
+
+/// The lines of some positions, and their columns in them.
 #[derive(Drop)]
 pub struct ColumnTable {
     /// The positions, in order.
     positions: Vec<usize>,
-    /// The columns before each of them.
-    before: Vec<usize>,
+    /// What is before each of them.
+    points: Vec<Point>,
 }
 
-/// Where the groups and the references begin and end, in the order of the text.
+/// Where the groups and the references begin and end, and the positions of unresolved calls, in the order of the text.
 fn positions_of(alloc: Global, nodes: &[SpannedNode<'_>]) -> Result<Vec<usize>, AllocError> {
     let mut positions = Vec::new(alloc);
     for node in nodes {
@@ -37,6 +57,9 @@ fn positions_of(alloc: Global, nodes: &[SpannedNode<'_>]) -> Result<Vec<usize>, 
             let Span { start, end } = node.span();
             positions.push(start)?;
             positions.push(end)?;
+        }
+        if let Expr::AstNode(_, position) = node.expr() {
+            positions.push(*position)?;
         }
     }
     positions.sort_by_key(|position| *position)?;
@@ -51,32 +74,34 @@ impl ColumnTable {
         nodes: &[SpannedNode<'_>],
     ) -> Result<ColumnTable, AllocError> {
         let positions = positions_of(alloc, nodes)?;
-        let mut before = Vec::with_capacity(alloc, positions.len())?;
+        let mut points = Vec::with_capacity(alloc, positions.len())?;
         let mut counted = 0usize;
-        let mut columns = 0usize;
+        let mut point = Point {
+            above: 0,
+            columns: 0,
+        };
         for position in positions.iter() {
-            let part = pattern.get(counted..*position).unwrap_or("");
-            columns = match part.rsplit_once('\n') {
-                Some((_, line)) => line.width(),
-                None => columns.saturating_add(part.width()),
-            };
+            point = point.after(pattern.get(counted..*position).unwrap_or(""));
             counted = *position;
-            before.push(columns)?;
+            points.push(point)?;
         }
-        Ok(ColumnTable { positions, before })
+        Ok(ColumnTable { positions, points })
     }
 
-    /// The columns before the position, which is one of the table.
-    fn before(&self, position: usize) -> usize {
+    /// The line and the column of the position, which is one of the table.
+    pub(crate) fn point(&self, position: usize) -> Point {
         let index = self.positions.partition_point(|other| *other < position);
-        self.before.get(index).copied().unwrap_or(0)
+        self.points.get(index).copied().unwrap_or(Point {
+            above: 0,
+            columns: 0,
+        })
     }
 
     /// Those of a part, whose start and end are in the table, each in its line.
     pub fn of_span(&self, span: Span) -> Columns {
         Columns {
-            first: self.before(span.start).saturating_add(1),
-            last: self.before(span.end),
+            first: self.point(span.start).columns.saturating_add(1),
+            last: self.point(span.end).columns,
         }
     }
 }

@@ -3,9 +3,9 @@ use crate::columns::ColumnTable;
 use crate::names::Names;
 use crate::paint::Ink;
 use crate::position::Location;
-use crate::words::{is_reference, write_reference};
+use crate::words::{is_reference, write_reference, write_unresolved};
 use fancy_spans::SpannedNode;
-use fancy_syntax::expr::Expr;
+use fancy_syntax::expr::{AstNode, Expr};
 use fancy_syntax::span::Span;
 use std::io;
 use std::io::Write;
@@ -34,6 +34,21 @@ impl Lead<'_> {
                 let (bold, end) = (at.listed.begin(Ink::Position), at.listed.end());
                 write!(out, "{bold}{at}:{}:{end} ", columns.of_span(span))
             }
+        }
+    }
+
+    /// Writes what a reference refers to.
+    fn write_reference<O: Write>(
+        self,
+        out: &mut O,
+        pattern: &str,
+        node: &Expr,
+        names: &Names<'_>,
+    ) -> io::Result<()> {
+        match (self, node) {
+            (Lead::At(_, columns), Expr::AstNode(AstNode::SubroutineCall(target), position)) =>
+                write_unresolved(out, target, columns.point(*position)),
+            _ => write_reference(out, node, names, pattern),
         }
     }
 
@@ -79,7 +94,7 @@ pub fn write_references<O: Write>(
     for node in nodes {
         if is_reference(node.expr()) {
             lead.write(out, node.span())?;
-            write_reference(out, node.expr(), names, pattern)?;
+            lead.write_reference(out, pattern, node.expr(), names)?;
             out.write_all(b"\n")?;
         }
     }

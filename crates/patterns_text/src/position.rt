@@ -100,6 +100,25 @@ pub fn column_after(text: &str) -> usize
     text.width() + 1
 }
 
+/// A position of a pattern in its lines.
+#[derive(Clone, Copy)]
+pub(crate) struct Point {
+    /// How many line feeds are before it.
+    pub(crate) above: usize,
+    /// How many columns are before it in its line.
+    pub(crate) columns: usize,
+}
+
+/// The position in words: its column, and its line where that is not the first.
+impl fmt::Display for Point {
+    fn fmt<W: fmt::Write>(&self, f: &mut fmt::Formatter<W>) -> fmt::Result {
+        if self.above > 0 {
+            write!(f, "line {}, ", self.above.saturating_add(1))?;
+        }
+        write!(f, "column {}", self.columns.saturating_add(1))
+    }
+}
+
 /// A line of a pattern, cut at a position.
 #[derive(Clone, Copy)]
 pub struct Cut<'a> {
@@ -125,10 +144,11 @@ impl Cut<'_> {
 /// The position in words: its column, and its line where that is not the first.
 impl fmt::Display for Cut<'_> {
     fn fmt<W: fmt::Write>(&self, f: &mut fmt::Formatter<W>) -> fmt::Result {
-        if self.above > 0 {
-            write!(f, "line {}, ", self.above.saturating_add(1))?;
-        }
-        write!(f, "column {}", column_after(self.before))
+        let point = Point {
+            above: self.above,
+            columns: self.before.width(),
+        };
+        write!(f, "{point}")
     }
 }
 

@@ -1,18 +1,30 @@
 //! Texts as people are shown them. What has no shape of its own is written as an escape: raw, it would change the
 //! terminal, or the order of what is around it.
+ghost use Rattle.std.specs.Prelude.{◌≡◌};
+ghost use Rattle.patterns_text.specs.Shown as spec;
+
 use std::fmt;
-use ucd_category::GeneralCategory;
+use unicode::properties::GeneralCategory;
 use unicode_width::{UnicodeWidthChar, UnicodeWidthStr};
 
-/// Whether the character is a control character, a format character, or a separator of lines or paragraphs.
-pub fn is_hidden(c: char) -> bool {
+/// Whether the category is that of control or format characters, or of separators of lines or paragraphs.
+fn is_hidden_category(category: GeneralCategory) -> bool
+    ensures { result ≡ spec.is_hidden_category category }
+{
     matches!(
-        GeneralCategory::for_char(c),
+        category,
         GeneralCategory::Control
             | GeneralCategory::Format
             | GeneralCategory::LineSeparator
             | GeneralCategory::ParagraphSeparator
     )
+}
+
+/// Whether the character is a control character, a format character, or a separator of lines or paragraphs.
+pub fn is_hidden(c: char) -> bool
+    ensures { result ≡ spec.is_hidden c }
+{
+    is_hidden_category(GeneralCategory::for_char(c))
 }
 
 /// A character as its escape: `\x` and two digits in ASCII, and otherwise `\u` with its code in braces.

@@ -175,6 +175,19 @@ impl fmt::Display for WrittenTarget<'_> {
     }
 }
 
+/// Writes what an unresolved call refers to, and its position.
+pub(crate) fn write_unresolved<O: Write, P: fmt::Display>(
+    out: &mut O,
+    target: &CaptureGroupTarget,
+    position: P,
+) -> io::Result<()> {
+    write!(
+        out,
+        r"unresolved call \g<{}>, {position}",
+        WrittenTarget(target)
+    )
+}
+
 /// Writes what a reference or a subroutine call refers to; nothing for any other node.
 pub fn write_reference<O: Write>(
     out: &mut O,
@@ -210,8 +223,7 @@ pub fn write_reference<O: Write>(
         Expr::SubroutineCall(0) => write!(out, "call of the whole pattern"),
         Expr::SubroutineCall(group) => write!(out, "call of {}", names.group(*group)),
         Expr::AstNode(AstNode::SubroutineCall(target), position) => {
-            let at = Cut::at(pattern, *position);
-            write!(out, r"unresolved call \g<{}>, {at}", WrittenTarget(target))
+            write_unresolved(out, target, Cut::at(pattern, *position))
         }
         Expr::Empty
         | Expr::Any { .. }
