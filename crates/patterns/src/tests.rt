@@ -69,7 +69,8 @@ fn closed_pipes(rt: HostRuntime) -> Result<(), Fail> {
 
 const BROKEN: &str = "broken:1:2: Opening parenthesis without closing parenthesis
 (
- ^
+-^
+opened here
 ";
 
 const NO_FILES: &str = "patterns: none: entity not found
@@ -127,12 +128,14 @@ const ERR: Paints = Paints {
 
 const PLAIN_REFUSAL: &str = "-:1:2: Opening parenthesis without closing parenthesis
 (
- ^
+-^
+opened here
 ";
 
 const COLORED_REFUSAL: &str = "\x1b[1m-:1:2:\x1b[0m Opening parenthesis without closing parenthesis
 (
- \x1b[1;31m^\x1b[0m
+\x1b[1m-\x1b[0m\x1b[1;31m^\x1b[0m
+\x1b[1mopened here\x1b[0m
 ";
 
 /// Words, and the one of the two streams that has colours, so that what is written of `(` has some.

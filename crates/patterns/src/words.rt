@@ -65,7 +65,8 @@ const CHECK_EXAMPLE: &str = r"Example: patterns check dates.txt
 
   dates.txt:2:29: Opening parenthesis without closing parenthesis
   (?<year>\d{4})-(?<month>\d\d
-                              ^";
+                 -            ^
+                 opened here";
 
 const CHECK: &str = "Reports each invalid pattern, with the position and the reason";
 
@@ -114,7 +115,8 @@ const LINT_EXAMPLE: &str = "Example: patterns lint words.txt
 
   words.txt:3:5: warning: branch that is equal to branch 1 [duplicate-branch]
   a|b|a
-      ^
+  -   ^
+  branch 1
   help: remove it";
 
 const LINT: &str = "Reports likely mistakes in valid patterns";

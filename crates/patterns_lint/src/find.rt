@@ -42,6 +42,7 @@ pub fn problems<'a>(
     scan(parsed.root(), &mut walk, about, ROOT)?;
     let mut ways = Ways::new(alloc, tree)?;
     follow(parsed.root(), &mut ways)?;
+    ways.add_groups();
     ways.report_unused()?;
     let mut found = walk.found;
     found.extend_from_slice(&ways.walk.found)?;

@@ -3,7 +3,9 @@ use crate::grammar::CaptureKey;
 use crate::rule::Rule;
 use crate::targets::is_of_digits;
 use fancy_syntax::span::Span;
+use patterns_text::excerpt::Related;
 use patterns_text::names::Named;
+use patterns_text::octal::Octal;
 use std::fmt;
 
 /// What is wrong with a part of a pattern.
@@ -64,6 +66,41 @@ pub enum Problem<'a> {
 pub struct Found<'a> {
     pub span: Span,
     pub problem: Problem<'a>,
+    /// The branch or the group that the message names.
+    pub related: Option<Related>,
+}
+
+/// What to do about a problem.
+#[derive(Clone, Copy)]
+pub enum Help {
+    /// What its rule says.
+    Rule(&'static str),
+    /// About a reference that is the octal code of a character in other dialects.
+    Octal(Octal),
+    /// About a back reference to group 0.
+    WholePattern,
+}
+
+impl fmt::Display for Help {
+    fn fmt<W: fmt::Write>(&self, f: &mut fmt::Formatter<W>) -> fmt::Result {
+        match self {
+            Help::Rule(text) => f.write_str(text),
+            Help::Octal(octal) => write!(f, "there are no octal escapes: {octal}"),
+            Help::WholePattern => {
+                f.write_str(r"group 0 is the whole match: write `\g<0>` to call the whole pattern")
+            }
+        }
+    }
+}
+
+/// The digits of a back reference that is a backslash and a number that begins with 0.
+fn octal_digits(text: &str) -> Option<&str> {
+    let digits = text.strip_prefix('\\')?;
+    if digits.starts_with('0') {
+        Some(digits)
+    } else {
+        None
+    }
 }
 
 impl Found<'_> {
@@ -76,9 +113,37 @@ impl Found<'_> {
             _ => false,
         }
     }
+
+    /// What to do about it.
+    pub fn help(&self, pattern: &str) -> Help {
+        let rule = Help::Rule(self.problem.rule().help());
+        match self.problem {
+            Problem::MissingGroup { .. } | Problem::UselessBackreference { .. } => {
+                let text = self.span.text(pattern).unwrap_or("");
+                match (octal_digits(text), self.problem) {
+                    (Some(digits), _) => Help::Octal(Octal::of(digits)),
+                    (None, Problem::UselessBackreference { group }) if group.number() == 0 => {
+                        Help::WholePattern
+                    }
+                    (None, _) => rule,
+                }
+            }
+            _ => rule,
+        }
+    }
 }
 
 impl Problem<'_> {
+    /// The number of the earlier branch that it names.
+    pub(crate) fn earlier_branch(self) -> Option<usize> {
+        match self {
+            Problem::DuplicateBranch { earlier } | Problem::UnreachableBranch { earlier } => {
+                Some(earlier)
+            }
+            _ => None,
+        }
+    }
+
     /// The rule that reports it.
     pub fn rule(self) -> Rule {
         match self {

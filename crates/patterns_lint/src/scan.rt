@@ -9,6 +9,7 @@ use crate::walk::Walk;
 use fancy_spans::SpannedNode;
 use fancy_syntax::expr::{Absent, Expr, LookAround};
 use fancy_syntax::span::Span;
+use patterns_text::excerpt::{Label, Related};
 use std::alloc::{AllocError, Global};
 
 /// What the rules know of the pattern.
@@ -136,6 +137,8 @@ fn is_child_at_end(tree: &Expr, index: usize, is_at_end: bool) -> bool {
 struct AltBranches<'b> {
     all: &'b [Expr],
     earlier: Earlier,
+    /// Where each of those before the next one is.
+    spans: Vec<Span>,
     is_at_end: bool,
     may_be_extended: bool,
     has_calls: bool,
@@ -173,14 +176,28 @@ impl<'b> AltBranches<'b> {
         AltBranches {
             all,
             earlier: Earlier::none(about.alloc),
+            spans: Vec::new(about.alloc),
             is_at_end: around.is_at_end,
             may_be_extended: around.is_whole && !about.is_complete && is_word_list(all),
             has_calls: about.has_calls,
         }
     }
 
-    /// What is wrong with the branch of this index, which is the next one.
-    fn next_problem(&mut self, i: usize) -> Result<Option<Problem<'static>>, AllocError> {
+    /// The branch that the problem names.
+    fn related(&self, problem: Problem<'_>) -> Option<Related> {
+        let number = problem.earlier_branch()?;
+        Some(Related {
+            span: *self.spans.get(number.saturating_sub(1))?,
+            label: Label::Branch(number),
+        })
+    }
+
+    /// What is wrong with the branch of this index and this span, which is the next one.
+    fn next_problem(
+        &mut self,
+        i: usize,
+        span: Span,
+    ) -> Result<Option<Problem<'static>>, AllocError> {
         let Some(branch) = self.all.get(i) else {
             return Ok(None);
         };
@@ -194,6 +211,7 @@ impl<'b> AltBranches<'b> {
         let whole = Fingerprint::of(branch);
         let problem = self.earlier.problem(before, branch, whole, situation);
         self.earlier.add(i, branch, whole)?;
+        self.spans.push(span)?;
         Ok(problem)
     }
 }
@@ -234,8 +252,8 @@ pub(crate) fn scan<'a>(
     let mut branches = AltBranches::of(node.expr(), about, around);
     let mut index = 0usize;
     for child in node.children() {
-        if let Some(problem) = branches.next_problem(index)? {
-            walk.report(child.span(), problem)?;
+        if let Some(problem) = branches.next_problem(index, child.span())? {
+            walk.report_beside(child.span(), problem, branches.related(problem))?;
         }
         let inside = around_child(node.expr(), branches.all, index, around);
         scan(child, walk, about, inside)?;

@@ -21,6 +21,7 @@ use fancy_syntax::tree::ExprTree;
 use patterns_text::error::RunError;
 use patterns_text::paint::Ink;
 use patterns_text::position::write_refusal;
+use patterns_text::shown::ShownLines;
 use patterns_text::subject::Subject;
 use std::alloc::Global;
 use std::io;
@@ -100,7 +101,7 @@ fn keeps_comment<E: Write>(
     let Some(position) = first_comment(subject, parsed)? else {
         return Ok(false);
     };
-    write_refusal(err, subject.at, subject.pattern, position, &LOST)?;
+    write_refusal(err, subject.at, subject.pattern, position, LOST, None)?;
     Ok(true)
 }
 
@@ -142,8 +143,8 @@ fn write_change<O: Write>(out: &mut O, subject: Subject<'_>, text: &str) -> io::
         at.listed.end(),
     );
     writeln!(out, "{bold}{at}:{end} would change")?;
-    writeln!(out, "{red}-{pattern}{end}")?;
-    writeln!(out, "{green}+{text}{end}")
+    writeln!(out, "{red}-{}{end}", ShownLines(pattern))?;
+    writeln!(out, "{green}+{}{end}", ShownLines(text))
 }
 
 /// Whether the pattern would be written unchanged. If not, what it is and what it would be is written to the output; if it

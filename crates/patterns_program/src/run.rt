@@ -23,6 +23,7 @@ use patterns_lint::grammar::GrammarRule;
 use patterns_text::error::{RunError, give_up};
 use patterns_text::paint::Paints;
 use patterns_text::position::{Location, Spot};
+use patterns_text::shown::Shown;
 use patterns_text::subject::Subject;
 use std::alloc::{AllocError, Global};
 use std::io::{BufRead, ErrorKind, Write};
@@ -118,7 +119,7 @@ pub(crate) fn unread<E: Write>(
     if error.kind() == ErrorKind::OutOfMemory {
         return Err(RunError::Memory(AllocError));
     }
-    writeln!(err, "patterns: {file}: {error}")?;
+    writeln!(err, "patterns: {}: {error}", Shown(file))?;
     Ok(Outcome::Unread)
 }
 

@@ -2,8 +2,10 @@
 ghost use Rattle.std.specs.Prelude.{◌≡◌, ◌+◌, chars, false};
 ghost use Rattle.unicode_width.specs.Width.{str_width};
 
+use crate::excerpt::{Related, write_excerpt};
 use crate::paint::{Ink, Paint};
 use crate::path::Path;
+use crate::shown::Shown;
 use fancy_syntax::span::Span;
 use std::io::Write;
 use std::{fmt, io};
@@ -143,7 +145,7 @@ impl fmt::Display for Below {
 /// not the first.
 impl fmt::Display for LineOf<'_> {
     fn fmt<W: fmt::Write>(&self, f: &mut fmt::Formatter<W>) -> fmt::Result {
-        let file = self.at.file;
+        let file = Shown(self.at.file);
         match self.at.spot {
             Spot::Line(line) => write!(f, "{file}:{}", line.saturating_add(self.lines as u64)),
             Spot::Path { position, path } => {
@@ -162,6 +164,25 @@ pub fn column_after(text: &str) -> usize
     ensures value { result ≡ 1 + str_width false (chars text.now) }
 {
     text.width() + 1
+}
+
+/// A position of a pattern in its lines.
+#[derive(Clone, Copy)]
+pub(crate) struct Point {
+    /// How many line feeds are before it.
+    pub(crate) above: usize,
+    /// How many columns are before it in its line.
+    pub(crate) columns: usize,
+}
+
+/// The position in words: its column, and its line where that is not the first.
+impl fmt::Display for Point {
+    fn fmt<W: fmt::Write>(&self, f: &mut fmt::Formatter<W>) -> fmt::Result {
+        if self.above > 0 {
+            write!(f, "line {}, ", self.above.saturating_add(1))?;
+        }
+        write!(f, "column {}", self.columns.saturating_add(1))
+    }
 }
 
 /// A line of a pattern, cut at a position.
@@ -189,76 +210,31 @@ impl Cut<'_> {
 /// The position in words: its column, and its line where that is not the first.
 impl fmt::Display for Cut<'_> {
     fn fmt<W: fmt::Write>(&self, f: &mut fmt::Formatter<W>) -> fmt::Result {
-        if self.above > 0 {
-            write!(f, "line {}, ", self.above.saturating_add(1))?;
-        }
-        write!(f, "column {}", column_after(self.before))
+        let point = Point {
+            above: self.above,
+            columns: self.before.width(),
+        };
+        write!(f, "{point}")
     }
 }
 
-/// The columns of a part of a pattern, from the first one to the last one.
-#[derive(Clone, Copy)]
-pub struct Columns {
-    first: usize,
-    last: usize,
-}
-
-impl Columns {
-    /// Those of the span, in its line.
-    pub fn of(pattern: &str, span: Span) -> Columns {
-        let before = Cut::at(pattern, span.start).before;
-        let until = Cut::at(pattern, span.end).before;
-        Columns {
-            first: column_after(before),
-            last: until.width(),
-        }
-    }
-}
-
-impl fmt::Display for Columns {
-    fn fmt<W: fmt::Write>(&self, f: &mut fmt::Formatter<W>) -> fmt::Result {
-        write!(f, "{}-{}", self.first, self.last)
-    }
-}
-
-/// As many blanks as the text takes columns. A tab stays a tab, so that it takes what it takes in the text.
-#[derive(Clone, Copy)]
-pub struct Blank<'a>(pub &'a str);
-
-impl fmt::Display for Blank<'_> {
-    fn fmt<W: fmt::Write>(&self, f: &mut fmt::Formatter<W>) -> fmt::Result {
-        for (i, part) in self.0.split('\t').enumerate() {
-            if i > 0 {
-                f.write_char('\t')?;
-            }
-            for _ in 0..part.width() {
-                f.write_char(' ')?;
-            }
-        }
-        Ok(())
-    }
-}
-
-/// Writes where and why a pattern is invalid, the line of the position, and a caret under the position.
-pub fn write_refusal<O: Write, K: fmt::Display>(
+/// Writes where and why a pattern is invalid, the line of the position, and a caret under the position. A related part is
+/// underlined too.
+pub fn write_refusal<O: Write>(
     out: &mut O,
     at: Location<'_>,
     pattern: &str,
     position: usize,
-    kind: &K,
+    message: &str,
+    related: Option<Related>,
 ) -> io::Result<()> {
-    let Cut {
-        above,
-        before,
-        after,
-    } = Cut::at(pattern, position);
+    let Cut { above, before, .. } = Cut::at(pattern, position);
     let (line, column) = (at.below(above), column_after(before));
-    let (bold, red, end) = (
-        at.reported.begin(Ink::Position),
-        at.reported.begin(Ink::Error),
-        at.reported.end(),
-    );
-    writeln!(out, "{bold}{line}:{column}:{end} {kind}")?;
-    writeln!(out, "{before}{after}")?;
-    writeln!(out, "{}{red}^{end}", Blank(before))
+    let (bold, end) = (at.reported.begin(Ink::Position), at.reported.end());
+    writeln!(out, "{bold}{line}:{column}:{end} {}", Shown(message))?;
+    let span = Span {
+        start: position,
+        end: position,
+    };
+    write_excerpt(out, Ink::Error, at, pattern, span, related)
 }

@@ -1,6 +1,7 @@
 //! Nodes described for people.
 use crate::names::Names;
 use crate::position::Cut;
+use crate::shown::{Code, is_hidden};
 use fancy_lex::escape::Assertion;
 use fancy_lex::name::CaptureGroupTarget;
 use fancy_syntax::expr::{Absent, AstNode, BacktrackingControlVerb, Expr, LookAround};
@@ -8,7 +9,7 @@ use fre_program::hex::Hex;
 use std::io::Write;
 use std::{fmt, io};
 
-/// A text in which each control character is written as an escape of a pattern.
+/// A text in which each line feed, carriage return and tab is written as an escape, and each hidden character as its code.
 #[derive(Clone, Copy)]
 pub struct Visible<'a>(pub &'a str);
 
@@ -19,7 +20,7 @@ impl fmt::Display for Visible<'_> {
                 '\n' => f.write_str(r"\n")?,
                 '\r' => f.write_str(r"\r")?,
                 '\t' => f.write_str(r"\t")?,
-                _ if c.is_control() => write!(f, r"\u{{{:x}}}", u32::from(c))?,
+                _ if is_hidden(c) => write!(f, "{}", Code(c))?,
                 _ => f.write_char(c)?,
             }
         }
@@ -176,6 +177,19 @@ impl fmt::Display for WrittenTarget<'_> {
     }
 }
 
+/// Writes what an unresolved call refers to, and its position.
+pub(crate) fn write_unresolved<O: Write, P: fmt::Display>(
+    out: &mut O,
+    target: &CaptureGroupTarget,
+    position: P,
+) -> io::Result<()> {
+    write!(
+        out,
+        r"unresolved call \g<{}>, {position}",
+        WrittenTarget(target)
+    )
+}
+
 /// Writes what a reference or a subroutine call refers to; nothing for any other node.
 pub fn write_reference<O: Write>(
     out: &mut O,
@@ -211,8 +225,7 @@ pub fn write_reference<O: Write>(
         Expr::SubroutineCall(0) => write!(out, "call of the whole pattern"),
         Expr::SubroutineCall(group) => write!(out, "call of {}", names.group(*group)),
         Expr::AstNode(AstNode::SubroutineCall(target), position) => {
-            let at = Cut::at(pattern, *position);
-            write!(out, r"unresolved call \g<{}>, {at}", WrittenTarget(target))
+            write_unresolved(out, target, Cut::at(pattern, *position))
         }
         Expr::Empty
         | Expr::Any { .. }

@@ -3,6 +3,7 @@ use crate::objects::positions::Positions;
 use fancy_syntax::span::Span;
 use json::Writer;
 use patterns_text::error::RunError;
+use patterns_text::excerpt::Related;
 use patterns_text::position::{FilePosition, Spot};
 use patterns_text::subject::Subject;
 use std::alloc::{AllocError, Global};
@@ -71,6 +72,23 @@ pub(crate) fn write_span(
     write_number(writer, "end", span.end as u64)?;
     write_number(writer, "start_character", positions.character(span.start))?;
     write_number(writer, "end_character", positions.character(span.end))
+}
+
+/// Writes the field of a related part, if there is one.
+pub(crate) fn write_related(
+    alloc: Global,
+    writer: &mut Writer,
+    positions: &Positions,
+    related: Option<Related>,
+) -> Result<(), AllocError> {
+    let Some(Related { span, label }) = related else {
+        return Ok(());
+    };
+    writer.key("related")?;
+    writer.begin_object()?;
+    write_span(writer, positions, span)?;
+    write_text(writer, "label", format!(in alloc; "{label}")?.as_str())?;
+    writer.end_object()
 }
 
 /// Ends the object, and writes it.

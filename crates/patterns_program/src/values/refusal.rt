@@ -5,6 +5,7 @@ use crate::values::strings::{StringError, string_error};
 use json::{MAX_DEPTH, MAX_LEN, Reader, Scratch, Token};
 use patterns_text::error::RunError;
 use patterns_text::position::{Cut, column_after};
+use patterns_text::shown::Shown;
 use std::alloc::{AllocError, Global};
 use std::io::Write;
 use std::{fmt, io};
@@ -150,7 +151,7 @@ pub(super) fn write_refusal<E: Write>(
     let (end, reason) = end_of_json(alloc, text)?;
     let Cut { above, before, .. } = Cut::at(text, end);
     let (line, column) = (above.saturating_add(1), column_after(before));
-    writeln!(err, "{file}:{line}:{column}: {reason}")?;
+    writeln!(err, "{}:{line}:{column}: {reason}", Shown(file))?;
     Ok(())
 }
 
@@ -162,10 +163,14 @@ pub(super) fn write_not_text<E: Write>(
     valid_up_to: usize,
 ) -> io::Result<()> {
     let line = lines_in(bytes.get(..valid_up_to).unwrap_or(bytes));
-    writeln!(err, "{file}:{line}: the line is not valid UTF-8")
+    writeln!(err, "{}:{line}: the line is not valid UTF-8", Shown(file))
 }
 
 /// Says that a file is too long to be read as JSON.
 pub(super) fn write_too_long<E: Write>(err: &mut E, file: &str) -> io::Result<()> {
-    writeln!(err, "patterns: {file}: JSON of more than {MAX_LEN} bytes")
+    writeln!(
+        err,
+        "patterns: {}: JSON of more than {MAX_LEN} bytes",
+        Shown(file)
+    )
 }
