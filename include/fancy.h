@@ -6,7 +6,8 @@
  *
  * A pattern is UTF-8 and need not be NUL-terminated. Lengths, sizes, positions and the capacities of text buffers are in
  * bytes; the capacities for nodes, names and back references are counts of items. A pointer may be null if its length or
- * capacity is 0. Texts that are written are UTF-8 and not NUL-terminated.
+ * capacity is 0. Texts that are written are not NUL-terminated. They are UTF-8, except for that of a
+ * FANCY_NODE_LITERAL_BYTES, which is any bytes.
  */
 #ifndef FANCY_H
 #define FANCY_H
@@ -232,7 +233,8 @@ FANCY_INLINE fancy_result fancy_error_text(uint32_t kind, char *buffer, size_t c
     return fancy_error_text_nonnull(kind, buffer ? buffer : &none, capacity);
 }
 
-/* Parses a pattern, and sets *info, unless info is null. Returns OK if everything fits; then the buffers hold:
+/* Parses a pattern, and sets *info if it returns OK or BUFFER_TOO_SHORT, unless info is null. Returns OK if everything fits;
+ * then the buffers hold:
  *   nodes      the nodes in preorder: each before its children, and these in the order of the pattern;
  *   texts      the texts of the nodes, and after them the names of groups;
  *   names      the names in the order of their bytes, each with its group numbers in ascending order;
@@ -252,10 +254,11 @@ FANCY_INLINE fancy_result fancy_parse(const char *pattern, size_t length, uint32
                                backrefs ? backrefs : &no_number, backref_capacity, info ? info : &no_info);
 }
 
-/* Prints the tree of a pattern in its normal form. Returns OK or BUFFER_TOO_SHORT, each with the size of the text; or
- * NOT_PRINTABLE, since references, look-arounds, atomic groups, calls and the like have no text here. Otherwise it returns
- * what fancy_check returns. Unless it returns OK, nothing is written. Above FANCY_PRECEDENCE_WHOLE an alternation is put
- * into a group, above _BRANCH a concatenation too, and above _PIECE a repetition too. */
+/* Prints the tree of a pattern: the text is parsed as the normal form of that tree. Returns OK or BUFFER_TOO_SHORT, each with
+ * the size of the text; or NOT_PRINTABLE, since references, look-arounds, atomic groups, calls and the like have no text
+ * here. Otherwise it returns what fancy_check returns. Unless it returns OK, nothing is written. Above
+ * FANCY_PRECEDENCE_WHOLE an alternation is put into a group, above _BRANCH a concatenation too, and above _PIECE a
+ * repetition too; above _OPERAND nothing more. */
 FANCY_INLINE fancy_result fancy_print(const char *pattern, size_t length, uint32_t flags, uint8_t precedence, char *buffer,
                                       size_t capacity) {
     char none;

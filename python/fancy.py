@@ -685,7 +685,7 @@ def format(pattern: Pattern, flags: int = UNICODE) -> str:
 
 
 def normal_form(pattern: Pattern, flags: int = UNICODE, precedence: int = Precedence.WHOLE) -> Optional[str]:
-    """Returns the text of a pattern's tree in its normal form, or None if the tree is not printable: references,
+    """Returns a text that is parsed as the normal form of a pattern's tree, or None if the tree is not printable: references,
     look-arounds, atomic groups, calls and the like have no text here. Raises `Error` if the pattern is invalid."""
     source = _Source(pattern, flags)
     status, text = source.text(
