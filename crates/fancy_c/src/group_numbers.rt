@@ -10,7 +10,11 @@ fn numbered(row: Node, groups: usize) -> Node
     ensures { groups + 1 < 2 ^ 64 → result ≡ spec.numbered_row groups row }
 {
     Node {
-        group: if row.kind == NODE_GROUP { groups.saturating_add(1) } else { row.group },
+        group: if row.kind == NODE_GROUP {
+            groups.saturating_add(1)
+        } else {
+            row.group
+        },
         ..row
     }
 }

@@ -40,10 +40,7 @@ pub(crate) fn text_at(texts: &[u8], start: usize, size: usize) -> Result<&str, R
 
 /// The text of a node, in memory of its own.
 fn text_of(alloc: Global, row: &Node, texts: &[u8]) -> Result<String, RowsError> {
-    Ok(String::from_str(
-        alloc,
-        text_at(texts, row.text, row.text_size)?,
-    )?)
+    Ok(String::from_str(alloc, text_at(texts, row.text, row.text_size)?)?)
 }
 
 /// The assertion with this number.
@@ -102,11 +99,7 @@ fn reference(alloc: Global, row: &Node, texts: &[u8]) -> Result<Expr, RowsError>
         },
         NODE_BACKREF_EXISTS_CONDITION => Expr::BackrefExistsCondition {
             group,
-            relative_recursion_level: if row.has_level {
-                Some(row.level)
-            } else {
-                None
-            },
+            relative_recursion_level: if row.has_level { Some(row.level) } else { None },
         },
         NODE_SUBROUTINE_CALL => Expr::SubroutineCall(group),
         NODE_AST_NODE => Expr::AstNode(
