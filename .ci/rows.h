@@ -102,7 +102,7 @@ static bool is_whole_written(const tree *t, const char *pattern, size_t length, 
     char *x = malloc(capacity), *y = malloc(capacity);
     bool is_right = true;
     for (unsigned precedence = 0; precedence < 256; precedence += precedence < 5 ? 1 : 50) {
-        fancy_result wanted = fancy_print(pattern, length, flags, (uint8_t)precedence, x, capacity);
+        fancy_result wanted = fancy_print(pattern, length, flags, precedence < 3 ? (uint8_t)precedence : 3, x, capacity);
         is_right = is_right && is_same_text(print_rows(t, 0, (uint8_t)precedence, y, capacity), y, wanted, x);
     }
     fancy_result wanted = fancy_pattern(pattern, length, flags, x, capacity);
