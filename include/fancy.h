@@ -9,11 +9,10 @@
  * capacity is 0. Texts that are written are not NUL-terminated. They are UTF-8, except for that of a
  * FANCY_NODE_LITERAL_BYTES, which is any bytes.
  *
- * The library is built for Linux on x86-64-v2 with glibc, and a size_t has 64 bits. The static library needs no library but
- * C's.
- * Calls may run in several threads at once. None may be made from a signal handler, or in the forked child of a process
- * with threads. Each recurses at most as deep as a tree has levels, 832, and 400 KB of stack were enough for each that was
- * tried.
+ * The library is built for Linux on x86-64-v2 with glibc, and a size_t has 64 bits. The static library needs no other library
+ * than that of C. Calls may run in several threads at once. None may be made from a signal handler, or in the forked child of
+ * a process with threads. A call recurses as deep as a tree has levels, at most 832: 400 KB of stack were enough for each that
+ * was tried.
  */
 #ifndef FANCY_H
 #define FANCY_H
