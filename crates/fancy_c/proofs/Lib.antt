@@ -6,4 +6,5 @@ mod NodeLemmas
 mod RowLemmas
 mod NumberedLemmas
 mod NameRowLemmas
+mod BoundLemmas
 mod NodesLemmas

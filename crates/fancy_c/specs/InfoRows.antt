@@ -79,8 +79,10 @@ pub record AreSpansAsked (flags : ℕ) (bytes : List ℕ) (t : Tree) (spans : Li
   pub asked : has_bit flags WITHOUT_SPANS ≡ false → AreSpansOfBytes (flags_of flags) bytes t spans
   pub left_out : has_bit flags WITHOUT_SPANS ≡ true → spans ≡ []
 
--- the info is that of the tree of the bytes, and a pattern of n bytes has at most 2 n + 1 nodes
+-- the info is that of the tree of the bytes, and a pattern of n bytes has at most 2 n + 1 nodes and as many back
+-- references
 pub record IsSummaryOf (info : TreeInfo) (f : Flags) (bytes : List ℕ) (t : Tree) (m : GroupInfo) : Type 0 where
   pub tree : IsTreeOfBytes f bytes t m
   pub is : info ≡ summary t m
   pub few : info.node_count ≤ 2 * length bytes + 1
+  pub few_backrefs : info.backref_count ≤ 2 * length bytes + 1
