@@ -2,4 +2,5 @@ pub mod CallResult
 pub mod Buffer
 pub mod WrittenText
 pub mod Node
+pub mod Numbered
 pub mod InfoRows

@@ -29,7 +29,12 @@ fn pattern_of(alloc: Global, tree: &ExprTree, flags: u32) -> Result<Option<Strin
 }
 
 /// Writes that text at the front of the buffer, if there is one and it fits.
-fn put_pattern(alloc: Global, tree: &ExprTree, flags: u32, buffer: &mut [u8]) -> CallResult
+pub(crate) fn put_pattern(
+    alloc: Global,
+    tree: &ExprTree,
+    flags: u32,
+    buffer: &mut [u8],
+) -> CallResult
     ensures read { result.status ≡ STATUS_OK → (w : List ℕ)
         × IsPatternText (flags_of flags) (view tree.now.expr) (info_of tree.now) w × (result.size ≡ length w)
         × Fills buffer.old buffer.new w }

@@ -28,7 +28,7 @@ fn text_of(alloc: Global, tree: &Expr, precedence: u8) -> Result<Option<String>,
 }
 
 /// Writes the tree's text at the front of the buffer, if it has one and it fits.
-fn print(alloc: Global, tree: &Expr, precedence: u8, buffer: &mut [u8]) -> CallResult
+pub(crate) fn print(alloc: Global, tree: &Expr, precedence: u8, buffer: &mut [u8]) -> CallResult
     ensures read { result.status ≡ STATUS_OK → (w : List ℕ) × IsText (view tree.now) precedence w
         × (result.size ≡ length w) × Fills buffer.old buffer.new w }
     ensures short { result.status ≡ STATUS_BUFFER_TOO_SHORT →

@@ -17,7 +17,7 @@ const ABOUT: &str =
     "Checks, shows and formats patterns in the syntax of fancy-regex. It does not match them.
 Flags that are set inside a group end with the group.";
 
-const VERSION: &str = "1.0.0";
+const VERSION: &str = "1.1.0";
 
 const STATUSES: &str =
     "The exit status is 0 if every pattern passes, 1 if one does not, 2 if the arguments are wrong
