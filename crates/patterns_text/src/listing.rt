@@ -47,7 +47,7 @@ impl Lead<'_> {
     ) -> io::Result<()> {
         match (self, node) {
             (Lead::At(_, columns), Expr::AstNode(AstNode::SubroutineCall(target), position)) =>
-                write_unresolved(out, target, columns.point(*position)),
+                write_unresolved(out, target, &columns.point(*position)),
             _ => write_reference(out, node, names, pattern),
         }
     }

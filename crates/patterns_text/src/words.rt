@@ -181,7 +181,7 @@ impl fmt::Display for WrittenTarget<'_> {
 pub(crate) fn write_unresolved<O: Write, P: fmt::Display>(
     out: &mut O,
     target: &CaptureGroupTarget,
-    position: P,
+    position: &P,
 ) -> io::Result<()> {
     write!(
         out,
@@ -225,7 +225,7 @@ pub fn write_reference<O: Write>(
         Expr::SubroutineCall(0) => write!(out, "call of the whole pattern"),
         Expr::SubroutineCall(group) => write!(out, "call of {}", names.group(*group)),
         Expr::AstNode(AstNode::SubroutineCall(target), position) => {
-            write_unresolved(out, target, Cut::at(pattern, *position))
+            write_unresolved(out, target, &Cut::at(pattern, *position))
         }
         Expr::Empty
         | Expr::Any { .. }
