@@ -302,7 +302,7 @@ impl<'n, 'a> OpenRules<'n, 'a> {
                     object.key = key;
                 }
             }
-            _ => {}
+            Some(Node::String(_) | Node::Number(_) | Node::Bool(_) | Node::Null) | None => {}
         }
         Ok(())
     }
