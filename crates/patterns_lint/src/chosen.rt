@@ -51,9 +51,9 @@ impl Chosen {
 
     /// Gives every rule this level.
     pub fn set_all(&mut self, level: Level)
-        ensures { self.new.levels ≡ replicate 14 level }
+        ensures { self.new.levels ≡ replicate 16 level }
     {
-        self.levels = [level; 14];
+        self.levels = [level; 16];
     }
 
     /// Gives the rule this level.

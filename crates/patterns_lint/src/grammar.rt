@@ -93,7 +93,11 @@ pub(crate) fn missing_captures(
         if let Some(group) = missing_capture(*capture) {
             let key = capture.key;
             let problem = Problem::MissingCaptureGroup { key, group, total };
-            found.push(Found { span, problem })?;
+            found.push(Found {
+                span,
+                problem,
+                related: None,
+            })?;
         }
     }
     Ok(found)

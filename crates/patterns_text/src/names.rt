@@ -49,7 +49,7 @@ pub struct Named<'a> {
 impl Named<'_> {
     /// Its number.
     pub fn number(self) -> usize
-        ensures { result ≡ self.number }
+        ensures { result ≡ self.entry.number }
     {
         self.number
     }
