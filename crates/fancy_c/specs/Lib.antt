@@ -1,5 +1,5 @@
 pub mod CallResult
 pub mod Buffer
-pub mod Text
+pub mod WrittenText
 pub mod Node
 pub mod InfoRows
