@@ -66,7 +66,7 @@ pub(crate) struct Start {
 }
 
 impl Start {
-    /// Takes the start off the reader. It waits for no more than the first byte, unless that is one of the mark.
+    /// Takes the start off the reader. It waits for no more than the first byte, unless that begins a byte order mark.
     pub(crate) fn take<R: BufRead>(alloc: Global, reader: &mut R) -> io::Result<Start> {
         let mut unread = Vec::new(alloc);
         if reader.fill_buf()?.first() == BOM.first() {
