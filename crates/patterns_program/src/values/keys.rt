@@ -1,6 +1,6 @@
 //! The keys under which a text of JSON is a pattern.
 ghost use Rattle.std.specs.Prelude.{◌↔◌, IsTrue, Contains};
-ghost use Rattle.patterns_program.specs.Keys.{textmate_keys};
+ghost use Rattle.patterns_program.specs.Keys.{rule_keys, grammar_keys};
 
 /// Under which keys of JSON a text is a pattern.
 #[derive(Clone, Copy)]
@@ -10,26 +10,28 @@ pub struct Keys<'a> {
     pub named: &'a [&'a str],
 }
 
-/// Whether the key is one of those of TextMate's grammars under which patterns are.
-fn is_of_textmate(key: &str) -> bool
-    ensures { IsTrue result ↔ Contains textmate_keys key.now }
+/// Whether the key is one of those under which the rules of TextMate's grammars have patterns.
+fn is_of_rule(key: &str) -> bool
+    ensures { IsTrue result ↔ Contains rule_keys key.now }
+{
+    matches!(key, "match" | "begin" | "end" | "while")
+}
+
+/// Whether the key is one of those under which a grammar of TextMate as a whole has patterns.
+fn is_of_grammar(key: &str) -> bool
+    ensures { IsTrue result ↔ Contains grammar_keys key.now }
 {
     matches!(
         key,
-        "match"
-            | "begin"
-            | "end"
-            | "while"
-            | "firstLineMatch"
-            | "foldingStartMarker"
-            | "foldingStopMarker"
+        "firstLineMatch" | "foldingStartMarker" | "foldingStopMarker"
     )
 }
 
 impl Keys<'_> {
     /// Whether a text under the key is a pattern.
     pub(crate) fn has(self, key: &str) -> bool {
-        (self.has_textmate && is_of_textmate(key)) || self.named.iter().any(|name| *name == key)
+        (self.has_textmate && (is_of_rule(key) || is_of_grammar(key)))
+            || self.named.iter().any(|name| *name == key)
     }
 
     /// Whether a number in a back reference is that of a group of another pattern, in a pattern under the key: in TextMate's
