@@ -25,3 +25,8 @@ pub loop-child-preserved : goal.loop-child-preserved
 loop-child-preserved g t c =
     within_next (spanned_of c.args.node).expr (spanned_of c.in-Some.child).expr _ _ c.loop-child.invariant
     (ap (map (λ p. p.expr)) c.in-Some.ensures.steps)
+
+pub loop-child-preserved-then-branch-2 : goal.loop-child-preserved-then-branch-2
+loop-child-preserved-then-branch-2 g t c =
+    within_next (spanned_of c.args.node).expr (spanned_of c.in-Some.child).expr _ _ c.loop-child.invariant
+    (ap (map (λ p. p.expr)) c.in-Some.ensures.steps)
