@@ -82,10 +82,10 @@ struct LiteralRun {
 impl LiteralRun {
     /// Whether the run may go on with the node.
     fn takes(&self, node: &Expr) -> bool {
-        match node {
-            Expr::Literal { casei, .. } => self.text.is_empty() || self.casei == *casei,
-            _ => false,
-        }
+        let Expr::Literal { casei, .. } = node else {
+            return false;
+        };
+        self.text.is_empty() || self.casei == *casei
     }
 
     /// Adds a literal, which the run takes.
