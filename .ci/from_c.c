@@ -5,6 +5,7 @@
 // and with `refuse` with the first request of the library for memory refused, then with the second, and so on. Other lines
 // are passed over. The status is 1 where an answer is another. It is linked with --wrap for malloc, realloc and free.
 #include "records.h"
+#include "rows.h"
 
 static size_t left_until_refusal; // 0: none is refused
 static bool was_refused;
@@ -152,13 +153,49 @@ static bool are_spans_right(const char *pattern, size_t length, uint32_t flags) 
     return is_right;
 }
 
+// Makes the call of a number, of those that take rows or write a tree at once.
+static fancy_result call_with_rows(int which, const tree *t, const char *pattern, size_t length, uint32_t flags, char *text) {
+    size_t capacity = CAPACITY(length);
+    if (which == 0) return print_rows(t, 0, 0, text, capacity);
+    if (which == 1) return write_rows(t, 0, flags, text, capacity);
+    return fancy_tree(pattern, length, flags, NULL, 0, text, capacity, NULL, 0, NULL, 0, NULL);
+}
+
+// Makes these calls with each request for memory refused in turn: then the status has to say so, and else to be the usual one.
+static bool are_rows_refused_memory(const char *pattern, size_t length, uint32_t flags) {
+    tree t;
+    take(&t, pattern, length, flags);
+    char *text = untouched(CAPACITY(length));
+    bool is_right = true;
+    for (int which = t.nodes ? 0 : 2; which < 3; which++) {
+        fancy_result usual = call_with_rows(which, &t, pattern, length, flags, text);
+        memset(text, 0xA5, CAPACITY(length));
+        for (size_t n = 1; is_right; n++) {
+            left_until_refusal = n;
+            was_refused = false;
+            size_t before = in_use;
+            fancy_result got = call_with_rows(which, &t, pattern, length, flags, text);
+            left_until_refusal = 0;
+            is_right = in_use == before && got.status == (was_refused ? FANCY_STATUS_OUT_OF_MEMORY : usual.status);
+            if (!was_refused) break;
+            is_right = is_right && is_untouched(text, CAPACITY(length));
+            refused++;
+        }
+    }
+    was_refused = false;
+    free(text);
+    release(&t);
+    return is_right;
+}
+
 static bool is_line_right(char **fields, bool refuses) {
     uint32_t flags = 0;
     if (!read_flags(fields[0], &flags)) return strcmp(fields[2], "2") == 0;
     size_t length;
     char *pattern = decode(fields[1], &length);
     bool is_right = is_answered(pattern, length, flags, fields) && is_short_said(pattern, length, flags) &&
-                    are_spans_right(pattern, length, flags);
+                    are_spans_right(pattern, length, flags) && are_rows_right(pattern, length, flags) &&
+                    (!refuses || are_rows_refused_memory(pattern, length, flags));
     for (size_t n = 1; refuses && is_right; n++) {
         left_until_refusal = n;
         was_refused = false;
@@ -186,6 +223,40 @@ static bool is_written(char **fields) {
     return is_right;
 }
 
+// Nested groups of this many levels, made by hand: what they are printed as has two bytes for each but the last.
+static bool is_nest(size_t levels, uint32_t status) {
+    fancy_node *nodes = calloc(levels, sizeof *nodes);
+    for (size_t i = 0; i < levels; i++) nodes[i].kind = i + 1 < levels ? FANCY_NODE_GROUP : FANCY_NODE_EMPTY, nodes[i].end = levels;
+    char text[2000];
+    fancy_result got = fancy_print_nodes(nodes, levels, NULL, 0, 0, 0, text, sizeof text);
+    bool is_right = got.status == status && got.size == (status == FANCY_STATUS_OK ? 2 * (levels - 1) : 0);
+    free(nodes);
+    return is_right;
+}
+
+// Rows that no pattern has: none, a name, a literal of two characters, a part that ends elsewhere, and deep ones.
+static bool are_rows_by_hand_right(void) {
+    char text[64];
+    fancy_node nodes[] = {{.kind = FANCY_NODE_GROUP, .end = 2}, {.kind = FANCY_NODE_LITERAL, .end = 2, .text = 1, .text_size = 2}};
+    fancy_name names[] = {{.text = 0, .text_size = 1, .group = 1}, {.text = 0, .text_size = 1, .group = 2}};
+    fancy_result got = fancy_print_nodes(nodes, 2, "nab", 3, 0, 0, text, sizeof text);
+    bool is_right = got.status == FANCY_STATUS_OK && got.size == 4 && memcmp(text, "(ab)", 4) == 0;
+    got = fancy_pattern_nodes(nodes, 2, "nab", 3, 0, names, 2, NULL, 0, text, sizeof text);
+    is_right = is_right && got.status == FANCY_STATUS_NO_PATTERN; // it is parsed as two literals
+    nodes[1].text_size = 1;
+    got = fancy_pattern_nodes(nodes, 2, "nab", 3, 0, names, 2, NULL, 0, text, sizeof text);
+    is_right = is_right && got.status == FANCY_STATUS_OK && got.size == 7 && memcmp(text, "(?<n>a)", 7) == 0;
+    names[0].text = 4; // there is no such text
+    is_right = is_right && fancy_pattern_nodes(nodes, 2, "nab", 3, 0, names, 1, NULL, 0, text, 64).status == FANCY_STATUS_NO_TREE;
+    nodes[1].end = 3;
+    return is_right && fancy_print_nodes(nodes, 2, "nab", 3, 0, 0, text, sizeof text).status == FANCY_STATUS_NO_TREE &&
+           fancy_print_nodes(nodes, 2, "nab", 3, 2, 0, text, sizeof text).status == FANCY_STATUS_NO_TREE &&
+           fancy_print_nodes(NULL, 0, NULL, 0, 0, 0, NULL, 0).status == FANCY_STATUS_NO_TREE &&
+           fancy_pattern_nodes(NULL, 0, NULL, 0, 0, NULL, 0, NULL, 0, NULL, 0).status == FANCY_STATUS_NO_TREE &&
+           fancy_tree(NULL, 0, 0, NULL, 0, NULL, 0, NULL, 0, NULL, 0, NULL).status == FANCY_STATUS_BUFFER_TOO_SHORT &&
+           is_nest(832, FANCY_STATUS_OK) && is_nest(833, FANCY_STATUS_NO_TREE);
+}
+
 // What hangs on no pattern: the version; and null pointers, each with a length of 0.
 static bool is_rest_right(void) {
     char text[64];
@@ -199,8 +270,10 @@ static bool is_rest_right(void) {
                         FANCY_STATUS_BUFFER_TOO_SHORT &&
                     fancy_parse(NULL, 0, 0, &node, 1, NULL, 0, NULL, 0, NULL, 0, &info).status == FANCY_STATUS_OK &&
                     info.node_count == 1 && node.kind == FANCY_NODE_EMPTY && node.start == 0 && node.stop == 0 && node.end == 1;
+    is_right = is_right && are_rows_by_hand_right();
     for (uint32_t kind = 0; kind < 300; kind++) {
         fancy_result got = fancy_error_text(kind, text, sizeof text);
+        is_right = is_right && got.size == strlen(fancy_kind_message(kind)) && memcmp(text, fancy_kind_message(kind), got.size) == 0;
         bool has_text = kind >= FANCY_ERROR_GENERAL_PARSE_ERROR && kind <= FANCY_ERROR_INVALID_GROUP_NAME_BACKREF;
         is_right = is_right && got.status == FANCY_STATUS_OK && (got.size > 0) == has_text && got.size <= 47 &&
                    is_text_short(NULL, 0, kind, write_kind);

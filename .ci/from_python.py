@@ -3,6 +3,7 @@ numbered.tsv and texts.tsv. From the nodes and fields of `fancy.parse` it writes
 examples of the module's docstring, compares its numbers with those of the header, and positions and spans, in characters and
 in bytes, with those written here."""
 
+import dataclasses
 import doctest
 import pathlib
 import pickle
@@ -112,6 +113,19 @@ def are_spans_in_characters(pattern, flags):
     )
 
 
+def are_trees_written(pattern, flags):
+    """Whether a tree, and each node of it, gives what the pattern gives."""
+    if fancy.check(pattern, flags) is not None:
+        return True
+    tree = fancy.parse(pattern, flags)
+    nodes = [node.normal_form(fancy.Precedence.PIECE) for node in tree.walk()]
+    return (
+        tree.format() == fancy.format(pattern, flags)
+        and nodes[0] == fancy.normal_form(pattern, flags, fancy.Precedence.PIECE)
+        and all(text is None or isinstance(fancy.check(text), (fancy.Error, type(None))) for text in nodes)
+    )
+
+
 def is_recorded(row):
     if row[0] == "text":
         return fancy.format(unhexed(row[2]).decode(), flags_named(row[1])).encode() == unhexed(row[3])
@@ -120,7 +134,8 @@ def is_recorded(row):
     status, out, err = int(row[2]), *(unhexed(field).decode() for field in row[3:5])
     flags, given = flags_named(row[0]), unhexed(row[1])
     pattern = given.decode()
-    return answer(pattern, flags) == answer(given, flags) == (status, out, err) and are_spans_in_characters(pattern, flags)
+    is_same = answer(pattern, flags) == answer(given, flags) == (status, out, err)
+    return is_same and are_spans_in_characters(pattern, flags) and are_trees_written(pattern, flags)
 
 
 def replay(file):
@@ -182,7 +197,17 @@ def are_trees_right():
         and fancy.format("(?x) a {2,2}  # twice") == "a{2}"
         and fancy.normal_form("(?=a)") is None
         and fancy.normal_form("a|b", precedence=fancy.Precedence.PIECE) == "(?:a|b)"
+        and changed(r"(?<n>a)\1", fancy.KeepOut) == r"\K\1"
+        and changed(r"(?<n>a)(?<m>b)\g<n>", fancy.Empty) is None  # no part of a concatenation is empty
     )
+
+
+def changed(pattern, kind):
+    """What is written for the tree of a pattern whose first child is replaced."""
+    tree = fancy.parse(pattern)
+    first, *rest = tree.root.children
+    children = (kind(first.span, first.byte_span, ()), *rest)
+    return dataclasses.replace(tree, root=dataclasses.replace(tree.root, children=children)).format()
 
 
 def are_numbers_right(header):
@@ -196,7 +221,7 @@ def are_numbers_right(header):
     for kind in fancy.Node.__subclasses__():
         numbers["NODE" + re.sub("[A-Z]", lambda letter: f"_{letter[0]}", kind.__name__).upper()] = kind.number
     written = dict(re.findall(r"FANCY_([A-Z_0-9]+) = (\d+)", header))
-    elsewhere = {name for name in written if name.startswith(("STATUS_", "TARGET_"))}
+    elsewhere = {name for name in written if name.startswith(("STATUS_", "TARGET_", "WITHOUT_"))}
     return numbers == {name: int(number) for name, number in written.items() if name not in elsewhere}
 
 
@@ -204,11 +229,13 @@ def are_null_pointers_taken():
     """Whether the library's own symbols, which the header's inline functions stand before in C, take null pointers."""
     call, none = fancy._library, (None, 0)
     got = [
-        call.fancy_check(*none, 0), call.fancy_message(*none, 0, *none), call.fancy_error_text(0, *none),
+        call.fancy_check(*none, 0), call.fancy_message(*none, 0, *none),
         call.fancy_print(*none, 0, 0, *none), call.fancy_pattern(*none, 0, *none),
         call.fancy_parse(*none, 0, *none, *none, *none, *none, None),
+        call.fancy_tree(*none, 0, *none, *none, *none, *none, None), call.fancy_print_nodes(*none, *none, 0, 0, *none),
+        call.fancy_pattern_nodes(*none, *none, 0, *none, None, 0, *none),
     ]  # fmt: skip
-    return [it.status for it in got] == [0, 0, 0, 0, 0, 4]
+    return [it.status for it in got] == [0, 0, 0, 0, 4, 4, 7, 7]
 
 
 def is_command_right():

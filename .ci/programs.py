@@ -31,6 +31,12 @@ class Output(NamedTuple):
     status: int
 
 
+def has_position(run: Run) -> bool:
+    """Whether a word is a position in one of the files. `rt try` has only files that a word names."""
+    names = [name for name, _ in run.files]
+    return any(":" in it and it.split(":")[0] in names for it in run.words)
+
+
 def decoded(data: bytes) -> str:
     """The bytes as a text."""
     return data.decode("utf-8", "surrogateescape")

@@ -83,6 +83,19 @@ fancy_result fancy_pattern_nonnull(const char *pattern, size_t length, uint32_t 
     return text(FANCY_STATUS_OK, length, buffer, capacity);
 }
 
+fancy_result fancy_print_nodes_nonnull(const fancy_node *nodes, size_t node_count, const char *texts, size_t texts_size,
+                                       size_t index, uint8_t precedence, char *buffer, size_t capacity) {
+    (void)nodes, (void)texts, (void)texts_size, (void)index, (void)precedence;
+    return text(below(8) ? FANCY_STATUS_OK : FANCY_STATUS_NO_TREE, node_count, buffer, capacity);
+}
+
+fancy_result fancy_pattern_nodes_nonnull(const fancy_node *nodes, size_t node_count, const char *texts, size_t texts_size,
+                                         size_t index, const fancy_name *names, size_t name_count, const fancy_info *info,
+                                         uint32_t flags, char *buffer, size_t capacity) {
+    (void)nodes, (void)texts, (void)texts_size, (void)index, (void)names, (void)name_count, (void)info, (void)flags;
+    return text(below(8) ? FANCY_STATUS_OK : FANCY_STATUS_NO_PATTERN, node_count, buffer, capacity);
+}
+
 /* ---- trees */
 
 static const unsigned char leaves[] = {1, 2, 3, 4, 5, 6, 12, 13, 14, 16, 17, 18, 20, 21, 24};
@@ -138,10 +151,11 @@ static void spoil(fancy_node *node, size_t count) {
     }
 }
 
-fancy_result fancy_parse_nonnull(const char *pattern, size_t length, uint32_t flags, fancy_node *nodes, size_t node_capacity,
-                                 char *texts, size_t texts_capacity, fancy_name *names, size_t name_capacity,
-                                 size_t *backrefs, size_t backref_capacity, fancy_info *info) {
+fancy_result fancy_tree_nonnull(const char *pattern, size_t length, uint32_t flags, fancy_node *nodes, size_t node_capacity,
+                                char *texts, size_t texts_capacity, fancy_name *names, size_t name_capacity, size_t *backrefs,
+                                size_t backref_capacity, fancy_info *info) {
     (void)pattern, (void)flags;
+    if (below(8) == 0) return text(FANCY_STATUS_REFUSED, length, texts, texts_capacity);
     tree t = {nodes, below(2 * length + 1) + 1, 0, below(texts_capacity + 1)};
     if (t.capacity > node_capacity) t.capacity = node_capacity;
     size_t mode = below(16);

@@ -1,12 +1,18 @@
 /* Patterns of fancy-regex, parsed and printed by proved code.
  *
- * Each call parses a pattern anew, keeps nothing, and owns nothing when it returns. It writes to buffers of the caller,
- * from their start and never past their end: either a whole text or tree, or nothing. docs/c.md says how to build and link
- * the library, what is proved, and what the caller has to guarantee.
+ * Each call parses a pattern anew, or builds a tree anew from its rows, keeps nothing, and owns nothing when it returns. It
+ * writes to buffers of the caller, from their start and never past their end: either a whole text or tree, or nothing.
+ * docs/c.md says how to build and link the library, what is proved, and what the caller has to guarantee.
  *
  * A pattern is UTF-8 and need not be NUL-terminated. Lengths, sizes, positions and the capacities of text buffers are in
  * bytes; the capacities for nodes, names and back references are counts of items. A pointer may be null if its length or
- * capacity is 0. Texts that are written are UTF-8 and not NUL-terminated.
+ * capacity is 0. Texts that are written are not NUL-terminated. They are UTF-8, except for that of a
+ * FANCY_NODE_LITERAL_BYTES, which is any bytes.
+ *
+ * The library is built for Linux on x86-64-v2 with glibc, and a size_t has 64 bits. The static library needs no other library
+ * than that of C. Calls may run in several threads at once. None may be made from a signal handler, or in the forked child of
+ * a process with threads. A call recurses as deep as a tree has levels, at most 832: 400 KB of stack were enough for each that
+ * was tried.
  */
 #ifndef FANCY_H
 #define FANCY_H
@@ -18,7 +24,7 @@
 /* The version of this header. fancy_version returns that of the library. CHANGELOG.md says what a change of each number
  * means. */
 #define FANCY_VERSION_MAJOR 1
-#define FANCY_VERSION_MINOR 0
+#define FANCY_VERSION_MINOR 1
 #define FANCY_VERSION_PATCH 0
 #define FANCY_VERSION (FANCY_VERSION_MAJOR * 1000000 + FANCY_VERSION_MINOR * 1000 + FANCY_VERSION_PATCH)
 
@@ -40,6 +46,9 @@ enum {
     FANCY_FLAG_IGNORE_NUMBERED_GROUPS_WHEN_NAMED_GROUPS_EXIST = 256
 };
 
+/* A bit that fancy_tree takes beside the flags: the spans are left out, and each start and stop is 0. */
+enum { FANCY_WITHOUT_SPANS = 65536 };
+
 /* The status of a call. These numbers, and all those below, never change. */
 enum {
     FANCY_STATUS_OK = 0,
@@ -47,8 +56,9 @@ enum {
     FANCY_STATUS_NOT_UTF8 = 2,         /* position is the length of the valid UTF-8 prefix */
     FANCY_STATUS_OUT_OF_MEMORY = 3,    /* the pattern may be valid or not */
     FANCY_STATUS_BUFFER_TOO_SHORT = 4, /* no buffer was written; the size that is needed is set */
-    FANCY_STATUS_NOT_PRINTABLE = 5,    /* of fancy_print: the pattern is valid, and its tree is not printable */
-    FANCY_STATUS_NO_PATTERN = 6        /* never returned: that a text for the tree does not parse back as that tree */
+    FANCY_STATUS_NOT_PRINTABLE = 5,    /* of fancy_print and fancy_print_nodes: there is a tree, and it is not printable */
+    FANCY_STATUS_NO_PATTERN = 6,       /* of fancy_pattern_nodes: what is written for the tree does not parse back as it */
+    FANCY_STATUS_NO_TREE = 7           /* of fancy_print_nodes and fancy_pattern_nodes: the rows are no tree */
 };
 
 /* Kinds of errors. */
@@ -82,7 +92,7 @@ enum {
     FANCY_NODE_LITERAL_BYTES = 6,    /* text, text_size */
     FANCY_NODE_CONCAT = 7,
     FANCY_NODE_ALT = 8,
-    FANCY_NODE_GROUP = 9,
+    FANCY_NODE_GROUP = 9,            /* group */
     FANCY_NODE_LOOK_AROUND = 10,     /* which: FANCY_LOOK_.. */
     FANCY_NODE_REPEAT = 11,          /* lo, hi, greedy */
     FANCY_NODE_DELEGATE = 12,        /* a class, a class escape or a property, as its text: text, text_size, casei */
@@ -127,7 +137,7 @@ enum { FANCY_ABSENT_REPEATER = 1, FANCY_ABSENT_EXPRESSION = 2, FANCY_ABSENT_STOP
 enum { FANCY_TARGET_BY_NUMBER = 1, FANCY_TARGET_BY_NAME = 2, FANCY_TARGET_RELATIVE = 3 };
 
 /* What a printed text is to be: a whole pattern or the inside of a group, a branch of an alternation, a part of a
- * concatenation, the operand of a quantifier. */
+ * concatenation, the operand of a quantifier. A number above 3 is as good as FANCY_PRECEDENCE_OPERAND. */
 enum {
     FANCY_PRECEDENCE_WHOLE = 0,
     FANCY_PRECEDENCE_BRANCH = 1,
@@ -154,7 +164,8 @@ typedef struct {
     size_t text_size; /* the size of its text, in bytes */
     size_t lo;        /* the lower bound of a repetition */
     size_t hi;        /* the upper bound, SIZE_MAX for none */
-    size_t group;     /* the number of a group */
+    size_t group;     /* the number of a group: of the node, which is the k-th FANCY_NODE_GROUP if the number is k; or of the
+                         group that it refers to */
     ptrdiff_t level;  /* a recursion level, relative to the current one; or the relative number of a group */
     size_t position;  /* of an unresolved call, as a byte offset */
     size_t start;     /* its span, the part of the pattern that it was parsed from: the offset of the first byte */
@@ -176,10 +187,10 @@ typedef struct {
 
 /* The sizes of a tree, and the group information of its pattern. */
 typedef struct {
-    size_t node_count;   /* at most 2 n + 1 for a pattern of n bytes */
-    size_t texts_size;   /* in bytes */
-    size_t name_count;
-    size_t backref_count;
+    size_t node_count;    /* at most FANCY_MAX_NODES */
+    size_t texts_size;    /* in bytes; at most FANCY_MAX_TEXTS */
+    size_t name_count;    /* at most FANCY_MAX_NAMES */
+    size_t backref_count; /* at most FANCY_MAX_BACKREFS */
     size_t total_groups; /* the k-th FANCY_NODE_GROUP of the nodes has the number k */
     size_t out_of_range_backref; /* the number of the first back reference above total_groups */
     bool has_out_of_range_backref;
@@ -188,6 +199,13 @@ typedef struct {
     bool self_recursive;                   /* the pattern calls itself by the number 0 */
     bool numbered_groups_ignored;          /* groups without a name have no number */
 } fancy_info;
+
+/* Capacities that suffice for a pattern of this length in bytes, so that one call of fancy_parse or fancy_tree is enough;
+ * FANCY_MAX_TEXTS also suffices for the message that fancy_tree writes. docs/c.md says which are proved. */
+#define FANCY_MAX_NODES(length) (2 * (length) + 1)
+#define FANCY_MAX_TEXTS(length) (6 * (length) + 128)
+#define FANCY_MAX_NAMES(length) (2 * (length) + 1)
+#define FANCY_MAX_BACKREFS(length) (2 * (length) + 1)
 
 /* ---- The proved functions. They take no null pointer. The functions below them do, and are the ones to call. */
 
@@ -200,6 +218,14 @@ fancy_result fancy_parse_nonnull(const char *pattern, size_t length, uint32_t fl
 fancy_result fancy_print_nonnull(const char *pattern, size_t length, uint32_t flags, uint8_t precedence, char *buffer,
                                  size_t capacity);
 fancy_result fancy_pattern_nonnull(const char *pattern, size_t length, uint32_t flags, char *buffer, size_t capacity);
+fancy_result fancy_tree_nonnull(const char *pattern, size_t length, uint32_t flags, fancy_node *nodes, size_t node_capacity,
+                                char *texts, size_t texts_capacity, fancy_name *names, size_t name_capacity, size_t *backrefs,
+                                size_t backref_capacity, fancy_info *info);
+fancy_result fancy_print_nodes_nonnull(const fancy_node *nodes, size_t node_count, const char *texts, size_t texts_size,
+                                       size_t index, uint8_t precedence, char *buffer, size_t capacity);
+fancy_result fancy_pattern_nodes_nonnull(const fancy_node *nodes, size_t node_count, const char *texts, size_t texts_size,
+                                         size_t index, const fancy_name *names, size_t name_count, const fancy_info *info,
+                                         uint32_t flags, char *buffer, size_t capacity);
 
 /* ---- The functions to call. They are inline, and libfancy has them as symbols too, for callers without this header. */
 
@@ -232,8 +258,9 @@ FANCY_INLINE fancy_result fancy_error_text(uint32_t kind, char *buffer, size_t c
     return fancy_error_text_nonnull(kind, buffer ? buffer : &none, capacity);
 }
 
-/* Parses a pattern, and sets *info, unless info is null. Returns OK if everything fits; then the buffers hold:
- *   nodes      the nodes in preorder: each before its children, and these in the order of the pattern;
+/* Parses a pattern, and sets *info if it returns OK or BUFFER_TOO_SHORT, unless info is null. Returns OK if everything fits;
+ * then the buffers hold:
+ *   nodes      the nodes in preorder: each is before its children, and these are in the order of the pattern;
  *   texts      the texts of the nodes, and after them the names of groups;
  *   names      the names in the order of their bytes, each with its group numbers in ascending order;
  *   backrefs   the group numbers of back references, up to total_groups, in ascending order, each once.
@@ -252,10 +279,11 @@ FANCY_INLINE fancy_result fancy_parse(const char *pattern, size_t length, uint32
                                backrefs ? backrefs : &no_number, backref_capacity, info ? info : &no_info);
 }
 
-/* Prints the tree of a pattern in its normal form. Returns OK or BUFFER_TOO_SHORT, each with the size of the text; or
- * NOT_PRINTABLE, since references, look-arounds, atomic groups, calls and the like have no text here. Otherwise it returns
- * what fancy_check returns. Unless it returns OK, nothing is written. Above FANCY_PRECEDENCE_WHOLE an alternation is put
- * into a group, above _BRANCH a concatenation too, and above _PIECE a repetition too. */
+/* Prints the tree of a pattern: the text is parsed as the normal form of that tree. Returns OK or BUFFER_TOO_SHORT, each with
+ * the size of the text; or NOT_PRINTABLE, since references, look-arounds, atomic groups, calls and the like have no text
+ * here. Otherwise it returns what fancy_check returns. Unless it returns OK, nothing is written. Above
+ * FANCY_PRECEDENCE_WHOLE an alternation is put into a group, above _BRANCH a concatenation too, and above _PIECE a
+ * repetition too; above _OPERAND nothing more. */
 FANCY_INLINE fancy_result fancy_print(const char *pattern, size_t length, uint32_t flags, uint8_t precedence, char *buffer,
                                       size_t capacity) {
     char none;
@@ -268,6 +296,80 @@ FANCY_INLINE fancy_result fancy_print(const char *pattern, size_t length, uint32
 FANCY_INLINE fancy_result fancy_pattern(const char *pattern, size_t length, uint32_t flags, char *buffer, size_t capacity) {
     char none;
     return fancy_pattern_nonnull(pattern ? pattern : "", length, flags, buffer ? buffer : &none, capacity);
+}
+
+/* Parses a pattern as fancy_parse does, with two differences. The flag FANCY_WITHOUT_SPANS leaves the spans out, which is
+ * faster. If the pattern is invalid, the message of its error is written to texts: returns REFUSED, with the kind, the
+ * position, and the size of the message; or BUFFER_TOO_SHORT with all of these, if the message does not fit. If it is the
+ * tree that does not fit, the kind is FANCY_ERROR_NONE, and *info says how much is needed. */
+FANCY_INLINE fancy_result fancy_tree(const char *pattern, size_t length, uint32_t flags, fancy_node *nodes,
+                                     size_t node_capacity, char *texts, size_t texts_capacity, fancy_name *names,
+                                     size_t name_capacity, size_t *backrefs, size_t backref_capacity, fancy_info *info) {
+    fancy_node no_node;
+    char no_text;
+    fancy_name no_name;
+    size_t no_number;
+    fancy_info no_info;
+    return fancy_tree_nonnull(pattern ? pattern : "", length, flags, nodes ? nodes : &no_node, node_capacity,
+                              texts ? texts : &no_text, texts_capacity, names ? names : &no_name, name_capacity,
+                              backrefs ? backrefs : &no_number, backref_capacity, info ? info : &no_info);
+}
+
+/* Prints the tree of rows, as fancy_print prints the tree of a pattern. The rows are those from an index on: 0 for the whole
+ * tree, the index of a node for its part of it. Nodes and texts are as fancy_parse or fancy_tree wrote them, or changed, or
+ * made by hand: then each end has to be right, and each text in texts. Spans, the numbers of groups, and what the kind of a
+ * node does not use are not read. Returns OK, BUFFER_TOO_SHORT or NOT_PRINTABLE as fancy_print does; NO_TREE if the rows are
+ * no tree, or one of more than 832 levels; or OUT_OF_MEMORY. Unless it returns OK, nothing is written. */
+FANCY_INLINE fancy_result fancy_print_nodes(const fancy_node *nodes, size_t node_count, const char *texts, size_t texts_size,
+                                            size_t index, uint8_t precedence, char *buffer, size_t capacity) {
+    static fancy_node no_node;
+    char none;
+    return fancy_print_nodes_nonnull(nodes ? nodes : &no_node, node_count, texts ? texts : "", texts_size, index, precedence,
+                                     buffer ? buffer : &none, capacity);
+}
+
+/* Writes a pattern that is parsed, under the flags, as the tree of rows, with names for its groups. The rows are as
+ * fancy_print_nodes takes them. The k-th FANCY_NODE_GROUP of all rows has the number k, by which names refers to it; names
+ * of groups that are not in the tree are left out. References are written as they are: they keep their numbers, also in a
+ * part of a tree whose groups have smaller numbers there. Of info, which may be null, only two fields are read:
+ * numeric_capture_group_references and self_recursive say whether references, and calls of the whole pattern, are written by
+ * numbers, as far as there is a choice. Returns OK, BUFFER_TOO_SHORT, NO_TREE or OUT_OF_MEMORY as fancy_print_nodes does; or
+ * NO_PATTERN if what is written for the tree does not parse back as this tree, which never happens to all the rows of a
+ * pattern, under its flags, with its names and info. */
+FANCY_INLINE fancy_result fancy_pattern_nodes(const fancy_node *nodes, size_t node_count, const char *texts,
+                                              size_t texts_size, size_t index, const fancy_name *names, size_t name_count,
+                                              const fancy_info *info, uint32_t flags, char *buffer, size_t capacity) {
+    static fancy_node no_node;
+    static fancy_name no_name;
+    static fancy_info no_info;
+    char none;
+    return fancy_pattern_nodes_nonnull(nodes ? nodes : &no_node, node_count, texts ? texts : "", texts_size, index,
+                                       names ? names : &no_name, name_count, info ? info : &no_info, flags,
+                                       buffer ? buffer : &none, capacity);
+}
+
+/* Returns the message of a kind of error, ending with NUL, as a constant: what fancy_error_text writes. In the message of an
+ * error, what follows it is the text that depends on the pattern. It is empty for a number that no kind has. */
+FANCY_INLINE const char *fancy_kind_message(uint32_t kind) {
+    switch (kind) {
+    case FANCY_ERROR_GENERAL_PARSE_ERROR: return "General parsing error: ";
+    case FANCY_ERROR_UNCLOSED_OPEN_PAREN: return "Opening parenthesis without closing parenthesis";
+    case FANCY_ERROR_INVALID_REPEAT: return "Invalid repeat syntax";
+    case FANCY_ERROR_RECURSION_EXCEEDED: return "Pattern too deeply nested";
+    case FANCY_ERROR_TRAILING_BACKSLASH: return "Backslash without following character";
+    case FANCY_ERROR_INVALID_ESCAPE: return "Invalid escape: ";
+    case FANCY_ERROR_UNCLOSED_UNICODE_NAME: return "Unicode escape not closed";
+    case FANCY_ERROR_INVALID_HEX: return "Invalid hex escape";
+    case FANCY_ERROR_INVALID_CODEPOINT_VALUE: return "Invalid codepoint for hex or unicode escape";
+    case FANCY_ERROR_INVALID_CLASS: return "Invalid character class";
+    case FANCY_ERROR_UNKNOWN_FLAG: return "Unknown group flag: ";
+    case FANCY_ERROR_CHANGING_UNICODE_MODE_UNSUPPORTED: return "Changing Unicode mode inline is not supported";
+    case FANCY_ERROR_INVALID_BACKREF: return "Invalid back reference";
+    case FANCY_ERROR_TARGET_NOT_REPEATABLE: return "Target of repeat operator is invalid";
+    case FANCY_ERROR_INVALID_GROUP_NAME: return "Could not parse group name";
+    case FANCY_ERROR_INVALID_GROUP_NAME_BACKREF: return "Invalid group name in back reference: ";
+    default: return "";
+    }
 }
 
 #ifdef __cplusplus

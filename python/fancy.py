@@ -98,10 +98,7 @@ class ErrorKind(enum.IntEnum):
         before that text, as `Invalid escape: `."""
         if self is ErrorKind.NOT_UTF8:
             return "Not UTF-8"
-        got, text = _text(lambda buffer, capacity: _library.fancy_error_text(self, buffer, capacity))
-        if got.status == _OUT_OF_MEMORY:
-            raise MemoryError
-        return text.decode()
+        return _library.fancy_kind_message(self).decode()
 
 
 class AssertionKind(enum.IntEnum):
@@ -211,6 +208,19 @@ class Node:
     def kind(self) -> str:
         """The name of the kind, as "Literal"."""
         return type(self).__name__
+
+    def normal_form(self, precedence: int = Precedence.WHOLE) -> Optional[str]:
+        """Returns a text that is parsed as the normal form of this node with its descendants, as the function `normal_form` does
+        for a pattern; or None if they are not printable, or have more than 832 levels. The node may have been made by hand.
+
+        >>> [node.normal_form() for node in parse("(?=a)(?:b|c)*").root.children]
+        [None, '(?:b|c)*']
+        """
+        rows = _Rows(self)
+        got, text = _text(lambda buffer, capacity: _library.fancy_print_nodes(*rows.arguments(), precedence, buffer, capacity))
+        if got.status == _OUT_OF_MEMORY:
+            raise MemoryError
+        return text.decode() if got.status == _OK else None
 
     def walk(self) -> Iterator[Node]:
         """The node and its descendants in preorder: each before its children, these in the order of the pattern."""
@@ -422,6 +432,31 @@ class Tree:
         """All nodes in preorder."""
         return self.root.walk()
 
+    def format(self) -> Optional[str]:
+        """Returns a pattern that is parsed, under the same flags, as this tree with these names; or None if there is none, as may
+        be after the tree was changed. Of the group information it needs only the names, by the numbers that groups have in the
+        tree, and the two fields that say whether references are written by numbers.
+
+        >>> from dataclasses import replace
+        >>> tree = parse("(?<n>a+)b")
+        >>> group, rest = tree.root.children
+        >>> replace(tree, root=replace(tree.root, children=(rest, group))).format()
+        'b(?<n>a+)'
+        """
+        rows = _Rows(self.root)
+        names = rows.names(self.named_groups)
+        info = _Info(
+            numeric_capture_group_references=self.numeric_capture_group_references, self_recursive=self.self_recursive
+        )
+        got, text = _text(
+            lambda buffer, capacity: _library.fancy_pattern_nodes(
+                *rows.arguments(), names, len(names), ctypes.byref(info), int(self.flags), buffer, capacity
+            )
+        )
+        if got.status == _OUT_OF_MEMORY:
+            raise MemoryError
+        return text.decode() if got.status == _OK else None
+
 
 # ---- the library
 
@@ -456,9 +491,9 @@ class _Info(ctypes.Structure):
     ]  # fmt: skip
 
 
-_OK, _REFUSED, _NOT_UTF8, _OUT_OF_MEMORY, _BUFFER_TOO_SHORT, _NOT_PRINTABLE, _NO_PATTERN = range(7)
+_OK, _REFUSED, _NOT_UTF8, _OUT_OF_MEMORY, _BUFFER_TOO_SHORT, _NOT_PRINTABLE, _NO_PATTERN, _NO_TREE = range(8)
 _UNBOUNDED = ctypes.c_size_t(-1).value
-_MAJOR = 1
+_MAJOR, _MINOR = 1, 1
 
 
 def _load() -> ctypes.CDLL:
@@ -473,21 +508,30 @@ def _load() -> ctypes.CDLL:
         library = ctypes.CDLL(found)
     pattern = [ctypes.c_char_p, ctypes.c_size_t, ctypes.c_uint32]
     buffer = [ctypes.c_void_p, ctypes.c_size_t]
+    rows = 2 * buffer + [ctypes.c_size_t]
     library.fancy_version.argtypes, library.fancy_version.restype = [], ctypes.c_uint32
+    _check_version(library, name)
+    library.fancy_kind_message.argtypes, library.fancy_kind_message.restype = [ctypes.c_uint32], ctypes.c_char_p
     for call, arguments in {
         "fancy_check": pattern,
         "fancy_message": pattern + buffer,
-        "fancy_error_text": [ctypes.c_uint32] + buffer,
         "fancy_parse": pattern + 4 * buffer + [ctypes.POINTER(_Info)],
         "fancy_print": pattern + [ctypes.c_uint8] + buffer,
         "fancy_pattern": pattern + buffer,
+        "fancy_tree": pattern + 4 * buffer + [ctypes.POINTER(_Info)],
+        "fancy_print_nodes": rows + [ctypes.c_uint8] + buffer,
+        "fancy_pattern_nodes": rows + buffer + [ctypes.POINTER(_Info), ctypes.c_uint32] + buffer,
     }.items():
         function = getattr(library, call)
         function.argtypes, function.restype = arguments, _Result
-    major = library.fancy_version() // 1_000_000
-    if major != _MAJOR:
-        raise ImportError(f"{name} has the major version {major}, and {_MAJOR} is needed")
     return library
+
+
+def _check_version(library: ctypes.CDLL, name: str) -> None:
+    version = library.fancy_version()
+    major, minor = version // 1_000_000, version // 1000 % 1000
+    if major != _MAJOR or minor < _MINOR:
+        raise ImportError(f"{name} has the version {major}.{minor}, and {_MAJOR}.{_MINOR} or a later {_MAJOR} is needed")
 
 
 _library = _load()
@@ -565,8 +609,6 @@ class _Builder:
 
     def __init__(self, source: _Source, rows: Sequence[_Node], texts: bytes, names: Dict[int, str]) -> None:
         self.source, self.rows, self.texts, self.names = source, rows, texts, names
-        # of each row, how many groups there are up to it
-        self.groups = list(itertools.accumulate(int(row.kind == Group.number) for row in rows))
 
     def root(self) -> Node:
         """The node of the first row, with all the others below it."""
@@ -576,15 +618,15 @@ class _Builder:
             while apart and apart[-1][0] < row.end:
                 children.append(apart.pop()[1])
             kind = _KINDS[row.kind - 1]
-            fields = self.fields(at, row, kind)
+            fields = self.fields(row, kind)
             apart.append((at, kind(self.source.span(row), (row.start, row.stop), tuple(children), *fields)))
         return apart[0][1]
 
-    def fields(self, at: int, row: _Node, kind: Type[Node]) -> tuple:
+    def fields(self, row: _Node, kind: Type[Node]) -> tuple:
         """The fields that a node has beside those of each, in order."""
         text = self.texts[row.text : row.text + row.text_size]
         if kind is Group:
-            return self.groups[at], self.names.get(self.groups[at])
+            return row.group, self.names.get(row.group)
         if kind in (Literal, Delegate):
             return text.decode(), row.casei
         if kind is LiteralBytes:
@@ -613,6 +655,61 @@ class _Builder:
         return ()
 
 
+class _Rows:
+    """The rows of a node and its descendants, for the library to read."""
+
+    def __init__(self, root: Node) -> None:
+        self.texts = bytearray()
+        rows: List[_Node] = []
+        # a number stands for the row whose descendants are all written
+        ahead: List[Union[Node, int]] = [root]
+        while ahead:
+            node = ahead.pop()
+            if isinstance(node, int):
+                rows[node].end = len(rows)
+            else:
+                ahead.append(len(rows))
+                ahead.extend(reversed(node.children))
+                rows.append(self.row(node))
+        self.nodes = (_Node * len(rows))(*rows)
+
+    def arguments(self) -> tuple:
+        return self.nodes, len(self.nodes), bytes(self.texts), len(self.texts), 0
+
+    def text(self, text: Union[str, bytes]) -> Dict[str, int]:
+        start = len(self.texts)
+        self.texts += text.encode() if isinstance(text, str) else text
+        return {"text": start, "text_size": len(self.texts) - start}
+
+    def names(self, named: Dict[str, Tuple[int, ...]]) -> ctypes.Array:
+        names = [_Name(group=number, **self.text(name)) for name, numbers in named.items() for number in numbers]
+        return (_Name * len(names))(*names)
+
+    def row(self, node: Node) -> _Node:
+        """The row of a node, but for its end."""
+        row = _Node(kind=node.number)
+        for name in ("which", "lo", "group", "newline", "crlf", "unicode", "casei", "greedy"):
+            setattr(row, name, getattr(node, name, 0))
+        text: Union[str, bytes] = b""
+        if isinstance(node, (Literal, Delegate)):
+            text = node.text
+        elif isinstance(node, LiteralBytes):
+            text = node.value
+        elif isinstance(node, Repeat):
+            row.hi = _UNBOUNDED if node.hi is None else node.hi
+        elif isinstance(node, (BackrefAtLevel, BackrefExistsCondition)):
+            row.has_level, row.level = node.level is not None, node.level or 0
+        elif isinstance(node, AstNode):
+            row.position, target = node.byte_position, node.target
+            row.which = 1 if isinstance(target, int) else 2 if isinstance(target, str) else 3
+            row.group = target if isinstance(target, int) else 0
+            row.level = target.number if isinstance(target, Relative) else 0
+            text = target if isinstance(target, str) else b""
+        for name, value in self.text(text).items():
+            setattr(row, name, value)
+        return row
+
+
 _WHICH: Dict[Type[Node], Type[enum.IntEnum]] = {LookAround: LookKind, Verb: VerbKind, Absent: AbsentKind}
 
 
@@ -630,21 +727,17 @@ def _named_groups(names: ctypes.Array, texts: bytes) -> Dict[str, Tuple[int, ...
 def parse(pattern: Pattern, flags: int = UNICODE) -> Tree:
     """Parses a pattern. Raises `Error` if it is invalid."""
     source, info = _Source(pattern, flags), _Info()
-    # of n bytes there are at most 2 n + 1 nodes; for the rest, try as much as most patterns need
-    nodes = (_Node * min(2 * len(source.bytes) + 1, 1024))()
-    texts = ctypes.create_string_buffer(2 * len(source.bytes) + 64)
-    names, backrefs = (_Name * 16)(), (ctypes.c_size_t * 16)()
-    while True:
-        got = _library.fancy_parse(
-            *source.arguments, nodes, len(nodes), texts, len(texts), names, len(names), backrefs, len(backrefs),
-            ctypes.byref(info),
-        )  # fmt: skip
-        if got.status != _BUFFER_TOO_SHORT:
-            break
-        nodes, texts = (_Node * info.node_count)(), ctypes.create_string_buffer(max(info.texts_size, 1))
-        names, backrefs = (_Name * info.name_count)(), (ctypes.c_size_t * info.backref_count)()
+    # what the header says that is enough for a pattern of n bytes
+    count = 2 * len(source.bytes) + 1
+    nodes, names, backrefs = (_Node * count)(), (_Name * count)(), (ctypes.c_size_t * count)()
+    texts = ctypes.create_string_buffer(6 * len(source.bytes) + 128)
+    got = _library.fancy_tree(
+        *source.arguments, nodes, count, texts, len(texts), names, count, backrefs, count, ctypes.byref(info)
+    )
     if got.status == _OUT_OF_MEMORY:
         raise MemoryError
+    if got.status == _REFUSED:
+        raise source.error(got, texts.raw[: got.size].decode())
     if got.status != _OK:
         raise source.refusal() or AssertionError
     written = texts.raw[: info.texts_size]
@@ -685,7 +778,7 @@ def format(pattern: Pattern, flags: int = UNICODE) -> str:
 
 
 def normal_form(pattern: Pattern, flags: int = UNICODE, precedence: int = Precedence.WHOLE) -> Optional[str]:
-    """Returns the text of a pattern's tree in its normal form, or None if the tree is not printable: references,
+    """Returns a text that is parsed as the normal form of a pattern's tree, or None if the tree is not printable: references,
     look-arounds, atomic groups, calls and the like have no text here. Raises `Error` if the pattern is invalid."""
     source = _Source(pattern, flags)
     status, text = source.text(

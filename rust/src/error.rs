@@ -1,8 +1,7 @@
 //! Why a pattern has no tree.
 
-use crate::call::{self, Text};
 use crate::ffi::CallResult;
-use crate::{ffi, numbers, Flags};
+use crate::numbers;
 use std::fmt;
 
 /// Why a call has no result.
@@ -19,7 +18,7 @@ pub enum Error {
     /// While an owned tree is built, Rust's own allocations abort the process if they fail, as elsewhere in Rust.
     OutOfMemory,
     /// The library returned what `fancy.h` rules out, which the text says. libfancy never does: what is linked is something
-    /// else, or has another major version.
+    /// else, or has another major version, or is older than 1.1.
     Library(&'static str),
 }
 
@@ -91,14 +90,14 @@ impl Error {
         }
     }
 
-    /// The error that a call returned. A kind whose message depends on the pattern takes one more call.
+    /// The error that a call returned for a pattern, with the message that it wrote at the start of a buffer.
     #[cold]
-    pub(crate) fn of(result: CallResult, pattern: &str, flags: Flags) -> Error {
+    pub(crate) fn of(result: CallResult, pattern: &str, buffer: &[u8]) -> Error {
         match result.status {
             numbers::STATUS_REFUSED if result.position > pattern.len().saturating_add(1) => {
                 Error::Library("the position of an error is past the pattern")
             }
-            numbers::STATUS_REFUSED => match ParseError::of(result.kind, pattern, flags) {
+            numbers::STATUS_REFUSED => match ParseError::of(result.kind, buffer.get(..result.size)) {
                 Ok(kind) => Error::ParseError(result.position, kind),
                 Err(error) => error,
             },
@@ -127,7 +126,9 @@ impl ParseError {
         }
     }
 
-    fn of(kind: u32, pattern: &str, flags: Flags) -> Result<ParseError, Error> {
+    fn of(kind: u32, message: Option<&[u8]>) -> Result<ParseError, Error> {
+        let message = message.ok_or(Error::Library("a text that is longer than its buffer"))?;
+        let message = std::str::from_utf8(message).map_err(|_| Error::Library("a text that is not UTF-8"))?;
         let mut error = ParseError::numbered(kind).ok_or(Error::Library("a kind of error without a name"))?;
         let before = error.before_text();
         if let ParseError::GeneralParseError(text)
@@ -135,7 +136,7 @@ impl ParseError {
         | ParseError::UnknownFlag(text)
         | ParseError::InvalidGroupNameBackref(text) = &mut error
         {
-            *text = message(pattern, flags)?
+            *text = message
                 .strip_prefix(before)
                 .ok_or(Error::Library("a message that does not begin as its kind does"))?
                 .to_owned();
@@ -189,16 +190,6 @@ impl ParseError {
     }
 }
 
-/// The message of the error of a pattern.
-fn message(pattern: &str, flags: Flags) -> Result<String, Error> {
-    let write = |buffer: &mut [u8]| ffi::message(pattern, flags.bits(), buffer);
-    match call::written(pattern, write, numbers::STATUS_REFUSED)? {
-        Text::Written(message) => Ok(message),
-        Text::Not(result) if result.status == numbers::STATUS_OUT_OF_MEMORY => Err(Error::OutOfMemory),
-        Text::Not(_) => Err(Error::Library("an error that is gone when the pattern is parsed again")),
-    }
-}
-
 impl fmt::Display for ParseError {
     fn fmt(&self, f: &mut fmt::Formatter<'_>) -> fmt::Result {
         f.write_str(self.before_text())?;
@@ -225,6 +216,7 @@ impl std::error::Error for ParseError {}
 #[cfg(test)]
 mod tests {
     use super::*;
+    use crate::ffi;
 
     #[test]
     fn messages_begin_as_those_of_the_library() {

@@ -1,8 +1,9 @@
-//! The calls of `fancy.h`, version 1. This is the only file of the crate with `unsafe` code.
+//! The calls of `fancy.h`, version 1.1. This is the only file of the crate with `unsafe` code.
 //!
 //! What is called are the proved functions, whose names end in `_nonnull`: they take no null pointer, and a slice never
 //! has one. A bool of C is read as a `u8`, so that each byte is a valid one, whatever the library writes.
 
+use crate::call::RowsIn;
 use core::ffi::c_char;
 
 /// `fancy_result`
@@ -68,15 +69,18 @@ pub(crate) struct Info {
 #[rustfmt::skip]
 extern "C" {
     fn fancy_version() -> u32;
-    fn fancy_check_nonnull(pattern: *const c_char, length: usize, flags: u32) -> CallResult;
     fn fancy_message_nonnull(pattern: *const c_char, length: usize, flags: u32, buffer: *mut c_char, capacity: usize) -> CallResult;
     #[cfg(test)]
     fn fancy_error_text_nonnull(kind: u32, buffer: *mut c_char, capacity: usize) -> CallResult;
-    fn fancy_parse_nonnull(pattern: *const c_char, length: usize, flags: u32, nodes: *mut Node, node_capacity: usize,
+    fn fancy_tree_nonnull(pattern: *const c_char, length: usize, flags: u32, nodes: *mut Node, node_capacity: usize,
         texts: *mut c_char, texts_capacity: usize, names: *mut Name, name_capacity: usize,
         backrefs: *mut usize, backref_capacity: usize, info: *mut Info) -> CallResult;
     fn fancy_print_nonnull(pattern: *const c_char, length: usize, flags: u32, precedence: u8, buffer: *mut c_char, capacity: usize) -> CallResult;
     fn fancy_pattern_nonnull(pattern: *const c_char, length: usize, flags: u32, buffer: *mut c_char, capacity: usize) -> CallResult;
+    fn fancy_print_nodes_nonnull(nodes: *const Node, node_count: usize, texts: *const c_char, texts_size: usize, index: usize,
+        precedence: u8, buffer: *mut c_char, capacity: usize) -> CallResult;
+    fn fancy_pattern_nodes_nonnull(nodes: *const Node, node_count: usize, texts: *const c_char, texts_size: usize, index: usize,
+        names: *const Name, name_count: usize, info: *const Info, flags: u32, buffer: *mut c_char, capacity: usize) -> CallResult;
 }
 
 // All that `docs/c.md` asks of a caller about pointers is asked of each call below: none is null, each is aligned, each points
@@ -86,11 +90,6 @@ extern "C" {
 pub(crate) fn version() -> u32 {
     // SAFETY: it has no argument, and returns a constant
     unsafe { fancy_version() }
-}
-
-pub(crate) fn check(pattern: &str, flags: u32) -> CallResult {
-    // SAFETY: the pattern is a slice
-    unsafe { fancy_check_nonnull(pattern.as_ptr().cast(), pattern.len(), flags) }
 }
 
 #[rustfmt::skip]
@@ -106,12 +105,12 @@ pub(crate) fn error_text(kind: u32, buffer: &mut [u8]) -> CallResult {
 }
 
 #[rustfmt::skip]
-pub(crate) fn parse(pattern: &str, flags: u32, nodes: &mut [Node], texts: &mut [u8], names: &mut [Name],
+pub(crate) fn tree(pattern: &str, flags: u32, nodes: &mut [Node], texts: &mut [u8], names: &mut [Name],
     backrefs: &mut [usize], info: &mut Info) -> CallResult {
     // SAFETY: the pattern is a slice; the four buffers are slices, and these and `info` are distinct mutable borrows; their
     // items are integers, so whatever is written to them is valid; the structs are laid out as those of `fancy.h`
     unsafe {
-        fancy_parse_nonnull(pattern.as_ptr().cast(), pattern.len(), flags, nodes.as_mut_ptr(), nodes.len(),
+        fancy_tree_nonnull(pattern.as_ptr().cast(), pattern.len(), flags, nodes.as_mut_ptr(), nodes.len(),
             texts.as_mut_ptr().cast(), texts.len(), names.as_mut_ptr(), names.len(),
             backrefs.as_mut_ptr(), backrefs.len(), info)
     }
@@ -127,4 +126,24 @@ pub(crate) fn print(pattern: &str, flags: u32, precedence: u8, buffer: &mut [u8]
 pub(crate) fn pattern(pattern: &str, flags: u32, buffer: &mut [u8]) -> CallResult {
     // SAFETY: the pattern and the buffer are slices, the second a mutable borrow
     unsafe { fancy_pattern_nonnull(pattern.as_ptr().cast(), pattern.len(), flags, buffer.as_mut_ptr().cast(), buffer.len()) }
+}
+
+#[rustfmt::skip]
+pub(crate) fn print_nodes(rows: RowsIn<'_>, precedence: u8, buffer: &mut [u8]) -> CallResult {
+    let RowsIn { nodes, texts, index } = rows;
+    // SAFETY: all are slices, the last a mutable borrow
+    unsafe {
+        fancy_print_nodes_nonnull(nodes.as_ptr(), nodes.len(), texts.as_ptr().cast(), texts.len(), index, precedence,
+            buffer.as_mut_ptr().cast(), buffer.len())
+    }
+}
+
+#[rustfmt::skip]
+pub(crate) fn pattern_nodes(rows: RowsIn<'_>, names: &[Name], info: &Info, flags: u32, buffer: &mut [u8]) -> CallResult {
+    let RowsIn { nodes, texts, index } = rows;
+    // SAFETY: all are slices, the last a mutable borrow, and `info` is a borrow
+    unsafe {
+        fancy_pattern_nodes_nonnull(nodes.as_ptr(), nodes.len(), texts.as_ptr().cast(), texts.len(), index,
+            names.as_ptr(), names.len(), info, flags, buffer.as_mut_ptr().cast(), buffer.len())
+    }
 }

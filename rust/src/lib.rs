@@ -18,7 +18,8 @@
 //! - [`parse`] returns an owned [`Tree`], with the types and names of fancy-regex: [`Expr`] and what is in it.
 //! - [`Rows`] holds a tree as the library writes it, in buffers that later patterns use again. It is for programs that only look.
 //! - [`check`] says only whether a pattern is valid.
-//! - [`to_pattern`] and [`print()`] write the tree of a pattern as a pattern again.
+//! - [`to_pattern`] and [`print()`] write the tree of a pattern as a pattern again; [`Tree::to_pattern`] and [`Expr::print`] do this
+//!   for a tree that may have been changed, and [`NodeRef::print`] for a part of one.
 //!
 //! Positions and spans are byte offsets. The functions may be called in several threads at once. What the library returns is
 //! checked, and a library that is something else than libfancy is an error ([`Error::Library`]), not a panic.
@@ -36,6 +37,7 @@ mod node;
 mod numbers;
 mod rows;
 mod tree;
+mod written;
 
 pub use error::{Error, ParseError};
 pub use expr::{Absent, Assertion, AstNode, BacktrackingControlVerb, CaptureGroupTarget, Expr, LookAround};
@@ -46,6 +48,7 @@ pub use rows::Rows;
 pub use tree::{GroupInfo, Span, Tree};
 
 use call::Text;
+use ffi::CallResult;
 
 /// Parses a pattern under flags.
 ///
@@ -65,6 +68,25 @@ pub fn parse(pattern: &str, flags: Flags) -> Result<Tree, Error> {
     Rows::new().parse(pattern, flags).map(Rows::to_tree)
 }
 
+/// Parses a pattern under flags, without the spans of its nodes: [`Tree::spans`] is empty. It is cheaper than [`parse`].
+///
+/// # Errors
+///
+/// Those of [`parse`].
+///
+/// ```
+/// use fancy_syntax::{parse, parse_without_spans, Flags};
+/// let tree = parse_without_spans("a|b", Flags::UNICODE)?;
+/// assert!(tree.spans.is_empty());
+/// assert_eq!(tree.expr, parse("a|b", Flags::UNICODE)?.expr);
+/// # Ok::<(), fancy_syntax::Error>(())
+/// ```
+pub fn parse_without_spans(pattern: &str, flags: Flags) -> Result<Tree, Error> {
+    let mut rows = Rows::new();
+    let rows = rows.parse_without_spans(pattern, flags)?;
+    Ok(Tree { expr: rows.root().to_expr(), spans: Vec::new(), groups: rows.groups() })
+}
+
 /// Checks whether a pattern is valid. It is cheaper than [`parse`], since no tree is returned.
 ///
 /// # Errors
@@ -78,17 +100,45 @@ pub fn parse(pattern: &str, flags: Flags) -> Result<Tree, Error> {
 /// ```
 pub fn check(pattern: &str, flags: Flags) -> Result<(), Error> {
     call::ready()?;
-    let result = ffi::check(pattern, flags.bits());
+    // for most messages; a longer one takes one more call
+    let mut short = [0; 128];
+    let result = ffi::message(pattern, flags.bits(), &mut short);
     match result.status {
         numbers::STATUS_OK => Ok(()),
-        _ => Err(Error::of(result, pattern, flags)),
+        numbers::STATUS_BUFFER_TOO_SHORT => Err(error_with_size(pattern, flags, result.size)),
+        _ => Err(Error::of(result, pattern, &short)),
+    }
+}
+
+/// The error of a pattern whose message has this size.
+#[cold]
+fn error_with_size(pattern: &str, flags: Flags, size: usize) -> Error {
+    if size > pattern.len().saturating_add(1024) {
+        return Error::Library("a text that is longer than any");
+    }
+    let mut buffer = Vec::new();
+    match call::grow(&mut buffer, size) {
+        Ok(()) => Error::of(ffi::message(pattern, flags.bits(), &mut buffer), pattern, &buffer),
+        Err(error) => error,
+    }
+}
+
+/// The error of a pattern for which a call wrote no text.
+#[cold]
+fn error_of(result: CallResult, pattern: &str, flags: Flags) -> Error {
+    match result.status {
+        numbers::STATUS_REFUSED => match check(pattern, flags) {
+            Err(error) => error,
+            Ok(()) => Error::Library("an error that is gone when the pattern is parsed again"),
+        },
+        _ => Error::of(result, pattern, &[]),
     }
 }
 
 /// Writes the tree of a pattern as a pattern again: one that is parsed, under the same flags, as the same tree with the same
 /// groups and names. Comments, ignored whitespace, and the choice among several ways to write the same node are lost.
 ///
-/// The library has no call that takes a tree, so this parses the pattern, and a tree that was changed cannot be written.
+/// [`Tree::to_pattern`] and [`Rows::to_pattern`] do this for a tree that is there already.
 ///
 /// # Errors
 ///
@@ -101,9 +151,9 @@ pub fn check(pattern: &str, flags: Flags) -> Result<(), Error> {
 /// ```
 pub fn to_pattern(pattern: &str, flags: Flags) -> Result<String, Error> {
     let write = |buffer: &mut [u8]| ffi::pattern(pattern, flags.bits(), buffer);
-    match call::written(pattern, write, numbers::STATUS_OK)? {
+    match call::written(pattern.len(), write, numbers::STATUS_OK)? {
         Text::Written(text) => Ok(text),
-        Text::Not(result) => Err(Error::of(result, pattern, flags)),
+        Text::Not(result) => Err(error_of(result, pattern, flags)),
     }
 }
 
@@ -125,7 +175,7 @@ pub enum Precedence {
 /// a look-around, an atomic group, a call and the like. The text is to be parsed with no flag or with [`Flags::UNICODE`] only.
 /// It is the text that `to_str` of fancy-regex writes.
 ///
-/// The library has no call that takes a tree, so this parses the pattern, and a tree that was changed cannot be printed.
+/// [`Expr::print`] and [`NodeRef::print`] do this for a tree that is there already.
 ///
 /// # Errors
 ///
@@ -140,10 +190,10 @@ pub enum Precedence {
 /// ```
 pub fn print(pattern: &str, flags: Flags, precedence: Precedence) -> Result<Option<String>, Error> {
     let write = |buffer: &mut [u8]| ffi::print(pattern, flags.bits(), precedence as u8, buffer);
-    match call::written(pattern, write, numbers::STATUS_OK)? {
+    match call::written(pattern.len(), write, numbers::STATUS_OK)? {
         Text::Written(text) => Ok(Some(text)),
         Text::Not(result) if result.status == numbers::STATUS_NOT_PRINTABLE => Ok(None),
-        Text::Not(result) => Err(Error::of(result, pattern, flags)),
+        Text::Not(result) => Err(error_of(result, pattern, flags)),
     }
 }
 

@@ -1,11 +1,12 @@
 //! The nodes of a tree, seen in the rows that the library wrote.
 
 use crate::ffi::Node;
+use crate::written::{pattern_of_rows, print_rows};
 use crate::{numbers, Absent, Assertion, AstNode, BacktrackingControlVerb, CaptureGroupTarget};
-use crate::{Expr, LookAround, Rows, Span};
+use crate::{Error, Expr, Flags, LookAround, Precedence, Rows, Span};
 use std::fmt;
 
-/// A node of a tree that is in [`Rows`]. It is as small as two words, and no call but [`to_expr`](NodeRef::to_expr) allocates.
+/// A node of a tree that is in [`Rows`]. It is as small as two words, and only what returns a tree or a text allocates.
 #[derive(Clone, Copy)]
 pub struct NodeRef<'a> {
     rows: &'a Rows,
@@ -32,7 +33,7 @@ pub enum Kind<'a> {
     Concat,
     /// As [`Expr::Alt`].
     Alt,
-    /// As [`Expr::Group`].
+    /// As [`Expr::Group`]. [`NodeRef::group`] is its number.
     Group,
     /// As [`Expr::LookAround`].
     LookAround(LookAround),
@@ -164,6 +165,21 @@ impl<'a> NodeRef<'a> {
         self.index
     }
 
+    /// The number of the group, if the node is a capturing group.
+    ///
+    /// ```
+    /// use fancy_syntax::{Flags, Rows};
+    /// let mut rows = Rows::new();
+    /// let root = rows.parse("(a)b(c)", Flags::UNICODE)?.root();
+    /// let numbers: Vec<_> = root.children().map(|child| child.group()).collect();
+    /// assert_eq!(numbers, [Some(1), None, Some(2)]);
+    /// # Ok::<(), fancy_syntax::Error>(())
+    /// ```
+    pub fn group(self) -> Option<usize> {
+        let row = self.row();
+        (row.kind == numbers::NODE_GROUP).then_some(row.group)
+    }
+
     /// The children of the node, in the order of the pattern.
     ///
     /// ```
@@ -188,6 +204,45 @@ impl<'a> NodeRef<'a> {
     /// ```
     pub fn walk(self) -> impl ExactSizeIterator<Item = NodeRef<'a>> + DoubleEndedIterator {
         (self.index..self.row().end).map(move |index| NodeRef::new(self.rows, index))
+    }
+
+    /// Prints the node and its descendants in the syntax of the crate `regex`, as [`print()`](crate::print()) prints a whole
+    /// tree; `None` if they are not printable. It is for engines that leave parts of a pattern to another one.
+    ///
+    /// # Errors
+    ///
+    /// [`Error::OutOfMemory`] and [`Error::Library`], as for [`parse`](crate::parse).
+    ///
+    /// ```
+    /// use fancy_syntax::{Flags, Precedence, Rows};
+    /// let mut rows = Rows::new();
+    /// let root = rows.parse(r"(?=a)(?:b|c)*", Flags::UNICODE)?.root();
+    /// let texts: Result<Vec<_>, _> = root.children().map(|child| child.print(Precedence::Piece)).collect();
+    /// assert_eq!(texts?, [None, Some("(?:b|c)*".to_owned())]);
+    /// # Ok::<(), fancy_syntax::Error>(())
+    /// ```
+    pub fn print(self, precedence: Precedence) -> Result<Option<String>, Error> {
+        print_rows(self.rows.rows_from(self.index), precedence)
+    }
+
+    /// Writes a pattern that is parsed, under these flags, as the node and its descendants, with the names of the groups among
+    /// them; `None` if there is none. References keep their numbers.
+    ///
+    /// # Errors
+    ///
+    /// [`Error::OutOfMemory`] and [`Error::Library`], as for [`parse`](crate::parse).
+    ///
+    /// ```
+    /// use fancy_syntax::{Flags, Rows};
+    /// let mut rows = Rows::new();
+    /// let root = rows.parse("(a)(?<n>b|c)", Flags::UNICODE)?.root();
+    /// let texts: Result<Vec<_>, _> = root.children().map(|child| child.to_pattern(Flags::UNICODE)).collect();
+    /// assert_eq!(texts?, [Some("(a)".to_owned()), Some("(?<n>b|c)".to_owned())]);
+    /// # Ok::<(), fancy_syntax::Error>(())
+    /// ```
+    pub fn to_pattern(self, flags: Flags) -> Result<Option<String>, Error> {
+        let (names, info) = self.rows.names_and_info();
+        pattern_of_rows(self.rows.rows_from(self.index), names, info, flags)
     }
 
     /// The node and its descendants as an owned tree.

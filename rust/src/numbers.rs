@@ -25,6 +25,8 @@ numbers! {
     STATUS_OUT_OF_MEMORY = 3,
     STATUS_BUFFER_TOO_SHORT = 4,
     STATUS_NOT_PRINTABLE = 5,
+    STATUS_NO_PATTERN = 6,
+    STATUS_NO_TREE = 7,
 
     ERROR_GENERAL_PARSE_ERROR = 1,
     ERROR_UNCLOSED_OPEN_PAREN = 2,
@@ -106,7 +108,10 @@ numbers! {
     PRECEDENCE_PIECE = 2,
     PRECEDENCE_OPERAND = 3,
 
+    WITHOUT_SPANS = 65536,
+
     VERSION_MAJOR = 1,
+    VERSION_MINOR = 1,
 }
 
 #[cfg(test)]
@@ -114,9 +119,9 @@ mod tests {
     use super::ALL;
     use std::collections::BTreeMap;
 
-    /// Constants of the header that this crate does not use: statuses and a kind that are never returned for a `str`, and the
-    /// rest of the version.
-    const UNUSED: [&str; 5] = ["STATUS_NOT_UTF8", "STATUS_NO_PATTERN", "ERROR_NONE", "VERSION_MINOR", "VERSION_PATCH"];
+    /// Constants of the header that this crate does not use: a status that is never returned for a `str`, that a result has no
+    /// error, and the rest of the version.
+    const UNUSED: [&str; 3] = ["STATUS_NOT_UTF8", "ERROR_NONE", "VERSION_PATCH"];
 
     /// `FANCY_NAME = 1` and `#define FANCY_NAME 1`, as a name without `FANCY_`, and a number.
     fn constants(header: &str) -> BTreeMap<String, u32> {

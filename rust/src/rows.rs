@@ -1,6 +1,6 @@
 //! The buffers that the library writes a tree to.
 
-use crate::call::{grow, ready};
+use crate::call::{grow, ready, RowsIn};
 use crate::ffi::{self, CallResult, Info, Name, Node};
 use crate::node::{self, Kind, NodeRef};
 use crate::{numbers, Error, Flags, GroupInfo, Tree};
@@ -78,11 +78,51 @@ impl Rows {
     /// # Ok::<(), fancy_syntax::Error>(())
     /// ```
     pub fn parse(&mut self, pattern: &str, flags: Flags) -> Result<&Rows, Error> {
-        let outcome = self.fill(pattern, flags).and_then(|()| self.check(pattern));
+        self.parse_bits(pattern, flags.bits())
+    }
+
+    /// Parses a pattern into the buffers, without the spans of its nodes: each is `0..0`. It is cheaper than
+    /// [`parse`](Rows::parse).
+    ///
+    /// # Errors
+    ///
+    /// Those of [`parse`](Rows::parse).
+    ///
+    /// ```
+    /// use fancy_syntax::{Flags, Rows};
+    /// let mut rows = Rows::new();
+    /// let root = rows.parse_without_spans("ab", Flags::UNICODE)?.root();
+    /// assert_eq!((root.children().count(), root.span()), (2, 0..0));
+    /// # Ok::<(), fancy_syntax::Error>(())
+    /// ```
+    pub fn parse_without_spans(&mut self, pattern: &str, flags: Flags) -> Result<&Rows, Error> {
+        self.parse_bits(pattern, flags.bits() | numbers::WITHOUT_SPANS)
+    }
+
+    fn parse_bits(&mut self, pattern: &str, bits: u32) -> Result<&Rows, Error> {
+        let outcome = self.fill(pattern, bits).and_then(|()| self.check(pattern));
         if outcome.is_err() {
             self.clear();
         }
         outcome.map(|()| &*self)
+    }
+
+    /// Writes a pattern that is parsed, under these flags, as this tree with its names. `None` if there is none, as may be under
+    /// other flags than those that the tree was parsed under. [`NodeRef::to_pattern`] does this for a part of the tree.
+    ///
+    /// # Errors
+    ///
+    /// [`Error::OutOfMemory`] and [`Error::Library`], as for [`parse`](Rows::parse).
+    ///
+    /// ```
+    /// use fancy_syntax::{Flags, Rows};
+    /// let mut rows = Rows::new();
+    /// let rows = rows.parse("(?x) (?<n> a {2,2} )", Flags::UNICODE)?;
+    /// assert_eq!(rows.to_pattern(Flags::UNICODE)?.as_deref(), Some("(?<n>a{2})"));
+    /// # Ok::<(), fancy_syntax::Error>(())
+    /// ```
+    pub fn to_pattern(&self, flags: Flags) -> Result<Option<String>, Error> {
+        self.root().to_pattern(flags)
     }
 
     /// The root of the tree.
@@ -188,6 +228,16 @@ impl Rows {
         &self.nodes[index]
     }
 
+    /// The rows from an index on, as the library takes them.
+    pub(crate) fn rows_from(&self, index: usize) -> RowsIn<'_> {
+        RowsIn { nodes: &self.nodes[..self.info.node_count], texts: self.texts(), index }
+    }
+
+    /// The rows of the names, and the group information, as the library takes them.
+    pub(crate) fn names_and_info(&self) -> (&[Name], &Info) {
+        (&self.names[..self.info.name_count], &self.info)
+    }
+
     pub(crate) fn texts(&self) -> &[u8] {
         &self.texts[..self.info.texts_size]
     }
@@ -202,35 +252,35 @@ impl Rows {
         self.info = Info { node_count: 1, ..Info::default() };
     }
 
-    /// Lets the library write. For all but few patterns the first buffers are long enough; if not, it says what it needs.
-    fn fill(&mut self, pattern: &str, flags: Flags) -> Result<(), Error> {
+    /// Lets the library write, into buffers as long as the header says that they have to be, or as long as a pattern needs that
+    /// spells names and references as shortly as it can. If a buffer is too short all the same, the library says what it needs.
+    fn fill(&mut self, pattern: &str, bits: u32) -> Result<(), Error> {
         ready()?;
         let length = pattern.len();
-        grow(&mut self.nodes, length.saturating_add(8))?;
-        grow(&mut self.texts, length.saturating_mul(2).saturating_add(32))?;
-        grow(&mut self.names, 8)?;
-        grow(&mut self.backrefs, 8)?;
-        let mut result = self.call(pattern, flags);
+        grow(&mut self.nodes, length.saturating_mul(2).saturating_add(1))?;
+        grow(&mut self.texts, length.saturating_mul(6).saturating_add(128))?;
+        grow(&mut self.names, length / 4 + 1)?;
+        grow(&mut self.backrefs, length / 2 + 1)?;
+        let mut result = self.call(pattern, bits);
         if result.status == numbers::STATUS_BUFFER_TOO_SHORT {
             self.check_sizes(length)?;
-            self.lengthen()?;
-            result = self.call(pattern, flags);
+            self.lengthen(result.size)?;
+            result = self.call(pattern, bits);
         }
         match result.status {
             numbers::STATUS_OK => self.check_sizes(length),
-            _ => Err(Error::of(result, pattern, flags)),
+            _ => Err(Error::of(result, pattern, &self.texts)),
         }
     }
 
-    fn call(&mut self, pattern: &str, flags: Flags) -> CallResult {
+    fn call(&mut self, pattern: &str, bits: u32) -> CallResult {
         self.info = Info::default();
         let Rows { nodes, texts, names, backrefs, info, .. } = self;
-        ffi::parse(pattern, flags.bits(), nodes, texts, names, backrefs, info)
+        ffi::tree(pattern, bits, nodes, texts, names, backrefs, info)
     }
 
-    /// Checks the sizes of a tree, so that those of no tree are never allocated. A pattern of n bytes has at most 2 n + 1 nodes.
-    /// For the rest there is no proved bound; no pattern is known that needs as much as 7 n bytes of texts, n names or n back
-    /// references.
+    /// Checks the sizes of a tree, so that those of no tree are never allocated. A pattern of n bytes has at most 2 n + 1 nodes,
+    /// names and back references. For the texts there is no proved bound; no pattern is known that needs more than 6 n bytes.
     fn check_sizes(&self, length: usize) -> Result<(), Error> {
         let info = &self.info;
         let bound = length.saturating_mul(64).saturating_add(64);
@@ -242,11 +292,14 @@ impl Rows {
         Ok(())
     }
 
-    /// Makes each buffer as long as the library said that it has to be.
-    fn lengthen(&mut self) -> Result<(), Error> {
+    /// Makes each buffer as long as the library said that it has to be, for a tree or for a message of this size.
+    fn lengthen(&mut self, message: usize) -> Result<(), Error> {
         let info = self.info;
+        if message > info.texts_size.max(self.texts.len()).saturating_mul(64) {
+            return Err(Error::Library("a text that is longer than any"));
+        }
         grow(&mut self.nodes, info.node_count)?;
-        grow(&mut self.texts, info.texts_size)?;
+        grow(&mut self.texts, info.texts_size.max(message))?;
         grow(&mut self.names, info.name_count)?;
         grow(&mut self.backrefs, info.backref_count)
     }

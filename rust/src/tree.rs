@@ -1,6 +1,6 @@
 //! A tree with the spans of its nodes and the group information of its pattern.
 
-use crate::Expr;
+use crate::{Error, Expr, Flags};
 use std::collections::{BTreeMap, BTreeSet};
 use std::ops::Range;
 
@@ -40,6 +40,28 @@ pub struct GroupInfo {
 }
 
 impl Tree {
+    /// Writes a pattern that is parsed, under the flags, as this tree with these names, also after the tree was changed.
+    /// [`Expr::to_pattern`] says more; of the spans nothing is used.
+    ///
+    /// # Errors
+    ///
+    /// [`Error::OutOfMemory`] and [`Error::Library`], as for [`parse`](crate::parse).
+    ///
+    /// ```
+    /// use fancy_syntax::{parse, Expr, Flags};
+    /// let mut tree = parse("(?<n>a+)b", Flags::UNICODE)?;
+    /// for node in tree.expr.children_iter_mut() {
+    ///     if let Expr::Group(child) = node {
+    ///         **child = Expr::Any { newline: false, crlf: false };
+    ///     }
+    /// }
+    /// assert_eq!(tree.to_pattern(Flags::UNICODE)?.as_deref(), Some("(?<n>.)b"));
+    /// # Ok::<(), fancy_syntax::Error>(())
+    /// ```
+    pub fn to_pattern(&self, flags: Flags) -> Result<Option<String>, Error> {
+        self.expr.to_pattern(&self.groups, flags)
+    }
+
     /// Each node with its span, in preorder: each node before its children, and these in the order of the pattern.
     ///
     /// After a change of `expr` the spans are still those of the parsed nodes, one after another; nodes for which there is none

@@ -4,7 +4,9 @@
 mod common;
 
 use common::*;
-use fancy_syntax::{check, parse, print, to_pattern, AstNode, Error, Expr, Flags, Precedence, Rows, Tree};
+use fancy_syntax::{
+    check, parse, parse_without_spans, print, to_pattern, AstNode, Error, Expr, Flags, Precedence, Rows, Tree,
+};
 use std::fs::File;
 use std::io::{BufWriter, Write};
 
@@ -154,14 +156,57 @@ fn check_spans(pattern: &str, tree: &Tree) {
 fn check_tree(pattern: &str, flags: Flags, tree: &Tree) {
     check_spans(pattern, tree);
     let text = to_pattern(pattern, flags).unwrap();
+    assert_eq!(tree.to_pattern(flags).unwrap().as_ref(), Some(&text));
     let again = parse(&text, flags).unwrap();
     assert_eq!(without_positions(again.expr), without_positions(tree.expr.clone()), "{pattern} {text}");
     assert_eq!(again.groups, tree.groups, "{pattern} {text}");
     assert_eq!(to_pattern(&text, flags).unwrap(), text);
     for precedence in [Precedence::Whole, Precedence::Branch, Precedence::Piece, Precedence::Operand] {
-        if let Some(text) = print(pattern, flags, precedence).unwrap() {
+        let printed = print(pattern, flags, precedence).unwrap();
+        assert_eq!(tree.expr.print(precedence).unwrap(), printed);
+        if let Some(text) = printed {
             assert!(matches!(parse(&text, Flags::UNICODE), Ok(_) | Err(Error::ParseError(..))));
         }
+    }
+}
+
+/// Checks that each part of a tree has the text of the owned part, and that what is written for a part is parsed as the part.
+fn check_rows(rows: &Rows, flags: Flags, tree: &Tree) {
+    let mut groups = 0;
+    for (node, (expr, _)) in rows.root().walk().zip(tree.walk()) {
+        groups += usize::from(matches!(expr, Expr::Group(_)));
+        assert_eq!(node.group(), matches!(expr, Expr::Group(_)).then_some(groups));
+        assert_eq!(node.print(Precedence::Branch).unwrap(), expr.print(Precedence::Branch).unwrap());
+        if let Some(text) = node.to_pattern(flags).unwrap() {
+            assert_eq!(without_positions(parse(&text, flags).unwrap().expr), without_positions(expr.clone()), "{text}");
+        }
+    }
+    assert_eq!(groups, tree.groups.total_groups);
+    assert_eq!(rows.to_pattern(flags), tree.to_pattern(flags));
+}
+
+/// Changes a tree, and checks that what is written for it, if anything, is parsed as it.
+fn check_changed(random: &mut Random, flags: Flags, tree: &Tree) {
+    let mut changed = tree.clone();
+    let mut node = &mut changed.expr;
+    while random.below(3) > 0 {
+        let children = node.children_iter().count();
+        if children == 0 {
+            break;
+        }
+        node = node.children_iter_mut().nth(random.below(children)).unwrap();
+    }
+    let old = std::mem::replace(node, Expr::Empty);
+    *node = match random.below(5) {
+        0 => Expr::KeepOut,
+        1 => Expr::Repeat { child: Box::new(old), lo: 1, hi: random.below(4), greedy: true },
+        2 => Expr::AtomicGroup(Box::new(old)),
+        3 => Expr::Concat(vec![Expr::Any { newline: false, crlf: false }, old]),
+        _ => Expr::Backref { group: random.below(3), casei: false },
+    };
+    if let Some(text) = changed.to_pattern(flags).unwrap() {
+        let again = parse(&text, flags).unwrap();
+        assert_eq!(without_positions(again.expr), without_positions(changed.expr), "{text}");
     }
 }
 
@@ -191,6 +236,10 @@ fn random_strings() {
             Ok(tree) => {
                 check_tree(&pattern, flags, tree);
                 assert_eq!(rows.parse(&pattern, flags).unwrap().to_tree(), *tree);
+                check_rows(&rows, flags, tree);
+                check_changed(&mut random, flags, tree);
+                let bare = parse_without_spans(&pattern, flags).unwrap();
+                assert_eq!((&bare.expr, &bare.groups, bare.spans.len()), (&tree.expr, &tree.groups, 0));
             }
             Err(error) => {
                 check_error(&pattern, flags, error);

@@ -3,7 +3,7 @@
 mod common;
 
 use common::*;
-use fancy_syntax::{check, parse, to_pattern, Flags, Rows};
+use fancy_syntax::{check, parse, to_pattern, AstNode, CaptureGroupTarget, Expr, Flags, GroupInfo, Precedence, Rows};
 
 fn lines(name: &str) -> Vec<Vec<String>> {
     let file = format!("{}/../crates/conformance/data/{name}.tsv", env!("CARGO_MANIFEST_DIR"));
@@ -45,7 +45,7 @@ fn compare(name: &str) -> usize {
     count
 }
 
-/// The files with results of parsing. Two others have trees to print, which the crate cannot do, and texts, which are below.
+/// The files with results of parsing. Two others have trees to print and texts, which are below.
 const FILES: [&str; 17] = [
     "classes",
     "damaged",
@@ -84,7 +84,26 @@ fn the_texts() {
         let [word, letters, pattern, text] = &line[..] else { panic!("{line:?}") };
         let (flags, pattern) = (flags_of(letters).unwrap(), pattern_of(pattern));
         assert_eq!((word.as_str(), to_pattern(&pattern, flags)), ("text", Ok(pattern_of(text))), "{letters} {pattern}");
+        let tree = parse(&pattern, flags).unwrap();
+        assert_eq!(tree.to_pattern(flags), Ok(Some(pattern_of(text))), "{letters} {pattern}");
     }
+}
+
+#[test]
+fn trees_that_no_pattern_has() {
+    let node =
+        AstNode::Backref { target: CaptureGroupTarget::ByNumber(1), casei: false, relative_recursion_level: None };
+    let unresolved = Expr::AstNode(node, 0);
+    assert_eq!(unresolved.print(Precedence::Whole), Ok(None));
+    assert_eq!(unresolved.to_pattern(&GroupInfo::default(), Flags::UNICODE), Ok(None));
+    let nested = |levels: usize| (1..levels).fold(Expr::Empty, |child, _| Expr::Group(Box::new(child)));
+    assert_eq!(nested(832).print(Precedence::Whole), Ok(Some("(".repeat(831) + &")".repeat(831))));
+    assert_eq!(nested(833).print(Precedence::Whole), Ok(None));
+    assert_eq!(
+        nested(64).to_pattern(&GroupInfo::default(), Flags::UNICODE),
+        Ok(Some("(".repeat(63) + &")".repeat(63)))
+    );
+    assert_eq!(nested(65).to_pattern(&GroupInfo::default(), Flags::UNICODE), Ok(None));
 }
 
 #[test]

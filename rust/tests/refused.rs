@@ -32,6 +32,13 @@ fn a_failed_allocation_is_an_error() {
         refused += refusals(|| check(pattern, flags));
         refused += refusals(|| to_pattern(pattern, flags));
         refused += refusals(|| print(pattern, flags, Precedence::Piece));
+        let _ = rows.parse(pattern, flags);
+        let root = rows.root();
+        let (expr, groups) = (root.to_expr(), rows.groups());
+        refused += refusals(|| root.print(Precedence::Piece));
+        refused += refusals(|| root.to_pattern(flags));
+        refused += refusals(|| expr.print(Precedence::Piece));
+        refused += refusals(|| expr.to_pattern(&groups, flags));
     }
     println!("{refused} times out of memory");
     assert_eq!(refused > 0, std::env::var_os("FANCY_REFUSES").is_some());

@@ -4,5 +4,7 @@ mod TextLemmas
 mod NodeLemmas
 -- ---- a tree and its group information in the buffers
 mod RowLemmas
+mod NumberedLemmas
 mod NameRowLemmas
+mod BoundLemmas
 mod NodesLemmas

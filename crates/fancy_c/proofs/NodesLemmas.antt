@@ -17,6 +17,7 @@ use Rattle.fancy_syntax.specs.declared.span.Span.{Span}
 use Rattle.fancy_c.specs.InfoRows.{summary, IsSummaryOf, AreSpansOfBytes}
 use Rattle.fancy_c.specs.Node.{listed, listed_all, span_at}
 use Rattle.fancy_c.specs.declared.info_rows.TreeInfo.{TreeInfo}
+use Rattle.fancy_c.proofs.BoundLemmas.{few_backrefs}
 use Rattle.fancy_c.proofs.RowLemmas.{put_more}
 
 pub filled : {A : Type 0} (old new items : List A) → length items ≤ length old → new ≡ put_at old 0 items →
@@ -47,6 +48,7 @@ is_summary_of f bytes t m info tree is = record {
   tree = tree;
   is = is;
   few = omega (arith, tree.small.0, listed_nodes t, ap (λ k. k.node_count) is);
+  few_backrefs = omega (arith, few_backrefs f bytes t m tree, ap (λ k. k.backref_count) is);
 }
 
 -- a span of the list is within the bytes

@@ -26,6 +26,9 @@ use Rattle.fancy_c.specs.declared.call_result.TheConstants.{ERROR_INVALID_CODEPO
 use Rattle.fancy_c.specs.declared.call_result.TheConstants.{ERROR_UNKNOWN_FLAG, ERROR_CHANGING_UNICODE_MODE_UNSUPPORTED}
 use Rattle.fancy_c.specs.declared.call_result.TheConstants.{ERROR_INVALID_BACKREF, ERROR_TARGET_NOT_REPEATABLE}
 use Rattle.fancy_c.specs.declared.call_result.TheConstants.{ERROR_INVALID_GROUP_NAME, ERROR_INVALID_GROUP_NAME_BACKREF}
+use Rattle.fancy_c.specs.declared.built.RowsError.{RowsError}
+use Rattle.fancy_c.specs.declared.built.RowsError.TheVariants as rows
+use Rattle.fancy_c.specs.declared.call_result.TheConstants.{STATUS_NO_TREE}
 use Rattle.fancy_c.specs.declared.call_result.CallResult.{CallResult}
 use Rattle.fancy_c.specs.declared.read.BytesRefusal.{BytesRefusal}
 use Rattle.fancy_c.specs.declared.read.BytesRefusal.TheVariants.{NoUtf8, Parse}
@@ -90,3 +93,9 @@ result_of (NoUtf8 p) = record { status = STATUS_NOT_UTF8; kind = ERROR_NONE; pos
 result_of (Parse (ParseError p k)) =
     record { status = STATUS_REFUSED; kind = number_of_kind (kind_of k); position = p; size = 0 }
 result_of (Parse OutOfMemory) = record { status = STATUS_OUT_OF_MEMORY; kind = ERROR_NONE; position = 0; size = 0 }
+
+-- the result for rows of which no tree is built
+abbrev pub result_of_rows : RowsError → CallResult
+result_of_rows rows.NoTree = record { status = STATUS_NO_TREE; kind = ERROR_NONE; position = 0; size = 0 }
+result_of_rows rows.OutOfMemory =
+    record { status = STATUS_OUT_OF_MEMORY; kind = ERROR_NONE; position = 0; size = 0 }

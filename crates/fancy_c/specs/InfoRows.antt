@@ -1,6 +1,8 @@
 -- The group information of a tree, as a caller in C gets it.
-use Rattle.std.specs.Prelude.{◌≡◌, ℕ, ◌+◌, ◌*◌, ◌≤◌, List, [], ◌∷◌, ◌++◌, chars, length, map, encode_utf8_all}
+use Rattle.std.specs.Prelude.{◌≡◌, ℕ, ◌+◌, ◌*◌, ◌≤◌, true, false, List, [], ◌∷◌, ◌++◌, chars, length, map, encode_utf8_all}
 use Rattle.std.specs.Option.{unwrap_or, is_some}
+use Rattle.fancy_lex.specs.Bits.{has_bit}
+use Rattle.fancy_lex.specs.Flags.{flags_of}
 use Rattle.fancy_lex.specs.Text.{Text}
 use Rattle.fancy_lex.specs.declared.flags.Flags.{Flags}
 use Rattle.fancy_parts.specs.Capacity.{in_word}
@@ -14,9 +16,11 @@ use Rattle.fancy_syntax.specs.declared.span.Span.{Span}
 use Rattle.fancy_c.specs.CallResult.{IsTreeOfBytes}
 use Rattle.fancy_c.specs.Buffer.{Fills}
 use Rattle.fancy_c.specs.Node.{listed, rows, span_at, texts, SpanAt}
+use Rattle.fancy_c.specs.Numbered.{numbered}
 use Rattle.fancy_c.specs.declared.info_rows.Name.{Name}
 use Rattle.fancy_c.specs.declared.node.Node.{Node}
 use Rattle.fancy_c.specs.declared.info_rows.TreeInfo.{TreeInfo}
+use Rattle.fancy_c.specs.declared.tree.TheConstants.{WITHOUT_SPANS}
 
 -- the rows of a name that begins at the byte o and has n bytes: one for each of its numbers
 abbrev pub rows_of_name : ℕ → ℕ → List ℕ → List Name
@@ -53,11 +57,11 @@ summary t m = record {
   numbered_groups_ignored = m.numbered_groups_ignored;
 }
 
--- the buffers hold a tree, with these spans, and its group information: the rows of its nodes, the texts, the rows of
--- the names, and the back references
+-- the buffers hold a tree, with these spans, and its group information: the rows of its nodes, each group with its
+-- number, the texts, the rows of the names, and the back references
 pub record AreWritten (t : Tree) (m : GroupInfo) (spans : SpanAt) (nodes nodes' : List Node) (bytes bytes' : List ℕ)
     (names names' : List Name) (backrefs backrefs' : List ℕ) : Type 0 where
-  pub nodes_are : Fills nodes nodes' (rows spans 0 0 (listed t))
+  pub nodes_are : Fills nodes nodes' (numbered 0 (rows spans 0 0 (listed t)))
   pub texts_are : Fills bytes bytes' (all_texts t m)
   pub names_are : Fills names names' (name_rows (length (texts (listed t))) m.named_groups)
   pub backrefs_are : Fills backrefs backrefs' m.backrefs
@@ -70,8 +74,15 @@ pub record AreSpansOfBytes (f : Flags) (bytes : List ℕ) (t : Tree) (spans : Li
   pub each : length spans ≡ length (preorder t)
   pub within : (i : ℕ) → ((span_at spans i).start ≤ (span_at spans i).end) × ((span_at spans i).end ≤ length bytes)
 
--- the info is that of the tree of the bytes, and a pattern of n bytes has at most 2 n + 1 nodes
+-- the spans are those of the bytes under the flags with these bits; or there are none, if a bit says so
+pub record AreSpansAsked (flags : ℕ) (bytes : List ℕ) (t : Tree) (spans : List Span) : Type 0 where
+  pub asked : has_bit flags WITHOUT_SPANS ≡ false → AreSpansOfBytes (flags_of flags) bytes t spans
+  pub left_out : has_bit flags WITHOUT_SPANS ≡ true → spans ≡ []
+
+-- the info is that of the tree of the bytes, and a pattern of n bytes has at most 2 n + 1 nodes and as many back
+-- references
 pub record IsSummaryOf (info : TreeInfo) (f : Flags) (bytes : List ℕ) (t : Tree) (m : GroupInfo) : Type 0 where
   pub tree : IsTreeOfBytes f bytes t m
   pub is : info ≡ summary t m
   pub few : info.node_count ≤ 2 * length bytes + 1
+  pub few_backrefs : info.backref_count ≤ 2 * length bytes + 1

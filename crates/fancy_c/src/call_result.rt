@@ -17,15 +17,17 @@ pub const STATUS_OUT_OF_MEMORY: u32 = 3;
 pub const STATUS_BUFFER_TOO_SHORT: u32 = 4;
 /// The pattern is valid, and its tree is not printable.
 pub const STATUS_NOT_PRINTABLE: u32 = 5;
-/// The pattern is valid, and the text that is written for its tree does not parse back as the tree.
+/// The text that is written for a tree does not parse back as the tree: never that of a pattern, but maybe one of rows.
 pub const STATUS_NO_PATTERN: u32 = 6;
+/// The rows are no tree.
+pub const STATUS_NO_TREE: u32 = 7;
 
 // Callers in C compare with these numbers.
 const _: () = prove!(STATUS_OK == 0 && STATUS_REFUSED == 1 && STATUS_NOT_UTF8 == 2);
 
 const _: () = prove!(STATUS_OUT_OF_MEMORY == 3 && STATUS_BUFFER_TOO_SHORT == 4);
 
-const _: () = prove!(STATUS_NOT_PRINTABLE == 5 && STATUS_NO_PATTERN == 6);
+const _: () = prove!(STATUS_NOT_PRINTABLE == 5 && STATUS_NO_PATTERN == 6 && STATUS_NO_TREE == 7);
 
 /// No error.
 pub const ERROR_NONE: u32 = 0;
@@ -88,7 +90,7 @@ const _: () = prove!(ERROR_INVALID_GROUP_NAME_BACKREF == 16);
 #[repr(C)]
 #[derive(Clone, Copy)]
 pub struct CallResult {
-    /// `STATUS_OK` to `STATUS_NO_PATTERN`.
+    /// `STATUS_OK` to `STATUS_NO_TREE`.
     pub status: u32,
     /// The kind of the error, `ERROR_NONE` if none is reported.
     pub kind: u32,

@@ -5,13 +5,20 @@
 #![tactic(auto)]
 
 mod buffer;
+mod built;
 pub mod call_result;
+mod group_numbers;
+mod group_rows;
 pub mod info_rows;
+mod leaf;
 pub mod message;
 pub mod node;
 pub mod nodes;
 pub mod pattern;
+pub mod pattern_nodes;
 pub mod print;
+pub mod print_nodes;
 pub mod read;
 mod rows;
+pub mod tree;
 pub mod version;

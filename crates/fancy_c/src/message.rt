@@ -7,7 +7,7 @@ ghost use Rattle.fancy_grammar.specs.GroupInfo.{GroupInfo};
 ghost use Rattle.fancy_grammar.specs.Tree.{Tree};
 ghost use Rattle.fancy_c.specs.CallResult.{number_of_kind, IsReported, IsTreeOfBytes, IsErrorOfBytes, IsNoUtf8};
 ghost use Rattle.fancy_c.specs.Buffer.{Fills};
-ghost use Rattle.fancy_c.specs.Text.{carried, NamesKind, IsErrorText};
+ghost use Rattle.fancy_c.specs.WrittenText.{carried, NamesKind, IsErrorText};
 
 use crate::buffer::{fill, write};
 use crate::call_result::{
@@ -32,7 +32,12 @@ fn words(alloc: Global, kind: &ParseError) -> Result<String, AllocError>
 
 /// Writes the message of the error at the front of the buffer if it fits: the status is then `STATUS_REFUSED`, else
 /// `STATUS_BUFFER_TOO_SHORT`.
-fn report(alloc: Global, offset: usize, kind: &ParseError, buffer: &mut [u8]) -> CallResult
+pub(crate) fn report(
+    alloc: Global,
+    offset: usize,
+    kind: &ParseError,
+    buffer: &mut [u8],
+) -> CallResult
     ensures reported { result.status ≢ STATUS_OUT_OF_MEMORY → IsReported result offset (kind_of kind.now) }
     ensures refused { result.status ≡ STATUS_REFUSED → Fills buffer.old buffer.new (kind_text (kind_of kind.now)) }
     ensures short { result.status ≡ STATUS_BUFFER_TOO_SHORT → length buffer.old < result.size }

@@ -184,7 +184,7 @@ pub struct Node {
     pub lo: usize,
     /// The upper bound of a repetition, `usize::MAX` for none.
     pub hi: usize,
-    /// The number of a group.
+    /// The number of a group: of the node itself, or of the one that it refers to.
     pub group: usize,
     /// The recursion level, relative to the current one; or the relative number of the group that is called.
     pub level: isize,

@@ -14,6 +14,7 @@ ghost use Rattle.fancy_c.specs.Node.{listed, span_at};
 use crate::call_result::{
     CallResult, ERROR_NONE, STATUS_BUFFER_TOO_SHORT, STATUS_NOT_UTF8, STATUS_OK, STATUS_REFUSED,
 };
+use crate::group_numbers::number_groups;
 use crate::info_rows::{Name, TreeInfo, count_names, put_backrefs, put_names};
 use crate::node::Node;
 use crate::read::{Parsed, read_with_spans};
@@ -74,6 +75,7 @@ fn put_all(
         rows: 0,
         text: after.text,
     };
+    number_groups(nodes, after.rows);
     put_names(names, texts, &tree.named_groups, before);
     put_backrefs(backrefs, &tree.backrefs);
 }
@@ -98,7 +100,7 @@ fn fits(summary: TreeInfo, nodes: usize, texts: usize, names: usize, backrefs: u
 }
 
 /// Sets the info of the tree, and writes it at the front of the buffers if all of it fits.
-fn write_tree(
+pub(crate) fn write_tree(
     nodes: &mut [Node],
     texts: &mut [u8],
     names: &mut [Name],
@@ -149,7 +151,7 @@ fn write_tree(
 
 /// Parses a pattern as `fancy_check_nonnull` does, and sets `info` to the sizes of its tree and to its group
 /// information. If all of it fits, returns `STATUS_OK`, and the buffers hold, from their front: the nodes of the tree
-/// in preorder, each with its span in the pattern; the texts of the nodes, and after them the names of groups; for each
+/// in preorder, each with its span in the pattern, and each group with its number; the texts of the nodes, and after them the names of groups; for each
 /// name in byte order its group numbers, ascending; and the numbers of the back references, ascending. If something
 /// does not fit, returns `STATUS_BUFFER_TOO_SHORT`, and no buffer is written. A pattern of n bytes has at most 2 n + 1
 /// nodes. For a pattern without a tree it returns what `fancy_check_nonnull` returns, and nothing is written.

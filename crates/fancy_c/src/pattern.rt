@@ -7,7 +7,7 @@ ghost use Rattle.fancy_syntax.specs.InfoViews.{info_of};
 ghost use Rattle.fancy_syntax.specs.View.{view};
 ghost use Rattle.fancy_c.specs.CallResult.{number_of_kind, IsErrorOfBytes, IsNoUtf8};
 ghost use Rattle.fancy_c.specs.Buffer.{Fills};
-ghost use Rattle.fancy_c.specs.Text.{IsPatternText, IsPatternTextOfBytes};
+ghost use Rattle.fancy_c.specs.WrittenText.{IsPatternText, IsPatternTextOfBytes};
 
 use crate::buffer::write;
 use crate::call_result::{
@@ -29,7 +29,12 @@ fn pattern_of(alloc: Global, tree: &ExprTree, flags: u32) -> Result<Option<Strin
 }
 
 /// Writes that text at the front of the buffer, if there is one and it fits.
-fn put_pattern(alloc: Global, tree: &ExprTree, flags: u32, buffer: &mut [u8]) -> CallResult
+pub(crate) fn put_pattern(
+    alloc: Global,
+    tree: &ExprTree,
+    flags: u32,
+    buffer: &mut [u8],
+) -> CallResult
     ensures read { result.status ≡ STATUS_OK → (w : List ℕ)
         × IsPatternText (flags_of flags) (view tree.now.expr) (info_of tree.now) w × (result.size ≡ length w)
         × Fills buffer.old buffer.new w }

@@ -8,7 +8,7 @@ ghost use Rattle.fancy_grammar.specs.Tree.{Tree};
 ghost use Rattle.fancy_syntax.specs.View.{view};
 ghost use Rattle.fancy_c.specs.CallResult.{number_of_kind, IsTreeOfBytes, IsErrorOfBytes, IsNoUtf8};
 ghost use Rattle.fancy_c.specs.Buffer.{Fills};
-ghost use Rattle.fancy_c.specs.Text.{IsText, IsTextOfBytes};
+ghost use Rattle.fancy_c.specs.WrittenText.{IsText, IsTextOfBytes};
 
 use crate::buffer::write;
 use crate::call_result::{
@@ -28,7 +28,7 @@ fn text_of(alloc: Global, tree: &Expr, precedence: u8) -> Result<Option<String>,
 }
 
 /// Writes the tree's text at the front of the buffer, if it has one and it fits.
-fn print(alloc: Global, tree: &Expr, precedence: u8, buffer: &mut [u8]) -> CallResult
+pub(crate) fn print(alloc: Global, tree: &Expr, precedence: u8, buffer: &mut [u8]) -> CallResult
     ensures read { result.status ≡ STATUS_OK → (w : List ℕ) × IsText (view tree.now) precedence w
         × (result.size ≡ length w) × Fills buffer.old buffer.new w }
     ensures short { result.status ≡ STATUS_BUFFER_TOO_SHORT →

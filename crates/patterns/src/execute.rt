@@ -1,21 +1,24 @@
 //! What the program does with its arguments.
 use crate::rules::{rule_names, rules_chosen};
 use crate::words::{
-    canvas_chosen, command, flags_chosen, form_chosen, look_chosen, paints_chosen, verb_chosen,
+    canvas_chosen, command, flags_chosen, form_chosen, look_chosen, max_warnings_chosen,
+    paints_chosen, verb_chosen, width_chosen,
 };
 use clap::error::ErrorKind;
 use clap::{ArgMatches, Error};
 use patterns_lint::rule::write_rules;
 use patterns_picture::picture::draw_picture;
 use patterns_program::draw::{draw_tree, write_tree};
+use patterns_program::file_pattern::read_pattern;
 use patterns_program::run::{Job, Verb, run};
 use patterns_program::sources::System;
 use patterns_text::error::{RunError, give_up};
 use patterns_text::paint::Paints;
+use patterns_text::subject::Subject;
 use std::alloc::{AllocError, Global};
 use std::io::Write;
 
-/// The exit status if the arguments are wrong.
+/// The exit status if the arguments are wrong, or the pattern that they choose cannot be read.
 const MISUSED: u8 = 2;
 
 /// Writes the help that was asked for to `out`, or what is wrong with the arguments to `err`.
@@ -53,29 +56,40 @@ struct ProgramCall<'a, S, O, E> {
 
 impl<S: System, O: Write, E: Write> ProgramCall<'_, S, O, E> {
     /// Draws the tree of a pattern, in lines of text or as a picture.
+    fn draw(&mut self, name: &str, subject: Subject<'_>, matches: &ArgMatches<'_>) -> u8 {
+        if name == "picture" {
+            return draw_picture(
+                subject,
+                canvas_chosen(matches),
+                width_chosen(matches),
+                self.out,
+                self.err,
+            );
+        }
+        if matches.get_flag("json") {
+            return write_tree(subject, self.out, self.err);
+        }
+        draw_tree(subject, look_chosen(matches), self.out, self.err)
+    }
+
+    /// Draws the tree of the pattern that the arguments give, or choose from a file.
     fn execute_pattern(
         &mut self,
         name: &str,
         flags: u32,
-        pattern: &str,
         matches: &ArgMatches<'_>,
-    ) -> u8 {
+    ) -> Result<u8, RunError> {
         let alloc = self.alloc;
-        if name == "picture" {
-            let canvas = canvas_chosen(matches);
-            return draw_picture(alloc, flags, canvas, pattern, self.out, self.err);
+        if let Some(pattern) = matches.get_str("pattern") {
+            return Ok(self.draw(name, Subject::of_argument(alloc, flags, pattern), matches));
         }
-        if matches.get_flag("json") {
-            return write_tree(alloc, flags, pattern, self.out, self.err);
+        let Some(position) = matches.get_str("file") else {
+            return Ok(MISUSED);
+        };
+        match read_pattern(alloc, position, self.sources, self.err)? {
+            Some(found) => Ok(self.draw(name, found.subject(alloc, flags), matches)),
+            None => Ok(MISUSED),
         }
-        draw_tree(
-            alloc,
-            flags,
-            look_chosen(matches),
-            pattern,
-            self.out,
-            self.err,
-        )
     }
 
     /// Runs a subcommand over files.
@@ -93,6 +107,7 @@ impl<S: System, O: Write, E: Write> ProgramCall<'_, S, O, E> {
             flags,
             form: form_chosen(matches),
             is_quiet: matches.get_flag("quiet"),
+            max_warnings: max_warnings_chosen(matches),
             paints: paints_chosen(matches, self.auto),
         };
         Ok(run(self.alloc, job, files, self.sources, self.out, self.err))
@@ -105,7 +120,7 @@ impl<S: System, O: Write, E: Write> ProgramCall<'_, S, O, E> {
             self.out.flush()?;
             return Ok(0);
         }
-        let chosen = rules_chosen(matches);
+        let chosen = rules_chosen(self.alloc, matches)?;
         let verb = if matches.get_flag("json") {
             Verb::LintJson(chosen)
         } else {
@@ -119,8 +134,8 @@ impl<S: System, O: Write, E: Write> ProgramCall<'_, S, O, E> {
         let Some(flags) = flags_chosen(matches) else {
             return explain_flags(self.err);
         };
-        if let Some(pattern) = matches.get_str("pattern") {
-            return Ok(self.execute_pattern(name, flags, pattern, matches));
+        if name == "tree" || name == "picture" {
+            return self.execute_pattern(name, flags, matches);
         }
         if name == "lint" {
             return self.execute_lint(flags, matches);

@@ -32,7 +32,11 @@ impl BufRead for End {
 }
 
 /// The names of files, and what they hold.
-static FILES: [(&str, &[u8]); 2] = [("mixed", b"a|b\r\n(\n\n\xFFx\na)b\n"), ("broken", b"(\r\n")];
+static FILES: [(&str, &[u8]); 3] = [
+    ("mixed", b"a|b\r\n(\n\n\xFFx\na)b\n"),
+    ("mixed:5", b"x\n[\n"),
+    ("broken", b"(\r\n"),
+];
 
 /// The files above, of which `broken` cannot be read to its end, and a standard input.
 #[derive(Clone, Copy)]

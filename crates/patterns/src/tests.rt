@@ -69,7 +69,8 @@ fn closed_pipes(rt: HostRuntime) -> Result<(), Fail> {
 
 const BROKEN: &str = "broken:1:2: Opening parenthesis without closing parenthesis
 (
- ^
+-^
+opened here
 ";
 
 const NO_FILES: &str = "patterns: none: entity not found
@@ -91,6 +92,28 @@ fn files_that_cannot_be_read(rt: HostRuntime) -> Result<(), Fail> {
     Ok(())
 }
 
+/// Positions in files, one of which has a name with a colon, and how the report of the error begins: that of the longest
+/// name that there is.
+static POSITIONS: [(&str, &str); 7] = [
+    ("mixed:2", "mixed:2:2: Opening parenthesis"),
+    ("mixed:2:2:", "mixed:2:2: Opening parenthesis"),
+    ("mixed:5:2", "mixed:5:2:2: Invalid character class"),
+    ("mixed:5:3:1", "patterns: mixed:5: there is no line 3"),
+    ("mixed:5", "patterns: mixed:5: there are several lines"),
+    ("none:mixed:2", "patterns: none: entity not found"),
+    ("broken:2", "patterns: broken: connection reset"),
+];
+
+#[test]
+fn positions(rt: HostRuntime) -> Result<(), Fail> {
+    for (position, report) in POSITIONS.iter() {
+        let words = ["patterns", "tree", "--file", position];
+        let run = run(rt.alloc(), Paints::both(Paint::Plain), &words, usize::MAX)?;
+        assert!(rt; run.err.text.starts_with(report.as_bytes()), "{position}");
+    }
+    Ok(())
+}
+
 /// Colours on the output only.
 const OUT: Paints = Paints {
     out: Paint::Colored,
@@ -105,12 +128,14 @@ const ERR: Paints = Paints {
 
 const PLAIN_REFUSAL: &str = "-:1:2: Opening parenthesis without closing parenthesis
 (
- ^
+-^
+opened here
 ";
 
 const COLORED_REFUSAL: &str = "\x1b[1m-:1:2:\x1b[0m Opening parenthesis without closing parenthesis
 (
- \x1b[1;31m^\x1b[0m
+\x1b[1m-\x1b[0m\x1b[1;31m^\x1b[0m
+\x1b[1mopened here\x1b[0m
 ";
 
 /// Words, and the one of the two streams that has colours, so that what is written of `(` has some.

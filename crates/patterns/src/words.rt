@@ -1,7 +1,8 @@
 //! The arguments of the program.
-use clap::{Arg, ArgAction, ArgMatches, Command};
+use clap::builder::ValueParser;
+use clap::{Arg, ArgAction, ArgMatches, Command, value_parser};
 use fre_program::flag_word::flags_named;
-use patterns_picture::picture::Canvas;
+use patterns_picture::picture::{Canvas, WIDTH};
 use patterns_program::form::FileFormat;
 use patterns_program::lines::Ending;
 use patterns_program::objects::Report;
@@ -13,14 +14,14 @@ use patterns_text::paint::{Paint, Paints};
 use std::alloc::{AllocError, Global};
 
 const ABOUT: &str =
-    "Checks, shows and formats patterns in the syntax of fancy-regex. It does not match them. Flags \
-that are set inside a group end with the group.";
+    "Checks, shows and formats patterns in the syntax of fancy-regex. It does not match them.
+Flags that are set inside a group end with the group.";
 
-const VERSION: &str = "1.0.0";
+const VERSION: &str = "1.1.0";
 
 const STATUSES: &str =
-    "The exit status is 0 if every pattern passes, 1 if one does not, 2 if the arguments are \
-wrong or a file cannot be read, and 3 if memory ran out or a write failed.";
+    "The exit status is 0 if every pattern passes, 1 if one does not, 2 if the arguments are wrong
+or a file cannot be read, and 3 if memory ran out or a write failed.";
 
 const FLAGS_HELP: &str = "The flags to parse under, as letters, or - for none";
 
@@ -39,28 +40,33 @@ const FILES_HELP: &str = "Files with one pattern per line, in UTF-8; - is standa
 
 const NULL_HELP: &str = "A pattern ends with NUL, and not with its line";
 
-const TEXTMATE_HELP: &str =
-    "Each file is JSON, as the grammars of TextMate and VS Code, and its texts under the keys match, begin, end and while \
-are the patterns; in those under end and while, a back reference such as \\1 refers to a group of begin";
+const TEXTMATE_HELP: &str = "Each file is JSON, as the grammars of TextMate and VS Code, and
+its texts under the keys match, begin, end, while, firstLineMatch,
+foldingStartMarker and foldingStopMarker are the patterns; in
+those under end and while, a back reference such as \\1 refers to
+a group of begin";
 
-const KEYS_HELP: &str =
-    "Each file is JSON, and its texts under these keys are the patterns; commas separate the keys";
+const KEYS_HELP: &str = "Each file is JSON, and its texts under these keys are the
+patterns; with --textmate too, those under its keys are as well";
 
 const JSON_HELP: &str = "Writes JSON, one object per line, to standard output";
 
-const QUIET_HELP: &str = "Shows neither progress nor the final summary on standard error";
+const QUIET_HELP: &str = "Shows neither progress nor the final summary on standard error,
+and no note on a file whose name is that of another format";
 
 /// When to write colours.
 static WHEN: [&str; 3] = ["auto", "always", "never"];
 
-const COLOR_HELP: &str =
-    "When to write colours; auto is to a terminal, unless the environment variable NO_COLOR is set and not empty";
+const COLOR_HELP: &str = "When to write colours; auto is to a terminal, unless the
+environment variable NO_COLOR is set and
+not empty";
 
 const CHECK_EXAMPLE: &str = r"Example: patterns check dates.txt
 
   dates.txt:2:29: Opening parenthesis without closing parenthesis
   (?<year>\d{4})-(?<month>\d\d
-                              ^";
+                 -            ^
+                 opened here";
 
 const CHECK: &str = "Reports each invalid pattern, with the position and the reason";
 
@@ -75,37 +81,56 @@ const TREE_EXAMPLE: &str = r#"Example: patterns tree '(a|b)+'
 
 const TREE: &str = "Draws the tree of a pattern, and describes its groups and references";
 
-const SPANS_HELP: &str =
-    "Writes after each node its span, as START..END in byte offsets, and its text";
+const SPANS_HELP: &str = "Writes after each node its span, as START..END in byte offsets,
+and its text";
+
+const ALL_HELP: &str = "Draws each node in its own line; otherwise adjacent letters are
+drawn as one literal";
+
+const POSITION_HELP: &str = "Reads the pattern from a file, at a position: FILE:LINE, or for a
+text of JSON FILE:PATH, as in grammar.json:patterns[0].match; also
+with the columns, or the line and column of a text of JSON, that
+reports write. FILE alone has one line; - is standard input. FILE is
+the longest beginning that names a file, so it may have colons";
 
 const PICTURE_EXAMPLE: &str =
     r"Example: patterns picture '(?<year>\d{4})-(?<month>\d\d)' >date.svg";
 
 const PICTURE: &str = "Draws the tree of a pattern as a railroad diagram, in SVG";
 
-const HTML_HELP: &str =
-    "Writes a page of HTML with the diagram, the tree, and the groups and references";
+const HTML_HELP: &str = "Writes a page of HTML with the diagram, the tree, and the groups
+and references";
+
+const WIDTH_HELP: &str = "Breaks rows of the diagram into lines that fit in so many pixels; a
+box that is wider by itself stays so";
 
 const FORMAT: &str =
     "Writes each pattern in one form, which parses to the same tree under the same flags";
 
-const IS_CHECK_HELP: &str =
-    "Writes no pattern, and reports each line that would change, with the line now and the line then; the exit status is 1 \
-if a line would change or a pattern is invalid";
+const IS_CHECK_HELP: &str = "Writes no pattern, and reports each line that would change, with
+the line now and the line then; the exit status is 1 if a line
+would change or a pattern is invalid";
 
 const LINT_EXAMPLE: &str = "Example: patterns lint words.txt
 
   words.txt:3:5: warning: branch that is equal to branch 1 [duplicate-branch]
   a|b|a
-      ^
+  -   ^
+  branch 1
   help: remove it";
 
 const LINT: &str = "Reports likely mistakes in valid patterns";
 
 const LINT_MORE: &str = "Reports likely mistakes in valid patterns.
 
-The exit status is 0 if every pattern is valid and no denied rule reports, even if there are \
-warnings, and 1 if not. docs/lint.md says what each rule reports, and when it is silent.";
+The exit status is 0 if every pattern is valid, no denied rule reports, and there are no more
+warnings than --max-warnings allows, and 1 if not. docs/lint.md says what each rule reports, and
+when it is silent.
+
+--allow, --warn and --deny take the names of rules, with commas between, or all. Each can be given
+several times. Of those that name a rule the last one counts, and all names every rule.";
+
+const MAX_WARNINGS_HELP: &str = "The exit status is 1 if there are more warnings than this";
 
 const GROUPS: &str = "Lists the groups of each pattern, and what its references and calls refer to";
 
@@ -113,7 +138,8 @@ const GROUPS_MORE: &str =
     "Lists the groups of each pattern, and what its references and calls refer to.
 
 Each pattern is written as FILE:LINE: PATTERN, and below it each group, reference and call as
-FILE:LINE:FIRST-LAST: DESCRIPTION, where FIRST and LAST are the columns of its first and last character.";
+FILE:LINE:FIRST-LAST: DESCRIPTION, where FIRST and LAST are the columns of its first and last
+character.";
 
 const GROUPS_EXAMPLE: &str = r#"Example: patterns groups dates.txt
 
@@ -127,13 +153,17 @@ const FORMAT_EXAMPLE: &str = r"Example: patterns format --flags ux words.txt
   the line             (?<y>\d{4})-\k<y>";
 
 const FORMAT_MORE: &str =
-    "Writes each pattern in one form: drops ignored whitespace, and normalises spelling. Drops comments only with \
---drop-comments.
+    "Writes each pattern in one form: drops ignored whitespace, and normalises spelling. Drops comments
+only with --drop-comments.
 
-The text that is written for a pattern parses, under the same flags, to the same tree with the \
-same groups and names. Each line ends with LF.
+The text that is written for a pattern parses, under the same flags, to the same tree with the
+same groups and names. Each line ends as it did.
 
-A pattern that is invalid, or that has a comment, is written unchanged; standard error has the position and the reason.";
+A pattern that is invalid, or that has a comment, is written unchanged; standard error has the
+position and the reason.
+
+The output must not be a file that is read: for patterns format FILE > FILE the shell empties the
+file before it is read.";
 
 fn flags_arg<'a>(alloc: Global) -> Arg<'a> {
     Arg::new(alloc, "flags")
@@ -200,11 +230,12 @@ fn with_values<'a>(alloc: Global, command: Command<'a>) -> Result<Command<'a>, A
         .long("textmate")
         .action(ArgAction::SetTrue)
         .help(TEXTMATE_HELP)
-        .conflicts_with("keys")?
         .conflicts_with("null-data")?;
     let keys = Arg::new(alloc, "keys")
         .long("keys")
         .value_name("NAME[,NAME..]")
+        .value_delimiter(',')
+        .action(ArgAction::Append)
         .help(KEYS_HELP)
         .conflicts_with("null-data")?;
     command.arg(textmate)?.arg(keys)
@@ -217,11 +248,19 @@ fn json_arg<'a>(alloc: Global) -> Arg<'a> {
         .help(JSON_HELP)
 }
 
-fn pattern_arg<'a>(alloc: Global) -> Arg<'a> {
-    Arg::new(alloc, "pattern")
+/// The two arguments of which one gives the pattern.
+fn with_pattern<'a>(alloc: Global, command: Command<'a>) -> Result<Command<'a>, AllocError> {
+    let file = Arg::new(alloc, "file")
+        .long("file")
+        .value_name("POSITION")
+        .allow_hyphen_values(true)
+        .help(POSITION_HELP)
+        .conflicts_with("pattern")?;
+    let pattern = Arg::new(alloc, "pattern")
         .value_name("PATTERN")
-        .required(true)
-        .help("The pattern; put -- before one that begins with -")
+        .required_unless_present("file")?
+        .help("The pattern; put -- before one that begins with -");
+    command.arg(file)?.arg(pattern)
 }
 
 fn check_command<'a>(alloc: Global) -> Result<Command<'a>, AllocError> {
@@ -237,15 +276,20 @@ fn tree_command<'a>(alloc: Global) -> Result<Command<'a>, AllocError> {
         .long("spans")
         .action(ArgAction::SetTrue)
         .help(SPANS_HELP);
-    Command::new(alloc, "tree")
+    let all = Arg::new(alloc, "all")
+        .long("all")
+        .action(ArgAction::SetTrue)
+        .help(ALL_HELP);
+    let command = Command::new(alloc, "tree")
         .about(TREE)
         .before_help(TREE_EXAMPLE)
         .after_help(LETTERS)
         .arg(flags_arg(alloc))?
         .arg(ascii)?
         .arg(spans)?
-        .arg(json_arg(alloc))?
-        .arg(pattern_arg(alloc))
+        .arg(all)?
+        .arg(json_arg(alloc))?;
+    with_pattern(alloc, command)
 }
 
 fn picture_command<'a>(alloc: Global) -> Result<Command<'a>, AllocError> {
@@ -253,13 +297,20 @@ fn picture_command<'a>(alloc: Global) -> Result<Command<'a>, AllocError> {
         .long("html")
         .action(ArgAction::SetTrue)
         .help(HTML_HELP);
-    Command::new(alloc, "picture")
+    let width = Arg::new(alloc, "width")
+        .long("width")
+        .value_name("PIXELS")
+        .value_parser(ValueParser::unsigned(1, u32::MAX as u64))
+        .default_value("960")
+        .help(WIDTH_HELP);
+    let command = Command::new(alloc, "picture")
         .about(PICTURE)
         .before_help(PICTURE_EXAMPLE)
         .after_help(LETTERS)
         .arg(flags_arg(alloc))?
         .arg(html)?
-        .arg(pattern_arg(alloc))
+        .arg(width)?;
+    with_pattern(alloc, command)
 }
 
 fn format_command<'a>(alloc: Global) -> Result<Command<'a>, AllocError> {
@@ -277,13 +328,14 @@ fn format_command<'a>(alloc: Global) -> Result<Command<'a>, AllocError> {
         .arg(drop_comments)
 }
 
-/// An option that gives a level to a rule.
+/// An option that gives a level to rules.
 fn level_arg<'a>(alloc: Global, name: &'a str, help: &'a str, rules: &'a [&'a str]) -> Arg<'a> {
     Arg::new(alloc, name)
         .long(name)
-        .value_name("RULE")
+        .value_name("RULE[,RULE..]")
         .value_parser(rules)
         .hide_possible_values(true)
+        .value_delimiter(',')
         .action(ArgAction::Append)
         .help(help)
 }
@@ -293,11 +345,17 @@ fn lint_command<'a>(alloc: Global, names: &'a [&'a str]) -> Result<Command<'a>, 
         .long("rules")
         .action(ArgAction::SetTrue)
         .help("Lists the rules with an example of each, and reads no file");
+    let max_warnings = Arg::new(alloc, "max-warnings")
+        .long("max-warnings")
+        .value_name("N")
+        .value_parser(value_parser!(u64))
+        .help(MAX_WARNINGS_HELP);
     with_values(alloc, over_files(alloc, "lint", LINT, LINT_EXAMPLE)?)?
         .long_about(LINT_MORE)
-        .arg(level_arg(alloc, "allow", "Silences a rule", names))?
-        .arg(level_arg(alloc, "warn", "Makes the reports of a rule warnings", names))?
-        .arg(level_arg(alloc, "deny", "Makes the reports of a rule errors", names))?
+        .arg(level_arg(alloc, "allow", "Silences rules", names))?
+        .arg(level_arg(alloc, "warn", "Makes the reports of rules warnings", names))?
+        .arg(level_arg(alloc, "deny", "Makes the reports of rules errors", names))?
+        .arg(max_warnings)?
         .arg(json_arg(alloc))?
         .arg(rules)
 }
@@ -366,14 +424,21 @@ fn ending_chosen(matches: &ArgMatches<'_>) -> Ending {
 }
 
 /// How the files have patterns, as the arguments choose.
-pub(crate) fn form_chosen<'a>(matches: &ArgMatches<'a>) -> FileFormat<'a> {
-    if matches.get_flag("textmate") {
-        return FileFormat::Values(Keys::TextMate);
+pub(crate) fn form_chosen<'m>(matches: &'m ArgMatches<'_>) -> FileFormat<'m> {
+    let has_textmate = matches.get_flag("textmate");
+    let named = matches.get_strs("keys");
+    if !has_textmate && named.is_none() {
+        return FileFormat::Records(ending_chosen(matches));
     }
-    match matches.get_str("keys") {
-        Some(names) => FileFormat::Values(Keys::Named(names)),
-        None => FileFormat::Records(ending_chosen(matches)),
-    }
+    FileFormat::Values(Keys {
+        has_textmate,
+        named: named.unwrap_or(&[]),
+    })
+}
+
+/// How many warnings there may be, if the arguments limit that.
+pub(crate) fn max_warnings_chosen(matches: &ArgMatches<'_>) -> Option<u64> {
+    matches.get_one("max-warnings")
 }
 
 /// How the arguments choose a tree to be drawn.
@@ -386,6 +451,7 @@ pub(crate) fn look_chosen(matches: &ArgMatches<'_>) -> Look {
     Look {
         style,
         has_spans: matches.get_flag("spans"),
+        has_each_literal: matches.get_flag("all"),
     }
 }
 
@@ -396,6 +462,11 @@ pub(crate) fn canvas_chosen(matches: &ArgMatches<'_>) -> Canvas {
     } else {
         Canvas::Svg
     }
+}
+
+/// How wide a picture may be, as the arguments choose, in pixels.
+pub(crate) fn width_chosen(matches: &ArgMatches<'_>) -> usize {
+    matches.get_one("width").unwrap_or(WIDTH)
 }
 
 /// The flags that the arguments choose; none if the letters are wrong.

@@ -3,3 +3,4 @@ pub mod Quantifiers
 pub mod Branches
 pub mod Rules
 pub mod Targets
+pub mod Captures

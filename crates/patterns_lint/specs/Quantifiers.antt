@@ -20,10 +20,10 @@ abbrev pub is_empty_loop : Tree → Bool
 is_empty_loop (repeat t lo hi greedy) = (hi == no_limit) && can_match_empty t && not (matches_only_empty t)
 is_empty_loop _ = false
 
--- a quantifier that repeats once
-abbrev pub is_useless_quantifier : Tree → Bool
-is_useless_quantifier (repeat t lo hi greedy) = (lo == 1) && (hi == 1)
-is_useless_quantifier _ = false
+-- a quantifier that repeats once; where a branch beside it differs from it in the count alone, it shows the difference
+abbrev pub is_useless_quantifier : Bool → Tree → Bool
+is_useless_quantifier has_count_twin (repeat t lo hi greedy) = (lo == 1) && (hi == 1) && not has_count_twin
+is_useless_quantifier _ _ = false
 
 -- a quantifier that repeats no times; but where there are calls, a group may be defined so
 abbrev pub is_zero_quantifier : Bool → Tree → Bool
@@ -31,10 +31,10 @@ is_zero_quantifier has_calls (repeat t lo hi greedy) = (lo == 0) && (hi == 0) &&
 is_zero_quantifier _ _ = false
 
 -- what is wrong with the quantifier of a node, if it has one
-abbrev pub quantifier_problem : Bool → Tree → Option Problem
-quantifier_problem has_calls t =
+abbrev pub quantifier_problem : Bool → Bool → Tree → Option Problem
+quantifier_problem has_calls has_count_twin t =
     if is_zero_quantifier has_calls t then Some problem.ZeroQuantifier
-    else if is_useless_quantifier t then Some problem.UselessQuantifier
+    else if is_useless_quantifier has_count_twin t then Some problem.UselessQuantifier
     else if is_quantified_assertion t then Some problem.QuantifiedAssertion
     else if is_empty_loop t then Some problem.EmptyLoop
     else None

@@ -5,6 +5,8 @@ use Rattle.patterns_lint.specs.declared.rule.Rule.TheVariants as rule
 
 abbrev pub rule_name : Rule → List ℕ
 rule_name rule.MissingGroup = codes "missing-group"
+rule_name rule.MissingBeginGroup = codes "missing-begin-group"
+rule_name rule.MissingCaptureGroup = codes "missing-capture-group"
 rule_name rule.UselessBackreference = codes "useless-backreference"
 rule_name rule.UnresolvedCall = codes "unresolved-call"
 rule_name rule.DuplicateGroupName = codes "duplicate-group-name"

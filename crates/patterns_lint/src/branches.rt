@@ -1,7 +1,8 @@
 //! Branches that are likely mistakes.
-ghost use Rattle.std.specs.Prelude.{◌≡◌, ◌↔◌, true, IsTrue, IfSome, IsSomeAnd, slice_get};
+ghost use Rattle.std.specs.Prelude.{◌≡◌, ◌↔◌, ℕ, true, false, Some, ⊥, IsTrue, IfSome, IsSomeAnd, slice_get};
 ghost use Rattle.fancy_syntax.specs.View.{view, views};
 ghost use Rattle.patterns_lint.specs.Branches as spec;
+ghost use Rattle.patterns_lint.specs.declared.problem.Problem.TheVariants as reported;
 
 use crate::fingerprint::Fingerprint;
 use crate::problem::Problem;
@@ -68,6 +69,73 @@ fn is_equal(earlier: &Expr, later: &Expr) -> bool
     *earlier == *later
 }
 
+/// What is wrong with an empty branch: nothing if it is the first or the last one, which says "or nothing".
+fn empty_branch_problem(is_first: bool, is_last: bool) -> Option<Problem<'static>>
+    ensures { result ≡ spec.empty_branch_problem is_first is_last }
+{
+    if is_first || is_last {
+        None
+    } else {
+        Some(Problem::EmptyBranch)
+    }
+}
+
+/// Whether the two are the same operand, quantified with other counts.
+fn differ_in_count(one: &Expr, other: &Expr) -> bool
+    ensures { IsTrue result ↔ spec.DifferInCount (view one.now) (view other.now) }
+{
+    match (one, other) {
+        (
+            Expr::Repeat { child, lo, hi, .. },
+            Expr::Repeat {
+                child: operand,
+                lo: low,
+                hi: high,
+                ..
+            },
+        ) => is_equal(child, operand) && !(*lo == *low && *hi == *high),
+        _ => false,
+    }
+}
+
+/// Whether a branch beside the one of this index differs from it in the count alone.
+pub(crate) fn has_count_twin(branches: &[Expr], i: usize) -> bool {
+    let Some(branch) = branches.get(i) else {
+        return false;
+    };
+    let next = branches.get(i.saturating_add(1));
+    let before = i.checked_sub(1).and_then(|index| branches.get(index));
+    next.is_some_and(|other| differ_in_count(branch, other))
+        || before.is_some_and(|other| differ_in_count(branch, other))
+}
+
+/// Whether the branch consists of letters, digits and `_`.
+fn is_word(branch: &Expr) -> bool {
+    for piece in pieces(branch) {
+        let Expr::Literal { val, .. } = piece else {
+            return false;
+        };
+        if !val
+            .as_str()
+            .chars()
+            .all(|c| c.is_alphanumeric() || c == '_')
+        {
+            return false;
+        }
+    }
+    true
+}
+
+/// Whether each branch is a word.
+pub(crate) fn is_word_list(branches: &[Expr]) -> bool {
+    for branch in branches {
+        if !is_word(branch) {
+            return false;
+        }
+    }
+    true
+}
+
 /// Where a branch is.
 #[derive(Clone, Copy)]
 pub(crate) struct Situation {
@@ -75,8 +143,9 @@ pub(crate) struct Situation {
     pub(crate) is_last: bool,
     /// Whether nothing follows its alternation; otherwise another branch may be tried after one that matched.
     pub(crate) is_at_end: bool,
-    /// Whether the pattern has calls, so that something may follow where the alternation is called. An empty branch may
-    /// come first then, to end a recursion.
+    /// Whether an engine may add `\b` after its alternation, which is a list of words.
+    pub(crate) may_be_extended: bool,
+    /// Whether the pattern has calls, so that something may follow where the alternation is called.
     pub(crate) has_calls: bool,
 }
 
@@ -165,21 +234,19 @@ impl Earlier {
         branch: &Expr,
         whole: Fingerprint,
         situation: Situation,
-    ) -> Option<Problem<'static>> {
+    ) -> Option<Problem<'static>>
+        ensures followed { situation.is_at_end ≡ false → (i : ℕ) → result ≡ Some (reported.UnreachableBranch i) → ⊥ }
+        ensures extended { situation.may_be_extended ≡ true → (i : ℕ) → result ≡ Some (reported.UnreachableBranch i) → ⊥ }
+    {
         if let Expr::Empty = branch {
-            let may_be_empty = situation.is_last || situation.has_calls && earlier.is_empty();
-            return if may_be_empty {
-                None
-            } else {
-                Some(Problem::EmptyBranch)
-            };
+            return empty_branch_problem(earlier.is_empty(), situation.is_last);
         }
         if let Some(i) = self.equal_to(earlier, branch, whole) {
             return Some(Problem::DuplicateBranch {
                 earlier: i.saturating_add(1),
             });
         }
-        if !situation.is_at_end || situation.has_calls {
+        if !situation.is_at_end || situation.may_be_extended || situation.has_calls {
             return None;
         }
         let i = self.beginning_of(earlier, branch)?;

@@ -1,5 +1,5 @@
 //! Which rules of `lint` speak, and how.
-ghost use Rattle.std.specs.Prelude.{◌≡◌, Contains};
+ghost use Rattle.std.specs.Prelude.{◌≡◌, Contains, replicate};
 
 use crate::rule::Rule;
 
@@ -17,7 +17,7 @@ pub enum Level {
 /// The level of each rule.
 #[derive(Clone, Copy)]
 pub struct Chosen {
-    levels: [Level; 14],
+    levels: [Level; 16],
 }
 
 impl Chosen {
@@ -25,9 +25,17 @@ impl Chosen {
     /// on purpose.
     pub fn new() -> Chosen {
         let mut chosen = Chosen {
-            levels: [Level::Warn; 14],
+            levels: [Level::Warn; 16],
         };
         chosen.set(Rule::UnusedCapturingGroup, Level::Allow);
+        chosen
+    }
+
+    /// The same, for patterns that are texts of JSON: `useless-flag` is silent too. Such patterns are often put together from
+    /// parts, each of which sets the flags that it needs.
+    pub fn for_values() -> Chosen {
+        let mut chosen = Chosen::new();
+        chosen.set(Rule::UselessFlag, Level::Allow);
         chosen
     }
 
@@ -39,6 +47,13 @@ impl Chosen {
             .get(rule as usize)
             .copied()
             .unwrap_or(Level::Warn)
+    }
+
+    /// Gives every rule this level.
+    pub fn set_all(&mut self, level: Level)
+        ensures { self.new.levels ≡ replicate 14 level }
+    {
+        self.levels = [level; 14];
     }
 
     /// Gives the rule this level.

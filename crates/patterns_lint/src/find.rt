@@ -1,17 +1,27 @@
 //! All that the rules find in a pattern.
 use crate::flags::useless_flags;
+use crate::grammar::{GrammarRule, missing_captures};
 use crate::problem::Found;
 use crate::references::{Ways, follow};
-use crate::scan::{PatternInfo, scan};
+use crate::scan::{Around, PatternInfo, scan};
 use crate::walk::Walk;
 use fancy_spans::SpannedTree;
 use patterns_text::subject::Subject;
 use std::alloc::AllocError;
 
-/// All that the rules find, in the order of the text. The tree is that of the pattern.
+/// The pattern as a node.
+static ROOT: Around = Around {
+    is_at_end: true,
+    is_whole: true,
+    has_count_twin: false,
+};
+
+/// All that the rules find, in the order of the text. The tree is that of the pattern; `grammar` is what the object around
+/// it says, if it is a pattern of a grammar.
 pub fn problems<'a>(
     subject: Subject<'_>,
     parsed: &'a SpannedTree,
+    grammar: Option<&GrammarRule>,
 ) -> Result<Vec<Found<'a>>, AllocError> {
     let Subject {
         alloc,
@@ -25,15 +35,22 @@ pub fn problems<'a>(
         pattern,
         total: tree.total_groups,
         has_calls: tree.contains_subroutines,
+        is_complete: grammar.is_some(),
+        begin_groups: grammar.and_then(|rule| rule.begin_groups),
     };
     let mut walk = Walk::new(alloc);
-    scan(parsed.root(), &mut walk, about, true)?;
+    scan(parsed.root(), &mut walk, about, ROOT)?;
     let mut ways = Ways::new(alloc, tree)?;
     follow(parsed.root(), &mut ways)?;
+    ways.add_groups();
     ways.report_unused()?;
     let mut found = walk.found;
     found.extend_from_slice(&ways.walk.found)?;
     found.extend_from_slice(&useless_flags(alloc, pattern, &walk.leaves, flags)?)?;
+    if let Some(rule) = grammar {
+        let captures = &rule.captures;
+        found.extend_from_slice(&missing_captures(alloc, pattern, tree.total_groups, captures)?)?;
+    }
     if at.refers_to_begin() {
         found.retain(|f| !f.is_of_digits(pattern));
     }

@@ -126,7 +126,11 @@ impl<'a> GroupReader<'a> {
                 end,
             };
             let problem = Problem::UselessFlag { letter };
-            self.found.push(Found { span, problem })?;
+            self.found.push(Found {
+                span,
+                problem,
+                related: None,
+            })?;
         }
         Ok(with(flags, letter, !clears))
     }

@@ -8,6 +8,7 @@ mod empty;
 pub mod find;
 mod fingerprint;
 mod flags;
+pub mod grammar;
 pub mod problem;
 mod quantifiers;
 mod references;

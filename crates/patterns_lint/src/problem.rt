@@ -1,33 +1,63 @@
 //! What `lint` finds in a pattern.
+use crate::grammar::CaptureKey;
 use crate::rule::Rule;
+use crate::targets::is_of_digits;
 use fancy_syntax::span::Span;
+use patterns_text::excerpt::Related;
 use patterns_text::names::Named;
+use patterns_text::octal::Octal;
 use std::fmt;
 
 /// What is wrong with a part of a pattern.
 #[derive(Clone, Copy)]
 pub enum Problem<'a> {
     /// A reference to a group above the number of groups.
-    MissingGroup { group: usize, total: usize },
+    MissingGroup {
+        group: usize,
+        total: usize,
+    },
+    /// A reference to a group above the number of groups of `begin`.
+    MissingBeginGroup {
+        group: usize,
+        total: usize,
+    },
+    /// A number under a key of captures, above the number of groups.
+    MissingCaptureGroup {
+        key: CaptureKey,
+        group: usize,
+        total: usize,
+    },
     /// A back reference to a group that cannot have matched.
-    UselessBackreference { group: Named<'a> },
+    UselessBackreference {
+        group: Named<'a>,
+    },
     /// A call that refers to no group.
     UnresolvedCall,
     /// A group with the name of another.
-    DuplicateGroupName { group: Named<'a> },
+    DuplicateGroupName {
+        group: Named<'a>,
+    },
     /// A group without a name that nothing refers to.
-    UnusedCapturingGroup { group: usize },
+    UnusedCapturingGroup {
+        group: usize,
+    },
     /// A branch that is equal to an earlier one, counted from 1.
-    DuplicateBranch { earlier: usize },
+    DuplicateBranch {
+        earlier: usize,
+    },
     /// A branch that an earlier one leaves nothing to match.
-    UnreachableBranch { earlier: usize },
+    UnreachableBranch {
+        earlier: usize,
+    },
     EmptyBranch,
     QuantifiedAssertion,
     EmptyLoop,
     UselessQuantifier,
     ZeroQuantifier,
     /// A flag that is set already.
-    UselessFlag { letter: char },
+    UselessFlag {
+        letter: char,
+    },
     SingleCharacterClass,
 }
 
@@ -36,6 +66,41 @@ pub enum Problem<'a> {
 pub struct Found<'a> {
     pub span: Span,
     pub problem: Problem<'a>,
+    /// The branch or the group that the message names.
+    pub related: Option<Related>,
+}
+
+/// What to do about a problem.
+#[derive(Clone, Copy)]
+pub enum Help {
+    /// What its rule says.
+    Rule(&'static str),
+    /// About a reference that is the octal code of a character in other dialects.
+    Octal(Octal),
+    /// About a back reference to group 0.
+    WholePattern,
+}
+
+impl fmt::Display for Help {
+    fn fmt<W: fmt::Write>(&self, f: &mut fmt::Formatter<W>) -> fmt::Result {
+        match self {
+            Help::Rule(text) => f.write_str(text),
+            Help::Octal(octal) => write!(f, "there are no octal escapes: {octal}"),
+            Help::WholePattern => {
+                f.write_str(r"group 0 is the whole match: write `\g<0>` to call the whole pattern")
+            }
+        }
+    }
+}
+
+/// The digits of a back reference that is a backslash and a number that begins with 0.
+fn octal_digits(text: &str) -> Option<&str> {
+    let digits = text.strip_prefix('\\')?;
+    if digits.starts_with('0') {
+        Some(digits)
+    } else {
+        None
+    }
 }
 
 impl Found<'_> {
@@ -43,19 +108,48 @@ impl Found<'_> {
     pub fn is_of_digits(&self, pattern: &str) -> bool {
         match self.problem {
             Problem::MissingGroup { .. } | Problem::UselessBackreference { .. } => {
-                let text = self.span.text(pattern).unwrap_or("");
-                matches!(text.as_bytes(), [b'\\', b'0'..=b'9', ..])
+                is_of_digits(self.span.text(pattern).unwrap_or(""))
             }
             _ => false,
+        }
+    }
+
+    /// What to do about it.
+    pub fn help(&self, pattern: &str) -> Help {
+        let rule = Help::Rule(self.problem.rule().help());
+        match self.problem {
+            Problem::MissingGroup { .. } | Problem::UselessBackreference { .. } => {
+                let text = self.span.text(pattern).unwrap_or("");
+                match (octal_digits(text), self.problem) {
+                    (Some(digits), _) => Help::Octal(Octal::of(digits)),
+                    (None, Problem::UselessBackreference { group }) if group.number() == 0 => {
+                        Help::WholePattern
+                    }
+                    (None, _) => rule,
+                }
+            }
+            _ => rule,
         }
     }
 }
 
 impl Problem<'_> {
+    /// The number of the earlier branch that it names.
+    pub(crate) fn earlier_branch(self) -> Option<usize> {
+        match self {
+            Problem::DuplicateBranch { earlier } | Problem::UnreachableBranch { earlier } => {
+                Some(earlier)
+            }
+            _ => None,
+        }
+    }
+
     /// The rule that reports it.
     pub fn rule(self) -> Rule {
         match self {
             Problem::MissingGroup { .. } => Rule::MissingGroup,
+            Problem::MissingBeginGroup { .. } => Rule::MissingBeginGroup,
+            Problem::MissingCaptureGroup { .. } => Rule::MissingCaptureGroup,
             Problem::UselessBackreference { .. } => Rule::UselessBackreference,
             Problem::UnresolvedCall => Rule::UnresolvedCall,
             Problem::DuplicateGroupName { .. } => Rule::DuplicateGroupName,
@@ -98,6 +192,21 @@ impl fmt::Display for Problem<'_> {
                     Total(*total)
                 )
             }
+            Problem::MissingBeginGroup { group, total } => {
+                write!(
+                    f,
+                    "reference to group {group}, but begin has {}",
+                    Total(*total)
+                )
+            }
+            Problem::MissingCaptureGroup { key, group, total } => {
+                write!(
+                    f,
+                    "number {group} in {}, but the pattern has {}",
+                    key.name(),
+                    Total(*total)
+                )
+            }
             Problem::UselessBackreference { group } => {
                 write!(
                     f,
@@ -119,7 +228,7 @@ impl fmt::Display for Problem<'_> {
                 f,
                 "branch that is never reached: whenever it would match, branch {earlier} matches first"
             ),
-            Problem::EmptyBranch => f.write_str("empty branch before another branch"),
+            Problem::EmptyBranch => f.write_str("empty branch between others"),
             Problem::QuantifiedAssertion => {
                 f.write_str("quantifier on what matches only the empty text")
             }

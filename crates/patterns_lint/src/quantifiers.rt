@@ -32,11 +32,14 @@ fn is_empty_loop(tree: &Expr) -> bool
     }
 }
 
-/// Whether it repeats exactly once.
-fn is_useless_quantifier(tree: &Expr) -> bool
-    ensures { result ≡ spec.is_useless_quantifier (view tree.now) }
+/// Whether it repeats exactly once. Where a branch beside it differs from it in the count alone, it is no mistake.
+fn is_useless_quantifier(tree: &Expr, has_count_twin: bool) -> bool
+    ensures { result ≡ spec.is_useless_quantifier has_count_twin (view tree.now) }
 {
-    matches!(tree, Expr::Repeat { lo: 1, hi: 1, .. })
+    match tree {
+        Expr::Repeat { lo: 1, hi: 1, .. } => !has_count_twin,
+        _ => false,
+    }
 }
 
 /// Whether it repeats zero times. Where there are calls, one on a group is none: it may define the group for them.
@@ -54,13 +57,18 @@ fn is_zero_quantifier(tree: &Expr, has_calls: bool) -> bool
     }
 }
 
-/// What is wrong with the node's quantifier.
-pub(crate) fn quantifier_problem(tree: &Expr, has_calls: bool) -> Option<Problem<'static>>
-    ensures { result ≡ spec.quantifier_problem has_calls (view tree.now) }
+/// What is wrong with the node's quantifier. `has_count_twin` says that a branch beside it differs from it in the count
+/// alone.
+pub(crate) fn quantifier_problem(
+    tree: &Expr,
+    has_calls: bool,
+    has_count_twin: bool,
+) -> Option<Problem<'static>>
+    ensures { result ≡ spec.quantifier_problem has_calls has_count_twin (view tree.now) }
 {
     if is_zero_quantifier(tree, has_calls) {
         Some(Problem::ZeroQuantifier)
-    } else if is_useless_quantifier(tree) {
+    } else if is_useless_quantifier(tree, has_count_twin) {
         Some(Problem::UselessQuantifier)
     } else if is_quantified_assertion(tree) {
         Some(Problem::QuantifiedAssertion)

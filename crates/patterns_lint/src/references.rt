@@ -5,6 +5,7 @@ use fancy_spans::SpannedNode;
 use fancy_syntax::expr::{Expr, LookAround};
 use fancy_syntax::span::Span;
 use fancy_syntax::tree::ExprTree;
+use patterns_text::excerpt::{Label, Related};
 use patterns_text::names::Names;
 use std::alloc::{AllocError, Global};
 
@@ -39,6 +40,8 @@ pub(crate) struct Ways<'a> {
     opened: usize,
     /// Of each name how many groups are on the way to where the walk is.
     with_name: Vec<usize>,
+    /// Of each name the first of these groups.
+    first_with_name: Vec<usize>,
     /// The groups that were closed, in order, but for those in a negative look-around.
     closed: Vec<usize>,
     /// In a loop, how many groups had opened before the outermost one.
@@ -75,6 +78,7 @@ impl<'a> Ways<'a> {
             captures: captures_of(alloc, tree)?,
             opened: 0,
             with_name: vec![in alloc; 0; tree.named_groups.len()]?,
+            first_with_name: vec![in alloc; 0; tree.named_groups.len()]?,
             closed: Vec::new(alloc),
             before_loop: None,
             pending: Vec::new(alloc),
@@ -86,18 +90,28 @@ impl<'a> Ways<'a> {
         self.before_loop.is_some_and(|before| before < group)
     }
 
-    /// Adds a group of this one's name to those on the way, and returns whether there was one.
-    fn add_name(&mut self, group: usize) -> bool {
-        let Some(name) = self.captures.get(group).and_then(|capture| capture.name) else {
-            return false;
-        };
-        match self.with_name.get_mut(name) {
-            Some(count) => {
-                *count = count.saturating_add(1);
-                *count > 1
-            }
-            None => false,
+    /// Adds a group of this one's name to those on the way, and returns the first of them if there was one.
+    fn add_name(&mut self, group: usize) -> Option<usize> {
+        let name = self.captures.get(group)?.name?;
+        let first = self.first_with_name.get_mut(name)?;
+        let count = self.with_name.get_mut(name)?;
+        *count = count.saturating_add(1);
+        if *count > 1 {
+            return Some(*first);
         }
+        *first = group;
+        None
+    }
+
+    /// The group of this number, as what a report is related to; none for the whole pattern.
+    fn related(&self, group: usize) -> Option<Related> {
+        if group == 0 {
+            return None;
+        }
+        Some(Related {
+            span: self.captures.get(group)?.span,
+            label: Label::Group(group),
+        })
     }
 
     /// Takes away a group of this one's name.
@@ -123,10 +137,11 @@ impl<'a> Ways<'a> {
         if let Some(capture) = self.captures.get_mut(group) {
             capture.span = span;
         }
-        if self.add_name(group) {
+        if let Some(first) = self.add_name(group) {
+            let related = self.related(first);
             let group = self.names.group(group);
             self.walk
-                .report(span, Problem::DuplicateGroupName { group })?;
+                .report_beside(span, Problem::DuplicateGroupName { group }, related)?;
         }
         Ok(group)
     }
@@ -204,6 +219,20 @@ impl<'a> Ways<'a> {
         }
         self.pending.clear();
         Ok(())
+    }
+
+    /// Adds to each report on a back reference the group, which may open after it.
+    pub(crate) fn add_groups(&mut self) {
+        for i in 0..self.walk.found.len() {
+            if let Some(found) = self.walk.found.get(i)
+                && let Problem::UselessBackreference { group } = found.problem
+            {
+                let related = self.related(group.number());
+                if let Some(found) = self.walk.found.get_mut(i) {
+                    found.related = related;
+                }
+            }
+        }
     }
 
     /// Reports each group without a name that nothing refers to, if some group has a name.

@@ -10,6 +10,10 @@ use std::io::Write;
 pub enum Rule {
     /// A back reference or a condition on a group that the pattern does not have.
     MissingGroup,
+    /// In a grammar, a back reference of `end` or `while` to a group that `begin` does not have.
+    MissingBeginGroup,
+    /// In a grammar, a number in captures that is above the number of groups.
+    MissingCaptureGroup,
     /// A back reference to a group that cannot have matched yet.
     UselessBackreference,
     /// A subroutine call that refers to no group.
@@ -22,7 +26,7 @@ pub enum Rule {
     DuplicateBranch,
     /// A branch that begins with the whole of an earlier one, if nothing follows the alternation.
     UnreachableBranch,
-    /// An empty branch that is not the last one.
+    /// An empty branch that is neither the first nor the last one.
     EmptyBranch,
     /// A quantifier on what matches only the empty text.
     QuantifiedAssertion,
@@ -39,8 +43,10 @@ pub enum Rule {
 }
 
 /// All rules, in the order in which they are listed.
-pub static RULES: [Rule; 14] = [
+pub static RULES: [Rule; 16] = [
     Rule::MissingGroup,
+    Rule::MissingBeginGroup,
+    Rule::MissingCaptureGroup,
     Rule::UselessBackreference,
     Rule::UnresolvedCall,
     Rule::DuplicateGroupName,
@@ -77,6 +83,18 @@ impl Rule {
                 example: r"(a)\2",
                 help: "it never matches: correct the number, or remove it",
             },
+            Rule::MissingBeginGroup => RuleInfo {
+                name: "missing-begin-group",
+                what: "in a grammar, a back reference of end or while to a group that begin does not have",
+                example: r#"{"begin": "(a)", "end": "\2"}"#,
+                help: "it matches only the empty text: correct the number, or remove it",
+            },
+            Rule::MissingCaptureGroup => RuleInfo {
+                name: "missing-capture-group",
+                what: "in a grammar, a number in captures that is above the number of groups",
+                example: r#"{"match": "(a)", "captures": {"2": {}}}"#,
+                help: "correct the number, or remove it",
+            },
             Rule::UselessBackreference => RuleInfo {
                 name: "useless-backreference",
                 what: "a back reference to a group that cannot have matched yet",
@@ -110,14 +128,14 @@ impl Rule {
             Rule::UnreachableBranch => RuleInfo {
                 name: "unreachable-branch",
                 what: "a branch that begins with the whole of an earlier one, if nothing follows the alternation",
-                example: r"get|getter",
+                example: r"#(?:if|ifdef)",
                 help: "put it before the earlier branch, or remove it",
             },
             Rule::EmptyBranch => RuleInfo {
                 name: "empty-branch",
-                what: "an empty branch before another",
+                what: "an empty branch between others",
                 example: r"a||b",
-                help: "remove a bar, or put the empty branch last",
+                help: "remove a bar, or put the empty branch first or last",
             },
             Rule::QuantifiedAssertion => RuleInfo {
                 name: "quantified-assertion",
@@ -165,7 +183,7 @@ impl Rule {
         self.about().name
     }
 
-    /// A pattern that the rule reports.
+    /// A pattern that the rule reports; of a rule on grammars, an object of JSON.
     pub fn example(self) -> &'static str {
         self.about().example
     }

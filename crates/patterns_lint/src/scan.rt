@@ -1,14 +1,15 @@
 //! The rules that look at a node, or at the branches of one.
-use crate::branches::{Earlier, Situation};
+use crate::branches::{Earlier, Situation, has_count_twin, is_word_list};
 use crate::classes::is_single_character_class;
 use crate::fingerprint::Fingerprint;
 use crate::problem::Problem;
 use crate::quantifiers::quantifier_problem;
-use crate::targets::{is_unresolved_call, missing_group};
+use crate::targets::{is_unresolved_call, missing_begin_group, missing_group};
 use crate::walk::Walk;
 use fancy_spans::SpannedNode;
 use fancy_syntax::expr::{Absent, Expr, LookAround};
 use fancy_syntax::span::Span;
+use patterns_text::excerpt::{Label, Related};
 use std::alloc::{AllocError, Global};
 
 /// What the rules know of the pattern.
@@ -20,22 +21,54 @@ pub(crate) struct PatternInfo<'a> {
     pub(crate) total: usize,
     /// Whether it has calls, so that a group may also be matched where it is called.
     pub(crate) has_calls: bool,
+    /// Whether it is matched as it is: nothing is added to it.
+    pub(crate) is_complete: bool,
+    /// Where a back reference in digits refers to a group of another pattern, how many groups that has.
+    pub(crate) begin_groups: Option<usize>,
+}
+
+/// What is known of a node from what is around it.
+#[derive(Clone, Copy)]
+pub(crate) struct Around {
+    /// Whether nothing follows it in the pattern, or in a group that is left at its first match.
+    pub(crate) is_at_end: bool,
+    /// Whether the pattern consists of it, but for groups around it.
+    pub(crate) is_whole: bool,
+    /// Whether it is a branch beside one that differs from it in the count alone.
+    pub(crate) has_count_twin: bool,
+}
+
+/// What is wrong with the reference that is the node.
+fn reference_problem(tree: &Expr, span: Span, about: PatternInfo<'_>) -> Option<Problem<'static>> {
+    if is_unresolved_call(tree, about.total) {
+        return Some(Problem::UnresolvedCall);
+    }
+    let text = span.text(about.pattern).unwrap_or("");
+    if let Some(total) = about.begin_groups
+        && let Some(group) = missing_begin_group(tree, text, total)
+    {
+        return Some(Problem::MissingBeginGroup { group, total });
+    }
+    let total = about.total;
+    let group = missing_group(tree, total)?;
+    Some(Problem::MissingGroup { group, total })
 }
 
 /// What is wrong with the node itself.
-fn node_problem(tree: &Expr, span: Span, about: PatternInfo<'_>) -> Option<Problem<'static>> {
+fn node_problem(
+    tree: &Expr,
+    span: Span,
+    about: PatternInfo<'_>,
+    has_count_twin: bool,
+) -> Option<Problem<'static>> {
     let before = about.pattern.get(..span.start).unwrap_or("");
     if is_single_character_class(tree, before) {
         return Some(Problem::SingleCharacterClass);
     }
-    if is_unresolved_call(tree, about.total) {
-        return Some(Problem::UnresolvedCall);
+    if let Some(problem) = reference_problem(tree, span, about) {
+        return Some(problem);
     }
-    if let Some(group) = missing_group(tree, about.total) {
-        let total = about.total;
-        return Some(Problem::MissingGroup { group, total });
-    }
-    quantifier_problem(tree, about.has_calls)
+    quantifier_problem(tree, about.has_calls, has_count_twin)
 }
 
 /// Whether the node has no children and takes text.
@@ -104,13 +137,16 @@ fn is_child_at_end(tree: &Expr, index: usize, is_at_end: bool) -> bool {
 struct AltBranches<'b> {
     all: &'b [Expr],
     earlier: Earlier,
+    /// Where each of those before the next one is.
+    spans: Vec<Span>,
     is_at_end: bool,
+    may_be_extended: bool,
     has_calls: bool,
 }
 
 impl<'b> AltBranches<'b> {
-    /// Those of the node.
-    fn of(tree: &'b Expr, about: PatternInfo<'_>, is_at_end: bool) -> AltBranches<'b> {
+    /// Those of the node. After a list of words that is the whole pattern an engine may add `\b`, as for keywords.
+    fn of(tree: &'b Expr, about: PatternInfo<'_>, around: Around) -> AltBranches<'b> {
         let all: &[Expr] = match tree {
             Expr::Alt(branches) => branches,
             Expr::Empty
@@ -140,25 +176,42 @@ impl<'b> AltBranches<'b> {
         AltBranches {
             all,
             earlier: Earlier::none(about.alloc),
-            is_at_end,
+            spans: Vec::new(about.alloc),
+            is_at_end: around.is_at_end,
+            may_be_extended: around.is_whole && !about.is_complete && is_word_list(all),
             has_calls: about.has_calls,
         }
     }
 
-    /// What is wrong with the branch of this index, which is the next one.
-    fn next_problem(&mut self, i: usize) -> Result<Option<Problem<'static>>, AllocError> {
+    /// The branch that the problem names.
+    fn related(&self, problem: Problem<'_>) -> Option<Related> {
+        let number = problem.earlier_branch()?;
+        Some(Related {
+            span: *self.spans.get(number.saturating_sub(1))?,
+            label: Label::Branch(number),
+        })
+    }
+
+    /// What is wrong with the branch of this index and this span, which is the next one.
+    fn next_problem(
+        &mut self,
+        i: usize,
+        span: Span,
+    ) -> Result<Option<Problem<'static>>, AllocError> {
         let Some(branch) = self.all.get(i) else {
             return Ok(None);
         };
         let situation = Situation {
             is_last: i.saturating_add(1) == self.all.len(),
             is_at_end: self.is_at_end,
+            may_be_extended: self.may_be_extended,
             has_calls: self.has_calls,
         };
         let before = self.all.get(..i).unwrap_or(&[]);
         let whole = Fingerprint::of(branch);
         let problem = self.earlier.problem(before, branch, whole, situation);
         self.earlier.add(i, branch, whole)?;
+        self.spans.push(span)?;
         Ok(problem)
     }
 }
@@ -168,8 +221,9 @@ fn look_at<'a>(
     node: SpannedNode<'_>,
     walk: &mut Walk<'a>,
     about: PatternInfo<'_>,
+    has_count_twin: bool,
 ) -> Result<(), AllocError> {
-    if let Some(problem) = node_problem(node.expr(), node.span(), about) {
+    if let Some(problem) = node_problem(node.expr(), node.span(), about, has_count_twin) {
         walk.report(node.span(), problem)?;
     }
     if is_leaf_with_text(node.expr()) {
@@ -178,27 +232,31 @@ fn look_at<'a>(
     Ok(())
 }
 
-/// Scans a node and those below it. `is_at_end` says that nothing follows it in the pattern, or in a group that is left at
-/// its first match.
+/// What is known of the child of this index.
+fn around_child(tree: &Expr, branches: &[Expr], index: usize, around: Around) -> Around {
+    Around {
+        is_at_end: is_child_at_end(tree, index, around.is_at_end),
+        is_whole: around.is_whole && matches!(tree, Expr::Group(_)),
+        has_count_twin: has_count_twin(branches, index),
+    }
+}
+
+/// Scans a node and those below it.
 pub(crate) fn scan<'a>(
     node: SpannedNode<'_>,
     walk: &mut Walk<'a>,
     about: PatternInfo<'_>,
-    is_at_end: bool,
+    around: Around,
 ) -> Result<(), AllocError> {
-    look_at(node, walk, about)?;
-    let mut branches = AltBranches::of(node.expr(), about, is_at_end);
+    look_at(node, walk, about, around.has_count_twin)?;
+    let mut branches = AltBranches::of(node.expr(), about, around);
     let mut index = 0usize;
     for child in node.children() {
-        if let Some(problem) = branches.next_problem(index)? {
-            walk.report(child.span(), problem)?;
+        if let Some(problem) = branches.next_problem(index, child.span())? {
+            walk.report_beside(child.span(), problem, branches.related(problem))?;
         }
-        scan(
-            child,
-            walk,
-            about,
-            is_child_at_end(node.expr(), index, is_at_end),
-        )?;
+        let inside = around_child(node.expr(), branches.all, index, around);
+        scan(child, walk, about, inside)?;
         index = index.saturating_add(1);
     }
     Ok(())

@@ -1,12 +1,12 @@
 //! References to groups that are not there.
-ghost use Rattle.std.specs.Prelude.{◌≡◌, if◌then◌else◌, nat_lt, Some, None};
+ghost use Rattle.std.specs.Prelude.{◌≡◌, if◌then◌else◌, nat_lt, Some, None, OnSome};
 ghost use Rattle.fancy_syntax.specs.View.{view};
 ghost use Rattle.patterns_lint.specs.Targets as spec;
 
 use fancy_syntax::expr::Expr;
 
 /// The number, if it is above the number of groups.
-fn above(total: usize, group: usize) -> Option<usize>
+pub(crate) fn above(total: usize, group: usize) -> Option<usize>
     ensures { result ≡ spec.above total group }
 {
     if total < group { Some(group) } else { None }
@@ -21,6 +21,22 @@ pub(crate) fn missing_group(tree: &Expr, total: usize) -> Option<usize>
         Expr::BackrefWithRelativeRecursionLevel { group, .. } => above(total, *group),
         Expr::BackrefExistsCondition { group, .. } => above(total, *group),
         _ => None,
+    }
+}
+
+/// Whether the text of a node begins as a back reference that is a backslash and digits.
+pub(crate) fn is_of_digits(text: &str) -> bool {
+    matches!(text.as_bytes(), [b'\\', b'0'..=b'9', ..])
+}
+
+/// The group of the back reference, which has this text, if it is a backslash and digits, and `begin` has fewer groups.
+pub(crate) fn missing_begin_group(tree: &Expr, text: &str, total: usize) -> Option<usize>
+    ensures { OnSome result (result ≡ spec.missing_group total (view tree.now)) }
+{
+    if is_of_digits(text) {
+        missing_group(tree, total)
+    } else {
+        None
     }
 }
 

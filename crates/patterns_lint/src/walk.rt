@@ -1,6 +1,7 @@
 //! What a walk over the nodes of a pattern's tree finds.
 use crate::problem::{Found, Problem};
 use fancy_syntax::span::Span;
+use patterns_text::excerpt::Related;
 use std::alloc::{AllocError, Global};
 
 /// What a walk has found so far.
@@ -22,7 +23,21 @@ impl<'a> Walk<'a> {
 
     /// Adds what is wrong there.
     pub(crate) fn report(&mut self, span: Span, problem: Problem<'a>) -> Result<(), AllocError> {
-        self.found.push(Found { span, problem })?;
+        self.report_beside(span, problem, None)
+    }
+
+    /// Adds what is wrong there, and the branch or the group that its message names.
+    pub(crate) fn report_beside(
+        &mut self,
+        span: Span,
+        problem: Problem<'a>,
+        related: Option<Related>,
+    ) -> Result<(), AllocError> {
+        self.found.push(Found {
+            span,
+            problem,
+            related,
+        })?;
         Ok(())
     }
 }

@@ -1,7 +1,8 @@
 //! Where each node is drawn in the picture.
+use crate::content::Content;
 use crate::label::Words;
 use crate::shape::Shape;
-use crate::size::{GAP, ROLE, Size, WORD_LINE};
+use crate::size::{GAP, RETURN, ROLE, SIDE, Size, WORD_LINE};
 use crate::text::columns;
 use fancy_spans::{SpannedNode, SpannedTree};
 use fancy_syntax::expr::Expr;
@@ -22,6 +23,10 @@ pub(crate) struct Drawn<'a> {
     /// How many nodes it has, itself counted.
     nodes: usize,
     pub(crate) size: Size,
+    /// Of the child of a row that begins a line, the size of the line.
+    pub(crate) line: Option<Size>,
+    /// Whether it is a row of several lines.
+    pub(crate) is_wrapped: bool,
     pub(crate) left: usize,
     pub(crate) top: usize,
 }
@@ -103,7 +108,10 @@ impl<'l, 'a> Iterator for Children<'l, 'a> {
 #[derive(Clone, Copy)]
 struct Cursor {
     left: usize,
+    /// In a row where the next line begins.
     top: usize,
+    /// The height of the rail of a row's line.
+    rail: usize,
     last: Option<Shape>,
 }
 
@@ -116,12 +124,25 @@ impl Cursor {
         Cursor {
             left: parent.left.saturating_add(role),
             top: parent.top.saturating_add(words),
+            rail: parent.rail(),
             last: None,
         }
     }
 
+    /// Moves to the beginning of the next line of a row, which is so large.
+    fn begin_line(&mut self, row: &Drawn<'_>, line: Size) {
+        let indent = if row.is_wrapped { SIDE } else { 0 };
+        self.left = row.left.saturating_add(indent);
+        self.rail = self.top.saturating_add(line.rail);
+        self.top = self.top.saturating_add(line.height).saturating_add(RETURN);
+        self.last = None;
+    }
+
     /// Puts a child where the cursor is, and moves on.
     fn put(&mut self, parent: &Drawn<'_>, child: &mut Drawn<'_>) {
+        if let Some(line) = child.line {
+            self.begin_line(parent, line);
+        }
         let gap = self.last.map_or(0, |last| last.gap(child.shape));
         let free = parent.size.width.saturating_sub(child.size.width);
         child.left = match parent.shape {
@@ -131,31 +152,33 @@ impl Cursor {
         };
         child.top = match parent.shape {
             Shape::Fork | Shape::Parts => self.top,
-            _ => parent.rail().saturating_sub(child.size.rail),
+            _ => self.rail.saturating_sub(child.size.rail),
         };
         if parent.shape == Shape::Row {
             self.left = child.right();
+        } else {
+            self.top = child.bottom().saturating_add(GAP);
         }
-        self.top = child.bottom().saturating_add(GAP);
         self.last = Some(child.shape);
     }
 }
 
 impl<'a> Layout<'a> {
-    /// The nodes of the tree of the pattern, each where it is drawn if the tree is drawn there.
+    /// The nodes of the tree of the pattern, each where it is drawn if the tree is drawn there. Rows that would be wider
+    /// than the width have several lines.
     pub(crate) fn of(
         subject: Subject<'a>,
         words: &mut Words<'_>,
         parsed: &'a SpannedTree,
-        left: usize,
-        top: usize,
+        (left, top): (usize, usize),
+        width: usize,
     ) -> Result<Layout<'a>, RunError> {
         let mut layout = Layout {
             nodes: Vec::with_capacity(subject.alloc, parsed.spans.len())?,
             pattern: subject.pattern,
             groups: 0,
         };
-        measure(&mut layout, words, parsed.root())?;
+        measure(&mut layout, words, parsed.root(), width)?;
         layout.put_root(left, top);
         layout.put_nodes();
         Ok(layout)
@@ -200,27 +223,47 @@ impl<'a> Layout<'a> {
             children: 0,
             nodes: 1,
             size: Size::EMPTY,
+            line: None,
+            is_wrapped: false,
             left: 0,
             top: 0,
         })?;
         Ok(index)
     }
 
-    /// Sets the size of the node, whose children take so much together.
+    /// Adds a child, which is measured, to the content of a node: to a new line if the last one is full.
+    fn add(&mut self, content: &mut Content, child: usize, next: (Shape, Size)) {
+        if content.is_full(next) {
+            self.end_line(content);
+            content.begin_line(child);
+        }
+        content.add(next);
+    }
+
+    /// Sets the size of the last line of a row.
+    fn end_line(&mut self, content: &Content) {
+        if let Some(first) = self.nodes.get_mut(content.first) {
+            first.line = content.last_line();
+        }
+    }
+
+    /// Sets the size of the node, which has this content.
     fn end(
         &mut self,
         index: usize,
         words: &mut Words<'_>,
         children: usize,
-        content: Size,
+        content: Content,
     ) -> Result<Size, RunError> {
+        self.end_line(&content);
         let len = self.nodes.len();
         let Some(drawn) = self.nodes.get_mut(index) else {
-            return Ok(content);
+            return Ok(content.size());
         };
         let text = drawn.text_size(self.pattern);
         let on_box = columns(words.on_box(drawn.node, drawn.groups)?);
-        drawn.size = drawn.shape.round(content.beside(0, text), on_box);
+        drawn.size = drawn.shape.round(content.size().beside(0, text), on_box);
+        drawn.is_wrapped = content.is_wrapped();
         drawn.children = children;
         drawn.nodes = len.saturating_sub(index);
         Ok(drawn.size)
@@ -257,21 +300,21 @@ impl<'a> Layout<'a> {
     }
 }
 
-/// Adds the node and those below it, and returns its shape and its size.
+/// Adds the node and those below it, and returns its shape and its size. It may be so wide.
 fn measure<'a>(
     layout: &mut Layout<'a>,
     words: &mut Words<'_>,
     node: SpannedNode<'a>,
+    width: usize,
 ) -> Result<(Shape, Size), RunError> {
     let index = layout.begin(node)?;
     let shape = Shape::of(node.expr());
-    let mut content = Size::EMPTY;
-    let mut last = None;
+    let mut content = Content::new(shape, width, layout.nodes.len());
     let mut children: usize = 0;
     for child in node.children() {
-        let next = measure(layout, words, child)?;
-        content = shape.joined(content, last, next);
-        last = Some(next.0);
+        let at = layout.nodes.len();
+        let next = measure(layout, words, child, content.limit)?;
+        layout.add(&mut content, at, next);
         children = children.saturating_add(1);
     }
     Ok((shape, layout.end(index, words, children, content)?))

@@ -1,6 +1,7 @@
 //! A pattern's tree as a railroad diagram.
 #![tactic(auto)]
 
+mod content;
 mod grid;
 mod label;
 mod layout;

@@ -1,7 +1,5 @@
 //! The subcommand `picture`: a pattern's tree as a railroad diagram.
-ghost use Rattle.std.specs.Prelude.{◌≡◌, ◌≤◌, ◌⊎◌, chars, Ok, IfOk};
-ghost use Rattle.fancy_lex.specs.Flags.{flags_of};
-ghost use Rattle.fre_program.specs.Words.{HasTree, HasError};
+ghost use Rattle.std.specs.Prelude.{◌≡◌, ◌≤◌, ◌⊎◌, Ok, IfOk};
 ghost use Rattle.patterns_text.specs.Subject.{IsAccepted, IsRefused};
 
 use crate::page::write_page;
@@ -9,8 +7,10 @@ use crate::svg::write_picture;
 use fancy_spans::SpannedTree;
 use patterns_text::error::{RunError, give_up};
 use patterns_text::subject::Subject;
-use std::alloc::Global;
 use std::io::Write;
+
+/// How wide a picture is, in pixels, if nothing else is chosen.
+pub const WIDTH: usize = 960;
 
 /// What a picture is written as.
 #[derive(Clone, Copy)]
@@ -25,12 +25,13 @@ pub enum Canvas {
 fn write<O: Write>(
     subject: Subject<'_>,
     canvas: Canvas,
+    width: usize,
     parsed: &SpannedTree,
     out: &mut O,
 ) -> Result<(), RunError> {
     match canvas {
-        Canvas::Svg => write_picture(subject, parsed, out)?,
-        Canvas::Page => write_page(subject, parsed, out)?,
+        Canvas::Svg => write_picture(subject, parsed, width, out)?,
+        Canvas::Page => write_page(subject, parsed, width, out)?,
     }
     out.flush()?;
     Ok(())
@@ -40,6 +41,7 @@ fn write<O: Write>(
 fn draw_or_report<O: Write, E: Write>(
     subject: Subject<'_>,
     canvas: Canvas,
+    width: usize,
     out: &mut O,
     err: &mut E,
 ) -> Result<u8, RunError>
@@ -49,7 +51,7 @@ fn draw_or_report<O: Write, E: Write>(
 {
     match subject.parse()? {
         Ok(parsed) => {
-            write(subject, canvas, &parsed, out)?;
+            write(subject, canvas, width, &parsed, out)?;
             Ok(0)
         }
         Err(refusal) => {
@@ -61,21 +63,20 @@ fn draw_or_report<O: Write, E: Write>(
 
 /// Draws the tree of a pattern as a railroad diagram, and returns the exit status: 0 if the pattern is valid, with the
 /// picture on `out`; 1 if it is invalid, with the position and the reason on `err`; 3 if memory ran out or a write
-/// failed, which is reported on `err` if that is possible, and `out` may then have part of the output.
+/// failed, which is reported on `err` if that is possible, and `out` may then have part of the output. The width is in
+/// pixels: what is in a row has several lines if one would be wider. A part that is wider by itself stays so.
 pub fn draw_picture<O: Write, E: Write>(
-    alloc: Global,
-    flags: u32,
+    subject: Subject<'_>,
     canvas: Canvas,
-    pattern: &str,
+    width: usize,
     out: &mut O,
     err: &mut E,
 ) -> u8
-    ensures read { result ≡ 0 → HasTree (flags_of flags) (chars pattern.now) }
-    ensures refused { result ≡ 1 → HasError (flags_of flags) (chars pattern.now) }
+    ensures read { result ≡ 0 → IsAccepted subject.entry }
+    ensures refused { result ≡ 1 → IsRefused subject.entry }
     ensures status { (result ≡ 0) ⊎ ((result ≡ 1) ⊎ (result ≡ 3)) }
 {
-    let subject = Subject::of_argument(alloc, flags, pattern);
-    match draw_or_report(subject, canvas, out, err) {
+    match draw_or_report(subject, canvas, width, out, err) {
         Ok(status) => status,
         Err(error) => give_up(err, error),
     }

@@ -1,5 +1,5 @@
 //! How each kind of node is drawn.
-use crate::size::{GAP, LINE, PASS, ROLE, SIDE, Size, WORD_LINE};
+use crate::size::{GAP, LINE, PASS, ROLE, SIDE, Size, WORD_LINE, narrowed};
 use fancy_syntax::expr::{Absent, Expr};
 
 /// How a node is drawn.
@@ -11,7 +11,7 @@ pub(crate) enum Shape {
     Character,
     /// As a box with its text and some words.
     Leaf,
-    /// As its children from left to right.
+    /// As its children from left to right, in several lines if they are wide.
     Row,
     /// As its children one below another, with rails that fork to them.
     Fork,
@@ -78,6 +78,17 @@ impl Shape {
         match self {
             Shape::Fork | Shape::Parts => so_far.above(GAP, next.1),
             _ => so_far.beside(last.gap(next.0), next.1),
+        }
+    }
+
+    /// How wide a child, or a line, of a node of this shape may be, where the node may be so wide.
+    pub(crate) fn inside(self, width: usize) -> usize {
+        match self {
+            Shape::Row => narrowed(width, 3 * SIDE),
+            Shape::Fork | Shape::Loop { .. } => narrowed(width, 2 * SIDE),
+            Shape::Frame => narrowed(width, 2 * GAP),
+            Shape::Parts => narrowed(width, 2 * GAP + ROLE),
+            Shape::Nothing | Shape::Character | Shape::Leaf => width,
         }
     }
 

@@ -14,8 +14,17 @@ pub(crate) const GAP: usize = 12;
 pub(crate) const SIDE: usize = 20;
 /// From a box to the rail that passes it.
 pub(crate) const PASS: usize = 8;
+/// Between two lines of a row, where the rail runs back.
+pub(crate) const RETURN: usize = 2 * PASS;
+/// The least width that is left for the children of a node.
+const NARROWEST: usize = 240;
 /// What is written before a part of a conditional.
 pub(crate) const ROLE: usize = 60;
+
+/// A width without so much at its sides, but not too narrow.
+pub(crate) fn narrowed(width: usize, sides: usize) -> usize {
+    width.saturating_sub(sides).max(NARROWEST)
+}
 
 /// The size of a part.
 #[derive(Clone, Copy)]

@@ -7,6 +7,7 @@ text-anchor: middle; white-space: pre; direction: ltr; unicode-bidi: bidi-overri
 .picture .words, .picture .role { font-size: 11px; fill: #59636e }
 .picture .pattern, .picture .role, .picture .frame .words, .picture .parts .words { text-anchor: start }
 .picture .rail { fill: none; stroke: #59636e; stroke-width: 2; pointer-events: none }
+.picture .cut { fill: none; stroke: #fff; stroke-width: 4; pointer-events: none }
 .picture .arrow, .picture .end { fill: #59636e }
 .picture .box, .picture .area { fill: transparent }
 .picture .character .box, .picture .character .area { fill: #ddf4ff }
@@ -24,6 +25,12 @@ text-anchor: middle; white-space: pre; direction: ltr; unicode-bidi: bidi-overri
 .picture .colour3 .box { stroke: #8250df } .picture .colour3 .words, .picture .colour3 .area { fill: #8250df }
 .picture .colour4 .box { stroke: #cf222e } .picture .colour4 .words, .picture .colour4 .area { fill: #cf222e }
 .picture .colour5 .box { stroke: #0e7490 } .picture .colour5 .words, .picture .colour5 .area { fill: #0e7490 }
+.picture .colour6 .box { stroke: #bf3989 } .picture .colour6 .words, .picture .colour6 .area { fill: #bf3989 }
+.picture .colour7 .box { stroke: #bc4c00 } .picture .colour7 .words, .picture .colour7 .area { fill: #bc4c00 }
+.picture .colour8 .box { stroke: #4d7c0f } .picture .colour8 .words, .picture .colour8 .area { fill: #4d7c0f }
+.picture .colour9 .box { stroke: #3730a3 } .picture .colour9 .words, .picture .colour9 .area { fill: #3730a3 }
+.picture .colour10 .box { stroke: #7f1d1d } .picture .colour10 .words, .picture .colour10 .area { fill: #7f1d1d }
+.picture .colour11 .box { stroke: #115e59 } .picture .colour11 .words, .picture .colour11 .area { fill: #115e59 }
 .picture [class*=colour] .area { fill-opacity: .15 }
 .picture .node:hover .box, .picture .node:hover .area { fill: #fff08a; fill-opacity: .7 }
 @media (prefers-color-scheme: dark) {
@@ -31,6 +38,7 @@ text-anchor: middle; white-space: pre; direction: ltr; unicode-bidi: bidi-overri
 .picture text { fill: #e6edf3 }
 .picture .words, .picture .role { fill: #9198a1 }
 .picture .rail { stroke: #9198a1 }
+.picture .cut { stroke: #0d1117 }
 .picture .arrow, .picture .end { fill: #9198a1 }
 .picture .character .box, .picture .character .area { fill: #12324f }
 .picture .leaf .box, .picture .leaf .area { fill: #21262d }
@@ -42,6 +50,12 @@ text-anchor: middle; white-space: pre; direction: ltr; unicode-bidi: bidi-overri
 .picture .colour3 .box { stroke: #bc8cff } .picture .colour3 .words, .picture .colour3 .area { fill: #bc8cff }
 .picture .colour4 .box { stroke: #ff7b72 } .picture .colour4 .words, .picture .colour4 .area { fill: #ff7b72 }
 .picture .colour5 .box { stroke: #39c5cf } .picture .colour5 .words, .picture .colour5 .area { fill: #39c5cf }
+.picture .colour6 .box { stroke: #f778ba } .picture .colour6 .words, .picture .colour6 .area { fill: #f778ba }
+.picture .colour7 .box { stroke: #ffa657 } .picture .colour7 .words, .picture .colour7 .area { fill: #ffa657 }
+.picture .colour8 .box { stroke: #a3e635 } .picture .colour8 .words, .picture .colour8 .area { fill: #a3e635 }
+.picture .colour9 .box { stroke: #a5b4fc } .picture .colour9 .words, .picture .colour9 .area { fill: #a5b4fc }
+.picture .colour10 .box { stroke: #e5c9a8 } .picture .colour10 .words, .picture .colour10 .area { fill: #e5c9a8 }
+.picture .colour11 .box { stroke: #99f6e4 } .picture .colour11 .words, .picture .colour11 .area { fill: #99f6e4 }
 .picture .node:hover .box, .picture .node:hover .area { fill: #6b5b00 }
 }
 </style>

@@ -2,9 +2,9 @@
 use crate::grid::Grid;
 use crate::label::Words;
 use crate::layout::{Drawn, Layout};
-use crate::rails::{Arrow, past_child, to_branch, to_start};
+use crate::rails::{Arrow, past_child, to_branch, to_end, to_line, to_start};
 use crate::shape::Shape;
-use crate::size::{COLUMN, GAP, LINE, SIDE, WORD_LINE};
+use crate::size::{COLUMN, GAP, LINE, SIDE, Size, WORD_LINE, narrowed};
 use crate::style::STYLE;
 use crate::text::Xml;
 use fancy_spans::SpannedTree;
@@ -22,7 +22,7 @@ const MARGIN: usize = 16;
 /// The fewest columns of a line of the pattern.
 const FEWEST_COLUMNS: usize = 40;
 /// How many colours groups have.
-const COLOURS: usize = 6;
+const COLOURS: usize = 12;
 
 /// A picture, as it is written.
 #[derive(Drop)]
@@ -176,6 +176,54 @@ fn write_parts<O: Write>(
     Ok(())
 }
 
+/// Writes the rail to a line of a row that is not its first, from the part before the line.
+fn write_turn<O: Write>(
+    out: &mut O,
+    row: &Drawn<'_>,
+    before: &Drawn<'_>,
+    first: &Drawn<'_>,
+    line: Size,
+) -> io::Result<()> {
+    let turn = to_line(before, first, line);
+    if turn.rail == row.rail() {
+        writeln!(
+            out,
+            "<path class=\"cut\" d=\"M{} {}H{}\"/>",
+            turn.end,
+            turn.rail,
+            row.right()
+        )?;
+    }
+    let arrow = Arrow {
+        middle: turn.end.midpoint(turn.next_start),
+        height: turn.back,
+    };
+    writeln!(out, "<path class=\"rail\" d=\"{turn}\"/>")?;
+    writeln!(out, "<path class=\"arrow\" d=\"{arrow}\"/>")
+}
+
+/// Writes the rails between the lines of a row, and that from the end of the last one.
+fn write_lines<O: Write>(
+    out: &mut O,
+    layout: &Layout<'_>,
+    index: usize,
+    row: &Drawn<'_>,
+) -> io::Result<()> {
+    let mut last = None;
+    for part in layout.children(index) {
+        if let (Some(before), Some(line)) = (last, part.line) {
+            write_turn(out, row, before, part, line)?;
+        }
+        last = Some(part);
+    }
+    match last {
+        Some(last) if row.is_wrapped => {
+            writeln!(out, "<path class=\"rail\" d=\"{}\"/>", to_end(row, last))
+        }
+        _ => Ok(()),
+    }
+}
+
 /// Writes the rails that the node has of its own.
 fn write_rails<O: Write>(
     out: &mut O,
@@ -184,6 +232,7 @@ fn write_rails<O: Write>(
     node: &Drawn<'_>,
 ) -> io::Result<()> {
     match node.shape {
+        Shape::Row => write_lines(out, layout, index, node),
         Shape::Fork => write_branches(out, layout, index, node),
         Shape::Parts => write_parts(out, layout, index, node),
         Shape::Loop { repeats, skips } => match layout.children(index).next() {
@@ -226,11 +275,16 @@ fn write_box<O: Write>(out: &mut O, node: &Drawn<'_>) -> io::Result<()> {
 }
 
 impl<'a> Picture<'a> {
-    fn of(subject: Subject<'a>, parsed: &'a SpannedTree) -> Result<Picture<'a>, RunError> {
+    fn of(
+        subject: Subject<'a>,
+        parsed: &'a SpannedTree,
+        width: usize,
+    ) -> Result<Picture<'a>, RunError> {
         let Subject { alloc, pattern, .. } = subject;
         let mut words = Words::new(alloc, Names::of(alloc, &parsed.tree)?, pattern);
         let left = MARGIN + SIDE;
-        let layout = Layout::of(subject, &mut words, parsed, left, MARGIN)?;
+        let inside = narrowed(width, 2 * left);
+        let layout = Layout::of(subject, &mut words, parsed, (left, MARGIN), inside)?;
         let (right, bottom) = layout.corner();
         let limit = (right / COLUMN).max(FEWEST_COLUMNS);
         let grid = Grid::of(alloc, pattern, limit, MARGIN, bottom.saturating_add(LINE))?;
@@ -371,11 +425,12 @@ impl<'a> Picture<'a> {
     }
 }
 
-/// Writes the picture of a tree.
+/// Writes the picture of a tree. Rows that would be wider than the width, in pixels, have several lines.
 pub(crate) fn write_picture<O: Write>(
     subject: Subject<'_>,
     parsed: &SpannedTree,
+    width: usize,
     out: &mut O,
 ) -> Result<(), RunError> {
-    Picture::of(subject, parsed)?.write(out)
+    Picture::of(subject, parsed, width)?.write(out)
 }

@@ -1,7 +1,5 @@
 //! The subcommand `tree`: a pattern's tree, and its group information.
-ghost use Rattle.std.specs.Prelude.{◌≡◌, ◌≤◌, ◌⊎◌, chars, Ok, IfOk};
-ghost use Rattle.fancy_lex.specs.Flags.{flags_of};
-ghost use Rattle.fre_program.specs.Words.{HasTree, HasError};
+ghost use Rattle.std.specs.Prelude.{◌≡◌, ◌≤◌, ◌⊎◌, Ok, IfOk};
 ghost use Rattle.patterns_text.specs.Subject.{IsAccepted, IsRefused};
 
 use crate::objects::Json;
@@ -10,7 +8,6 @@ use crate::text::Text;
 use patterns_text::drawing::Look;
 use patterns_text::error::{RunError, give_up};
 use patterns_text::subject::Subject;
-use std::alloc::Global;
 use std::io::Write;
 
 /// Reports the tree of the pattern, or its error if it is invalid.
@@ -32,18 +29,15 @@ fn report_tree<R: Reporter>(subject: Subject<'_>, reporter: &mut R) -> Result<u8
 /// group information on `out`; 1 if it is invalid, with the position and the reason on `err`; 3 if memory ran out or a
 /// write failed, which is reported on `err` if that is possible, and `out` may then have part of the output.
 pub fn draw_tree<O: Write, E: Write>(
-    alloc: Global,
-    flags: u32,
+    subject: Subject<'_>,
     look: Look,
-    pattern: &str,
     out: &mut O,
     err: &mut E,
 ) -> u8
-    ensures read { result ≡ 0 → HasTree (flags_of flags) (chars pattern.now) }
-    ensures refused { result ≡ 1 → HasError (flags_of flags) (chars pattern.now) }
+    ensures read { result ≡ 0 → IsAccepted subject.entry }
+    ensures refused { result ≡ 1 → IsRefused subject.entry }
     ensures status { (result ≡ 0) ⊎ ((result ≡ 1) ⊎ (result ≡ 3)) }
 {
-    let subject = Subject::of_argument(alloc, flags, pattern);
     match report_tree(subject, &mut Text::drawn(out, err, look)) {
         Ok(status) => status,
         Err(error) => give_up(err, error),
@@ -53,18 +47,11 @@ pub fn draw_tree<O: Write, E: Write>(
 /// Writes the tree of a pattern as a line of JSON, and returns the status: 0 if the pattern is valid, with the tree on
 /// `out`; 1 if it is invalid, with the error on `out`; 3 if memory ran out or a write failed, which is reported on
 /// `err` if that is possible. Then `out` may hold a beginning.
-pub fn write_tree<O: Write, E: Write>(
-    alloc: Global,
-    flags: u32,
-    pattern: &str,
-    out: &mut O,
-    err: &mut E,
-) -> u8
-    ensures read { result ≡ 0 → HasTree (flags_of flags) (chars pattern.now) }
-    ensures refused { result ≡ 1 → HasError (flags_of flags) (chars pattern.now) }
+pub fn write_tree<O: Write, E: Write>(subject: Subject<'_>, out: &mut O, err: &mut E) -> u8
+    ensures read { result ≡ 0 → IsAccepted subject.entry }
+    ensures refused { result ≡ 1 → IsRefused subject.entry }
     ensures status { (result ≡ 0) ⊎ ((result ≡ 1) ⊎ (result ≡ 3)) }
 {
-    let subject = Subject::of_argument(alloc, flags, pattern);
     match report_tree(subject, &mut Json { out }) {
         Ok(status) => status,
         Err(error) => give_up(err, error),

@@ -5,6 +5,7 @@
 mod check;
 mod comments;
 pub mod draw;
+pub mod file_pattern;
 pub mod form;
 mod groups;
 pub mod lines;

@@ -1,6 +1,10 @@
 //! The records of a reader.
+use std::alloc::Global;
 use std::io;
-use std::io::BufRead;
+use std::io::{BufRead, Chain, Read};
+
+/// The byte order mark, U+FEFF, which some editors put at the start of a file.
+pub(crate) const BOM: &[u8] = b"\xEF\xBB\xBF";
 
 /// What ends a record.
 #[derive(Clone, Copy)]
@@ -30,18 +34,55 @@ impl Ending {
     }
 }
 
-/// Reads the next record into the buffer, in the place of what it held: the record without its end; none where nothing
-/// is left to read.
+/// A record, and what it ends with.
+#[derive(Clone, Copy)]
+pub(crate) struct Record<'b> {
+    /// The record without its end.
+    pub(crate) text: &'b [u8],
+    /// Its end. The last record of a reader may have none, and then this is empty.
+    pub(crate) end: &'b [u8],
+}
+
+/// Reads the next record into the buffer, in the place of what it held; none where nothing is left to read.
 pub(crate) fn next_record<'b, R: BufRead>(
     reader: &mut R,
     ending: Ending,
     buffer: &'b mut Vec<u8>,
-) -> io::Result<Option<&'b [u8]>> {
+) -> io::Result<Option<Record<'b>>> {
     buffer.clear();
     if reader.read_until(ending.byte(), buffer)? == 0 {
         return Ok(None);
     }
-    Ok(Some(ending.cut(buffer)))
+    let text = ending.cut(buffer);
+    let end = buffer.get(text.len()..).unwrap_or(b"");
+    Ok(Some(Record { text, end }))
+}
+
+/// The start of a reader: whether it is the byte order mark, and if not, its bytes, which are still to be read.
+#[derive(Drop)]
+pub(crate) struct Start {
+    pub(crate) has_bom: bool,
+    unread: Vec<u8>,
+}
+
+impl Start {
+    /// Takes the start off the reader. It waits for no more than the first byte, unless that may begin a byte order mark.
+    pub(crate) fn take<R: BufRead>(alloc: Global, reader: &mut R) -> io::Result<Start> {
+        let mut unread = Vec::new(alloc);
+        if reader.fill_buf()?.first() == BOM.first() {
+            reader.take(BOM.len() as u64).read_to_end(&mut unread)?;
+        }
+        let has_bom = unread.as_slice() == BOM;
+        if has_bom {
+            unread.clear();
+        }
+        Ok(Start { has_bom, unread })
+    }
+
+    /// The reader from its start on, or from past the byte order mark.
+    pub(crate) fn chain<'s, R: BufRead>(&'s self, reader: &'s mut R) -> Chain<&'s [u8], &'s mut R> {
+        self.unread.as_slice().chain(reader)
+    }
 }
 
 /// How many lines a record takes: one more than the LFs in it.

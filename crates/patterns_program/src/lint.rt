@@ -10,6 +10,7 @@ use crate::reporter::{Reporter, parse};
 use crate::tally::Tally;
 use patterns_lint::chosen::{Chosen, Level};
 use patterns_lint::find::problems;
+use patterns_lint::grammar::GrammarRule;
 use patterns_lint::problem::Found;
 use patterns_text::error::RunError;
 use patterns_text::subject::Subject;
@@ -27,9 +28,11 @@ fn count_denied(found: &[Found<'_>], chosen: &Chosen, tally: &mut Tally) -> bool
     is_denied
 }
 
-/// Reports the likely mistakes in the pattern, or its error if it is invalid.
+/// Reports the likely mistakes in the pattern, or its error if it is invalid. `grammar` is what the object around it says, if
+/// it is a pattern of a grammar.
 pub(crate) fn lint<R: Reporter>(
     subject: Subject<'_>,
+    grammar: Option<&GrammarRule>,
     chosen: &Chosen,
     reporter: &mut R,
     tally: &mut Tally,
@@ -41,7 +44,7 @@ pub(crate) fn lint<R: Reporter>(
     let Some(parsed) = parse(subject, reporter)? else {
         return Ok(Outcome::Refused);
     };
-    let mut found = problems(subject, &parsed)?;
+    let mut found = problems(subject, &parsed, grammar)?;
     found.retain(|one| chosen.level(one.problem.rule()) != Level::Allow);
     reporter.problems(subject, chosen, &found)?;
     if count_denied(&found, chosen, tally) {

@@ -8,7 +8,7 @@ mod problem;
 
 use crate::objects::code::code;
 use crate::objects::group_fields::{write_group_info, write_groups, write_references};
-use crate::objects::line::{begin, finish, write_span, write_text};
+use crate::objects::line::{begin, finish, write_related, write_span, write_text};
 use crate::objects::node::write_node;
 use crate::objects::positions::Positions;
 use crate::objects::problem::{write_omitted, write_problem};
@@ -19,7 +19,7 @@ use patterns_lint::chosen::Chosen;
 use patterns_lint::problem::Found;
 use patterns_text::error::RunError;
 use patterns_text::nodes::nodes_of;
-use patterns_text::subject::{Refusal, Subject};
+use patterns_text::subject::{Advice, Refusal, Subject};
 use std::io::Write;
 
 /// What is reported of each pattern as JSON.
@@ -43,18 +43,20 @@ impl<O: Write> Reporter for Json<'_, O> {
         let Subject { alloc, pattern, .. } = subject;
         let start = refusal.position.min(pattern.len());
         let kind = &refusal.kind;
+        let Advice { related, hint } = refusal.advice(subject)?;
+        let positions = Positions::of(alloc, pattern)?;
         let mut writer = begin(subject, "error")?;
-        write_span(
-            &mut writer,
-            &Positions::of(alloc, pattern)?,
-            Span { start, end: start },
-        )?;
+        write_span(&mut writer, &positions, Span { start, end: start })?;
         write_text(&mut writer, "code", code(kind))?;
         write_text(
             &mut writer,
             "message",
             format!(in alloc; "{kind}")?.as_str(),
         )?;
+        if let Some(hint) = hint {
+            write_text(&mut writer, "help", format!(in alloc; "{hint}")?.as_str())?;
+        }
+        write_related(alloc, &mut writer, &positions, related)?;
         finish(writer, self.out)
     }
 

@@ -11,7 +11,6 @@ ghost use Rattle.patterns_program.specs.declared.printing.Comments.{Comments};
 ghost use Rattle.patterns_text.specs.Subject.{IsAccepted, IsRefused};
 
 use crate::comments::first_comment;
-use crate::lines::Ending;
 use crate::outcome::Outcome;
 use crate::reporter::parse;
 use crate::tally::Tally;
@@ -22,6 +21,7 @@ use fancy_syntax::tree::ExprTree;
 use patterns_text::error::RunError;
 use patterns_text::paint::Ink;
 use patterns_text::position::write_refusal;
+use patterns_text::shown::ShownLines;
 use patterns_text::subject::Subject;
 use std::alloc::Global;
 use std::io;
@@ -81,9 +81,9 @@ fn text_of(
 }
 
 /// Writes the text, and what it ends with.
-fn write_ended<O: Write>(out: &mut O, text: &str, ending: Ending) -> io::Result<()> {
+fn write_ended<O: Write>(out: &mut O, text: &str, end: &[u8]) -> io::Result<()> {
     out.write_all(text.as_bytes())?;
-    out.write_all(&[ending.byte()])
+    out.write_all(end)
 }
 
 /// Whether the pattern has a comment that is to be kept. The position is reported on `err` then.
@@ -101,15 +101,15 @@ fn keeps_comment<E: Write>(
     let Some(position) = first_comment(subject, parsed)? else {
         return Ok(false);
     };
-    write_refusal(err, subject.at, subject.pattern, position, &LOST)?;
+    write_refusal(err, subject.at, subject.pattern, position, LOST, None)?;
     Ok(true)
 }
 
-/// Writes the text of the pattern's tree as a line of the output, or a record. A pattern that is invalid, or whose
+/// Writes the text of the pattern's tree, and the end of the pattern's line or record. A pattern that is invalid, or whose
 /// comments are kept, is written unchanged, and the position and the reason are reported.
 pub(crate) fn format_pattern<O: Write, E: Write>(
     subject: Subject<'_>,
-    ending: Ending,
+    end: &[u8],
     comments: Comments,
     text: &mut Text<'_, O, E>,
 ) -> Result<Outcome, RunError>
@@ -119,16 +119,16 @@ pub(crate) fn format_pattern<O: Write, E: Write>(
     ensures read { result ≡ Ok Outcome.Unread → ⊥ }
 {
     let Some(parsed) = parse(subject, text)? else {
-        write_ended(text.out, subject.pattern, ending)?;
+        write_ended(text.out, subject.pattern, end)?;
         return Ok(Outcome::Refused);
     };
     if keeps_comment(subject, &parsed, comments, text.err)? {
-        write_ended(text.out, subject.pattern, ending)?;
+        write_ended(text.out, subject.pattern, end)?;
         return Ok(Outcome::Refused);
     }
     match text_of(subject.alloc, subject.flags, subject.pattern, &parsed.tree)? {
-        Some(line) => write_ended(text.out, line.as_str(), ending)?,
-        None => write_ended(text.out, subject.pattern, ending)?,
+        Some(line) => write_ended(text.out, line.as_str(), end)?,
+        None => write_ended(text.out, subject.pattern, end)?,
     }
     Ok(Outcome::Good)
 }
@@ -143,8 +143,8 @@ fn write_change<O: Write>(out: &mut O, subject: Subject<'_>, text: &str) -> io::
         at.listed.end(),
     );
     writeln!(out, "{bold}{at}:{end} would change")?;
-    writeln!(out, "{red}-{pattern}{end}")?;
-    writeln!(out, "{green}+{text}{end}")
+    writeln!(out, "{red}-{}{end}", ShownLines(pattern))?;
+    writeln!(out, "{green}+{}{end}", ShownLines(text))
 }
 
 /// Whether the pattern would be written unchanged. If not, what it is and what it would be is written to the output; if it

@@ -4,23 +4,26 @@ ghost use Rattle.std.specs.Prelude.{◌≤◌};
 use crate::check::check;
 use crate::form::FileFormat;
 use crate::groups::list_groups;
-use crate::lines::{lines_in, next_record};
+use crate::lines::{BOM, Record, Start, lines_in, next_record};
 use crate::lint::lint;
 use crate::objects::{Json, Report};
 use crate::outcome::Outcome;
 use crate::printing::{Comments, format_pattern, is_formatted};
 use crate::progress::{STEP, Screen};
 use crate::sources::System;
-use crate::tally::Tally;
+use crate::tally::{Counted, Tally};
 use crate::text::{Stream, Text};
+use crate::values::grammar::{OpenRules, grammar_of};
 use crate::values::keys::Keys;
+use crate::values::text_of;
 use crate::values::trail::Trail;
-use crate::values::values_of;
 use json::Scratch;
 use patterns_lint::chosen::Chosen;
+use patterns_lint::grammar::GrammarRule;
 use patterns_text::error::{RunError, give_up};
 use patterns_text::paint::Paints;
 use patterns_text::position::{Location, Spot};
+use patterns_text::shown::Shown;
 use patterns_text::subject::Subject;
 use std::alloc::{AllocError, Global};
 use std::io::{BufRead, ErrorKind, Write};
@@ -54,12 +57,20 @@ pub struct Job<'a> {
     pub verb: Verb,
     pub flags: u32,
     pub form: FileFormat<'a>,
-    /// Whether the run says neither how far it is nor, at its end, what the outcomes of the patterns are.
+    /// Whether the run says neither how far it is nor, at its end, what the outcomes of the patterns are; and not
+    /// that a file is read as lines whose name is that of a file of another format.
     pub is_quiet: bool,
+    /// How many warnings of `lint` the run may have, if that is limited.
+    pub max_warnings: Option<u64>,
     pub paints: Paints,
 }
 
 impl Verb {
+    /// Whether patterns are written.
+    fn writes_patterns(self) -> bool {
+        matches!(self, Verb::Format(_))
+    }
+
     /// Where errors are written, and not as JSON.
     fn errors(self) -> Stream {
         match self {
@@ -70,6 +81,18 @@ impl Verb {
             | Verb::Json(_)
             | Verb::LintJson(_) => Stream::Err,
         }
+    }
+}
+
+impl Job<'_> {
+    /// Whether it reports what the rules of a grammar say of groups.
+    fn reads_rules(self, keys: Keys<'_>) -> bool {
+        let is_lint = match self.verb {
+            Verb::Lint(_) | Verb::LintJson(_) => true,
+            Verb::Check | Verb::Format(_) | Verb::IsFormatted(_) | Verb::Groups | Verb::Json(_) =>
+                false,
+        };
+        is_lint && keys.has_textmate
     }
 }
 
@@ -88,33 +111,45 @@ fn located<'a>(job: Job<'_>, file: &'a str, spot: Spot<'a>) -> Location<'a> {
 }
 
 /// Says that a file cannot be opened, or not be read further; gives up if that is because memory ran out.
-fn unread<E: Write>(file: &str, error: io::Error, err: &mut E) -> Result<Outcome, RunError> {
+pub(crate) fn unread<E: Write>(
+    file: &str,
+    error: io::Error,
+    err: &mut E,
+) -> Result<Outcome, RunError> {
     if error.kind() == ErrorKind::OutOfMemory {
         return Err(RunError::Memory(AllocError));
     }
-    writeln!(err, "patterns: {file}: {error}")?;
+    writeln!(err, "patterns: {}: {error}", Shown(file))?;
     Ok(Outcome::Unread)
+}
+
+/// A pattern of a file, and what the file has around it.
+#[derive(Clone, Copy)]
+struct Entry<'a> {
+    subject: Subject<'a>,
+    /// What it ends with.
+    end: &'a [u8],
+    /// What the object around it says of groups, if it is one of a grammar.
+    grammar: Option<&'a GrammarRule>,
 }
 
 /// Does the verb's work on a pattern.
 fn process<O: Write, E: Write>(
-    subject: Subject<'_>,
-    job: Job<'_>,
+    entry: Entry<'_>,
+    verb: Verb,
     out: &mut O,
     err: &mut E,
     tally: &mut Tally,
 ) -> Result<Outcome, RunError> {
-    let verb = job.verb;
+    let Entry {
+        subject,
+        end,
+        grammar,
+    } = entry;
     match verb {
         Verb::Check => check(subject, &mut Text::new(out, err, verb.errors())),
         Verb::Format(kept) => {
-            let ending = job.form.ending();
-            format_pattern(
-                subject,
-                ending,
-                kept,
-                &mut Text::new(out, err, verb.errors()),
-            )
+            format_pattern(subject, end, kept, &mut Text::new(out, err, verb.errors()))
         }
         Verb::IsFormatted(kept) => {
             is_formatted(
@@ -128,6 +163,7 @@ fn process<O: Write, E: Write>(
         Verb::Lint(chosen) => {
             lint(
                 subject,
+                grammar,
                 &chosen,
                 &mut Text::new(out, err, verb.errors()),
                 tally,
@@ -135,19 +171,29 @@ fn process<O: Write, E: Write>(
         }
         Verb::Json(Report::Check) => check(subject, &mut Json { out }),
         Verb::Json(Report::Groups) => list_groups(subject, &mut Json { out }),
-        Verb::LintJson(chosen) => lint(subject, &chosen, &mut Json { out }, tally),
+        Verb::LintJson(chosen) => lint(subject, grammar, &chosen, &mut Json { out }, tally),
     }
 }
 
 /// The same, on a screen.
 fn process_on<S: System, O: Write, E: Write>(
-    subject: Subject<'_>,
-    job: Job<'_>,
+    entry: Entry<'_>,
+    verb: Verb,
     screen: &mut Screen<'_, S, O, E>,
     tally: &mut Tally,
 ) -> Result<Outcome, RunError> {
     let Screen { out, err, .. } = screen;
-    process(subject, job, out, err, tally)
+    process(entry, verb, out, err, tally)
+}
+
+/// What has been written of the patterns that are formatted.
+#[derive(Clone, Copy)]
+enum Written {
+    Nothing,
+    /// A byte order mark, or the last pattern with its end.
+    Ended,
+    /// The last pattern, which had no end: the last one of its file.
+    Unended,
 }
 
 /// A run over files.
@@ -158,24 +204,27 @@ struct FileRun<'a, S, O, E> {
     sources: &'a S,
     screen: Screen<'a, S, O, E>,
     tally: Tally,
+    written: Written,
 }
 
 impl<S: System, O: Write, E: Write> FileRun<'_, S, O, E> {
     /// Says that the line is no text; where lines are formatted, it is written as it was.
-    fn pass_over(&mut self, at: Location<'_>, line: &[u8]) -> io::Result<()> {
+    fn pass_over(&mut self, at: Location<'_>, record: Record<'_>) -> io::Result<()> {
         writeln!(self.screen.err, "{at}: the line is not valid UTF-8")?;
-        if let Verb::Format(_) = self.job.verb {
-            self.screen.out.write_all(line)?;
-            self.screen.out.write_all(&[self.job.form.ending().byte()])?;
+        if self.job.verb.writes_patterns() {
+            self.screen.out.write_all(record.text)?;
+            self.screen.out.write_all(record.end)?;
         }
         Ok(())
     }
 
-    /// Does the verb's work on a pattern.
+    /// Does the verb's work on a pattern that ends so; `grammar` is what the object around it says, if it is one of a grammar.
     fn process_pattern<'p>(
         &mut self,
         pattern: &'p str,
+        end: &[u8],
         at: Location<'p>,
+        grammar: Option<&GrammarRule>,
     ) -> Result<Outcome, RunError> {
         let subject = Subject {
             alloc: self.alloc,
@@ -183,15 +232,49 @@ impl<S: System, O: Write, E: Write> FileRun<'_, S, O, E> {
             at,
             pattern,
         };
-        process_on(subject, self.job, &mut self.screen, &mut self.tally)
+        let entry = Entry {
+            subject,
+            end,
+            grammar,
+        };
+        process_on(entry, self.job.verb, &mut self.screen, &mut self.tally)
     }
 
-    /// Does the verb's work on a line.
-    fn process_line<'p>(&mut self, line: &'p [u8], at: Location<'p>) -> Result<Outcome, RunError> {
-        match str::from_utf8(line) {
-            Ok(pattern) => self.process_pattern(pattern, at),
+    /// Writes the byte order mark of a file that is formatted, if nothing is written yet: in the middle of the output it would
+    /// be part of a pattern.
+    fn write_bom(&mut self) -> io::Result<()> {
+        if let (true, Written::Nothing) = (self.job.verb.writes_patterns(), self.written) {
+            self.screen.out.write_all(BOM)?;
+            self.written = Written::Ended;
+        }
+        Ok(())
+    }
+
+    /// Where patterns are formatted, ends the last one of the file before, if it had no end, since one that ends so comes
+    /// next.
+    fn write_missing_end(&mut self, end: &[u8]) -> io::Result<()> {
+        if let (true, Written::Unended) = (self.job.verb.writes_patterns(), self.written) {
+            self.screen.out.write_all(&[self.job.form.ending().byte()])?;
+        }
+        self.written = if end.is_empty() {
+            Written::Unended
+        } else {
+            Written::Ended
+        };
+        Ok(())
+    }
+
+    /// Does the verb's work on a record.
+    fn process_record<'p>(
+        &mut self,
+        record: Record<'p>,
+        at: Location<'p>,
+    ) -> Result<Outcome, RunError> {
+        self.write_missing_end(record.end)?;
+        match str::from_utf8(record.text) {
+            Ok(pattern) => self.process_pattern(pattern, record.end, at, None),
             Err(_) => {
-                self.pass_over(at, line)?;
+                self.pass_over(at, record)?;
                 Ok(Outcome::Unread)
             }
         }
@@ -203,8 +286,8 @@ impl<S: System, O: Write, E: Write> FileRun<'_, S, O, E> {
         self.screen.go_on(bytes.saturating_add(1), &self.tally)
     }
 
-    /// Does the verb's work on each line of a reader.
-    fn process_lines<R: BufRead>(
+    /// Does the verb's work on each record of a reader.
+    fn process_records<R: BufRead>(
         &mut self,
         file: &str,
         reader: &mut R,
@@ -214,18 +297,34 @@ impl<S: System, O: Write, E: Write> FileRun<'_, S, O, E> {
         let mut line = 1u64;
         for _ in 0..u64::MAX {
             match next_record(reader, self.job.form.ending(), &mut buffer) {
-                Ok(Some(text)) => {
+                Ok(Some(record)) => {
                     let at = located(self.job, file, Spot::Line(line));
-                    let found = self.process_line(text, at)?;
-                    line = line.saturating_add(lines_in(text));
+                    let found = self.process_record(record, at)?;
+                    line = line.saturating_add(lines_in(record.text));
                     outcome = outcome.and(found);
-                    self.count(found, text.len())?;
+                    self.count(found, record.text.len())?;
                 }
                 Ok(None) => return Ok(outcome),
                 Err(error) => return unread(file, error, &mut self.screen.err),
             }
         }
         Ok(Outcome::Unread)
+    }
+
+    /// Does the verb's work on each record of a reader, from past a byte order mark on.
+    fn process_lines<R: BufRead>(
+        &mut self,
+        file: &str,
+        reader: &mut R,
+    ) -> Result<Outcome, RunError> {
+        let start = match Start::take(self.alloc, reader) {
+            Ok(start) => start,
+            Err(error) => return unread(file, error, &mut self.screen.err),
+        };
+        if start.has_bom {
+            self.write_bom()?;
+        }
+        self.process_records(file, &mut start.chain(reader))
     }
 
     /// Does the verb's work on each text under the keys in the JSON of a reader.
@@ -239,23 +338,45 @@ impl<S: System, O: Write, E: Write> FileRun<'_, S, O, E> {
         if let Err(error) = reader.read_to_end(&mut bytes) {
             return unread(file, error, &mut self.screen.err);
         }
-        let mut scratch = Scratch::new(self.alloc);
         let err = &mut self.screen.err;
-        let Some(values) = values_of(self.alloc, file, &bytes, &mut scratch, err)? else {
+        let Some(text) = text_of(self.alloc, file, &bytes, err)? else {
             return Ok(Outcome::Unread);
         };
-        let mut trail = Trail::new(self.alloc);
+        let mut scratch = Scratch::new(self.alloc);
+        let mut trail = Trail::new(self.alloc, text, &mut scratch)?;
+        let mut grammar_scratch = Scratch::new(self.alloc);
+        let grammar = if self.job.reads_rules(keys) {
+            grammar_of(self.alloc, text, &mut grammar_scratch)?
+        } else {
+            None
+        };
+        let mut rules = OpenRules::new(self.alloc, self.job.flags, grammar);
         let mut outcome = Outcome::Good;
-        for node in values.nodes() {
-            if let Some((spot, pattern)) = trail.pattern(*node, keys) {
+        for _ in 0..=text.len() {
+            let Some(token) = trail.next() else {
+                break;
+            };
+            if let Some((spot, pattern)) = trail.pattern(token, keys) {
                 let at = located(self.job, file, spot);
-                let found = self.process_pattern(pattern, at)?;
+                let found = self.process_pattern(pattern, b"\n", at, rules.rule()?.as_ref())?;
                 outcome = outcome.and(found);
                 self.count(found, pattern.len())?;
             }
-            trail.pass(*node)?;
+            trail.pass(token)?;
+            rules.pass()?;
         }
         Ok(outcome)
+    }
+
+    /// Says how the file is read, if its name is that of a file of another format.
+    fn write_other_format(&mut self, file: &str) -> io::Result<()> {
+        if self.job.is_quiet {
+            return Ok(());
+        }
+        if let Some(format) = self.job.form.other_format(file) {
+            writeln!(self.screen.err, "patterns: {file}: {format}")?;
+        }
+        Ok(())
     }
 
     /// Does the verb's work on each pattern of a reader.
@@ -279,8 +400,26 @@ impl<S: System, O: Write, E: Write> FileRun<'_, S, O, E> {
             };
         }
         match self.sources.open(file) {
-            Ok(mut opened) => self.process_reader(file, &mut opened),
+            Ok(mut opened) => {
+                self.write_other_format(file)?;
+                self.process_reader(file, &mut opened)
+            }
             Err(error) => unread(file, error, &mut self.screen.err),
+        }
+    }
+
+    /// Whether the run has no more warnings than it may have. If it has, that is reported.
+    fn check_warnings(&mut self) -> io::Result<Outcome> {
+        match self.job.max_warnings {
+            Some(most) if most < self.tally.warnings => {
+                let warnings = Counted(self.tally.warnings, "warning");
+                writeln!(
+                    self.screen.err,
+                    "patterns: {warnings}, and --max-warnings is {most}"
+                )?;
+                Ok(Outcome::Refused)
+            }
+            Some(_) | None => Ok(Outcome::Good),
         }
     }
 
@@ -293,6 +432,7 @@ impl<S: System, O: Write, E: Write> FileRun<'_, S, O, E> {
             outcome = outcome.and(self.process_file(file)?);
         }
         self.screen.out.flush()?;
+        outcome = outcome.and(self.check_warnings()?);
         if !self.job.is_quiet {
             writeln!(self.screen.err, "{}", self.tally)?;
         }
@@ -301,7 +441,7 @@ impl<S: System, O: Write, E: Write> FileRun<'_, S, O, E> {
 }
 
 /// Does the job on each pattern of the files, and returns the exit status: 0 if every pattern passes; 1 if
-/// one does not; 2 if a file, or a line of one, cannot be read, which is reported on `err` while the others are still
+/// one does not, or there are more warnings than there may be; 2 if a file, or a line of one, cannot be read, which is reported on `err` while the others are still
 /// read; 3 if memory ran out or a write failed, which is reported on `err` if that is possible, and `out` may then have
 /// part of the output. A pattern of a file of records ends as the job says, and is reported with the number of its first
 /// line; a NUL that ends a pattern ends a line too. A text of JSON is reported with its path. The file `-` is standard
@@ -325,6 +465,7 @@ pub fn run<S: System, O: Write, E: Write>(
         sources,
         screen: Screen::new(sources, job.is_quiet, out, err),
         tally: Tally::new(files.len()),
+        written: Written::Nothing,
     };
     match work.process_files(files) {
         Ok(outcome) => outcome.status(),

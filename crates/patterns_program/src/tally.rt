@@ -17,7 +17,7 @@ pub(crate) struct Tally {
     /// Those among them that are accepted, and in which a denied rule reports.
     pub(crate) denied: u64,
     errors: u64,
-    warnings: u64,
+    pub(crate) warnings: u64,
 }
 
 impl Tally {

@@ -6,11 +6,13 @@ use crate::text::problem::{write_more, write_report};
 use fancy_spans::SpannedTree;
 use patterns_lint::chosen::Chosen;
 use patterns_lint::problem::Found;
+use patterns_text::columns::ColumnTable;
 use patterns_text::drawing::{Look, Style, write_tree};
 use patterns_text::error::RunError;
 use patterns_text::listing::{Lead, write_at, write_numbered, write_references};
 use patterns_text::names::Names;
 use patterns_text::nodes::nodes_of;
+use patterns_text::shown::ShownLines;
 use patterns_text::subject::{Refusal, Subject};
 use std::io::Write;
 
@@ -42,6 +44,7 @@ impl<'a, O: Write, E: Write> Text<'a, O, E> {
             look: Look {
                 style: Style::Lines,
                 has_spans: false,
+                has_each_literal: false,
             },
         }
     }
@@ -88,11 +91,13 @@ impl<O: Write, E: Write> Reporter for Text<'_, O, E> {
             ..
         } = subject;
         write_at(self.out, at)?;
-        writeln!(self.out, "{pattern}")?;
+        writeln!(self.out, "{}", ShownLines(pattern))?;
         let names = Names::of(alloc, &parsed.tree)?;
         let nodes = nodes_of(alloc, parsed)?;
-        write_numbered(self.out, Lead::At(at), pattern, &nodes, &names)?;
-        write_references(self.out, Lead::At(at), pattern, &nodes, &names)?;
+        let columns = ColumnTable::of(alloc, pattern, &nodes)?;
+        let lead = Lead::At(at, &columns);
+        write_numbered(self.out, lead, &nodes, &names)?;
+        write_references(self.out, lead, pattern, &nodes, &names)?;
         if parsed.tree.self_recursive {
             write_at(self.out, at)?;
             self.out.write_all(b"the pattern calls itself\n")?;

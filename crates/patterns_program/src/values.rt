@@ -1,23 +1,28 @@
 //! Patterns that are texts in a file of JSON.
+pub(crate) mod grammar;
 pub mod keys;
+mod nesting;
 mod refusal;
+mod strings;
 pub(crate) mod trail;
 
+use crate::lines::BOM;
 use crate::values::refusal::{write_not_text, write_refusal, write_too_long};
-use json::{Error, Scratch, Tape};
+use json::{MAX_LEN, Scratch, is_valid};
 use patterns_text::error::RunError;
-use std::alloc::{AllocError, Global};
+use std::alloc::Global;
 use std::io::Write;
 use std::str;
 
-/// The values of a file of JSON; none where it cannot be read as such, and then `err` says where and why.
-pub(crate) fn values_of<'a, E: Write>(
+/// The text of a file of JSON, without a byte order mark; none where it cannot be read as JSON, and then `err` says where
+/// and why.
+pub(crate) fn text_of<'a, E: Write>(
     alloc: Global,
     file: &str,
     bytes: &'a [u8],
-    scratch: &'a mut Scratch,
     err: &mut E,
-) -> Result<Option<Tape<'a>>, RunError> {
+) -> Result<Option<&'a str>, RunError> {
+    let bytes = bytes.strip_prefix(BOM).unwrap_or(bytes);
     let text = match str::from_utf8(bytes) {
         Ok(text) => text,
         Err(error) => {
@@ -25,11 +30,14 @@ pub(crate) fn values_of<'a, E: Write>(
             return Ok(None);
         }
     };
-    match Tape::parse(text, scratch, Vec::new(alloc)) {
-        Ok(values) => return Ok(Some(values)),
-        Err(Error::OutOfMemory) => return Err(RunError::Memory(AllocError)),
-        Err(Error::TooLong) => write_too_long(err, file)?,
-        Err(Error::Invalid | Error::DuplicateKey) => write_refusal(alloc, err, file, text)?,
+    if text.len() > MAX_LEN {
+        write_too_long(err, file)?;
+        return Ok(None);
     }
+    let mut scratch = Scratch::new(alloc);
+    if is_valid(text, &mut scratch)? {
+        return Ok(Some(text));
+    }
+    write_refusal(alloc, err, file, text)?;
     Ok(None)
 }

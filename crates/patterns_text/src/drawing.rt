@@ -3,9 +3,11 @@ use crate::error::RunError;
 use crate::group_info::write_group_info;
 use crate::names::Names;
 use crate::subject::Subject;
-use crate::words::{Held, Visible, is_reference, write_reference};
+use crate::words::{Held, LiteralWords, Visible, is_reference, write_reference};
 use fancy_spans::{SpannedNode, SpannedTree};
 use fancy_syntax::expr::{Absent, Expr};
+use fancy_syntax::span::Span;
+use std::alloc::AllocError;
 use std::io::Write;
 use std::{fmt, io};
 
@@ -24,6 +26,8 @@ pub struct Look {
     pub style: Style,
     /// Whether the span of each node is written, in byte offsets, and its text.
     pub has_spans: bool,
+    /// Whether each literal has a line of its own. Otherwise adjacent literals of a concatenation have one together.
+    pub has_each_literal: bool,
 }
 
 /// What is before a node: for each level from the first whether the node that it runs through is the last there.
@@ -66,6 +70,49 @@ impl fmt::Display for BranchLines<'_> {
     }
 }
 
+/// Adjacent literals of a concatenation that are equally sensitive to case; none if the text is empty.
+#[derive(Drop)]
+struct LiteralRun {
+    text: String,
+    casei: bool,
+    /// From the first literal to the last one.
+    span: Span,
+}
+
+impl LiteralRun {
+    /// Whether the run may go on with the node.
+    fn takes(&self, node: &Expr) -> bool {
+        match node {
+            Expr::Literal { casei, .. } => self.text.is_empty() || self.casei == *casei,
+            _ => false,
+        }
+    }
+
+    /// Adds a literal, which the run takes.
+    fn add(&mut self, node: &Expr, span: Span) -> Result<(), AllocError> {
+        let Expr::Literal { val, casei } = node else {
+            return Ok(());
+        };
+        if self.text.is_empty() {
+            self.casei = *casei;
+            self.span.start = span.start;
+        }
+        self.span.end = span.end;
+        self.text.push_str(val.as_str())
+    }
+}
+
+/// Whether the node is a concatenation of literals that are equally sensitive to case.
+fn is_run(node: &Expr) -> bool {
+    let Expr::Concat(children) = node else {
+        return false;
+    };
+    let Some(Expr::Literal { casei: first, .. }) = children.first() else {
+        return false;
+    };
+    children.iter().all(|child| matches!(child, Expr::Literal { casei, .. } if casei == first))
+}
+
 /// A tree that is being drawn.
 #[derive(Drop)]
 struct Drawing<'a> {
@@ -75,6 +122,8 @@ struct Drawing<'a> {
     /// How many groups are drawn.
     groups: usize,
     lasts: Vec<bool>,
+    /// The literals that are not drawn yet.
+    run: LiteralRun,
 }
 
 impl Drawing<'_> {
@@ -90,21 +139,29 @@ impl Drawing<'_> {
         write!(out, "{}", Held(node))
     }
 
-    /// Writes the span of the node and its text, if spans are written.
-    fn write_span<O: Write>(&self, out: &mut O, node: SpannedNode<'_>) -> io::Result<()> {
-        if !self.look.has_spans {
-            return Ok(());
+    /// Writes the span and the text there, if spans are written, and ends the line.
+    fn end_line<O: Write>(&self, out: &mut O, span: Span) -> io::Result<()> {
+        if self.look.has_spans {
+            let text = span.text(self.pattern).unwrap_or("");
+            let colon = if text.is_empty() { "" } else { ": " };
+            write!(
+                out,
+                " at {}..{}{colon}{}",
+                span.start,
+                span.end,
+                Visible(text)
+            )?;
         }
-        let span = node.span();
-        let text = node.text(self.pattern).unwrap_or("");
-        let colon = if text.is_empty() { "" } else { ": " };
-        write!(
-            out,
-            " at {}..{}{colon}{}",
-            span.start,
-            span.end,
-            Visible(text)
-        )
+        out.write_all(b"\n")
+    }
+
+    /// Begins a line; `role` is what its node is to the parent.
+    fn begin_line<O: Write>(&self, out: &mut O, role: &str) -> io::Result<()> {
+        let branches = BranchLines {
+            style: self.look.style,
+            lasts: &self.lasts,
+        };
+        write!(out, "{branches}{role}")
     }
 
     /// Writes the node's line; `role` is what it is to its parent.
@@ -114,14 +171,72 @@ impl Drawing<'_> {
         role: &str,
         node: SpannedNode<'_>,
     ) -> io::Result<()> {
-        let branches = BranchLines {
-            style: self.look.style,
-            lasts: &self.lasts,
-        };
-        write!(out, "{branches}{role}")?;
+        self.begin_line(out, role)?;
         self.write_label(out, node.expr())?;
-        self.write_span(out, node)?;
-        out.write_all(b"\n")
+        self.end_line(out, node.span())
+    }
+
+    /// Writes the line of the run, after which there is none.
+    fn write_run<O: Write>(&mut self, out: &mut O, role: &str) -> io::Result<()> {
+        self.begin_line(out, role)?;
+        let literal = LiteralWords {
+            text: self.run.text.as_str(),
+            casei: self.run.casei,
+        };
+        write!(out, "{literal}")?;
+        self.end_line(out, self.run.span)?;
+        self.run.text.clear();
+        Ok(())
+    }
+
+    /// Draws the run, if there is one, below the branches that are drawn.
+    fn end_run<O: Write>(&mut self, out: &mut O, is_last: bool) -> Result<(), RunError> {
+        if self.run.text.is_empty() {
+            return Ok(());
+        }
+        self.lasts.push(is_last)?;
+        self.write_run(out, "")?;
+        self.lasts.pop();
+        Ok(())
+    }
+
+    /// Adds the child to the run if it is a literal of a concatenation, and runs are drawn; ends the run if it does not take
+    /// the child. Returns whether the child is in the run now.
+    fn add_to_run<O: Write>(
+        &mut self,
+        out: &mut O,
+        parent: &Expr,
+        child: SpannedNode<'_>,
+    ) -> Result<bool, RunError> {
+        if !self.run.takes(child.expr()) {
+            self.end_run(out, false)?;
+        }
+        let is_of_run = matches!(
+            (parent, child.expr()),
+            (Expr::Concat(_), Expr::Literal { .. })
+        );
+        if !is_of_run || self.look.has_each_literal {
+            return Ok(false);
+        }
+        self.run.add(child.expr(), child.span())?;
+        Ok(true)
+    }
+
+    /// Draws the node as one literal if it is a run, and runs are drawn. Returns whether it is drawn.
+    fn draw_as_run<O: Write>(
+        &mut self,
+        out: &mut O,
+        role: &str,
+        node: SpannedNode<'_>,
+    ) -> Result<bool, RunError> {
+        if self.look.has_each_literal || !is_run(node.expr()) {
+            return Ok(false);
+        }
+        for literal in node.children() {
+            self.run.add(literal.expr(), literal.span())?;
+        }
+        self.write_run(out, role)?;
+        Ok(true)
     }
 }
 
@@ -168,15 +283,21 @@ fn draw<O: Write>(
     as_what: &str,
     node: SpannedNode<'_>,
 ) -> Result<(), RunError> {
+    if drawing.draw_as_run(out, as_what, node)? {
+        return Ok(());
+    }
     drawing.write_line(out, as_what, node)?;
     let mut following = node.expr().children_iter().count();
     for child in node.children() {
         following = following.saturating_sub(1);
+        if drawing.add_to_run(out, node.expr(), child)? {
+            continue;
+        }
         drawing.lasts.push(following == 0)?;
         draw(out, drawing, role(node.expr(), following), child)?;
         drawing.lasts.pop();
     }
-    Ok(())
+    drawing.end_run(out, true)
 }
 
 /// Draws the pattern's tree, and writes its group information.
@@ -192,6 +313,11 @@ pub fn write_tree<O: Write>(
         names: Names::of(subject.alloc, &parsed.tree)?,
         groups: 0,
         lasts: Vec::new(subject.alloc),
+        run: LiteralRun {
+            text: String::new(subject.alloc),
+            casei: false,
+            span: Span { start: 0, end: 0 },
+        },
     };
     draw(out, &mut drawing, "", parsed.root())?;
     write_group_info(out, &parsed.tree)?;

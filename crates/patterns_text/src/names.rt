@@ -1,4 +1,6 @@
 //! The names of a pattern's groups.
+ghost use Rattle.std.specs.Prelude.{◌≡◌};
+
 use fancy_syntax::tree::ExprTree;
 use std::alloc::{AllocError, Global};
 use std::fmt;
@@ -42,6 +44,15 @@ impl<'a> Names<'a> {
 pub struct Named<'a> {
     number: usize,
     name: Option<&'a str>,
+}
+
+impl Named<'_> {
+    /// Its number.
+    pub fn number(self) -> usize
+        ensures { result ≡ self.number }
+    {
+        self.number
+    }
 }
 
 impl fmt::Display for Named<'_> {

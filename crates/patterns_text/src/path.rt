@@ -1,4 +1,5 @@
 //! The way from the root of JSON to a value.
+use crate::shown::is_hidden;
 use std::fmt;
 
 /// A step from a value of JSON to one that it holds.
@@ -22,7 +23,15 @@ fn is_plain(key: &str) -> bool {
         && key.bytes().all(|byte| byte.is_ascii_alphanumeric() || byte == b'_' || byte == b'-')
 }
 
-/// A key in quotes, as JSON has it. Each control character is written as its code.
+/// Writes the character as JSON escapes it.
+fn write_escaped<W: fmt::Write>(f: &mut fmt::Formatter<W>, c: char) -> fmt::Result {
+    for unit in c.encode_utf16(&mut [0; 2]).iter() {
+        write!(f, "\\u{unit:04x}")?;
+    }
+    Ok(())
+}
+
+/// A key in quotes, as JSON has it. Each hidden character is written as its escape.
 #[derive(Clone, Copy)]
 struct Quoted<'a>(&'a str);
 
@@ -32,8 +41,8 @@ impl fmt::Display for Quoted<'_> {
         for c in self.0.chars() {
             if c == '"' || c == '\\' {
                 write!(f, "\\{c}")?;
-            } else if c.is_control() {
-                write!(f, "\\u{:04x}", u32::from(c))?;
+            } else if is_hidden(c) {
+                write_escaped(f, c)?;
             } else {
                 f.write_char(c)?;
             }

@@ -2,20 +2,61 @@
 ghost use Rattle.std.specs.Prelude.{◌≡◌, ◌+◌, chars, false};
 ghost use Rattle.unicode_width.specs.Width.{str_width};
 
+use crate::excerpt::{Related, write_excerpt};
 use crate::paint::{Ink, Paint};
 use crate::path::Path;
+use crate::shown::Shown;
 use fancy_syntax::span::Span;
 use std::io::Write;
 use std::{fmt, io};
 use unicode_width::UnicodeWidthStr;
+
+/// A position in a file.
+#[derive(Clone, Copy)]
+pub struct FilePosition {
+    /// The line, from 1.
+    pub line: u64,
+    /// The column in the line, from 1.
+    pub column: u64,
+}
+
+impl FilePosition {
+    /// The start of a file.
+    pub const START: FilePosition = FilePosition { line: 1, column: 1 };
+
+    /// The position after a text that begins here.
+    pub fn after(self, text: &str) -> FilePosition {
+        match text.rsplit_once('\n') {
+            Some((above, before)) => FilePosition {
+                line: self
+                    .line
+                    .saturating_add(above.matches('\n').count() as u64)
+                    .saturating_add(1),
+                column: column_after(before) as u64,
+            },
+            None => FilePosition {
+                line: self.line,
+                column: self.column.saturating_add(text.width() as u64),
+            },
+        }
+    }
+}
 
 /// Where a pattern is in its file.
 #[derive(Clone, Copy)]
 pub enum Spot<'a> {
     /// Its first line has this number, counted from 1.
     Line(u64),
+    /// It is the value of JSON at the path that is written so.
+    Path {
+        /// Where its quote is.
+        position: FilePosition,
+        path: &'a str,
+    },
     /// It is a value of JSON.
     Value {
+        /// Where its quote is.
+        position: FilePosition,
         path: Path<'a>,
         /// Whether a number in a back reference is that of a group of another pattern, the `begin` beside this one.
         refers_to_begin: bool,
@@ -36,13 +77,18 @@ pub struct Location<'a> {
 
 impl<'a> Location<'a> {
     /// Where a pattern is, without colours.
-    pub fn plain(file: &'a str, line: u64) -> Location<'a> {
+    pub fn at(file: &'a str, spot: Spot<'a>) -> Location<'a> {
         Location {
             file,
-            spot: Spot::Line(line),
+            spot,
             reported: Paint::Plain,
             listed: Paint::Plain,
         }
+    }
+
+    /// The line where a pattern is, without colours.
+    pub fn plain(file: &'a str, line: u64) -> Location<'a> {
+        Location::at(file, Spot::Line(line))
     }
 
     /// The line of the pattern that is so many lines below its first.
@@ -76,15 +122,37 @@ pub struct LineOf<'a> {
     lines: usize,
 }
 
-/// The file and the line; of a value of JSON the file, the path, and the line in the pattern if that is not the first.
+impl fmt::Display for FilePosition {
+    fn fmt<W: fmt::Write>(&self, f: &mut fmt::Formatter<W>) -> fmt::Result {
+        write!(f, "{}:{}", self.line, self.column)
+    }
+}
+
+/// The line in a pattern that is so many lines below its first, after a colon; nothing for the first.
+#[derive(Clone, Copy)]
+struct Below(usize);
+
+impl fmt::Display for Below {
+    fn fmt<W: fmt::Write>(&self, f: &mut fmt::Formatter<W>) -> fmt::Result {
+        if self.0 == 0 {
+            return Ok(());
+        }
+        write!(f, ":{}", self.0.saturating_add(1))
+    }
+}
+
+/// The file and the line; of a value of JSON the file, the position there, the path, and the line in the pattern if that is
+/// not the first.
 impl fmt::Display for LineOf<'_> {
     fn fmt<W: fmt::Write>(&self, f: &mut fmt::Formatter<W>) -> fmt::Result {
-        let file = self.at.file;
+        let file = Shown(self.at.file);
         match self.at.spot {
             Spot::Line(line) => write!(f, "{file}:{}", line.saturating_add(self.lines as u64)),
-            Spot::Value { path, .. } if self.lines == 0 => write!(f, "{file}:{path}"),
-            Spot::Value { path, .. } => {
-                write!(f, "{file}:{path}:{}", self.lines.saturating_add(1))
+            Spot::Path { position, path } => {
+                write!(f, "{file}:{position}: {path}{}", Below(self.lines))
+            }
+            Spot::Value { position, path, .. } => {
+                write!(f, "{file}:{position}: {path}{}", Below(self.lines))
             }
         }
     }
@@ -96,6 +164,25 @@ pub fn column_after(text: &str) -> usize
     ensures value { result ≡ 1 + str_width false (chars text.now) }
 {
     text.width() + 1
+}
+
+/// A position of a pattern in its lines.
+#[derive(Clone, Copy)]
+pub(crate) struct Point {
+    /// How many line feeds are before it.
+    pub(crate) above: usize,
+    /// How many columns are before it in its line.
+    pub(crate) columns: usize,
+}
+
+/// The position in words: its column, and its line where that is not the first.
+impl fmt::Display for Point {
+    fn fmt<W: fmt::Write>(&self, f: &mut fmt::Formatter<W>) -> fmt::Result {
+        if self.above > 0 {
+            write!(f, "line {}, ", self.above.saturating_add(1))?;
+        }
+        write!(f, "column {}", self.columns.saturating_add(1))
+    }
 }
 
 /// A line of a pattern, cut at a position.
@@ -123,76 +210,31 @@ impl Cut<'_> {
 /// The position in words: its column, and its line where that is not the first.
 impl fmt::Display for Cut<'_> {
     fn fmt<W: fmt::Write>(&self, f: &mut fmt::Formatter<W>) -> fmt::Result {
-        if self.above > 0 {
-            write!(f, "line {}, ", self.above.saturating_add(1))?;
-        }
-        write!(f, "column {}", column_after(self.before))
+        let point = Point {
+            above: self.above,
+            columns: self.before.width(),
+        };
+        write!(f, "{point}")
     }
 }
 
-/// The columns of a part of a pattern, from the first one to the last one.
-#[derive(Clone, Copy)]
-pub struct Columns {
-    first: usize,
-    last: usize,
-}
-
-impl Columns {
-    /// Those of the span, in its line.
-    pub fn of(pattern: &str, span: Span) -> Columns {
-        let before = Cut::at(pattern, span.start).before;
-        let until = Cut::at(pattern, span.end).before;
-        Columns {
-            first: column_after(before),
-            last: until.width(),
-        }
-    }
-}
-
-impl fmt::Display for Columns {
-    fn fmt<W: fmt::Write>(&self, f: &mut fmt::Formatter<W>) -> fmt::Result {
-        write!(f, "{}-{}", self.first, self.last)
-    }
-}
-
-/// As many blanks as the text takes columns. A tab stays a tab, so that it takes what it takes in the text.
-#[derive(Clone, Copy)]
-pub struct Blank<'a>(pub &'a str);
-
-impl fmt::Display for Blank<'_> {
-    fn fmt<W: fmt::Write>(&self, f: &mut fmt::Formatter<W>) -> fmt::Result {
-        for (i, part) in self.0.split('\t').enumerate() {
-            if i > 0 {
-                f.write_char('\t')?;
-            }
-            for _ in 0..part.width() {
-                f.write_char(' ')?;
-            }
-        }
-        Ok(())
-    }
-}
-
-/// Writes where and why a pattern is invalid, the line of the position, and a caret under the position.
-pub fn write_refusal<O: Write, K: fmt::Display>(
+/// Writes where and why a pattern is invalid, the line of the position, and a caret under the position. A related part is
+/// underlined too.
+pub fn write_refusal<O: Write>(
     out: &mut O,
     at: Location<'_>,
     pattern: &str,
     position: usize,
-    kind: &K,
+    message: &str,
+    related: Option<Related>,
 ) -> io::Result<()> {
-    let Cut {
-        above,
-        before,
-        after,
-    } = Cut::at(pattern, position);
+    let Cut { above, before, .. } = Cut::at(pattern, position);
     let (line, column) = (at.below(above), column_after(before));
-    let (bold, red, end) = (
-        at.reported.begin(Ink::Position),
-        at.reported.begin(Ink::Error),
-        at.reported.end(),
-    );
-    writeln!(out, "{bold}{line}:{column}:{end} {kind}")?;
-    writeln!(out, "{before}{after}")?;
-    writeln!(out, "{}{red}^{end}", Blank(before))
+    let (bold, end) = (at.reported.begin(Ink::Position), at.reported.end());
+    writeln!(out, "{bold}{line}:{column}:{end} {}", Shown(message))?;
+    let span = Span {
+        start: position,
+        end: position,
+    };
+    write_excerpt(out, Ink::Error, at, pattern, span, related)
 }

@@ -5,12 +5,15 @@ ghost use Rattle.fre_program.specs.Words.{HasTree, HasError};
 ghost use Rattle.patterns_text.specs.Subject.{IsAccepted, IsRefused, IsParsedAs};
 
 use crate::error::RunError;
+use crate::excerpt::{Label, Related};
+use crate::hints::{Hint, hint_for};
+use crate::opening::opening_of;
 use crate::position::{Location, write_refusal};
 use fancy_lex::error::ParseError;
 use fancy_spans::SpannedTree;
 use fancy_syntax::error::Error;
+use fancy_syntax::span::Span;
 use std::alloc::{AllocError, Global};
-use std::io;
 use std::io::Write;
 
 /// A pattern, where it is, and what is needed to parse it and to report on it.
@@ -31,10 +34,46 @@ pub struct Refusal {
     pub kind: ParseError,
 }
 
+/// What helps with an error.
+#[derive(Clone, Copy)]
+pub struct Advice {
+    /// Where the delimiter is that is not closed.
+    pub related: Option<Related>,
+    /// What to do.
+    pub hint: Option<Hint>,
+}
+
 impl Refusal {
-    /// Writes where and why the pattern is invalid, its line at the position, and a caret under the position.
-    pub fn write<O: Write>(&self, out: &mut O, subject: Subject<'_>) -> io::Result<()> {
-        write_refusal(out, subject.at, subject.pattern, self.position, &self.kind)
+    /// What helps with the error, as far as it is known.
+    pub fn advice(&self, subject: Subject<'_>) -> Result<Advice, RunError> {
+        let opened = opening_of(subject, self)?;
+        Ok(Advice {
+            related: opened.map(|opening| Related {
+                span: Span {
+                    start: opening.start,
+                    end: opening.start.saturating_add(1),
+                },
+                label: Label::Opened,
+            }),
+            hint: hint_for(&self.kind, subject.pattern, self.position, opened),
+        })
+    }
+
+    /// Writes where and why the pattern is invalid, its line at the position, a caret under the position, and what helps.
+    pub fn write<O: Write>(&self, out: &mut O, subject: Subject<'_>) -> Result<(), RunError> {
+        let Subject {
+            alloc,
+            at,
+            pattern,
+            ..
+        } = subject;
+        let Advice { related, hint } = self.advice(subject)?;
+        let message = format!(in alloc; "{}", self.kind)?;
+        write_refusal(out, at, pattern, self.position, message.as_str(), related)?;
+        if let Some(hint) = hint {
+            writeln!(out, "help: {hint}")?;
+        }
+        Ok(())
     }
 }
 

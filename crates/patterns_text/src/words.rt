@@ -1,6 +1,7 @@
 //! Nodes described for people.
 use crate::names::Names;
 use crate::position::Cut;
+use crate::shown::{Code, is_hidden};
 use fancy_lex::escape::Assertion;
 use fancy_lex::name::CaptureGroupTarget;
 use fancy_syntax::expr::{Absent, AstNode, BacktrackingControlVerb, Expr, LookAround};
@@ -8,17 +9,19 @@ use fre_program::hex::Hex;
 use std::io::Write;
 use std::{fmt, io};
 
-/// A text in which each control character is written as its code.
+/// A text in which each line feed, carriage return and tab is written as an escape, and each hidden character as its code.
 #[derive(Clone, Copy)]
 pub struct Visible<'a>(pub &'a str);
 
 impl fmt::Display for Visible<'_> {
     fn fmt<W: fmt::Write>(&self, f: &mut fmt::Formatter<W>) -> fmt::Result {
         for c in self.0.chars() {
-            if c.is_control() {
-                write!(f, r"\u{{{:x}}}", u32::from(c))?;
-            } else {
-                f.write_char(c)?;
+            match c {
+                '\n' => f.write_str(r"\n")?,
+                '\r' => f.write_str(r"\r")?,
+                '\t' => f.write_str(r"\t")?,
+                _ if is_hidden(c) => write!(f, "{}", Code(c))?,
+                _ => f.write_char(c)?,
             }
         }
         Ok(())
@@ -174,6 +177,19 @@ impl fmt::Display for WrittenTarget<'_> {
     }
 }
 
+/// Writes what an unresolved call refers to, and its position.
+pub(crate) fn write_unresolved<O: Write, P: fmt::Display>(
+    out: &mut O,
+    target: &CaptureGroupTarget,
+    position: &P,
+) -> io::Result<()> {
+    write!(
+        out,
+        r"unresolved call \g<{}>, {position}",
+        WrittenTarget(target)
+    )
+}
+
 /// Writes what a reference or a subroutine call refers to; nothing for any other node.
 pub fn write_reference<O: Write>(
     out: &mut O,
@@ -209,8 +225,7 @@ pub fn write_reference<O: Write>(
         Expr::SubroutineCall(0) => write!(out, "call of the whole pattern"),
         Expr::SubroutineCall(group) => write!(out, "call of {}", names.group(*group)),
         Expr::AstNode(AstNode::SubroutineCall(target), position) => {
-            let at = Cut::at(pattern, *position);
-            write!(out, r"unresolved call \g<{}>, {at}", WrittenTarget(target))
+            write_unresolved(out, target, &Cut::at(pattern, *position))
         }
         Expr::Empty
         | Expr::Any { .. }
@@ -247,6 +262,19 @@ pub fn is_reference(node: &Expr) -> bool {
     )
 }
 
+/// A literal, described. Each control character is written as an escape.
+#[derive(Clone, Copy)]
+pub struct LiteralWords<'a> {
+    pub text: &'a str,
+    pub casei: bool,
+}
+
+impl fmt::Display for LiteralWords<'_> {
+    fn fmt<W: fmt::Write>(&self, f: &mut fmt::Formatter<W>) -> fmt::Result {
+        write!(f, "literal {:?}{}", self.text, case_words(self.casei))
+    }
+}
+
 /// A node that is neither a reference nor a group, described.
 #[derive(Clone, Copy)]
 pub struct Held<'a>(pub &'a Expr);
@@ -255,7 +283,11 @@ impl fmt::Display for Held<'_> {
     fn fmt<W: fmt::Write>(&self, f: &mut fmt::Formatter<W>) -> fmt::Result {
         match self.0 {
             Expr::Literal { val, casei } => {
-                write!(f, "literal {:?}{}", val.as_str(), case_words(*casei))
+                let literal = LiteralWords {
+                    text: val.as_str(),
+                    casei: *casei,
+                };
+                write!(f, "{literal}")
             }
             Expr::LiteralBytes { bytes } => write!(f, "bytes {}", Hex(bytes)),
             Expr::Delegate { inner, casei } => {

@@ -4,8 +4,9 @@
 mod samples;
 
 use fancy_syntax::flags::FLAG_UNICODE;
-use patterns_picture::picture::{Canvas, draw_picture};
+use patterns_picture::picture::{Canvas, WIDTH, draw_picture};
 use patterns_text::error::{RunError, give_up};
+use patterns_text::subject::Subject;
 use samples::{DATE, SAMPLES};
 use std::alloc::AllocError;
 use std::io;
@@ -16,10 +17,9 @@ use std::process::ExitCode;
 fn write_pictures<O: Write>(rt: &HostRuntime, out: &mut O) -> u8 {
     for (pattern, flags) in SAMPLES.iter() {
         let status = draw_picture(
-            rt.alloc(),
-            *flags,
+            Subject::of_argument(rt.alloc(), *flags, pattern),
             Canvas::Svg,
-            pattern,
+            WIDTH,
             out,
             &mut rt.stderr(),
         );
@@ -28,10 +28,9 @@ fn write_pictures<O: Write>(rt: &HostRuntime, out: &mut O) -> u8 {
         }
     }
     draw_picture(
-        rt.alloc(),
-        FLAG_UNICODE,
+        Subject::of_argument(rt.alloc(), FLAG_UNICODE, DATE),
         Canvas::Page,
-        DATE,
+        WIDTH,
         out,
         &mut rt.stderr(),
     )

@@ -1,6 +1,7 @@
 //! How large pictures are.
 use fancy_syntax::flags::FLAG_UNICODE;
-use patterns_picture::picture::{Canvas, draw_picture};
+use patterns_picture::picture::{Canvas, WIDTH, draw_picture};
+use patterns_text::subject::Subject;
 use std::alloc::Global;
 use std::str;
 use std::test::Fail;
@@ -27,15 +28,48 @@ static SIZES: [(&str, usize, usize); 12] = [
     ("a\u{202E}b\n", 72 + 13 + 76 + 13 + 13, 40 + 24 + 64),
 ];
 
-/// Whether the picture has this width and height.
-fn has_size(alloc: Global, pattern: &str, width: usize, height: usize) -> Result<bool, Fail> {
+/// Patterns, how wide their pictures are to be at most, and the widths and heights that they have then. A row that would be
+/// wider has lines, with 16 between them, and 60 at its sides; characters stay together up to a quarter wider. At least 240
+/// are left for what is in a node.
+static WRAPPED: [(&str, usize, usize, usize); 5] = [
+    // Four boxes of a class are 4 * 47 + 3 * 12 wide.
+    (r"\d\d\d\d\d\d\d\d", 300, 72 + 60 + 224, 40 + 96 + 40),
+    (
+        r"\d\d\d\d\d\d\d\d\d\d\d\d",
+        372,
+        72 + 60 + 224,
+        40 + 152 + 40,
+    ),
+    (r"\d\d\d\d\d\d\d\d", 960, 72 + 460, 40 + 40 + 40),
+    // 23 characters are 299 wide.
+    (
+        "aaaaaaaaaaaaaaaaaaaaaaaaaaaaaa",
+        300,
+        72 + 60 + 299,
+        40 + 64 + 40,
+    ),
+    (
+        r"(\d\d\d\d\d\d\d\d)",
+        396,
+        72 + 24 + 60 + 224,
+        40 + 24 + 96 + 40,
+    ),
+];
+
+/// Whether the picture, which is to have at most so many pixels in a row, has this width and height.
+fn has_size(
+    alloc: Global,
+    pattern: &str,
+    limit: usize,
+    width: usize,
+    height: usize,
+) -> Result<bool, Fail> {
     let mut out = Vec::new(alloc);
     let mut err = Vec::new(alloc);
     let status = draw_picture(
-        alloc,
-        FLAG_UNICODE,
+        Subject::of_argument(alloc, FLAG_UNICODE, pattern),
         Canvas::Svg,
-        pattern,
+        limit,
         &mut out,
         &mut err,
     );
@@ -49,8 +83,19 @@ fn has_size(alloc: Global, pattern: &str, width: usize, height: usize) -> Result
 fn sizes(rt: HostRuntime) -> Result<(), Fail> {
     for (pattern, width, height) in SIZES.iter() {
         assert!(rt;
-            has_size(rt.alloc(), pattern, *width, *height)?,
+            has_size(rt.alloc(), pattern, WIDTH, *width, *height)?,
             "{pattern:?}"
+        );
+    }
+    Ok(())
+}
+
+#[test]
+fn wrapped_sizes(rt: HostRuntime) -> Result<(), Fail> {
+    for (pattern, limit, width, height) in WRAPPED.iter() {
+        assert!(rt;
+            has_size(rt.alloc(), pattern, *limit, *width, *height)?,
+            "{pattern:?} in {limit}"
         );
     }
     Ok(())
@@ -62,10 +107,9 @@ fn refused(rt: HostRuntime) -> Result<(), Fail> {
     let mut out = Vec::new(rt.alloc());
     let mut err = Vec::new(rt.alloc());
     let status = draw_picture(
-        rt.alloc(),
-        FLAG_UNICODE,
+        Subject::of_argument(rt.alloc(), FLAG_UNICODE, "("),
         Canvas::Svg,
-        "(",
+        WIDTH,
         &mut out,
         &mut err,
     );
@@ -80,10 +124,9 @@ fn page(rt: HostRuntime) -> Result<(), Fail> {
     let mut err = Vec::new(rt.alloc());
     let pattern = r"(?<n><)\k<n>";
     let status = draw_picture(
-        rt.alloc(),
-        FLAG_UNICODE,
+        Subject::of_argument(rt.alloc(), FLAG_UNICODE, pattern),
         Canvas::Page,
-        pattern,
+        WIDTH,
         &mut out,
         &mut err,
     );
@@ -91,11 +134,32 @@ fn page(rt: HostRuntime) -> Result<(), Fail> {
     let wanted = [
         "<svg",
         "literal &quot;&lt;&quot;",
+        "<a href=\"#group1\">1</a></td><td>n</td><td>0..7</td><td><code>(?&lt;n&gt;&lt;)</code></td>",
         "back reference to group 1, named &quot;n&quot;",
         "Back references to group 1.",
     ];
     assert!(rt; status == 0 && wanted.iter().all(|part| text.contains(*part)));
     assert!(rt; !text.contains("<script"));
+    Ok(())
+}
+
+/// Twelve groups have a class each, and the style has a colour for it.
+#[test]
+fn colours(rt: HostRuntime) -> Result<(), Fail> {
+    let mut out = Vec::new(rt.alloc());
+    let mut err = Vec::new(rt.alloc());
+    let subject = Subject::of_argument(rt.alloc(), FLAG_UNICODE, "()()()()()()()()()()()()");
+    let status = draw_picture(subject, Canvas::Svg, WIDTH, &mut out, &mut err);
+    let text = str::from_utf8(&out)?;
+    assert!(rt; status == 0);
+    for number in 0..12 {
+        let class = format!(in rt.alloc(); "frame colour{number} group")?;
+        let style = format!(in rt.alloc(); ".picture .colour{number} .box {{ stroke: #")?;
+        assert!(rt;
+            text.contains(class.as_str()) && text.contains(style.as_str()),
+            "{number}"
+        );
+    }
     Ok(())
 }
 
@@ -106,10 +170,9 @@ fn refused_write(rt: HostRuntime) -> Result<(), Fail> {
     let mut out: &mut [u8] = &mut buffer;
     let mut err = Vec::new(rt.alloc());
     let status = draw_picture(
-        rt.alloc(),
-        FLAG_UNICODE,
+        Subject::of_argument(rt.alloc(), FLAG_UNICODE, "a"),
         Canvas::Svg,
-        "a",
+        WIDTH,
         &mut out,
         &mut err,
     );

@@ -3,7 +3,8 @@ use crate::objects::positions::Positions;
 use fancy_syntax::span::Span;
 use json::Writer;
 use patterns_text::error::RunError;
-use patterns_text::position::Spot;
+use patterns_text::excerpt::Related;
+use patterns_text::position::{FilePosition, Spot};
 use patterns_text::subject::Subject;
 use std::alloc::{AllocError, Global};
 use std::io::Write;
@@ -26,12 +27,20 @@ pub(crate) fn write_bool(writer: &mut Writer, name: &str, is_so: bool) -> Result
     writer.boolean(is_so)
 }
 
-/// Writes the field that says where in its file a pattern is.
+/// Writes the fields of the path of a value of JSON, and of the position of the value.
+fn write_path(writer: &mut Writer, position: FilePosition, path: &str) -> Result<(), AllocError> {
+    write_text(writer, "path", path)?;
+    write_number(writer, "file_line", position.line)?;
+    write_number(writer, "file_column", position.column)
+}
+
+/// Writes the fields that say where in its file a pattern is.
 fn write_spot(alloc: Global, writer: &mut Writer, spot: Spot<'_>) -> Result<(), AllocError> {
     match spot {
         Spot::Line(line) => write_number(writer, "line", line),
-        Spot::Value { path, .. } => {
-            write_text(writer, "path", format!(in alloc; "{path}")?.as_str())
+        Spot::Path { position, path } => write_path(writer, position, path),
+        Spot::Value { position, path, .. } => {
+            write_path(writer, position, format!(in alloc; "{path}")?.as_str())
         }
     }
 }
@@ -63,6 +72,23 @@ pub(crate) fn write_span(
     write_number(writer, "end", span.end as u64)?;
     write_number(writer, "start_character", positions.character(span.start))?;
     write_number(writer, "end_character", positions.character(span.end))
+}
+
+/// Writes the field of a related part, if there is one.
+pub(crate) fn write_related(
+    alloc: Global,
+    writer: &mut Writer,
+    positions: &Positions,
+    related: Option<Related>,
+) -> Result<(), AllocError> {
+    let Some(Related { span, label }) = related else {
+        return Ok(());
+    };
+    writer.key("related")?;
+    writer.begin_object()?;
+    write_span(writer, positions, span)?;
+    write_text(writer, "label", format!(in alloc; "{label}")?.as_str())?;
+    writer.end_object()
 }
 
 /// Ends the object, and writes it.

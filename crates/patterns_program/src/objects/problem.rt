@@ -1,5 +1,5 @@
 //! Likely mistakes, as JSON.
-use crate::objects::line::{begin, finish, write_number, write_span, write_text};
+use crate::objects::line::{begin, finish, write_number, write_related, write_span, write_text};
 use crate::objects::positions::Positions;
 use patterns_lint::chosen::Level;
 use patterns_lint::problem::Found;
@@ -24,7 +24,11 @@ pub(super) fn write_problem<O: Write>(
     found: Found<'_>,
     out: &mut O,
 ) -> Result<(), RunError> {
-    let Found { span, problem } = found;
+    let Found {
+        span,
+        problem,
+        related,
+    } = found;
     let rule = problem.rule();
     let mut writer = begin(subject, type_name(level))?;
     write_span(&mut writer, positions, span)?;
@@ -34,7 +38,13 @@ pub(super) fn write_problem<O: Write>(
         "message",
         format!(in subject.alloc; "{problem}")?.as_str(),
     )?;
-    write_text(&mut writer, "help", rule.help())?;
+    let help = found.help(subject.pattern);
+    write_text(
+        &mut writer,
+        "help",
+        format!(in subject.alloc; "{help}")?.as_str(),
+    )?;
+    write_related(subject.alloc, &mut writer, positions, related)?;
     finish(writer, out)
 }
 

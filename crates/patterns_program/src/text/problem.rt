@@ -1,29 +1,14 @@
 //! How a report of `lint` is written.
 use patterns_lint::chosen::Level;
 use patterns_lint::problem::Found;
-use patterns_text::paint::{Ink, Paint};
-use patterns_text::position::{Blank, Cut, column_after};
+use patterns_text::excerpt::write_excerpt;
+use patterns_text::paint::Ink;
+use patterns_text::position::{Cut, column_after};
 use patterns_text::subject::Subject;
 use std::io;
 use std::io::Write;
-use unicode_width::UnicodeWidthStr;
 
-/// Writes the line below a part of the pattern: as many carets as it takes columns in its first line, and at least one.
-fn write_underline<O: Write>(
-    out: &mut O,
-    paint: Paint,
-    ink: Ink,
-    before: &str,
-    part: &str,
-) -> io::Result<()> {
-    write!(out, "{}{}^", Blank(before), paint.begin(ink))?;
-    for _ in 1..part.width() {
-        out.write_all(b"^")?;
-    }
-    writeln!(out, "{}", paint.end())
-}
-
-/// Writes a report: where and what, the line of the pattern, carets below the part, and help.
+/// Writes a report: where and what, the line of the pattern with the part underlined, and help.
 pub(super) fn write_report<O: Write>(
     out: &mut O,
     subject: Subject<'_>,
@@ -31,31 +16,27 @@ pub(super) fn write_report<O: Write>(
     found: Found<'_>,
 ) -> io::Result<()> {
     let Subject { at, pattern, .. } = subject;
-    let Found { span, problem } = found;
-    let Cut {
-        above,
-        before,
-        after,
-    } = Cut::at(pattern, span.start);
+    let Found {
+        span,
+        problem,
+        related,
+    } = found;
+    let Cut { above, before, .. } = Cut::at(pattern, span.start);
     let (line, column) = (at.below(above), column_after(before));
     let (word, ink) = if level == Level::Deny {
         ("error", Ink::Error)
     } else {
         ("warning", Ink::Warning)
     };
-    let rule = problem.rule();
     let (bold, color, end) = (
         at.reported.begin(Ink::Position),
         at.reported.begin(ink),
         at.reported.end(),
     );
     write!(out, "{bold}{line}:{column}:{end} {color}{word}{end}")?;
-    writeln!(out, ": {problem} [{}]", rule.name())?;
-    writeln!(out, "{before}{after}")?;
-    let length = span.end.saturating_sub(span.start);
-    let part = after.get(..length).unwrap_or(after);
-    write_underline(out, at.reported, ink, before, part)?;
-    writeln!(out, "help: {}", rule.help())
+    writeln!(out, ": {problem} [{}]", problem.rule().name())?;
+    write_excerpt(out, ink, at, pattern, span, related)?;
+    writeln!(out, "help: {}", found.help(pattern))
 }
 
 /// Writes how many more reports there are than are shown, if there are more.

@@ -1,52 +1,94 @@
 //! A walk over the values of JSON, in the order of the text.
 use crate::values::keys::Keys;
-use json::Node;
+use json::{Reader, Scratch, Token};
 use patterns_text::path::{Path, PathStep};
-use patterns_text::position::Spot;
+use patterns_text::position::{FilePosition, Spot};
 use std::alloc::{AllocError, Global};
 
-/// The steps from the root to the node that the walk has come to.
+/// A walk over the tokens of a text of JSON: the steps from the root to the value that it has come to, and where that is in
+/// the text.
 #[derive(Drop)]
 pub(crate) struct Trail<'a> {
+    text: &'a str,
+    reader: Reader<'a>,
+    /// The byte offset at which the last token begins.
+    start: usize,
+    /// A byte offset, and its position in lines and columns, from which that of a later one is found.
+    known: (usize, FilePosition),
     steps: Vec<PathStep<'a>>,
 }
 
 impl<'a> Trail<'a> {
-    /// The walk that begins at the root.
-    pub(crate) fn new(alloc: Global) -> Trail<'a> {
-        Trail {
+    /// The walk that begins at the root of the text.
+    pub(crate) fn new(
+        alloc: Global,
+        text: &'a str,
+        scratch: &'a mut Scratch,
+    ) -> Result<Trail<'a>, AllocError> {
+        Ok(Trail {
+            text,
+            reader: Reader::new(text, scratch)?,
+            start: 0,
+            known: (0, FilePosition::START),
             steps: Vec::new(alloc),
-        }
+        })
     }
 
-    /// Where the node is that the walk has come to, if it is a text under one of the keys, and that text.
-    pub(crate) fn pattern(&self, node: Node<'a>, keys: Keys<'_>) -> Option<(Spot<'_>, &'a str)> {
-        let Node::String(text) = node else {
+    /// Comes to the next token; none at the end of the text.
+    pub(crate) fn next(&mut self) -> Option<Token<'a>> {
+        self.start = self.reader.offset();
+        self.reader.next()
+    }
+
+    /// Where the last token begins, in lines and columns.
+    pub(crate) fn position(&mut self) -> FilePosition {
+        let (known, position) = self.known;
+        let passed = self.text.get(known..self.start).unwrap_or("");
+        let found = position.after(passed);
+        self.known = (self.start, found);
+        found
+    }
+
+    /// The path of the value that the walk has come to.
+    pub(crate) fn path(&self) -> Path<'_> {
+        Path { steps: &self.steps }
+    }
+
+    /// Where the token is that the walk has come to, if it is a text under one of the keys, and that text.
+    pub(crate) fn pattern(
+        &mut self,
+        token: Token<'a>,
+        keys: Keys<'_>,
+    ) -> Option<(Spot<'_>, &'a str)> {
+        let (Token::String(text), Some(PathStep::Member(key))) = (token, self.steps.last().copied())
+        else {
             return None;
         };
-        match self.steps.last() {
-            Some(PathStep::Member(key)) if keys.has(key) => {
-                let spot = Spot::Value {
-                    path: Path { steps: &self.steps },
-                    refers_to_begin: keys.refers_to_begin(key),
-                };
-                Some((spot, text))
-            }
-            _ => None,
+        if !keys.has(key) {
+            return None;
         }
+        let position = self.position();
+        let spot = Spot::Value {
+            position,
+            path: self.path(),
+            refers_to_begin: keys.refers_to_begin(key),
+        };
+        Some((spot, text))
     }
 
-    /// Goes on past the node.
-    pub(crate) fn pass(&mut self, node: Node<'a>) -> Result<(), AllocError> {
-        match node {
-            Node::Object(_) => self.steps.push(PathStep::Member(""))?,
-            Node::Array(_) => self.steps.push(PathStep::Item(0))?,
-            Node::Key(key) => self.come_to(key),
-            Node::EndObject | Node::EndArray => {
+    /// Goes on past the token.
+    pub(crate) fn pass(&mut self, token: Token<'a>) -> Result<(), AllocError> {
+        match token {
+            Token::BeginObject => self.steps.push(PathStep::Member(""))?,
+            Token::BeginArray => self.steps.push(PathStep::Item(0))?,
+            Token::Key(key) => self.come_to(key),
+            Token::EndObject | Token::EndArray => {
                 self.steps.pop();
                 self.leave();
             }
-            _ => self.leave(),
+            Token::String(_) | Token::Number(_) | Token::Bool(_) | Token::Null | Token::Bad => {
+                self.leave();
+            }
         }
         Ok(())
     }

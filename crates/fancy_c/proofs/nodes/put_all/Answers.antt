@@ -3,9 +3,10 @@ use Rattle.fancy_syntax.specs.InfoViews.{info_of}
 use Rattle.fancy_syntax.specs.View.{view}
 use Rattle.fancy_c.specs.Buffer.{put_at}
 use Rattle.fancy_c.specs.InfoRows.{name_rows}
-use Rattle.fancy_c.specs.Node.{listed, span_at, texts}
+use Rattle.fancy_c.specs.Node.{listed, rows as listed_rows, span_at, texts}
 use Rattle.fancy_c.proofs.NameRowLemmas.{names_length}
 use Rattle.fancy_c.proofs.NodesLemmas.{filled, texts_put}
+use Rattle.fancy_c.proofs.NumberedLemmas.{numbered_length, rows_numbered}
 use Rattle.fancy_c.proofs.RowLemmas.{rows_length}
 use Rattle.fancy_c.proofs.nodes.put_all.Goals as goal
 
@@ -18,7 +19,9 @@ returns c =
     let spans = span_at c.args.spans.now in
     let rows = rows_length spans 0 0 (listed t) in
     record {
-      nodes_are = filled _ _ _ (omega (arith, c.requires.nodes_capacity, rows)) put.nodes;
+      nodes_are = filled _ _ _ (omega (arith, c.requires.nodes_capacity, rows, numbered_length 0 (listed_rows spans 0 0 (listed t))))
+          (rows_numbered _ _ _ (listed_rows spans 0 0 (listed t)) _ (omega (arith, put.after, rows)) put.nodes
+          c.number_groups.ensures);
       texts_are = filled _ _ _ c.requires.texts_capacity
           (texts_put _ _ _ _ _ _ put.text_after put.bytes c.put_names.ensures.bytes);
       names_are = filled _ _ _

@@ -1,0 +1,71 @@
+//! The pattern for a tree that is given by its rows.
+ghost use Rattle.std.specs.Prelude.{◌≡◌, ◌≢◌, ◌<◌, ◌≤◌, ℕ, List, length};
+ghost use Rattle.fancy_lex.specs.Flags.{flags_of};
+ghost use Rattle.fancy_grammar.specs.GroupInfo.{GroupInfo};
+ghost use Rattle.fancy_grammar.specs.Tree.{Tree};
+ghost use Rattle.fancy_c.specs.Buffer.{Fills};
+ghost use Rattle.fancy_c.specs.WrittenText.{IsPatternText};
+
+use crate::built::{RowsError, tree_at};
+use crate::call_result::{
+    CallResult, ERROR_NONE, STATUS_BUFFER_TOO_SHORT, STATUS_NO_TREE, STATUS_NOT_PRINTABLE,
+    STATUS_NOT_UTF8, STATUS_OK, STATUS_REFUSED,
+};
+use crate::group_rows::with_groups;
+use crate::info_rows::{Name, TreeInfo};
+use crate::node::Node;
+use crate::pattern::put_pattern;
+use fancy_syntax::tree::ExprTree;
+use std::alloc::Global;
+
+/// The tree of the rows from an index on, with its group information.
+fn tree_with_groups(
+    alloc: Global,
+    nodes: &[Node],
+    texts: &[u8],
+    index: usize,
+    names: &[Name],
+    info: &TreeInfo,
+    flags: u32,
+) -> Result<ExprTree, RowsError> {
+    let expr = tree_at(alloc, nodes, texts, index)?;
+    with_groups(alloc, expr, nodes, index, texts, names, info, flags)
+}
+
+/// Builds the tree of the rows that `fancy_parse_nonnull` wrote, from the one with an index on, with the names of its
+/// groups, and writes to the front of `buffer` a pattern that is parsed, under the flags, as this tree with these names.
+/// The rows, texts and names may have been changed. Spans are not read, and neither are the numbers of groups: the k-th
+/// group of all rows has the number k, and a name that has no group among the rows is left out. Of `info` it reads only
+/// `numeric_capture_group_references` and `self_recursive`, which say whether references and calls of the whole pattern
+/// are written by numbers. Returns `STATUS_OK` with the size of the text in bytes; `STATUS_BUFFER_TOO_SHORT` with that
+/// size if the text does not fit; `STATUS_NO_TREE` if the rows are no tree, or have more than 832 levels;
+/// `STATUS_NO_PATTERN` if the text for the tree is not parsed as the tree; or `STATUS_OUT_OF_MEMORY`. Unless it returns
+/// `STATUS_OK`, nothing is written.
+#[unsafe(no_mangle)]
+pub extern "C" fn fancy_pattern_nodes_nonnull(
+    alloc: Global,
+    nodes: &[Node],
+    texts: &[u8],
+    index: usize,
+    names: &[Name],
+    info: &TreeInfo,
+    flags: u32,
+    buffer: &mut [u8],
+) -> CallResult
+    ensures read { result.status ≡ STATUS_OK → (t : Tree) × (m : GroupInfo) × (w : List ℕ)
+        × IsPatternText (flags_of flags) t m w × (result.size ≡ length w) × Fills buffer.old buffer.new w }
+    ensures short { result.status ≡ STATUS_BUFFER_TOO_SHORT → (t : Tree) × (m : GroupInfo) × (w : List ℕ)
+        × IsPatternText (flags_of flags) t m w × (result.size ≡ length w) × (length buffer.old < length w) }
+    ensures kept { result.status ≢ STATUS_OK → buffer.new ≡ buffer.old }
+    ensures no_pattern { (result.status ≢ STATUS_REFUSED) × (result.status ≢ STATUS_NOT_UTF8) }
+    ensures printed { result.status ≢ STATUS_NOT_PRINTABLE }
+    ensures status { result.status ≤ STATUS_NO_TREE }
+    ensures no_kind { result.kind ≡ ERROR_NONE }
+    ensures no_position { result.position ≡ 0 }
+    ensures no_size { result.status ≢ STATUS_OK → result.status ≢ STATUS_BUFFER_TOO_SHORT → result.size ≡ 0 }
+{
+    match tree_with_groups(alloc, nodes, texts, index, names, info, flags) {
+        Ok(tree) => put_pattern(alloc, &tree, flags, buffer),
+        Err(error) => error.call_result(),
+    }
+}

@@ -1,0 +1,107 @@
+//! A pattern's tree, or the message of its error, in one call.
+ghost use Rattle.std.specs.Prelude.{◌≡◌, ◌≢◌, ◌<◌, ◌≤◌, ◌⊎◌, IfOk, IfErr, List, length};
+ghost use Rattle.fancy_lex.specs.Located.{Kind, kind_text};
+ghost use Rattle.fancy_lex.specs.Flags.{flags_of};
+ghost use Rattle.fancy_grammar.specs.GroupInfo.{GroupInfo};
+ghost use Rattle.fancy_grammar.specs.Tree.{Tree};
+ghost use Rattle.fancy_syntax.specs.InfoViews.{info_of};
+ghost use Rattle.fancy_syntax.specs.View.{view};
+ghost use Rattle.fancy_syntax.specs.declared.span.Span.{Span};
+ghost use Rattle.fancy_c.specs.Buffer.{Fills};
+ghost use Rattle.fancy_c.specs.CallResult.{IsReported, IsTreeOfBytes, IsErrorOfBytes, IsNoUtf8, IsRefusalOf};
+ghost use Rattle.fancy_c.specs.InfoRows.{AreWritten, AreSpansAsked, IsSummaryOf};
+ghost use Rattle.fancy_c.specs.Node.{span_at};
+
+use crate::call_result::{
+    CallResult, ERROR_NONE, STATUS_BUFFER_TOO_SHORT, STATUS_NOT_UTF8, STATUS_OK,
+    STATUS_OUT_OF_MEMORY, STATUS_REFUSED,
+};
+use crate::info_rows::{Name, TreeInfo};
+use crate::message::report;
+use crate::node::Node;
+use crate::nodes::write_tree;
+use crate::read::{BytesRefusal, Parsed, read, read_with_spans};
+use fancy_syntax::error::Error;
+use std::alloc::Global;
+
+/// A bit beside those of the flags: no spans are asked for.
+pub const WITHOUT_SPANS: u32 = 65536;
+
+// Callers in C pass this number.
+const _: () = prove!(WITHOUT_SPANS == 65536);
+
+/// Reads bytes as a pattern, with the spans of its nodes if they are asked for; else there are none.
+fn read_as_asked(alloc: Global, pattern: &[u8], flags: u32) -> Result<Parsed, BytesRefusal>
+    ensures tree { IfOk result (λ p. IsTreeOfBytes (flags_of flags) pattern.now (view p.tree.expr) (info_of p.tree)) }
+    ensures spans { IfOk result (λ p. AreSpansAsked flags pattern.now (view p.tree.expr) p.spans.items) }
+    ensures refusal { IfErr result (λ r. IsRefusalOf r (flags_of flags) pattern.now) }
+{
+    if flags & WITHOUT_SPANS == 0 {
+        return read_with_spans(alloc, pattern, flags);
+    }
+    Ok(Parsed {
+        tree: read(alloc, pattern, flags)?,
+        spans: Vec::new(alloc),
+    })
+}
+
+/// Parses a pattern, and writes its tree and its group information as `fancy_parse_nonnull` does, except that a bit of
+/// `flags`, `WITHOUT_SPANS`, leaves the spans out: then each starts and stops at 0. If the pattern is invalid, returns
+/// `STATUS_REFUSED` with the kind and the position of its error, and writes the message of the error to the front of
+/// `texts`, with its size in bytes as the result's size. If the message does not fit, returns `STATUS_BUFFER_TOO_SHORT`
+/// with the kind, the position and the size. Else it returns what `fancy_parse_nonnull` returns.
+#[unsafe(no_mangle)]
+pub extern "C" fn fancy_tree_nonnull(
+    alloc: Global,
+    pattern: &[u8],
+    flags: u32,
+    nodes: &mut [Node],
+    texts: &mut [u8],
+    names: &mut [Name],
+    backrefs: &mut [usize],
+    info: &mut TreeInfo,
+) -> CallResult
+    ensures read { result.status ≡ STATUS_OK → (t : Tree) × (m : GroupInfo) × (spans : List Span)
+        × IsSummaryOf info.new (flags_of flags) pattern.now t m × AreSpansAsked flags pattern.now t spans
+        × AreWritten t m (span_at spans) nodes.old nodes.new texts.old texts.new names.old names.new backrefs.old backrefs.new }
+    ensures short { result.status ≡ STATUS_BUFFER_TOO_SHORT → result.kind ≡ ERROR_NONE →
+        (t : Tree) × (m : GroupInfo) × IsSummaryOf info.new (flags_of flags) pattern.now t m
+        × ((length nodes.old < info.new.node_count) ⊎ ((length texts.old < info.new.texts_size)
+        ⊎ ((length names.old < info.new.name_count) ⊎ (length backrefs.old < info.new.backref_count)))) }
+    ensures short_message { result.status ≡ STATUS_BUFFER_TOO_SHORT → result.kind ≢ ERROR_NONE →
+        (k : Kind) × IsReported result result.position k
+        × IsErrorOfBytes (flags_of flags) pattern.now k result.position × (length texts.old < result.size) }
+    ensures refused { result.status ≡ STATUS_REFUSED → (k : Kind) × IsReported result result.position k
+        × IsErrorOfBytes (flags_of flags) pattern.now k result.position × Fills texts.old texts.new (kind_text k) }
+    ensures no_utf8 { result.status ≡ STATUS_NOT_UTF8 → IsNoUtf8 pattern.now result.position }
+    ensures nodes_kept { result.status ≢ STATUS_OK → nodes.new ≡ nodes.old }
+    ensures texts_kept { result.status ≢ STATUS_OK → result.status ≢ STATUS_REFUSED → texts.new ≡ texts.old }
+    ensures names_kept { result.status ≢ STATUS_OK → names.new ≡ names.old }
+    ensures backrefs_kept { result.status ≢ STATUS_OK → backrefs.new ≡ backrefs.old }
+    ensures info_kept { result.status ≢ STATUS_OK → result.status ≢ STATUS_BUFFER_TOO_SHORT → info.new ≡ info.old }
+    ensures info_without_tree { result.kind ≢ ERROR_NONE → info.new ≡ info.old }
+    ensures status { result.status ≤ STATUS_BUFFER_TOO_SHORT }
+    ensures no_kind { result.status ≢ STATUS_REFUSED → result.status ≢ STATUS_BUFFER_TOO_SHORT →
+        result.kind ≡ ERROR_NONE }
+    ensures no_position { result.kind ≡ ERROR_NONE → result.status ≢ STATUS_NOT_UTF8 → result.position ≡ 0 }
+    ensures no_size { result.kind ≡ ERROR_NONE → result.size ≡ 0 }
+{
+    match read_as_asked(alloc, pattern, flags) {
+        Ok(parsed) => write_tree(nodes, texts, names, backrefs, info, &parsed),
+        Err(BytesRefusal::Parse(Error::ParseError(offset, kind))) => report(
+            alloc, offset, &kind, texts,
+        ),
+        Err(BytesRefusal::Parse(Error::OutOfMemory)) => CallResult {
+            status: STATUS_OUT_OF_MEMORY,
+            kind: ERROR_NONE,
+            position: 0,
+            size: 0,
+        },
+        Err(BytesRefusal::NoUtf8(offset)) => CallResult {
+            status: STATUS_NOT_UTF8,
+            kind: ERROR_NONE,
+            position: offset,
+            size: 0,
+        },
+    }
+}
