@@ -33,7 +33,7 @@ fn result_now(alloc: Global, record: &Reading) -> Result<RunResult> {
     let run_result = RunResult { status, out, err };
     ensure!(
         !run_result.is_out_of_memory(&record.run_result),
-        "memory was refused"
+        "out of memory"
     );
     Ok(run_result)
 }
@@ -54,7 +54,7 @@ fn is_kept(alloc: Global, record: &Reading) -> Result<bool> {
     };
     match Expr::parse_tree_with_flags(alloc, pattern.as_str(), flags) {
         Ok(tree) => Ok(tree.clone(alloc)?.expr == tree.expr && is_written(alloc, &tree, flags)?),
-        Err(Error::OutOfMemory) => bail!("memory was refused"),
+        Err(Error::OutOfMemory) => bail!("out of memory"),
         Err(error) => is_cloned(alloc, &error),
     }
 }
@@ -73,7 +73,7 @@ fn text_now(alloc: Global, tree: &Expr, precedence: u8) -> Result<Option<String>
     let mut text = String::new(alloc);
     let printed = tree.to_str(&mut text, precedence);
     ensure!(printed.is_ok() || text.is_empty(), "the buffer changed");
-    printed.context("no room for the text")?;
+    printed.context("out of memory for the text")?;
     Ok(Some(text))
 }
 

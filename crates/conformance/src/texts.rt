@@ -12,7 +12,7 @@ use std::alloc::Global;
 fn tree_of(alloc: Global, pattern: &str, flags: u32) -> Result<Option<ExprTree>> {
     match Expr::parse_tree_with_flags(alloc, pattern, flags) {
         Ok(tree) => Ok(Some(tree)),
-        Err(Error::OutOfMemory) => bail!("memory was refused"),
+        Err(Error::OutOfMemory) => bail!("out of memory"),
         Err(Error::ParseError(..)) => Ok(None),
     }
 }

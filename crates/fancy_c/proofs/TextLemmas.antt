@@ -16,7 +16,7 @@ use Rattle.fancy_grammar.specs.ReadAs.{IsReadAs}
 use Rattle.fancy_grammar.specs.ReadBack.{IsReadBack}
 use Rattle.fancy_grammar.specs.Tree.{Tree}
 use Rattle.fancy_c.specs.CallResult.{IsTreeOfBytes}
-use Rattle.fancy_c.specs.Text.{IsText, IsPatternText}
+use Rattle.fancy_c.specs.WrittenText.{IsText, IsPatternText}
 use Rattle.fancy_c.proofs.NodeLemmas.{string_text}
 
 pub text_returned : (t : Tree) (p : ℕ) (r : Result (Option (String Global)) AllocError) →

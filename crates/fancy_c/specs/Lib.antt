@@ -1,6 +1,6 @@
 pub mod CallResult
 pub mod Buffer
-pub mod Text
+pub mod WrittenText
 pub mod Node
 pub mod Numbered
 pub mod InfoRows

@@ -7,7 +7,7 @@ ghost use Rattle.fancy_grammar.specs.GroupInfo.{GroupInfo};
 ghost use Rattle.fancy_grammar.specs.Tree.{Tree};
 ghost use Rattle.fancy_c.specs.CallResult.{number_of_kind, IsReported, IsTreeOfBytes, IsErrorOfBytes, IsNoUtf8};
 ghost use Rattle.fancy_c.specs.Buffer.{Fills};
-ghost use Rattle.fancy_c.specs.Text.{carried, NamesKind, IsErrorText};
+ghost use Rattle.fancy_c.specs.WrittenText.{carried, NamesKind, IsErrorText};
 
 use crate::buffer::{fill, write};
 use crate::call_result::{

@@ -7,7 +7,7 @@ ghost use Rattle.fancy_syntax.specs.InfoViews.{info_of};
 ghost use Rattle.fancy_syntax.specs.View.{view};
 ghost use Rattle.fancy_c.specs.CallResult.{number_of_kind, IsErrorOfBytes, IsNoUtf8};
 ghost use Rattle.fancy_c.specs.Buffer.{Fills};
-ghost use Rattle.fancy_c.specs.Text.{IsPatternText, IsPatternTextOfBytes};
+ghost use Rattle.fancy_c.specs.WrittenText.{IsPatternText, IsPatternTextOfBytes};
 
 use crate::buffer::write;
 use crate::call_result::{

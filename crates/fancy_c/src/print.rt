@@ -8,7 +8,7 @@ ghost use Rattle.fancy_grammar.specs.Tree.{Tree};
 ghost use Rattle.fancy_syntax.specs.View.{view};
 ghost use Rattle.fancy_c.specs.CallResult.{number_of_kind, IsTreeOfBytes, IsErrorOfBytes, IsNoUtf8};
 ghost use Rattle.fancy_c.specs.Buffer.{Fills};
-ghost use Rattle.fancy_c.specs.Text.{IsText, IsTextOfBytes};
+ghost use Rattle.fancy_c.specs.WrittenText.{IsText, IsTextOfBytes};
 
 use crate::buffer::write;
 use crate::call_result::{

@@ -33,7 +33,7 @@ use Rattle.fancy_parts.specs.LetterSteps.{letters}
 use Rattle.fancy_grammar.specs.AtomStart.{AtomStart, nothing, read, of_kind, condition, body, absent_branch, atom_start}
 use Rattle.fancy_grammar.specs.AtomStart.{start_of}
 use Rattle.fancy_grammar.specs.AtomStart.{after_layout, group_start, after_question, condition_start, repeater_start}
-use Rattle.fancy_grammar.specs.AtomStart.{verb_start, flags_start, leaf_node, leaf_outcome, leaf_of, is_before_nothing}
+use Rattle.fancy_grammar.specs.AtomStart.{verb_start, flags_start, leaf_node, leaf_outcome, leaf_of, begins_no_atom}
 use Rattle.fancy_grammar.specs.AtomStart.{named_start, target_start, backref_node, call_node}
 use Rattle.fancy_grammar.specs.Depth.{max_depth}
 use Rattle.fancy_grammar.specs.Items.{items}
@@ -285,7 +285,7 @@ start_reads d s = by_text s.rest refl
         cond_both (c == code "(") _ _ (StartReads s) (λ _.
         cond_both (nat_le max_depth (d + 1)) _ _ (StartReads s) (λ _. lies_at cut)
         (λ _. after_reads s (at s t) t (skipped (at s t)) h (layout_slice s.flags.ignore_space t))) (λ _.
-        cond_both (is_before_nothing c) _ _ (StartReads s) (λ _. tt) (λ _. leaf_reads s c t h cut))
+        cond_both (begins_no_atom c) _ _ (StartReads s) (λ _. tt) (λ _. leaf_reads s c t h cut))
 
 -- a group opens only below the greatest depth
 abbrev pub OpensBelow : ℕ → AtomStart → Type 0
@@ -311,4 +311,4 @@ start_below d s = by_text s.rest
         cond_both (c == code "(") _ _ (OpensBelow d)
         (λ _. cond_both (nat_le max_depth (d + 1)) _ _ (OpensBelow d) (λ _. tt)
         (λ e. below_at d (after_layout s (skipped (at s t))) (may_open e))) (λ _.
-        cond_both (is_before_nothing c) _ _ (OpensBelow d) (λ _. tt) (λ _. tt))
+        cond_both (begins_no_atom c) _ _ (OpensBelow d) (λ _. tt) (λ _. tt))

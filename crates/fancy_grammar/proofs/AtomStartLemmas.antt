@@ -8,24 +8,27 @@ use Prim.Native.Char.{code}
 use Rattle.fancy_lex.proofs.ReadingLemmas.{choose_both}
 use Rattle.fancy_lex.specs.Located.{target_not_repeatable}
 use Rattle.fancy_lex.specs.ErrorTable.{group_too_deep}
-use Rattle.fancy_lex.specs.LayoutSteps.{layout, layout_from, Skipped, rest, failed as open_comment}
+use Rattle.fancy_lex.specs.LayoutSteps.{layout, layout_from, is_layout, Skipped, rest, failed as open_comment}
 use Rattle.fancy_lex.specs.Reading.{Reading, gives, fails, choose}
 use Rattle.fancy_lex.specs.Referred.{Reference}
 use Rattle.fancy_lex.specs.Text.{Text, bytes, reach_of, strip_word}
 use Rattle.fancy_parts.specs.FlagLetters.{Letters, inline_flags, flag_group as scoped}
 use Rattle.fancy_parts.specs.GroupReference.{begins_target, condition_target}
+use Rattle.fancy_parts.specs.LetterSteps.{letters, letters_in}
 use Rattle.fancy_parts.specs.Quantifier.{counts, as_operator, most}
 use Rattle.fancy_parts.specs.declared.counts.Counts.{Counts}
 use Rattle.fancy_grammar.specs.AtomStart.{AtomStart, nothing, read, of_kind, condition, body, atom_start, start_of}
 use Rattle.fancy_grammar.specs.AtomStart.{group_start, after_question, condition_start, repeater_start, verb_start}
 use Rattle.fancy_grammar.specs.AtomStart.{verb_condition, named_start, target_start, flags_start, after_layout}
-use Rattle.fancy_grammar.specs.AtomStart.{refused, leaf_of, is_before_nothing}
+use Rattle.fancy_grammar.specs.AtomStart.{error_start, leaf_of, begins_no_atom}
 use Rattle.fancy_grammar.specs.Depth.{max_depth}
+use Rattle.fancy_grammar.specs.GroupKind as kinds
 use Rattle.fancy_grammar.specs.GroupKind.{GroupKind, define}
 use Rattle.fancy_grammar.specs.Quantified.{quant, quants, adjacent, max_adjacent}
 use Rattle.fancy_grammar.specs.State.{ends, skipped, State, at, Outcome, done, failed, and_then}
 use Rattle.fancy_grammar.specs.Tree.{Tree, empty}
 use Rattle.fancy_grammar.specs.Verb.{verb_at}
+use Rattle.fancy_grammar.proofs.PlainLemmas.{no_layout as passes_none}
 
 -- ---- a parenthesis opens something
 
@@ -105,19 +108,31 @@ after_there s (rest u) = group_there s u
 after_there s (open_comment p) = read_there _
 
 deep_there : (d c : ℕ) (s : State) (t : Text) →
-    IsThere (if nat_le max_depth (d + 1) then refused (group_too_deep (c ∷ t)) else after_layout s
+    IsThere (if nat_le max_depth (d + 1) then error_start (group_too_deep (c ∷ t)) else after_layout s
     (skipped (at s t)))
 deep_there d c s t = either_there (nat_le max_depth (d + 1)) (read_there _) (after_there s (skipped (at s t)))
 
-before_nothing : (d : ℕ) (s : State) (c : ℕ) (t : Text) → start_of d s (c ∷ t) ≡ nothing →
-    is_before_nothing c ≡ true
-before_nothing d s c t e = by_tests (c == code "(") (is_before_nothing c) _ (deep_there d c s t) e
+begins_no_atom_at : (d : ℕ) (s : State) (c : ℕ) (t : Text) → start_of d s (c ∷ t) ≡ nothing →
+    begins_no_atom c ≡ true
+begins_no_atom_at d s c t e = by_tests (c == code "(") (begins_no_atom c) _ (deep_there d c s t) e
   where
     by_tests : (p b : Bool) (x : AtomStart) → (x ≡ nothing → ⊥) →
         (if p then x else if b then nothing else read (leaf_of s c t)) ≡ nothing → b ≡ true
     by_tests true b x f e = absurd (f e)
     by_tests false true x f e = refl
     by_tests false false x f e = absurd (read_there _ e)
+
+-- ---- a flag group without letters
+
+colon_no_layout : (x : Bool) → is_layout x (code ":") ≡ false
+colon_no_layout true = refl
+colon_no_layout false = refl
+
+pub bare_flag_group : (s : State) (t u : Text) → t ≡ code ":" ∷ u → after_question s t ≡ of_kind kinds.flag_group (at s u)
+unfolding letters letters_in
+bare_flag_group s t u e =
+    ap (after_question s) e
+    ∙ rw (passes_none (code ":") s.flags.ignore_space u refl (colon_no_layout s.flags.ignore_space)) refl
 
 -- ---- the rows of conditionals
 
@@ -150,7 +165,7 @@ no_condition_start s c t e h i j =
 abbrev IsOperator : ℕ → Type 0
 IsOperator c = (c ≡ code "+") ⊎ ((c ≡ code "*") ⊎ (c ≡ code "?"))
 
-operator_is : (c : ℕ) (t : Text) → is_before_nothing c ≡ true → ends (c ∷ t) ≡ false → IsOperator c
+operator_is : (c : ℕ) (t : Text) → begins_no_atom c ≡ true → ends (c ∷ t) ≡ false → IsOperator c
 operator_is c t h k = by_tests (c == code "+") (c == code "*") (c == code "?") (c == code "|") (c == code ")") refl refl
     refl h k
   where
@@ -202,5 +217,5 @@ pub nothing_repeats : (d : ℕ) (s : State) (u : Text) → atom_start d (at s u)
 unfolding atom_start
 nothing_repeats d s [] e h = absurd (true≢false h)
 nothing_repeats d s (c ∷ t) e h =
-    let f = operator_error s c t (operator_is c t (before_nothing d (at s (c ∷ t)) c t e) h) in
+    let f = operator_error s c t (operator_is c t (begins_no_atom_at d (at s (c ∷ t)) c t e) h) in
     (_, ap (λ o. and_then o (λ b z. if z.flags.oniguruma_mode then adjacent max_adjacent d b z else done b z)) f)

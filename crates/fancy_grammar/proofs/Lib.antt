@@ -44,6 +44,6 @@ pub mod NeedsLemmas
 pub mod SourceLemmas
 pub mod ContextLemmas
 pub mod ReadAsLaws
-pub mod Pattern
+pub mod PatternLaws
 -- ---- what is true of parsed trees
 pub mod Parsed

@@ -14,7 +14,7 @@ use Rattle.fancy_grammar.specs.Grammar.{restored, after_atom, Branch, Branches, 
 use Rattle.fancy_grammar.specs.Quantified.{quants}
 use Rattle.fancy_grammar.specs.Join.{is_empty, solid}
 use Rattle.fancy_grammar.specs.Errors.{IsErrorAmong, IsErrorAt}
-use Rattle.fancy_grammar.specs.State.{ends, skipped, State, at, Outcome, done, failed, and_then, seen_through}
+use Rattle.fancy_grammar.specs.State.{ends, skipped, State, at, Outcome, done, failed, and_then, mapped}
 use Rattle.fancy_grammar.specs.Tree.{Tree}
 
 -- the same tree with other flags
@@ -63,7 +63,7 @@ at_done P e f h = rw (e, f) h
 
 -- the trees so far, before the ones that follow
 abbrev pub trees_before : List Tree → Outcome (List Tree) → Outcome (List Tree)
-trees_before l = seen_through (l ++◌)
+trees_before l = mapped (l ++◌)
 
 pub before-nil : (o : Outcome (List Tree)) → trees_before [] o ≡ o
 before-nil (done l s) = refl

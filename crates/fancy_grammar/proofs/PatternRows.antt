@@ -19,7 +19,7 @@ use Rattle.fancy_parts.specs.Quote.{range, operator}
 use Rattle.fancy_grammar.specs.Label.{ast_call}
 use Rattle.fancy_grammar.specs.GroupInfo.{GroupInfo}
 use Rattle.fancy_grammar.specs.Pattern.{pattern_text}
-use Rattle.fancy_grammar.specs.PatternSource.{source_from}
+use Rattle.fancy_grammar.specs.PatternSource.{parts_in}
 use Rattle.fancy_grammar.specs.Tree.{Tree, trees_of, empty, any, assertion, general_newline, literal, literal_bytes}
 use Rattle.fancy_grammar.specs.Tree.{delegate, backref, backref_at_level, keep_out, continue_from_previous_match_end}
 use Rattle.fancy_grammar.specs.Tree.{backref_exists, subroutine_call, verb, clear, ast_node, group, look_around, repeat}
@@ -131,7 +131,7 @@ flags =
     ∷ []
 
 pub flags_written : texts flags ≡ wanted flags
-unfolding pattern_text source_from digits range operator
+unfolding pattern_text parts_in digits range operator
 flags_written = refl
 
 -- ---- characters and escapes
@@ -151,7 +151,7 @@ characters =
     ∷ []
 
 pub characters_written : texts characters ≡ wanted characters
-unfolding pattern_text source_from digits range operator
+unfolding pattern_text parts_in digits range operator
 characters_written = refl
 
 -- ---- sources of Delegates
@@ -169,7 +169,7 @@ sources =
     ∷ []
 
 pub sources_written : texts sources ≡ wanted sources
-unfolding pattern_text source_from digits range operator
+unfolding pattern_text parts_in digits range operator
 sources_written = refl
 
 -- ---- quantifiers
@@ -193,7 +193,7 @@ quantifiers =
     ∷ []
 
 pub quantifiers_written : texts quantifiers ≡ wanted quantifiers
-unfolding pattern_text source_from digits range operator
+unfolding pattern_text parts_in digits range operator
 quantifiers_written = refl
 
 -- ---- references
@@ -230,7 +230,7 @@ references =
     ∷ []
 
 pub references_written : texts references ≡ wanted references
-unfolding pattern_text source_from digits range operator begins_target is_relative number_text whole_number number run
+unfolding pattern_text parts_in digits range operator begins_target is_relative number_text whole_number number run
     id_reference id id_run is_id_char is_alphabetic in_ranges alphabetic_ranges general_category value_in
     general_category_rows
 references_written = refl
@@ -274,7 +274,7 @@ groups =
     ∷ []
 
 pub groups_written : texts groups ≡ wanted groups
-unfolding pattern_text source_from digits range operator begins_target is_relative number_text whole_number number run
+unfolding pattern_text parts_in digits range operator begins_target is_relative number_text whole_number number run
     id_reference id id_run is_id_char is_alphabetic in_ranges alphabetic_ranges general_category value_in
     general_category_rows
 groups_written = refl

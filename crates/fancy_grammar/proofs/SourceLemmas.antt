@@ -1,5 +1,5 @@
 -- How the source of a Delegate continues after one of its parts.
-use Rattle.std.proofs.Common.{◌≡◌, ℕ, ◌-◌, ◌+◌, ◌==◌, Bool, true, false, not, ◌||◌, List, [], ◌∷◌, ◌++◌, Option}
+use Rattle.std.proofs.Common.{◌≡◌, ℕ, zero, suc, ◌≤◌, ◌+◌, ◌==◌, Bool, true, false, not, ◌||◌, List, [], ◌∷◌, ◌++◌, Option}
 use Rattle.std.proofs.Common.{Some, None, refl, ap, ◌∙◌, length, length-append, arith, if◌then◌else◌}
 use Rattle.std.specs.List.{AllByRecursion}
 use Rattle.std.specs.Prelude.{option_map, option_and_then, ◌&&◌}
@@ -11,7 +11,7 @@ use Rattle.fancy_lex.specs.Text.{Text, EndsWith, strip_word, cut_at}
 use Rattle.fancy_lex.proofs.LeaveLaws.{LeavesSome, ends_whole, ends_past}
 use Rattle.fancy_grammar.specs.PatternLetters.{by_letter_or, plain}
 use Rattle.fancy_grammar.specs.PatternSource.{Replaced, Part, part, written_after, replaced, replaced_part, part_at}
-use Rattle.fancy_grammar.specs.PatternSource.{named_property, property_part, single_part, source_from}
+use Rattle.fancy_grammar.specs.PatternSource.{named_property, property_part, single_part, source_from, parts_in}
 
 -- the rest of the text, if a word was removed from it
 abbrev Stripped : Text → Option Text → Type 0
@@ -115,29 +115,37 @@ part_left unicode seen c t =
     at (Some p) h = h
     at None h = single_left c t
 
-skipped : (unicode seen : Bool) (w t : Text) →
-    source_from unicode seen (length w) (w ++ t) ≡ source_from unicode seen 0 t
-unfolding source_from
-skipped unicode seen [] t = refl
-skipped unicode seen (c ∷ w) t = skipped unicode seen w t
+part_length : (unicode seen : Bool) (c : ℕ) (t : Text) → length (part_at unicode seen c t).rest ≤ length t
+part_length unicode seen c t = at (part_at unicode seen c t) (part_left unicode seen c t)
+  where
+    at : (p : Part) → EndsWith t p.rest → length p.rest ≤ length t
+    at p (w, e) =
+        let long : length t ≡ length w + length p.rest = ap length e ∙ length-append w p.rest in omega (arith, long)
 
-left_of : (unicode seen : Bool) (t u : Text) → EndsWith t u →
-    source_from unicode seen (length t - length u) t ≡ source_from unicode seen 0 u
-left_of unicode seen t u (w, e) =
-    let long : length t ≡ length w + length u = ap length e ∙ length-append w u in
-    let taken : length t - length u ≡ length w = omega arith in
-    ap (λ n. source_from unicode seen n t) taken ∙ ap (source_from unicode seen (length w)) e
-    ∙ skipped unicode seen w u
+-- as many parts as the text has characters are all
+enough : (unicode seen : Bool) (n m : ℕ) (t : Text) → length t ≤ n → length t ≤ m →
+    parts_in unicode seen n t ≡ parts_in unicode seen m t
+unfolding parts_in
+enough unicode seen n m [] h k = refl
+enough unicode seen zero m (c ∷ t) h k = absurd (omega (arith, h))
+enough unicode seen (suc n) zero (c ∷ t) h k = absurd (omega (arith, k))
+enough unicode seen (suc n) (suc m) (c ∷ t) h k =
+    let p = part_at unicode seen c t in
+    let l = part_length unicode seen c t in
+    ap (λ s. p.source ++ s)
+    (enough unicode (seen || p.negated) n m p.rest (omega (arith, h, l)) (omega (arith, k, l)))
 
-pub source_ends : (unicode seen : Bool) → source_from unicode seen 0 [] ≡ []
-unfolding source_from
+pub source_ends : (unicode seen : Bool) → source_from unicode seen [] ≡ []
+unfolding parts_in
 source_ends unicode seen = refl
 
 -- the source continues after its first part
-pub source_goes_on : (unicode seen : Bool) (c : ℕ) (t : Text) → source_from unicode seen 0 (c ∷ t)
+pub source_goes_on : (unicode seen : Bool) (c : ℕ) (t : Text) → source_from unicode seen (c ∷ t)
     ≡ (part_at unicode seen c t).source
-    ++ source_from unicode (seen || (part_at unicode seen c t).negated) 0 (part_at unicode seen c t).rest
-unfolding source_from
+    ++ source_from unicode (seen || (part_at unicode seen c t).negated) (part_at unicode seen c t).rest
+unfolding parts_in
 source_goes_on unicode seen c t =
     let p = part_at unicode seen c t in
-    ap (λ s. p.source ++ s) (left_of unicode (seen || p.negated) t p.rest (part_left unicode seen c t))
+    enough unicode seen (length (c ∷ t)) (suc (length t)) (c ∷ t) (omega arith) (omega arith)
+    ∙ ap (λ s. p.source ++ s)
+    (enough unicode (seen || p.negated) (length t) (length p.rest) p.rest (part_length unicode seen c t) (omega arith))

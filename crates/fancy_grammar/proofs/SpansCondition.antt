@@ -23,7 +23,7 @@ use Rattle.fancy_parts.specs.GroupReference.{begins_target, condition_name, cond
 use Rattle.fancy_parts.specs.LetterSteps.{letters}
 use Rattle.fancy_grammar.specs.AtomStart.{AtomStart, nothing, read, of_kind, condition, body, absent_branch}
 use Rattle.fancy_grammar.specs.AtomStart.{atom_start, start_of, after_layout, group_start, after_question, condition_start}
-use Rattle.fancy_grammar.specs.AtomStart.{repeater_start, flags_start, named_start, target_start, is_before_nothing}
+use Rattle.fancy_grammar.specs.AtomStart.{repeater_start, flags_start, named_start, target_start, begins_no_atom}
 use Rattle.fancy_grammar.specs.Depth.{max_depth}
 use Rattle.fancy_grammar.specs.Label as label
 use Rattle.fancy_grammar.specs.Label.{Leaf}
@@ -218,7 +218,7 @@ module _ (named : Bool) where
           cond_both (nat_le max_depth (d + 1)) _ _ (ConditionLies s) (λ _. tt)
           (λ _. by_layout t (e ∙ ap (λ b. b ∷ t) (is_paren i)) (skipped (at s t)) refl
           (layout_slice s.flags.ignore_space t))) (λ _.
-          cond_both (is_before_nothing c) _ _ (ConditionLies s) (λ _. tt) (λ _. tt))
+          cond_both (begins_no_atom c) _ _ (ConditionLies s) (λ _. tt) (λ _. tt))
         where
           is_paren : (c == code "(") ≡ true → c ≡ open_paren
           is_paren i = grind (arith, nat_tests)

@@ -19,7 +19,7 @@ use Rattle.fancy_grammar.specs.Quantified.{suffix, is_swapped, quantified, is_re
 use Rattle.fancy_grammar.specs.Slices.{Slice}
 use Rattle.fancy_grammar.specs.Spans.{Spans, around, if_done, under, quantifier_end, counted, quant_spans}
 use Rattle.fancy_grammar.specs.Spans.{adjacent_spans, quants_spans}
-use Rattle.fancy_grammar.specs.State.{skipped, State, at, Outcome, done, failed, failed_with, and_then, seen_through}
+use Rattle.fancy_grammar.specs.State.{skipped, State, at, Outcome, done, failed, failed_with, and_then, mapped}
 use Rattle.fancy_grammar.specs.Tree.{Tree, repeat, atomic_group}
 use Rattle.fancy_grammar.proofs.OutcomeLemmas.{Holds}
 use Rattle.fancy_grammar.proofs.ReadLaws.{suffix_reads}
@@ -72,7 +72,7 @@ module _ (named : Bool) where
         by_operators : (c : Counts) (u : Text) (o : Outcome Suffix) → Slice s.rest u → RestIn u o →
             LiesFrom named t
             (if_done o (λ m v. under s.flags c m (record { start = reach_of t; end = quantifier_end u m v }) x) x)
-            (seen_through (λ m. quantified s.flags c m a) o)
+            (mapped (λ m. quantified s.flags c m a) o)
         by_operators c u (done m v) i j =
             cond_both (m.lazy || m.possessive) _ _ (λ e. Lies named t v.rest (quantified s.flags c m a)
             (under s.flags c m (record { start = reach_of t; end = e }) x))
@@ -81,7 +81,7 @@ module _ (named : Bool) where
         by_operators c u (failed k p) i j = tt
 
         by_dropped : (u : Text) (o : Outcome Suffix) → Slice s.rest u → RestIn u o →
-            LiesFrom named t x (seen_through (λ m. a) o)
+            LiesFrom named t x (mapped (λ m. a) o)
         by_dropped u (done m v) i j = kept (on i j)
         by_dropped u (failed k p) i j = tt
 
@@ -89,8 +89,8 @@ module _ (named : Bool) where
             LiesFrom named t
             (if b then if_done (suffix (at s u) c)
             (λ m v. under s.flags c m (record { start = reach_of t; end = quantifier_end u m v }) x) x else x)
-            (if b then seen_through (λ m. quantified s.flags c m a) (suffix (at s u) c)
-            else if d then seen_through (λ m. a) (suffix (at s u) c) else failed_with (not_repeatable u))
+            (if b then mapped (λ m. quantified s.flags c m a) (suffix (at s u) c)
+            else if d then mapped (λ m. a) (suffix (at s u) c) else failed_with (not_repeatable u))
         by_tests true d c u i = by_operators c u (suffix (at s u) c) i (suffix_rest (at s u) c)
         by_tests false true c u i = by_dropped u (suffix (at s u) c) i (suffix_rest (at s u) c)
         by_tests false false c u i = tt

@@ -12,7 +12,7 @@ use Rattle.fancy_grammar.specs.Grammar.{one_branch, absent_error, Inside, inside
 use Rattle.fancy_grammar.specs.Grammar.{conditional_after, clear_or_stopper}
 use Rattle.fancy_grammar.specs.GroupKind.{group_node}
 use Rattle.fancy_grammar.specs.Quantified.{quants}
-use Rattle.fancy_grammar.specs.State.{skipped, State, at, Outcome, done, failed, and_then, seen_through}
+use Rattle.fancy_grammar.specs.State.{skipped, State, at, Outcome, done, failed, and_then, mapped}
 use Rattle.fancy_grammar.specs.Tree.{Tree, expression}
 
 -- ---- what one outcome implies for another
@@ -35,8 +35,8 @@ then_same : {A B : Type 0} (f : A → State → Outcome B) {q r : Outcome A} →
 then_same f h = ap (λ x. and_then x f) h
 
 in_front_same : {A : Type 0} {a b : A} {q r : Outcome (List A)} → a ≡ b → q ≡ r →
-    seen_through (λ l. a ∷ l) q ≡ seen_through (λ l. b ∷ l) r
-in_front_same i h = ap₂ (λ a q. seen_through (λ l. a ∷ l) q) i h
+    mapped (λ l. a ∷ l) q ≡ mapped (λ l. b ∷ l) r
+in_front_same i h = ap₂ (λ a q. mapped (λ l. a ∷ l) q) i h
 
 -- ---- layout is a function
 
@@ -110,7 +110,7 @@ mutual
   of_unique a_nothing a_nothing e = cc
   of_unique a_read a_read e = cc
   of_unique (a_group {h} a) (a_group b) e =
-      ap₂ (λ (x : State) q. seen_through (group_node h (reach_of x.rest)) q) e (inside_unique a b refl)
+      ap₂ (λ (x : State) q. mapped (group_node h (reach_of x.rest)) q) e (inside_unique a b refl)
   of_unique (a_condition i a) (a_condition j b) e =
       let h = inside_unique i j refl in body_unique a b (value_of h) (state_of h)
   of_unique (a_condition i a) (condition_error j) e = absurd (done_or_failed (inside_unique i j refl))

@@ -1,5 +1,5 @@
 -- The start of an atom.
-use Rattle.std.specs.Prelude.{ℕ, ◌+◌, Bool, false, ◌==◌, nat_le, [], ◌∷◌, if◌then◌else◌, Some, None, codes}
+use Rattle.std.specs.Prelude.{ℕ, ◌+◌, Bool, false, ◌==◌, nat_le, List, [], ◌∷◌, if◌then◌else◌, Some, None, codes}
 use Prim.Native.Char.{code}
 use Rattle.fancy_lex.specs.Characters.{◌∈◌}
 use Rattle.fancy_lex.specs.Class.{class}
@@ -11,7 +11,7 @@ use Rattle.fancy_lex.specs.ErrorTable.{comment_not_closed, group_too_deep, group
 use Rattle.fancy_lex.specs.LayoutSteps.{Skipped, rest, failed as open_comment}
 use Rattle.fancy_lex.specs.Reading.{Reading, gives, fails, choose}
 use Rattle.fancy_lex.specs.Referred.{Reference, Call}
-use Rattle.fancy_lex.specs.Text.{Text, strip_word}
+use Rattle.fancy_lex.specs.Text.{Text}
 use Rattle.fancy_lex.specs.declared.escape.Assertion.{Assertion}
 use Rattle.fancy_lex.specs.declared.escape.Assertion.TheVariants.{StartText, EndText, StartLine, StartLineOniguruma}
 use Rattle.fancy_lex.specs.declared.escape.Assertion.TheVariants.{EndLine}
@@ -26,7 +26,7 @@ use Rattle.fancy_grammar.specs.Label.{ast_backref, ast_call, ast_condition}
 use Rattle.fancy_grammar.specs.State.{State, at, skipped, Outcome, done, failed_with}
 use Rattle.fancy_grammar.specs.Tree.{Tree, empty, any, assertion, general_newline, literal, literal_bytes, delegate}
 use Rattle.fancy_grammar.specs.Tree.{keep_out, continue_from_previous_match_end, verb, ast_node}
-use Rattle.fancy_grammar.specs.Verb.{verb_at}
+use Rattle.fancy_grammar.specs.Verb.{by_word, verb_at}
 use Rattle.fancy_grammar.specs.declared.kinds.LookAround.TheVariants.{LookAhead, LookAheadNeg, LookBehind}
 use Rattle.fancy_grammar.specs.declared.kinds.LookAround.TheVariants.{LookBehindNeg}
 
@@ -40,8 +40,8 @@ pub data AtomStart : Type 0 where
   absent_branch : State → AtomStart  -- `(?~|` of an absent expression, stopper or clear; a branch begins at the state
 
 -- no atom can begin here: reading ends with this error
-abbrev pub refused : Located → AtomStart
-refused e = read (failed_with e)
+abbrev pub error_start : Located → AtomStart
+error_start e = read (failed_with e)
 
 -- the assertion of the start of a line; in Oniguruma mode it is another variant
 abbrev pub start_of_line : Flags → Assertion
@@ -94,38 +94,38 @@ leaf_of s c t =
     else done (literal (c ∷ []) s.flags.casei) (at s t)
 
 -- before these characters the atom is Empty; it is Empty at the end of the text too
-abbrev pub is_before_nothing : ℕ → Bool
-is_before_nothing c = c ∈ "+*?|)"
+abbrev pub begins_no_atom : ℕ → Bool
+begins_no_atom c = c ∈ "+*?|)"
 
 -- a group whose name was read
 abbrev pub named_start : State → Reading Text → AtomStart
 named_start s (gives w u) = of_kind (capture (Some w)) (at s u)
-named_start s (fails e) = refused e
+named_start s (fails e) = error_start e
 
 -- a conditional whose target was read
 abbrev pub target_start : State → Reading Reference → AtomStart
 target_start s (gives r u) = body (condition_node r) (at s u)
-target_start s (fails e) = refused e
+target_start s (fails e) = error_start e
 
 -- inline flags, or a flag group, whose letters were read
 abbrev pub flags_start : Reading Letters → AtomStart
 flags_start (gives (inline_flags f) u) = read (done empty (record { flags = f; rest = u }))
 flags_start (gives (scoped f) u) = of_kind flag_group (record { flags = f; rest = u })
-flags_start (fails e) = refused e
+flags_start (fails e) = error_start e
 
 -- a verb; its name and closing parenthesis follow its asterisk
 abbrev pub verb_start : State → Text → AtomStart
 verb_start s t =
-    choose (verb_at t) (λ p. read (done (verb p.0) (at s p.1))) (refused (unknown_verb (code "*" ∷ t)))
+    choose (verb_at t) (λ p. read (done (verb p.0) (at s p.1))) (error_start (unknown_verb (code "*" ∷ t)))
 
 -- a verb as the condition of a conditional, after its asterisk
 abbrev pub verb_condition : State → Text → AtomStart
 verb_condition s t =
-    choose (verb_at t) (λ p. body (verb p.0) (at s p.1)) (refused (unknown_verb (code "*" ∷ t)))
+    choose (verb_at t) (λ p. body (verb p.0) (at s p.1)) (error_start (unknown_verb (code "*" ∷ t)))
 
 -- after `(?(`, which may not end the text: a condition, which is a target, a verb, or an alternation
 abbrev pub condition_start : State → Text → AtomStart
-condition_start s [] = refused group_not_closed
+condition_start s [] = error_start group_not_closed
 condition_start s (c ∷ t) =
     if begins_target (c ∷ t) then target_start s (condition_target (c ∷ t))
     else if c == code "*" then verb_condition s t
@@ -133,48 +133,51 @@ condition_start s (c ∷ t) =
 
 -- after `(?~`, which may not end the text: an alternation
 abbrev pub repeater_start : State → Text → AtomStart
-repeater_start s [] = refused group_not_closed
+repeater_start s [] = error_start group_not_closed
 repeater_start s (c ∷ t) = of_kind repeater (at s (c ∷ t))
 
--- after the question mark that opens a group: the first row whose characters come next, or else flag letters
+-- what may follow the question mark that opens a group, each with what the text after it begins
+abbrev pub after_question_words : State → Text → List (Text × (Text → AtomStart))
+after_question_words s t =
+    (codes "=", λ u. of_kind (look LookAhead) (at s u))
+    ∷ (codes "!", λ u. of_kind (look LookAheadNeg) (at s u))
+    ∷ (codes "<=", λ u. of_kind (look LookBehind) (at s u))
+    ∷ (codes "<!", λ u. of_kind (look LookBehindNeg) (at s u))
+    ∷ (codes "<", λ u. named_start s (group_name (code ">") t u))
+    ∷ (codes "'", λ u. named_start s (group_name (code "'") t u))
+    ∷ (codes "P<", λ u. named_start s (group_name (code ">") t u))
+    ∷ (codes "P=", λ u. read (leaf_outcome (backref_node s.flags.casei) s (named_reference u)))
+    ∷ (codes "P>", λ u. read (leaf_outcome call_node s (named_call u)))
+    ∷ (codes "~|", λ u. absent_branch (at s u))
+    ∷ (codes "~", λ u. repeater_start s u)
+    ∷ (codes ">", λ u. of_kind atomic (at s u))
+    ∷ (codes "(DEFINE)", λ u. of_kind define (at s u))
+    ∷ (codes "(", λ u. condition_start s u)
+    ∷ []
+
+-- after the question mark that opens a group: one of these, or flag letters
 abbrev pub after_question : State → Text → AtomStart
-after_question s t =
-    choose (strip_word (codes "=") t) (λ u. of_kind (look LookAhead) (at s u)) (
-    choose (strip_word (codes "!") t) (λ u. of_kind (look LookAheadNeg) (at s u)) (
-    choose (strip_word (codes "<=") t) (λ u. of_kind (look LookBehind) (at s u)) (
-    choose (strip_word (codes "<!") t) (λ u. of_kind (look LookBehindNeg) (at s u)) (
-    choose (strip_word (codes "<") t) (λ u. named_start s (group_name (code ">") t u)) (
-    choose (strip_word (codes "'") t) (λ u. named_start s (group_name (code "'") t u)) (
-    choose (strip_word (codes "P<") t) (λ u. named_start s (group_name (code ">") t u)) (
-    choose (strip_word (codes "P=") t) (λ u. read (leaf_outcome (backref_node s.flags.casei) s (named_reference u))) (
-    choose (strip_word (codes "P>") t) (λ u. read (leaf_outcome call_node s (named_call u))) (
-    choose (strip_word (codes "~|") t) (λ u. absent_branch (at s u)) (
-    choose (strip_word (codes "~") t) (λ u. repeater_start s u) (
-    choose (strip_word (codes ">") t) (λ u. of_kind atomic (at s u)) (
-    choose (strip_word (codes "(DEFINE)") t) (λ u. of_kind define (at s u)) (
-    choose (strip_word (codes "(") t) (λ u. condition_start s u)
-    (flags_start (letters s.flags t)))))))))))))))
+after_question s t = by_word (after_question_words s t) t (flags_start (letters s.flags t))
 
 -- after the parenthesis and layout: a question mark with the kind of the group, a verb, or a capturing group without a
 -- name
 abbrev pub group_start : State → Text → AtomStart
 group_start s t =
-    choose (strip_word (codes "?") t) (λ u. after_question s u) (
-    choose (strip_word (codes "*") t) (λ u. verb_start s u)
-    (of_kind (capture None) (at s t)))
+    by_word ((codes "?", λ u. after_question s u) ∷ (codes "*", λ u. verb_start s u) ∷ []) t
+    (of_kind (capture None) (at s t))
 
 -- after the parenthesis, and after the layout that follows it
 abbrev pub after_layout : State → Skipped → AtomStart
 after_layout s (rest u) = group_start s u
-after_layout s (open_comment p) = refused (comment_not_closed p)
+after_layout s (open_comment p) = error_start (comment_not_closed p)
 
 -- the start of an atom, inside d groups
 abbrev pub start_of : ℕ → State → Text → AtomStart
 start_of d s [] = nothing
 start_of d s (c ∷ t) =
     if c == code "(" then (
-    if nat_le max_depth (d + 1) then refused (group_too_deep (c ∷ t)) else after_layout s (skipped (at s t)))
-    else if is_before_nothing c then nothing
+    if nat_le max_depth (d + 1) then error_start (group_too_deep (c ∷ t)) else after_layout s (skipped (at s t)))
+    else if begins_no_atom c then nothing
     else read (leaf_of s c t)
 
 unfoldable pub atom_start : ℕ → State → AtomStart

@@ -18,7 +18,7 @@ use Rattle.fancy_grammar.specs.GroupKind.{group_node}
 use Rattle.fancy_grammar.specs.Join.{join, choice, is_empty}
 use Rattle.fancy_grammar.specs.Label.{AstReference, ast_condition}
 use Rattle.fancy_grammar.specs.Quantified.{quants}
-use Rattle.fancy_grammar.specs.State.{ends, skipped, State, at, Outcome, done, failed, failed_with, and_then, seen_through}
+use Rattle.fancy_grammar.specs.State.{ends, skipped, State, at, Outcome, done, failed, failed_with, and_then, mapped}
 use Rattle.fancy_grammar.specs.Tree.{Tree, more_trees, list_of, empty, alt, conditional, clear, stopper}
 use Rattle.fancy_grammar.specs.Tree.{expression, ast_node}
 
@@ -85,22 +85,22 @@ after_atom _ f q = restored f q
 mutual
   -- branches with bars between
   pub data Alternation : ℕ → State → Outcome Tree → Type 0 where
-    alternation : {d s q : _} → Branches d s q → Alternation d s (seen_through choice q)
+    alternation : {d s q : _} → Branches d s q → Alternation d s (mapped choice q)
 
   pub data Branches : ℕ → State → Outcome (List Tree) → Type 0 where
     last : {d s t r : _} → Branch d s (done r t) → strip bar t.rest ≡ None → Branches d s (done (r ∷ []) t)
     more : {d s t u r q : _} → Branch d s (done r t) → strip bar t.rest ≡ Some u → Branches d (at t u) q →
-        Branches d s (seen_through (r ∷◌) q)
+        Branches d s (mapped (r ∷◌) q)
     branch_error : {d s k p : _} → Branch d s (failed k p) → Branches d s (failed k p)
 
   -- pieces up to where a branch ends
   pub data Branch : ℕ → State → Outcome Tree → Type 0 where
-    branch : {d s q : _} → Pieces d s q → Branch d s (seen_through join q)
+    branch : {d s q : _} → Pieces d s q → Branch d s (mapped join q)
 
   pub data Pieces : ℕ → State → Outcome (List Tree) → Type 0 where
     stop : {d : ℕ} {s : State} → ends s.rest ≡ true → Pieces d s (done [] s)
     next : {d t r q : _} {s : State} → ends s.rest ≡ false → Piece d s (done r t) → Pieces d t q →
-        Pieces d s (seen_through (r ∷◌) q)
+        Pieces d s (mapped (r ∷◌) q)
     piece_error : {d k p : _} {s : State} → ends s.rest ≡ false → Piece d s (failed k p) → Pieces d s (failed k p)
 
   -- layout, and an atom under the quantifiers that follow it
@@ -116,7 +116,7 @@ mutual
     a_nothing : {d s : _} → AtomOf nothing d s (done empty s)
     a_read : {d s o : _} → AtomOf (read o) d s o
     a_group : {d s t h q : _} → Inside d t q →
-        AtomOf (of_kind h t) d s (seen_through (group_node h (reach_of s.rest)) q)
+        AtomOf (of_kind h t) d s (mapped (group_node h (reach_of s.rest)) q)
     -- a conditional: its condition's parentheses, and its body
     a_condition : {d s t v c o : _} → Inside d t (done c v) → Body d c v o → AtomOf (condition t) d s o
     condition_error : {d s t k p : _} → Inside d t (failed k p) → AtomOf (condition t) d s (failed k p)

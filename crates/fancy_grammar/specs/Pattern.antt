@@ -96,8 +96,8 @@ abbrev pub as_atom : Tree → Precedence → (Context → Text) → Context → 
 as_atom t p text h = if is_operand p && not (is_repeatable h.flags t) then in_parens [] text h else text h
 
 -- after an empty comment, if it would otherwise be read together with the text before it
-abbrev pub parted_if : Bool → Text → Text
-parted_if is t = if is then codes "(?#)" ++ t else t
+abbrev pub separated_if : Bool → Text → Text
+separated_if is t = if is then codes "(?#)" ++ t else t
 
 -- ---- leaves
 
@@ -159,7 +159,7 @@ look_opening LookBehindNeg = codes "?<!"
 abbrev pub condition_text : GroupInfo → Tree → Text → Text
 condition_text m (leaf (backref_exists n level)) t = target_text m n level
 condition_text m (leaf (verb v)) t = verb_name v
-condition_text m c t = parted_if (begins_target t || bytes_eq t (codes "DEFINE")) t
+condition_text m c t = separated_if (begins_target t || bytes_eq t (codes "DEFINE")) t
 
 abbrev pub is_alt : Tree → Bool
 is_alt (row alt ts) = true
@@ -173,7 +173,7 @@ branches_text t e v w =
 
 -- an absent repeater; a bar at its start would make it another absent form
 abbrev pub repeater_text : Text → Text
-repeater_text t = parted_if (starts_with nat_eq t (codes "|")) t
+repeater_text t = separated_if (starts_with nat_eq t (codes "|")) t
 
 -- a stopper; without a text it would be a clear
 abbrev pub stopper_text : Text → Text
@@ -251,7 +251,7 @@ module _ (m : GroupInfo) where
     pub written_all : Bool → Trees → Context → Text
     written_all after_digits no_trees h = []
     written_all after_digits (more_trees t ts) h =
-        parted_if (after_digits && at_digit (written t Piece h)) (written t Piece h)
+        separated_if (after_digits && at_digit (written t Piece h)) (written t Piece h)
         ++ written_all (is_in_digits m t) ts (after t Piece h)
 
     -- with bars between

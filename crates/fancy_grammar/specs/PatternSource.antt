@@ -1,7 +1,7 @@
 -- The source of a Delegate: a text that the reader turns into the text of the Delegate.
 -- Read directly, the text of the Delegate may change: `\p{Zs}` is lowered, `\x09` becomes a TAB, and `\P{^x}` becomes
 -- `\p{x}`.
-use Rattle.std.specs.Prelude.{ℕ, zero, suc, ◌-◌, ◌==◌, Bool, true, false, not, ◌&&◌, ◌||◌, List, [], ◌∷◌}
+use Rattle.std.specs.Prelude.{ℕ, zero, suc, ◌==◌, Bool, true, false, not, ◌&&◌, ◌||◌, List, [], ◌∷◌}
 use Rattle.std.specs.Prelude.{◌++◌, codes, length, Option, Some, None, if◌then◌else◌}
 use Rattle.std.specs.Str.{bytes_eq}
 use Rattle.fancy_lex.specs.Characters.{◌∈◌, backslash, caret, open_brace, close_brace}
@@ -92,16 +92,20 @@ single_part c (d ∷ t) =
 abbrev pub part_at : Bool → Bool → ℕ → Text → Part
 part_at unicode seen c t = choose (replaced_part seen (replaced unicode) (c ∷ t)) (λ p. p) (single_part c t)
 
--- the number is how many characters at the front are already read
-unfoldable pub source_from : Bool → Bool → ℕ → Text → Text
-source_from unicode seen k [] = []
-source_from unicode seen (suc k) (c ∷ t) = source_from unicode seen k t
-source_from unicode seen zero (c ∷ t) =
+-- the parts of a text, at most this many; `seen` says whether the source before it has a negated set
+unfoldable pub parts_in : Bool → Bool → ℕ → Text → Text
+parts_in unicode seen n [] = []
+parts_in unicode seen zero (c ∷ t) = []
+parts_in unicode seen (suc n) (c ∷ t) =
     let p = part_at unicode seen c t in
-    p.source ++ source_from unicode (seen || p.negated) (length t - length p.rest) t
+    p.source ++ parts_in unicode (seen || p.negated) n p.rest
+
+-- all the parts of a text: each takes a character or more
+abbrev pub source_from : Bool → Bool → Text → Text
+source_from unicode seen t = parts_in unicode seen (length t) t
 
 abbrev pub source : Bool → Text → Text
-source unicode t = source_from unicode false 0 t
+source unicode t = source_from unicode false t
 
 -- the two hex classes have escapes that no case flag applies to, for when the flag is on
 abbrev pub delegate_text : Flags → Bool → Text → Text

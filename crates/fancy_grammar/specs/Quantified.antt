@@ -11,7 +11,7 @@ use Rattle.fancy_parts.specs.Quantifier.{counts}
 use Rattle.fancy_parts.specs.declared.counts.Counts.{Counts}
 use Rattle.fancy_grammar.specs.Depth.{max_depth}
 use Rattle.fancy_grammar.specs.Join.{is_empty}
-use Rattle.fancy_grammar.specs.State.{skipped, State, at, Outcome, done, failed_with, and_then, seen_through}
+use Rattle.fancy_grammar.specs.State.{skipped, State, at, Outcome, done, failed_with, and_then, mapped}
 use Rattle.fancy_grammar.specs.Label as label
 use Rattle.fancy_grammar.specs.Tree.{Tree, leaf, over, repeat, atomic_group}
 
@@ -75,8 +75,8 @@ suffix s c = suffix_at s c (skipped s)
 abbrev pub with_counts : ℕ → Tree → State → Option (Counts × Text) → Outcome Tree
 with_counts left a s None = done a s
 with_counts left a s (Some (c, t)) =
-    if is_repeatable s.flags a then seen_through (λ m. quantified s.flags c m a) (suffix (at s t) c)
-    else if is_dropped s.flags left a t then seen_through (λ m. a) (suffix (at s t) c)
+    if is_repeatable s.flags a then mapped (λ m. quantified s.flags c m a) (suffix (at s t) c)
+    else if is_dropped s.flags left a t then mapped (λ m. a) (suffix (at s t) c)
     else failed_with (not_repeatable t)
 
 -- after the layout that precedes a quantifier
@@ -97,17 +97,19 @@ abbrev pub may_count : ℕ → ℕ → Bool
 may_count zero d = false
 may_count (suc k) d = nat_lt (d + 1) max_depth
 
--- adjacent quantifiers at depth d: each that reads a byte counts, and is one level deeper; k of them may count
+-- a quantifier that counts, where none more may
+abbrev pub too_many : Tree → State → Outcome Tree
+too_many b t = failed_with (quantifier_too_deep t.rest)
+
+-- one adjacent quantifier; if it reads a byte it counts, and `more` reads those after it
+abbrev pub one_adjacent : (Tree → State → Outcome Tree) → Tree → State → Outcome Tree
+one_adjacent more a s = and_then (quant (bytes s.rest) a s) (λ b t. if is_unmoved s t then done b t else more b t)
+
+-- adjacent quantifiers at depth d: each that counts is one level deeper, and k of them may count
 unfoldable pub adjacent : ℕ → ℕ → Tree → State → Outcome Tree
-adjacent zero d a s =
-    and_then (quant (bytes s.rest) a s) (λ b t.
-    if is_unmoved s t then done b t
-    else failed_with (quantifier_too_deep t.rest))
+adjacent zero d a s = one_adjacent too_many a s
 adjacent (suc k) d a s =
-    and_then (quant (bytes s.rest) a s) (λ b t.
-    if is_unmoved s t then done b t
-    else if nat_lt (d + 1) max_depth then adjacent k (d + 1) b t
-    else failed_with (quantifier_too_deep t.rest))
+    one_adjacent (λ b t. if nat_lt (d + 1) max_depth then adjacent k (d + 1) b t else too_many b t) a s
 
 -- how many adjacent quantifiers may follow the first
 abbrev pub max_adjacent : ℕ

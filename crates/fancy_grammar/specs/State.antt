@@ -39,5 +39,5 @@ and_then (done a s) f = f a s
 and_then (failed k p) f = failed k p
 
 -- the outcome with f applied to what is read
-abbrev pub seen_through : {A B : Type 0} → (A → B) → Outcome A → Outcome B
-seen_through f o = and_then o (λ a s. done (f a) s)
+abbrev pub mapped : {A B : Type 0} → (A → B) → Outcome A → Outcome B
+mapped f o = and_then o (λ a s. done (f a) s)

@@ -1,16 +1,26 @@
--- The names of verbs.
-use Rattle.std.specs.Prelude.{codes, Option, Some, None}
+-- Words that a text may begin with, and the names of verbs.
+use Rattle.std.specs.Prelude.{codes, List, [], ◌∷◌, map, Option, Some, None}
 use Rattle.fancy_lex.specs.Reading.{choose}
 use Rattle.fancy_lex.specs.Text.{Text, strip_word}
 use Rattle.fancy_grammar.specs.declared.kinds.BacktrackingControlVerb.{BacktrackingControlVerb}
 use Rattle.fancy_grammar.specs.declared.kinds.BacktrackingControlVerb.TheVariants.{Fail, Accept, Commit, Skip, Prune}
 
+-- what the first of these words that the text begins with makes of the text after it; or `other`
+abbrev pub by_word : {A : Type 0} → List (Text × (Text → A)) → Text → A → A
+by_word [] t other = other
+by_word ((w, f) ∷ l) t other = choose (strip_word w t) f (by_word l t other)
+
+-- the names of verbs, each with the closing parenthesis
+abbrev pub verbs : List (Text × BacktrackingControlVerb)
+verbs =
+    (codes "FAIL)", Fail)
+    ∷ (codes "F)", Fail)
+    ∷ (codes "ACCEPT)", Accept)
+    ∷ (codes "COMMIT)", Commit)
+    ∷ (codes "SKIP)", Skip)
+    ∷ (codes "PRUNE)", Prune)
+    ∷ []
+
 -- the verb whose name and closing parenthesis are next, and the text after them
 unfoldable pub verb_at : Text → Option (BacktrackingControlVerb × Text)
-verb_at t =
-    choose (strip_word (codes "FAIL)") t) (λ u. Some (Fail, u)) (
-    choose (strip_word (codes "F)") t) (λ u. Some (Fail, u)) (
-    choose (strip_word (codes "ACCEPT)") t) (λ u. Some (Accept, u)) (
-    choose (strip_word (codes "COMMIT)") t) (λ u. Some (Commit, u)) (
-    choose (strip_word (codes "SKIP)") t) (λ u. Some (Skip, u)) (
-    choose (strip_word (codes "PRUNE)") t) (λ u. Some (Prune, u)) None)))))
+verb_at t = by_word (map (λ v. (v.0, λ u. Some (v.1, u))) verbs) t None

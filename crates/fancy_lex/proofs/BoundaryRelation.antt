@@ -8,7 +8,7 @@ use Rattle.fancy_lex.specs.declared.escape.Assertion.{Assertion}
 use Rattle.fancy_lex.specs.declared.escape.Escaped.{Escaped}
 use Rattle.fancy_lex.specs.Boundary.{boundary_of_name, unnamed_boundary, at_count}
 use Rattle.fancy_lex.specs.BoundarySteps.{name, named_boundary, boundary}
-use Rattle.fancy_lex.specs.Boundary.{BracedName, close, character, open_layout, no_end, error_after, Braces, Boundary}
+use Rattle.fancy_lex.specs.Boundary.{BracedName, close, character, open_layout, no_end, Braces, Boundary}
 use Rattle.fancy_lex.specs.Boundary.{no_brace, count, known, unknown, name_error, comment_open_before}
 use Rattle.fancy_lex.specs.Boundary.{comment_open_inside}
 use Rattle.fancy_lex.specs.Characters.{open_brace, close_brace}
@@ -38,11 +38,6 @@ brace_is_not c e = grind (arith, nat_tests)
 
 module _ (x : Bool) (p : ℕ) where
   -- the function's result, with more steps left than there are characters
-  named_more : (c : ℕ) (t u : Text) → c ≢ close_brace → Before x t (c ∷ u) → (o : Reading Text) → BracedName x p u o →
-      BracedName x p t (o >=> (λ w v. gives (c ∷ w) v))
-  named_more c t u d b (gives w v) h = character d b h
-  named_more c t u d b (fails e) h = error_after d b h
-
   module _ (k : ℕ) (more : (u : Text) → length u < k → BracedName x p u (name x p k u)) (t : Text)
       (few : length t < suc k) where
     named_rest : (c : ℕ) (u : Text) → layout x t ≡ rest (c ∷ u) → (b : Bool) → (c == close_brace) ≡ b →
@@ -53,7 +48,7 @@ module _ (x : Bool) (p : ℕ) where
     named_rest c u e false h =
         let short = layout_length x t (c ∷ u) e in
         rw (name_step x p k t c u e h)
-        (named_more c t u (no_brace_is c h) (layout_sound x t (c ∷ u) e) (name x p k u) (more u (omega arith)))
+        (character (no_brace_is c h) (layout_sound x t (c ∷ u) e) (more u (omega arith)))
 
     named_at : (s : Skipped) → layout x t ≡ s → BracedName x p t (name x p (suc k) t)
     named_at (failed q) e = rw (name_open x p k t q e) (open_layout (unclosed_sound x t q e))
@@ -68,18 +63,13 @@ module _ (x : Bool) (p : ℕ) where
   name_is : (k : ℕ) {t : Text} {o : Reading Text} → BracedName x p t o → length t < k → name x p k t ≡ o
   name_is zero h l = absurd (omega arith)
   name_is (suc k) {t} (close {v} b) l = name_close x p k t close_brace v (layout_complete x t _ b) refl
-  name_is (suc k) {t} (character {c} {u} {v} {w} d b h) l =
+  name_is (suc k) {t} (character {c} {u} d b h) l =
       let e = layout_complete x t _ b in
       let short = layout_length x t (c ∷ u) e in
       name_step x p k t c u e (brace_is_not c d)
       ∙ ap (λ o. o >=> (λ w v. gives (c ∷ w) v)) (name_is k h (omega arith))
   name_is (suc k) {t} (open_layout {q} b) l = name_open x p k t q (unclosed_complete x t q b)
   name_is (suc k) {t} (no_end b) l = name_unclosed x p k t (layout_complete x t [] b)
-  name_is (suc k) {t} (error_after {c} {u} {e} d b h) l =
-      let i = layout_complete x t _ b in
-      let short = layout_length x t (c ∷ u) i in
-      name_step x p k t c u i (brace_is_not c d)
-      ∙ ap (λ o. o >=> (λ w v. gives (c ∷ w) v)) (name_is k h (omega arith))
 
 -- ---- the boundary after its letter
 

@@ -10,9 +10,8 @@ use Rattle.std.specs.declared.alloc.Global.{Global}
 use Rattle.fancy_lex.specs.Characters.{backslash, open_bracket, close_bracket, caret}
 use Rattle.fancy_lex.specs.Class.{class_start, with_symbol, class_from, class, escape_in_class, is_negated}
 use Rattle.fancy_lex.specs.Class.{is_plain_in_class, Written}
-use Rattle.fancy_lex.specs.Class.{written, failed, Class, class_items, class_items_error, ClassItems, close, plain}
-use Rattle.fancy_lex.specs.Class.{escaped, nested}
-use Rattle.fancy_lex.specs.Class.{end, plain_error, escape_error, escaped_error, class_error, nested_error}
+use Rattle.fancy_lex.specs.Class.{written, failed, prefixed, Class, class_items, ClassItems, close, end, plain}
+use Rattle.fancy_lex.specs.Class.{escaped, escape_error, nested, class_error}
 use Rattle.fancy_lex.specs.Class.{OuterClass}
 use Rattle.fancy_lex.specs.Escape.{escape}
 use Rattle.fancy_lex.specs.Escaped.{Escape}
@@ -99,10 +98,10 @@ at_class f k depth b out t = class_from f k depth b (class_start out t).0 (class
 
 -- one step, for which x is written, and the result of the rest
 after : (f : Flags) (here there : Reading Text) (t s : Text) (depth : ℕ) (out x : Text) → here ≡ there →
-    bytes s ≤ bytes t → (w : Text) (a : Bool) (v : Text) → Runs f there s depth (out ++ x) (written w a v) →
-    Runs f here t depth out (written (x ++ w) a v)
-after f here there t s depth out x e l w a v (j, m, less, q) =
+    bytes s ≤ bytes t → (o : Written) → Runs f there s depth (out ++ x) o → Runs f here t depth out (prefixed x o)
+after f here there t s depth out x e l (written w a v) (j, m, less, q) =
     (j, m, omega (arith, l, less), e ∙ q ∙ ap (λ (o : Text). ended f j depth a o v) (append_assoc out x w))
+after f here there t s depth out x e l (failed p) q = e ∙ q
 
 not_special : (c : ℕ) → is_plain_in_class c ≡ true → (c ≢ backslash) × (c ≢ open_bracket) × (c ≢ close_bracket)
 not_special c p = (grind (arith, nat_tests), grind (arith, nat_tests), grind (arith, nat_tests))
@@ -136,55 +135,41 @@ positive a k l = omega arith
 mutual
   run_class : {f : Flags} {b : Bool} {t : Text} {o : Written} → Class f b t o → (k depth : ℕ) (out : Text) →
       bytes t < k → Runs f (at_class f k depth b out t) t depth out o
-  run_class {f} {b} {t} (class_items {a} {u} {v} {opening} {w} e h) k depth out l =
+  run_class {f} {b} {t} (class_items {u} {opening} {o} e h) k depth out l =
       let less = opening_bytes t opening u e in
-      after f _ _ t u depth out opening (at_opening f k depth b out t opening u e) less w a v
+      after f _ _ t u depth out opening (at_opening f k depth b out t opening u e) less o
       (run_items h k depth (out ++ opening) (omega (arith, less, l)))
-  run_class {f} {b} {t} (class_items_error {u} {opening} e h) k depth out l =
-      at_opening f k depth b out t opening u e ∙ run_items h k depth (out ++ opening)
-      (omega (arith, opening_bytes t opening u e, l))
 
   run_items : {f : Flags} {b : Bool} {t : Text} {o : Written} → ClassItems f b t o →
       (k depth : ℕ) (out : Text) → bytes t < k → Runs f (class_from f k depth b out t) t depth out o
-  run_items {f} {b} (close {v}) k depth out l = (
+  run_items {f} {b} (close {t}) k depth out l = (
     pred k,
-    step_left f k depth b out v close_bracket l,
-    bytes_cons close_bracket v,
-    items_closing f k depth b out v (positive _ k l),
+    step_left f k depth b out t close_bracket l,
+    bytes_cons close_bracket t,
+    items_closing f k depth b out t (positive _ k l),
   )
-  run_items {f} {b} (plain {c} {a} {t} {v} {w} p h) k depth out l =
+  run_items {f} {b} end k depth out l = items_end f k depth b out [] refl
+  run_items {f} {b} (plain {c} {t} {o} p h) k depth out l =
       after f _ _ (c ∷ t) t depth out (c ∷ []) (plain_item f k depth b out t c p (positive _ k l))
-      (omega (arith, bytes_cons c t)) w a v
+      (omega (arith, bytes_cons c t)) o
       (run_items h (pred k) depth (out ++ c ∷ []) (step_left f k depth b out t c l))
-  run_items {f} {b} (escaped {a} {t} {u} {v} {w} {e} q h) k depth out l =
+  run_items {f} {b} (escaped {t} {u} {e} {o} q h) k depth out l =
       let less = escape_within f true t u e q in
       after f _ _ (backslash ∷ t) u depth out (escape_in_class b e)
       (items_escape f depth b out (backslash ∷ t) backslash t refl k e u (positive _ k l) refl q)
-      (omega (arith, less, bytes_cons backslash t)) w a v
+      (omega (arith, less, bytes_cons backslash t)) o
       (run_items h (pred k) depth (out ++ escape_in_class b e)
       (omega (arith, less, step_left f k depth b out t backslash l)))
-  run_items {f} {b} (nested {m} {a} {t} {u} {v} {x} {w} g h) k depth out l =
-      let (j, more, less, q) = run_class g (pred k) (depth + 1) out (step_left f k depth b out t open_bracket l) in
-      after f _ _ (open_bracket ∷ t) u depth out x
-      (items_open f depth b out (open_bracket ∷ t) open_bracket t refl k (positive _ k l) refl ∙ q
-      ∙ ended_inside f j depth m (out ++ x) u)
-      (omega (arith, less, bytes_cons open_bracket t)) w a v (run_items h j depth (out ++ x) more)
-  run_items {f} {b} end k depth out l = items_end f k depth b out [] refl
-  run_items {f} {b} (plain_error {c} {t} {e} p h) k depth out l =
-      plain_item f k depth b out t c p (positive _ k l)
-      ∙ run_items h (pred k) depth (out ++ c ∷ []) (step_left f k depth b out t c l)
   run_items {f} {b} (escape_error {t} {e} q) k depth out l = items_fails f k depth b out t e q (positive _ k l)
-  run_items {f} {b} (escaped_error {t} {u} {x} {e} q h) k depth out l =
-      items_escape f depth b out (backslash ∷ t) backslash t refl k x u (positive _ k l) refl q
-      ∙ run_items h (pred k) depth (out ++ escape_in_class b x)
-      (omega (arith, escape_within f true t u x q, step_left f k depth b out t backslash l))
+  run_items {f} {b} (nested {m} {t} {u} {w} {o} g h) k depth out l =
+      let (j, more, less, q) = run_class g (pred k) (depth + 1) out (step_left f k depth b out t open_bracket l) in
+      after f _ _ (open_bracket ∷ t) u depth out w
+      (items_open f depth b out (open_bracket ∷ t) open_bracket t refl k (positive _ k l) refl ∙ q
+      ∙ ended_inside f j depth m (out ++ w) u)
+      (omega (arith, less, bytes_cons open_bracket t)) o (run_items h j depth (out ++ w) more)
   run_items {f} {b} (class_error {t} {e} h) k depth out l =
       items_open f depth b out (open_bracket ∷ t) open_bracket t refl k (positive _ k l) refl
       ∙ run_class h (pred k) (depth + 1) out (step_left f k depth b out t open_bracket l)
-  run_items {f} {b} (nested_error {m} {t} {u} {x} {e} g h) k depth out l =
-      let (j, more, less, q) = run_class g (pred k) (depth + 1) out (step_left f k depth b out t open_bracket l) in
-      items_open f depth b out (open_bracket ∷ t) open_bracket t refl k (positive _ k l) refl ∙ q
-      ∙ ended_inside f j depth m (out ++ x) u ∙ run_items h j depth (out ++ x) more
 
 -- the function's result for a result of the relation
 abbrev reading_of : Written → Reading Text
@@ -212,37 +197,45 @@ ReadsClass f b t = (o : Written) × ClassItems f b t o × Less t o
 abbrev ReadsShort : Flags → ℕ → Type 0
 ReadsShort f k = (b : Bool) (t : Text) → bytes t < k → ReadsClass f b t
 
+-- what is read from a later text is read within this one, with text before it
+less_prefixed : (t u w : Text) (o : Written) → bytes u ≤ bytes t → Less u o → Less t (prefixed w o)
+less_prefixed t u w (written x a v) l less = omega (arith, less, l)
+less_prefixed t u w (failed e) l less = tt
+
 class_within : (f : Flags) (b : Bool) (t opening u : Text) → ◌≡◌ {A = Text × Text} (class_start [] t) (opening, u) →
     ReadsClass f b u → (o : Written) × Class f b t o × Less t o
-class_within f b t opening u e (written w a v, h, less) =
-    (written (opening ++ w) a v, class_items e h, omega (arith, less, opening_bytes t opening u e))
-class_within f b t opening u e (failed x, h, less) = (failed x, class_items_error e h, tt)
+class_within f b t opening u e (o, h, less) =
+    (prefixed opening o, class_items e h, less_prefixed t u opening o (opening_bytes t opening u e) less)
 
 module _ (f : Flags) (k : ℕ) (reads : ReadsShort f k) (b : Bool) (t : Text) (l : bytes t < k) where
   plain_reads : (c : ℕ) → is_plain_in_class c ≡ true → ReadsClass f b t → ReadsClass f b (c ∷ t)
-  plain_reads c p (written w a v, h, less) = (written (c ∷ w) a v, plain p h, omega (arith, less, bytes_cons c t))
-  plain_reads c p (failed e, h, less) = (failed e, plain_error p h, tt)
+  plain_reads c p (o, h, less) = (
+    prefixed (c ∷ []) o,
+    plain p h,
+    less_prefixed (c ∷ t) t (c ∷ []) o (omega (arith, bytes_cons c t)) less,
+  )
 
   escaped_reads : (e : Escape) (u : Text) → escape f true t ≡ gives e u →
       ReadsClass f (b || is_negated e) u → ReadsClass f b (backslash ∷ t)
-  escaped_reads e u q (written w a v, h, less) = (
-    written (escape_in_class b e ++ w) a v,
+  escaped_reads e u q (o, h, less) = (
+    prefixed (escape_in_class b e) o,
     escaped q h,
-    omega (arith, less, escape_within f true t u e q, bytes_cons backslash t),
+    less_prefixed (backslash ∷ t) u (escape_in_class b e) o
+        (omega (arith, escape_within f true t u e q, bytes_cons backslash t)) less,
   )
-  escaped_reads e u q (failed x, h, less) = (failed x, escaped_error q h, tt)
 
   escape_reads : (r : Reading Escape) → escape f true t ≡ r → ReadsClass f b (backslash ∷ t)
   escape_reads (gives e u) q = escaped_reads e u q
       (reads (b || is_negated e) u (omega (arith, escape_within f true t u e q, l)))
   escape_reads (fails e) q = (failed e, escape_error q, tt)
 
-  after_class : (x : Text) (m : Bool) (u : Text) → Class f b t (written x m u) → bytes u < bytes t →
-      ReadsClass f m u →
-      ReadsClass f b (open_bracket ∷ t)
-  after_class x m u g shorter (written w a v, h, less) =
-      (written (x ++ w) a v, nested g h, omega (arith, less, shorter, bytes_cons open_bracket t))
-  after_class x m u g shorter (failed e, h, less) = (failed e, nested_error g h, tt)
+  after_class : (w : Text) (m : Bool) (u : Text) → Class f b t (written w m u) → bytes u < bytes t →
+      ReadsClass f m u → ReadsClass f b (open_bracket ∷ t)
+  after_class w m u g shorter (o, h, less) = (
+    prefixed w o,
+    nested g h,
+    less_prefixed (open_bracket ∷ t) u w o (omega (arith, shorter, bytes_cons open_bracket t)) less,
+  )
 
   class_item : (o : Written) × Class f b t o × Less t o → ReadsClass f b (open_bracket ∷ t)
   class_item (written x m u, g, less) = after_class x m u g less (reads m u (omega (arith, less, l)))
@@ -287,14 +280,76 @@ class_reads f t =
     (items_read f (suc (bytes p.1)) false p.1 (omega arith)) in
     subst (OuterClass f t) (sym (class_complete f t o h)) (outer f t o h)
 
--- The result does not depend on the text after the class: by induction on the derivation.
+-- A class that is read, without the rules of its errors: by induction on the derivation.
 
-items_some : {f : Flags} {b a : Bool} {t w v : Text} → ClassItems f b t (written w a v) →
-    (c : ℕ) × (u : Text) × (t ≡ c ∷ u)
-items_some {v} close = (close_bracket, v, refl)
-items_some (plain {c} {t} p h) = (c, t, refl)
-items_some (escaped {t} q h) = (backslash, t, refl)
-items_some (nested {t} g h) = (open_bracket, t, refl)
+mutual
+  pub data ReadClass : Flags → Bool → Text → Text → Bool → Text → Type 0 where
+    from_items : {f : Flags} {b a : Bool} {t u v opening w : Text} →
+        ◌≡◌ {A = Text × Text} (class_start [] t) (opening, u) →
+        ReadItems f b u w a v → ReadClass f b t (opening ++ w) a v
+
+  pub data ReadItems : Flags → Bool → Text → Text → Bool → Text → Type 0 where
+    at_close : {f : Flags} {b : Bool} {v : Text} → ReadItems f b (close_bracket ∷ v) (close_bracket ∷ []) b v
+    at_plain : {c : ℕ} {f : Flags} {b a : Bool} {t v w : Text} → is_plain_in_class c ≡ true →
+        ReadItems f b t w a v → ReadItems f b (c ∷ t) (c ∷ w) a v
+    at_escape : {f : Flags} {b a : Bool} {t u v w : Text} {e : Escape} → escape f true t ≡ gives e u →
+        ReadItems f (b || is_negated e) u w a v → ReadItems f b (backslash ∷ t) (escape_in_class b e ++ w) a v
+    at_nested : {f : Flags} {b m a : Bool} {t u v x w : Text} → ReadClass f b t x m u →
+        ReadItems f m u w a v → ReadItems f b (open_bracket ∷ t) (x ++ w) a v
+
+abbrev IsReadClass : Flags → Bool → Text → Written → Type 0
+IsReadClass f b t (written w a v) = ReadClass f b t w a v
+IsReadClass f b t (failed e) = Unit {0}
+
+abbrev AreReadItems : Flags → Bool → Text → Written → Type 0
+AreReadItems f b t (written w a v) = ReadItems f b t w a v
+AreReadItems f b t (failed e) = Unit {0}
+
+module _ (f : Flags) (b : Bool) (t : Text) where
+  opened_class : (u opening : Text) → ◌≡◌ {A = Text × Text} (class_start [] t) (opening, u) → (o : Written) →
+      AreReadItems f b u o → IsReadClass f b t (prefixed opening o)
+  opened_class u opening e (written w a v) i = from_items e i
+  opened_class u opening e (failed x) i = tt
+
+  plain_first : (c : ℕ) → is_plain_in_class c ≡ true → (o : Written) → AreReadItems f b t o →
+      AreReadItems f b (c ∷ t) (prefixed (c ∷ []) o)
+  plain_first c p (written w a v) i = at_plain p i
+  plain_first c p (failed x) i = tt
+
+  escape_first : (u : Text) (e : Escape) → escape f true t ≡ gives e u → (o : Written) →
+      AreReadItems f (b || is_negated e) u o → AreReadItems f b (backslash ∷ t) (prefixed (escape_in_class b e) o)
+  escape_first u e q (written w a v) i = at_escape q i
+  escape_first u e q (failed x) i = tt
+
+  class_first : (m : Bool) (u x : Text) → ReadClass f b t x m u → (o : Written) → AreReadItems f m u o →
+      AreReadItems f b (open_bracket ∷ t) (prefixed x o)
+  class_first m u x g (written w a v) i = at_nested g i
+  class_first m u x g (failed e) i = tt
+
+mutual
+  class_is_read : {f : Flags} {b : Bool} {t : Text} {o : Written} → Class f b t o → IsReadClass f b t o
+  class_is_read {f} {b} {t} (class_items {u} {opening} {o} e h) = opened_class f b t u opening e o (items_are_read h)
+
+  items_are_read : {f : Flags} {b : Bool} {t : Text} {o : Written} → ClassItems f b t o → AreReadItems f b t o
+  items_are_read close = at_close
+  items_are_read end = tt
+  items_are_read {f} {b} (plain {c} {t} {o} p h) = plain_first f b t c p o (items_are_read h)
+  items_are_read {f} {b} (escaped {t} {u} {e} {o} q h) = escape_first f b t u e q o (items_are_read h)
+  items_are_read (escape_error q) = tt
+  items_are_read {f} {b} (nested {m} {t} {u} {w} {o} g h) =
+      class_first f b t m u w (class_is_read g) o (items_are_read h)
+  items_are_read (class_error h) = tt
+
+pub read_class : {f : Flags} {b a : Bool} {t w v : Text} → Class f b t (written w a v) → ReadClass f b t w a v
+read_class h = class_is_read h
+
+-- The result does not depend on the text after the class: by induction on what is read.
+
+items_some : {f : Flags} {b a : Bool} {t w v : Text} → ReadItems f b t w a v → (c : ℕ) × (u : Text) × (t ≡ c ∷ u)
+items_some (at_close {v}) = (close_bracket, v, refl)
+items_some (at_plain {c} {t} p h) = (c, t, refl)
+items_some (at_escape {t} q h) = (backslash, t, refl)
+items_some (at_nested {t} g h) = (open_bracket, t, refl)
 
 -- the same with s after the rest of the text
 abbrev pub before : Text → Text × Text → Text × Text
@@ -325,19 +380,23 @@ class_start_frame out t s c u e =
     ∙ symbol_frame close_bracket p.0 p.1 s d r q
 
 mutual
-  pub class_frame : {f : Flags} {b a : Bool} {t w v : Text} → Class f b t (written w a v) → (s : Text) →
+  framed_class : {f : Flags} {b a : Bool} {t w v : Text} → ReadClass f b t w a v → (s : Text) →
       Class f b (t ++ s) (written w a (v ++ s))
-  class_frame {t} (class_items e h) s =
+  framed_class {t} (from_items e h) s =
       let (c, u, q) = items_some h in
       class_items (class_start_frame [] t s c u (ap (λ (p : Text × Text). p.1) e ∙ q) ∙ ap (before s) e)
-      (items_frame h s)
+      (framed_items h s)
 
-  items_frame : {f : Flags} {b a : Bool} {t w v : Text} → ClassItems f b t (written w a v) →
-      (s : Text) → ClassItems f b (t ++ s) (written w a (v ++ s))
-  items_frame close s = close
-  items_frame (plain p h) s = plain p (items_frame h s)
-  items_frame {f} (escaped {t} {u} {e} q h) s = escaped (escape_frame f t u s e q) (items_frame h s)
-  items_frame (nested g h) s = nested (class_frame g s) (items_frame h s)
+  framed_items : {f : Flags} {b a : Bool} {t w v : Text} → ReadItems f b t w a v → (s : Text) →
+      ClassItems f b (t ++ s) (written w a (v ++ s))
+  framed_items at_close s = close
+  framed_items (at_plain p h) s = plain p (framed_items h s)
+  framed_items {f} (at_escape {t} {u} {e} q h) s = escaped (escape_frame f t u s e q) (framed_items h s)
+  framed_items (at_nested g h) s = nested (framed_class g s) (framed_items h s)
+
+pub class_frame : {f : Flags} {b a : Bool} {t w v : Text} → Class f b t (written w a v) → (s : Text) →
+    Class f b (t ++ s) (written w a (v ++ s))
+class_frame h s = framed_class (read_class h) s
 
 -- The clauses of the reader.
 

@@ -12,7 +12,7 @@ use Rattle.fancy_lex.specs.Escaped.{Escape, assertion}
 use Rattle.fancy_lex.specs.Located.{Located}
 use Rattle.fancy_lex.specs.ErrorTable.{comment_not_closed, boundary_not_closed, name_of_no_boundary}
 use Rattle.fancy_lex.specs.Layout.{Before, Unclosed}
-use Rattle.fancy_lex.specs.Reading.{Reading, gives, fails}
+use Rattle.fancy_lex.specs.Reading.{Reading, gives, fails, ◌>=>◌}
 use Rattle.fancy_lex.specs.Text.{Text, strip}
 
 -- the names of `\b`; `\B`, which is negated, has none
@@ -37,12 +37,10 @@ at_count (c ∷ t) = is_ascii_digit c || c == comma
 -- the name after the opening brace: up to the first closing brace outside layout, with layout taken out
 pub data BracedName (x : Bool) (p : ℕ) : Text → Reading Text → Type 0 where
   close : {t v : Text} → Before x t (close_brace ∷ v) → BracedName x p t (gives [] v)
-  character : {c : ℕ} {t u v w : Text} → c ≢ close_brace → Before x t (c ∷ u) → BracedName x p u (gives w v) →
-      BracedName x p t (gives (c ∷ w) v)
+  character : {c : ℕ} {t u : Text} {o : Reading Text} → c ≢ close_brace → Before x t (c ∷ u) → BracedName x p u o →
+      BracedName x p t (o >=> (λ w v. gives (c ∷ w) v))
   open_layout : {q : ℕ} {t : Text} → Unclosed x t q → BracedName x p t (fails (comment_not_closed q))
   no_end : {t : Text} → Before x t [] → BracedName x p t (fails (boundary_not_closed p))
-  error_after : {c : ℕ} {t u : Text} {e : Located} → c ≢ close_brace → Before x t (c ∷ u) →
-      BracedName x p u (fails e) → BracedName x p t (fails e)
 
 -- after layout there is a brace with `u` after it; `counts` says whether `u`, after layout, begins the count of a
 -- repeat

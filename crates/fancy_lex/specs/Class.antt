@@ -88,41 +88,35 @@ pub data Written : Type 0 where
 abbrev pub is_plain_in_class : ℕ → Bool
 is_plain_in_class c = not (c ∈ "\\[]")
 
+-- the same result with w before what is written; an error stays
+abbrev pub prefixed : Text → Written → Written
+prefixed w (written x a v) = written (w ++ x) a v
+prefixed w (failed e) = failed e
+
+-- The variables of a rule are in braces before it: f are the flags; b says whether a negated set was written before the
+-- text t, and m whether one was by the text u after it; o is the result; c is a character, e an escape.
 mutual
-  -- a class after its bracket; the flag says whether a negated set was written before it
+  -- a class after its bracket
   pub data Class : Flags → Bool → Text → Written → Type 0 where
-    class_items : {f : Flags} {b a : Bool} {t u v opening w : Text} →
+    class_items : {f : Flags} {b : Bool} {t u opening : Text} {o : Written} →
         ◌≡◌ {A = Text × Text} (class_start [] t) (opening, u) →
-        ClassItems f b u (written w a v) → Class f b t (written (opening ++ w) a v)
-    class_items_error : {f : Flags} {b : Bool} {t u opening : Text} {e : Located} →
-        ◌≡◌ {A = Text × Text} (class_start [] t) (opening, u) →
-        ClassItems f b u (failed e) → Class f b t (failed e)
+        ClassItems f b u o → Class f b t (prefixed opening o)
 
   -- the items of a class through its closing bracket
   pub data ClassItems : Flags → Bool → Text → Written → Type 0 where
-    close : {f : Flags} {b : Bool} {v : Text} →
-        ClassItems f b (close_bracket ∷ v) (written (close_bracket ∷ []) b v)
-    plain : {c : ℕ} {f : Flags} {b a : Bool} {t v w : Text} → is_plain_in_class c ≡ true →
-        ClassItems f b t (written w a v) → ClassItems f b (c ∷ t) (written (c ∷ w) a v)
-    escaped : {f : Flags} {b a : Bool} {t u v w : Text} {e : Escape} →
-        escape f true t ≡ gives e u →
-        ClassItems f (b || is_negated e) u (written w a v) →
-        ClassItems f b (backslash ∷ t) (written (escape_in_class b e ++ w) a v)
-    nested : {f : Flags} {b m a : Bool} {t u v x w : Text} → Class f b t (written x m u) →
-        ClassItems f m u (written w a v) → ClassItems f b (open_bracket ∷ t) (written (x ++ w) a v)
-    -- the end of the text
+    close : {f : Flags} {b : Bool} {t : Text} →
+        ClassItems f b (close_bracket ∷ t) (written (close_bracket ∷ []) b t)
     end : {f : Flags} {b : Bool} → ClassItems f b [] (failed class_not_closed)
-    plain_error : {c : ℕ} {f : Flags} {b : Bool} {t : Text} {e : Located} → is_plain_in_class c ≡ true →
-        ClassItems f b t (failed e) → ClassItems f b (c ∷ t) (failed e)
-    escape_error : {f : Flags} {b : Bool} {t : Text} {e : Located} →
-        escape f true t ≡ fails e → ClassItems f b (backslash ∷ t) (failed e)
-    escaped_error : {f : Flags} {b : Bool} {t u : Text} {x : Escape} {e : Located} →
-        escape f true t ≡ gives x u →
-        ClassItems f (b || is_negated x) u (failed e) → ClassItems f b (backslash ∷ t) (failed e)
-    class_error : {f : Flags} {b : Bool} {t : Text} {e : Located} →
-        Class f b t (failed e) → ClassItems f b (open_bracket ∷ t) (failed e)
-    nested_error : {f : Flags} {b m : Bool} {t u x : Text} {e : Located} → Class f b t (written x m u) →
-        ClassItems f m u (failed e) → ClassItems f b (open_bracket ∷ t) (failed e)
+    plain : {c : ℕ} {f : Flags} {b : Bool} {t : Text} {o : Written} → is_plain_in_class c ≡ true →
+        ClassItems f b t o → ClassItems f b (c ∷ t) (prefixed (c ∷ []) o)
+    escaped : {f : Flags} {b : Bool} {t u : Text} {e : Escape} {o : Written} → escape f true t ≡ gives e u →
+        ClassItems f (b || is_negated e) u o → ClassItems f b (backslash ∷ t) (prefixed (escape_in_class b e) o)
+    escape_error : {f : Flags} {b : Bool} {t : Text} {e : Located} → escape f true t ≡ fails e →
+        ClassItems f b (backslash ∷ t) (failed e)
+    nested : {f : Flags} {b m : Bool} {t u w : Text} {o : Written} → Class f b t (written w m u) →
+        ClassItems f m u o → ClassItems f b (open_bracket ∷ t) (prefixed w o)
+    class_error : {f : Flags} {b : Bool} {t : Text} {e : Located} → Class f b t (failed e) →
+        ClassItems f b (open_bracket ∷ t) (failed e)
 
 -- the outermost class after its bracket; no negated set was written before it
 abbrev pub OuterClass : Flags → Text → Reading Text → Type 0

@@ -1,5 +1,5 @@
 -- The flags as a set.
-use Rattle.std.specs.Prelude.{ℕ, true, false}
+use Rattle.std.specs.Prelude.{ℕ}
 use Rattle.fancy_lex.specs.Bits.{has_bit}
 use Rattle.fancy_lex.specs.declared.flags.Flags.{Flags}
 
@@ -19,18 +19,8 @@ flags_of bits = record {
 
 -- no flag
 abbrev pub no_flag : Flags
-no_flag = record {
-  casei = false;
-  multi = false;
-  dotnl = false;
-  swap_greed = false;
-  ignore_space = false;
-  unicode = false;
-  crlf = false;
-  oniguruma_mode = false;
-  ignore_numbered_groups = false;
-}
+no_flag = flags_of 0
 
 -- only FLAG_UNICODE
 abbrev pub unicode_alone : Flags
-unicode_alone = record no_flag { unicode = true }
+unicode_alone = flags_of 32

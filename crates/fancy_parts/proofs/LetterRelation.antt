@@ -23,7 +23,7 @@ use Rattle.fancy_lex.specs.declared.error.ReadError.{ReadError}
 use Rattle.fancy_lex.specs.declared.flags.Flags.{Flags}
 use Rattle.fancy_parts.specs.FlagLetters.{Letters, inline_flags, flag_group, with_letter, LetterStep, flags_end}
 use Rattle.fancy_parts.specs.FlagLetters.{flags_go_on}
-use Rattle.fancy_parts.specs.FlagLetters.{NoLetter, nothing_closed, nothing_scoped, second_minus, names_no_flag}
+use Rattle.fancy_parts.specs.FlagLetters.{NoLetter, closed_without_letter, scoped_without_letter, second_minus, names_no_flag}
 use Rattle.fancy_parts.specs.LetterSteps.{is_first, is_after_minus, unknown_letter, flag_or_error, step, after_step}
 use Rattle.fancy_parts.specs.LetterSteps.{letters_in, letters}
 use Rattle.fancy_parts.specs.FlagLetters.{Letter, flag, same_mode, minus, parenthesis, colon, no_letter, other_mode}
@@ -286,15 +286,15 @@ module _ (t w : Text) (clears : Bool) (f : Flags) (c : ℕ) (u : Text) (cleared 
         bad h = rw unknown_is (no_letter h)
 
         on_parenthesis : c ≡ code ")" → Front w → Letter t w clears f c u (step t clears f (c ∷ u))
-        on_parenthesis a (nothing e) = rw (at_parenthesis a true (closes_bad (inl e))) (bad (nothing_closed a (inl e)))
-        on_parenthesis a (dash e) = rw (at_parenthesis a true (closes_bad (inr e))) (bad (nothing_closed a (inr e)))
+        on_parenthesis a (nothing e) = rw (at_parenthesis a true (closes_bad (inl e))) (bad (closed_without_letter a (inl e)))
+        on_parenthesis a (dash e) = rw (at_parenthesis a true (closes_bad (inr e))) (bad (closed_without_letter a (inr e)))
         on_parenthesis a (other d e) = rw (at_parenthesis a false (closes_well d e)) (parenthesis a d e)
 
         on_colon : c ≡ code ":" → Front w → Letter t w clears f c u (step t clears f (c ∷ u))
         on_colon a (nothing e) = rw (at_colon a false (no_minus (λ q. nil_or e q))) (colon a (λ q. nil_or e q)) where
           nil_or : w ≡ [] → w ≡ one_minus → ⊥
           nil_or e q = let both = sym e ∙ q in cc
-        on_colon a (dash e) = rw (at_colon a true (minus_at e)) (bad (nothing_scoped a e))
+        on_colon a (dash e) = rw (at_colon a true (minus_at e)) (bad (scoped_without_letter a e))
         on_colon a (other d e) = rw (at_colon a false (no_minus e)) (colon a e)
 
         on_minus : c ≡ code "-" → (b : Bool) → clears ≡ b → Letter t w clears f c u (step t clears f (c ∷ u))
@@ -337,8 +337,8 @@ module _ (t w : Text) (clears : Bool) (f : Flags) (c : ℕ) (u : Text) (cleared 
     agree false = refl
   letter_is (no_letter h) = by h ∙ unknown_is where
     by : NoLetter w clears f c → step t clears f (c ∷ u) ≡ unknown_letter t u
-    by (nothing_closed a e) = at_parenthesis a true (closes_bad e)
-    by (nothing_scoped a e) = at_colon a true (minus_at e)
+    by (closed_without_letter a e) = at_parenthesis a true (closes_bad e)
+    by (scoped_without_letter a e) = at_colon a true (minus_at e)
     by (second_minus a e) = at_minus a true e
     by (names_no_flag a e) =
         at_other (grind (arith, nat_tests)) (grind (arith, nat_tests)) (grind (arith, nat_tests))

@@ -34,8 +34,8 @@ pub data LetterStep : Type 0 where
 -- the character c is an error there; `w` is the text of the letters before it, and `clears` says whether a minus was
 -- read
 pub data NoLetter (w : Text) (clears : Bool) (f : Flags) (c : ℕ) : Type 0 where
-  nothing_closed : c ≡ code ")" → (w ≡ []) ⊎ (w ≡ codes "-") → NoLetter w clears f c
-  nothing_scoped : c ≡ code ":" → w ≡ codes "-" → NoLetter w clears f c
+  closed_without_letter : c ≡ code ")" → (w ≡ []) ⊎ (w ≡ codes "-") → NoLetter w clears f c
+  scoped_without_letter : c ≡ code ":" → w ≡ codes "-" → NoLetter w clears f c
   second_minus : c ≡ code "-" → clears ≡ true → NoLetter w clears f c
   names_no_flag : (c ∈ ")-:u") ≡ false → with_letter f (not clears) c ≡ None → NoLetter w clears f c
 

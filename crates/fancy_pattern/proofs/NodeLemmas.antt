@@ -24,7 +24,7 @@ use Rattle.fancy_grammar.specs.declared.kinds.LookAround.{LookAround}
 use Rattle.fancy_grammar.specs.declared.needs.Needs.{Needs}
 use Rattle.fancy_grammar.specs.declared.precedence.Precedence.{Precedence}
 use Rattle.fancy_grammar.specs.declared.precedence.Precedence.TheVariants.{Whole, Branch, Piece, Operand}
-use Rattle.fancy_pattern.specs.TextOutput.{Added, Changed, parted}
+use Rattle.fancy_pattern.specs.TextOutput.{Added, Changed, separated}
 use Rattle.fancy_pattern.specs.ContextViews.{IsContext}
 use Rattle.fancy_pattern.specs.Writers.{Writes, WritesSettled, needs_below, is_conditional, is_expression, parts_text}
 use Rattle.fancy_pattern.specs.declared.context.Context as code
@@ -81,7 +81,7 @@ neither true b e = refl
 neither false b e = absurd (cc)
 
 text_condition : (m : GroupInfo) (c : Tree) (t : Text) → is_text_condition c ≡ true →
-    parted Condition t ≡ condition_text m c t
+    separated Condition t ≡ condition_text m c t
 text_condition m (leaf label.empty) t e = refl
 text_condition m (leaf (label.any newline crlf)) t e = refl
 text_condition m (leaf (label.assertion a)) t e = refl
@@ -310,7 +310,7 @@ module _ {S : Type 0} (holds : S → Text → Type 0) where
   }
 
   pub condition_writes : (a b : S) (i j : code.Context) (m : GroupInfo) (c : Tree) → is_text_condition c ≡ true →
-      Writes holds a b i j (λ o. needs_listed o c) (λ h. parted Condition (written m c Whole h)) (after c Whole) →
+      Writes holds a b i j (λ o. needs_listed o c) (λ h. separated Condition (written m c Whole h)) (after c Whole) →
       Writes holds a b i j (λ o. needs_listed o c) (λ h. condition_text m c (written m c Whole h)) (after c Whole)
   condition_writes a b i j m c e w =
       writes_as holds a b i j _ _ _ _ _ _ w (λ o. refl) (λ h. text_condition m c (written m c Whole h) e) (λ h. refl)

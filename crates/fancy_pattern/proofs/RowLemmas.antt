@@ -5,7 +5,7 @@ use Rattle.std.proofs.Math.Seq.{take-length}
 use Rattle.fancy_lex.specs.Number.{at_digit}
 use Rattle.fancy_lex.specs.Text.{Text, bytes}
 use Rattle.fancy_grammar.specs.GroupInfo.{GroupInfo}
-use Rattle.fancy_grammar.specs.Pattern.{Context, parted_if, is_in_digits, written, written_all, written_branches}
+use Rattle.fancy_grammar.specs.Pattern.{Context, separated_if, is_in_digits, written, written_all, written_branches}
 use Rattle.fancy_grammar.specs.Pattern.{written_barred, after}
 use Rattle.fancy_grammar.specs.PatternWalk.{needs_listed, all_listed, after_all}
 use Rattle.fancy_grammar.specs.Tree.{Tree, Trees, no_trees, more_trees, trees_of}
@@ -80,7 +80,7 @@ module _ {S : Type 0} (holds : S → Text → Type 0) where
 
   pieces_next : (b c z : S) (j k e : code.Context) (m : GroupInfo) (digits : Bool) (t : Tree) (ts : Trees) →
       Writes holds b c j k (λ o. needs_listed o t)
-      (λ h. parted_if (digits && at_digit (written m t Piece h)) (written m t Piece h)) (after t Piece) →
+      (λ h. separated_if (digits && at_digit (written m t Piece h)) (written m t Piece h)) (after t Piece) →
       WritesRest holds c z k e (pieces_left m (is_in_digits m t) ts) →
       WritesRest holds b z j e (pieces_left m digits (more_trees t ts))
   pieces_next b c z j k e m digits t ts one rest =
@@ -94,7 +94,7 @@ module _ {S : Type 0} (holds : S → Text → Type 0) where
       (whole : Rest) → ((x : Text) → holds b x → position ≡ bytes x) →
       WritesOn holds a b i j (pieces_left m digits (more_trees t ts)) whole →
       Writes holds b c j k (λ o. needs_listed o t) (written m t Piece) (after t Piece) →
-      Changed holds c d position (λ u. parted_if (digits && at_digit u) u) →
+      Changed holds c d position (λ u. separated_if (digits && at_digit u) u) →
       WritesOn holds a d i k (pieces_left m (is_in_digits m t) ts) whole
   on_piece a b c d i j k m digits position t ts whole at w one parts = record {
     ends = λ z e rest. w.ends z e

@@ -10,8 +10,8 @@ use Rattle.std.proofs.lemmas.Str.{chars-append, chars-IsAscii, len_utf8_bounds, 
 use Rattle.fancy_lex.specs.Text.{Text, text_of, bytes}
 use Rattle.fancy_lex.proofs.TextLemmas.{bytes_chars}
 use Rattle.fancy_parts.proofs.CapacityLemmas.{ascii}
-use Rattle.fancy_grammar.specs.Pattern.{parted_if}
-use Rattle.fancy_pattern.specs.TextOutput.{Changed, needs_separator, parted}
+use Rattle.fancy_grammar.specs.Pattern.{separated_if}
+use Rattle.fancy_pattern.specs.TextOutput.{Changed, needs_separator, separated}
 use Rattle.fancy_pattern.specs.declared.separator.Separator.{Separator}
 
 -- two equal texts, split at the same byte
@@ -39,46 +39,46 @@ after_cut s front back t u position f e at is rest long =
     let cut : chars front ++ chars back ≡ t ++ u = sym (chars-append front back f) ∙ ap chars (sym whole) ∙ e in
     same_seam (chars front) (chars back) t u cut (bytes_chars front f ∙ long ∙ at)
 
-pub stays_parted : (s : String Global) (front back : List ℕ) (position : ℕ) (separator : Separator) → IsUtf8 front →
+pub stays_separated : (s : String Global) (front back : List ℕ) (position : ℕ) (separator : Separator) → IsUtf8 front →
     front ≡ take position (string_bytes s) → back ≡ drop position (string_bytes s) → length front ≡ position →
-    needs_separator separator (chars back) ≡ false → Changed (λ s t. text_of s ≡ t) s s position (parted separator)
-stays_parted s front back position separator f is rest long free = record {
+    needs_separator separator (chars back) ≡ false → Changed (λ s t. text_of s ≡ t) s s position (separated separator)
+stays_separated s front back position separator f is rest long free = record {
   changes = λ t u h k.
       let cut = after_cut (string_bytes s) front back t u position f h k is rest long in
       let not_needed : needs_separator separator u ≡ false = ap (needs_separator separator) (sym cut.1) ∙ free in
-      h ∙ ap (λ b. t ++ parted_if b u) (sym not_needed);
+      h ∙ ap (λ b. t ++ separated_if b u) (sym not_needed);
 }
 
 -- the bytes of an empty comment, between others
-parted_chars : (front back : List ℕ) → IsUtf8 front →
+separated_chars : (front back : List ℕ) → IsUtf8 front →
     chars ((front ++ codes "(?#)") ++ back) ≡ chars front ++ (codes "(?#)" ++ chars back)
-parted_chars front back f =
+separated_chars front back f =
     let a = ascii (codes "(?#)") refl in
     ap chars (append_assoc front (codes "(?#)") back) ∙ chars-append front (codes "(?#)" ++ back) f
     ∙ ap (λ x. chars front ++ x) (chars-append (codes "(?#)") back (IsUtf8-from_ascii (codes "(?#)") a)
     ∙ ap (λ x. x ++ chars back) (chars-IsAscii (codes "(?#)") a))
 
-inserted_parted : (s z : String Global) (front back : List ℕ) (position : ℕ) (separator : Separator) → IsUtf8 front →
+inserted_separated : (s z : String Global) (front back : List ℕ) (position : ℕ) (separator : Separator) → IsUtf8 front →
     front ≡ take position (string_bytes s) → back ≡ drop position (string_bytes s) → length front ≡ position →
     needs_separator separator (chars back) ≡ true →
     string_bytes z ≡ insert_slice (string_bytes s) position (codes "(?#)") →
-    Changed (λ s t. text_of s ≡ t) s z position (parted separator)
-inserted_parted s z front back position separator f is rest long joins e = record {
+    Changed (λ s t. text_of s ≡ t) s z position (separated separator)
+inserted_separated s z front back position separator f is rest long joins e = record {
   changes = λ t u h k.
       let cut = after_cut (string_bytes s) front back t u position f h k is rest long in
       let needed : needs_separator separator u ≡ true = ap (needs_separator separator) (sym cut.1) ∙ joins in
       let made : string_bytes z ≡ (front ++ codes "(?#)") ++ back = rw (is, rest) e in
-      ap chars made ∙ parted_chars front back f
+      ap chars made ∙ separated_chars front back f
       ∙ (λ i. cut.0 i ++ (codes "(?#)" ++ cut.1 i))
-      ∙ ap (λ b. t ++ parted_if b u) (sym needed);
+      ∙ ap (λ b. t ++ separated_if b u) (sym needed);
 }
 
-pub becomes_parted : {X E : Type 0} (r : Result X E) (s z : String Global) (front back : List ℕ) (position : ℕ)
+pub becomes_separated : {X E : Type 0} (r : Result X E) (s z : String Global) (front back : List ℕ) (position : ℕ)
     (separator : Separator) → IsUtf8 front → front ≡ take position (string_bytes s) →
     back ≡ drop position (string_bytes s) →
     length front ≡ position → needs_separator separator (chars back) ≡ true →
     OnOk r (string_bytes z ≡ insert_slice (string_bytes s) position (codes "(?#)")) →
-    OnOk r (Changed (λ s t. text_of s ≡ t) s z position (parted separator))
-becomes_parted (Ok v) s z front back position separator f is rest long joins e =
-    inserted_parted s z front back position separator f is rest long joins e
-becomes_parted (Err v) s z front back position separator f is rest long joins e = e
+    OnOk r (Changed (λ s t. text_of s ≡ t) s z position (separated separator))
+becomes_separated (Ok v) s z front back position separator f is rest long joins e =
+    inserted_separated s z front back position separator f is rest long joins e
+becomes_separated (Err v) s z front back position separator f is rest long joins e = e

@@ -17,7 +17,7 @@ use Rattle.fancy_grammar.specs.declared.precedence.Precedence.{Precedence}
 use Rattle.fancy_grammar.specs.declared.precedence.Precedence.TheVariants.{Whole}
 use Rattle.fancy_grammar.proofs.ContextLemmas.{mode_after}
 use Rattle.fancy_pattern.specs.TextOutput.{Added}
-use Rattle.fancy_pattern.specs.ContextViews.{IsContext, alone_text}
+use Rattle.fancy_pattern.specs.ContextViews.{IsContext, leaf_text_of}
 use Rattle.fancy_pattern.specs.Writers.{Writes, WritesSettled, needs_below, takes_inline_flags}
 use Rattle.fancy_pattern.specs.declared.context.Context as code
 use Rattle.fancy_pattern.proofs.OutputLemmas.{added_as, then_added}
@@ -80,7 +80,7 @@ no_atom true text h = refl
 no_atom false text h = refl
 
 leaf_settled : (m : GroupInfo) (t : Tree) (p : Precedence) (h : Context) → is_leaf t ≡ true → takes_inline_flags t ≡ true →
-    written m t p h ≡ after_inline_flags t (as_atom t p (alone_text m t)) h
+    written m t p h ≡ after_inline_flags t (as_atom t p (leaf_text_of m t)) h
 leaf_settled m (leaf label.empty) p h e k = absurd (cc)
 leaf_settled m (leaf (label.any newline crlf)) p h e k = refl
 leaf_settled m (leaf (label.assertion a)) p h e k = refl
@@ -135,10 +135,10 @@ leaf_groups (row r ts) e = absurd (cc)
 
 module _ {S : Type 0} (holds : S → Text → Type 0) where
   pub leaf_writes : (a b : S) (i j : code.Context) (m : GroupInfo) (t : Tree) (p : Precedence) → is_leaf t ≡ true →
-      takes_inline_flags t ≡ true → Writes holds a b i j (λ o. []) (as_atom t p (alone_text m t)) (λ h. h) →
+      takes_inline_flags t ≡ true → Writes holds a b i j (λ o. []) (as_atom t p (leaf_text_of m t)) (λ h. h) →
       WritesSettled holds a b i j m t p
   leaf_writes a b i j m t p e k w = record {
-    text = as_atom t p (alone_text m t);
+    text = as_atom t p (leaf_text_of m t);
     is = λ h. leaf_settled m t p h e k;
     writes = writes_as holds a b i j _ _ _ _ _ _ w (λ o. leaf_below o t e) (λ h. refl)
         (λ h. no_more_groups h ∙ ap (λ n. past_groups n h) (leaf_groups t e));

@@ -146,18 +146,18 @@ part_shorter unicode seen text left p b e =
 
 pub part_written : {S : Type 0} (holds : S → Text → Type 0) (a b d : S) (unicode seen again : Bool)
     (text left whole : Text) (p : Part) → Begins unicode seen text p → again ≡ (seen || p.negated) →
-    Adding holds a b (source_from unicode seen 0 text) whole → AddedPart holds b d p left →
-    Adding holds a d (source_from unicode again 0 left) whole
+    Adding holds a b (source_from unicode seen text) whole → AddedPart holds b d p left →
+    Adding holds a d (source_from unicode again left) whole
 part_written holds a b d unicode seen again text left whole p s n w q =
-    let on : source_from unicode seen 0 text ≡ p.source ++ source_from unicode (seen || p.negated) 0 p.rest =
-    ap (source_from unicode seen 0) s.cut ∙ source_goes_on unicode seen s.first s.after
-    ∙ ap (λ (x : Part). x.source ++ source_from unicode (seen || x.negated) 0 x.rest) s.part in
-    adding_as holds a d (source_from unicode (seen || p.negated) 0 p.rest) _ whole
-    (ap (λ b. source_from unicode b 0 p.rest) (sym n) ∙ ap (source_from unicode again 0) (sym q.rest))
+    let on : source_from unicode seen text ≡ p.source ++ source_from unicode (seen || p.negated) p.rest =
+    ap (source_from unicode seen) s.cut ∙ source_goes_on unicode seen s.first s.after
+    ∙ ap (λ (x : Part). x.source ++ source_from unicode (seen || x.negated) x.rest) s.part in
+    adding_as holds a d (source_from unicode (seen || p.negated) p.rest) _ whole
+    (ap (λ b. source_from unicode b p.rest) (sym n) ∙ ap (source_from unicode again) (sym q.rest))
     (adding_later holds a b d p.source _ _ whole on w q.source)
 
 pub seen_still : (seen : Bool) (c : ℕ) (t : Text) → seen ≡ (seen || (single_part c t).negated)
 seen_still seen c t = sym (ap (λ b. seen || b) (single_keeps c t) ∙ or-false seen)
 
-pub source_done : (unicode seen : Bool) (t : Text) → t ≡ [] → source_from unicode seen 0 t ≡ []
-source_done unicode seen t e = ap (source_from unicode seen 0) e ∙ source_ends unicode seen
+pub source_done : (unicode seen : Bool) (t : Text) → t ≡ [] → source_from unicode seen t ≡ []
+source_done unicode seen t e = ap (source_from unicode seen) e ∙ source_ends unicode seen

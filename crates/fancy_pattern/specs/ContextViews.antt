@@ -51,6 +51,6 @@ pub record AreGroupNames (k : group_names.GroupNames) (m : GroupInfo) : Type 0 w
 -- ---- leaves
 
 -- the text of a tree that is a leaf; an empty text for any other tree
-abbrev pub alone_text : GroupInfo → Tree → Context → Text
-alone_text m (leaf l) h = leaf_text m l h
-alone_text m t h = []
+abbrev pub leaf_text_of : GroupInfo → Tree → Context → Text
+leaf_text_of m (leaf l) h = leaf_text m l h
+leaf_text_of m t h = []

@@ -5,7 +5,7 @@ use Rattle.std.specs.Str.{bytes_eq}
 use Rattle.fancy_lex.specs.Number.{at_digit}
 use Rattle.fancy_lex.specs.Text.{Text, bytes}
 use Rattle.fancy_parts.specs.GroupReference.{begins_target}
-use Rattle.fancy_grammar.specs.Pattern.{parted_if}
+use Rattle.fancy_grammar.specs.Pattern.{separated_if}
 use Rattle.fancy_pattern.specs.declared.separator.Separator.{Separator}
 use Rattle.fancy_pattern.specs.declared.separator.Separator.TheVariants.{Number, Condition, Absent}
 
@@ -25,5 +25,5 @@ pub record Changed {S : Type 0} (holds : S → Text → Type 0) (old new : S) (p
     pub changes : (t u : Text) → holds old (t ++ u) → position ≡ bytes t → holds new (t ++ change u)
 
 -- the text with a separator before it, if it would be read together with what is before it
-abbrev pub parted : Separator → Text → Text
-parted separator t = parted_if (needs_separator separator t) t
+abbrev pub separated : Separator → Text → Text
+separated separator t = separated_if (needs_separator separator t) t

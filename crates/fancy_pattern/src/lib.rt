@@ -21,7 +21,7 @@ ghost use Rattle.fancy_syntax.specs.View.{view};
 
 mod context;
 mod flags;
-mod group;
+mod group_text;
 mod leaf;
 mod letters;
 mod names;

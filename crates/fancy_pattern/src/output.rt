@@ -2,7 +2,7 @@
 ghost use Rattle.std.specs.Prelude.{◌≡◌, ◌∷◌, [], true, nat_lt, chars, decimal, OnOk};
 ghost use Rattle.std.specs.List.{list_all};
 ghost use Rattle.fancy_lex.specs.Text.{Text, bytes, text_of};
-ghost use Rattle.fancy_pattern.specs.TextOutput.{Added, Changed, parted};
+ghost use Rattle.fancy_pattern.specs.TextOutput.{Added, Changed, separated};
 
 use crate::separator::Separator;
 use fancy_lex::text::{append, byte_len, push};
@@ -31,8 +31,8 @@ pub(crate) trait TextOutput {
         ensures { (t : Text) → holds self.now t → result ≡ bytes t };
 
     /// Separates what was written from the position on from what is before it, if they would be read together.
-    fn part(&mut self, position: usize, separator: Separator) -> Result<(), AllocError>
-        ensures { OnOk result (Changed holds self.old self.new position (parted separator)) };
+    fn separate(&mut self, position: usize, separator: Separator) -> Result<(), AllocError>
+        ensures { OnOk result (Changed holds self.old self.new position (separated separator)) };
 }
 
 impl TextOutput for String {
@@ -56,7 +56,7 @@ impl TextOutput for String {
         byte_len(self.as_str())
     }
 
-    fn part(&mut self, position: usize, separator: Separator) -> Result<(), AllocError> {
+    fn separate(&mut self, position: usize, separator: Separator) -> Result<(), AllocError> {
         // Every caller passes a position where the output ended before, so that a character begins there.
         let Some((_, text)) = self.as_str().split_at_checked(position) else {
             return Err(AllocError);

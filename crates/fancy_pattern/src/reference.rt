@@ -10,7 +10,7 @@ ghost use Rattle.fancy_grammar.specs.Pattern.{Context};
 ghost use Rattle.fancy_grammar.specs.PatternReference as spec;
 ghost use Rattle.fancy_pattern.specs.TextOutput.{Added};
 ghost use Rattle.fancy_syntax.specs.View.{view_ast};
-ghost use Rattle.fancy_pattern.specs.ContextViews.{AreGroupNames, alone_text};
+ghost use Rattle.fancy_pattern.specs.ContextViews.{AreGroupNames, leaf_text_of};
 
 use crate::names::GroupNames;
 use crate::output::{TextOutput, put_ascii};
@@ -294,7 +294,7 @@ fn put_unresolved_call<S: TextOutput>(
 #[tactic(auto, using(crate::proofs::OutputLemmas::added_steps))]
 pub(crate) fn put_unresolved<S: TextOutput>(out: &mut S, node: &AstNode) -> Result<(), AllocError>
     ensures { (m : GroupInfo) (h : Context) (position : ℕ) →
-        OnOk result (Added S.holds out.old out.new (alone_text m (view_ast node.now position) h)) }
+        OnOk result (Added S.holds out.old out.new (leaf_text_of m (view_ast node.now position) h)) }
 {
     match node {
         AstNode::SubroutineCall(target) => put_unresolved_call(out, target),

@@ -17,14 +17,14 @@ ghost use Rattle.fancy_grammar.specs.declared.needs.Needs.{Needs};
 ghost use Rattle.fancy_grammar.specs.declared.precedence.Precedence.TheVariants.{Whole, Branch, Piece};
 ghost use Rattle.fancy_pattern.specs.TextOutput.{Added, Changed};
 ghost use Rattle.fancy_syntax.specs.View.{view, views};
-ghost use Rattle.fancy_pattern.specs.ContextViews.{IsContext, AreGroupNames, alone_text};
+ghost use Rattle.fancy_pattern.specs.ContextViews.{IsContext, AreGroupNames, leaf_text_of};
 ghost use Rattle.fancy_pattern.specs.Writers.{Writes, WritesSettled, needs_below, takes_inline_flags};
 ghost use Rattle.fancy_pattern.specs.Writers.{is_conditional, is_expression, parts_text, branches_needs, choice_text};
 ghost use Rattle.fancy_pattern.specs.Writers.{after_branches};
 
 use crate::context::Context;
 use crate::flags::{open_flag_group, put_inline_flags};
-use crate::group::{close, look_opening, open};
+use crate::group_text::{close, look_opening, open};
 use crate::leaf::{put_leaf, verb_name};
 use crate::names::GroupNames;
 use crate::output::{TextOutput, put_ascii};
@@ -175,22 +175,22 @@ fn put_pieces<S: TextOutput>(
     for piece in pieces {
         let position = out.len();
         put_tree(out, names, piece, Precedence::Piece, context)?;
-        part_after_digits(out, position, after_digits)?;
+        separate_after_digits(out, position, after_digits)?;
         after_digits = is_in_digits(names, piece);
     }
     Ok(())
 }
 
 /// If a reference in digits is before the position, and a digit follows, inserts a separator at the position.
-fn part_after_digits<S: TextOutput>(
+fn separate_after_digits<S: TextOutput>(
     out: &mut S,
     position: usize,
     after_digits: bool,
 ) -> Result<(), AllocError>
-    ensures { OnOk result (Changed S.holds out.old out.new position (λ u. spec.parted_if (after_digits && at_digit u) u)) }
+    ensures { OnOk result (Changed S.holds out.old out.new position (λ u. spec.separated_if (after_digits && at_digit u) u)) }
 {
     if after_digits {
-        out.part(position, Separator::Number)
+        out.separate(position, Separator::Number)
     } else {
         Ok(())
     }
@@ -316,7 +316,7 @@ fn put_leaf_at<S: TextOutput>(
     context: &mut Context,
 ) -> Result<(), AllocError>
     ensures { (m : GroupInfo) → AreGroupNames names.now m → OnOk result (Writes S.holds out.old out.new context.old context.new (λ o. [])
-        (spec.as_atom (view leaf.now) precedence (alone_text m (view leaf.now))) (λ h. h)) }
+        (spec.as_atom (view leaf.now) precedence (leaf_text_of m (view leaf.now))) (λ h. h)) }
 {
     if needs_group(leaf, precedence, context.flags) {
         let outside = *context;
@@ -565,7 +565,7 @@ fn put_condition<S: TextOutput>(
         _ => {
             let position = out.len();
             put_tree(out, names, condition, Precedence::Whole, context)?;
-            out.part(position, Separator::Condition)
+            out.separate(position, Separator::Condition)
         }
     }
 }
@@ -635,7 +635,7 @@ fn put_repeater<S: TextOutput>(
     open(out, "?~", context)?;
     let position = out.len();
     put_tree(out, names, child, Precedence::Whole, context)?;
-    out.part(position, Separator::Absent)?;
+    out.separate(position, Separator::Absent)?;
     close(out, &outside, context)
 }
 

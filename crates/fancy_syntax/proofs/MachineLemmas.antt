@@ -38,14 +38,14 @@ use Rattle.fancy_syntax.specs.Machine.{OpenPart, top, group, condition, body, fi
 use Rattle.fancy_syntax.specs.Machine.{is_second, opened_by_bar, branches_at_bar, IsErrorOfBar, Part, OpensPart}
 use Rattle.fancy_syntax.specs.Machine.{a_group}
 use Rattle.fancy_syntax.specs.Machine.{a_condition, a_body, after_condition, a_branch, after_branch, lacks_body}
-use Rattle.fancy_syntax.specs.Machine.{node_of_part, goes_on, ended_part, Began, GivesStep, GivesPiece, ReadSoFar}
+use Rattle.fancy_syntax.specs.Machine.{node_of_part, has_body_next, ended_part, Began, GivesStep, GivesPiece, ReadSoFar}
 use Rattle.fancy_syntax.specs.Machine.{OpenGroups, Running}
 use Rattle.fancy_syntax.specs.Machine.{outermost, inner, HoldsTrees, IsStep, OpensBelow, Takes}
 use Rattle.fancy_grammar.specs.Depth.{max_depth}
 use Rattle.fancy_grammar.specs.GroupKind.{group_node}
 use Rattle.fancy_grammar.specs.Quantified.{quants}
 use Rattle.fancy_grammar.specs.Errors.{IsErrorAmong}
-use Rattle.fancy_grammar.specs.State.{ends, skipped, State, at, Outcome, done, failed, failed_with, and_then, seen_through}
+use Rattle.fancy_grammar.specs.State.{ends, skipped, State, at, Outcome, done, failed, failed_with, and_then, mapped}
 use Rattle.fancy_grammar.specs.Tree.{Tree, concat, empty, expression}
 use Rattle.fancy_syntax.specs.declared.grammar.frame.Frame.{Frame}
 use Rattle.fancy_syntax.specs.declared.grammar.frame.PieceStart.{PieceStart}
@@ -142,16 +142,16 @@ opens_error n (a_branch l e) (r, x) = piece l (atom e (absent_error r))
 opens_error n (after_branch (a_branch l e) b f) (r, x) = piece l (atom e (two_branches b f r))
 
 -- a closing parenthesis is taken whatever the tree
-closed_through : (f : Tree → Tree) (r : Tree) (s : State) → seen_through f (closed r s) ≡ closed (f r) s
+closed_through : (f : Tree → Tree) (r : Tree) (s : State) → mapped f (closed r s) ≡ closed (f r) s
 closed_through f r s = by_text s.rest
   where
     by_test : (u : Text) (b : Bool) →
-        seen_through f (if b then done r (at s u) else failed_with (bar_for_close_paren s.rest))
+        mapped f (if b then done r (at s u) else failed_with (bar_for_close_paren s.rest))
         ≡ (if b then done (f r) (at s u) else failed_with (bar_for_close_paren s.rest))
     by_test u true = refl
     by_test u false = refl
 
-    by_text : (u : Text) → seen_through f (closed_at r s u) ≡ closed_at (f r) s u
+    by_text : (u : Text) → mapped f (closed_at r s u) ≡ closed_at (f r) s u
     by_text [] = refl
     by_text (c ∷ u) = by_test u (c == code ")")
 
@@ -169,13 +169,13 @@ MayEnd p s = holds_one p ≡ true → is_second p ≡ false → strip bar s.rest
 
 -- the same, if the outcome decides the log
 closed_to : {d : ℕ} {s : State} (f : Flags) (g : Tree → Tree) (r : Tree) (w : State) (h : Outcome Tree → Log) (l : Log) →
-    AtomTo d s (restored f (seen_through g (closed r w))) l (h (seen_through g (closed r w))) →
+    AtomTo d s (restored f (mapped g (closed r w))) l (h (mapped g (closed r w))) →
     AtomTo d s (restored f (closed (g r) w)) l (h (closed (g r) w))
 closed_to {d} {s} f g r w h l a = subst (λ o. AtomTo d s (restored f o) l (h o)) (closed_through g r w) a
 
 -- a part ends, and the atom with it: the flags from before it are restored; the end of the outcome decides the log
 opens_ended : {d : ℕ} {s v : State} {p : OpenPart} {l m : Log} (n : Log) (r : Tree) (w : State) → OpensPart d s l p v m →
-    Part p (d + 1) v (done r w) m n → goes_on p ≡ false →
+    Part p (d + 1) v (done r w) m n → has_body_next p ≡ false →
     MayEnd p w → (t : Text) × (skipped s ≡ rest t)
     × AtomTo d (at s t) (restored s.flags (ended_part p r w)) l
     (part_recorded p r (reach_of w.rest) (end_of (ended_part p r w)) n)
@@ -184,7 +184,7 @@ opens_ended {d} {s} {l} n q w (a_group {u} {h} i e) (r, x) g f = (
   i,
   closed_to s.flags (group_node h (reach_of u)) q w (λ o. group_recorded h (end_of o) n) l (
     atom e (grammar.a_group (inside r)),
-    ap (group_recorded h (end_of (seen_through (group_node h (reach_of u)) (closed q w)))) x,
+    ap (group_recorded h (end_of (mapped (group_node h (reach_of u)) (closed q w)))) x,
   ),
 )
 opens_ended n q w (a_condition i e) r g f = absurd (true≢false g)
@@ -217,7 +217,7 @@ opens_ended n q w (after_branch {a} (a_branch {u} i e) b j) (r, x) g f = (
 
 -- if the atom continues, the body of the conditional comes next
 pub condition_ended : {d : ℕ} {s v t : State} {p : OpenPart} {c : Tree} {l m : Log} (n : Log) (r : Tree) (w : State) →
-    OpensPart d s l p v m → Part p (d + 1) v (done r w) m n → goes_on p ≡ true →
+    OpensPart d s l p v m → Part p (d + 1) v (done r w) m n → has_body_next p ≡ true →
     ended_part p r w ≡ done c t → OpensPart d s l (body c (bytes t.rest)) t (part_begun (reach_of t.rest) n)
 condition_ended {d} {s} {v} {t} {c} {l} {m} n r w (a_condition i e) (x, y) g h =
     let (z, k) = subst (λ o. (a : Inside d v o) × (inside_recorded a m ≡ n)) h (inside x, y) in
@@ -233,10 +233,10 @@ condition_ended n r w (after_branch x y z) a g h = absurd (true≢false (sym g))
 pub ended_error : {d q : ℕ} {s v : State} {k : Kind} {p : OpenPart} {l m : Log} (n : Log) (r : Tree) (w : State) →
     OpensPart d s l p v m → Part p (d + 1) v (done r w) m n →
     MayEnd p w → ended_part p r w ≡ failed k q → Piece d s (failed k q)
-ended_error {d} {q} {s} {k} {p} {l} n r w x y f h = by_goes (goes_on p) refl
+ended_error {d} {q} {s} {k} {p} {l} n r w x y f h = by_goes (has_body_next p) refl
   where
     of_condition : {v : State} {p : OpenPart} {m : Log} → OpensPart d s l p v m → Part p (d + 1) v (done r w) m n →
-        goes_on p ≡ true → ended_part p r w ≡ failed k q → Piece d s (failed k q)
+        has_body_next p ≡ true → ended_part p r w ≡ failed k q → Piece d s (failed k q)
     of_condition {v} (a_condition l e) (x, y) g h =
         piece l (atom e (condition_error (subst (Inside d v) h (inside x))))
     of_condition (a_group l e) x g h = absurd (true≢false (sym g))
@@ -245,26 +245,26 @@ ended_error {d} {q} {s} {k} {p} {l} n r w x y f h = by_goes (goes_on p) refl
     of_condition (a_branch l e) x g h = absurd (true≢false (sym g))
     of_condition (after_branch x y z) a g h = absurd (true≢false (sym g))
 
-    by_goes : (b : Bool) → goes_on p ≡ b → Piece d s (failed k q)
+    by_goes : (b : Bool) → has_body_next p ≡ b → Piece d s (failed k q)
     by_goes true g = of_condition x y g h
     by_goes false g =
         let (u, i, a) = opens_ended n r w x y g f in piece i (subst (Atom d (at s u)) (ap (restored s.flags) h) a.0)
 
 -- the log when the open part ends with the atom, or continues
 pub close_ends : (left : ℕ) (flags : Flags) (p : OpenPart) (r : Tree) (w : State) (n : Log) {a : Tree} {t : State} →
-    ended_part p r w ≡ done a t → goes_on p ≡ false → close_recorded left flags p r w n
+    ended_part p r w ≡ done a t → has_body_next p ≡ false → close_recorded left flags p r w n
     ≡ quants_recorded left (done a (record t { flags = flags })) (part_recorded p r (reach_of w.rest) (reach_of t.rest) n)
 close_ends left flags p r w n e g = rw (e, g) refl
 
-pub close_goes_on : (left : ℕ) (flags : Flags) (p : OpenPart) (r : Tree) (w : State) (n : Log) {a : Tree}
-    {t : State} → ended_part p r w ≡ done a t → goes_on p ≡ true → close_recorded left flags p r w n
+pub close_has_body : (left : ℕ) (flags : Flags) (p : OpenPart) (r : Tree) (w : State) (n : Log) {a : Tree}
+    {t : State} → ended_part p r w ≡ done a t → has_body_next p ≡ true → close_recorded left flags p r w n
     ≡ part_begun (reach_of t.rest) (part_recorded p r (reach_of w.rest) (reach_of t.rest) n)
-close_goes_on left flags p r w n e g = rw (e, g) refl
+close_has_body left flags p r w n e g = rw (e, g) refl
 
 -- the atom that ends with a part, under its quantifiers
 pub closes : {d left : ℕ} {s v t : State} {a : Tree} {p : OpenPart} {l m : Log} (n : Log) (flags : Flags) (r : Tree)
     (w : State) (q : Result Step ReadError) (z : State) → OpensPart d s l p v m →
-    Part p (d + 1) v (done r w) m n → goes_on p ≡ false → strip bar w.rest ≡ None → ended_part p r w ≡ done a t →
+    Part p (d + 1) v (done r w) m n → has_body_next p ≡ false → strip bar w.rest ≡ None → ended_part p r w ≡ done a t →
     left ≡ bytes s.rest → flags ≡ s.flags →
     GivesPiece q (quants d left a (record t { flags = s.flags })) z →
     GivesStep q d s l z (close_recorded left flags p r w n)
@@ -278,14 +278,14 @@ closes {d} {left} {s} {t} {a} {p} {l} n flags r w q z x y g f h i j e =
 -- if it continues, what comes next
 pub closes_condition : {d : ℕ} {s v t : State} {c : Tree} {p : OpenPart} {l m : Log} (left : ℕ) (n : Log) (flags : Flags)
     (r : Tree) (w : State) → OpensPart d s l p v m →
-    Part p (d + 1) v (done r w) m n → goes_on p ≡ true → ended_part p r w ≡ done c t →
+    Part p (d + 1) v (done r w) m n → has_body_next p ≡ true → ended_part p r w ≡ done c t →
     OpensPart d s l (body c (bytes t.rest)) t (close_recorded left flags p r w n)
 closes_condition {d} {s} {t} {c} {p} {l} left n flags r w x y g h =
     subst (OpensPart d s l (body c (bytes t.rest)) t)
-    (sym (close_goes_on left flags p r w n h g ∙ ap (part_begun (reach_of t.rest)) (of_condition p g)))
+    (sym (close_has_body left flags p r w n h g ∙ ap (part_begun (reach_of t.rest)) (of_condition p g)))
     (condition_ended n r w x y g h)
   where
-    of_condition : (p : OpenPart) → goes_on p ≡ true → part_recorded p r (reach_of w.rest) (reach_of t.rest) n ≡ n
+    of_condition : (p : OpenPart) → has_body_next p ≡ true → part_recorded p r (reach_of w.rest) (reach_of t.rest) n ≡ n
     of_condition condition g = refl
     of_condition top g = absurd (true≢false (sym g))
     of_condition (group h q) g = absurd (true≢false (sym g))

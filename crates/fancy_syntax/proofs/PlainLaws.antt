@@ -16,7 +16,7 @@ use Rattle.fancy_grammar.specs.Spans.{if_done}
 use Rattle.fancy_grammar.specs.State.{ends, State, at, done}
 use Rattle.fancy_grammar.specs.Tree.{Tree, literal}
 use Rattle.fancy_grammar.proofs.PlainLemmas.{unmoved, not_open, not_paren, no_layout, no_end, is_leaf, no_counts}
-use Rattle.fancy_grammar.proofs.PlainLemmas.{no_quant, no_layout_at_end, no_counts_at_end, no_quant_at_end, unquantified}
+use Rattle.fancy_grammar.proofs.PlainLemmas.{no_quant, no_layout_at_end, no_counts_at_end, no_quant_at_end}
 use Rattle.fancy_grammar.proofs.PlainLemmas.{backslash_no_layout, is_escape}
 use Rattle.fancy_syntax.specs.Log.{Log, leaf_recorded}
 use Rattle.fancy_syntax.specs.Machine.{IsRecordedPlain}
@@ -53,16 +53,17 @@ unquantified_recorded s c t left a l e x h =
     (none_recorded left a (at s (c ∷ t)) l (λ k. no_quant k c a s t x h)
     (rw (no_layout c s.flags.ignore_space t (not_paren c h) x, no_counts c s.flags.ignore_space t h) refl))
 
-pub is_recorded_plain : (s : State) (c d : ℕ) (t u : Text) → is_layout s.flags.ignore_space c ≡ false →
-    is_layout s.flags.ignore_space d ≡ false →
-    s.rest ≡ c ∷ t → t ≡ d ∷ u → is_special c ≡ false → is_suffix d ≡ false →
+pub is_recorded_plain : (s : State) (c : ℕ) (t : Text) → is_layout s.flags.ignore_space c ≡ false →
+    s.rest ≡ c ∷ t → is_special c ≡ false →
+    ((d left : ℕ) (a : Tree) → quants d left a (at s t) ≡ done a (at s t)) →
+    ((left : ℕ) (a : Tree) (l : Log) → quants_recorded left (done a (at s t)) l ≡ l) →
     IsRecordedPlain s (literal (c ∷ []) s.flags.casei) t
-is_recorded_plain s c d t u x y e f h k = record {
+is_recorded_plain s c t x e h q n = record {
   more = ap ends e ∙ no_end c t h;
   piece = λ b l.
       piece_to (rw e (no_layout c s.flags.ignore_space t (not_open c h) x))
-      (atom (is_leaf b c s t h) a_read, refl) (unquantified (at s t) d u b _ _ f y k)
-      (unquantified_recorded (at s t) d u _ _ _ f y k ∙ ap (λ z. leaf_recorded (reach_of z) (reach_of t) l) (sym e));
+      (atom (is_leaf b c s t h) a_read, refl) (q b _ _)
+      (n _ _ _ ∙ ap (λ z. leaf_recorded (reach_of z) (reach_of t) l) (sym e));
   solid = refl;
 }
 

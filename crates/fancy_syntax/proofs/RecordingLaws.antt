@@ -30,7 +30,7 @@ use Rattle.fancy_grammar.specs.Spans.{in_preorder, all_in_preorder, between, one
 use Rattle.fancy_grammar.specs.Spans.{body_parts, conditional_spans, condition_span, quants_spans, end_of, if_done}
 use Rattle.fancy_grammar.specs.Spans.{alternation_spans, branches_spans, branch_spans, pieces_spans, piece_spans}
 use Rattle.fancy_grammar.specs.Spans.{atom_spans, atom_of_spans, inside_spans, body_spans}
-use Rattle.fancy_grammar.specs.State.{State, at, Outcome, done, failed, and_then, seen_through}
+use Rattle.fancy_grammar.specs.State.{State, at, Outcome, done, failed, and_then, mapped}
 use Rattle.fancy_grammar.specs.Tree.{Tree, leaf, over, row, Trees, trees_of, list_of, alt, concat, empty}
 use Rattle.fancy_grammar.specs.Tree.{expression, conditional}
 use Rattle.fancy_grammar.proofs.AtomStartLaws.{IsLeaf, StartReads, start_reads}
@@ -49,7 +49,7 @@ use Rattle.fancy_syntax.specs.Recording.{atom_recorded, atom_of_recorded, inside
 use Rattle.fancy_syntax.specs.Recording.{quants_recorded, group_recorded}
 use Rattle.fancy_syntax.specs.RecordedWhole.{ShowsWhole}
 use Rattle.fancy_syntax.specs.Recording.{AlternationTo}
-use Rattle.fancy_syntax.specs.Recording.{body_parted, conditional_recorded, stopper_recorded, choice_recorded, added}
+use Rattle.fancy_syntax.specs.Recording.{body_separated, conditional_recorded, stopper_recorded, choice_recorded, added}
 use Rattle.fancy_syntax.specs.declared.grammar.recorded.FirstBar.{FirstBar}
 use Rattle.fancy_syntax.specs.declared.grammar.recorded.RecordedNode.{RecordedNode}
 use Rattle.fancy_syntax.specs.declared.grammar.recorded.Open.{Open}
@@ -219,7 +219,7 @@ module _ (named : Bool) where
     pub fits : Fits named r x xs
 
   -- after the log l, after which the body was recorded up to m, follow the nodes of its branches
-  record Parted (l m n : Log) (y z : Spans) : Type 0 where
+  record Separated (l m n : Log) (y z : Spans) : Type 0 where
     bs : List RecordedNode
     is_recorded : n.recorded ≡ l.recorded ++ bs
     is_kept : Kept m n
@@ -234,9 +234,9 @@ module _ (named : Bool) where
       (ys zs : List RecordedNode) → Beside others f → k ≡ suc (length others) → Kept m n →
       n.open_atom.branches ≡ length l.recorded → n.recorded ≡ l.recorded ++ (ys ++ zs) → b.nodes ≡ length ys →
       shown named ys ≡ in_preorder first → shown named zs ≡ all_in_preorder f →
-      Parted l m (others_put k alt_node (Some b) n) first (one_or_node (record { start = b.past; end = alt_node.end }) f)
+      Separated l m (others_put k alt_node (Some b) n) first (one_or_node (record { start = b.past; end = alt_node.end }) f)
   others_as l m n k alt_node b others first f ys zs (one_more {z}) i h j e c p q =
-      subst (λ k. Parted l m (others_put k alt_node (Some b) n) first z) (sym i) (record {
+      subst (λ k. Separated l m (others_put k alt_node (Some b) n) first z) (sym i) (record {
         bs = ys ++ zs;
         is_recorded = e;
         is_kept = h;
@@ -249,7 +249,7 @@ module _ (named : Bool) where
       let seam : length (l.recorded ++ ys) ≡ n.open_atom.branches + b.nodes =
       omega (arith, length-append l.recorded ys, j, c) in
       let w = put (n.open_atom.branches + b.nodes) rest n in
-      subst (λ m'. Parted l m m' first (one_or_node (reaches rest) f))
+      subst (λ m'. Separated l m m' first (one_or_node (reaches rest) f))
       (sym (ap (λ k. others_put k alt_node (Some b) n) k_is
       ∙ ap (λ t. if t then n else w) not_few)) (record {
         bs = ys ++ rest ∷ zs;
@@ -262,7 +262,7 @@ module _ (named : Bool) where
 
   alt_as : (l m : Log) (ts : Trees) (v : State) (x : Spans) (xs : List RecordedNode) → m.recorded ≡ l.recorded ++ xs →
       m.open_atom.branches ≡ length l.recorded → (b : Barred named ts x xs) →
-      Parted l m (body_split (length (list_of ts)) m) (body_parts (alt ts) v x).0 (body_parts (alt ts) v x).1
+      Separated l m (body_split (length (list_of ts)) m) (body_parts (alt ts) v x).0 (body_parts (alt ts) v x).1
   alt_as l m ts v x xs e j b =
       let all = b.ys ++ b.zs in
       let there : m.recorded ≡ l.recorded ++ b.alt_node ∷ all = e ∙ ap (λ x. l.recorded ++ x) b.is_recorded in
@@ -275,15 +275,15 @@ module _ (named : Bool) where
       let parts : body_parts (alt ts) v x
       ≡ (b.first, one_or_node (record { start = b.bar; end = b.alt_node.end }) b.rest) =
       ap (body_parts (alt ts) v) b.is_spans in
-      subst (λ p. Parted l m (body_split (length (list_of ts)) m) p.0 p.1) (sym parts)
-      (subst (λ w. Parted l m w b.first (one_or_node (record { start = b.bar; end = b.alt_node.end }) b.rest))
+      subst (λ p. Separated l m (body_split (length (list_of ts)) m) p.0 p.1) (sym parts)
+      (subst (λ w. Separated l m w b.first (one_or_node (record { start = b.bar; end = b.alt_node.end }) b.rest))
       (sym (ap (λ o. alt_split (length (list_of ts)) o m) found
       ∙ ap (λ o. others_put (length (list_of ts)) b.alt_node o n) b.has_bar))
       (others_as l m n (length (list_of ts)) b.alt_node bar b.others b.first b.rest b.ys b.zs b.beside k (kept refl refl) j
       (rw (there, j) (remove_seam l.recorded all b.alt_node)) refl b.shows_first b.shows_rest))
 
   lacked_as : (l m : Log) (r : Tree) (v : State) (x : Spans) (xs : List RecordedNode) → m.recorded ≡ l.recorded ++ xs →
-      Fits named r x xs → Parted l m (branch_lacked (reach_of v.rest) m) x (alone (between v (done r v)))
+      Fits named r x xs → Separated l m (branch_lacked (reach_of v.rest) m) x (alone (between v (done r v)))
   lacked_as l m r v x xs e f =
       let n = plain (reach_of v.rest) (reach_of v.rest) in
       record {
@@ -294,16 +294,16 @@ module _ (named : Bool) where
             ∙ (λ i. fits_shown named r x xs f i ++ shown_one named n [] refl i);
       }
 
-  body_parted_as : (l m : Log) (r : Tree) (v : State) (x : Spans) (xs : List RecordedNode) →
+  body_separated_as : (l m : Log) (r : Tree) (v : State) (x : Spans) (xs : List RecordedNode) →
       m.recorded ≡ l.recorded ++ xs →
       m.open_atom.branches ≡ length l.recorded → Fits named r x xs →
-      Parted l m (body_parted r (reach_of v.rest) m) (body_parts r v x).0 (body_parts r v x).1
-  body_parted_as l m (row label.alt ts) v x xs e j f = alt_as l m ts v x xs e j f
-  body_parted_as l m (leaf a) v x xs e j f = lacked_as l m (leaf a) v x xs e f
-  body_parted_as l m (over w r) v x xs e j f = lacked_as l m (over w r) v x xs e f
-  body_parted_as l m (row label.concat ts) v x xs e j f = lacked_as l m (row label.concat ts) v x xs e f
-  body_parted_as l m (row label.conditional ts) v x xs e j f = lacked_as l m (row label.conditional ts) v x xs e f
-  body_parted_as l m (row label.expression ts) v x xs e j f = lacked_as l m (row label.expression ts) v x xs e f
+      Separated l m (body_separated r (reach_of v.rest) m) (body_parts r v x).0 (body_parts r v x).1
+  body_separated_as l m (row label.alt ts) v x xs e j f = alt_as l m ts v x xs e j f
+  body_separated_as l m (leaf a) v x xs e j f = lacked_as l m (leaf a) v x xs e f
+  body_separated_as l m (over w r) v x xs e j f = lacked_as l m (over w r) v x xs e f
+  body_separated_as l m (row label.concat ts) v x xs e j f = lacked_as l m (row label.concat ts) v x xs e f
+  body_separated_as l m (row label.conditional ts) v x xs e j f = lacked_as l m (row label.conditional ts) v x xs e f
+  body_separated_as l m (row label.expression ts) v x xs e j f = lacked_as l m (row label.expression ts) v x xs e f
 
   -- a conditional, whose condition is recorded after l, and whose body after n
   conditional_as : (start : ℕ) (l n m : Log) (c r : Tree) (v : State) (x y : Spans) (ys : List RecordedNode) (end : ℕ) →
@@ -317,11 +317,11 @@ module _ (named : Bool) where
       branches : m.open_atom.branches ≡ length n.recorded
       branches = h.is_kept.branches ∙ j
 
-      b : Parted n m (body_parted r (reach_of v.rest) m) (body_parts r v x).0 (body_parts r v x).1
-      b = body_parted_as n m r v x h.xs h.is_recorded branches h.fits
+      b : Separated n m (body_separated r (reach_of v.rest) m) (body_parts r v x).0 (body_parts r v x).1
+      b = body_separated_as n m r v x h.xs h.is_recorded branches h.fits
 
       q : Log
-      q = body_parted r (reach_of v.rest) m
+      q = body_separated r (reach_of v.rest) m
 
       within : Within start l q
       within = within_on w (kept_on h.is_kept b.is_kept)
@@ -637,9 +637,9 @@ module _ (named : Bool) where
   grouped_as : (s : State) (l n m : Log) (x : Spans) (h : GroupKind) (position : ℕ) (q : Outcome Tree) →
       Within (reach_of s.rest) l n → n.recorded ≡ l.recorded → Holds (λ r v. PartRecorded n m r x) q →
       Holds (λ r v. PieceRecorded named (reach_of s.rest) l
-      (group_recorded h (end_of (seen_through (group_node h position) q)) m) r
-      (group_spans named h (between s (seen_through (group_node h position) q)) x))
-      (seen_through (group_node h position) q)
+      (group_recorded h (end_of (mapped (group_node h position) q)) m) r
+      (group_spans named h (between s (mapped (group_node h position) q)) x))
+      (mapped (group_node h position) q)
   grouped_as s l n m x h position (done r v) w e k =
       group_as named (reach_of s.rest) l m r x h position (reach_of v.rest) k.xs (within_on w k.is_kept)
       (k.is_recorded ∙ ap (λ y. y ++ k.xs) e) k.fits
@@ -708,15 +708,15 @@ module _ (named : Bool) where
       Holds (λ rs (v : State). PartRecorded l (choice_recorded rs (reach_of v.rest) m) (choice rs)
       (one_or_node (record { start = reach_of s.rest; end = reach_of v.rest }) f)) q →
       Holds (λ r v. PartRecorded l (if_done q (λ rs t. choice_recorded rs (reach_of t.rest) m) m) r
-      (one_or_node (between s (seen_through choice q)) f)) (seen_through choice q)
+      (one_or_node (between s (mapped choice q)) f)) (mapped choice q)
   alternation_of s l m f (done rs v) h = h
   alternation_of s l m f (failed k p) h = tt
 
   branch_of : (s : State) (l m : Log) (f : Forest) (q : Outcome (List Tree)) → BranchBegun s l →
       Holds (λ ps v. PiecesRecorded l m (solid ps) f) q →
       Holds (λ r v. BranchRecorded l (if_done q (λ ps t. branch_ended (length (solid ps)) (reach_of t.rest) m) m) r
-      (one_or_node (between s (seen_through (λ ps. one_or concat (solid ps)) q)) f))
-      (seen_through (λ ps. one_or concat (solid ps)) q)
+      (one_or_node (between s (mapped (λ ps. one_or concat (solid ps)) q)) f))
+      (mapped (λ ps. one_or concat (solid ps)) q)
   branch_of s l m f (done ps v) g h = branch_as s l m (solid ps) f (reach_of v.rest) g h
   branch_of s l m f (failed k p) g h = tt
 

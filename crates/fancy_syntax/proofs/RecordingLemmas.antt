@@ -20,7 +20,7 @@ use Rattle.fancy_grammar.specs.Quantified.{suffix, is_swapped, quantified, is_re
 use Rattle.fancy_grammar.specs.Spans.{Span, Spans, node, Forest, no_spans, more_spans, after_bar, around}
 use Rattle.fancy_grammar.specs.Spans.{in_preorder, all_in_preorder, if_done, under, quantifier_end, counted, quant_spans}
 use Rattle.fancy_grammar.specs.Spans.{adjacent_spans, quants_spans}
-use Rattle.fancy_grammar.specs.State.{skipped, State, at, Outcome, done, failed, failed_with, and_then, seen_through}
+use Rattle.fancy_grammar.specs.State.{skipped, State, at, Outcome, done, failed, failed_with, and_then, mapped}
 use Rattle.fancy_grammar.specs.Tree.{Tree, leaf, over, row, Trees, trees_of, alt, repeat, atomic_group}
 use Rattle.fancy_grammar.proofs.OutcomeLemmas.{Holds}
 use Rattle.fancy_syntax.specs.Log.{Log, plain, put, reaches, shown, under_node, wrapped}
@@ -167,11 +167,11 @@ module _ (named : Bool) where
             RecordedAs
             (if_done o (λ k v. wrapped (quantifier_end u k v) (is_swapped s.flags c || k.possessive) m) m)
             (if_done o (λ k v. under s.flags c k (record { start = start; end = quantifier_end u k v }) x) x)
-            (seen_through (λ k. quantified s.flags c k a) o)
+            (mapped (λ k. quantified s.flags c k a) o)
         by_operators c u (done k v) = under_recorded s.flags c k (quantifier_end u k v) h
         by_operators c u (failed k p) = tt
 
-        by_dropped : (o : Outcome Suffix) → RecordedAs m x (seen_through (λ k. a) o)
+        by_dropped : (o : Outcome Suffix) → RecordedAs m x (mapped (λ k. a) o)
         by_dropped (done k v) = h
         by_dropped (failed k p) = tt
 
@@ -181,8 +181,8 @@ module _ (named : Bool) where
             (λ k v. wrapped (quantifier_end u k v) (is_swapped s.flags c || k.possessive) m) m else m)
             (if b then if_done (suffix (at s u) c)
             (λ k v. under s.flags c k (record { start = start; end = quantifier_end u k v }) x) x else x)
-            (if b then seen_through (λ k. quantified s.flags c k a) (suffix (at s u) c)
-            else if d then seen_through (λ k. a) (suffix (at s u) c) else failed_with (not_repeatable u))
+            (if b then mapped (λ k. quantified s.flags c k a) (suffix (at s u) c)
+            else if d then mapped (λ k. a) (suffix (at s u) c) else failed_with (not_repeatable u))
         by_tests true d c u = by_operators c u (suffix (at s u) c)
         by_tests false true c u = by_dropped (suffix (at s u) c)
         by_tests false false c u = tt

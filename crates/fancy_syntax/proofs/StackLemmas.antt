@@ -14,7 +14,7 @@ use Prim.Native.Char.{code}
 use Rattle.fancy_lex.specs.Characters.{bar, open_paren}
 use Rattle.fancy_lex.specs.Text.{Text, bytes}
 use Rattle.fancy_grammar.specs.AtomStart.{AtomStart, nothing, read, atom_start, start_of}
-use Rattle.fancy_grammar.specs.AtomStart.{is_before_nothing}
+use Rattle.fancy_grammar.specs.AtomStart.{begins_no_atom}
 use Rattle.fancy_grammar.specs.Depth.{max_depth, most_open}
 use Rattle.fancy_grammar.specs.Slices.{Slice}
 use Rattle.fancy_grammar.specs.State.{State, at}
@@ -78,7 +78,7 @@ first_opens d s = by_text s.rest refl
     by_text [] e = λ h. absurd h
     by_text (c ∷ t) e =
         cond_both (c == code "(") _ _ (Begins s) (λ is _. (t, e ∙ ap (λ x. x ∷ t) (same is))) (λ _.
-        cond_both (is_before_nothing c) _ _ (Begins s) (λ _ h. absurd h) (λ _ h. absurd h))
+        cond_both (begins_no_atom c) _ _ (Begins s) (λ _ h. absurd h) (λ _ h. absurd h))
       where
         same : (c == code "(") ≡ true → c ≡ open_paren
         same is = grind (arith, nat_tests)

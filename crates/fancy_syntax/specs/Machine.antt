@@ -22,7 +22,7 @@ use Rattle.fancy_syntax.specs.Recording.{branch_recorded}
 use Rattle.fancy_syntax.specs.Recording.{group_recorded, conditional_recorded, stopper_recorded, quants_recorded, added}
 use Rattle.fancy_syntax.specs.Parsed.{group_kind, state}
 use Rattle.fancy_grammar.specs.Errors.{IsErrorAmong}
-use Rattle.fancy_grammar.specs.State.{ends, skipped, State, at, Outcome, done, failed_with, seen_through}
+use Rattle.fancy_grammar.specs.State.{ends, skipped, State, at, Outcome, done, failed_with, mapped}
 use Rattle.fancy_grammar.specs.Tree.{Tree, expression}
 use Rattle.fancy_syntax.specs.View.{view, views}
 use Rattle.fancy_syntax.specs.declared.grammar.frame.Frame.{Frame}
@@ -115,9 +115,9 @@ node_of_part first r = clear_or_stopper r
 node_of_part (second a) r = expression a r
 
 -- whether the atom continues after the part: a body follows a condition
-abbrev pub goes_on : OpenPart → Bool
-goes_on condition = true
-goes_on _ = false
+abbrev pub has_body_next : OpenPart → Bool
+has_body_next condition = true
+has_body_next _ = false
 
 -- the outcome when the part ends with the tree r at s
 abbrev pub ended_part : OpenPart → Tree → State → Outcome Tree
@@ -139,7 +139,7 @@ part_recorded (second a) r paren end l = atom_closed end false l
 abbrev pub close_recorded : ℕ → Flags → OpenPart → Tree → State → Log → Log
 close_recorded left flags p r s l = if_done (ended_part p r s) (λ a t.
     let m = part_recorded p r (reach_of s.rest) (reach_of t.rest) l in
-    if goes_on p then part_begun (reach_of t.rest) m
+    if has_body_next p then part_begun (reach_of t.rest) m
     else quants_recorded left (done a (record t { flags = flags })) m) l
 
 -- a group is opened only if one may open inside d groups
@@ -187,9 +187,9 @@ pub record ReadSoFar (d : ℕ) (p : OpenPart) (s : State) (start : Log) (branche
   pub read : List Tree
   pub same : solid read ≡ pieces
   pub branch : (o : Outcome (List Tree)) (m : Log) → PiecesTo d t o l m →
-      PiecesTo d begin (seen_through (λ l. read ++ l) o) before m
+      PiecesTo d begin (mapped (λ l. read ++ l) o) before m
   pub all : (o : Outcome (List Tree)) (m : Log) → BranchesTo d begin o before m →
-      BranchesTo d s (seen_through (λ l. branches ++ l) o) start m
+      BranchesTo d s (mapped (λ l. branches ++ l) o) start m
   pub one : holds_one p ≡ true → (begin ≡ s) × (branches ≡ []) × (before ≡ start)
   pub slice : Slice s.rest t.rest
 

@@ -61,15 +61,15 @@ group_recorded (capture None) end l = atom_closed end true l
 group_recorded _ end l = atom_closed end false l
 
 -- the branches of a conditional's body, which ends at the reach
-abbrev pub body_parted : Tree → ℕ → Log → Log
-body_parted (alt ts) end l = body_split (length (list_of ts)) l
-body_parted r end l = branch_lacked end l
+abbrev pub body_separated : Tree → ℕ → Log → Log
+body_separated (alt ts) end l = body_split (length (list_of ts)) l
+body_separated r end l = branch_lacked end l
 
 -- a conditional, whose closing parenthesis begins at the first reach and ends at the second
 abbrev pub conditional_recorded : Tree → ℕ → ℕ → Log → Log
 conditional_recorded r paren end l =
     let b = branches_of r in
-    let m = body_parted r paren l in
+    let m = body_separated r paren l in
     if is_empty b.0 && is_empty b.1 then atom_ended (part_dropped m) else atom_closed end false m
 
 -- a branch after `(?~|` that no other branch follows

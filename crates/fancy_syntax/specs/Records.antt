@@ -83,8 +83,8 @@ resolved_or t None = t
 resolved_or t (Some e) = view e
 
 -- the number that a reference refers to in the walk, if it refers to one
-abbrev pub number_meant : Resolver → Progress → Role → CaptureGroupTarget → Option ℕ
-number_meant k p role target =
+abbrev pub number_referred_to : Resolver → Progress → Role → CaptureGroupTarget → Option ℕ
+number_referred_to k p role target =
     walk.number_in (walk.refers_here (resolver_of k) (progress_of p) (role_of role) (view_target target))
 
 -- the walk with a reference recorded

@@ -1,5 +1,5 @@
 //! How near trees come to the bound on their levels, 832.
-use crate::tests::{is_result, run_refusing};
+use crate::tests::{is_result, run_failing};
 use std::alloc::{AllocError, Global};
 use std::str;
 
@@ -48,7 +48,7 @@ fn deepest(alloc: Global) -> Result<String, AllocError> {
 /// The bytes of the pattern, and the nodes and the levels of its tree.
 fn bounds_of_deepest(alloc: Global) -> Result<(usize, usize, usize), AllocError> {
     let pattern = deepest(alloc)?;
-    let run = run_refusing(alloc, &["o", pattern.as_str()], None, None)?;
+    let run = run_failing(alloc, &["o", pattern.as_str()], None, None)?;
     let (nodes, levels) = measured(&run.out.text);
     Ok((pattern.len(), nodes, levels))
 }

@@ -7,19 +7,19 @@ use std::io::{ErrorKind, Write};
 /// Takes what is written. One write or flush fails, the one with this number. It remembers whether a flush follows the
 /// last write.
 #[derive(Drop)]
-pub(crate) struct Refusing {
+pub(crate) struct FailingWriter {
     pub(crate) text: Vec<u8>,
     refused: Option<usize>,
-    has_refused: bool,
+    has_failed: bool,
     is_flushed: bool,
 }
 
-impl Refusing {
-    fn new(alloc: Global, refused: Option<usize>) -> Refusing {
-        Refusing {
+impl FailingWriter {
+    fn new(alloc: Global, refused: Option<usize>) -> FailingWriter {
+        FailingWriter {
             text: Vec::new(alloc),
             refused,
-            has_refused: false,
+            has_failed: false,
             is_flushed: true,
         }
     }
@@ -31,14 +31,14 @@ impl Refusing {
         };
         self.refused = left.checked_sub(1);
         if left == 0 {
-            self.has_refused = true;
+            self.has_failed = true;
             return Err(io::Error::from(ErrorKind::BrokenPipe));
         }
         Ok(())
     }
 }
 
-impl Write for Refusing {
+impl Write for FailingWriter {
     fn write(&mut self, bytes: &[u8]) -> io::Result<usize> {
         self.count()?;
         self.is_flushed = false;
@@ -57,8 +57,8 @@ impl Write for Refusing {
 #[derive(Drop)]
 pub(crate) struct Run {
     status: u8,
-    pub(crate) out: Refusing,
-    err: Refusing,
+    pub(crate) out: FailingWriter,
+    err: FailingWriter,
 }
 
 fn owned(alloc: Global, words: &[&str]) -> Result<Vec<String>, AllocError> {
@@ -69,15 +69,15 @@ fn owned(alloc: Global, words: &[&str]) -> Result<Vec<String>, AllocError> {
     Ok(owned)
 }
 
-pub(crate) fn run_refusing(
+pub(crate) fn run_failing(
     alloc: Global,
     words: &[&str],
     refused_out: Option<usize>,
     refused_err: Option<usize>,
 ) -> Result<Run, AllocError> {
     let words = owned(alloc, words)?;
-    let mut out = Refusing::new(alloc, refused_out);
-    let mut err = Refusing::new(alloc, refused_err);
+    let mut out = FailingWriter::new(alloc, refused_out);
+    let mut err = FailingWriter::new(alloc, refused_err);
     let status = fre_run(alloc, &words, &mut out, &mut err);
     Ok(Run { status, out, err })
 }
@@ -153,7 +153,7 @@ pub(crate) fn is_result(
     out: &str,
     err: &str,
 ) -> Result<bool, AllocError> {
-    let run = run_refusing(alloc, words, None, None)?;
+    let run = run_failing(alloc, words, None, None)?;
     Ok(
         run.status == status
             && run.out.is_flushed
@@ -175,7 +175,7 @@ static WRITES: [(&[&str], bool, u8, &str, &str); 3] = [
 /// Whether the run whose write failed says so, and has written a beginning; none where no write failed, and then it
 /// ended well.
 fn reports_write(run: &Run, status: u8, out: &str, err: &str) -> Option<bool> {
-    if !run.out.has_refused && !run.err.has_refused && run.status == status {
+    if !run.out.has_failed && !run.err.has_failed && run.status == status {
         return None;
     }
     let Some(beginning) = run.err.text.strip_suffix(CANNOT_WRITE) else {
@@ -201,8 +201,8 @@ fn writes(
     for number in 0..1000 {
         let refused = Some(number);
         let run = match on_error {
-            false => run_refusing(alloc, words, refused, None)?,
-            true => run_refusing(alloc, words, None, refused)?,
+            false => run_failing(alloc, words, refused, None)?,
+            true => run_failing(alloc, words, None, refused)?,
         };
         match reports_write(&run, status, out, err) {
             Some(true) => {}

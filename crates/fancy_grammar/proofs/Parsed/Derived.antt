@@ -27,7 +27,7 @@ use Rattle.fancy_parts.specs.declared.counts.Counts.{Counts}
 use Rattle.fancy_grammar.specs.AtomStart.{AtomStart, nothing, read, of_kind, condition, body, absent_branch, atom_start}
 use Rattle.fancy_grammar.specs.AtomStart.{start_of}
 use Rattle.fancy_grammar.specs.AtomStart.{start_anchor, end_anchor, leaf_node, leaf_outcome, leaf_of}
-use Rattle.fancy_grammar.specs.AtomStart.{backref_node, call_node, is_before_nothing, named_start, target_start}
+use Rattle.fancy_grammar.specs.AtomStart.{backref_node, call_node, begins_no_atom, named_start, target_start}
 use Rattle.fancy_grammar.specs.AtomStart.{flags_start}
 use Rattle.fancy_grammar.specs.AtomStart.{condition_start, repeater_start, after_question, group_start}
 use Rattle.fancy_grammar.specs.AtomStart.{after_layout}
@@ -63,8 +63,8 @@ use Rattle.fancy_grammar.specs.Slices.{Slice}
 use Rattle.fancy_grammar.proofs.AtomStartLaws.{StartReads, start_reads}
 use Rattle.fancy_grammar.proofs.Slices.{current, on, strip_slice, skipped_slice}
 use Rattle.fancy_grammar.proofs.ReadLaws.{branch_read, piece_read, inside_read}
-use Rattle.fancy_grammar.proofs.Pattern.References.{after_letter}
-use Rattle.fancy_grammar.proofs.Pattern.Needed.{IsLineOfMode}
+use Rattle.fancy_grammar.proofs.PatternLaws.References.{after_letter}
+use Rattle.fancy_grammar.proofs.PatternLaws.Needed.{IsLineOfMode}
 use Rattle.fancy_grammar.proofs.Parsed.Escapes.{IsAfterLetter, is_start_of_line, IsOfMode, escape_mode}
 use Rattle.fancy_grammar.proofs.Parsed.Targets.{IsReferenceRead, IsCallRead, condition_target_read}
 use Rattle.fancy_grammar.proofs.Parsed.Targets.{named_reference_read}
@@ -362,7 +362,7 @@ module _ (f : Flags) (text : Text) where
           cond_both (c == code "(") _ _ StartParsed (λ _.
           cond_both (nat_le max_depth (d + 1)) _ _ StartParsed (λ _. tt)
           (λ _. after_part s (skipped (at s t)) m)) (λ _.
-          cond_both (is_before_nothing c) _ _ StartParsed (λ _. tt) (λ _. leaf_part s c t m i))
+          cond_both (begins_no_atom c) _ _ StartParsed (λ _. tt) (λ _. leaf_part s c t m i))
 
   -- after an atom the flags from before it hold, or those that it sets
   restored_part : (g : Flags) (q : Outcome Tree) → IsSameMode f g → P q → P (restored g q)

@@ -39,11 +39,11 @@ use Rattle.fancy_grammar.proofs.Parsed.References.{groups_fit, each_numbered, me
 use Rattle.fancy_grammar.proofs.ParsedTreeLaws.{parsed_tree_with}
 use Rattle.fancy_grammar.proofs.Parsed.Lists.{each_split}
 use Rattle.fancy_grammar.proofs.Parsed.Nodes.{IsSolid, AreTwo, AreBranched, IsSourceRead, by_escape, by_class}
-use Rattle.fancy_grammar.proofs.Pattern.Source.Law.{sources_read, by_escape as escaped_so, by_class as classed_so}
-use Rattle.fancy_grammar.proofs.Pattern.Needed.{IsLineOfMode}
+use Rattle.fancy_grammar.proofs.PatternLaws.Source.Law.{sources_read, by_escape as escaped_so, by_class as classed_so}
+use Rattle.fancy_grammar.proofs.PatternLaws.Needed.{IsLineOfMode}
 use Rattle.fancy_grammar.proofs.Parsed.Resolved.{IsResolvedNode, AreThree, nodes_resolved, names_writable}
-use Rattle.fancy_grammar.proofs.Pattern.ReadFits.{parsed_fits}
-use Rattle.fancy_grammar.proofs.Pattern.Theorem.{reads_back}
+use Rattle.fancy_grammar.proofs.PatternLaws.ReadFits.{parsed_fits}
+use Rattle.fancy_grammar.proofs.PatternLaws.Theorem.{reads_back}
 
 -- ---- Delegates
 

@@ -26,7 +26,7 @@ use Rattle.fancy_grammar.specs.Writable.{IsNameWritable, IsLevelWritable}
 use Rattle.fancy_grammar.proofs.OutcomeLemmas.{each_append, each_solid}
 use Rattle.fancy_grammar.proofs.TreeLaws.{list_back}
 use Rattle.fancy_grammar.proofs.Parsed.Lists.{each_split}
-use Rattle.fancy_grammar.proofs.Pattern.Needed.{IsLineOfMode}
+use Rattle.fancy_grammar.proofs.PatternLaws.Needed.{IsLineOfMode}
 use Rattle.fancy_grammar.proofs.Parsed.Readers.{IsSameMode, AreWords}
 use Rattle.fancy_grammar.proofs.Parsed.Targets.{IsTargetRead, IsCallRead}
 

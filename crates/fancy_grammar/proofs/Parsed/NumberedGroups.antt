@@ -16,7 +16,7 @@ use Rattle.fancy_grammar.specs.GroupInfo.{GroupInfo}
 use Rattle.fancy_grammar.specs.PatternReference.{Named}
 use Rattle.fancy_grammar.specs.Writable.{name_at, info_openings}
 use Rattle.fancy_grammar.proofs.NamedNumbers.{carries, number_carried}
-use Rattle.fancy_grammar.proofs.Pattern.Theorem.{unreached}
+use Rattle.fancy_grammar.proofs.PatternLaws.Theorem.{unreached}
 
 -- ---- the name of a number
 

@@ -25,8 +25,8 @@ use Rattle.fancy_grammar.proofs.ParsedTreeLaws.{parsed_tree_with}
 use Rattle.fancy_grammar.proofs.NamedNumbers.{fold_all}
 use Rattle.fancy_grammar.proofs.Parsed.Lists.{each_split, each_filtered, length_filtered}
 use Rattle.fancy_grammar.proofs.Parsed.NumberedGroups.{info_openings_are}
-use Rattle.fancy_grammar.proofs.Pattern.Theorem.{counted_filtered, only_filtered}
-use Rattle.fancy_grammar.proofs.Pattern.Theorem.{unreached, unreached_numbers, unreached_groups, unreached_named}
+use Rattle.fancy_grammar.proofs.PatternLaws.Theorem.{counted_filtered, only_filtered}
+use Rattle.fancy_grammar.proofs.PatternLaws.Theorem.{unreached, unreached_numbers, unreached_groups, unreached_named}
 
 -- ---- how many groups have a number
 

@@ -18,7 +18,7 @@ use Rattle.fancy_lex.specs.Property.{Property, PropertyName, single, braced, rea
 use Rattle.fancy_lex.specs.Property.{Form, set, pair, form, form_text, look_up, lowercase, turn, letter}
 use Rattle.fancy_lex.specs.Reading.{Reading, gives, error_at, choose}
 use Rattle.fancy_lex.specs.Text.{Text, reach_of}
-use Rattle.fancy_lex.proofs.ClassLaws.{class_complete, class_reads}
+use Rattle.fancy_lex.proofs.ClassLaws.{class_complete, class_reads, read_class}
 use Rattle.fancy_lex.proofs.LoneLemmas.{of_lone}
 use Rattle.fancy_lex.proofs.ReadingLemmas.{choose_both}
 use Rattle.fancy_grammar.specs.AtomStart.{leaf_node, leaf_outcome}
@@ -66,7 +66,7 @@ class_stays : (u i : Bool) (t x : Text) → all_scalars t ≡ true →
 class_stays u i t x k e =
     let f = case_flags u i in
     let (a, h) = subst (OuterClass f t) e (class_reads f t) in
-    let c = class_again h k in
+    let c = class_again (read_class h) k in
     subst IsWhole (sym c.is)
     (class_whole c.inner c.scalars
     (subst (λ z. ClassGoes z []) (append-nil c.inner)

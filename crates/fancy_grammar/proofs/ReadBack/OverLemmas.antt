@@ -1,6 +1,6 @@
 -- The position of the first group that is too deep, by the nesting of each part.
 use Rattle.std.proofs.Common.{◌≡◌, ℕ, ◌+◌, ◌<◌, ◌≤◌, Bool, true, false, ◌||◌, nat_lt, nat_le, ◌==◌, if◌then◌else◌, List}
-use Rattle.std.proofs.Common.{[], ◌∷◌, ◌++◌, codes, Option, Some, None, refl, ap, ◌∙◌, arith}
+use Rattle.std.proofs.Common.{[], ◌∷◌, ◌++◌, codes, Option, Some, None, refl, sym, subst, ap, ◌∙◌, arith}
 use Rattle.std.proofs.lemmas.Bool.{cond_both, cond-true, cond-false}
 use Rattle.std.proofs.lemmas.Bool.Decides.{nat_tests}
 use Rattle.std.proofs.lemmas.List.Folds.{find-append}
@@ -14,7 +14,7 @@ use Rattle.fancy_grammar.specs.Printed.{WHOLE, BRANCH, PIECE, OPERAND}
 use Rattle.fancy_grammar.specs.Tree.{Tree, Trees, no_trees, more_trees, any, assertion, literal, concat, alt, group}
 use Rattle.fancy_grammar.specs.Tree.{repeat, delegate}
 use Rattle.fancy_grammar.proofs.ReadBack.Nest.{one_if, nest, nests}
-use Rattle.fancy_grammar.specs.Over.{Paren, Parens, no_parens, in_group, parens, parens_all, parens_branches}
+use Rattle.fancy_grammar.specs.Over.{Paren, moved, in_group, parens, parens_all, parens_branches}
 use Rattle.fancy_grammar.specs.Over.{parens_barred, is_at_line, is_too_deep, too_deep}
 
 -- for a group whose opening has this many bytes, if d groups are open around it
@@ -59,13 +59,32 @@ abbrev mutual
 abbrev first : List Paren → Option Paren
 first l = find is_too_deep l
 
-record Finds (k : Parens) (m : ℕ) (o : ℕ → ℕ) : Type 0 where
-  deep : (start d : ℕ) → d < max_depth → max_depth ≤ d + m →
-      first (k start d) ≡ Some (record { position = start + o d; round = most_open })
-  shallow : (start d : ℕ) → d + m < max_depth → first (k start d) ≡ None
+-- parts that are moved again, or joined
+moved_again : (n k m j : ℕ) (l : List Paren) → moved n k (moved m j l) ≡ moved (n + m) (k + j) l
+moved_again n k m j [] = refl
+moved_again n k m j (q ∷ l) =
+    let there : n + (m + q.position) ≡ n + m + q.position = omega arith in
+    let inside : k + (j + q.round) ≡ k + j + q.round = omega arith in
+    λ i. record { position = there i; round = inside i } ∷ moved_again n k m j l i
 
-no_group : Finds no_parens 0 (λ d. 0)
-no_group = record { deep = λ start d l h. absurd (omega arith); shallow = λ start d h. refl }
+moved_joined : (n k : ℕ) (a b : List Paren) → moved n k (a ++ b) ≡ moved n k a ++ moved n k b
+moved_joined n k [] b = refl
+moved_joined n k (q ∷ a) b = ap ((record { position = n + q.position; round = k + q.round }) ∷◌) (moved_joined n k a b)
+
+unmoved : (l : List Paren) → moved 0 0 l ≡ l
+unmoved [] = refl
+unmoved (q ∷ l) =
+    let there : 0 + q.position ≡ q.position = omega arith in
+    let inside : 0 + q.round ≡ q.round = omega arith in
+    λ i. record { position = there i; round = inside i } ∷ unmoved l i
+
+record Finds (l : List Paren) (m : ℕ) (o : ℕ → ℕ) : Type 0 where
+  deep : (start d : ℕ) → d < max_depth → max_depth ≤ d + m →
+      first (moved start d l) ≡ Some (record { position = start + o d; round = most_open })
+  shallow : (start d : ℕ) → d + m < max_depth → first (moved start d l) ≡ None
+
+none_find : Finds [] 0 (λ d. 0)
+none_find = record { deep = λ start d l h. absurd (omega arith); shallow = λ start d h. refl }
 
 at_same : (x y : ℕ) → x ≡ y →
     ◌≡◌ {A = Option Paren}
@@ -74,10 +93,10 @@ at_same x y e = ap (λ z. Some (record { position = z; round = most_open })) e
 
 -- a group that is too deep
 at_opening : (start d : ℕ) (l : List Paren) → d ≡ most_open →
-    first (record { position = start; round = d } ∷ l) ≡ Some (record { position = start + 0; round = most_open })
+    first (record { position = start + 0; round = d + 0 } ∷ l) ≡ Some (record { position = start + 0; round = most_open })
 at_opening start d l e =
-    let same : start ≡ start + 0 = omega arith in
-    cond-true _ _ _ (deep d e) ∙ (λ i. Some (record { position = same i; round = e i }))
+    let same : d + 0 ≡ most_open = omega (arith, e) in
+    cond-true _ _ _ (deep (d + 0) same) ∙ (λ i. Some (record { position = start + 0; round = same i }))
   where
     deep : (n : ℕ) → n ≡ most_open → (n + 1 == max_depth) ≡ true
     deep n h = grind (arith, nat_tests)
@@ -89,25 +108,28 @@ after_opening q l h = cond-false _ _ _ (not_deep q.round h)
     not_deep : (n : ℕ) → n < most_open → (n + 1 == max_depth) ≡ false
     not_deep n h = grind (arith, nat_tests)
 
-group_deep : (opening : Text) (k : Parens) (m : ℕ) (o : ℕ → ℕ) → Finds k m o → (b : Bool) (start d : ℕ) →
+group_deep : (opening : Text) (k : List Paren) (m : ℕ) (o : ℕ → ℕ) → Finds k m o → (b : Bool) (start d : ℕ) →
     nat_le most_open d ≡ b → d < max_depth →
-    max_depth ≤ d + (1 + m) → first (in_group true opening k start d) ≡
+    max_depth ≤ d + (1 + m) → first (moved start d (in_group true opening k)) ≡
     Some (record { position = start + (if b then 0 else bytes opening + o (d + 1)); round = most_open })
 group_deep opening k m o f true start d e l h =
-    at_opening start d (k (start + bytes opening) (d + 1)) (omega (arith, leb-true most_open d e))
+    at_opening start d (moved start d (moved (bytes opening) 1 k)) (omega (arith, leb-true most_open d e))
 group_deep opening k m o f false start d e l h =
     let more = leb-false most_open d e in
-    after_opening (record { position = start; round = d }) (k (start + bytes opening) (d + 1)) more
-    ∙ f.deep (start + bytes opening) (d + 1) (omega arith) (omega arith)
+    after_opening (record { position = start + 0; round = d + 0 }) (moved start d (moved (bytes opening) 1 k))
+    (omega (arith, more))
+    ∙ ap first (moved_again start d (bytes opening) 1 k)
+    ∙ f.deep (start + bytes opening) (d + 1) (omega (arith, more)) (omega arith)
     ∙ at_same _ _ (omega arith)
 
-group_shallow : (opening : Text) (k : Parens) (m : ℕ) (o : ℕ → ℕ) → Finds k m o → (start d : ℕ) → d + (1 + m) < max_depth →
-    first (in_group true opening k start d) ≡ None
+group_shallow : (opening : Text) (k : List Paren) (m : ℕ) (o : ℕ → ℕ) → Finds k m o → (start d : ℕ) →
+    d + (1 + m) < max_depth → first (moved start d (in_group true opening k)) ≡ None
 group_shallow opening k m o f start d h =
-    after_opening (record { position = start; round = d }) (k (start + bytes opening) (d + 1)) (omega arith)
+    after_opening (record { position = start + 0; round = d + 0 }) (moved start d (moved (bytes opening) 1 k)) (omega arith)
+    ∙ ap first (moved_again start d (bytes opening) 1 k)
     ∙ f.shallow (start + bytes opening) (d + 1) (omega arith)
 
-group_finds : (opening : Text) (k : Parens) (m : ℕ) (o : ℕ → ℕ) → Finds k m o →
+group_finds : (opening : Text) (k : List Paren) (m : ℕ) (o : ℕ → ℕ) → Finds k m o →
     Finds (in_group true opening k) (1 + m) (λ d. at_open d (bytes opening) (o (d + 1)))
 group_finds opening k m o f = record {
   deep = λ start d l h. group_deep opening k m o f (nat_le most_open d) start d refl l h;
@@ -115,7 +137,7 @@ group_finds opening k m o f = record {
 }
 
 -- a group around these, if asked for
-if_finds : (b : Bool) (k : Parens) (m : ℕ) (o : ℕ → ℕ) → Finds k m o →
+if_finds : (b : Bool) (k : List Paren) (m : ℕ) (o : ℕ → ℕ) → Finds k m o →
     Finds (in_group b (codes "(?:") k) (one_if b + m) (λ d. at_open_if b d o)
 unfolding bytes
 if_finds true k m o f = group_finds (codes "(?:") k m o f
@@ -124,12 +146,12 @@ if_finds false k m o f = record {
   shallow = λ start d h. f.shallow start d (omega arith);
 }
 
-leaf_finds : (b : Bool) → Finds (in_group b [] no_parens) (one_if b) (λ d. 0)
+leaf_finds : (b : Bool) → Finds (in_group b [] []) (one_if b) (λ d. 0)
 leaf_finds true = record {
   deep = λ start d l h. at_opening start d [] (omega arith);
-  shallow = λ start d h. group_shallow [] no_parens 0 (λ d. 0) no_group start d (omega arith);
+  shallow = λ start d h. group_shallow [] [] 0 (λ d. 0) none_find start d (omega arith);
 }
-leaf_finds false = no_group
+leaf_finds false = none_find
 
 -- ---- one part after another
 
@@ -140,29 +162,41 @@ in_deep : (a b : List Paren) (q : Paren) → first a ≡ Some q → first (a ++ 
 in_deep a b q e = find-append is_too_deep a b ∙ ap (λ o. option_or o (first b)) e
 
 -- two parts, of which the second begins w bytes after the start of the first
-both_find : (k l : Parens) (m n w : ℕ) (o r : ℕ → ℕ) → Finds k m o → Finds l n r →
-    Finds (λ start d. k start d ++ l (start + w) d) (max m n) (λ d. if nat_le max_depth (d + m) then o d else w + r d)
-both_find k l m n w o r f g = record {
-  deep = λ start d h i. cond_both (nat_le max_depth (d + m)) _ _
-      (λ x. first (k start d ++ l (start + w) d) ≡ Some (record { position = start + x; round = most_open }))
-      (λ yes. in_deep (k start d) (l (start + w) d) _ (f.deep start d h (leb-true max_depth (d + m) yes)))
-      (λ no. let a = leb-false max_depth (d + m) no in
-      after_shallow (k start d) (l (start + w) d) (f.shallow start d a) ∙ g.deep (start + w) d h (omega arith)
-      ∙ at_same _ _ (omega arith));
-  shallow = λ start d h.
-      after_shallow (k start d) (l (start + w) d) (f.shallow start d (omega arith))
-      ∙ g.shallow (start + w) d (omega arith);
-}
+module _ (k l : List Paren) (w : ℕ) where
+  parts : (start d : ℕ) → moved start d (k ++ moved w 0 l) ≡ moved start d k ++ moved (start + w) (d + 0) l
+  parts start d = moved_joined start d k (moved w 0 l) ∙ ap (moved start d k ++◌) (moved_again start d w 0 l)
+
+  both_find : (m n : ℕ) (o r : ℕ → ℕ) → Finds k m o → Finds l n r →
+      Finds (k ++ moved w 0 l) (max m n) (λ d. if nat_le max_depth (d + m) then o d else w + r d)
+  both_find m n o r f g = record {
+    deep = λ start d h i. ap first (parts start d) ∙ cond_both (nat_le max_depth (d + m)) _ _
+        (λ x. first (moved start d k ++ moved (start + w) (d + 0) l) ≡
+        Some (record { position = start + x; round = most_open }))
+        (λ yes. in_deep (moved start d k) (moved (start + w) (d + 0) l) _
+        (f.deep start d h (leb-true max_depth (d + m) yes)))
+        (λ no. let a = leb-false max_depth (d + m) no in
+        after_shallow (moved start d k) (moved (start + w) (d + 0) l) (f.shallow start d a)
+        ∙ subst (λ e. first (moved (start + w) e l) ≡ Some (record { position = start + w + r d; round = most_open }))
+        (same d) (g.deep (start + w) d h (omega arith))
+        ∙ at_same _ _ (omega arith));
+    shallow = λ start d h.
+        ap first (parts start d) ∙ after_shallow (moved start d k) (moved (start + w) (d + 0) l) (f.shallow start d (omega arith))
+        ∙ subst (λ e. first (moved (start + w) e l) ≡ None) (same d) (g.shallow (start + w) d (omega arith));
+  }
+    where
+      same : (d : ℕ) → d ≡ d + 0
+      same d = omega arith
 
 -- one byte later
-shifted : (k : Parens) (m : ℕ) (o : ℕ → ℕ) → Finds k m o → Finds (λ start d. k (start + 1) d) m (λ d. 1 + o d)
+shifted : (k : List Paren) (m : ℕ) (o : ℕ → ℕ) → Finds k m o → Finds (moved 1 0 k) m (λ d. 1 + o d)
 shifted k m o f = record {
-  deep = λ start d l h. f.deep (start + 1) d l h ∙ at_same _ _ (omega arith);
-  shallow = λ start d h. f.shallow (start + 1) d h;
+  deep = λ start d l h. ap first (again start d) ∙ f.deep (start + 1) d l h ∙ at_same _ _ (omega arith);
+  shallow = λ start d h. ap first (again start d) ∙ f.shallow (start + 1) d h;
 }
-
-none_find : Finds (λ start d. []) 0 (λ d. 0)
-none_find = record { deep = λ start d l h. absurd (omega arith); shallow = λ start d h. refl }
+  where
+    again : (start d : ℕ) → moved start d (moved 1 0 k) ≡ moved (start + 1) d k
+    again start d =
+        let same : d + 0 ≡ d = omega arith in moved_again start d 1 0 k ∙ ap (λ e. moved (start + 1) e k) same
 
 one_group : (t : Tree) → Finds (parens t WHOLE) (nest t WHOLE) (position t WHOLE) →
     Finds (in_group true (codes "(") (parens t WHOLE)) (1 + nest t WHOLE) (λ d. at_open d 1 (position t WHOLE (d + 1)))
@@ -190,28 +224,29 @@ mutual
   all_find : (ts : Trees) → Finds (parens_all ts) (nests ts PIECE) (positions ts)
   all_find no_trees = none_find
   all_find (more_trees t ts) =
-      both_find (parens t PIECE) (parens_all ts) (nest t PIECE) (nests ts PIECE) (bytes (printed t PIECE))
+      both_find (parens t PIECE) (parens_all ts) (bytes (printed t PIECE)) (nest t PIECE) (nests ts PIECE)
       (position t PIECE) (positions ts)
       (parens_find t PIECE) (all_find ts)
 
   branches_find : (ts : Trees) → Finds (parens_branches ts) (nests ts BRANCH) (branch_positions ts)
   branches_find no_trees = none_find
   branches_find (more_trees t ts) =
-      both_find (parens t BRANCH) (parens_barred ts) (nest t BRANCH) (nests ts BRANCH) (bytes (printed t BRANCH))
+      both_find (parens t BRANCH) (parens_barred ts) (bytes (printed t BRANCH)) (nest t BRANCH) (nests ts BRANCH)
       (position t BRANCH)
       (barred_positions ts) (parens_find t BRANCH) (barred_find ts)
 
   barred_find : (ts : Trees) → Finds (parens_barred ts) (nests ts BRANCH) (barred_positions ts)
   barred_find no_trees = none_find
   barred_find (more_trees t ts) = shifted _ _ _
-      (both_find (parens t BRANCH) (parens_barred ts) (nest t BRANCH) (nests ts BRANCH) (bytes (printed t BRANCH))
+      (both_find (parens t BRANCH) (parens_barred ts) (bytes (printed t BRANCH)) (nest t BRANCH) (nests ts BRANCH)
       (position t BRANCH)
       (barred_positions ts) (parens_find t BRANCH) (barred_find ts))
 
 -- the first that is too deep is there; if fewer groups nest, no group is too deep
 pub over_position : (t : Tree) (p : ℕ) → max_depth ≤ nest t p →
     too_deep t p ≡ Some (record { position = position t p 0; round = most_open })
-over_position t p h = (parens_find t p).deep 0 0 (omega arith) (omega arith) ∙ at_same _ _ (omega arith)
+over_position t p h =
+    ap first (sym (unmoved (parens t p))) ∙ (parens_find t p).deep 0 0 (omega arith) (omega arith) ∙ at_same _ _ (omega arith)
 
 pub none_too_deep : (t : Tree) (p : ℕ) → nest t p < max_depth → too_deep t p ≡ None
-none_too_deep t p h = (parens_find t p).shallow 0 0 (omega arith)
+none_too_deep t p h = ap first (sym (unmoved (parens t p))) ∙ (parens_find t p).shallow 0 0 (omega arith)

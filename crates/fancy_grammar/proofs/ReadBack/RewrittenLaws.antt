@@ -5,8 +5,8 @@ use Rattle.std.proofs.lemmas.Bool.{and_from, and_parts}
 use Rattle.std.specs.Char.{IsScalar}
 use Rattle.std.specs.Str.{all_scalars}
 use Prim.Native.Char.{code}
-use Rattle.fancy_lex.specs.Class.{Class, class_items, ClassItems, close, plain, escaped, nested, written, class_start}
-use Rattle.fancy_lex.specs.Class.{with_symbol, escape_in_class, joint, escape_text, is_plain_in_class, is_negated}
+use Rattle.fancy_lex.proofs.ClassLaws.{ReadClass, from_items, ReadItems, at_close, at_plain, at_escape, at_nested}
+use Rattle.fancy_lex.specs.Class.{class_start, with_symbol, escape_in_class, joint, escape_text, is_plain_in_class, is_negated}
 use Rattle.fancy_lex.specs.Escape.{escape}
 use Rattle.fancy_lex.specs.Escaped.{Escape, literal, literal_bytes, delegate}
 use Rattle.fancy_lex.specs.Reading.{Reading, gives, choose}
@@ -184,39 +184,39 @@ escape_rest f t r e q k =
     let (w, cut) = escape_cut f true t r e q in scalars_after w r (subst (λ z. all_scalars z ≡ true) cut k)
 
 mutual
-  class_rest : {f : Flags} {b a : Bool} {t x v : Text} → Class f b t (written x a v) → all_scalars t ≡ true →
+  class_rest : {f : Flags} {b a : Bool} {t x v : Text} → ReadClass f b t x a v → all_scalars t ≡ true →
       all_scalars v ≡ true
-  class_rest {t} (class_items {u} {opening} e h) k = items_rest h (opening_rest t opening u e k)
+  class_rest {t} (from_items {u} {opening} e h) k = items_rest h (opening_rest t opening u e k)
 
-  items_rest : {f : Flags} {b a : Bool} {t w v : Text} → ClassItems f b t (written w a v) →
+  items_rest : {f : Flags} {b a : Bool} {t w v : Text} → ReadItems f b t w a v →
       all_scalars t ≡ true → all_scalars v ≡ true
-  items_rest close k = k
-  items_rest (plain {c} {t} p h) k = items_rest h (and_parts _ (all_scalars t) k).1
-  items_rest {f} (escaped {t} {u} {e} q h) k = items_rest h (escape_rest f t u e q k)
-  items_rest (nested g h) k = items_rest h (class_rest g k)
+  items_rest at_close k = k
+  items_rest (at_plain {c} {t} p h) k = items_rest h (and_parts _ (all_scalars t) k).1
+  items_rest {f} (at_escape {t} {u} {e} q h) k = items_rest h (escape_rest f t u e q k)
+  items_rest (at_nested g h) k = items_rest h (class_rest g k)
 
 -- ---- by induction on the derivation
 
 mutual
   pub class_again : {u i b a : Bool} {t x v : Text} →
-      Class (case_flags u i) b t (written x a v) →
+      ReadClass (case_flags u i) b t x a v →
       all_scalars t ≡ true → ClassAgain x
-  class_again {t} (class_items {u} {opening} {w} e h) k =
+  class_again {t} (from_items {u} {opening} {w} e h) k =
       opened_again t _ w (subst (Opened t) e (class_start_is t)) (items_again h (opening_rest t opening u e k))
 
-  items_again : {u i b a : Bool} {t w v : Text} → ClassItems (case_flags u i) b t (written w a v) →
+  items_again : {u i b a : Bool} {t w v : Text} → ReadItems (case_flags u i) b t w a v →
       all_scalars t ≡ true → ItemsAgain t w
-  items_again close k =
+  items_again at_close k =
       record {
         goes = λ s. pass_close s;
         no_caret = λ _ s. refl;
         no_close = λ e s. same_front (code "]") (code "]") _ s e;
         scalars = refl;
       }
-  items_again (plain {c} {t} {w} p h) k =
+  items_again (at_plain {c} {t} {w} p h) k =
       let (here, more) = and_parts _ (all_scalars t) k in plain_again c t w p here (items_again h more)
-  items_again {u} {i} {b} (escaped {t} {u = r} {w} {e} q h) k =
+  items_again {u} {i} {b} (at_escape {t} {u = r} {w} {e} q h) k =
       escaped_again t r w (escape_in_class b e) (item_chunk b e (from_fine _ e r q (escape_fine u i t k)))
       (items_again h (escape_rest (case_flags u i) t r e q k))
-  items_again (nested {t} {u = r} {x} {w} g h) k =
+  items_again (at_nested {t} {u = r} {x} {w} g h) k =
       nested_again t r w x (class_again g k) (items_again h (class_rest g k))

@@ -19,7 +19,7 @@ use Rattle.fancy_parts.specs.Quote.{after_backslash, needs_backslash}
 use Rattle.fancy_parts.specs.declared.counts.Counts.{Counts}
 use Rattle.fancy_parts.proofs.FlagLemmas.{letters_start, in_end, in_go}
 use Rattle.fancy_grammar.specs.State as states
-use Rattle.fancy_grammar.specs.AtomStart.{read, of_kind, atom_start, is_before_nothing, flags_start, after_question}
+use Rattle.fancy_grammar.specs.AtomStart.{read, of_kind, atom_start, begins_no_atom, flags_start, after_question}
 use Rattle.fancy_grammar.specs.AtomStart.{group_start, after_layout, leaf_of, leaf_node, leaf_outcome}
 use Rattle.fancy_grammar.specs.Depth.{max_depth}
 use Rattle.fancy_grammar.specs.Grammar.{Alternation, alternation, Branches, last, more, branch_error, Branch, branch}
@@ -34,7 +34,7 @@ use Rattle.fancy_grammar.specs.Quantified as quantified
 use Rattle.fancy_grammar.specs.Quantified.{is_repeatable, may_be_possessive, quant, quant_at, quants}
 use Rattle.fancy_grammar.specs.Quantified.{adjacent, max_adjacent, after_lazy, suffix, suffix_at}
 use Rattle.fancy_grammar.specs.Resolved.{resolved_in, resolved_all}
-use Rattle.fancy_grammar.specs.State.{skipped, State, Outcome, done, failed, and_then, seen_through}
+use Rattle.fancy_grammar.specs.State.{skipped, State, Outcome, done, failed, and_then, mapped}
 use Rattle.fancy_grammar.specs.Tree as tree
 use Rattle.fancy_grammar.specs.Tree.{Tree, row, empty, literal, concat, repeat, trees_of, ast_node}
 use Rattle.fancy_grammar.specs.Tree.{ast_group}
@@ -298,7 +298,7 @@ quant_some left f a q v lo hi greedy k c m r =
     ∙ ap (λ x. quantified.with_counts left a (st f q) (counts x q)) k.no_space
     ∙ ap (quantified.with_counts left a (st f q)) m.counts
     ∙ cond-true _ _ _ r
-    ∙ ap (seen_through (λ m. quantified.quantified f read_counts m a)) (lazy_read f read_counts v greedy k c)
+    ∙ ap (mapped (λ m. quantified.quantified f read_counts m a)) (lazy_read f read_counts v greedy k c)
     ∙ ap (λ x. done x (st f v)) (quantified_as f a read_counts (not greedy) greedy k (not-not greedy))
 
 -- an atom under a quantifier
@@ -474,7 +474,7 @@ pub reads_leaf : (d : ℕ) (f : Flags) (s v : Text) (x : Tree) → atom_start d 
     Becomes x x → AtomAs d f s v x
 reads_leaf d f s v x e b = record { tree = x; derives = atom e a_read; becomes = b }
 
-pub leaf_at : (d : ℕ) (f : Flags) (c : ℕ) (t : Text) → (c == code "(") ≡ false → is_before_nothing c ≡ false →
+pub leaf_at : (d : ℕ) (f : Flags) (c : ℕ) (t : Text) → (c == code "(") ≡ false → begins_no_atom c ≡ false →
     atom_start d (st f (c ∷ t)) ≡ read (leaf_of (st f (c ∷ t)) c t)
 unfolding atom_start
 leaf_at d f c t a b = cond-false _ _ _ a ∙ cond-false _ _ _ b

@@ -96,7 +96,7 @@ fn is_after_minus(letters: &str, clears: bool, current: &str) -> bool
 }
 
 /// Whether a parenthesis at `current` would end letters of which there are none: nothing is before it, or only a minus.
-fn closes_nothing(letters: &str, clears: bool, current: &str) -> bool
+fn has_no_letter(letters: &str, clears: bool, current: &str) -> bool
     ensures { let first = steps.is_first (chars letters.now) (chars current.now) in
         result ≡ (first || steps.is_after_minus (chars letters.now) clears (chars current.now)) }
 {
@@ -120,7 +120,7 @@ fn flag_letter<'a>(
         return Err(ReadError::At(AT_END, ParseError::UnclosedOpenParen));
     };
     if letter == ')' {
-        if closes_nothing(letters, clears, current) {
+        if has_no_letter(letters, clears, current) {
             return Err(unknown_flag(alloc, letters, rest));
         }
         return Ok((LetterStep::Ends(Letters::InlineFlags(flags)), rest));

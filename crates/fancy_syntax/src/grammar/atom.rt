@@ -42,7 +42,7 @@ pub(crate) fn read_atom_start<'a>(
     if c == '(' {
         return open_group(alloc, current, rest, depth);
     }
-    if is_before_nothing(c) {
+    if begins_no_atom(c) {
         return Ok(AtomStart::Nothing);
     }
     Ok(AtomStart::Read(leaf(alloc, c, current, rest)?))
@@ -175,8 +175,8 @@ fn end_anchor(flags: Flags) -> Assertion
 }
 
 /// Whether the character cannot begin an atom, so that the piece before it is Empty.
-fn is_before_nothing(c: char) -> bool
-    ensures { result ≡ spec.is_before_nothing c }
+fn begins_no_atom(c: char) -> bool
+    ensures { result ≡ spec.begins_no_atom c }
 {
     c == '+' || c == '*' || c == '?' || c == '|' || c == ')'
 }

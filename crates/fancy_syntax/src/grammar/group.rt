@@ -65,6 +65,7 @@ fn after_question<'a>(alloc: Global, current: &mut State<'a>) -> Result<AtomStar
         return read_flags(alloc, current);
     };
     match c {
+        ':' => Ok(open_bare(current, rest)),
         '=' => Ok(open_look_around(current, rest, LookAround::LookAhead)),
         '!' => Ok(open_look_around(current, rest, LookAround::LookAheadNeg)),
         '<' => after_less(current, rest),
@@ -84,6 +85,18 @@ fn after_question<'a>(alloc: Global, current: &mut State<'a>) -> Result<AtomStar
         }
         _ => read_flags(alloc, current),
     }
+}
+
+/// The flag group without letters whose contents begin at the text: the most frequent kind of group.
+fn open_bare<'a>(current: &mut State<'a>, inside: &'a str) -> AtomStart<'a>
+    requires shorter { length inside.now ≤ length current.old.rest.now }
+    requires colon { chars current.old.rest.now ≡ codes ":" ++ chars inside.now }
+    ensures value { Sees (Ok result) (state current.new) (spec.after_question (state current.old) (chars current.old.rest.now)) }
+    ensures within { length current.new.rest.now ≤ length current.old.rest.now }
+    ensures something { IsSomething result }
+{
+    current.rest = inside;
+    AtomStart::Group(GroupKind::FlagGroup)
 }
 
 /// The look-around whose contents begin at the text.

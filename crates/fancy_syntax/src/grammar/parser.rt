@@ -48,7 +48,7 @@ pub(crate) struct Parser<'a> {
 ///
 /// If it takes more than 1,024 bytes, malloc merges its free blocks at each request, and then returns the small blocks
 /// of a tree slowly.
-const TREES: usize = 14;
+const TREES: usize = 13;
 
 impl<'a> Parser<'a> {
     /// A parser that has read nothing yet.

@@ -26,11 +26,14 @@ pub(crate) fn plain<'a>(current: State<'a>) -> Option<(char, &'a str)>
     ensures shorter { IfSome result (λ p. length p.1.now < length current.entry.rest.now) }
 {
     let (c, rest) = next(current.rest)?;
-    let (d, _) = next(rest)?;
-    if is_special(c) || is_suffix(d) {
+    if is_special(c) || is_layout(current.flags.ignore_space, c) {
         return None;
     }
-    if is_layout(current.flags.ignore_space, c) || is_layout(current.flags.ignore_space, d) {
+    let past = State {
+        flags: current.flags,
+        rest,
+    };
+    if !is_unquantified(past) {
         return None;
     }
     Some((c, rest))

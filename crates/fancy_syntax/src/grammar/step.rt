@@ -9,7 +9,7 @@ ghost use Rattle.fancy_syntax.specs.Log.{Log};
 ghost use Rattle.fancy_syntax.specs.Machine as machine;
 ghost use Rattle.fancy_syntax.specs.Machine.{OpensPart, OpensBelow, Part, GivesStep, GivesPiece, ended_part, part_of};
 ghost use Rattle.fancy_syntax.specs.Machine.{close_recorded, part_recorded};
-ghost use Rattle.fancy_syntax.specs.Recording.{body_parted, group_recorded, quants_recorded, step_recorded};
+ghost use Rattle.fancy_syntax.specs.Recording.{body_separated, group_recorded, quants_recorded, step_recorded};
 ghost use Rattle.fancy_syntax.specs.Parsed.{group_kind, state, GivesTree};
 ghost use Rattle.fancy_grammar.specs.Quantified.{quants};
 ghost use Rattle.fancy_grammar.specs.Errors.{IsErrorAmong};
@@ -151,7 +151,7 @@ pub(crate) fn close<'a, S: Spanning>(
     ensures shorter { IfOk result (λ _. length current.new.rest.now < length current.old.rest.now) }
 {
     let FinishedPart { open_group, inner } = part;
-    let has_body = goes_on(&open_group);
+    let has_body = has_body_next(&open_group);
     let atom = end_part(alloc, open_group, inner, current, spans)?;
     if !has_body {
         current.flags = start.flags;
@@ -168,8 +168,8 @@ pub(crate) fn close<'a, S: Spanning>(
 }
 
 /// Whether the atom continues after the open part: the body of a conditional follows its condition.
-fn goes_on(open_group: &OpenGroup) -> bool
-    ensures { result ≡ machine.goes_on (part_of open_group.now) }
+fn has_body_next(open_group: &OpenGroup) -> bool
+    ensures { result ≡ machine.has_body_next (part_of open_group.now) }
 {
     matches!(open_group, OpenGroup::Condition)
 }
@@ -280,7 +280,7 @@ fn close_group<S: Spanning>(kind: &GroupKind, end: usize, spans: &mut S) -> Resu
 /// branch and the choice among the others; otherwise they are the body and an Empty.
 #[inline(always)]
 fn part_body<S: Spanning>(body: &Expr, end: usize, spans: &mut S) -> Result<(), AllocError>
-    ensures { (l : Log) → S.records spans.old l → OnOk result (S.records spans.new (body_parted (view body.now) end l)) }
+    ensures { (l : Log) → S.records spans.old l → OnOk result (S.records spans.new (body_separated (view body.now) end l)) }
 {
     match body {
         Expr::Alt(branches) => spans.split(branches.len()),

@@ -4,7 +4,7 @@ ghost use Rattle.fancy_lex.specs.Located.{Located};
 ghost use Rattle.fancy_lex.specs.IdReference.{amount_bound};
 ghost use Rattle.fancy_parts.specs.Groups.{meaning_of};
 ghost use Rattle.fancy_grammar.specs.Errors.{IsErrorIn};
-ghost use Rattle.fancy_syntax.specs.Records.{IsErrorRecorded, progress_of, number_meant, recorded_one, form_recorded};
+ghost use Rattle.fancy_syntax.specs.Records.{IsErrorRecorded, progress_of, number_referred_to, recorded_one, form_recorded};
 ghost use Rattle.fancy_syntax.specs.Records.{meaning_recorded};
 ghost use Rattle.fancy_grammar.specs.Walk.{nothing_recorded, number_in};
 
@@ -97,7 +97,7 @@ pub(super) fn refer(
     target: &CaptureGroupTarget,
 ) -> Result<Option<usize>, Stopped>
     requires { progress.old.passed < amount_bound }
-    ensures number { IfOk result (λ n. n ≡ number_meant resolver.now progress.old role target.now) }
+    ensures number { IfOk result (λ n. n ≡ number_referred_to resolver.now progress.old role target.now) }
     ensures progress { IfOk result
         (λ _. progress_of progress.new ≡ recorded_one resolver.now progress.old reach role target.now) }
     ensures error { IfErr result

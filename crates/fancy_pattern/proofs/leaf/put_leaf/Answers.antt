@@ -5,7 +5,7 @@ use Rattle.std.proofs.lemmas.Int.{to_z-of_z}
 use Rattle.fancy_grammar.specs.PatternReference.{call_text, backref_at_level_text}
 use Rattle.fancy_grammar.specs.Tree.{subroutine_call, backref_at_level}
 use Rattle.fancy_syntax.specs.View.{view}
-use Rattle.fancy_pattern.specs.ContextViews.{alone_text}
+use Rattle.fancy_pattern.specs.ContextViews.{leaf_text_of}
 use Rattle.fancy_syntax.specs.declared.expr.Expr.{SubroutineCall, BackrefWithRelativeRecursionLevel, the_lemmas}
 use Rattle.fancy_pattern.proofs.OutputLemmas.{last_as}
 use Rattle.fancy_pattern.proofs.leaf.put_leaf.Goals as goal
@@ -24,11 +24,11 @@ returns-in-BackrefWithRelativeRecursionLevel g c m h l names is =
     last_as g.S.TextOutput.holds _ _ _ (backref_at_level_text m c.args.context.now.opened b.group b.relative_level) _
     (simp to_z-of_z at (c.put_backref_at_level.ensures m names))
     (ap (λ n. backref_at_level_text m n b.group b.relative_level) is.opened
-    ∙ ap (λ t. alone_text m t h) (sym (ap view b.is ∙ view_at_level b.group b.relative_level b.casei)))
+    ∙ ap (λ t. leaf_text_of m t h) (sym (ap view b.is ∙ view_at_level b.group b.relative_level b.casei)))
 
 pub returns-in-SubroutineCall : goal.returns-in-SubroutineCall
 returns-in-SubroutineCall g c m h l names is =
     let b = c.in-SubroutineCall in
     last_as g.S.TextOutput.holds _ _ _ (call_text m c.args.context.now.opened b.group) _ (c.put_call.ensures m names)
     (ap (λ n. call_text m n b.group) is.opened
-    ∙ ap (λ t. alone_text m t h) (sym (ap view b.is ∙ view_call b.group)))
+    ∙ ap (λ t. leaf_text_of m t h) (sym (ap view b.is ∙ view_call b.group)))

@@ -8,7 +8,7 @@ use Rattle.fancy_pattern.proofs.source.put_source.Given as goal
 abbrev pub invariant-loop-c : goal.invariant-loop-c
 invariant-loop-c g l = record {
   text : shadow (Utf8 l.rest);
-  writing : Adding g.S.TextOutput.holds l.initial.out l.out (source_from l.unicode l.seen 0 (chars l.rest))
+  writing : Adding g.S.TextOutput.holds l.initial.out l.out (source_from l.unicode l.seen (chars l.rest))
       (source l.unicode (chars l.text));
 }
 

@@ -82,7 +82,7 @@ put_repeater-returns g t c = λ m names. on_then _ _ _ c.close.ensures
     (λ closed. parens_writes g.S.TextOutput.holds _ _ _ _ _ _ _ _ _ _ _ _ c.in_ok-open.ensures.0
     c.in_ok-open.ensures.1
     (changed_writes g.S.TextOutput.holds _ _ _ _ _ _ _ _ _ _ c.len-position.ensures (c.in_ok-put_tree.ensures m names)
-    c.in_ok-part.ensures)
+    c.in_ok-separate.ensures)
     closed.0 closed.1)
 
 pub put_stopper-returns : goal.put_stopper-returns
@@ -241,7 +241,7 @@ put_condition-returns-in-BacktrackingControlVerb g t c = λ m names.
     c.pass_node-in-BacktrackingControlVerb.ensures))
 
 pub put_condition-returns-in_ok-put_tree-in_default : goal.put_condition-returns-in_ok-put_tree-in_default
-put_condition-returns-in_ok-put_tree-in_default g t c = λ m names. on_then _ _ _ c.part.ensures
+put_condition-returns-in_ok-put_tree-in_default g t c = λ m names. on_then _ _ _ c.separate.ensures
     (λ w. condition_writes g.S.TextOutput.holds _ _ _ _ m (view c.args.condition.now) (search (rules, the_lemmas))
     (changed_writes g.S.TextOutput.holds _ _ _ _ _ _ _ _ _ _ c.len-position.ensures
     (c.in_ok-put_tree-in_default.ensures m names) w))
@@ -338,7 +338,7 @@ put_pieces-loop-piece-preserved g t c = λ m names.
     (left pieces (i + 1)) _ c.len-position.ensures
     (on_as g.S.TextOutput.holds _ _ _ _ _ _ _ (ap (pieces_left m c.loop-piece.after_digits) step)
     (c.loop-piece.invariant m names))
-    (c.in_ok-put_tree.ensures m names) c.in_ok-part_after_digits.ensures)
+    (c.in_ok-put_tree.ensures m names) c.in_ok-separate_after_digits.ensures)
 
 pub put_pieces-returns : goal.put_pieces-returns
 put_pieces-returns g t c = λ m names.

@@ -1,6 +1,6 @@
 use Rattle.std.proofs.Common.{true, false, [], sym, ◌∙◌}
 use Rattle.fancy_syntax.specs.View.{view}
-use Rattle.fancy_pattern.specs.ContextViews.{alone_text}
+use Rattle.fancy_pattern.specs.ContextViews.{leaf_text_of}
 use Rattle.fancy_pattern.proofs.NodeLemmas.{atom_writes}
 use Rattle.fancy_pattern.proofs.WritesLemmas.{on_then, parens_writes, positioned_writes, on_positioned}
 use Rattle.fancy_pattern.proofs.write.put_leaf_at.Goals as goal
@@ -8,7 +8,7 @@ use Rattle.fancy_pattern.proofs.write.put_leaf_at.Goals as goal
 pub returns-then-needs_group : goal.returns-then-needs_group
 returns-then-needs_group g c = λ m names. on_then _ _ _ c.close.ensures
     (λ closed. atom_writes g.S.TextOutput.holds _ _ _ _ (view c.args.leaf.now) c.args.precedence (λ o. [])
-    (alone_text m (view c.args.leaf.now)) (λ h. h) true
+    (leaf_text_of m (view c.args.leaf.now)) (λ h. h) true
     (sym c.if-needs_group.true ∙ c.needs_group.ensures)
     (parens_writes g.S.TextOutput.holds _ _ _ _ _ _ _ _ _ _ _ _ c.in_ok-open.ensures.0 c.in_ok-open.ensures.1
     (positioned_writes g.S.TextOutput.holds _ _ _ _ (λ h l is. c.in_ok-put_leaf.ensures m h l names is))

@@ -26,7 +26,7 @@ pub returns-then-is_unquantified-clause-value : goal.returns-then-is_unquantifie
 returns-then-is_unquantified-clause-value g c =
     λ s t l m n i j o p.
     closes n c.args.start.flags (view c.args.part.inner) (state c.args.current.now) (Ok (step.Piece _)) _ o p
-    (sym c.goes_on-has_body.ensures ∙ c.if-not-has_body.true) c.requires.no_bar
+    (sym c.has_body_next-has_body.ensures ∙ c.if-not-has_body.true) c.requires.no_bar
     c.in_ok-atom.ensures.value i j
     (ap (λ (f : Flags). quants c.args.depth c.args.start.left (view c.in_ok-atom.atom)
     (record (state c.end_part.new.current) { flags = f })) (sym j)
@@ -36,7 +36,7 @@ pub returns-then-not-has_body-clause-value : goal.returns-then-not-has_body-clau
 returns-then-not-has_body-clause-value g c =
     λ s t l m n i j o p.
     closes n c.args.start.flags (view c.args.part.inner) (state c.args.current.now) c.piece.result _ o p
-    (sym c.goes_on-has_body.ensures ∙ c.if-not-has_body.true) c.requires.no_bar
+    (sym c.has_body_next-has_body.ensures ∙ c.if-not-has_body.true) c.requires.no_bar
     c.in_ok-atom.ensures.value i j (rw j at c.piece.ensures.value)
 
 pub returns-clause-value : goal.returns-clause-value
@@ -44,4 +44,4 @@ returns-clause-value g c =
     λ s t l m n i j o p.
     rw (c.byte_len-left.ensures, c.in_ok-condition.ensures.ok)
     (closes_condition c.args.start.left n c.args.start.flags (view c.args.part.inner) (state c.args.current.now) o p
-    (sym c.goes_on-has_body.ensures ∙ c.if-not-has_body.false) c.in_ok-atom.ensures.value)
+    (sym c.has_body_next-has_body.ensures ∙ c.if-not-has_body.false) c.in_ok-atom.ensures.value)

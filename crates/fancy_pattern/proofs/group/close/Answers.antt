@@ -1,5 +1,0 @@
-use Rattle.fancy_pattern.proofs.WritesLemmas.{on_both}
-use Rattle.fancy_pattern.proofs.group.close.Goals as goal
-
-pub returns : goal.returns
-returns g c = on_both c.put.result _ _ c.put.ensures c.leave.ensures
