@@ -4,7 +4,7 @@ ghost use Rattle.fancy_lex.specs.Flags.{flags_of};
 ghost use Rattle.fancy_grammar.specs.GroupInfo.{GroupInfo};
 ghost use Rattle.fancy_grammar.specs.Tree.{Tree};
 ghost use Rattle.fancy_c.specs.Buffer.{Fills};
-ghost use Rattle.fancy_c.specs.Text.{IsPatternText};
+ghost use Rattle.fancy_c.specs.WrittenText.{IsPatternText};
 
 use crate::built::{RowsError, tree_at};
 use crate::call_result::{
