@@ -49,6 +49,7 @@ pub use tree::{GroupInfo, Span, Tree};
 
 use call::Text;
 use ffi::CallResult;
+use rows::with_kept;
 
 /// Parses a pattern under flags.
 ///
@@ -65,7 +66,10 @@ use ffi::CallResult;
 /// # Ok::<(), fancy_syntax::Error>(())
 /// ```
 pub fn parse(pattern: &str, flags: Flags) -> Result<Tree, Error> {
-    Rows::new().parse(pattern, flags).map(Rows::to_tree)
+    with_kept(|rows| {
+        let expr = rows.parse_expr(pattern, flags.bits())?;
+        Ok(Tree { expr, spans: rows.root().walk().map(NodeRef::span).collect(), groups: rows.groups() })
+    })
 }
 
 /// Parses a pattern under flags, without the spans of its nodes: [`Tree::spans`] is empty. It is cheaper than [`parse`].
@@ -82,9 +86,10 @@ pub fn parse(pattern: &str, flags: Flags) -> Result<Tree, Error> {
 /// # Ok::<(), fancy_syntax::Error>(())
 /// ```
 pub fn parse_without_spans(pattern: &str, flags: Flags) -> Result<Tree, Error> {
-    let mut rows = Rows::new();
-    let rows = rows.parse_without_spans(pattern, flags)?;
-    Ok(Tree { expr: rows.root().to_expr(), spans: Vec::new(), groups: rows.groups() })
+    with_kept(|rows| {
+        let expr = rows.parse_expr(pattern, flags.bits() | numbers::WITHOUT_SPANS)?;
+        Ok(Tree { expr, spans: Vec::new(), groups: rows.groups() })
+    })
 }
 
 /// Checks whether a pattern is valid. It is cheaper than [`parse`], since no tree is returned.

@@ -258,53 +258,17 @@ impl<'a> NodeRef<'a> {
         // backwards, so that the children of a node are built before it: they are the last ones, the first child at the end
         let mut built = Vec::new();
         for node in self.walk().rev() {
-            let expr = node.with_children(&mut built);
+            let expr = node.kind().with_children(node.children().count(), &mut built);
             built.push(expr);
         }
         built.pop().unwrap_or(Expr::Empty)
     }
+}
 
-    fn with_children(self, built: &mut Vec<Expr>) -> Expr {
-        match self.kind() {
-            Kind::Empty => Expr::Empty,
-            Kind::Any { newline, crlf } => Expr::Any { newline, crlf },
-            Kind::Assertion(which) => Expr::Assertion(which),
-            Kind::GeneralNewline { unicode } => Expr::GeneralNewline { unicode },
-            Kind::Literal { val, casei } => Expr::Literal { val: val.to_owned(), casei },
-            Kind::LiteralBytes { bytes } => Expr::LiteralBytes { bytes: bytes.to_owned() },
-            Kind::Concat => Expr::Concat(self.children_among(built)),
-            Kind::Alt => Expr::Alt(self.children_among(built)),
-            Kind::Group => Expr::Group(child(built)),
-            Kind::LookAround(which) => Expr::LookAround(child(built), which),
-            Kind::Repeat { lo, hi, greedy } => Expr::Repeat { child: child(built), lo, hi, greedy },
-            Kind::Delegate { inner, casei } => Expr::Delegate { inner: inner.to_owned(), casei },
-            Kind::Backref { group, casei } => Expr::Backref { group, casei },
-            Kind::BackrefWithRelativeRecursionLevel { group, relative_level, casei } => {
-                Expr::BackrefWithRelativeRecursionLevel { group, relative_level, casei }
-            }
-            Kind::AtomicGroup => Expr::AtomicGroup(child(built)),
-            Kind::KeepOut => Expr::KeepOut,
-            Kind::ContinueFromPreviousMatchEnd => Expr::ContinueFromPreviousMatchEnd,
-            Kind::BackrefExistsCondition { group, relative_recursion_level } => {
-                Expr::BackrefExistsCondition { group, relative_recursion_level }
-            }
-            Kind::Conditional => {
-                Expr::Conditional { condition: child(built), true_branch: child(built), false_branch: child(built) }
-            }
-            Kind::SubroutineCall(group) => Expr::SubroutineCall(group),
-            Kind::BacktrackingControlVerb(which) => Expr::BacktrackingControlVerb(which),
-            Kind::Absent(which) => Expr::Absent(which.with_children(built)),
-            Kind::DefineGroup => Expr::DefineGroup { definitions: child(built) },
-            Kind::AstNode(target, position) => Expr::AstNode(AstNode::SubroutineCall(target.to_owned()), position),
-        }
-    }
-
-    fn children_among(self, built: &mut Vec<Expr>) -> Vec<Expr> {
-        let first = built.len().saturating_sub(self.children().count());
-        let mut children = built.split_off(first);
-        children.reverse();
-        children
-    }
+/// The last nodes that were built, so many, the last of them first.
+fn last(count: usize, built: &mut Vec<Expr>) -> Vec<Expr> {
+    let first = built.len().saturating_sub(count);
+    built.drain(first..).rev().collect()
 }
 
 /// The next child of a node among the nodes that were built. There is one: the rows were counted when they were parsed.
@@ -401,6 +365,42 @@ impl<'a> Kind<'a> {
             numbers::NODE_AST_NODE => Kind::AstNode(call_target(row, texts)?, row.position),
             _ => return None,
         })
+    }
+
+    /// The node with its children, which are the last ones that were built, the first of them at the end.
+    pub(crate) fn with_children(self, children: usize, built: &mut Vec<Expr>) -> Expr {
+        match self {
+            Kind::Empty => Expr::Empty,
+            Kind::Any { newline, crlf } => Expr::Any { newline, crlf },
+            Kind::Assertion(which) => Expr::Assertion(which),
+            Kind::GeneralNewline { unicode } => Expr::GeneralNewline { unicode },
+            Kind::Literal { val, casei } => Expr::Literal { val: val.to_owned(), casei },
+            Kind::LiteralBytes { bytes } => Expr::LiteralBytes { bytes: bytes.to_owned() },
+            Kind::Concat => Expr::Concat(last(children, built)),
+            Kind::Alt => Expr::Alt(last(children, built)),
+            Kind::Group => Expr::Group(child(built)),
+            Kind::LookAround(which) => Expr::LookAround(child(built), which),
+            Kind::Repeat { lo, hi, greedy } => Expr::Repeat { child: child(built), lo, hi, greedy },
+            Kind::Delegate { inner, casei } => Expr::Delegate { inner: inner.to_owned(), casei },
+            Kind::Backref { group, casei } => Expr::Backref { group, casei },
+            Kind::BackrefWithRelativeRecursionLevel { group, relative_level, casei } => {
+                Expr::BackrefWithRelativeRecursionLevel { group, relative_level, casei }
+            }
+            Kind::AtomicGroup => Expr::AtomicGroup(child(built)),
+            Kind::KeepOut => Expr::KeepOut,
+            Kind::ContinueFromPreviousMatchEnd => Expr::ContinueFromPreviousMatchEnd,
+            Kind::BackrefExistsCondition { group, relative_recursion_level } => {
+                Expr::BackrefExistsCondition { group, relative_recursion_level }
+            }
+            Kind::Conditional => {
+                Expr::Conditional { condition: child(built), true_branch: child(built), false_branch: child(built) }
+            }
+            Kind::SubroutineCall(group) => Expr::SubroutineCall(group),
+            Kind::BacktrackingControlVerb(which) => Expr::BacktrackingControlVerb(which),
+            Kind::Absent(which) => Expr::Absent(which.with_children(built)),
+            Kind::DefineGroup => Expr::DefineGroup { definitions: child(built) },
+            Kind::AstNode(target, position) => Expr::AstNode(AstNode::SubroutineCall(target.to_owned()), position),
+        }
     }
 
     /// Whether a node of this kind may have so many children.

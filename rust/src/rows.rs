@@ -3,7 +3,8 @@
 use crate::call::{grow, ready, RowsIn};
 use crate::ffi::{self, CallResult, Info, Name, Node};
 use crate::node::{self, Kind, NodeRef};
-use crate::{numbers, Error, Flags, GroupInfo, Tree};
+use crate::{numbers, Error, Expr, Flags, GroupInfo, Tree};
+use std::cell::Cell;
 use std::fmt;
 
 /// A tree has at most so many levels (`docs/proved.md`).
@@ -33,6 +34,23 @@ pub struct Rows {
     info: Info,
     /// How many levels each node has below it, while rows are checked.
     levels: Vec<usize>,
+}
+
+/// A thread keeps the buffers of an owned tree for the next one, unless they hold more nodes: 400 KB at most.
+const MOST_KEPT: usize = 2048;
+
+/// Calls with buffers that this thread used before, if there are any.
+pub(crate) fn with_kept<T>(call: impl FnOnce(&mut Rows) -> T) -> T {
+    thread_local! {
+        static KEPT: Cell<Option<Rows>> = const { Cell::new(None) };
+    }
+    let mut rows = KEPT.try_with(Cell::take).ok().flatten().unwrap_or_default();
+    let result = call(&mut rows);
+    if rows.nodes.len() <= MOST_KEPT {
+        // while the thread ends nothing is kept
+        let _ = KEPT.try_with(|kept| kept.set(Some(rows)));
+    }
+    result
 }
 
 impl Default for Rows {
@@ -100,11 +118,25 @@ impl Rows {
     }
 
     fn parse_bits(&mut self, pattern: &str, bits: u32) -> Result<&Rows, Error> {
-        let outcome = self.fill(pattern, bits).and_then(|()| self.check(pattern));
+        let outcome = self.fill(pattern, bits).and_then(|()| self.check(pattern, |_, _| ()));
         if outcome.is_err() {
             self.clear();
         }
         outcome.map(|()| &*self)
+    }
+
+    /// Parses a pattern, and builds its tree while the rows are checked.
+    pub(crate) fn parse_expr(&mut self, pattern: &str, bits: u32) -> Result<Expr, Error> {
+        let mut built = Vec::new();
+        let build = |kind: Kind<'_>, children| {
+            let node = kind.with_children(children, &mut built);
+            built.push(node);
+        };
+        let outcome = self.fill(pattern, bits).and_then(|()| self.check(pattern, build));
+        if outcome.is_err() {
+            self.clear();
+        }
+        outcome.map(|()| built.pop().unwrap_or(Expr::Empty))
     }
 
     /// Writes a pattern that is parsed, under these flags, as this tree with its names. `None` if there is none, as may be under
@@ -304,8 +336,9 @@ impl Rows {
         grow(&mut self.backrefs, info.backref_count)
     }
 
-    /// Checks that what the library wrote is a tree, so that nobody who looks at it later has to.
-    fn check(&mut self, pattern: &str) -> Result<(), Error> {
+    /// Checks that what the library wrote is a tree, so that nobody who looks at it later has to, and shows each node with the
+    /// number of its children, from the last to the first.
+    fn check(&mut self, pattern: &str, mut see: impl FnMut(Kind<'_>, usize)) -> Result<(), Error> {
         let info = &self.info;
         if info.node_count > self.nodes.len()
             || info.texts_size > self.texts.len()
@@ -317,25 +350,29 @@ impl Rows {
         if info.node_count == 0 || self.node(0).end != info.node_count {
             return Err(Error::Library("a node that is in no tree"));
         }
-        grow(&mut self.levels, self.info.node_count)?;
+        let mut levels = std::mem::take(&mut self.levels);
+        grow(&mut levels, self.info.node_count)?;
         for index in (0..self.info.node_count).rev() {
-            self.check_node(index, pattern)?;
+            let (kind, children) = self.checked_node(index, pattern, &mut levels)?;
+            see(kind, children);
         }
+        self.levels = levels;
         if self.names[..self.info.name_count].iter().any(|name| self.name(name).is_none()) {
             return Err(Error::Library("a name that is not UTF-8"));
         }
         Ok(())
     }
 
-    /// Checks a node, after those with higher indices: so the ends of its descendants lie after them.
-    fn check_node(&mut self, index: usize, pattern: &str) -> Result<(), Error> {
+    /// Checks a node, after those with higher indices: so the ends of its descendants lie after them. Returns what it is, and the
+    /// number of its children.
+    fn checked_node(&self, index: usize, pattern: &str, below: &mut [usize]) -> Result<(Kind<'_>, usize), Error> {
         let row = &self.nodes[index];
         let kind = Kind::read(row, self.texts())
             .ok_or(Error::Library("a node of no kind, or with a text that is not UTF-8"))?;
         let (mut children, mut levels, mut child) = (0, 0, index + 1);
         while child < row.end.min(self.info.node_count) {
             children += 1;
-            levels = levels.max(self.levels[child]);
+            levels = levels.max(below[child]);
             child = self.nodes[child].end;
         }
         if child != row.end || !kind.takes(children) || levels >= MAX_LEVELS {
@@ -344,8 +381,8 @@ impl Rows {
         if row.start > row.stop || !pattern.is_char_boundary(row.start) || !pattern.is_char_boundary(row.stop) {
             return Err(Error::Library("a span that is no part of the pattern"));
         }
-        self.levels[index] = levels + 1;
-        Ok(())
+        below[index] = levels + 1;
+        Ok((kind, children))
     }
 }
 

@@ -20,7 +20,7 @@ use Rattle.fancy_c.specs.Numbered.{numbered}
 use Rattle.fancy_c.specs.declared.info_rows.Name.{Name}
 use Rattle.fancy_c.specs.declared.node.Node.{Node}
 use Rattle.fancy_c.specs.declared.info_rows.TreeInfo.{TreeInfo}
-use Rattle.fancy_c.specs.declared.tree.TheConstants.{WITHOUT_SPANS}
+use Rattle.fancy_c.specs.declared.tree_or_message.TheConstants.{WITHOUT_SPANS}
 
 -- the rows of a name that begins at the byte o and has n bytes: one for each of its numbers
 abbrev pub rows_of_name : ℕ → ℕ → List ℕ → List Name

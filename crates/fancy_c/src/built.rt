@@ -3,12 +3,12 @@ ghost use Rattle.std.specs.Prelude.{◌≡◌};
 ghost use Rattle.fancy_c.specs.CallResult.{result_of_rows};
 
 use crate::call_result::{CallResult, ERROR_NONE, STATUS_NO_TREE, STATUS_OUT_OF_MEMORY};
-use crate::leaf::leaf;
 use crate::node::{
     ABSENT_EXPRESSION, ABSENT_REPEATER, ABSENT_STOPPER, LOOK_AHEAD, LOOK_AHEAD_NEG, LOOK_BEHIND,
     LOOK_BEHIND_NEG, NODE_ABSENT, NODE_ALT, NODE_ATOMIC_GROUP, NODE_CONCAT, NODE_CONDITIONAL,
     NODE_DEFINE_GROUP, NODE_GROUP, NODE_LOOK_AROUND, NODE_REPEAT, Node,
 };
+use crate::row_leaf::leaf;
 use fancy_syntax::expr::{Absent, Expr, LookAround};
 use std::alloc::{AllocError, AllocFailed, Global};
 

@@ -2,10 +2,10 @@
 
 use crate::built::{RowsError, rows_below};
 use crate::info_rows::{Name, TreeInfo};
-use crate::leaf::text_at;
 use crate::node::{
     NODE_AST_NODE, NODE_BACKREF, NODE_BACKREF_AT_LEVEL, NODE_GROUP, NODE_SUBROUTINE_CALL, Node,
 };
+use crate::row_leaf::text_at;
 use fancy_lex::flags::Flags;
 use fancy_syntax::expr::Expr;
 use fancy_syntax::tree::ExprTree;

@@ -1,7 +1,7 @@
 use Rattle.fancy_syntax.specs.InfoViews.{info_of}
 use Rattle.fancy_syntax.specs.View.{view}
 use Rattle.fancy_c.proofs.NodesLemmas.{is_summary_of}
-use Rattle.fancy_c.proofs.tree.fancy_tree_nonnull.Goals as goal
+use Rattle.fancy_c.proofs.tree_or_message.fancy_tree_nonnull.Goals as goal
 
 pub returns-in-Ok-clause-read : goal.returns-in-Ok-clause-read
 returns-in-Ok-clause-read c =
