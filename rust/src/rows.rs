@@ -311,8 +311,9 @@ impl Rows {
         ffi::tree(pattern, bits, nodes, texts, names, backrefs, info)
     }
 
-    /// Checks the sizes of a tree, so that those of no tree are never allocated. A pattern of n bytes has at most 2 n + 1 nodes,
-    /// names and back references. For the texts there is no proved bound; no pattern is known that needs more than 6 n bytes.
+    /// Checks the sizes of a tree, so that those of no tree are never allocated. A pattern of n bytes has at most 2 n + 1 nodes
+    /// and back references. For the rest there is no proved bound; no pattern is known that needs more than 6 n bytes of texts or
+    /// n / 6 names.
     fn check_sizes(&self, length: usize) -> Result<(), Error> {
         let info = &self.info;
         let bound = length.saturating_mul(64).saturating_add(64);

@@ -41,15 +41,17 @@ fn add_number(
     Ok(())
 }
 
-/// The names of the groups that follow this many others, with the numbers that these groups have without the others.
+/// The names of the groups of the rows from an index on, with the numbers that these groups have without those before.
 /// Names of other groups are left out.
-fn names_after(
+pub(crate) fn names_from(
     alloc: Global,
-    names: &[Name],
+    nodes: &[Node],
+    index: usize,
     texts: &[u8],
-    before: usize,
-    total: usize,
+    names: &[Name],
 ) -> Result<BTreeMap<String, Vec<usize>>, RowsError> {
+    let before = count_groups(nodes.get(..index).unwrap_or(&[]));
+    let total = count_groups(rows_below(nodes, index));
     let mut named = BTreeMap::new(alloc);
     for name in names {
         let number = name.group.saturating_sub(before);
@@ -87,22 +89,16 @@ fn refer(tree: &mut ExprTree, row: &Node, info: &TreeInfo) -> Result<(), AllocEr
     Ok(())
 }
 
-/// The tree of the rows from an index on, with the group information that the pattern for it has under the flags:
-/// references are written as those of a pattern with this info.
+/// The tree of rows, with the group information that the pattern for it has under the flags, if its groups have these names
+/// and references are written as those of a pattern with this info.
 pub(crate) fn with_groups(
     alloc: Global,
     expr: Expr,
-    nodes: &[Node],
-    index: usize,
-    texts: &[u8],
-    names: &[Name],
+    rows: &[Node],
+    named_groups: BTreeMap<String, Vec<usize>>,
     info: &TreeInfo,
     flags: u32,
-) -> Result<ExprTree, RowsError> {
-    let rows = rows_below(nodes, index);
-    let total_groups = count_groups(rows);
-    let before = count_groups(nodes.get(..index).unwrap_or(&[]));
-    let named_groups = names_after(alloc, names, texts, before, total_groups)?;
+) -> Result<ExprTree, AllocError> {
     let ignored = Flags::from_bits(flags).ignore_numbered_groups && !named_groups.is_empty();
     let mut tree = ExprTree {
         expr,
@@ -111,7 +107,7 @@ pub(crate) fn with_groups(
         numeric_capture_group_references: false,
         contains_subroutines: false,
         self_recursive: false,
-        total_groups,
+        total_groups: count_groups(rows),
         out_of_range_backref: None,
         numbered_groups_ignored: ignored,
     };

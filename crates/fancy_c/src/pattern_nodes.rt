@@ -6,12 +6,12 @@ ghost use Rattle.fancy_grammar.specs.Tree.{Tree};
 ghost use Rattle.fancy_c.specs.Buffer.{Fills};
 ghost use Rattle.fancy_c.specs.WrittenText.{IsPatternText};
 
-use crate::built::{RowsError, tree_at};
+use crate::built::{RowsError, rows_below, tree_at};
 use crate::call_result::{
     CallResult, ERROR_NONE, STATUS_BUFFER_TOO_SHORT, STATUS_NO_TREE, STATUS_NOT_PRINTABLE,
     STATUS_NOT_UTF8, STATUS_OK, STATUS_REFUSED,
 };
-use crate::group_rows::with_groups;
+use crate::group_rows::{names_from, with_groups};
 use crate::info_rows::{Name, TreeInfo};
 use crate::node::Node;
 use crate::pattern::put_pattern;
@@ -29,7 +29,8 @@ fn tree_with_groups(
     flags: u32,
 ) -> Result<ExprTree, RowsError> {
     let expr = tree_at(alloc, nodes, texts, index)?;
-    with_groups(alloc, expr, nodes, index, texts, names, info, flags)
+    let named = names_from(alloc, nodes, index, texts, names)?;
+    Ok(with_groups(alloc, expr, rows_below(nodes, index), named, info, flags)?)
 }
 
 /// Builds the tree of the rows that `fancy_parse_nonnull` wrote, from the one with an index on, with the names of its
