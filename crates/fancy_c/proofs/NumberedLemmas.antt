@@ -1,6 +1,6 @@
 -- Groups get their numbers, one row after another.
 use Rattle.std.proofs.Common.{◌≡◌, ℕ, zero, suc, ◌+◌, ◌<◌, ◌≤◌, List, [], ◌∷◌, ◌++◌, length, take, drop, set, get_or, refl}
-use Rattle.std.proofs.Common.{sym, ap, ◌∙◌, zero-add, absurd, arith}
+use Rattle.std.proofs.Common.{sym, ap, ◌∙◌, zero-add, arith}
 use Rattle.std.proofs.Math.Seq.{drop-append_seam, paste}
 use Rattle.std.proofs.lemmas.List.{get_or-take, get_or-drop, length-take-le, take_all, take-append-le, take_more}
 use Rattle.std.proofs.lemmas.List.Edits.{drop-paste, paste_more, paste_all}

@@ -1,5 +1,5 @@
 //! Branches that are likely mistakes.
-ghost use Rattle.std.specs.Prelude.{◌≡◌, ◌↔◌, ℕ, true, false, Some, ⊥, IsTrue, IfSome, IsSomeAnd, slice_get};
+ghost use Rattle.std.specs.Prelude.{◌≡◌, ◌↔◌, ℕ, true, false, Some, IsTrue, IfSome, IsSomeAnd, slice_get};
 ghost use Rattle.fancy_syntax.specs.View.{view, views};
 ghost use Rattle.patterns_lint.specs.Branches as spec;
 ghost use Rattle.patterns_lint.specs.declared.problem.Problem.TheVariants as reported;

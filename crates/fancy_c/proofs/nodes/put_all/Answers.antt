@@ -18,9 +18,10 @@ returns c =
     let at : c.put_tree-after.result.text ≡ length (texts (listed t)) = omega (arith, put.text_after) in
     let spans = span_at c.args.spans.now in
     let rows = rows_length spans 0 0 (listed t) in
+    let count : c.put_tree-after.result.rows ≡ length (listed_rows spans 0 0 (listed t)) = omega (arith, put.after, rows) in
     record {
       nodes_are = filled _ _ _ (omega (arith, c.requires.nodes_capacity, rows, numbered_length 0 (listed_rows spans 0 0 (listed t))))
-          (rows_numbered _ _ _ (listed_rows spans 0 0 (listed t)) _ (omega (arith, put.after, rows)) put.nodes
+          (rows_numbered _ _ _ (listed_rows spans 0 0 (listed t)) c.put_tree-after.result.rows count put.nodes
           c.number_groups.ensures);
       texts_are = filled _ _ _ c.requires.texts_capacity
           (texts_put _ _ _ _ _ _ put.text_after put.bytes c.put_names.ensures.bytes);
