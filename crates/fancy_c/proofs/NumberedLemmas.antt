@@ -52,30 +52,31 @@ numbering_row nodes₀ nodes count i groups z capacity here p =
     ∙ unwritten nodes₀ (numbered 0 rows) i z (omega (arith, size, here, numbered_length 0 rows))
     ∙ sym (get_or-take count nodes₀ i z here)
 
-pub numbering_next : (nodes₀ nodes nodes' : List Node) (count i groups groups' : ℕ) (r : Node) →
-    count ≤ length nodes₀ → i < count → Numbering nodes₀ nodes count i groups → r ≡ get_or nodes i r →
-    nodes' ≡ set nodes i (numbered_row groups r) → groups' ≡ groups_through groups r → groups' ≤ groups + 1 →
-    Numbering nodes₀ nodes' count (i + 1) groups'
-numbering_next nodes₀ nodes nodes' count i groups groups' r capacity here p read put through few =
+pub numbering_next : (nodes₀ nodes nodes' : List Node) (count i groups groups' : ℕ) (z : Node) →
+    count ≤ length nodes₀ → i < count → Numbering nodes₀ nodes count i groups →
+    nodes' ≡ set nodes i (numbered_row groups (get_or nodes i z)) → groups' ≡ groups_through groups (get_or nodes i z) →
+    groups' ≤ groups + 1 → Numbering nodes₀ nodes' count (i + 1) groups'
+numbering_next nodes₀ nodes nodes' count i groups groups' z capacity here p put through few =
+    let r = get_or nodes i z in
     let rows = take count nodes₀ in
     let s = numbered 0 rows in
     let size : length rows ≡ count = length-take-le count nodes₀ capacity in
     let long : length s ≡ count = numbered_length 0 rows ∙ size in
     let inside : i < length rows = omega (arith, size, here) in
-    let at : r ≡ get_or rows i r = read ∙ numbering_row nodes₀ nodes count i groups r capacity here p in
-    let row : numbered_row groups r ≡ get_or s i r =
+    let at : r ≡ get_or rows i z = numbering_row nodes₀ nodes count i groups z capacity here p in
+    let row : numbered_row groups r ≡ get_or s i z =
     ap (λ g. numbered_row g r) p.groups_are ∙ ap (numbered_row (groups_in 0 (take i rows))) at
-    ∙ sym (numbered_get 0 rows i r inside) in
+    ∙ sym (numbered_get 0 rows i z inside) in
     record {
       nodes_are =
           put ∙ ap (λ l. set l i (numbered_row groups r)) p.nodes_are
           ∙ ap (λ x. set (paste nodes₀ 0 s i) i x) row
-          ∙ ap (λ k. set (paste nodes₀ 0 s i) k (get_or s i r)) (sym (zero-add i))
-          ∙ paste_more nodes₀ 0 s i r (omega (arith, here, capacity)) (omega (arith, long, here));
+          ∙ ap (λ k. set (paste nodes₀ 0 s i) k (get_or s i z)) (sym (zero-add i))
+          ∙ paste_more nodes₀ 0 s i z (omega (arith, here, capacity)) (omega (arith, long, here));
       groups_are =
           through ∙ ap (λ g. groups_through g r) p.groups_are ∙ ap (groups_through (groups_in 0 (take i rows))) at
-          ∙ sym (groups_in_last 0 (take i rows) (get_or rows i r))
-          ∙ ap (groups_in 0) (sym (take_more rows i r inside));
+          ∙ sym (groups_in_last 0 (take i rows) (get_or rows i z))
+          ∙ ap (groups_in 0) (sym (take_more rows i z inside));
       few = omega (arith, few, p.few);
     }
 
