@@ -11,7 +11,7 @@
  *
  * The library is built for Linux on x86-64-v2 with glibc, and a size_t has 64 bits. The static library needs no other library
  * than that of C. Calls may run in several threads at once. None may be made from a signal handler, or in the forked child of
- * a process with threads. A call recurses as deep as a tree has levels, at most 832: 400 KB of stack were enough for each that
+ * a process with threads. A call recurses as deep as a tree has levels, at most 832: 1 MB of stack was enough for each that
  * was tried.
  */
 #ifndef FANCY_H

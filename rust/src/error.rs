@@ -48,7 +48,7 @@ pub enum ParseError {
     InvalidClass,
     /// A flag that does not exist: `(?q)`. With the text from `(?` through the flag.
     UnknownFlag(String),
-    /// `(?u)` without [`Flags::UNICODE`], or `(?-u)` with it.
+    /// `(?u)` without [`Flags::UNICODE`](crate::Flags::UNICODE), or `(?-u)` with it.
     ChangingUnicodeModeUnsupported,
     /// A reference to a group that does not exist: `\k<n>`.
     InvalidBackref,

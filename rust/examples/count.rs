@@ -1,0 +1,37 @@
+//! Does one thing with each pattern of a corpus, so that its cost can be counted: `count MODE FILE`, where a line of the file begins with flags and a
+//! pattern in hexadecimal, as in `crates/bench/data`. `tools/speed-rust` runs it.
+use fancy_syntax::{check, parse, parse_without_spans, Flags, Rows};
+
+/// The flags and the pattern of a line.
+fn read(line: &str) -> Option<(Flags, String)> {
+    let mut fields = line.split('\t');
+    let bit = |letter| "imsUxuRon".find(letter).map(|bit| 1 << bit);
+    let bits = fields.next()?.chars().filter_map(bit).sum();
+    let digits = fields.next()?.trim_matches('-');
+    let byte = |at| u8::from_str_radix(digits.get(at..at + 2)?, 16).ok();
+    let pattern = (0..digits.len()).step_by(2).map(byte).collect::<Option<_>>()?;
+    Some((Flags::from_bits_truncate(bits), String::from_utf8(pattern).ok()?))
+}
+
+fn main() {
+    let arguments: Vec<String> = std::env::args().collect();
+    let [_, mode, file] = &arguments[..] else { panic!("usage: count MODE FILE") };
+    let lines = std::fs::read_to_string(file).unwrap();
+    let mut rows = Rows::new();
+    // so that no buffer grows later
+    rows.parse(&"a".repeat(10_000), Flags::UNICODE).unwrap();
+    let mut valid = 0;
+    for (flags, pattern) in lines.lines().filter_map(read) {
+        let is_valid = match mode.as_str() {
+            "none" => !pattern.is_empty(),
+            "check" => check(&pattern, flags).is_ok(),
+            "rows" => rows.parse(&pattern, flags).is_ok(),
+            "rows-without-spans" => rows.parse_without_spans(&pattern, flags).is_ok(),
+            "tree" => parse(&pattern, flags).is_ok(),
+            "tree-without-spans" => parse_without_spans(&pattern, flags).is_ok(),
+            _ => panic!("no such mode"),
+        };
+        valid += usize::from(is_valid);
+    }
+    println!("{valid}");
+}
