@@ -190,7 +190,7 @@ impl<'a> Underline<'a> {
 
     /// Goes on up to an offset.
     fn move_to<O: Write>(&mut self, out: &mut O, offset: usize) -> io::Result<()> {
-        let offset = offset.clamp(self.written, self.window.end);
+        let offset = offset.min(self.window.end).max(self.written);
         let before = self.window.line.slice(self.written, offset);
         self.written = offset;
         write!(out, "{}", Blank(before))
@@ -199,7 +199,7 @@ impl<'a> Underline<'a> {
     /// Underlines the part with as many signs as it takes columns, and at least one.
     fn draw<O: Write>(&mut self, out: &mut O, part: Part, ink: Ink, sign: u8) -> io::Result<()> {
         self.move_to(out, part.start)?;
-        let end = part.end.clamp(self.written, self.window.end);
+        let end = part.end.min(self.window.end).max(self.written);
         let width = shown_width(self.window.line.slice(self.written, end));
         self.written = end;
         write!(out, "{}", self.paint.begin(ink))?;

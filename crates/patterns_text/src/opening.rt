@@ -82,7 +82,7 @@ fn count_open(subject: Subject<'_>, text: &str) -> Result<Option<usize>, RunErro
         return Ok(None);
     }
     let after = position.checked_sub(text.len());
-    Ok(after.map(|bytes| bytes / CLOSER.len()))
+    Ok(after.and_then(|bytes| bytes.checked_div(CLOSER.len())))
 }
 
 /// Whether a parenthesis after the text opens a group.
@@ -317,7 +317,8 @@ fn class_opening(subject: Subject<'_>) -> Result<Option<Opening>, RunError> {
         return Ok(None);
     };
     let span = class.span();
-    let depth = span.end.saturating_sub(pattern.len()) / CLASS_CLOSER.len();
+    let closers = span.end.saturating_sub(pattern.len());
+    let depth = closers.checked_div(CLASS_CLOSER.len()).unwrap_or(0);
     let brackets = Brackets::of(alloc, pattern.get(span.start..).unwrap_or(""))?;
     let Some(innermost) = brackets.open.last() else {
         return Ok(None);
