@@ -237,7 +237,12 @@ fn refused_writes(rt: HostRuntime) -> Result<(), AllocError> {
 fn ends_silently(alloc: Global, closed: usize) -> Result<bool, AllocError> {
     let mut out = FailingWriter::new(alloc, Some(closed));
     out.kind = ErrorKind::BrokenPipe;
-    let run = run_on(alloc, &["u", "(a|b)c*"], out, FailingWriter::new(alloc, None))?;
+    let run = run_on(
+        alloc,
+        &["u", "(a|b)c*"],
+        out,
+        FailingWriter::new(alloc, None),
+    )?;
     Ok(run.status == 3 && ACCEPTED.as_bytes().starts_with(&run.out.text) && run.err.text.is_empty())
 }
 
