@@ -5,7 +5,7 @@ use crate::lines::{Ending, Start, next_record};
 use crate::run::{STANDARD_INPUT, unread};
 use crate::sources::Sources;
 use crate::values::text_of;
-use crate::values::trail::Trail;
+use crate::values::trail::{Tokens, Trail};
 use json::{Scratch, Token};
 use patterns_text::error::RunError;
 use patterns_text::position::{Location, Spot};
@@ -189,15 +189,16 @@ impl<'a, E: Write> FileReader<'a, '_, E> {
             return Ok(None);
         };
         let mut scratch = Scratch::new(self.alloc);
-        let mut trail = Trail::new(self.alloc, text, &mut scratch)?;
+        let mut tokens = Tokens::new(text, &mut scratch)?;
+        let mut trail = Trail::new(self.alloc);
         for _ in 0..=text.len() {
-            let Some(token) = trail.next() else {
+            let Some(token) = tokens.next() else {
                 break;
             };
             if let Token::String(text) = token {
-                let path = format!(in self.alloc; "{}", trail.path())?;
+                let path = trail.path(self.alloc)?;
                 if choice.strip_prefix(path.as_str()).is_some_and(is_columns) {
-                    let position = trail.position();
+                    let position = tokens.position();
                     let path = choice.get(..path.len()).unwrap_or(choice);
                     return self.found(Spot::Path { position, path }, text);
                 }

@@ -7,7 +7,6 @@ ghost use Rattle.patterns_program.specs.Progress.{erasure_if};
 use crate::sources::System;
 use crate::tally::{Progress, Tally};
 use std::io;
-use std::io::Write;
 use std::time::{Duration, Instant};
 
 /// How many bytes of patterns are done from one reading of the clock to the next.
@@ -21,16 +20,9 @@ pub(crate) struct Output<'a, W> {
     has_line: bool,
 }
 
-impl<W: Write> Write for Output<'_, W> {
-    fn write(&mut self, bytes: &[u8]) -> io::Result<usize> {
-        self.write_all(bytes).map(|()| bytes.len())
-    }
-
-    fn flush(&mut self) -> io::Result<()> {
-        self.stream.flush()
-    }
-
-    fn write_all(&mut self, bytes: &[u8]) -> io::Result<()>
+impl<W: io::Write> Output<'_, W> {
+    /// Erases the line, and writes the bytes.
+    fn put(&mut self, bytes: &[u8]) -> io::Result<()>
         ensures written { OnOk result (Appends (W.contents self.old.stream.now) (W.contents self.new.stream.now)
             (erasure_if self.old.has_line ++ bytes.now)) }
         ensures gone { OnOk result (self.new.has_line ≡ false) }
@@ -40,6 +32,16 @@ impl<W: Write> Write for Output<'_, W> {
             self.has_line = false;
         }
         self.stream.write_all(bytes)
+    }
+}
+
+impl<W: io::Write> io::Write for Output<'_, W> {
+    fn write(&mut self, bytes: &[u8]) -> io::Result<usize> {
+        self.put(bytes).map(|()| bytes.len())
+    }
+
+    fn flush(&mut self) -> io::Result<()> {
+        self.stream.flush()
     }
 }
 
@@ -75,7 +77,7 @@ pub(crate) struct Screen<'a, S, O, E> {
     bytes_in_step: usize,
 }
 
-impl<'a, S: System, O: Write, E: Write> Screen<'a, S, O, E> {
+impl<'a, S: System, O: io::Write, E: io::Write> Screen<'a, S, O, E> {
     /// The outputs of a run that begins now. No line is shown if it is quiet or the error output is no terminal.
     pub(crate) fn new(system: &'a S, is_quiet: bool, out: &'a mut O, err: &'a mut E) -> Self
         ensures quiet { IsTrue is_quiet → IsNone result.due }
@@ -99,8 +101,7 @@ impl<'a, S: System, O: Write, E: Write> Screen<'a, S, O, E> {
 
     /// Goes on after so many bytes, and shows the line, in the place of the one before, if it is due.
     pub(crate) fn go_on(&mut self, bytes: usize, tally: &Tally) -> io::Result<()>
-        ensures silent { IsNone self.old.due →
-            Keeps (E.contents self.old.err.stream.now) (E.contents self.new.err.stream.now) }
+        ensures silent { IsNone self.old.due → Keeps (E.contents self.old.err.stream.now) (E.contents self.new.err.stream.now) }
         ensures never { IsNone self.old.due → IsNone self.new.due }
     {
         self.bytes_in_step = (self.bytes_in_step % STEP).saturating_add(bytes);
@@ -111,8 +112,11 @@ impl<'a, S: System, O: Write, E: Write> Screen<'a, S, O, E> {
             self.out.stream.flush()?;
             self.out.has_line = self.system.terminals().out;
             self.err.has_line = true;
-            let line = Progress(tally);
-            write!(self.err.stream, "\x1b[?7l\r{line}\x1b[K\x1b[?7h")?;
+            write!(
+                self.err.stream,
+                "\x1b[?7l\r{}\x1b[K\x1b[?7h",
+                Progress(tally)
+            )?;
             self.err.stream.flush()?;
         }
         Ok(())

@@ -13,10 +13,10 @@ use crate::progress::{STEP, Screen};
 use crate::sources::System;
 use crate::tally::{Counted, Tally};
 use crate::text::{Stream, Text};
-use crate::values::grammar::{OpenRules, grammar_of};
+use crate::values::grammar::OpenRules;
 use crate::values::keys::Keys;
 use crate::values::text_of;
-use crate::values::trail::Trail;
+use crate::values::trail::{Tokens, Trail};
 use json::Scratch;
 use patterns_lint::chosen::Chosen;
 use patterns_lint::grammar::GrammarRule;
@@ -343,22 +343,22 @@ impl<S: System, O: Write, E: Write> FileRun<'_, S, O, E> {
             return Ok(Outcome::Unread);
         };
         let mut scratch = Scratch::new(self.alloc);
-        let mut trail = Trail::new(self.alloc, text, &mut scratch)?;
         let mut grammar_scratch = Scratch::new(self.alloc);
-        let grammar = if self.job.reads_rules(keys) {
-            grammar_of(self.alloc, text, &mut grammar_scratch)?
-        } else {
-            None
-        };
-        let mut rules = OpenRules::new(self.alloc, self.job.flags, grammar);
+        let is_grammar = self.job.reads_rules(keys);
+        let (alloc, flags) = (self.alloc, self.job.flags);
+        let mut rules = OpenRules::new(alloc, flags, text, &mut grammar_scratch, is_grammar)?;
+        let mut tokens = Tokens::new(text, &mut scratch)?;
+        let mut trail = Trail::new(self.alloc);
         let mut outcome = Outcome::Good;
         for _ in 0..=text.len() {
-            let Some(token) = trail.next() else {
+            let Some(token) = tokens.next() else {
                 break;
             };
-            if let Some((spot, pattern)) = trail.pattern(token, keys) {
+            let position = tokens.position();
+            if let Some((spot, pattern)) = trail.pattern(token, position, keys) {
                 let at = located(self.job, file, spot);
-                let found = self.process_pattern(pattern, b"\n", at, rules.rule()?.as_ref())?;
+                let rule = rules.rule()?;
+                let found = self.process_pattern(pattern, b"\n", at, rule.as_ref())?;
                 outcome = outcome.and(found);
                 self.count(found, pattern.len())?;
             }

@@ -158,10 +158,12 @@ impl<'a> RuleObject<'a> {
             return Ok(());
         }
         for i in 0..PATTERN_KEYS.len() {
-            if let Some(Some(pattern)) = self.patterns.get(i)
-                && let Some(count) = self.groups.get_mut(i)
-            {
-                *count = group_count(alloc, flags, pattern)?;
+            let Some(Some(pattern)) = self.patterns.get(i).copied() else {
+                continue;
+            };
+            let count = group_count(alloc, flags, pattern)?;
+            if let Some(known) = self.groups.get_mut(i) {
+                *known = count;
             }
         }
         Ok(())
@@ -251,12 +253,17 @@ impl<'a> RuleObject<'a> {
     }
 }
 
-/// The values of a text that is valid JSON, and not too long. An error if memory runs out.
-pub(crate) fn grammar_of<'a>(
+/// The values of a text that is valid JSON, and not too long; none if it is not read as a grammar. An error if memory
+/// runs out.
+fn grammar_of<'a>(
     alloc: Global,
     text: &'a str,
     scratch: &'a mut Scratch,
+    is_grammar: bool,
 ) -> Result<Option<Tape<'a>>, RunError> {
+    if !is_grammar {
+        return Ok(None);
+    }
     match Tape::parse(text, scratch, Vec::new(alloc)) {
         Ok(values) => Ok(Some(values)),
         Err(JsonError::OutOfMemory) => Err(RunError::Memory(AllocError)),
@@ -278,15 +285,22 @@ pub(crate) struct OpenRules<'a> {
 }
 
 impl<'a> OpenRules<'a> {
-    /// The walk that begins at the root; the patterns are parsed under these flags.
-    pub(crate) fn new(alloc: Global, flags: u32, grammar: Option<Tape<'a>>) -> OpenRules<'a> {
-        OpenRules {
+    /// The walk that begins at the root of a text that is valid JSON, and not too long. The patterns are parsed under these
+    /// flags. If it is not read as a grammar, there are no rules.
+    pub(crate) fn new(
+        alloc: Global,
+        flags: u32,
+        text: &'a str,
+        scratch: &'a mut Scratch,
+        is_grammar: bool,
+    ) -> Result<OpenRules<'a>, RunError> {
+        Ok(OpenRules {
             alloc,
             flags,
-            grammar,
+            grammar: grammar_of(alloc, text, scratch, is_grammar)?,
             index: 0,
             open: Vec::new(alloc),
-        }
+        })
     }
 
     /// The nodes of the grammar.

@@ -5,36 +5,32 @@ use patterns_text::path::{Path, PathStep};
 use patterns_text::position::{FilePosition, Spot};
 use std::alloc::{AllocError, Global};
 
-/// A walk over the tokens of a text of JSON: the steps from the root to the value that it has come to, and where that is in
-/// the text.
+/// The tokens of a text of JSON, and where they begin in the text.
 #[derive(Drop)]
-pub(crate) struct Trail<'a> {
+pub(crate) struct Tokens<'a> {
     text: &'a str,
     reader: Reader<'a>,
     /// The byte offset at which the last token begins.
     start: usize,
-    /// A byte offset, and its position in lines and columns, from which that of a later one is found.
-    known: (usize, FilePosition),
-    steps: Vec<PathStep<'a>>,
+    /// The byte offset up to which lines and columns are counted.
+    counted: usize,
+    /// The position there.
+    position: FilePosition,
 }
 
-impl<'a> Trail<'a> {
-    /// The walk that begins at the root of the text.
-    pub(crate) fn new(
-        alloc: Global,
-        text: &'a str,
-        scratch: &'a mut Scratch,
-    ) -> Result<Trail<'a>, AllocError> {
-        Ok(Trail {
+impl<'a> Tokens<'a> {
+    /// Those of the text.
+    pub(crate) fn new(text: &'a str, scratch: &'a mut Scratch) -> Result<Tokens<'a>, AllocError> {
+        Ok(Tokens {
             text,
             reader: Reader::new(text, scratch)?,
             start: 0,
-            known: (0, FilePosition::START),
-            steps: Vec::new(alloc),
+            counted: 0,
+            position: FilePosition::START,
         })
     }
 
-    /// Comes to the next token; none at the end of the text.
+    /// Goes on to the next token; none at the end of the text.
     pub(crate) fn next(&mut self) -> Option<Token<'a>> {
         self.start = self.reader.offset();
         self.reader.next()
@@ -42,38 +38,55 @@ impl<'a> Trail<'a> {
 
     /// Where the last token begins, in lines and columns.
     pub(crate) fn position(&mut self) -> FilePosition {
-        let (known, position) = self.known;
-        let passed = self.text.get(known..self.start).unwrap_or("");
-        let found = position.after(passed);
-        self.known = (self.start, found);
+        let passed = self.text.get(self.counted..self.start).unwrap_or("");
+        let found = self.position.after(passed);
+        self.counted = self.start;
+        self.position = found;
         found
     }
+}
 
-    /// The path of the value that the walk has come to.
-    pub(crate) fn path(&self) -> Path<'_> {
-        Path { steps: &self.steps }
+/// The steps from the root of a text of JSON to the value that a walk over its tokens has come to.
+#[derive(Drop)]
+pub(crate) struct Trail<'a> {
+    steps: Vec<PathStep<'a>>,
+}
+
+impl<'a> Trail<'a> {
+    /// The walk that begins at the root.
+    pub(crate) fn new(alloc: Global) -> Trail<'a> {
+        Trail {
+            steps: Vec::new(alloc),
+        }
     }
 
-    /// Where the token is that the walk has come to, if it is a text under one of the keys, and that text.
+    /// The path of the value that the walk has come to, as it is written.
+    pub(crate) fn path(&self, alloc: Global) -> Result<String, AllocError> {
+        let path = Path { steps: &self.steps };
+        format!(in alloc; "{path}")
+    }
+
+    /// Where the token is that the walk has come to at this position, if it is a text under one of the keys, and that text.
     pub(crate) fn pattern(
-        &mut self,
+        &self,
         token: Token<'a>,
+        position: FilePosition,
         keys: Keys<'_>,
     ) -> Option<(Spot<'_>, &'a str)> {
-        let (Token::String(text), Some(PathStep::Member(key))) = (token, self.steps.last().copied())
-        else {
+        let Token::String(text) = token else {
             return None;
         };
-        if !keys.has(key) {
-            return None;
+        match self.steps.last() {
+            Some(PathStep::Member(key)) if keys.has(key) => {
+                let spot = Spot::Value {
+                    position,
+                    path: Path { steps: &self.steps },
+                    refers_to_begin: keys.refers_to_begin(key),
+                };
+                Some((spot, text))
+            }
+            _ => None,
         }
-        let position = self.position();
-        let spot = Spot::Value {
-            position,
-            path: self.path(),
-            refers_to_begin: keys.refers_to_begin(key),
-        };
-        Some((spot, text))
     }
 
     /// Goes on past the token.
