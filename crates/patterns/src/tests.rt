@@ -36,10 +36,12 @@ fn run(alloc: Global, auto: Paints, words: &[&str], capacity: usize) -> Result<T
 
 const MIXED: &str = "mixed:2:2: Opening parenthesis without closing parenthesis
 (
- ^
+-^
+opened here
 mixed:5:2: General parsing error: end of string not reached
 a)b
  ^
+help: unmatched closing parenthesis: remove it, or write `\\)`
 ";
 
 const NOT_UTF_8: &str = "mixed:4: the line is not valid UTF-8\n";
