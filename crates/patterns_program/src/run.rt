@@ -440,12 +440,13 @@ impl<S: System, O: Write, E: Write> FileRun<'_, S, O, E> {
     }
 }
 
-/// Does the job on each pattern of the files, and returns the exit status: 0 if every pattern passes; 1 if
-/// one does not, or there are more warnings than there may be; 2 if a file, or a line of one, cannot be read, which is reported on `err` while the others are still
-/// read; 3 if memory ran out or a write failed, which is reported on `err` if that is possible, and `out` may then have
-/// part of the output. A pattern of a file of records ends as the job says, and is reported with the number of its first
-/// line; a NUL that ends a pattern ends a line too. A text of JSON is reported with its path. The file `-` is standard
-/// input. The last line on `err` counts the patterns and their outcomes, unless the job is quiet or the status is 3.
+/// Does the job on each pattern of the files, and returns the exit status: 0 if every pattern passes; 1 if one does not, or
+/// there are more warnings than there may be; 2 if a file, or a line of one, cannot be read, which is reported on `err`
+/// while the others are still read; 3 if memory ran out or a write failed, which is reported on `err` if that is possible,
+/// unless the reader of a pipe closed it, and `out` may then have part of the output. A pattern of a file of records ends
+/// as the job says, and is reported with the number of its first line; a NUL that ends a pattern ends a line too. A text
+/// of JSON is reported with its path. The file `-` is standard input. The last line on `err` counts the patterns and their
+/// outcomes, unless the job is quiet or the status is 3.
 ///
 /// Where `err` is a terminal and the job is not quiet, a line on it says how far the run is, once that takes longer than
 /// a second; it is erased before anything else is written.
@@ -471,7 +472,7 @@ pub fn run<S: System, O: Write, E: Write>(
         Ok(outcome) => outcome.status(),
         Err(error) => {
             // Erases the line, which stays otherwise if nothing is reported.
-            let _ = work.screen.err.write_all(b"");
+            let _ = work.screen.err.write(b"");
             give_up(&mut work.screen.err, error)
         }
     }
