@@ -28,7 +28,7 @@ pub(crate) fn rule_names(alloc: Global) -> Result<Vec<&'static str>, AllocError>
 
 /// A level that the arguments give to a rule, or to all.
 #[derive(Clone, Copy)]
-struct Choice<'a> {
+struct LevelChoice<'a> {
     /// Where the name is among the arguments.
     index: usize,
     name: &'a str,
@@ -37,7 +37,7 @@ struct Choice<'a> {
 
 /// Adds the levels that one of the options gives.
 fn add_choices<'a>(
-    choices: &mut Vec<Choice<'a>>,
+    choices: &mut Vec<LevelChoice<'a>>,
     matches: &ArgMatches<'a>,
     option: &str,
     level: Level,
@@ -46,7 +46,7 @@ fn add_choices<'a>(
         return Ok(());
     };
     for (name, index) in names.iter().zip(indices) {
-        choices.push(Choice {
+        choices.push(LevelChoice {
             index: *index,
             name,
             level,
@@ -56,7 +56,10 @@ fn add_choices<'a>(
 }
 
 /// The levels that the arguments give, in the order of the arguments.
-fn choices<'a>(alloc: Global, matches: &ArgMatches<'a>) -> Result<Vec<Choice<'a>>, AllocError> {
+fn choices<'a>(
+    alloc: Global,
+    matches: &ArgMatches<'a>,
+) -> Result<Vec<LevelChoice<'a>>, AllocError> {
     let mut choices = Vec::new(alloc);
     for (option, level) in OPTIONS.iter() {
         add_choices(&mut choices, matches, option, *level)?;

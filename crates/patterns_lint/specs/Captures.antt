@@ -1,7 +1,7 @@
 -- The keys of a grammar under which an object has what is captured.
 use Rattle.std.specs.Prelude.{ℕ, List, codes}
-use Rattle.patterns_lint.specs.declared.grammar.CaptureKey.{CaptureKey}
-use Rattle.patterns_lint.specs.declared.grammar.CaptureKey.TheVariants as key
+use Rattle.patterns_lint.specs.declared.grammar_rule.CaptureKey.{CaptureKey}
+use Rattle.patterns_lint.specs.declared.grammar_rule.CaptureKey.TheVariants as key
 
 abbrev pub capture_key : CaptureKey → List ℕ
 capture_key key.Captures = codes "captures"

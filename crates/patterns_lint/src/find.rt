@@ -1,6 +1,6 @@
 //! All that the rules find in a pattern.
 use crate::flags::useless_flags;
-use crate::grammar::{GrammarRule, missing_captures};
+use crate::grammar_rule::{GrammarRule, missing_captures};
 use crate::problem::Found;
 use crate::references::{Ways, follow};
 use crate::scan::{Around, PatternInfo, scan};

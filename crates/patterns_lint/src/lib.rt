@@ -8,7 +8,7 @@ mod empty;
 pub mod find;
 mod fingerprint;
 mod flags;
-pub mod grammar;
+pub mod grammar_rule;
 pub mod problem;
 mod quantifiers;
 mod references;

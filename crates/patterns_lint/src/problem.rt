@@ -1,5 +1,5 @@
 //! What `lint` finds in a pattern.
-use crate::grammar::CaptureKey;
+use crate::grammar_rule::CaptureKey;
 use crate::rule::Rule;
 use crate::targets::is_of_digits;
 use fancy_syntax::span::Span;

@@ -11,7 +11,7 @@ use std::alloc::{AllocError, Global};
 
 /// A group with a number.
 #[derive(Clone, Copy)]
-struct Capture {
+struct CaptureState {
     span: Span,
     /// Which of the pattern's names it has.
     name: Option<usize>,
@@ -35,7 +35,7 @@ pub(crate) struct Ways<'a> {
     names: Names<'a>,
     has_calls: bool,
     /// The groups, each at its number; at 0 the whole pattern.
-    captures: Vec<Capture>,
+    captures: Vec<CaptureState>,
     /// How many groups have opened.
     opened: usize,
     /// Of each name how many groups are on the way to where the walk is.
@@ -50,8 +50,8 @@ pub(crate) struct Ways<'a> {
 }
 
 /// The groups of the tree, as they are before the walk.
-fn captures_of(alloc: Global, tree: &ExprTree) -> Result<Vec<Capture>, AllocError> {
-    let unknown = Capture {
+fn captures_of(alloc: Global, tree: &ExprTree) -> Result<Vec<CaptureState>, AllocError> {
+    let unknown = CaptureState {
         span: Span { start: 0, end: 0 },
         name: None,
         may_have_matched: false,
@@ -253,8 +253,8 @@ impl<'a> Ways<'a> {
     }
 
     /// Enters a node.
-    fn enter(&mut self, node: SpannedNode<'_>) -> Result<Entry, AllocError> {
-        let mut entry = Entry {
+    fn enter(&mut self, node: SpannedNode<'_>) -> Result<NodeState, AllocError> {
+        let mut entry = NodeState {
             closed: self.closed.len(),
             group: None,
             is_outermost_loop: false,
@@ -295,7 +295,7 @@ impl<'a> Ways<'a> {
 
     /// Goes on past a child, in which the groups were closed from the index `from` on. Each branch is a way of its own, and
     /// so are the two after a condition.
-    fn pass_child(&mut self, parent: &Expr, index: usize, from: usize, entry: &mut Entry) {
+    fn pass_child(&mut self, parent: &Expr, index: usize, from: usize, entry: &mut NodeState) {
         if index == 0 && matches!(parent, Expr::Conditional { .. }) {
             entry.closed = self.closed.len();
         } else if is_fork(parent) {
@@ -304,7 +304,7 @@ impl<'a> Ways<'a> {
     }
 
     /// Goes on past the node, whose children were passed.
-    fn pass(&mut self, node: &Expr, entry: Entry) -> Result<(), AllocError> {
+    fn pass(&mut self, node: &Expr, entry: NodeState) -> Result<(), AllocError> {
         if is_fork(node) {
             self.join(entry.closed);
         }
@@ -337,7 +337,7 @@ fn is_negative(node: &Expr) -> bool {
 
 /// What is known of a node since it was entered.
 #[derive(Clone, Copy)]
-struct Entry {
+struct NodeState {
     /// How many groups were closed before it, or before the ways after a condition.
     closed: usize,
     /// The number of the group that it is.

@@ -4,7 +4,7 @@ use unicode_width::UnicodeWidthChar;
 
 /// How a character is shown.
 #[derive(Clone, Copy)]
-enum Shown {
+enum Appearance {
     Itself(char),
     /// As its escape.
     Escape(&'static str),
@@ -30,42 +30,42 @@ fn is_hidden(c: char) -> bool {
         )
 }
 
-impl Shown {
-    fn of(c: char) -> Shown {
+impl Appearance {
+    fn of(c: char) -> Appearance {
         match c {
-            '\n' => Shown::Itself('\u{21B5}'),
-            '\r' => Shown::Escape(r"\r"),
-            '\t' => Shown::Escape(r"\t"),
-            _ if is_hidden(c) => Shown::Code(u32::from(c)),
-            _ => Shown::Itself(c),
+            '\n' => Appearance::Itself('\u{21B5}'),
+            '\r' => Appearance::Escape(r"\r"),
+            '\t' => Appearance::Escape(r"\t"),
+            _ if is_hidden(c) => Appearance::Code(u32::from(c)),
+            _ => Appearance::Itself(c),
         }
     }
 
     /// How many columns it takes.
     fn columns(self) -> usize {
         match self {
-            Shown::Itself(c) => c.width().unwrap_or(0),
-            Shown::Escape(_) => 2,
-            Shown::Code(0..=0xFF) => 6,
-            Shown::Code(0x100..=0xFFFF) => 8,
-            Shown::Code(_) => 10,
+            Appearance::Itself(c) => c.width().unwrap_or(0),
+            Appearance::Escape(_) => 2,
+            Appearance::Code(0..=0xFF) => 6,
+            Appearance::Code(0x100..=0xFFFF) => 8,
+            Appearance::Code(_) => 10,
         }
     }
 }
 
 /// In XML, and with as many digits as `columns` says.
-impl fmt::Display for Shown {
+impl fmt::Display for Appearance {
     fn fmt<W: fmt::Write>(&self, f: &mut fmt::Formatter<W>) -> fmt::Result {
         match *self {
-            Shown::Itself('<') => f.write_str("&lt;"),
-            Shown::Itself('>') => f.write_str("&gt;"),
-            Shown::Itself('&') => f.write_str("&amp;"),
-            Shown::Itself('"') => f.write_str("&quot;"),
-            Shown::Itself(c) => f.write_char(c),
-            Shown::Escape(escape) => f.write_str(escape),
-            Shown::Code(code @ 0..=0xFF) => write!(f, r"\u{{{code:02x}}}"),
-            Shown::Code(code @ 0x100..=0xFFFF) => write!(f, r"\u{{{code:04x}}}"),
-            Shown::Code(code) => write!(f, r"\u{{{code:06x}}}"),
+            Appearance::Itself('<') => f.write_str("&lt;"),
+            Appearance::Itself('>') => f.write_str("&gt;"),
+            Appearance::Itself('&') => f.write_str("&amp;"),
+            Appearance::Itself('"') => f.write_str("&quot;"),
+            Appearance::Itself(c) => f.write_char(c),
+            Appearance::Escape(escape) => f.write_str(escape),
+            Appearance::Code(code @ 0..=0xFF) => write!(f, r"\u{{{code:02x}}}"),
+            Appearance::Code(code @ 0x100..=0xFFFF) => write!(f, r"\u{{{code:04x}}}"),
+            Appearance::Code(code) => write!(f, r"\u{{{code:06x}}}"),
         }
     }
 }
@@ -77,7 +77,7 @@ pub(crate) fn is_plain(c: char) -> bool {
 
 /// How many columns the character takes.
 pub(crate) fn columns_of_char(c: char) -> usize {
-    Shown::of(c).columns()
+    Appearance::of(c).columns()
 }
 
 /// How many columns the text takes.
@@ -96,7 +96,7 @@ pub(crate) struct Xml<'a>(pub(crate) &'a str);
 impl fmt::Display for Xml<'_> {
     fn fmt<W: fmt::Write>(&self, f: &mut fmt::Formatter<W>) -> fmt::Result {
         for c in self.0.chars() {
-            write!(f, "{}", Shown::of(c))?;
+            write!(f, "{}", Appearance::of(c))?;
         }
         Ok(())
     }

@@ -2,4 +2,4 @@ pub mod Line
 pub mod Codes
 pub mod Progress
 pub mod Keys
-pub mod Groups
+pub mod HasGroups

@@ -38,7 +38,7 @@ impl FilePattern<'_> {
 
 /// Which pattern of a file is chosen.
 #[derive(Clone, Copy)]
-enum Choice<'a> {
+enum ChosenPattern<'a> {
     /// Its only line.
     OnlyLine,
     /// The line with this number, counted from 1.
@@ -61,20 +61,20 @@ fn without_position(text: &str) -> &str {
     }
 }
 
-impl<'a> Choice<'a> {
+impl<'a> ChosenPattern<'a> {
     /// That of what follows the file's name and a colon.
-    fn of(text: &'a str) -> Choice<'a> {
+    fn of(text: &'a str) -> ChosenPattern<'a> {
         if text.is_empty() {
-            return Choice::OnlyLine;
+            return ChosenPattern::OnlyLine;
         }
         let end = text
             .find(|c: char| !c.is_ascii_digit())
             .unwrap_or(text.len());
         match text.split_at_checked(end) {
             Some((digits, rest)) if end > 0 && is_columns(rest) => {
-                Choice::Line(digits.parse().unwrap_or(u64::MAX))
+                ChosenPattern::Line(digits.parse().unwrap_or(u64::MAX))
             }
-            _ => Choice::Path(without_position(text)),
+            _ => ChosenPattern::Path(without_position(text)),
         }
     }
 }
@@ -219,10 +219,10 @@ impl<'a, E: Write> FileReader<'a, '_, E> {
             Err(error) => return self.refuse(error),
         };
         let mut reader = start.chain(reader);
-        match Choice::of(rest.strip_prefix(':').unwrap_or(rest)) {
-            Choice::OnlyLine => self.only(&mut reader),
-            Choice::Line(number) => self.numbered(&mut reader, number),
-            Choice::Path(path) => self.value(&mut reader, path),
+        match ChosenPattern::of(rest.strip_prefix(':').unwrap_or(rest)) {
+            ChosenPattern::OnlyLine => self.only(&mut reader),
+            ChosenPattern::Line(number) => self.numbered(&mut reader, number),
+            ChosenPattern::Path(path) => self.value(&mut reader, path),
         }
     }
 }

@@ -36,7 +36,7 @@ impl Ending {
 
 /// A record, and what it ends with.
 #[derive(Clone, Copy)]
-pub(crate) struct Record<'b> {
+pub(crate) struct LineRecord<'b> {
     /// The record without its end.
     pub(crate) text: &'b [u8],
     /// Its end. The last record of a reader may have none, and then this is empty.
@@ -48,14 +48,14 @@ pub(crate) fn next_record<'b, R: BufRead>(
     reader: &mut R,
     ending: Ending,
     buffer: &'b mut Vec<u8>,
-) -> io::Result<Option<Record<'b>>> {
+) -> io::Result<Option<LineRecord<'b>>> {
     buffer.clear();
     if reader.read_until(ending.byte(), buffer)? == 0 {
         return Ok(None);
     }
     let text = ending.cut(buffer);
     let end = buffer.get(text.len()..).unwrap_or(b"");
-    Ok(Some(Record { text, end }))
+    Ok(Some(LineRecord { text, end }))
 }
 
 /// The start of a reader: whether it is the byte order mark, and if not, its bytes, which are still to be read.

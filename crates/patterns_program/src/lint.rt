@@ -10,7 +10,7 @@ use crate::reporter::{Reporter, parse};
 use crate::tally::Tally;
 use patterns_lint::chosen::{Chosen, Level};
 use patterns_lint::find::problems;
-use patterns_lint::grammar::GrammarRule;
+use patterns_lint::grammar_rule::GrammarRule;
 use patterns_lint::problem::Found;
 use patterns_text::error::RunError;
 use patterns_text::subject::Subject;

@@ -5,7 +5,7 @@ ghost use Rattle.std.specs.Time.{instant_nanos};
 ghost use Rattle.patterns_program.specs.Progress.{erasure_if};
 
 use crate::sources::System;
-use crate::tally::{Progress, Tally};
+use crate::tally::{ProgressText, Tally};
 use std::io;
 use std::time::{Duration, Instant};
 
@@ -115,7 +115,7 @@ impl<'a, S: System, O: io::Write, E: io::Write> Screen<'a, S, O, E> {
             write!(
                 self.err.stream,
                 "\x1b[?7l\r{}\x1b[K\x1b[?7h",
-                Progress(tally)
+                ProgressText(tally)
             )?;
             self.err.stream.flush()?;
         }

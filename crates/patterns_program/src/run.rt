@@ -4,7 +4,7 @@ ghost use Rattle.std.specs.Prelude.{◌≤◌};
 use crate::check::check;
 use crate::form::FileFormat;
 use crate::groups::list_groups;
-use crate::lines::{BOM, Record, Start, lines_in, next_record};
+use crate::lines::{BOM, LineRecord, Start, lines_in, next_record};
 use crate::lint::lint;
 use crate::objects::{Json, Report};
 use crate::outcome::Outcome;
@@ -13,13 +13,13 @@ use crate::progress::{STEP, Screen};
 use crate::sources::System;
 use crate::tally::{Counted, Tally};
 use crate::text::{Stream, Text};
-use crate::values::grammar::OpenRules;
 use crate::values::keys::Keys;
+use crate::values::open_rules::OpenRules;
 use crate::values::text_of;
 use crate::values::trail::{Tokens, Trail};
 use json::Scratch;
 use patterns_lint::chosen::Chosen;
-use patterns_lint::grammar::GrammarRule;
+use patterns_lint::grammar_rule::GrammarRule;
 use patterns_text::error::{RunError, give_up};
 use patterns_text::paint::Paints;
 use patterns_text::position::{Location, Spot};
@@ -125,7 +125,7 @@ pub(crate) fn unread<E: Write>(
 
 /// A pattern of a file, and what the file has around it.
 #[derive(Clone, Copy)]
-struct Entry<'a> {
+struct PatternEntry<'a> {
     subject: Subject<'a>,
     /// What it ends with.
     end: &'a [u8],
@@ -135,13 +135,13 @@ struct Entry<'a> {
 
 /// Does the verb's work on a pattern.
 fn process<O: Write, E: Write>(
-    entry: Entry<'_>,
+    entry: PatternEntry<'_>,
     verb: Verb,
     out: &mut O,
     err: &mut E,
     tally: &mut Tally,
 ) -> Result<Outcome, RunError> {
-    let Entry {
+    let PatternEntry {
         subject,
         end,
         grammar,
@@ -177,7 +177,7 @@ fn process<O: Write, E: Write>(
 
 /// The same, on a screen.
 fn process_on<S: System, O: Write, E: Write>(
-    entry: Entry<'_>,
+    entry: PatternEntry<'_>,
     verb: Verb,
     screen: &mut Screen<'_, S, O, E>,
     tally: &mut Tally,
@@ -209,7 +209,7 @@ struct FileRun<'a, S, O, E> {
 
 impl<S: System, O: Write, E: Write> FileRun<'_, S, O, E> {
     /// Says that the line is no text; where lines are formatted, it is written as it was.
-    fn pass_over(&mut self, at: Location<'_>, record: Record<'_>) -> io::Result<()> {
+    fn pass_over(&mut self, at: Location<'_>, record: LineRecord<'_>) -> io::Result<()> {
         writeln!(self.screen.err, "{at}: the line is not valid UTF-8")?;
         if self.job.verb.writes_patterns() {
             self.screen.out.write_all(record.text)?;
@@ -232,7 +232,7 @@ impl<S: System, O: Write, E: Write> FileRun<'_, S, O, E> {
             at,
             pattern,
         };
-        let entry = Entry {
+        let entry = PatternEntry {
             subject,
             end,
             grammar,
@@ -267,7 +267,7 @@ impl<S: System, O: Write, E: Write> FileRun<'_, S, O, E> {
     /// Does the verb's work on a record.
     fn process_record<'p>(
         &mut self,
-        record: Record<'p>,
+        record: LineRecord<'p>,
         at: Location<'p>,
     ) -> Result<Outcome, RunError> {
         self.write_missing_end(record.end)?;

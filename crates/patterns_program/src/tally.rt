@@ -124,11 +124,11 @@ impl fmt::Display for Tally {
 
 /// How far a run is.
 #[derive(Clone, Copy)]
-pub(crate) struct Progress<'a>(pub(crate) &'a Tally);
+pub(crate) struct ProgressText<'a>(pub(crate) &'a Tally);
 
-impl fmt::Display for Progress<'_> {
+impl fmt::Display for ProgressText<'_> {
     fn fmt<W: fmt::Write>(&self, f: &mut fmt::Formatter<W>) -> fmt::Result {
-        let Progress(tally) = *self;
+        let ProgressText(tally) = *self;
         let done = Thousands(tally.done as u64);
         let files = Counted(tally.files as u64, "file");
         let patterns = Counted(tally.patterns, "pattern");

@@ -1,7 +1,7 @@
 //! Patterns that are texts in a file of JSON.
-pub(crate) mod grammar;
 pub mod keys;
 mod nesting;
+pub(crate) mod open_rules;
 mod refusal;
 mod strings;
 pub(crate) mod trail;

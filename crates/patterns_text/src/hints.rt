@@ -28,7 +28,7 @@ impl fmt::Display for Hint {
 
 /// What an error is about that some dialect may explain.
 #[derive(Clone, Copy, PartialEq, Eq)]
-enum Subject {
+enum Topic {
     Escape,
     /// What follows `(?`.
     Group,
@@ -38,13 +38,13 @@ enum Subject {
     Operand,
 }
 
-impl Subject {
-    fn of(kind: &ParseError) -> Option<Subject> {
+impl Topic {
+    fn of(kind: &ParseError) -> Option<Topic> {
         match kind {
-            ParseError::InvalidEscape(_) => Some(Subject::Escape),
-            ParseError::UnknownFlag(_) => Some(Subject::Group),
-            ParseError::InvalidGroupName => Some(Subject::Reference),
-            ParseError::TargetNotRepeatable => Some(Subject::Operand),
+            ParseError::InvalidEscape(_) => Some(Topic::Escape),
+            ParseError::UnknownFlag(_) => Some(Topic::Group),
+            ParseError::InvalidGroupName => Some(Topic::Reference),
+            ParseError::TargetNotRepeatable => Some(Topic::Operand),
             ParseError::GeneralParseError(_)
             | ParseError::UnclosedOpenParen
             | ParseError::InvalidRepeat
@@ -63,205 +63,205 @@ impl Subject {
 
 /// A spelling of another dialect: what the error is about, what is directly before its position, what is from there on,
 /// where a `9` is any digit of ASCII, and what to do.
-type Spelling = (Subject, &'static str, &'static str, &'static str);
+type Spelling = (Topic, &'static str, &'static str, &'static str);
 
 /// The spellings. Of several that fit, the first counts.
 static SPELLINGS: [Spelling; 34] = [
     (
-        Subject::Escape,
+        Topic::Escape,
         "",
         r"\Q",
         r"there is no `\Q..\E`: write a backslash before each special character",
     ),
     (
-        Subject::Escape,
+        Topic::Escape,
         "",
         r"\E",
         r"there is no `\Q..\E`: write a backslash before each special character",
     ),
     (
-        Subject::Escape,
+        Topic::Escape,
         "",
         r"\c",
         r"there is no `\c`: write the code of the control character, as in `\x01` for `\cA`",
     ),
     (
-        Subject::Escape,
+        Topic::Escape,
         "",
         r"\C-",
         r"there is no `\C-`: write the code of the control character, as in `\x01` for `\C-a`",
     ),
     (
-        Subject::Escape,
+        Topic::Escape,
         "",
         r"\C",
         r"there is no `\C`: write `\O` for any character",
     ),
     (
-        Subject::Escape,
+        Topic::Escape,
         "",
         r"\o{",
         r"there are no octal escapes: write the code in hexadecimal, as in `\x1B` for `\o{33}`",
     ),
     (
-        Subject::Escape,
+        Topic::Escape,
         "",
         r"\X",
         r"there is no `\X`: write `(?>\P{M}\p{M}*)`, which is close to a grapheme cluster",
     ),
     (
-        Subject::Escape,
+        Topic::Escape,
         "",
         r"\V",
         r"there is no `\V`: write `[^\n\v\f\r]`",
     ),
     (
-        Subject::Escape,
+        Topic::Escape,
         "",
         r"\y",
         r"there is no `\y`: write `\b` for a word boundary",
     ),
     (
-        Subject::Escape,
+        Topic::Escape,
         "",
         r"\Y",
         r"there is no `\Y`: write `\B` for what is not a word boundary",
     ),
     (
-        Subject::Group,
+        Topic::Group,
         "(?",
         "&",
         r"there is no `(?&name)`: write `\g<name>` to call a group",
     ),
     (
-        Subject::Group,
+        Topic::Group,
         "(?",
         "9",
         r"there is no `(?1)`: write `\g<1>` to call a group",
     ),
     (
-        Subject::Group,
+        Topic::Group,
         "(?",
         "+9",
         r"there is no `(?+1)`: write `\g<+1>` to call a group",
     ),
     (
-        Subject::Group,
+        Topic::Group,
         "(?",
         "-9",
         r"there is no `(?-1)`: write `\g<-1>` to call a group",
     ),
     (
-        Subject::Group,
+        Topic::Group,
         "(?",
         "|",
         "there is no branch reset `(?|..)`: write `(?:..)`, and give groups of different branches one name",
     ),
     (
-        Subject::Group,
+        Topic::Group,
         "(?",
         "^",
         "there is no `(?^..)`: clear the flags by their letters, as in `(?-imsx:..)`",
     ),
     (
-        Subject::Group,
+        Topic::Group,
         "(?",
         "C",
         "there are no callouts: remove the group",
     ),
     (
-        Subject::Group,
+        Topic::Group,
         "(?",
         "{",
         "a pattern cannot contain code: remove the group",
     ),
     (
-        Subject::Group,
+        Topic::Group,
         "(?",
         "?{",
         "a pattern cannot contain code: remove the group",
     ),
     (
-        Subject::Group,
+        Topic::Group,
         "(?",
         "a",
         r"there is no flag `a`: write `[0-9]` for `\d`, and `[0-9A-Za-z_]` for `\w`",
     ),
-    (Subject::Group, "(?", "L", "there is no flag `L`: remove it"),
+    (Topic::Group, "(?", "L", "there is no flag `L`: remove it"),
     (
-        Subject::Group,
+        Topic::Group,
         "(?",
         "J",
         "there is no flag `J`: several groups may have one name without it",
     ),
     (
-        Subject::Reference,
+        Topic::Reference,
         r"\k",
         "{",
         r"there is no `\k{name}`: write `\k<name>`",
     ),
     (
-        Subject::Reference,
+        Topic::Reference,
         r"\g",
         "{",
         r"there is no `\g{..}`: write `\k<..>` for a back reference",
     ),
     (
-        Subject::Operand,
+        Topic::Operand,
         "(",
         "*atomic:",
         "there is no `(*atomic:..)`: write `(?>..)`",
     ),
     (
-        Subject::Operand,
+        Topic::Operand,
         "(",
         "*positive_lookahead:",
         "there is no `(*positive_lookahead:..)`: write `(?=..)`",
     ),
     (
-        Subject::Operand,
+        Topic::Operand,
         "(",
         "*negative_lookahead:",
         "there is no `(*negative_lookahead:..)`: write `(?!..)`",
     ),
     (
-        Subject::Operand,
+        Topic::Operand,
         "(",
         "*positive_lookbehind:",
         "there is no `(*positive_lookbehind:..)`: write `(?<=..)`",
     ),
     (
-        Subject::Operand,
+        Topic::Operand,
         "(",
         "*negative_lookbehind:",
         "there is no `(*negative_lookbehind:..)`: write `(?<!..)`",
     ),
     (
-        Subject::Operand,
+        Topic::Operand,
         "(",
         "*pla:",
         "there is no `(*pla:..)`: write `(?=..)`",
     ),
     (
-        Subject::Operand,
+        Topic::Operand,
         "(",
         "*nla:",
         "there is no `(*nla:..)`: write `(?!..)`",
     ),
     (
-        Subject::Operand,
+        Topic::Operand,
         "(",
         "*",
         "the verbs are `(*FAIL)`, `(*ACCEPT)`, `(*COMMIT)`, `(*SKIP)` and `(*PRUNE)`",
     ),
     (
-        Subject::Operand,
+        Topic::Operand,
         "(?R)",
         "",
         r"`(?R)` sets the flag `R`: write `\g<0>` to call the whole pattern",
     ),
     (
-        Subject::Operand,
+        Topic::Operand,
         "$",
         "+{",
         r"there is no `$+{name}`: write `\k<name>` for a back reference",
@@ -285,7 +285,7 @@ fn begins_so(text: &str, beginning: &str) -> bool {
 
 /// The sentence on a spelling of another dialect at the position.
 fn hint_on_dialect(kind: &ParseError, pattern: &str, position: usize) -> Option<Hint> {
-    let subject = Subject::of(kind)?;
+    let subject = Topic::of(kind)?;
     let (before, after) = pattern.split_at(pattern.floor_char_boundary(position));
     for (about, ending, beginning, sentence) in SPELLINGS.iter() {
         if *about == subject && before.ends_with(*ending) && begins_so(after, beginning) {

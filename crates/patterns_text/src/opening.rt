@@ -133,7 +133,7 @@ fn comment_start(subject: Subject<'_>) -> Result<Option<usize>, RunError> {
 
 /// What is written after a pattern to close its innermost open group, so that a node begins where the group does.
 #[derive(Clone, Copy)]
-enum Ending {
+enum GroupEnding {
     /// A quantifier: most groups can be repeated.
     Repeat,
     /// No quantifier: a look-around cannot be repeated, but is a node itself.
@@ -144,29 +144,29 @@ enum Ending {
     Condition,
 }
 
-const ENDINGS: [Ending; 4] = [
-    Ending::Repeat,
-    Ending::LookAround,
-    Ending::Flags,
-    Ending::Condition,
+const ENDINGS: [GroupEnding; 4] = [
+    GroupEnding::Repeat,
+    GroupEnding::LookAround,
+    GroupEnding::Flags,
+    GroupEnding::Condition,
 ];
 
-impl Ending {
+impl GroupEnding {
     fn text(self) -> &'static str {
         match self {
-            Ending::Repeat => "\nx)*",
-            Ending::LookAround => CLOSER,
-            Ending::Flags => ":x)*",
-            Ending::Condition => "\nx)\nx)*",
+            GroupEnding::Repeat => "\nx)*",
+            GroupEnding::LookAround => CLOSER,
+            GroupEnding::Flags => ":x)*",
+            GroupEnding::Condition => "\nx)\nx)*",
         }
     }
 
     /// Whether the node that ends with the text begins where the group does.
     fn is_of_group(self, node: &Expr) -> bool {
         match (self, node) {
-            (Ending::Repeat | Ending::Flags, Expr::Repeat { .. }) => true,
-            (Ending::LookAround, Expr::LookAround(..)) => true,
-            (Ending::Condition, Expr::Repeat { child, .. }) => {
+            (GroupEnding::Repeat | GroupEnding::Flags, Expr::Repeat { .. }) => true,
+            (GroupEnding::LookAround, Expr::LookAround(..)) => true,
+            (GroupEnding::Condition, Expr::Repeat { child, .. }) => {
                 matches!(**child, Expr::Conditional { .. })
             }
             _ => false,
@@ -186,7 +186,7 @@ fn node_ending_at<'a>(nodes: &[SpannedNode<'a>], end: usize) -> Option<SpannedNo
 }
 
 /// Where the innermost open group begins, if the ending fits it.
-fn group_start_with(subject: Subject<'_>, ending: Ending) -> Result<Option<usize>, RunError> {
+fn group_start_with(subject: Subject<'_>, ending: GroupEnding) -> Result<Option<usize>, RunError> {
     let alloc = subject.alloc;
     let ended = followed_by(alloc, subject.pattern, ending.text(), 1)?;
     let Some(count) = count_open(subject, ended.as_str())? else {

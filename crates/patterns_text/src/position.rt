@@ -130,9 +130,9 @@ impl fmt::Display for FilePosition {
 
 /// The line in a pattern that is so many lines below its first, after a colon; nothing for the first.
 #[derive(Clone, Copy)]
-struct Below(usize);
+struct LineSuffix(usize);
 
-impl fmt::Display for Below {
+impl fmt::Display for LineSuffix {
     fn fmt<W: fmt::Write>(&self, f: &mut fmt::Formatter<W>) -> fmt::Result {
         if self.0 == 0 {
             return Ok(());
@@ -149,10 +149,10 @@ impl fmt::Display for LineOf<'_> {
         match self.at.spot {
             Spot::Line(line) => write!(f, "{file}:{}", line.saturating_add(self.lines as u64)),
             Spot::Path { position, path } => {
-                write!(f, "{file}:{position}: {path}{}", Below(self.lines))
+                write!(f, "{file}:{position}: {path}{}", LineSuffix(self.lines))
             }
             Spot::Value { position, path, .. } => {
-                write!(f, "{file}:{position}: {path}{}", Below(self.lines))
+                write!(f, "{file}:{position}: {path}{}", LineSuffix(self.lines))
             }
         }
     }

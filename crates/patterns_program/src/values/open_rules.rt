@@ -2,12 +2,12 @@
 ghost use Rattle.std.specs.Prelude.{chars, IfOk, IfSome, IfNone};
 ghost use Rattle.fancy_lex.specs.Flags.{flags_of};
 ghost use Rattle.fre_program.specs.Words.{HasError};
-ghost use Rattle.patterns_program.specs.Groups.{HasGroups};
+ghost use Rattle.patterns_program.specs.HasGroups.{HasGroups};
 
 use fancy_syntax::error::Error;
 use fancy_syntax::expr::Expr;
 use json::{Error as JsonError, Node, Scratch, Tape};
-use patterns_lint::grammar::{CAPTURE_KEYS, Capture, CaptureKey, GrammarRule};
+use patterns_lint::grammar_rule::{CAPTURE_KEYS, Capture, CaptureKey, GrammarRule};
 use patterns_text::error::RunError;
 use std::alloc::{AllocError, Global};
 
