@@ -2,6 +2,7 @@
 #![tactic(auto)]
 
 mod changes;
+mod class_members;
 mod errors;
 mod groups;
 mod positions;
@@ -12,6 +13,7 @@ mod summary;
 mod walks;
 
 use crate::changes::{replace_child, with_child};
+use crate::class_members::members;
 use crate::errors::{INVALID, first_error};
 use crate::groups::{calls_nothing, group_named};
 use crate::positions::pointed;
@@ -109,6 +111,14 @@ fn show_rewritten(rt: &HostRuntime, pattern: &str, i: usize) -> Result<()> {
     Ok(())
 }
 
+fn show_members(rt: &HostRuntime, pattern: &str) -> Result<()> {
+    match members(rt.alloc(), pattern)? {
+        Some(text) => println!(rt; "{pattern}:{text}")?,
+        None => println!(rt; "{pattern} does not match one character")?,
+    }
+    Ok(())
+}
+
 fn show_proved(rt: &HostRuntime, pattern: &str) -> Result<()> {
     println!(rt;
         "{pattern} has {} groups",
@@ -121,6 +131,8 @@ fn show_proved(rt: &HostRuntime, pattern: &str) -> Result<()> {
 }
 
 const DATE: &str = r"(?<year>\d{4})-(?<month>\d\d)";
+
+static CLASSES: [&str; 5] = ["[a-cx]", "(?i)[k]", r"[^\s\S]", "[z-a]", r"\bk"];
 
 static PATTERNS: [&str; 4] = ["x(y|z)*", r"(?<day>\d)-\k<day>", r"(a)\g<day>", "a|b"];
 
@@ -137,5 +149,8 @@ fn main(rt: HostRuntime) -> Result<()> {
     show_change(&rt)?;
     show_rewritten(&rt, DATE, 1)?;
     show_rewritten(&rt, DATE, 0)?;
+    for pattern in CLASSES.iter() {
+        show_members(&rt, pattern)?;
+    }
     show_proved(&rt, "(?<n>a)(?#c)b")
 }

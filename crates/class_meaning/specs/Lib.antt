@@ -1,0 +1,3 @@
+pub mod CharacterSet
+pub mod ClassMeaning
+pub mod EnginePattern
