@@ -1,0 +1,3 @@
+mod CharacterLemmas
+mod ManyLemmas
+mod WayLemmas

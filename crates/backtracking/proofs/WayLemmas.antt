@@ -1,0 +1,110 @@
+-- Steps of the checker, one node at a time.
+use Rattle.std.proofs.Common.{◌≡◌, ◌≢◌, ℕ, ◌+◌, ◌<◌, ◌≤◌, Bool, List, ◌∷◌, length, drop, get_or, Result, Option, Vec, Box, Global}
+use Rattle.std.proofs.Common.{IfOk, IfSome, Some, rules, refl, sym, ap, subst, ◌∙◌, drop-cons, add-one}
+use Rattle.std.specs.Prelude.{slice_get, option_map}
+use Rattle.std.proofs.lemmas.Option.{IfSome_then, slice_get-map, slice_get_read}
+use Rattle.std.proofs.lemmas.Result.{IfOk-weaker}
+use Rattle.fancy_grammar.specs.Tree.{Tree, list_of, trees_of, empty, group, alt, repeat}
+use Rattle.fancy_syntax.proofs.ChildrenLemmas.{list_of_trees_of, view_Concat}
+use Rattle.fancy_syntax.proofs.PrintLemmas.{left, left_step, left_end}
+use Rattle.fancy_syntax.specs.View.{view, views}
+use Rattle.fancy_syntax.specs.declared.expr.Expr.{Expr, Empty, Group, Concat, the_lemmas}
+use Rattle.backtracking.specs.OneCharacter.{MayMatch}
+use Rattle.backtracking.specs.TwoWays.{Rest, at, Goes, nothing, one, within, each, branch, turns, GoesAll, no_more, next}
+use Rattle.backtracking.specs.TwoWays.{Turns, turn, Part, here, later}
+use Rattle.backtracking.specs.declared.checker.Remaining.{Remaining}
+use Rattle.backtracking.specs.declared.decision.Decision.{Decision}
+use Rattle.backtracking.specs.declared.decision.Decision.TheVariants.{Branch, Again, Done}
+
+-- what holds of what remains, where it follows from what a call said of it
+pub weaker : {E : Type 0} (r : Result (Option Remaining) E) (P Q : Remaining → Type 0) →
+    ((u : Remaining) → P u → Q u) → IfOk r (λ o. IfSome o P) → IfOk r (λ o. IfSome o Q)
+weaker r P Q f h = IfOk-weaker r (λ o. IfSome o P) (λ o. IfSome o Q) (λ o k. IfSome_then o k f) h
+
+-- what holds of a value that is there
+pub at_some : {X : Type 0} (P : X → Type 0) (o : Option X) (x : X) → o ≡ Some x → IfSome o P → P x
+at_some P o x h k = subst (λ p. IfSome p P) h k
+
+-- ---- nodes
+
+view_Empty : view Empty ≡ empty
+view_Empty = search (rules, the_lemmas)
+
+view_Group : (b : Box Expr Global) → view (Group b) ≡ group (view b.value)
+view_Group b = search (rules, the_lemmas)
+
+pub went_empty : (unicode : Bool) (e : Expr) (s : Rest) → e ≡ Empty → Goes unicode (view e) s s
+went_empty unicode e s h = subst (λ t. Goes unicode t s s) (sym (ap view h ∙ view_Empty)) nothing
+
+pub went_group : (unicode : Bool) (e x : Expr) (b : Box Expr Global) (s u : Rest) → e ≡ Group b → x ≡ b.value → Goes unicode (view x) s u →
+    Goes unicode (view e) s u
+went_group unicode e x b s u h is k =
+    subst (λ t. Goes unicode t s u) (sym (ap view h ∙ view_Group b)) (within (subst (λ y. Goes unicode (view y) s u) is k))
+
+pub went_concat : (unicode : Bool) (e : Expr) (es : List Expr) (v : Vec Expr Global) (s u : Rest) → e ≡ Concat v → es ≡ v.items →
+    GoesAll unicode (trees_of (views es)) s u → Goes unicode (view e) s u
+went_concat unicode e es v s u h is k = subst (λ t. Goes unicode t s u) (sym (ap view h ∙ view_Concat v))
+    (each (subst (λ ys. GoesAll unicode (trees_of (views ys)) s u) is k))
+
+pub went_one : (unicode : Bool) (t : Tree) (c : ℕ) (ds : List Decision) (w v : List ℕ) → w ≡ c ∷ v → MayMatch unicode t c → Goes unicode t (at ds w) (at ds v)
+went_one unicode t c ds w v h m = subst (λ x. Goes unicode t (at ds x) (at ds v)) (sym h) (one m)
+
+-- the tree at an index, by the expression there
+tree_there : (bs : List Expr) (i : ℕ) (b : Expr) → i < length bs → b ≡ get_or bs i b →
+    slice_get (list_of (trees_of (views bs))) i ≡ Some (view b)
+tree_there bs i b h is = ap (λ ts. slice_get ts i) (list_of_trees_of (views bs)) ∙ slice_get-map view bs i
+    ∙ ap (option_map view) (slice_get_read bs (length bs) i b refl h is)
+
+-- the decision d is the next one
+decided : (unicode : Bool) (t : Tree) (d e : Decision) (ds es : List Decision) (w : List ℕ) (u : Rest) → ds ≡ d ∷ es → d ≡ e →
+    Goes unicode t (at (e ∷ es) w) u → Goes unicode t (at ds w) u
+decided unicode t d e ds es w u h is k =
+    subst (λ xs. Goes unicode t (at xs w) u) (sym h) (subst (λ x. Goes unicode t (at (x ∷ es) w) u) (sym is) k)
+
+pub went_branch : (unicode : Bool) (bs : List Expr) (i : ℕ) (b : Expr) (d : Decision) (ds es : List Decision) (w : List ℕ) (u : Rest) →
+    ds ≡ d ∷ es → d ≡ Branch i → i < length bs → b ≡ get_or bs i b → Goes unicode (view b) (at es w) u →
+    Goes unicode (alt (trees_of (views bs))) (at ds w) u
+went_branch unicode bs i b d ds es w u h is below there k =
+    decided unicode _ d (Branch i) ds es w u h is (branch (tree_there bs i b below there) k)
+
+-- ---- turns
+
+-- the decision d follows the turns
+then_decided : (unicode : Bool) (t : Tree) (n : ℕ) (d e : Decision) (ds es : List Decision) (w : List ℕ) (s : Rest) → ds ≡ d ∷ es → d ≡ e →
+    Turns unicode t n s (at ds w) → Turns unicode t n s (at (e ∷ es) w)
+then_decided unicode t n d e ds es w s h is k =
+    subst (λ x. Turns unicode t n s (at (x ∷ es) w)) is (subst (λ xs. Turns unicode t n s (at xs w)) h k)
+
+pub went_turn : (unicode : Bool) (t : Tree) (n : ℕ) (d : Decision) (ds es : List Decision) (w : List ℕ) (s u : Rest) → ds ≡ d ∷ es →
+    d ≡ Again → Turns unicode t n s (at ds w) → Goes unicode t (at es w) u → length u.text < length w → Turns unicode t (n + 1) s u
+went_turn unicode t n d ds es w s u h is k m less = rw add-one (turn (then_decided unicode t n d Again ds es w s h is k) m less)
+
+pub went_repeat : (unicode : Bool) (t : Tree) (n lo hi : ℕ) (greedy : Bool) (d : Decision) (ds es : List Decision) (w : List ℕ) (s : Rest) →
+    ds ≡ d ∷ es → d ≡ Done → Turns unicode t n s (at ds w) → lo ≤ n → n ≤ hi → Goes unicode (repeat t lo hi greedy) s (at es w)
+went_repeat unicode t n lo hi greedy d ds es w s h is k low high = turns (then_decided unicode t n d Done ds es w s h is k) low high
+
+-- ---- trees one after another
+
+pub went_next : (unicode : Bool) (es : List Expr) (i : ℕ) (e : Expr) (s t u : Rest) → i < length es → e ≡ get_or es i e →
+    Goes unicode (view e) s t → GoesAll unicode (left es (i + 1)) t u → GoesAll unicode (left es i) s u
+went_next unicode es i e s t u h is k m = subst (λ ts. GoesAll unicode ts s u) (sym (left_step es i e h is)) (next k m)
+
+pub went_all : (unicode : Bool) (es : List Expr) (i : ℕ) (s : Rest) → length es ≤ i → GoesAll unicode (left es i) s s
+went_all unicode es i s h = subst (λ ts. GoesAll unicode ts s s) (sym (left_end es i h)) no_more
+
+-- ---- two lists of decisions
+
+decisions_step : (ds : List Decision) (i : ℕ) (d : Decision) → i < length ds →
+    drop i ds ≡ get_or ds i d ∷ drop (i + 1) ds
+decisions_step ds i d h = rw (add-one, drop-cons ds i d h) refl
+
+pub part_here : (ds : List Decision) (i : ℕ) (d e : Decision) (rest more : List Decision) → i < length ds →
+    rest ≡ e ∷ more → get_or ds i d ≢ e → Part (drop i ds) rest
+part_here ds i d e rest more h is k =
+    subst (λ xs. Part xs rest) (sym (decisions_step ds i d h)) (subst (Part (get_or ds i d ∷ drop (i + 1) ds)) (sym is) (here k))
+
+pub part_later : (ds : List Decision) (i : ℕ) (d e : Decision) (rest more : List Decision) → i < length ds →
+    rest ≡ e ∷ more → get_or ds i d ≡ e → Part (drop (i + 1) ds) more → Part (drop i ds) rest
+part_later ds i d e rest more h is k p =
+    subst (λ xs. Part xs rest) (sym (decisions_step ds i d h)) (subst (Part (get_or ds i d ∷ drop (i + 1) ds)) (sym is)
+    (subst (λ x. Part (x ∷ drop (i + 1) ds) (e ∷ more)) (sym k) (later p)))

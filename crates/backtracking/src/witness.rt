@@ -1,0 +1,84 @@
+//! A word that shows that a repeat can match a text in exponentially many ways.
+ghost use Rattle.std.specs.Prelude.{IfOk};
+ghost use Rattle.fancy_syntax.specs.View.{view};
+ghost use Rattle.backtracking.specs.Witnessed.{IsWitnessed, IsExponential};
+
+use crate::automaton::Automaton;
+use crate::checker::are_two_ways;
+use crate::decision::Decision;
+use crate::pairs::{Pairs, Searched};
+use crate::routes::{Route, routes_from};
+use fancy_syntax::expr::Expr;
+use std::alloc::{AllocError, Global};
+
+/// A word, and two different ways of matching it by turns of a repeat. Each repetition of the word doubles the ways.
+#[derive(Drop)]
+pub struct Witness {
+    /// The word, which may be repeated.
+    pub word: Vec<char>,
+    /// The decisions on one way.
+    pub first: Vec<Decision>,
+    /// Those on another way.
+    pub second: Vec<Decision>,
+}
+
+/// What is known about the ways of a repeat.
+#[derive(Drop)]
+pub enum RepeatWays {
+    /// There is a word that its turns can match in two ways.
+    Exponential(Witness),
+    /// No such word was found.
+    NoneFound,
+    /// It was not looked at: it holds look-around, a reference or the like, or it is too large.
+    NotLookedAt,
+}
+
+/// The routes from each position.
+fn all_routes(alloc: Global, automaton: &Automaton) -> Result<Option<Vec<Vec<Route>>>, AllocError> {
+    let mut all = Vec::new(alloc);
+    for position in 0..automaton.positions.len() {
+        let Some(routes) = routes_from(alloc, automaton, position)? else {
+            return Ok(None);
+        };
+        all.push(routes)?;
+    }
+    Ok(Some(all))
+}
+
+/// Searches for a word that turns of the tree can match in two ways. What it finds is still to be checked.
+fn search(alloc: Global, tree: &Expr, unicode: bool) -> Result<Searched, AllocError> {
+    let Some(automaton) = Automaton::of(alloc, tree, unicode)? else {
+        return Ok(Searched::TooLarge);
+    };
+    let Some(routes) = all_routes(alloc, &automaton)? else {
+        return Ok(Searched::TooLarge);
+    };
+    Pairs::new(alloc, &automaton, &routes)?.search()
+}
+
+/// Searches for a word that turns of the tree, the part that a quantifier repeats, can match in two ways. `unicode` says
+/// whether the pattern is one for text with Unicode, as under `FLAG_UNICODE`.
+///
+/// A witness is returned only if the two ways were checked.
+pub fn ways_of_repeat(alloc: Global, tree: &Expr, unicode: bool) -> Result<RepeatWays, AllocError>
+    ensures witnessed { IfOk result (IsWitnessed unicode (view tree.now)) }
+    ensures exponential { IfOk result (IsExponential unicode (view tree.now)) }
+{
+    let witness = match search(alloc, tree, unicode)? {
+        Searched::Found(witness) => witness,
+        Searched::Nothing => return Ok(RepeatWays::NoneFound),
+        Searched::TooLarge => return Ok(RepeatWays::NotLookedAt),
+    };
+    if are_two_ways(
+        alloc,
+        tree,
+        unicode,
+        &witness.word,
+        &witness.first,
+        &witness.second,
+    )? {
+        Ok(RepeatWays::Exponential(witness))
+    } else {
+        Ok(RepeatWays::NoneFound)
+    }
+}
