@@ -3,7 +3,7 @@ use Rattle.std.proofs.Common.{◌≡◌, ℕ, ◌+◌, nat_lt, Bool, true, false
 use Rattle.std.proofs.Common.{append_assoc, append-nil, sym, refl, ap, ◌∙◌, codes, if◌then◌else◌, arith}
 use Rattle.std.specs.Prelude.{Result, Ok, Err, OnOk}
 use Rattle.std.proofs.lemmas.Str.{len_utf8_bounds}
-use Rattle.fancy_lex.specs.Text.{Text, bytes}
+use Rattle.fancy_lex.specs.Text.{Text, text_of, bytes}
 use Rattle.fancy_lex.specs.declared.flags.Flags.{Flags}
 use Rattle.fancy_lex.proofs.TextLemmas.{bytes-append}
 use Rattle.fancy_grammar.specs.Join.{is_empty}
@@ -28,6 +28,7 @@ use Rattle.fancy_pattern.specs.TextOutput.{Added, Changed, separated}
 use Rattle.fancy_pattern.specs.ContextViews.{IsContext}
 use Rattle.fancy_pattern.specs.Writers.{Writes, WritesSettled, needs_below, is_conditional, is_expression, parts_text}
 use Rattle.fancy_pattern.specs.declared.context.Context as code
+use Rattle.fancy_pattern.specs.declared.output.TextOutput.{TextOutput}
 use Rattle.fancy_pattern.specs.declared.separator.Separator.TheVariants.{Condition}
 use Rattle.fancy_pattern.proofs.SettledLemmas.{keeps_after, no_more_groups}
 use Rattle.fancy_pattern.proofs.OutputLemmas.{added_as, then_added}
@@ -136,401 +137,399 @@ unfolding bytes
 no_bytes [] e = refl
 no_bytes (c ∷ u) e = absurd (omega (arith, (len_utf8_bounds c).0))
 
-module _ {S : Type 0} (holds : S → Text → Type 0) where
-  filled : (a b : S) (len position : ℕ) → ((t : Text) → holds a t → len ≡ bytes t) → len ≡ position →
-      Added holds a b (codes "()") → Changed holds a b position stopper_text
-  filled a b len position at e p = record {
-    changes = λ t u h k.
-        let long = bytes-append t u in
-        let whole = at (t ++ u) h in
-        let none : u ≡ [] = no_bytes u (omega arith) in
-        let done = p.after (t ++ u) h in
-        subst (λ x. holds b (t ++ stopper_text x)) (sym none)
-        (subst (λ x. holds b (x ++ codes "()")) (append-nil t) (subst (λ x. holds b ((t ++ x) ++ codes "()")) none done));
-  }
+filled : (a b : TextOutput) (len position : ℕ) → len ≡ bytes (text_of a.text) → len ≡ position →
+    Added a b (codes "()") → Changed a b position stopper_text
+filled a b len position at e p = record {
+  changes = λ t u h k.
+      let long = bytes-append t u in
+      let whole = ap bytes h in
+      let none : u ≡ [] = no_bytes u (omega (arith, whole)) in
+      p.after ∙ ap (λ x. x ++ codes "()") (h ∙ ap (λ x. t ++ x) none ∙ append-nil t)
+      ∙ ap (λ x. t ++ stopper_text x) (sym none);
+}
 
-  pub filled_where : {X E : Type 0} (r : Result X E) (a b : S) (len position : ℕ) →
-      ((t : Text) → holds a t → len ≡ bytes t) → len ≡ position → OnOk r (Added holds a b (codes "()")) →
-      OnOk r (Changed holds a b position stopper_text)
-  filled_where (Ok v) a b len position at e p = filled a b len position at e p
-  filled_where (Err v) a b len position at e p = p
+pub filled_where : {X E : Type 0} (r : Result X E) (a b : TextOutput) (len position : ℕ) →
+    len ≡ bytes (text_of a.text) → len ≡ position → OnOk r (Added a b (codes "()")) →
+    OnOk r (Changed a b position stopper_text)
+filled_where (Ok v) a b len position at e p = filled a b len position at e p
+filled_where (Err v) a b len position at e p = p
 
-  -- ---- in a group, if it needs one
+-- ---- in a group, if it needs one
 
-  pub atom_writes : (a b : S) (i j : code.Context) (t : Tree) (p : Precedence) (l : Bool → List Needs)
-      (text : Context → Text)
-      (n : Context → Context) (choice : Bool) → choice ≡ (is_operand p && not (is_repeatable i.flags t)) →
-      Writes holds a b i j l (λ h. if choice then in_parens [] text h else text h) n →
-      Writes holds a b i j l (as_atom t p text) n
-  atom_writes a b i j t p l text n choice e w = record {
-    writes = λ h r is.
-        let done = w.writes h r is in
-        let same = e ∙ ap (λ f. is_operand p && not (is_repeatable f t)) is.flags in
-        (added_as holds a b _ _ done.0 (ap (λ b. if b then in_parens [] text h else text h) same), done.1);
-  }
+pub atom_writes : (a b : TextOutput) (i j : code.Context) (t : Tree) (p : Precedence) (l : Bool → List Needs)
+    (text : Context → Text)
+    (n : Context → Context) (choice : Bool) → choice ≡ (is_operand p && not (is_repeatable i.flags t)) →
+    Writes a b i j l (λ h. if choice then in_parens [] text h else text h) n →
+    Writes a b i j l (as_atom t p text) n
+atom_writes a b i j t p l text n choice e w = record {
+  writes = λ h r is.
+      let done = w.writes h r is in
+      let same = e ∙ ap (λ f. is_operand p && not (is_repeatable f t)) is.flags in
+      (added_as a b _ _ done.0 (ap (λ b. if b then in_parens [] text h else text h) same), done.1);
+}
 
-  pub look_writes : (a b : S) (i j : code.Context) (t : Tree) (k : LookAround) (p : Precedence) (l : Bool → List Needs)
-      (text : Context → Text) (n : Context → Context) (choice : Bool) → choice ≡ is_operand p →
-      Writes holds a b i j l (λ h. if choice then in_parens [] text h else text h) n →
-      Writes holds a b i j l (as_atom (look_around t k) p text) n
-  look_writes a b i j t k p l text n choice e w =
-      atom_writes a b i j (look_around t k) p l text n choice (e ∙ and_true (is_operand p)) w
+pub look_writes : (a b : TextOutput) (i j : code.Context) (t : Tree) (k : LookAround) (p : Precedence) (l : Bool → List Needs)
+    (text : Context → Text) (n : Context → Context) (choice : Bool) → choice ≡ is_operand p →
+    Writes a b i j l (λ h. if choice then in_parens [] text h else text h) n →
+    Writes a b i j l (as_atom (look_around t k) p text) n
+look_writes a b i j t k p l text n choice e w =
+    atom_writes a b i j (look_around t k) p l text n choice (e ∙ and_true (is_operand p)) w
 
-  pub last_writes : (a b : S) (i j : code.Context) (p : Precedence) (opening : Text) (l : Bool → List Needs)
-      (text : Precedence → Context → Text) (n : Context → Context) (choice : Bool) → choice ≡ is_last_operand p →
-      Writes holds a b i j l (in_parens_if choice opening text p) n →
-      Writes holds a b i j l (in_parens_if (is_last_operand p) opening text p) n
-  last_writes a b i j p opening l text n choice e w =
-      subst (λ x. Writes holds a b i j l (in_parens_if x opening text p) n) e w
+pub last_writes : (a b : TextOutput) (i j : code.Context) (p : Precedence) (opening : Text) (l : Bool → List Needs)
+    (text : Precedence → Context → Text) (n : Context → Context) (choice : Bool) → choice ≡ is_last_operand p →
+    Writes a b i j l (in_parens_if choice opening text p) n →
+    Writes a b i j l (in_parens_if (is_last_operand p) opening text p) n
+last_writes a b i j p opening l text n choice e w =
+    subst (λ x. Writes a b i j l (in_parens_if x opening text p) n) e w
 
-  -- ---- trees, each from its writer
+-- ---- trees, each from its writer
 
-  -- a capturing group; its opening is that of the number that the position inside has reached
-  pub group_writes : (a b c d e : S) (i j k o z : code.Context) (m : GroupInfo) (t : Tree) →
-      Added holds a b (codes "(" ++ []) →
-      ((h : Context) (l : List Needs) → IsContext i h l → IsContext j (deeper h) l) →
-      ((h : Context) (l : List Needs) → IsContext j h l → IsContext k (past_groups 1 h) l) →
-      Added holds b c (group_opening m k.opened) →
-      Writes holds c d k o (λ o. needs_listed o t) (written m t Whole) (after t Whole) → Added holds d e (codes ")") →
-      ((h g : Context) (x l : List Needs) → IsContext i h x → IsContext o g l →
-      IsContext z (record h { opened = g.opened }) l) →
-      Writes holds a e i z (λ o. needs_listed o t)
-      (λ h. in_parens (group_opening m (h.opened + 1)) (written m t Whole) (past_groups 1 h))
-      (past_groups (group_count t + 1))
-  group_writes a b c d e i j k o z m t opens at next opening w closes out = record {
+-- a capturing group; its opening is that of the number that the position inside has reached
+pub group_writes : (a b c d e : TextOutput) (i j k o z : code.Context) (m : GroupInfo) (t : Tree) →
+    Added a b (codes "(" ++ []) →
+    ((h : Context) (l : List Needs) → IsContext i h l → IsContext j (deeper h) l) →
+    ((h : Context) (l : List Needs) → IsContext j h l → IsContext k (past_groups 1 h) l) →
+    Added b c (group_opening m k.opened) →
+    Writes c d k o (λ o. needs_listed o t) (written m t Whole) (after t Whole) → Added d e (codes ")") →
+    ((h g : Context) (x l : List Needs) → IsContext i h x → IsContext o g l →
+    IsContext z (record h { opened = g.opened }) l) →
+    Writes a e i z (λ o. needs_listed o t)
+    (λ h. in_parens (group_opening m (h.opened + 1)) (written m t Whole) (past_groups 1 h))
+    (past_groups (group_count t + 1))
+group_writes a b c d e i j k o z m t opens at next opening w closes out = record {
+  writes = λ h l is.
+      let l0 = needs_listed h.flags.oniguruma_mode t ++ l in
+      let inside = next (deeper h) l0 (at h l0 is) in
+      let name = added_as b c _ _ opening (ap (group_opening m) inside.opened) in
+      let done = w.writes (past_groups 1 (deeper h)) l inside in
+      let front = then_added a b c (codes "(" ++ []) (group_opening m (h.opened + 1)) opens name in
+      let two = then_added a c d _ _ front done.0 in
+      let all = then_added a d e _ _ two closes in
+      let groups : h.opened + 1 + group_count t ≡ h.opened + (group_count t + 1) = omega arith in (
+        added_as a e _ _ all
+            (append_assoc (codes "(" ++ group_opening m (h.opened + 1)) (written m t Whole (past_groups 1 (deeper h)))
+            (codes ")")),
+        subst (λ n. IsContext z (record h { opened = n }) l) groups
+            (out h (after t Whole (past_groups 1 (deeper h))) l0 l is done.1),
+      );
+}
+
+pub quantified_writes : (a b c : TextOutput) (i j k : code.Context) (m : GroupInfo) (t : Tree) (p : Precedence)
+    (possessive : Bool)
+    (lo hi : ℕ) (greedy : Bool) (left : ℕ) →
+    ((h : Context) (l : List Needs) → IsContext i h l → left ≡ allowed p h) →
+    Writes a b i j (λ o. needs_listed o t) (written m t (Operand left)) (after t (Operand left)) →
+    Added b c (quantifier_text i.flags possessive (nat_lt 0 left && is_quantified i.flags t) lo hi greedy) →
+    ((h g : Context) (x l : List Needs) → IsContext i h x → IsContext j g l →
+    IsContext k (record h { opened = g.opened }) l) →
+    Writes a c i k (λ o. needs_listed o t) (repeated possessive t lo hi greedy (written m t) p)
+    (past_groups (group_count t))
+quantified_writes a b c i j k m t p possessive lo hi greedy left enough w symbol out = record {
+  writes = λ h l is.
+      let l0 = needs_listed h.flags.oniguruma_mode t ++ l in
+      let done = w.writes h l is in
+      let same : left ≡ allowed p h = enough h l0 is in
+      let all = then_added a b c _ _ done.0 symbol in
+      let quantifier_of : (f : Flags) → Text
+      = λ f. quantifier_text f possessive (nat_lt 0 left && is_quantified f t) lo hi greedy in (
+        added_as a c _ _ all
+            (ap (λ f. written m t (Operand left) h ++ quantifier_of f) is.flags
+            ∙ ap (λ n. written m t (Operand n) h
+            ++ quantifier_text h.flags possessive (nat_lt 0 n && is_quantified h.flags t) lo hi greedy) same),
+        out h (after t (Operand left) h) l0 l is done.1,
+      );
+}
+
+pub atomic_writes : (a b : TextOutput) (i j : code.Context) (m : GroupInfo) (t : Tree) (lo hi : ℕ) (greedy : Bool)
+    (p : Precedence)
+    (choice : Bool) → choice ≡ (is_last_operand p || not (is_possessive i.flags lo hi)) →
+    Writes a b i j (λ o. needs_below o (atomic_group (repeat t lo hi greedy)))
+    (λ h. if choice then in_parens (codes "?>") (repeated false t lo hi greedy (written m t) Whole) h
+    else repeated true t lo hi greedy (written m t) p h) (past_groups (group_count t)) →
+    WritesSettled a b i j m (atomic_group (repeat t lo hi greedy)) p
+atomic_writes a b i j m t lo hi greedy p choice e w = record {
+  text = λ h. if is_last_operand p || not (is_possessive h.flags lo hi) then
+      in_parens (codes "?>") (repeated false t lo hi greedy (written m t) Whole) h
+      else repeated true t lo hi greedy (written m t) p h;
+  is = λ h. refl;
+  writes = record {
     writes = λ h l is.
-        let l0 = needs_listed h.flags.oniguruma_mode t ++ l in
-        let inside = next (deeper h) l0 (at h l0 is) in
-        let name = added_as holds b c _ _ opening (ap (group_opening m) inside.opened) in
-        let done = w.writes (past_groups 1 (deeper h)) l inside in
-        let front = then_added holds a b c (codes "(" ++ []) (group_opening m (h.opened + 1)) opens name in
-        let two = then_added holds a c d _ _ front done.0 in
-        let all = then_added holds a d e _ _ two closes in
-        let groups : h.opened + 1 + group_count t ≡ h.opened + (group_count t + 1) = omega arith in (
-          added_as holds a e _ _ all
-              (append_assoc (codes "(" ++ group_opening m (h.opened + 1)) (written m t Whole (past_groups 1 (deeper h)))
-              (codes ")")),
-          subst (λ n. IsContext z (record h { opened = n }) l) groups
-              (out h (after t Whole (past_groups 1 (deeper h))) l0 l is done.1),
-        );
-  }
-
-  pub quantified_writes : (a b c : S) (i j k : code.Context) (m : GroupInfo) (t : Tree) (p : Precedence)
-      (possessive : Bool)
-      (lo hi : ℕ) (greedy : Bool) (left : ℕ) →
-      ((h : Context) (l : List Needs) → IsContext i h l → left ≡ allowed p h) →
-      Writes holds a b i j (λ o. needs_listed o t) (written m t (Operand left)) (after t (Operand left)) →
-      Added holds b c (quantifier_text i.flags possessive (nat_lt 0 left && is_quantified i.flags t) lo hi greedy) →
-      ((h g : Context) (x l : List Needs) → IsContext i h x → IsContext j g l →
-      IsContext k (record h { opened = g.opened }) l) →
-      Writes holds a c i k (λ o. needs_listed o t) (repeated possessive t lo hi greedy (written m t) p)
-      (past_groups (group_count t))
-  quantified_writes a b c i j k m t p possessive lo hi greedy left enough w symbol out = record {
-    writes = λ h l is.
-        let l0 = needs_listed h.flags.oniguruma_mode t ++ l in
         let done = w.writes h l is in
-        let same : left ≡ allowed p h = enough h l0 is in
-        let all = then_added holds a b c _ _ done.0 symbol in
-        let quantifier_of : (f : Flags) → Text
-        = λ f. quantifier_text f possessive (nat_lt 0 left && is_quantified f t) lo hi greedy in (
-          added_as holds a c _ _ all
-              (ap (λ f. written m t (Operand left) h ++ quantifier_of f) is.flags
-              ∙ ap (λ n. written m t (Operand n) h
-              ++ quantifier_text h.flags possessive (nat_lt 0 n && is_quantified h.flags t) lo hi greedy) same),
-          out h (after t (Operand left) h) l0 l is done.1,
+        let same = e ∙ ap (λ f. is_last_operand p || not (is_possessive f lo hi)) is.flags in (
+          added_as a b _ _ done.0
+              (ap (λ b. if b then in_parens (codes "?>") (repeated false t lo hi greedy (written m t) Whole) h
+              else repeated true t lo hi greedy (written m t) p h) same),
+          done.1,
         );
-  }
+  };
+}
 
-  pub atomic_writes : (a b : S) (i j : code.Context) (m : GroupInfo) (t : Tree) (lo hi : ℕ) (greedy : Bool)
-      (p : Precedence)
-      (choice : Bool) → choice ≡ (is_last_operand p || not (is_possessive i.flags lo hi)) →
-      Writes holds a b i j (λ o. needs_below o (atomic_group (repeat t lo hi greedy)))
-      (λ h. if choice then in_parens (codes "?>") (repeated false t lo hi greedy (written m t) Whole) h
-      else repeated true t lo hi greedy (written m t) p h) (past_groups (group_count t)) →
-      WritesSettled holds a b i j m (atomic_group (repeat t lo hi greedy)) p
-  atomic_writes a b i j m t lo hi greedy p choice e w = record {
-    text = λ h. if is_last_operand p || not (is_possessive h.flags lo hi) then
-        in_parens (codes "?>") (repeated false t lo hi greedy (written m t) Whole) h
-        else repeated true t lo hi greedy (written m t) p h;
-    is = λ h. refl;
-    writes = record {
-      writes = λ h l is.
-          let done = w.writes h l is in
-          let same = e ∙ ap (λ f. is_last_operand p || not (is_possessive f lo hi)) is.flags in (
-            added_as holds a b _ _ done.0
-                (ap (λ b. if b then in_parens (codes "?>") (repeated false t lo hi greedy (written m t) Whole) h
-                else repeated true t lo hi greedy (written m t) p h) same),
-            done.1,
-          );
-    };
-  }
+pub atomic_in_group : (a b : TextOutput) (i j : code.Context) (m : GroupInfo) (t : Tree) (p : Precedence) → is_repeat t ≡ false →
+    Writes a b i j (λ o. needs_listed o t) (in_parens (codes "?>") (written m t Whole))
+    (past_groups (group_count t)) →
+    WritesSettled a b i j m (atomic_group t) p
+atomic_in_group a b i j m t p e w = record {
+  text = in_parens (codes "?>") (written m t Whole);
+  is = λ h. atomic_alone m t p h e;
+  writes = w;
+}
 
-  pub atomic_in_group : (a b : S) (i j : code.Context) (m : GroupInfo) (t : Tree) (p : Precedence) → is_repeat t ≡ false →
-      Writes holds a b i j (λ o. needs_listed o t) (in_parens (codes "?>") (written m t Whole))
-      (past_groups (group_count t)) →
-      WritesSettled holds a b i j m (atomic_group t) p
-  atomic_in_group a b i j m t p e w = record {
-    text = in_parens (codes "?>") (written m t Whole);
-    is = λ h. atomic_alone m t p h e;
-    writes = w;
-  }
+-- ---- conditionals
 
-  -- ---- conditionals
+leaf_after : (l : label.Leaf) (p : Precedence) (h : Context) → is_text_condition (leaf l) ≡ false →
+    h ≡ after (leaf l) p h
+leaf_after (label.backref_exists n level) p h e = no_more_groups h
+leaf_after (label.verb v) p h e = no_more_groups h
+leaf_after label.empty p h e = absurd (cc)
+leaf_after (label.any newline crlf) p h e = absurd (cc)
+leaf_after (label.assertion a) p h e = absurd (cc)
+leaf_after (label.general_newline u) p h e = absurd (cc)
+leaf_after (label.literal s casei) p h e = absurd (cc)
+leaf_after (label.literal_bytes s) p h e = absurd (cc)
+leaf_after (label.delegate s casei) p h e = absurd (cc)
+leaf_after (label.backref n casei) p h e = absurd (cc)
+leaf_after (label.backref_at_level n level casei) p h e = absurd (cc)
+leaf_after label.keep_out p h e = absurd (cc)
+leaf_after label.continue_from_previous_match_end p h e = absurd (cc)
+leaf_after (label.subroutine_call n) p h e = absurd (cc)
+leaf_after label.clear p h e = absurd (cc)
+leaf_after (label.ast_node r position) p h e = absurd (cc)
 
-  leaf_after : (l : label.Leaf) (p : Precedence) (h : Context) → is_text_condition (leaf l) ≡ false →
-      h ≡ after (leaf l) p h
-  leaf_after (label.backref_exists n level) p h e = no_more_groups h
-  leaf_after (label.verb v) p h e = no_more_groups h
-  leaf_after label.empty p h e = absurd (cc)
-  leaf_after (label.any newline crlf) p h e = absurd (cc)
-  leaf_after (label.assertion a) p h e = absurd (cc)
-  leaf_after (label.general_newline u) p h e = absurd (cc)
-  leaf_after (label.literal s casei) p h e = absurd (cc)
-  leaf_after (label.literal_bytes s) p h e = absurd (cc)
-  leaf_after (label.delegate s casei) p h e = absurd (cc)
-  leaf_after (label.backref n casei) p h e = absurd (cc)
-  leaf_after (label.backref_at_level n level casei) p h e = absurd (cc)
-  leaf_after label.keep_out p h e = absurd (cc)
-  leaf_after label.continue_from_previous_match_end p h e = absurd (cc)
-  leaf_after (label.subroutine_call n) p h e = absurd (cc)
-  leaf_after label.clear p h e = absurd (cc)
-  leaf_after (label.ast_node r position) p h e = absurd (cc)
+-- a condition that is written as a word of its own
+pub word_writes : (a b : TextOutput) (i j : code.Context) (m : GroupInfo) (l : label.Leaf) (text : Text) →
+    is_text_condition (leaf l) ≡ false → ((t : Text) → condition_text m (leaf l) t ≡ text) → Added a b text →
+    ((h : Context) (d : Needs) (r : List Needs) → IsContext i h (d ∷ r) → IsContext j h r) →
+    Writes a b i j (λ o. needs_listed o (leaf l)) (λ h. condition_text m (leaf l) (written m (leaf l) Whole h))
+    (after (leaf l) Whole)
+word_writes a b i j m l text e is p past = record {
+  writes = λ h r at. (
+    added_as a b _ _ p (sym (is (written m (leaf l) Whole h))),
+    subst (λ g. IsContext j g r) (leaf_after l Whole h e) (past h _ r at),
+  );
+}
 
-  -- a condition that is written as a word of its own
-  pub word_writes : (a b : S) (i j : code.Context) (m : GroupInfo) (l : label.Leaf) (text : Text) →
-      is_text_condition (leaf l) ≡ false → ((t : Text) → condition_text m (leaf l) t ≡ text) → Added holds a b text →
-      ((h : Context) (d : Needs) (r : List Needs) → IsContext i h (d ∷ r) → IsContext j h r) →
-      Writes holds a b i j (λ o. needs_listed o (leaf l)) (λ h. condition_text m (leaf l) (written m (leaf l) Whole h))
-      (after (leaf l) Whole)
-  word_writes a b i j m l text e is p past = record {
-    writes = λ h r at. (
-      added_as holds a b _ _ p (sym (is (written m (leaf l) Whole h))),
-      subst (λ g. IsContext j g r) (leaf_after l Whole h e) (past h _ r at),
-    );
-  }
+pub condition_writes : (a b : TextOutput) (i j : code.Context) (m : GroupInfo) (c : Tree) → is_text_condition c ≡ true →
+    Writes a b i j (λ o. needs_listed o c) (λ h. separated Condition (written m c Whole h)) (after c Whole) →
+    Writes a b i j (λ o. needs_listed o c) (λ h. condition_text m c (written m c Whole h)) (after c Whole)
+condition_writes a b i j m c e w =
+    writes_as a b i j _ _ _ _ _ _ w (λ o. refl) (λ h. text_condition m c (written m c Whole h) e) (λ h. refl)
 
-  pub condition_writes : (a b : S) (i j : code.Context) (m : GroupInfo) (c : Tree) → is_text_condition c ≡ true →
-      Writes holds a b i j (λ o. needs_listed o c) (λ h. separated Condition (written m c Whole h)) (after c Whole) →
-      Writes holds a b i j (λ o. needs_listed o c) (λ h. condition_text m c (written m c Whole h)) (after c Whole)
-  condition_writes a b i j m c e w =
-      writes_as holds a b i j _ _ _ _ _ _ w (λ o. refl) (λ h. text_condition m c (written m c Whole h) e) (λ h. refl)
+abbrev pub ChoiceWrites : TextOutput → TextOutput → code.Context → code.Context → GroupInfo → Tree → Tree → Type 0
+ChoiceWrites a b i j m t e = Writes a b i j (λ o. all_listed o (more_trees t (more_trees e no_trees)))
+    (λ h. branches_text t e (written m t Branch h) (written m e Whole (after t Branch h)))
+    (λ h. after e Whole (after t Branch h))
 
-  abbrev pub ChoiceWrites : S → S → code.Context → code.Context → GroupInfo → Tree → Tree → Type 0
-  ChoiceWrites a b i j m t e = Writes holds a b i j (λ o. all_listed o (more_trees t (more_trees e no_trees)))
-      (λ h. branches_text t e (written m t Branch h) (written m e Whole (after t Branch h)))
-      (λ h. after e Whole (after t Branch h))
+pub no_choice : (a b : TextOutput) (i j k : code.Context) (m : GroupInfo) (t e : Tree) → (is_empty t && is_empty e) ≡ true →
+    Added a b (codes "()") →
+    ((h : Context) (d : Needs) (r : List Needs) → IsContext i h (d ∷ r) → IsContext j h r) →
+    ((h : Context) (d : Needs) (r : List Needs) → IsContext j h (d ∷ r) → IsContext k h r) → ChoiceWrites a b i k m t e
+no_choice a b i j k m t e none p past more =
+    let both = both_true (is_empty t) (is_empty e) none in
+    subst (λ x. ChoiceWrites a b i k m x e) (sym (empty_is t both.0))
+    (subst (λ x. ChoiceWrites a b i k m empty x) (sym (empty_is e both.1)) (record {
+      writes = λ h r at. (
+        p,
+        subst (λ g. IsContext k g r) (no_more_groups h ∙ no_more_groups (past_groups 0 h))
+            (more h _ r (past h _ (_ ∷ r) at)),
+      );
+    }))
 
-  pub no_choice : (a b : S) (i j k : code.Context) (m : GroupInfo) (t e : Tree) → (is_empty t && is_empty e) ≡ true →
-      Added holds a b (codes "()") →
-      ((h : Context) (d : Needs) (r : List Needs) → IsContext i h (d ∷ r) → IsContext j h r) →
-      ((h : Context) (d : Needs) (r : List Needs) → IsContext j h (d ∷ r) → IsContext k h r) → ChoiceWrites a b i k m t e
-  no_choice a b i j k m t e none p past more =
-      let both = both_true (is_empty t) (is_empty e) none in
-      subst (λ x. ChoiceWrites a b i k m x e) (sym (empty_is t both.0))
-      (subst (λ x. ChoiceWrites a b i k m empty x) (sym (empty_is e both.1)) (record {
-        writes = λ h r at. (
-          p,
-          subst (λ g. IsContext k g r) (no_more_groups h ∙ no_more_groups (past_groups 0 h))
-              (more h _ r (past h _ (_ ∷ r) at)),
-        );
-      }))
+without_bar : (t e : Tree) (v w : Text) → (is_empty t && is_empty e) ≡ false →
+    (not (is_empty e) || is_alt t) ≡ false → v ≡ branches_text t e v w
+without_bar t e v w some none = rw (some, none) (sym (append-nil v))
 
-  without_bar : (t e : Tree) (v w : Text) → (is_empty t && is_empty e) ≡ false →
-      (not (is_empty e) || is_alt t) ≡ false → v ≡ branches_text t e v w
-  without_bar t e v w some none = rw (some, none) (sym (append-nil v))
+with_bar : (t e : Tree) (v w : Text) → (is_empty t && is_empty e) ≡ false → (not (is_empty e) || is_alt t) ≡ true →
+    v ++ (codes "|" ++ w) ≡ branches_text t e v w
+with_bar t e v w some one = rw (some, one) refl
 
-  with_bar : (t e : Tree) (v w : Text) → (is_empty t && is_empty e) ≡ false → (not (is_empty e) || is_alt t) ≡ true →
-      v ++ (codes "|" ++ w) ≡ branches_text t e v w
-  with_bar t e v w some one = rw (some, one) refl
+pub one_choice : (a b : TextOutput) (i j k : code.Context) (m : GroupInfo) (t e : Tree) → (is_empty t && is_empty e) ≡ false →
+    (not (is_empty e) || is_alt t) ≡ false →
+    Writes a b i j (λ o. needs_listed o t) (written m t Branch) (after t Branch) →
+    ((h : Context) (d : Needs) (r : List Needs) → IsContext j h (d ∷ r) → IsContext k h r) → ChoiceWrites a b i k m t e
+one_choice a b i j k m t e some bars w past =
+    let none = empty_is e (neither (is_empty e) (is_alt t) bars) in
+    subst (λ x. ChoiceWrites a b i k m t x) (sym none)
+    (writes_as a b i k _ _ _ _ _ _
+    (after_writes a b i j k (λ o. _) (λ o. needs_listed o t) (written m t Branch) (after t Branch)
+    (keeps_after t Branch) past w)
+    (λ o. refl)
+    (λ h. without_bar t empty (written m t Branch h) (written m empty Whole (after t Branch h))
+    (subst (λ x. (is_empty t && is_empty x) ≡ false) none some)
+    (subst (λ x. (not (is_empty x) || is_alt t) ≡ false) none bars))
+    (λ h. no_more_groups (after t Branch h)))
 
-  pub one_choice : (a b : S) (i j k : code.Context) (m : GroupInfo) (t e : Tree) → (is_empty t && is_empty e) ≡ false →
-      (not (is_empty e) || is_alt t) ≡ false →
-      Writes holds a b i j (λ o. needs_listed o t) (written m t Branch) (after t Branch) →
-      ((h : Context) (d : Needs) (r : List Needs) → IsContext j h (d ∷ r) → IsContext k h r) → ChoiceWrites a b i k m t e
-  one_choice a b i j k m t e some bars w past =
-      let none = empty_is e (neither (is_empty e) (is_alt t) bars) in
-      subst (λ x. ChoiceWrites a b i k m t x) (sym none)
-      (writes_as holds a b i k _ _ _ _ _ _
-      (after_writes holds a b i j k (λ o. _) (λ o. needs_listed o t) (written m t Branch) (after t Branch)
-      (keeps_after t Branch) past w)
-      (λ o. refl)
-      (λ h. without_bar t empty (written m t Branch h) (written m empty Whole (after t Branch h))
-      (subst (λ x. (is_empty t && is_empty x) ≡ false) none some)
-      (subst (λ x. (not (is_empty x) || is_alt t) ≡ false) none bars))
-      (λ h. no_more_groups (after t Branch h)))
+pub two_choices : (a b c d : TextOutput) (i j k : code.Context) (m : GroupInfo) (t e : Tree) →
+    (is_empty t && is_empty e) ≡ false →
+    (not (is_empty e) || is_alt t) ≡ true →
+    Writes a b i j (λ o. needs_listed o t) (written m t Branch) (after t Branch) →
+    Added b c (codes "|") →
+    Writes c d j k (λ o. needs_listed o e) (written m e Whole) (after e Whole) → ChoiceWrites a d i k m t e
+two_choices a b c d i j k m t e some bars w p v =
+    writes_as a d i k _ _ _ _ _ _
+    (then_writes a b d i j k _ _ _ _ _ _ (keeps_after t Branch) w
+    (then_writes b c d j j k _ _ _ _ _ _ (λ h. refl) (text_writes b c j (codes "|") p) v))
+    (λ o. ap (λ l. needs_listed o t ++ l) (sym (append-nil (needs_listed o e))))
+    (λ h. with_bar t e (written m t Branch h) (written m e Whole (after t Branch h)) some bars) (λ h. refl)
 
-  pub two_choices : (a b c d : S) (i j k : code.Context) (m : GroupInfo) (t e : Tree) →
-      (is_empty t && is_empty e) ≡ false →
-      (not (is_empty e) || is_alt t) ≡ true →
-      Writes holds a b i j (λ o. needs_listed o t) (written m t Branch) (after t Branch) →
-      Added holds b c (codes "|") →
-      Writes holds c d j k (λ o. needs_listed o e) (written m e Whole) (after e Whole) → ChoiceWrites a d i k m t e
-  two_choices a b c d i j k m t e some bars w p v =
-      writes_as holds a d i k _ _ _ _ _ _
-      (then_writes holds a b d i j k _ _ _ _ _ _ (keeps_after t Branch) w
-      (then_writes holds b c d j j k _ _ _ _ _ _ (λ h. refl) (text_writes holds b c j (codes "|") p) v))
-      (λ o. ap (λ l. needs_listed o t ++ l) (sym (append-nil (needs_listed o e))))
-      (λ h. with_bar t e (written m t Branch h) (written m e Whole (after t Branch h)) some bars) (λ h. refl)
+pub conditional_writes : (a b c d e f : TextOutput) (i j k o z : code.Context) (m : GroupInfo) (q t u : Tree) →
+    Added a b (codes "(" ++ codes "?(") →
+    ((h : Context) (l : List Needs) → IsContext i h l → IsContext j (deeper h) l) →
+    Writes b c j k (λ o. needs_listed o q) (λ h. condition_text m q (written m q Whole h)) (after q Whole) →
+    Added c d (codes ")") → ChoiceWrites d e k o m t u → Added e f (codes ")") →
+    ((h g : Context) (x l : List Needs) → IsContext i h x → IsContext o g l →
+    IsContext z (record h { opened = g.opened }) l) →
+    Writes a f i z (λ o. needs_below o (conditional q t u)) (parts_text m (conditional q t u))
+    (past_groups (group_count (conditional q t u)))
+conditional_writes a b c d e f i j k o z m q t u opens at w symbol v closes out =
+    let text : Context → Text = λ h. branches_text t u (written m t Branch h) (written m u Whole (after t Branch h)) in
+    let whole = parens_writes a b e f i j o z (codes "?(") _ _ _ opens at
+    (then_writes b c e j k o _ _ _ _ _ _ (keeps_after q Whole) w
+    (then_writes c d e k k o _ _ _ _ _ _ (λ h. refl) (text_writes c d k (codes ")") symbol) v))
+    closes out in
+    writes_as a f i z _ _ _ _ _ _ whole (λ o. refl)
+    (λ h.
+    let g = deeper h in
+    ap (λ x. codes "(?(" ++ (x ++ codes ")"))
+    (sym (append_assoc (condition_text m q (written m q Whole g)) (codes ")") (text (after q Whole g)))))
+    (λ h.
+    let groups : h.opened + group_count q + group_count t + group_count u
+    ≡ h.opened + (group_count q + (group_count t + (group_count u + 0))) = omega arith in
+    ap (λ n. record h { opened = n }) groups)
 
-  pub conditional_writes : (a b c d e f : S) (i j k o z : code.Context) (m : GroupInfo) (q t u : Tree) →
-      Added holds a b (codes "(" ++ codes "?(") →
-      ((h : Context) (l : List Needs) → IsContext i h l → IsContext j (deeper h) l) →
-      Writes holds b c j k (λ o. needs_listed o q) (λ h. condition_text m q (written m q Whole h)) (after q Whole) →
-      Added holds c d (codes ")") → ChoiceWrites d e k o m t u → Added holds e f (codes ")") →
-      ((h g : Context) (x l : List Needs) → IsContext i h x → IsContext o g l →
-      IsContext z (record h { opened = g.opened }) l) →
-      Writes holds a f i z (λ o. needs_below o (conditional q t u)) (parts_text m (conditional q t u))
-      (past_groups (group_count (conditional q t u)))
-  conditional_writes a b c d e f i j k o z m q t u opens at w symbol v closes out =
-      let text : Context → Text = λ h. branches_text t u (written m t Branch h) (written m u Whole (after t Branch h)) in
-      let whole = parens_writes holds a b e f i j o z (codes "?(") _ _ _ opens at
-      (then_writes holds b c e j k o _ _ _ _ _ _ (keeps_after q Whole) w
-      (then_writes holds c d e k k o _ _ _ _ _ _ (λ h. refl) (text_writes holds c d k (codes ")") symbol) v))
-      closes out in
-      writes_as holds a f i z _ _ _ _ _ _ whole (λ o. refl)
-      (λ h.
-      let g = deeper h in
-      ap (λ x. codes "(?(" ++ (x ++ codes ")"))
-      (sym (append_assoc (condition_text m q (written m q Whole g)) (codes ")") (text (after q Whole g)))))
-      (λ h.
-      let groups : h.opened + group_count q + group_count t + group_count u
-      ≡ h.opened + (group_count q + (group_count t + (group_count u + 0))) = omega arith in
-      ap (λ n. record h { opened = n }) groups)
+pub expression_writes : (a b c d e f : TextOutput) (i j k o z : code.Context) (m : GroupInfo) (t u : Tree) →
+    Added a b (codes "(" ++ codes "?~|") →
+    ((h : Context) (l : List Needs) → IsContext i h l → IsContext j (deeper h) l) →
+    Writes b c j k (λ o. needs_listed o t) (written m t Branch) (after t Branch) →
+    Added c d (codes "|") →
+    Writes d e k o (λ o. needs_listed o u) (written m u Branch) (after u Branch) →
+    Added e f (codes ")") →
+    ((h g : Context) (x l : List Needs) → IsContext i h x → IsContext o g l →
+    IsContext z (record h { opened = g.opened }) l) →
+    Writes a f i z (λ o. needs_below o (expression t u))
+    (parts_text m (expression t u)) (past_groups (group_count (expression t u)))
+expression_writes a b c d e f i j k o z m t u opens at w symbol v closes out =
+    let whole = parens_writes a b e f i j o z (codes "?~|") _ _ _ opens at
+    (then_writes b c e j k o _ _ _ _ _ _ (keeps_after t Branch) w
+    (then_writes c d e k k o _ _ _ _ _ _ (λ h. refl) (text_writes c d k (codes "|") symbol) v))
+    closes out in
+    writes_as a f i z _ _ _ _ _ _ whole
+    (λ o. ap (λ l. needs_listed o t ++ l) (sym (append-nil (needs_listed o u)))) (λ h. refl)
+    (λ h.
+    let groups : h.opened + group_count t + group_count u ≡ h.opened + (group_count t + (group_count u + 0))
+    = omega arith in
+    ap (λ n. record h { opened = n }) groups)
 
-  pub expression_writes : (a b c d e f : S) (i j k o z : code.Context) (m : GroupInfo) (t u : Tree) →
-      Added holds a b (codes "(" ++ codes "?~|") →
-      ((h : Context) (l : List Needs) → IsContext i h l → IsContext j (deeper h) l) →
-      Writes holds b c j k (λ o. needs_listed o t) (written m t Branch) (after t Branch) →
-      Added holds c d (codes "|") →
-      Writes holds d e k o (λ o. needs_listed o u) (written m u Branch) (after u Branch) →
-      Added holds e f (codes ")") →
-      ((h g : Context) (x l : List Needs) → IsContext i h x → IsContext o g l →
-      IsContext z (record h { opened = g.opened }) l) →
-      Writes holds a f i z (λ o. needs_below o (expression t u))
-      (parts_text m (expression t u)) (past_groups (group_count (expression t u)))
-  expression_writes a b c d e f i j k o z m t u opens at w symbol v closes out =
-      let whole = parens_writes holds a b e f i j o z (codes "?~|") _ _ _ opens at
-      (then_writes holds b c e j k o _ _ _ _ _ _ (keeps_after t Branch) w
-      (then_writes holds c d e k k o _ _ _ _ _ _ (λ h. refl) (text_writes holds c d k (codes "|") symbol) v))
-      closes out in
-      writes_as holds a f i z _ _ _ _ _ _ whole
-      (λ o. ap (λ l. needs_listed o t ++ l) (sym (append-nil (needs_listed o u)))) (λ h. refl)
-      (λ h.
-      let groups : h.opened + group_count t + group_count u ≡ h.opened + (group_count t + (group_count u + 0))
-      = omega arith in
-      ap (λ n. record h { opened = n }) groups)
+-- ---- what follows the flags that are set before a tree
 
-  -- ---- what follows the flags that are set before a tree
+pub settled_group : (a b : TextOutput) (i j : code.Context) (m : GroupInfo) (t : Tree) (p : Precedence) →
+    Writes a b i j (λ o. needs_listed o t)
+    (λ h. in_parens (group_opening m (h.opened + 1)) (written m t Whole) (past_groups 1 h))
+    (past_groups (group_count t + 1)) →
+    WritesSettled a b i j m (group t) p
+settled_group a b i j m t p w = record {
+  text = λ h. in_parens (group_opening m (h.opened + 1)) (written m t Whole) (past_groups 1 h);
+  is = λ h. refl;
+  writes = w;
+}
 
-  pub settled_group : (a b : S) (i j : code.Context) (m : GroupInfo) (t : Tree) (p : Precedence) →
-      Writes holds a b i j (λ o. needs_listed o t)
-      (λ h. in_parens (group_opening m (h.opened + 1)) (written m t Whole) (past_groups 1 h))
-      (past_groups (group_count t + 1)) →
-      WritesSettled holds a b i j m (group t) p
-  settled_group a b i j m t p w = record {
-    text = λ h. in_parens (group_opening m (h.opened + 1)) (written m t Whole) (past_groups 1 h);
-    is = λ h. refl;
-    writes = w;
-  }
+pub settled_look : (a b : TextOutput) (i j : code.Context) (m : GroupInfo) (t : Tree) (k : LookAround) (p : Precedence) →
+    Writes a b i j (λ o. needs_listed o t)
+    (as_atom (look_around t k) p (in_parens (look_opening k) (written m t Whole))) (past_groups (group_count t)) →
+    WritesSettled a b i j m (look_around t k) p
+settled_look a b i j m t k p w = record {
+  text = as_atom (look_around t k) p (in_parens (look_opening k) (written m t Whole));
+  is = λ h. refl;
+  writes = w;
+}
 
-  pub settled_look : (a b : S) (i j : code.Context) (m : GroupInfo) (t : Tree) (k : LookAround) (p : Precedence) →
-      Writes holds a b i j (λ o. needs_listed o t)
-      (as_atom (look_around t k) p (in_parens (look_opening k) (written m t Whole))) (past_groups (group_count t)) →
-      WritesSettled holds a b i j m (look_around t k) p
-  settled_look a b i j m t k p w = record {
-    text = as_atom (look_around t k) p (in_parens (look_opening k) (written m t Whole));
-    is = λ h. refl;
-    writes = w;
-  }
+pub settled_repeat : (a b : TextOutput) (i j : code.Context) (m : GroupInfo) (t : Tree) (lo hi : ℕ) (greedy : Bool)
+    (p : Precedence) →
+    Writes a b i j (λ o. needs_listed o t)
+    (in_parens_if (is_last_operand p) (codes "?:") (repeated false t lo hi greedy (written m t)) p)
+    (past_groups (group_count t)) →
+    WritesSettled a b i j m (repeat t lo hi greedy) p
+settled_repeat a b i j m t lo hi greedy p w = record {
+  text = in_parens_if (is_last_operand p) (codes "?:") (repeated false t lo hi greedy (written m t)) p;
+  is = λ h. refl;
+  writes = w;
+}
 
-  pub settled_repeat : (a b : S) (i j : code.Context) (m : GroupInfo) (t : Tree) (lo hi : ℕ) (greedy : Bool)
-      (p : Precedence) →
-      Writes holds a b i j (λ o. needs_listed o t)
-      (in_parens_if (is_last_operand p) (codes "?:") (repeated false t lo hi greedy (written m t)) p)
-      (past_groups (group_count t)) →
-      WritesSettled holds a b i j m (repeat t lo hi greedy) p
-  settled_repeat a b i j m t lo hi greedy p w = record {
-    text = in_parens_if (is_last_operand p) (codes "?:") (repeated false t lo hi greedy (written m t)) p;
-    is = λ h. refl;
-    writes = w;
-  }
+pub settled_define : (a b : TextOutput) (i j : code.Context) (m : GroupInfo) (t : Tree) (p : Precedence) →
+    Writes a b i j (λ o. needs_listed o t) (in_parens (codes "?(DEFINE)") (written m t Whole))
+    (past_groups (group_count t)) →
+    WritesSettled a b i j m (define_group t) p
+settled_define a b i j m t p w =
+    record { text = in_parens (codes "?(DEFINE)") (written m t Whole); is = λ h. refl; writes = w }
 
-  pub settled_define : (a b : S) (i j : code.Context) (m : GroupInfo) (t : Tree) (p : Precedence) →
-      Writes holds a b i j (λ o. needs_listed o t) (in_parens (codes "?(DEFINE)") (written m t Whole))
-      (past_groups (group_count t)) →
-      WritesSettled holds a b i j m (define_group t) p
-  settled_define a b i j m t p w =
-      record { text = in_parens (codes "?(DEFINE)") (written m t Whole); is = λ h. refl; writes = w }
+pub settled_repeater : (a b : TextOutput) (i j : code.Context) (m : GroupInfo) (t : Tree) (p : Precedence) →
+    Writes a b i j (λ o. needs_listed o t)
+    (in_parens (codes "?~") (λ h. repeater_text (written m t Whole h))) (past_groups (group_count t)) →
+    WritesSettled a b i j m (repeater t) p
+settled_repeater a b i j m t p w = record {
+  text = in_parens (codes "?~") (λ h. repeater_text (written m t Whole h));
+  is = λ h. refl;
+  writes = w;
+}
 
-  pub settled_repeater : (a b : S) (i j : code.Context) (m : GroupInfo) (t : Tree) (p : Precedence) →
-      Writes holds a b i j (λ o. needs_listed o t)
-      (in_parens (codes "?~") (λ h. repeater_text (written m t Whole h))) (past_groups (group_count t)) →
-      WritesSettled holds a b i j m (repeater t) p
-  settled_repeater a b i j m t p w = record {
-    text = in_parens (codes "?~") (λ h. repeater_text (written m t Whole h));
-    is = λ h. refl;
-    writes = w;
-  }
+pub settled_stopper : (a b : TextOutput) (i j : code.Context) (m : GroupInfo) (t : Tree) (p : Precedence) →
+    Writes a b i j (λ o. needs_listed o t)
+    (in_parens (codes "?~|") (λ h. stopper_text (written m t Branch h))) (past_groups (group_count t)) →
+    WritesSettled a b i j m (stopper t) p
+settled_stopper a b i j m t p w = record {
+  text = in_parens (codes "?~|") (λ h. stopper_text (written m t Branch h));
+  is = λ h. refl;
+  writes = w;
+}
 
-  pub settled_stopper : (a b : S) (i j : code.Context) (m : GroupInfo) (t : Tree) (p : Precedence) →
-      Writes holds a b i j (λ o. needs_listed o t)
-      (in_parens (codes "?~|") (λ h. stopper_text (written m t Branch h))) (past_groups (group_count t)) →
-      WritesSettled holds a b i j m (stopper t) p
-  settled_stopper a b i j m t p w = record {
-    text = in_parens (codes "?~|") (λ h. stopper_text (written m t Branch h));
-    is = λ h. refl;
-    writes = w;
-  }
+pub settled_expression : (a b : TextOutput) (i j : code.Context) (m : GroupInfo) (t u : Tree) (p : Precedence) →
+    Writes a b i j (λ o. needs_below o (expression t u))
+    (parts_text m (expression t u)) (past_groups (group_count (expression t u))) →
+    WritesSettled a b i j m (expression t u) p
+settled_expression a b i j m t u p w = record { text = parts_text m (expression t u); is = λ h. refl; writes = w }
 
-  pub settled_expression : (a b : S) (i j : code.Context) (m : GroupInfo) (t u : Tree) (p : Precedence) →
-      Writes holds a b i j (λ o. needs_below o (expression t u))
-      (parts_text m (expression t u)) (past_groups (group_count (expression t u))) →
-      WritesSettled holds a b i j m (expression t u) p
-  settled_expression a b i j m t u p w = record { text = parts_text m (expression t u); is = λ h. refl; writes = w }
+pub settled_conditional : (a b : TextOutput) (i j : code.Context) (m : GroupInfo) (q t u : Tree) (p : Precedence) →
+    Writes a b i j (λ o. needs_below o (conditional q t u)) (parts_text m (conditional q t u))
+    (past_groups (group_count (conditional q t u))) →
+    WritesSettled a b i j m (conditional q t u) p
+settled_conditional a b i j m q t u p w =
+    record { text = parts_text m (conditional q t u); is = λ h. refl; writes = w }
 
-  pub settled_conditional : (a b : S) (i j : code.Context) (m : GroupInfo) (q t u : Tree) (p : Precedence) →
-      Writes holds a b i j (λ o. needs_below o (conditional q t u)) (parts_text m (conditional q t u))
-      (past_groups (group_count (conditional q t u))) →
-      WritesSettled holds a b i j m (conditional q t u) p
-  settled_conditional a b i j m q t u p w =
-      record { text = parts_text m (conditional q t u); is = λ h. refl; writes = w }
+-- ---- rows
 
-  -- ---- rows
+pub pieces_writes : (a b : TextOutput) (i j : code.Context) (m : GroupInfo) (ts : Trees) (p : Precedence) →
+    takes_pieces p ≡ true →
+    Writes a b i j (λ o. all_listed o ts) (written_all m false ts) (after_all ts Piece) →
+    Writes a b i j (λ o. all_listed o ts)
+    (in_flag_group_unless (takes_pieces p) (concat ts) (written_all m false ts))
+    (after (concat ts) p)
+pieces_writes a b i j m ts p e w =
+    writes_as a b i j _ _ _ _ _ _ w (λ o. refl) (λ h. rw e refl) (λ h. rw e refl)
 
-  pub pieces_writes : (a b : S) (i j : code.Context) (m : GroupInfo) (ts : Trees) (p : Precedence) →
-      takes_pieces p ≡ true →
-      Writes holds a b i j (λ o. all_listed o ts) (written_all m false ts) (after_all ts Piece) →
-      Writes holds a b i j (λ o. all_listed o ts)
-      (in_flag_group_unless (takes_pieces p) (concat ts) (written_all m false ts))
-      (after (concat ts) p)
-  pieces_writes a b i j m ts p e w =
-      writes_as holds a b i j _ _ _ _ _ _ w (λ o. refl) (λ h. rw e refl) (λ h. rw e refl)
+pub branches_writes : (a b : TextOutput) (i j : code.Context) (m : GroupInfo) (ts : Trees) (p : Precedence) →
+    takes_branches p ≡ true →
+    Writes a b i j (λ o. all_listed o ts) (written_branches m ts) (after_all ts Branch) →
+    Writes a b i j (λ o. all_listed o ts)
+    (in_flag_group_unless (takes_branches p) (alt ts) (written_branches m ts))
+    (after (alt ts) p)
+branches_writes a b i j m ts p e w =
+    writes_as a b i j _ _ _ _ _ _ w (λ o. refl) (λ h. rw e refl) (λ h. rw e refl)
 
-  pub branches_writes : (a b : S) (i j : code.Context) (m : GroupInfo) (ts : Trees) (p : Precedence) →
-      takes_branches p ≡ true →
-      Writes holds a b i j (λ o. all_listed o ts) (written_branches m ts) (after_all ts Branch) →
-      Writes holds a b i j (λ o. all_listed o ts)
-      (in_flag_group_unless (takes_branches p) (alt ts) (written_branches m ts))
-      (after (alt ts) p)
-  branches_writes a b i j m ts p e w =
-      writes_as holds a b i j _ _ _ _ _ _ w (λ o. refl) (λ h. rw e refl) (λ h. rw e refl)
+pub concat_in_flag_group : (a b : TextOutput) (i j : code.Context) (m : GroupInfo) (ts : Trees) (p : Precedence) →
+    takes_pieces p ≡ false →
+    Writes a b i j (λ o. all_listed o ts) (in_flag_group_unless false (concat ts) (written_all m false ts))
+    (past_groups (group_count (concat ts))) →
+    Writes a b i j (λ o. all_listed o ts)
+    (in_flag_group_unless (takes_pieces p) (concat ts) (written_all m false ts))
+    (after (concat ts) p)
+concat_in_flag_group a b i j m ts p e w =
+    writes_as a b i j _ _ _ _ _ _ w (λ o. refl) (λ h. rw e refl) (λ h. rw e refl)
 
-  pub concat_in_flag_group : (a b : S) (i j : code.Context) (m : GroupInfo) (ts : Trees) (p : Precedence) →
-      takes_pieces p ≡ false →
-      Writes holds a b i j (λ o. all_listed o ts) (in_flag_group_unless false (concat ts) (written_all m false ts))
-      (past_groups (group_count (concat ts))) →
-      Writes holds a b i j (λ o. all_listed o ts)
-      (in_flag_group_unless (takes_pieces p) (concat ts) (written_all m false ts))
-      (after (concat ts) p)
-  concat_in_flag_group a b i j m ts p e w =
-      writes_as holds a b i j _ _ _ _ _ _ w (λ o. refl) (λ h. rw e refl) (λ h. rw e refl)
-
-  pub alt_in_flag_group : (a b : S) (i j : code.Context) (m : GroupInfo) (ts : Trees) (p : Precedence) →
-      takes_branches p ≡ false →
-      Writes holds a b i j (λ o. all_listed o ts) (in_flag_group_unless false (alt ts) (written_branches m ts))
-      (past_groups (group_count (alt ts))) →
-      Writes holds a b i j (λ o. all_listed o ts)
-      (in_flag_group_unless (takes_branches p) (alt ts) (written_branches m ts))
-      (after (alt ts) p)
-  alt_in_flag_group a b i j m ts p e w =
-      writes_as holds a b i j _ _ _ _ _ _ w (λ o. refl) (λ h. rw e refl) (λ h. rw e refl)
+pub alt_in_flag_group : (a b : TextOutput) (i j : code.Context) (m : GroupInfo) (ts : Trees) (p : Precedence) →
+    takes_branches p ≡ false →
+    Writes a b i j (λ o. all_listed o ts) (in_flag_group_unless false (alt ts) (written_branches m ts))
+    (past_groups (group_count (alt ts))) →
+    Writes a b i j (λ o. all_listed o ts)
+    (in_flag_group_unless (takes_branches p) (alt ts) (written_branches m ts))
+    (after (alt ts) p)
+alt_in_flag_group a b i j m ts p e w =
+    writes_as a b i j _ _ _ _ _ _ w (λ o. refl) (λ h. rw e refl) (λ h. rw e refl)

@@ -1,17 +1,18 @@
 -- A text that is separated from what is before it.
 use Rattle.std.proofs.Common.{◌≡◌, ℕ, true, false, List, [], ◌∷◌, ◌++◌, append_assoc, subst, sym, refl, ap, ◌∙◌, arith}
-use Rattle.std.proofs.Common.{take, drop, length, String, Global, string_bytes, chars, codes}
+use Rattle.std.proofs.Common.{take, drop, length, string_bytes, chars, codes}
 use Rattle.std.specs.Char.{len_utf8}
 use Rattle.std.specs.List.{insert_slice}
 use Rattle.std.specs.Prelude.{Result, Ok, Err, OnOk}
 use Rattle.std.specs.Str.{IsUtf8, IsCharBoundary}
 use Rattle.std.proofs.lemmas.List.{take-append-drop}
 use Rattle.std.proofs.lemmas.Str.{chars-append, chars-IsAscii, len_utf8_bounds, IsUtf8-from_ascii, IsUtf8-take}
-use Rattle.fancy_lex.specs.Text.{Text, text_of, bytes}
+use Rattle.fancy_lex.specs.Text.{Text, bytes}
 use Rattle.fancy_lex.proofs.TextLemmas.{bytes_chars}
 use Rattle.fancy_parts.proofs.CapacityLemmas.{ascii}
 use Rattle.fancy_grammar.specs.Pattern.{separated_if}
 use Rattle.fancy_pattern.specs.TextOutput.{Changed, needs_separator, separated}
+use Rattle.fancy_pattern.specs.declared.output.TextOutput.{TextOutput}
 use Rattle.fancy_pattern.specs.declared.separator.Separator.{Separator}
 
 -- two equal texts, split at the same byte
@@ -39,12 +40,12 @@ after_cut s front back t u position f e at is rest long =
     let cut : chars front ++ chars back ≡ t ++ u = sym (chars-append front back f) ∙ ap chars (sym whole) ∙ e in
     same_seam (chars front) (chars back) t u cut (bytes_chars front f ∙ long ∙ at)
 
-pub stays_separated : (s : String Global) (front back : List ℕ) (position : ℕ) (separator : Separator) → IsUtf8 front →
-    front ≡ take position (string_bytes s) → back ≡ drop position (string_bytes s) → length front ≡ position →
-    needs_separator separator (chars back) ≡ false → Changed (λ s t. text_of s ≡ t) s s position (separated separator)
+pub stays_separated : (s : TextOutput) (front back : List ℕ) (position : ℕ) (separator : Separator) → IsUtf8 front →
+    front ≡ take position (string_bytes s.text) → back ≡ drop position (string_bytes s.text) → length front ≡ position →
+    needs_separator separator (chars back) ≡ false → Changed s s position (separated separator)
 stays_separated s front back position separator f is rest long free = record {
   changes = λ t u h k.
-      let cut = after_cut (string_bytes s) front back t u position f h k is rest long in
+      let cut = after_cut (string_bytes s.text) front back t u position f h k is rest long in
       let not_needed : needs_separator separator u ≡ false = ap (needs_separator separator) (sym cut.1) ∙ free in
       h ∙ ap (λ b. t ++ separated_if b u) (sym not_needed);
 }
@@ -58,27 +59,27 @@ separated_chars front back f =
     ∙ ap (λ x. chars front ++ x) (chars-append (codes "(?#)") back (IsUtf8-from_ascii (codes "(?#)") a)
     ∙ ap (λ x. x ++ chars back) (chars-IsAscii (codes "(?#)") a))
 
-inserted_separated : (s z : String Global) (front back : List ℕ) (position : ℕ) (separator : Separator) → IsUtf8 front →
-    front ≡ take position (string_bytes s) → back ≡ drop position (string_bytes s) → length front ≡ position →
+inserted_separated : (s z : TextOutput) (front back : List ℕ) (position : ℕ) (separator : Separator) → IsUtf8 front →
+    front ≡ take position (string_bytes s.text) → back ≡ drop position (string_bytes s.text) → length front ≡ position →
     needs_separator separator (chars back) ≡ true →
-    string_bytes z ≡ insert_slice (string_bytes s) position (codes "(?#)") →
-    Changed (λ s t. text_of s ≡ t) s z position (separated separator)
+    string_bytes z.text ≡ insert_slice (string_bytes s.text) position (codes "(?#)") →
+    Changed s z position (separated separator)
 inserted_separated s z front back position separator f is rest long joins e = record {
   changes = λ t u h k.
-      let cut = after_cut (string_bytes s) front back t u position f h k is rest long in
+      let cut = after_cut (string_bytes s.text) front back t u position f h k is rest long in
       let needed : needs_separator separator u ≡ true = ap (needs_separator separator) (sym cut.1) ∙ joins in
-      let made : string_bytes z ≡ (front ++ codes "(?#)") ++ back = rw (is, rest) e in
+      let made : string_bytes z.text ≡ (front ++ codes "(?#)") ++ back = rw (is, rest) e in
       ap chars made ∙ separated_chars front back f
       ∙ (λ i. cut.0 i ++ (codes "(?#)" ++ cut.1 i))
       ∙ ap (λ b. t ++ separated_if b u) (sym needed);
 }
 
-pub becomes_separated : {X E : Type 0} (r : Result X E) (s z : String Global) (front back : List ℕ) (position : ℕ)
-    (separator : Separator) → IsUtf8 front → front ≡ take position (string_bytes s) →
-    back ≡ drop position (string_bytes s) →
+pub becomes_separated : {X E : Type 0} (r : Result X E) (s z : TextOutput) (front back : List ℕ) (position : ℕ)
+    (separator : Separator) → IsUtf8 front → front ≡ take position (string_bytes s.text) →
+    back ≡ drop position (string_bytes s.text) →
     length front ≡ position → needs_separator separator (chars back) ≡ true →
-    OnOk r (string_bytes z ≡ insert_slice (string_bytes s) position (codes "(?#)")) →
-    OnOk r (Changed (λ s t. text_of s ≡ t) s z position (separated separator))
+    OnOk r (string_bytes z.text ≡ insert_slice (string_bytes s.text) position (codes "(?#)")) →
+    OnOk r (Changed s z position (separated separator))
 becomes_separated (Ok v) s z front back position separator f is rest long joins e =
     inserted_separated s z front back position separator f is rest long joins e
 becomes_separated (Err v) s z front back position separator f is rest long joins e = e

@@ -20,6 +20,7 @@ use Rattle.fancy_pattern.specs.TextOutput.{Added}
 use Rattle.fancy_pattern.specs.ContextViews.{IsContext, leaf_text_of}
 use Rattle.fancy_pattern.specs.Writers.{Writes, WritesSettled, needs_below, takes_inline_flags}
 use Rattle.fancy_pattern.specs.declared.context.Context as code
+use Rattle.fancy_pattern.specs.declared.output.TextOutput.{TextOutput}
 use Rattle.fancy_pattern.proofs.OutputLemmas.{added_as, then_added}
 use Rattle.fancy_pattern.proofs.WritesLemmas.{KeepsMode, writes_as}
 
@@ -133,109 +134,108 @@ leaf_groups (over label.repeater t) e = absurd (cc)
 leaf_groups (over label.stopper t) e = absurd (cc)
 leaf_groups (row r ts) e = absurd (cc)
 
-module _ {S : Type 0} (holds : S → Text → Type 0) where
-  pub leaf_writes : (a b : S) (i j : code.Context) (m : GroupInfo) (t : Tree) (p : Precedence) → is_leaf t ≡ true →
-      takes_inline_flags t ≡ true → Writes holds a b i j (λ o. []) (as_atom t p (leaf_text_of m t)) (λ h. h) →
-      WritesSettled holds a b i j m t p
-  leaf_writes a b i j m t p e k w = record {
-    text = as_atom t p (leaf_text_of m t);
-    is = λ h. leaf_settled m t p h e k;
-    writes = writes_as holds a b i j _ _ _ _ _ _ w (λ o. leaf_below o t e) (λ h. refl)
-        (λ h. no_more_groups h ∙ ap (λ n. past_groups n h) (leaf_groups t e));
-  }
+pub leaf_writes : (a b : TextOutput) (i j : code.Context) (m : GroupInfo) (t : Tree) (p : Precedence) → is_leaf t ≡ true →
+    takes_inline_flags t ≡ true → Writes a b i j (λ o. []) (as_atom t p (leaf_text_of m t)) (λ h. h) →
+    WritesSettled a b i j m t p
+leaf_writes a b i j m t p e k w = record {
+  text = as_atom t p (leaf_text_of m t);
+  is = λ h. leaf_settled m t p h e k;
+  writes = writes_as a b i j _ _ _ _ _ _ w (λ o. leaf_below o t e) (λ h. refl)
+      (λ h. no_more_groups h ∙ ap (λ n. past_groups n h) (leaf_groups t e));
+}
 
-  -- ---- any tree, after the flags that it needs
+-- ---- any tree, after the flags that it needs
 
-  -- the flags that the tree needs are set, and then what follows them is written
-  pub settled_writes : (a b c : S) (i j k : code.Context) (n : Needs) (m : GroupInfo) (t : Tree) (p : Precedence) →
-      takes_inline_flags t ≡ true → n ≡ needs first i.flags.oniguruma_mode t →
-      Added holds a b (inline_flags i.flags (with_needs i.flags n)) →
-      ((h : Context) (l : List Needs) → IsContext i h l → IsContext j (under (with_needs h.flags n) h) l) →
-      WritesSettled holds b c j k m t p → Writes holds a c i k (λ o. needs_below o t) (written m t p) (after t p)
-  settled_writes a b c i j k n m t p takes e sets at w = record {
-    writes = λ h l is.
-        let o = h.flags.oniguruma_mode in
-        let needed : with_needs h.flags n ≡ settled h.flags t =
-        ap (with_needs h.flags) (e ∙ ap (λ f. needs first f.oniguruma_mode t) is.flags) in
-        let set : inline_flags i.flags (with_needs i.flags n) ≡ inline_flags h.flags (settled h.flags t) =
-        ap (λ f. inline_flags f (with_needs f n)) is.flags ∙ ap (inline_flags h.flags) needed in
-        let done = w.writes.writes (under (settled h.flags t) h) l
-        (subst (λ f. IsContext j (under f h) (needs_below o t ++ l)) needed (at h (needs_below o t ++ l) is)) in (
-          added_as holds a c _ _
-              (then_added holds a b c _ _ (added_as holds a b _ _ sets set) done.0) (sym (w.is h)),
-          subst (λ g. IsContext k g l) (settled_end t p h takes) done.1,
-        );
-  }
+-- the flags that the tree needs are set, and then what follows them is written
+pub settled_writes : (a b c : TextOutput) (i j k : code.Context) (n : Needs) (m : GroupInfo) (t : Tree) (p : Precedence) →
+    takes_inline_flags t ≡ true → n ≡ needs first i.flags.oniguruma_mode t →
+    Added a b (inline_flags i.flags (with_needs i.flags n)) →
+    ((h : Context) (l : List Needs) → IsContext i h l → IsContext j (under (with_needs h.flags n) h) l) →
+    WritesSettled b c j k m t p → Writes a c i k (λ o. needs_below o t) (written m t p) (after t p)
+settled_writes a b c i j k n m t p takes e sets at w = record {
+  writes = λ h l is.
+      let o = h.flags.oniguruma_mode in
+      let needed : with_needs h.flags n ≡ settled h.flags t =
+      ap (with_needs h.flags) (e ∙ ap (λ f. needs first f.oniguruma_mode t) is.flags) in
+      let set : inline_flags i.flags (with_needs i.flags n) ≡ inline_flags h.flags (settled h.flags t) =
+      ap (λ f. inline_flags f (with_needs f n)) is.flags ∙ ap (inline_flags h.flags) needed in
+      let done = w.writes.writes (under (settled h.flags t) h) l
+      (subst (λ f. IsContext j (under f h) (needs_below o t ++ l)) needed (at h (needs_below o t ++ l) is)) in (
+        added_as a c _ _
+            (then_added a b c _ _ (added_as a b _ _ sets set) done.0) (sym (w.is h)),
+        subst (λ g. IsContext k g l) (settled_end t p h takes) done.1,
+      );
+}
 
-  -- the node is passed, and then its text is written
-  pub node_writes : (a b : S) (i j k : code.Context) (n : Needs) (m : GroupInfo) (t : Tree) (p : Precedence) →
-      ((h : Context) (d : Needs) (l : List Needs) → IsContext i h (d ∷ l) → (n ≡ d) × IsContext j h l) →
-      (n ≡ needs first j.flags.oniguruma_mode t →
-      Writes holds a b j k (λ o. needs_below o t) (written m t p) (after t p)) →
-      Writes holds a b i k (λ o. needs_listed o t) (written m t p) (after t p)
-  node_writes a b i j k n m t p next below = record {
-    writes = λ h l is.
-        let o = h.flags.oniguruma_mode in
-        let at = next h (needs first o t) (needs_below o t ++ l)
-        (subst (λ x. IsContext i h (x ++ l)) (listed_node o t) is) in
-        (below (at.0 ∙ ap (λ f. needs first f.oniguruma_mode t) (sym at.1.flags))).writes h l at.1;
-  }
+-- the node is passed, and then its text is written
+pub node_writes : (a b : TextOutput) (i j k : code.Context) (n : Needs) (m : GroupInfo) (t : Tree) (p : Precedence) →
+    ((h : Context) (d : Needs) (l : List Needs) → IsContext i h (d ∷ l) → (n ≡ d) × IsContext j h l) →
+    (n ≡ needs first j.flags.oniguruma_mode t →
+    Writes a b j k (λ o. needs_below o t) (written m t p) (after t p)) →
+    Writes a b i k (λ o. needs_listed o t) (written m t p) (after t p)
+node_writes a b i j k n m t p next below = record {
+  writes = λ h l is.
+      let o = h.flags.oniguruma_mode in
+      let at = next h (needs first o t) (needs_below o t ++ l)
+      (subst (λ x. IsContext i h (x ++ l)) (listed_node o t) is) in
+      (below (at.0 ∙ ap (λ f. needs first f.oniguruma_mode t) (sym at.1.flags))).writes h l at.1;
+}
 
-  pub empty_writes : (a b : S) (i j : code.Context) (m : GroupInfo) (p : Precedence) →
-      Writes holds a b i j (λ o. []) (λ h. if takes_pieces p then [] else codes "()") (λ h. h) →
-      Writes holds a b i j (λ o. needs_below o empty) (written m empty p) (after empty p)
-  empty_writes a b i j m p w = writes_as holds a b i j _ _ _ _ _ _ w (λ o. refl) (λ h. refl) no_more_groups
+pub empty_writes : (a b : TextOutput) (i j : code.Context) (m : GroupInfo) (p : Precedence) →
+    Writes a b i j (λ o. []) (λ h. if takes_pieces p then [] else codes "()") (λ h. h) →
+    Writes a b i j (λ o. needs_below o empty) (written m empty p) (after empty p)
+empty_writes a b i j m p w = writes_as a b i j _ _ _ _ _ _ w (λ o. refl) (λ h. refl) no_more_groups
 
-  -- ---- a row, in a group if it needs one
+-- ---- a row, in a group if it needs one
 
-  pub flag_group_writes : (a b c d : S) (i j k e : code.Context) (n : Needs) (t : Tree) (text : Context → Text)
-      (next : Context → Context) →
-      n ≡ needs first i.flags.oniguruma_mode t →
-      Added holds a b (codes "(?" ++ (letters_between i.flags (with_needs i.flags n) ++ codes ":")) →
-      ((h : Context) (l : List Needs) → IsContext i h l → IsContext j (deeper (under (with_needs h.flags n) h)) l) →
-      Writes holds b c j k (λ o. needs_below o t) text next → Added holds c d (codes ")") →
-      ((h g : Context) (x l : List Needs) → IsContext i h x → IsContext k g l →
-      IsContext e (record h { opened = g.opened }) l) →
-      Writes holds a d i e (λ o. needs_below o t) (in_flag_group_unless false t text)
-      (λ h. record h { opened = (next (deeper (under (settled h.flags t) h))).opened })
-  flag_group_writes a b c d i j k e n t text next is_needed opens at w closes out = record {
-    writes = λ h l is.
-        let o = h.flags.oniguruma_mode in
-        let needed : with_needs h.flags n ≡ settled h.flags t =
-        ap (with_needs h.flags) (is_needed ∙ ap (λ f. needs first f.oniguruma_mode t) is.flags) in
-        let letters : letters_between i.flags (with_needs i.flags n) ≡ letters_between h.flags (settled h.flags t) =
-        ap (λ f. letters_between f (with_needs f n)) is.flags ∙ ap (letters_between h.flags) needed in
-        let inside = deeper (under (settled h.flags t) h) in
-        let done = w.writes inside l (subst (λ f. IsContext j (deeper (under f h)) (needs_below o t ++ l)) needed
-        (at h (needs_below o t ++ l) is)) in
-        let opening = codes "?" ++ (letters_between h.flags (settled h.flags t) ++ codes ":") in
-        let opened = added_as holds a b _ (codes "(" ++ opening) opens
-        (ap (λ x. codes "(?" ++ (x ++ codes ":")) letters) in
-        let all = then_added holds a c d ((codes "(" ++ opening) ++ text inside) (codes ")")
-        (then_added holds a b c (codes "(" ++ opening) (text inside) opened done.0) closes in (
-          added_as holds a d _ _ all
-              (append_assoc (codes "(" ++ opening) (text inside) (codes ")")
-              ∙ append_assoc (codes "(") opening (text inside ++ codes ")")),
-          out h (next inside) (needs_below o t ++ l) l is done.1,
-        );
-  }
+pub flag_group_writes : (a b c d : TextOutput) (i j k e : code.Context) (n : Needs) (t : Tree) (text : Context → Text)
+    (next : Context → Context) →
+    n ≡ needs first i.flags.oniguruma_mode t →
+    Added a b (codes "(?" ++ (letters_between i.flags (with_needs i.flags n) ++ codes ":")) →
+    ((h : Context) (l : List Needs) → IsContext i h l → IsContext j (deeper (under (with_needs h.flags n) h)) l) →
+    Writes b c j k (λ o. needs_below o t) text next → Added c d (codes ")") →
+    ((h g : Context) (x l : List Needs) → IsContext i h x → IsContext k g l →
+    IsContext e (record h { opened = g.opened }) l) →
+    Writes a d i e (λ o. needs_below o t) (in_flag_group_unless false t text)
+    (λ h. record h { opened = (next (deeper (under (settled h.flags t) h))).opened })
+flag_group_writes a b c d i j k e n t text next is_needed opens at w closes out = record {
+  writes = λ h l is.
+      let o = h.flags.oniguruma_mode in
+      let needed : with_needs h.flags n ≡ settled h.flags t =
+      ap (with_needs h.flags) (is_needed ∙ ap (λ f. needs first f.oniguruma_mode t) is.flags) in
+      let letters : letters_between i.flags (with_needs i.flags n) ≡ letters_between h.flags (settled h.flags t) =
+      ap (λ f. letters_between f (with_needs f n)) is.flags ∙ ap (letters_between h.flags) needed in
+      let inside = deeper (under (settled h.flags t) h) in
+      let done = w.writes inside l (subst (λ f. IsContext j (deeper (under f h)) (needs_below o t ++ l)) needed
+      (at h (needs_below o t ++ l) is)) in
+      let opening = codes "?" ++ (letters_between h.flags (settled h.flags t) ++ codes ":") in
+      let opened = added_as a b _ (codes "(" ++ opening) opens
+      (ap (λ x. codes "(?" ++ (x ++ codes ":")) letters) in
+      let all = then_added a c d ((codes "(" ++ opening) ++ text inside) (codes ")")
+      (then_added a b c (codes "(" ++ opening) (text inside) opened done.0) closes in (
+        added_as a d _ _ all
+            (append_assoc (codes "(" ++ opening) (text inside) (codes ")")
+            ∙ append_assoc (codes "(") opening (text inside ++ codes ")")),
+        out h (next inside) (needs_below o t ++ l) l is done.1,
+      );
+}
 
-  -- ---- the whole
+-- ---- the whole
 
-  pub pattern_writes : (a b c : S) (i j k : code.Context) (n : Needs) (m : GroupInfo) (t : Tree) (f : Flags) →
-      n ≡ needs both f.oniguruma_mode t →
-      IsContext i (record { flags = f; opened = 0; depth = 0 }) (needs_listed f.oniguruma_mode t) →
-      Added holds a b (inline_flags i.flags (with_needs i.flags n)) →
-      ((h : Context) (l : List Needs) → IsContext i h l → IsContext j (under (with_needs h.flags n) h) l) →
-      Writes holds b c j k (λ o. needs_listed o t) (written m t Whole) (after t Whole) →
-      Added holds a c (pattern_text f t m)
-  unfolding pattern_text
-  pattern_writes a b c i j k n m t f e is sets at w =
-      let start : Context = record { flags = f; opened = 0; depth = 0 } in
-      let needed : with_needs f n ≡ agreed f t = ap (with_needs f) e in
-      let set : inline_flags i.flags (with_needs i.flags n) ≡ inline_flags f (agreed f t) =
-      ap (λ g. inline_flags g (with_needs g n)) is.flags ∙ ap (inline_flags f) needed in
-      let context = subst (λ g. IsContext j (under g start) (needs_listed f.oniguruma_mode t ++ [])) needed
-      (at start (needs_listed f.oniguruma_mode t ++ [])
-      (subst (IsContext i start) (sym (append-nil (needs_listed f.oniguruma_mode t))) is)) in
-      then_added holds a b c _ _ (added_as holds a b _ _ sets set) (w.writes (under (agreed f t) start) [] context).0
+pub pattern_writes : (a b c : TextOutput) (i j k : code.Context) (n : Needs) (m : GroupInfo) (t : Tree) (f : Flags) →
+    n ≡ needs both f.oniguruma_mode t →
+    IsContext i (record { flags = f; opened = 0; depth = 0 }) (needs_listed f.oniguruma_mode t) →
+    Added a b (inline_flags i.flags (with_needs i.flags n)) →
+    ((h : Context) (l : List Needs) → IsContext i h l → IsContext j (under (with_needs h.flags n) h) l) →
+    Writes b c j k (λ o. needs_listed o t) (written m t Whole) (after t Whole) →
+    Added a c (pattern_text f t m)
+unfolding pattern_text
+pattern_writes a b c i j k n m t f e is sets at w =
+    let start : Context = record { flags = f; opened = 0; depth = 0 } in
+    let needed : with_needs f n ≡ agreed f t = ap (with_needs f) e in
+    let set : inline_flags i.flags (with_needs i.flags n) ≡ inline_flags f (agreed f t) =
+    ap (λ g. inline_flags g (with_needs g n)) is.flags ∙ ap (inline_flags f) needed in
+    let context = subst (λ g. IsContext j (under g start) (needs_listed f.oniguruma_mode t ++ [])) needed
+    (at start (needs_listed f.oniguruma_mode t ++ [])
+    (subst (IsContext i start) (sym (append-nil (needs_listed f.oniguruma_mode t))) is)) in
+    then_added a b c _ _ (added_as a b _ _ sets set) (w.writes (under (agreed f t) start) [] context).0

@@ -15,6 +15,7 @@ use Rattle.fancy_grammar.specs.PatternSource.{named_property, property_part, sin
 use Rattle.fancy_grammar.proofs.SourceLemmas.{source_goes_on, source_ends, part_left}
 use Rattle.fancy_pattern.specs.TextOutput.{Added}
 use Rattle.fancy_pattern.specs.Source.{AddedPart, part_of, found_part}
+use Rattle.fancy_pattern.specs.declared.output.TextOutput.{TextOutput}
 use Rattle.fancy_pattern.specs.declared.source.FoundEscape.{FoundEscape}
 use Rattle.fancy_pattern.proofs.OutputLemmas.{Adding, adding_as, adding_later}
 
@@ -62,9 +63,9 @@ none_replaced unicode seen c t text e h =
 
 -- ---- the parts that are written
 
-pub added_part : {S : Type 0} (holds : S → Text → Type 0) (a b : S) (p q : Part) (left : Text) → q ≡ p →
-    Added holds a b p.source → left ≡ p.rest → AddedPart holds a b q left
-added_part holds a b p q left e s r = subst (λ x. AddedPart holds a b x left) (sym e) (record { source = s; rest = r })
+pub added_part : (a b : TextOutput) (p q : Part) (left : Text) → q ≡ p →
+    Added a b p.source → left ≡ p.rest → AddedPart a b q left
+added_part a b p q left e s r = subst (λ x. AddedPart a b x left) (sym e) (record { source = s; rest = r })
 
 -- no escape begins there
 pub single_plain : (c : ℕ) (t : Text) → (c ≢ backslash) ⊎ (t ≡ []) → single_part c t ≡ part (by_letter_or c (plain c)) t
@@ -144,17 +145,17 @@ part_shorter unicode seen text left p b e =
           ap length e,
         )
 
-pub part_written : {S : Type 0} (holds : S → Text → Type 0) (a b d : S) (unicode seen again : Bool)
+pub part_written : (a b d : TextOutput) (unicode seen again : Bool)
     (text left whole : Text) (p : Part) → Begins unicode seen text p → again ≡ (seen || p.negated) →
-    Adding holds a b (source_from unicode seen text) whole → AddedPart holds b d p left →
-    Adding holds a d (source_from unicode again left) whole
-part_written holds a b d unicode seen again text left whole p s n w q =
+    Adding a b (source_from unicode seen text) whole → AddedPart b d p left →
+    Adding a d (source_from unicode again left) whole
+part_written a b d unicode seen again text left whole p s n w q =
     let on : source_from unicode seen text ≡ p.source ++ source_from unicode (seen || p.negated) p.rest =
     ap (source_from unicode seen) s.cut ∙ source_goes_on unicode seen s.first s.after
     ∙ ap (λ (x : Part). x.source ++ source_from unicode (seen || x.negated) x.rest) s.part in
-    adding_as holds a d (source_from unicode (seen || p.negated) p.rest) _ whole
+    adding_as a d (source_from unicode (seen || p.negated) p.rest) _ whole
     (ap (λ b. source_from unicode b p.rest) (sym n) ∙ ap (source_from unicode again) (sym q.rest))
-    (adding_later holds a b d p.source _ _ whole on w q.source)
+    (adding_later a b d p.source _ _ whole on w q.source)
 
 pub seen_still : (seen : Bool) (c : ℕ) (t : Text) → seen ≡ (seen || (single_part c t).negated)
 seen_still seen c t = sym (ap (λ b. seen || b) (single_keeps c t) ∙ or-false seen)

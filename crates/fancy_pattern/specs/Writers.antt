@@ -12,13 +12,14 @@ use Rattle.fancy_grammar.specs.declared.precedence.Precedence.TheVariants.{Whole
 use Rattle.fancy_pattern.specs.TextOutput.{Added}
 use Rattle.fancy_pattern.specs.ContextViews.{IsContext}
 use Rattle.fancy_pattern.specs.declared.context.Context as code
+use Rattle.fancy_pattern.specs.declared.output.TextOutput.{TextOutput}
 
 -- in the first context, a writer wrote this text, passed nodes with these needs in the current mode, and ended in the
 -- context of what follows
-pub record Writes {S : Type 0} (holds : S → Text → Type 0) (old new : S) (from to : code.Context)
-    (needs : Bool → List Needs) (text : Context → Text) (next : Context → Context) : Type 0 where
+pub record Writes (old new : TextOutput) (from to : code.Context) (needs : Bool → List Needs)
+    (text : Context → Text) (next : Context → Context) : Type 0 where
   pub writes : (h : Context) (l : List Needs) → IsContext from h (needs h.flags.oniguruma_mode ++ l) →
-      Added holds old new (text h) × IsContext to (next h) l
+      Added old new (text h) × IsContext to (next h) l
 
 -- ---- a node of two parts or three
 
@@ -70,8 +71,8 @@ abbrev pub needs_below : Bool → Tree → List Needs
 needs_below o t = past_first (needs_listed o t)
 
 -- a writer wrote what follows the flags that are set before the tree
-pub record WritesSettled {S : Type 0} (holds : S → Text → Type 0) (old new : S) (from to : code.Context) (m : GroupInfo)
-    (t : Tree) (p : Precedence) : Type 0 where
+pub record WritesSettled (old new : TextOutput) (from to : code.Context) (m : GroupInfo) (t : Tree) (p : Precedence) :
+    Type 0 where
   pub text : Context → Text
   pub is : (h : Context) → written m t p h ≡ after_inline_flags t text h
-  pub writes : Writes holds old new from to (λ o. needs_below o t) text (past_groups (group_count t))
+  pub writes : Writes old new from to (λ o. needs_below o t) text (past_groups (group_count t))

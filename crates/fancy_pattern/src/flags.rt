@@ -8,22 +8,14 @@ ghost use Rattle.fancy_pattern.specs.ContextViews.{IsContext};
 
 use crate::context::Context;
 use crate::needs::are_met;
-use crate::output::{TextOutput, put_ascii};
+use crate::output::{TextOutput, put_ascii, put_if};
 use fancy_grammar::needs::Needs;
 use fancy_lex::flags::Flags;
 use std::alloc::AllocError;
 
-/// Writes the letter, if asked for.
-#[tactic(auto, using(crate::proofs::OutputLemmas::added_steps))]
-fn put_if<S: TextOutput>(out: &mut S, asked: bool, letter: char) -> Result<(), AllocError>
-    ensures { OnOk result (Added S.holds out.old out.new (if asked then letter ∷ [] else [])) }
-{
-    if asked { out.put(letter) } else { Ok(()) }
-}
-
 /// Writes the letters of the flags that are set in `to` and not in `from`.
-fn put_letters_on<S: TextOutput>(out: &mut S, from: Flags, to: Flags) -> Result<(), AllocError>
-    ensures { OnOk result (Added S.holds out.old out.new (spec.letters_on from to)) }
+fn put_letters_on(out: &mut TextOutput, from: Flags, to: Flags) -> Result<(), AllocError>
+    ensures { OnOk result (Added out.old out.new (spec.letters_on from to)) }
 {
     put_if(out, to.casei && !from.casei, 'i')?;
     put_if(out, to.multi && !from.multi, 'm')?;
@@ -42,8 +34,8 @@ fn turns_on(from: Flags, to: Flags) -> bool
 }
 
 /// Writes the letters that make the flags `from` the flags `to`.
-fn put_letters<S: TextOutput>(out: &mut S, from: Flags, to: Flags) -> Result<(), AllocError>
-    ensures { OnOk result (Added S.holds out.old out.new (spec.letters_between from to)) }
+fn put_letters(out: &mut TextOutput, from: Flags, to: Flags) -> Result<(), AllocError>
+    ensures { OnOk result (Added out.old out.new (spec.letters_between from to)) }
 {
     put_letters_on(out, from, to)?;
     put_if(out, turns_on(to, from), '-')?;
@@ -51,8 +43,8 @@ fn put_letters<S: TextOutput>(out: &mut S, from: Flags, to: Flags) -> Result<(),
 }
 
 /// Writes a group that changes the flags `from` to the flags `to` from there on, if they differ.
-fn put_group<S: TextOutput>(out: &mut S, from: Flags, to: Flags) -> Result<(), AllocError>
-    ensures { OnOk result (Added S.holds out.old out.new (spec.inline_flags from to)) }
+fn put_group(out: &mut TextOutput, from: Flags, to: Flags) -> Result<(), AllocError>
+    ensures { OnOk result (Added out.old out.new (spec.inline_flags from to)) }
 {
     if !turns_on(from, to) && !turns_on(to, from) {
         return Ok(());
@@ -64,12 +56,12 @@ fn put_group<S: TextOutput>(out: &mut S, from: Flags, to: Flags) -> Result<(), A
 
 /// Sets the flags that are needed from here on, if they are not set.
 #[inline(always)]
-pub(crate) fn put_inline_flags<S: TextOutput>(
-    out: &mut S,
+pub(crate) fn put_inline_flags(
+    out: &mut TextOutput,
     needs: Needs,
     context: &mut Context,
 ) -> Result<(), AllocError>
-    ensures { OnOk result (Added S.holds out.old out.new
+    ensures { OnOk result (Added out.old out.new
         (spec.inline_flags context.old.flags (spec.with_needs context.old.flags needs))
         × ((h : pattern.Context) (l : List Needs) → IsContext context.old h l →
         IsContext context.new (pattern.under (spec.with_needs h.flags needs) h) l)) }
@@ -82,12 +74,12 @@ pub(crate) fn put_inline_flags<S: TextOutput>(
 
 /// Sets the flags that are needed from here on.
 #[inline(never)]
-fn put_new_flags<S: TextOutput>(
-    out: &mut S,
+fn put_new_flags(
+    out: &mut TextOutput,
     needs: Needs,
     context: &mut Context,
 ) -> Result<(), AllocError>
-    ensures { OnOk result (Added S.holds out.old out.new
+    ensures { OnOk result (Added out.old out.new
         (spec.inline_flags context.old.flags (spec.with_needs context.old.flags needs))
         × ((h : pattern.Context) (l : List Needs) → IsContext context.old h l →
         IsContext context.new (pattern.under (spec.with_needs h.flags needs) h) l)) }
@@ -98,12 +90,8 @@ fn put_new_flags<S: TextOutput>(
 }
 
 /// Writes the opening of a group that changes the flags `from` to the flags `to`.
-fn put_flag_group_opening<S: TextOutput>(
-    out: &mut S,
-    from: Flags,
-    to: Flags,
-) -> Result<(), AllocError>
-    ensures { OnOk result (Added S.holds out.old out.new (codes "(?" ++ (spec.letters_between from to ++ codes ":"))) }
+fn put_flag_group_opening(out: &mut TextOutput, from: Flags, to: Flags) -> Result<(), AllocError>
+    ensures { OnOk result (Added out.old out.new (codes "(?" ++ (spec.letters_between from to ++ codes ":"))) }
 {
     put_ascii(out, "(?")?;
     put_letters(out, from, to)?;
@@ -111,12 +99,12 @@ fn put_flag_group_opening<S: TextOutput>(
 }
 
 /// Opens a group in which the flags that are needed are set, and enters it.
-pub(crate) fn open_flag_group<S: TextOutput>(
-    out: &mut S,
+pub(crate) fn open_flag_group(
+    out: &mut TextOutput,
     needs: Needs,
     context: &mut Context,
 ) -> Result<(), AllocError>
-    ensures { OnOk result (Added S.holds out.old out.new
+    ensures { OnOk result (Added out.old out.new
         (codes "(?" ++ (spec.letters_between context.old.flags (spec.with_needs context.old.flags needs) ++ codes ":"))
         × ((h : pattern.Context) (l : List Needs) → IsContext context.old h l →
         IsContext context.new (pattern.deeper (pattern.under (spec.with_needs h.flags needs) h)) l)) }

@@ -12,13 +12,13 @@ use fancy_syntax::expr::LookAround;
 use std::alloc::AllocError;
 
 /// Writes the opening of a group, and enters the group.
-pub(crate) fn open<S: TextOutput>(
-    out: &mut S,
+pub(crate) fn open(
+    out: &mut TextOutput,
     opening: &str,
     context: &mut Context,
 ) -> Result<(), AllocError>
     requires { list_all (λ b. nat_lt b 128) opening.now ≡ true }
-    ensures { OnOk result (Added S.holds out.old out.new (codes "(" ++ opening.now)
+    ensures { OnOk result (Added out.old out.new (codes "(" ++ opening.now)
         × ((h : spec.Context) (l : List Needs) → IsContext context.old h l → IsContext context.new (spec.deeper h) l)) }
 {
     context.enter();
@@ -27,12 +27,12 @@ pub(crate) fn open<S: TextOutput>(
 }
 
 /// Closes the group that is at `outside`, and leaves it.
-pub(crate) fn close<S: TextOutput>(
-    out: &mut S,
+pub(crate) fn close(
+    out: &mut TextOutput,
     outside: &Context,
     context: &mut Context,
 ) -> Result<(), AllocError>
-    ensures { OnOk result (Added S.holds out.old out.new (codes ")")
+    ensures { OnOk result (Added out.old out.new (codes ")")
         × ((h e : spec.Context) (k l : List Needs) → IsContext outside.now h k → IsContext context.old e l →
         IsContext context.new (record h { opened = e.opened }) l)) }
 {

@@ -79,33 +79,24 @@ pub(crate) fn verb_name(verb: BacktrackingControlVerb) -> &'static str
 
 /// Writes any character.
 #[tactic(auto, using(crate::proofs::OutputLemmas::added_steps))]
-fn put_any<S: TextOutput>(
-    out: &mut S,
-    newline: bool,
-    crlf: bool,
-    flags: Flags,
-) -> Result<(), AllocError>
-    ensures { OnOk result (Added S.holds out.old out.new (letters.any_text flags newline crlf)) }
+fn put_any(out: &mut TextOutput, newline: bool, crlf: bool, flags: Flags) -> Result<(), AllocError>
+    ensures { OnOk result (Added out.old out.new (letters.any_text flags newline crlf)) }
 {
     put_ascii(out, any_text(newline, crlf, flags))
 }
 
 /// Writes an assertion.
 #[tactic(auto, using(crate::proofs::OutputLemmas::added_steps))]
-fn put_assertion<S: TextOutput>(
-    out: &mut S,
-    assertion: Assertion,
-    flags: Flags,
-) -> Result<(), AllocError>
-    ensures { OnOk result (Added S.holds out.old out.new (letters.assertion_text flags assertion)) }
+fn put_assertion(out: &mut TextOutput, assertion: Assertion, flags: Flags) -> Result<(), AllocError>
+    ensures { OnOk result (Added out.old out.new (letters.assertion_text flags assertion)) }
 {
     put_ascii(out, assertion_text(assertion, flags))
 }
 
 /// Writes a verb.
 #[tactic(auto, using(crate::proofs::OutputLemmas::added_steps))]
-fn put_verb<S: TextOutput>(out: &mut S, verb: BacktrackingControlVerb) -> Result<(), AllocError>
-    ensures { OnOk result (Added S.holds out.old out.new (spec.parenthesized (spec.verb_name verb))) }
+fn put_verb(out: &mut TextOutput, verb: BacktrackingControlVerb) -> Result<(), AllocError>
+    ensures { OnOk result (Added out.old out.new (spec.parenthesized (spec.verb_name verb))) }
 {
     out.put('(')?;
     put_ascii(out, verb_name(verb))?;
@@ -114,13 +105,13 @@ fn put_verb<S: TextOutput>(out: &mut S, verb: BacktrackingControlVerb) -> Result
 
 /// Writes a condition on a group that is not the condition of a Conditional.
 #[tactic(auto, using(crate::proofs::OutputLemmas::added_steps))]
-fn put_condition_alone<S: TextOutput>(
-    out: &mut S,
+fn put_condition_alone(
+    out: &mut TextOutput,
     names: &GroupNames,
     group: usize,
     level: Option<isize>,
 ) -> Result<(), AllocError>
-    ensures { (m : GroupInfo) → AreGroupNames names.now m → OnOk result (Added S.holds out.old out.new
+    ensures { (m : GroupInfo) → AreGroupNames names.now m → OnOk result (Added out.old out.new
         (codes "(?" ++ (spec.parenthesized (reference.target_text m group level) ++ codes ")"))) }
 {
     put_ascii(out, "(?(")?;
@@ -130,14 +121,14 @@ fn put_condition_alone<S: TextOutput>(
 
 /// Writes a leaf once its flags are set, and nothing for a tree that holds others.
 #[tactic(auto, using(crate::proofs::OutputLemmas::added_steps))]
-pub(crate) fn put_leaf<S: TextOutput>(
-    out: &mut S,
+pub(crate) fn put_leaf(
+    out: &mut TextOutput,
     names: &GroupNames,
     leaf: &Expr,
     context: &Context,
 ) -> Result<(), AllocError>
     ensures { (m : GroupInfo) (h : spec.Context) (l : List Needs) → AreGroupNames names.now m → IsContext context.now h l →
-        OnOk result (Added S.holds out.old out.new (leaf_text_of m (view leaf.now) h)) }
+        OnOk result (Added out.old out.new (leaf_text_of m (view leaf.now) h)) }
 {
     match leaf {
         Expr::Any { newline, crlf } => put_any(out, *newline, *crlf, context.flags),

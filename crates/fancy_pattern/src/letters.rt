@@ -64,16 +64,16 @@ fn is_layout(c: char, flags: Flags) -> bool
 }
 
 /// Writes a digit of a code.
-fn put_hex_digit<S: TextOutput>(out: &mut S, digit: u8) -> Result<(), AllocError>
+fn put_hex_digit(out: &mut TextOutput, digit: u8) -> Result<(), AllocError>
     requires { digit < 16 }
-    ensures { OnOk result (Added S.holds out.old out.new (upper_hex_digit digit ∷ [])) }
+    ensures { OnOk result (Added out.old out.new (upper_hex_digit digit ∷ [])) }
 {
     out.put(upper_hex_digit(digit))
 }
 
 /// Writes a byte by its code.
-fn put_byte<S: TextOutput>(out: &mut S, byte: u8) -> Result<(), AllocError>
-    ensures { OnOk result (Added S.holds out.old out.new (byte_text byte)) }
+fn put_byte(out: &mut TextOutput, byte: u8) -> Result<(), AllocError>
+    ensures { OnOk result (Added out.old out.new (byte_text byte)) }
 {
     put_ascii(out, r"\x")?;
     put_hex_digit(out, byte / 16)?;
@@ -81,9 +81,9 @@ fn put_byte<S: TextOutput>(out: &mut S, byte: u8) -> Result<(), AllocError>
 }
 
 /// Writes four digits.
-fn put_hex_digits<S: TextOutput>(out: &mut S, code: u32) -> Result<(), AllocError>
+fn put_hex_digits(out: &mut TextOutput, code: u32) -> Result<(), AllocError>
     requires { code < 65536 }
-    ensures { OnOk result (Added S.holds out.old out.new
+    ensures { OnOk result (Added out.old out.new
         (map upper_hex_digit (code / 4096 ∷ code / 256 % 16 ∷ code / 16 % 16 ∷ code % 16 ∷ []))) }
 {
     put_hex_digit(out, (code / 4096) as u8)?;
@@ -94,9 +94,9 @@ fn put_hex_digits<S: TextOutput>(out: &mut S, code: u32) -> Result<(), AllocErro
 
 /// Writes a character of at most four digits by its code.
 #[tactic(auto, using(crate::proofs::OutputLemmas::added_steps))]
-fn put_code<S: TextOutput>(out: &mut S, c: char) -> Result<(), AllocError>
+fn put_code(out: &mut TextOutput, c: char) -> Result<(), AllocError>
     requires { c < 65536 }
-    ensures { OnOk result (Added S.holds out.old out.new (spec.coded c)) }
+    ensures { OnOk result (Added out.old out.new (spec.coded c)) }
 {
     let code = u32::from(c);
     if code < 0x80 {
@@ -107,8 +107,8 @@ fn put_code<S: TextOutput>(out: &mut S, c: char) -> Result<(), AllocError>
 }
 
 /// Writes a visible character, or the code of an invisible one.
-fn put_plain<S: TextOutput>(out: &mut S, c: char) -> Result<(), AllocError>
-    ensures { OnOk result (Added S.holds out.old out.new (spec.plain c)) }
+fn put_plain(out: &mut TextOutput, c: char) -> Result<(), AllocError>
+    ensures { OnOk result (Added out.old out.new (spec.plain c)) }
 {
     if is_unseen(c) {
         put_code(out, c)
@@ -119,16 +119,16 @@ fn put_plain<S: TextOutput>(out: &mut S, c: char) -> Result<(), AllocError>
 
 /// Writes the character after a backslash.
 #[tactic(auto, using(crate::proofs::OutputLemmas::added_steps))]
-fn put_after_backslash<S: TextOutput>(out: &mut S, c: char) -> Result<(), AllocError>
-    ensures { OnOk result (Added S.holds out.old out.new (backslash ∷ c ∷ [])) }
+fn put_after_backslash(out: &mut TextOutput, c: char) -> Result<(), AllocError>
+    ensures { OnOk result (Added out.old out.new (backslash ∷ c ∷ [])) }
 {
     out.put('\\')?;
     out.put(c)
 }
 
 /// Writes a character of a class.
-pub(crate) fn put_class_character<S: TextOutput>(out: &mut S, c: char) -> Result<(), AllocError>
-    ensures { OnOk result (Added S.holds out.old out.new (spec.by_letter_or c (spec.plain c))) }
+pub(crate) fn put_class_character(out: &mut TextOutput, c: char) -> Result<(), AllocError>
+    ensures { OnOk result (Added out.old out.new (spec.by_letter_or c (spec.plain c))) }
 {
     match letter_of(c) {
         Some(letter) => put_after_backslash(out, letter),
@@ -137,8 +137,8 @@ pub(crate) fn put_class_character<S: TextOutput>(out: &mut S, c: char) -> Result
 }
 
 /// Writes a character of a case-insensitive Literal.
-fn put_caseless<S: TextOutput>(out: &mut S, c: char, flags: Flags) -> Result<(), AllocError>
-    ensures { OnOk result (Added S.holds out.old out.new (spec.character flags true c)) }
+fn put_caseless(out: &mut TextOutput, c: char, flags: Flags) -> Result<(), AllocError>
+    ensures { OnOk result (Added out.old out.new (spec.character flags true c)) }
 {
     if is_metacharacter(c) || is_layout(c, flags) {
         put_code(out, c)
@@ -148,8 +148,8 @@ fn put_caseless<S: TextOutput>(out: &mut S, c: char, flags: Flags) -> Result<(),
 }
 
 /// Writes a character of a case-sensitive Literal.
-fn put_cased<S: TextOutput>(out: &mut S, c: char, flags: Flags) -> Result<(), AllocError>
-    ensures { OnOk result (Added S.holds out.old out.new (spec.character flags false c)) }
+fn put_cased(out: &mut TextOutput, c: char, flags: Flags) -> Result<(), AllocError>
+    ensures { OnOk result (Added out.old out.new (spec.character flags false c)) }
 {
     if let Some(letter) = letter_of(c) {
         return put_after_backslash(out, letter);
@@ -172,13 +172,8 @@ fn is_itself(c: char, casei: bool, flags: Flags) -> bool
 
 /// Writes a character of a Literal.
 #[tactic(auto, using(crate::proofs::OutputLemmas::added_steps))]
-fn put_character<S: TextOutput>(
-    out: &mut S,
-    c: char,
-    casei: bool,
-    flags: Flags,
-) -> Result<(), AllocError>
-    ensures { OnOk result (Added S.holds out.old out.new (spec.character flags casei c)) }
+fn put_character(out: &mut TextOutput, c: char, casei: bool, flags: Flags) -> Result<(), AllocError>
+    ensures { OnOk result (Added out.old out.new (spec.character flags casei c)) }
 {
     if is_itself(c, casei, flags) {
         return out.put(c);
@@ -191,13 +186,13 @@ fn put_character<S: TextOutput>(
 }
 
 /// Writes a Literal.
-pub(crate) fn put_literal<S: TextOutput>(
-    out: &mut S,
+pub(crate) fn put_literal(
+    out: &mut TextOutput,
     val: &str,
     casei: bool,
     flags: Flags,
 ) -> Result<(), AllocError>
-    ensures { OnOk result (Added S.holds out.old out.new (flat_map (spec.character flags casei) (chars val.now))) }
+    ensures { OnOk result (Added out.old out.new (flat_map (spec.character flags casei) (chars val.now))) }
 {
     let mut rest = val;
     while let Some((c, after)) = next(rest) {
@@ -208,8 +203,8 @@ pub(crate) fn put_literal<S: TextOutput>(
 }
 
 /// Writes bytes by their codes.
-pub(crate) fn put_bytes<S: TextOutput>(out: &mut S, bytes: &[u8]) -> Result<(), AllocError>
-    ensures { OnOk result (Added S.holds out.old out.new (flat_map byte_text bytes.now)) }
+pub(crate) fn put_bytes(out: &mut TextOutput, bytes: &[u8]) -> Result<(), AllocError>
+    ensures { OnOk result (Added out.old out.new (flat_map byte_text bytes.now)) }
 {
     for byte in bytes {
         put_byte(out, *byte)?;

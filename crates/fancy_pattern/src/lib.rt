@@ -37,6 +37,7 @@ mod write;
 use crate::context::Context;
 use crate::names::GroupNames;
 use crate::needs::push_needs;
+use crate::output::TextOutput;
 use crate::same::is_read_as;
 use crate::write::put_pattern;
 use fancy_lex::flags::Flags;
@@ -81,7 +82,7 @@ fn text_of_tree(alloc: Global, tree: &ExprTree, flags: Flags) -> Result<String, 
     let needs = push_needs(&mut listed, &tree.expr, flags.oniguruma_mode)?;
     let context = Context::at_start(flags, listed.as_slice());
     let capacity = listed.len().saturating_add(FIRST_CAPACITY);
-    let mut text = String::with_capacity(alloc, capacity)?;
-    put_pattern(&mut text, &names, &tree.expr, needs.common, context)?;
-    String::from_str(alloc, text.as_str())
+    let mut out = TextOutput::with_capacity(alloc, capacity)?;
+    put_pattern(&mut out, &names, &tree.expr, needs.common, context)?;
+    String::from_str(alloc, out.as_str())
 }

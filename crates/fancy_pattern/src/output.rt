@@ -1,77 +1,98 @@
 //! The output that a text is written to.
-ghost use Rattle.std.specs.Prelude.{◌≡◌, ◌∷◌, [], true, nat_lt, chars, decimal, OnOk};
+ghost use Rattle.std.specs.Prelude.{◌≡◌, ◌∷◌, [], true, nat_lt, chars, decimal, IfOk, OnOk, if◌then◌else◌};
 ghost use Rattle.std.specs.List.{list_all};
-ghost use Rattle.fancy_lex.specs.Text.{Text, bytes, text_of};
+ghost use Rattle.fancy_lex.specs.Text.{bytes, text_of};
 ghost use Rattle.fancy_pattern.specs.TextOutput.{Added, Changed, separated};
 
 use crate::separator::Separator;
 use fancy_lex::text::{append, byte_len, push};
 use fancy_parts::quote::{number_len, put_number};
-use std::alloc::AllocError;
+use std::alloc::{AllocError, Global};
 
-/// An output that takes a text, piece by piece.
-pub(crate) trait TextOutput {
-    /// What was written is this text.
-    ghost holds: { Self → Text → Type 0 };
-
-    /// Writes a character.
-    fn put(&mut self, c: char) -> Result<(), AllocError>
-        ensures { OnOk result (Added holds self.old self.new (c ∷ [])) };
-
-    /// Writes a text.
-    fn put_text(&mut self, text: &str) -> Result<(), AllocError>
-        ensures { OnOk result (Added holds self.old self.new (chars text.now)) };
-
-    /// Writes a number in decimal digits.
-    fn put_number(&mut self, n: usize) -> Result<(), AllocError>
-        ensures { OnOk result (Added holds self.old self.new (decimal n)) };
-
-    /// How many bytes were written.
-    fn len(&self) -> usize
-        ensures { (t : Text) → holds self.now t → result ≡ bytes t };
-
-    /// Separates what was written from the position on from what is before it, if they would be read together.
-    fn separate(&mut self, position: usize, separator: Separator) -> Result<(), AllocError>
-        ensures { OnOk result (Changed holds self.old self.new position (separated separator)) };
+/// The output that a text is written to, piece by piece.
+#[derive(Drop)]
+pub(crate) struct TextOutput {
+    /// What was written.
+    text: String,
 }
 
-impl TextOutput for String {
-    ghost holds = { λ s t. text_of s ≡ t };
-
-    fn put(&mut self, c: char) -> Result<(), AllocError> {
-        push(self, c)
+impl TextOutput {
+    /// An empty output with this initial capacity in bytes.
+    pub(crate) fn with_capacity(alloc: Global, capacity: usize) -> Result<TextOutput, AllocError>
+        ensures { IfOk result (λ out. text_of out.text ≡ []) }
+    {
+        let text = String::with_capacity(alloc, capacity)?;
+        Ok(TextOutput { text })
     }
 
-    fn put_text(&mut self, text: &str) -> Result<(), AllocError> {
-        append(self, text)
+    /// What was written.
+    pub(crate) fn as_str(&self) -> &str
+        ensures { chars result.now ≡ text_of self.now.text }
+    {
+        self.text.as_str()
     }
 
-    fn put_number(&mut self, n: usize) -> Result<(), AllocError> {
-        self.reserve(number_len(n))?;
-        put_number(self, n);
+    /// Writes a character.
+    pub(crate) fn put(&mut self, c: char) -> Result<(), AllocError>
+        ensures { OnOk result (Added self.old self.new (c ∷ [])) }
+    {
+        push(&mut self.text, c)
+    }
+
+    /// Writes a text.
+    pub(crate) fn put_text(&mut self, text: &str) -> Result<(), AllocError>
+        ensures { OnOk result (Added self.old self.new (chars text.now)) }
+    {
+        append(&mut self.text, text)
+    }
+
+    /// Writes a number in decimal digits.
+    pub(crate) fn put_number(&mut self, n: usize) -> Result<(), AllocError>
+        ensures { OnOk result (Added self.old self.new (decimal n)) }
+    {
+        self.text.reserve(number_len(n))?;
+        put_number(&mut self.text, n);
         Ok(())
     }
 
-    fn len(&self) -> usize {
-        byte_len(self.as_str())
+    /// How many bytes were written.
+    pub(crate) fn len(&self) -> usize
+        ensures { result ≡ bytes (text_of self.now.text) }
+    {
+        byte_len(self.text.as_str())
     }
 
-    fn separate(&mut self, position: usize, separator: Separator) -> Result<(), AllocError> {
+    /// Separates what was written from the position on from what is before it, if they would be read together.
+    pub(crate) fn separate(
+        &mut self,
+        position: usize,
+        separator: Separator,
+    ) -> Result<(), AllocError>
+        ensures { OnOk result (Changed self.old self.new position (separated separator)) }
+    {
         // Every caller passes a position where the output ended before, so that a character begins there.
-        let Some((_, text)) = self.as_str().split_at_checked(position) else {
+        let Some((_, text)) = self.text.as_str().split_at_checked(position) else {
             return Err(AllocError);
         };
         if !separator.is_needed(text) {
             return Ok(());
         }
-        self.insert_str(position, "(?#)")
+        self.text.insert_str(position, "(?#)")
     }
 }
 
 /// Writes a text of ASCII characters.
-pub(crate) fn put_ascii<S: TextOutput>(out: &mut S, text: &str) -> Result<(), AllocError>
+pub(crate) fn put_ascii(out: &mut TextOutput, text: &str) -> Result<(), AllocError>
     requires { list_all (λ b. nat_lt b 128) text.now ≡ true }
-    ensures { OnOk result (Added S.holds out.old out.new text.now) }
+    ensures { OnOk result (Added out.old out.new text.now) }
 {
     out.put_text(text)
+}
+
+/// Writes the character, if asked for.
+#[tactic(auto, using(crate::proofs::OutputLemmas::added_steps))]
+pub(crate) fn put_if(out: &mut TextOutput, asked: bool, c: char) -> Result<(), AllocError>
+    ensures { OnOk result (Added out.old out.new (if asked then c ∷ [] else [])) }
+{
+    if asked { out.put(c) } else { Ok(()) }
 }

@@ -60,8 +60,8 @@ pub(crate) fn most_quantifiers(flags: Flags, left: usize) -> usize
 
 /// Writes the contents of the braces of a quantifier.
 #[tactic(auto, using(crate::proofs::OutputLemmas::added_steps, fancy_parts::proofs::QuoteLemmas::range_steps))]
-fn put_range<S: TextOutput>(out: &mut S, lo: usize, hi: usize) -> Result<(), AllocError>
-    ensures { OnOk result (Added S.holds out.old out.new (range lo hi)) }
+fn put_range(out: &mut TextOutput, lo: usize, hi: usize) -> Result<(), AllocError>
+    ensures { OnOk result (Added out.old out.new (range lo hi)) }
 {
     if lo == hi {
         out.put_number(lo)
@@ -87,13 +87,13 @@ fn operator_left(adjacent: bool, operator: Option<char>) -> Option<char>
 }
 
 /// Writes the operator, or the counts in braces if there is none.
-fn put_counts<S: TextOutput>(
-    out: &mut S,
+fn put_counts(
+    out: &mut TextOutput,
     lo: usize,
     hi: usize,
     operator: Option<char>,
 ) -> Result<(), AllocError>
-    ensures { OnOk result (Added S.holds out.old out.new (counts_as lo hi operator)) }
+    ensures { OnOk result (Added out.old out.new (counts_as lo hi operator)) }
 {
     match operator {
         Some(c) => out.put(c),
@@ -106,8 +106,8 @@ fn put_counts<S: TextOutput>(
 }
 
 /// Writes the counts in braces, swapped.
-fn put_swapped<S: TextOutput>(out: &mut S, lo: usize, hi: usize) -> Result<(), AllocError>
-    ensures { OnOk result (Added S.holds out.old out.new
+fn put_swapped(out: &mut TextOutput, lo: usize, hi: usize) -> Result<(), AllocError>
+    ensures { OnOk result (Added out.old out.new
         (codes "{" ++ (decimal hi ++ (codes "," ++ (decimal lo ++ codes "}"))))) }
 {
     out.put('{')?;
@@ -134,13 +134,13 @@ fn possessive_operator(possessive: bool) -> &'static str
 }
 
 /// Writes a quantifier, which may be adjacent to another.
-pub(crate) fn put_quantifier<S: TextOutput>(
-    out: &mut S,
+pub(crate) fn put_quantifier(
+    out: &mut TextOutput,
     quantifier: Quantifier,
     adjacent: bool,
     flags: Flags,
 ) -> Result<(), AllocError>
-    ensures { OnOk result (Added S.holds out.old out.new
+    ensures { OnOk result (Added out.old out.new
         (spec.quantifier_text flags quantifier.possessive adjacent quantifier.lo quantifier.hi quantifier.greedy)) }
 {
     let Quantifier {

@@ -28,8 +28,8 @@ fn sign(amount: isize) -> char
 
 /// Writes a number with its sign.
 #[tactic(auto, using(crate::proofs::OutputLemmas::added_steps))]
-fn put_signed<S: TextOutput>(out: &mut S, amount: isize) -> Result<(), AllocError>
-    ensures { OnOk result (Added S.holds out.old out.new (spec.signed amount)) }
+fn put_signed(out: &mut TextOutput, amount: isize) -> Result<(), AllocError>
+    ensures { OnOk result (Added out.old out.new (spec.signed amount)) }
 {
     out.put(sign(amount))?;
     out.put_number(amount.unsigned_abs())
@@ -37,8 +37,8 @@ fn put_signed<S: TextOutput>(out: &mut S, amount: isize) -> Result<(), AllocErro
 
 /// Writes a level with its sign, if there is one.
 #[tactic(auto, using(crate::proofs::OutputLemmas::added_steps))]
-fn put_level<S: TextOutput>(out: &mut S, level: Option<isize>) -> Result<(), AllocError>
-    ensures { OnOk result (Added S.holds out.old out.new (spec.level_text level)) }
+fn put_level(out: &mut TextOutput, level: Option<isize>) -> Result<(), AllocError>
+    ensures { OnOk result (Added out.old out.new (spec.level_text level)) }
 {
     match level {
         Some(level) => put_signed(out, level),
@@ -48,9 +48,9 @@ fn put_level<S: TextOutput>(out: &mut S, level: Option<isize>) -> Result<(), All
 
 /// Writes a text between delimiters, after an opening.
 #[tactic(auto, using(crate::proofs::OutputLemmas::added_steps))]
-fn put_delimited<S: TextOutput>(out: &mut S, opening: &str, text: &str) -> Result<(), AllocError>
+fn put_delimited(out: &mut TextOutput, opening: &str, text: &str) -> Result<(), AllocError>
     requires { list_all (λ b. nat_lt b 128) opening.now ≡ true }
-    ensures { OnOk result (Added S.holds out.old out.new (spec.delimited opening.now (chars text.now))) }
+    ensures { OnOk result (Added out.old out.new (spec.delimited opening.now (chars text.now))) }
 {
     put_ascii(out, opening)?;
     out.put('<')?;
@@ -60,9 +60,9 @@ fn put_delimited<S: TextOutput>(out: &mut S, opening: &str, text: &str) -> Resul
 
 /// Writes a text between quotes, after an opening.
 #[tactic(auto, using(crate::proofs::OutputLemmas::added_steps))]
-fn put_quoted<S: TextOutput>(out: &mut S, opening: &str, text: &str) -> Result<(), AllocError>
+fn put_quoted(out: &mut TextOutput, opening: &str, text: &str) -> Result<(), AllocError>
     requires { list_all (λ b. nat_lt b 128) opening.now ≡ true }
-    ensures { OnOk result (Added S.holds out.old out.new
+    ensures { OnOk result (Added out.old out.new
         (opening.now ++ (codes "'" ++ (chars text.now ++ codes "'")))) }
 {
     put_ascii(out, opening)?;
@@ -74,14 +74,14 @@ fn put_quoted<S: TextOutput>(out: &mut S, opening: &str, text: &str) -> Result<(
 /// Writes the target of a back reference: the group's name if it refers to this group and the group opened before, or
 /// else its number.
 #[tactic(auto, using(crate::proofs::OutputLemmas::added_steps))]
-fn put_group<S: TextOutput>(
-    out: &mut S,
+fn put_group(
+    out: &mut TextOutput,
     names: &GroupNames,
     group: usize,
     opened: usize,
 ) -> Result<(), AllocError>
     ensures { (m : GroupInfo) → AreGroupNames names.now m →
-        OnOk result (Added S.holds out.old out.new (spec.backref_name m opened group)) }
+        OnOk result (Added out.old out.new (spec.backref_name m opened group)) }
 {
     match names.last_name(group) {
         Some(name) if group <= opened => out.put_text(name),
@@ -91,14 +91,14 @@ fn put_group<S: TextOutput>(
 
 /// Writes a back reference.
 #[tactic(auto, using(crate::proofs::OutputLemmas::added_steps))]
-pub(crate) fn put_backref<S: TextOutput>(
-    out: &mut S,
+pub(crate) fn put_backref(
+    out: &mut TextOutput,
     names: &GroupNames,
     group: usize,
     opened: usize,
 ) -> Result<(), AllocError>
     ensures { (m : GroupInfo) → AreGroupNames names.now m →
-        OnOk result (Added S.holds out.old out.new (spec.backref_text m opened group)) }
+        OnOk result (Added out.old out.new (spec.backref_text m opened group)) }
 {
     if names.is_numeric {
         out.put('\\')?;
@@ -111,15 +111,15 @@ pub(crate) fn put_backref<S: TextOutput>(
 
 /// Writes a back reference at a level.
 #[tactic(auto, using(crate::proofs::OutputLemmas::added_steps))]
-pub(crate) fn put_backref_at_level<S: TextOutput>(
-    out: &mut S,
+pub(crate) fn put_backref_at_level(
+    out: &mut TextOutput,
     names: &GroupNames,
     group: usize,
     level: isize,
     opened: usize,
 ) -> Result<(), AllocError>
     ensures { (m : GroupInfo) → AreGroupNames names.now m →
-        OnOk result (Added S.holds out.old out.new (spec.backref_at_level_text m opened group level)) }
+        OnOk result (Added out.old out.new (spec.backref_at_level_text m opened group level)) }
 {
     put_ascii(out, r"\k<")?;
     put_group(out, names, group, opened)?;
@@ -129,12 +129,12 @@ pub(crate) fn put_backref_at_level<S: TextOutput>(
 
 /// Writes a name and a level between delimiters.
 #[tactic(auto, using(crate::proofs::OutputLemmas::added_steps))]
-fn put_name_at_level<S: TextOutput>(
-    out: &mut S,
+fn put_name_at_level(
+    out: &mut TextOutput,
     name: &str,
     level: Option<isize>,
 ) -> Result<(), AllocError>
-    ensures { OnOk result (Added S.holds out.old out.new (spec.delimited [] (chars name.now ++ spec.level_text level))) }
+    ensures { OnOk result (Added out.old out.new (spec.delimited [] (chars name.now ++ spec.level_text level))) }
 {
     out.put('<')?;
     out.put_text(name)?;
@@ -144,12 +144,12 @@ fn put_name_at_level<S: TextOutput>(
 
 /// Writes a number and a level.
 #[tactic(auto, using(crate::proofs::OutputLemmas::added_steps))]
-fn put_number_at_level<S: TextOutput>(
-    out: &mut S,
+fn put_number_at_level(
+    out: &mut TextOutput,
     group: usize,
     level: Option<isize>,
 ) -> Result<(), AllocError>
-    ensures { OnOk result (Added S.holds out.old out.new (decimal group ++ spec.level_text level)) }
+    ensures { OnOk result (Added out.old out.new (decimal group ++ spec.level_text level)) }
 {
     out.put_number(group)?;
     put_level(out, level)
@@ -157,14 +157,14 @@ fn put_number_at_level<S: TextOutput>(
 
 /// Writes the target of a condition on a group.
 #[tactic(auto, using(crate::proofs::OutputLemmas::added_steps))]
-pub(crate) fn put_target<S: TextOutput>(
-    out: &mut S,
+pub(crate) fn put_target(
+    out: &mut TextOutput,
     names: &GroupNames,
     group: usize,
     level: Option<isize>,
 ) -> Result<(), AllocError>
     ensures { (m : GroupInfo) → AreGroupNames names.now m →
-        OnOk result (Added S.holds out.old out.new (spec.target_text m group level)) }
+        OnOk result (Added out.old out.new (spec.target_text m group level)) }
 {
     match names.last_name(group) {
         Some(name) => put_name_at_level(out, name, level),
@@ -174,8 +174,8 @@ pub(crate) fn put_target<S: TextOutput>(
 
 /// Writes a group by its distance: that many groups forward or back.
 #[tactic(auto, using(crate::proofs::OutputLemmas::added_steps))]
-fn put_distance<S: TextOutput>(out: &mut S, opened: usize, group: usize) -> Result<(), AllocError>
-    ensures { OnOk result (Added S.holds out.old out.new (spec.distance opened group)) }
+fn put_distance(out: &mut TextOutput, opened: usize, group: usize) -> Result<(), AllocError>
+    ensures { OnOk result (Added out.old out.new (spec.distance opened group)) }
 {
     if opened < group {
         out.put('+')?;
@@ -189,14 +189,14 @@ fn put_distance<S: TextOutput>(out: &mut S, opened: usize, group: usize) -> Resu
 /// Writes the target of a call: the number if some reference is a number, or 0 if some call was; else a name that only
 /// this group has, or the distance.
 #[tactic(auto, using(crate::proofs::OutputLemmas::added_steps))]
-fn put_called<S: TextOutput>(
-    out: &mut S,
+fn put_called(
+    out: &mut TextOutput,
     names: &GroupNames,
     group: usize,
     opened: usize,
 ) -> Result<(), AllocError>
     ensures { (m : GroupInfo) → AreGroupNames names.now m →
-        OnOk result (Added S.holds out.old out.new (spec.call_name m opened group)) }
+        OnOk result (Added out.old out.new (spec.call_name m opened group)) }
 {
     if names.is_numeric && (group > 0 || names.self_recursive) {
         return out.put_number(group);
@@ -209,14 +209,14 @@ fn put_called<S: TextOutput>(
 
 /// Writes a call.
 #[tactic(auto, using(crate::proofs::OutputLemmas::added_steps))]
-pub(crate) fn put_call<S: TextOutput>(
-    out: &mut S,
+pub(crate) fn put_call(
+    out: &mut TextOutput,
     names: &GroupNames,
     group: usize,
     opened: usize,
 ) -> Result<(), AllocError>
     ensures { (m : GroupInfo) → AreGroupNames names.now m →
-        OnOk result (Added S.holds out.old out.new (spec.call_text m opened group)) }
+        OnOk result (Added out.old out.new (spec.call_text m opened group)) }
 {
     put_ascii(out, r"\g<")?;
     put_called(out, names, group, opened)?;
@@ -233,8 +233,8 @@ fn has(text: &str, delimiter: char) -> bool
 
 /// Writes a call by name in the form of a group.
 #[tactic(auto, using(crate::proofs::OutputLemmas::added_steps))]
-fn put_grouped_call<S: TextOutput>(out: &mut S, name: &str) -> Result<(), AllocError>
-    ensures { OnOk result (Added S.holds out.old out.new (codes "(?P>" ++ (chars name.now ++ codes ")"))) }
+fn put_grouped_call(out: &mut TextOutput, name: &str) -> Result<(), AllocError>
+    ensures { OnOk result (Added out.old out.new (codes "(?P>" ++ (chars name.now ++ codes ")"))) }
 {
     put_ascii(out, "(?P>")?;
     out.put_text(name)?;
@@ -242,8 +242,8 @@ fn put_grouped_call<S: TextOutput>(out: &mut S, name: &str) -> Result<(), AllocE
 }
 
 /// Writes a call by a name that refers to no group, or to several.
-fn put_call_by_name<S: TextOutput>(out: &mut S, name: &str) -> Result<(), AllocError>
-    ensures { OnOk result (Added S.holds out.old out.new (spec.unresolved_call_by_name (chars name.now))) }
+fn put_call_by_name(out: &mut TextOutput, name: &str) -> Result<(), AllocError>
+    ensures { OnOk result (Added out.old out.new (spec.unresolved_call_by_name (chars name.now))) }
 {
     if is_relative(name) {
         put_grouped_call(out, name)
@@ -258,8 +258,8 @@ fn put_call_by_name<S: TextOutput>(out: &mut S, name: &str) -> Result<(), AllocE
 
 /// Writes a call by a relative number.
 #[tactic(auto, using(crate::proofs::OutputLemmas::added_steps))]
-fn put_call_by_amount<S: TextOutput>(out: &mut S, amount: isize) -> Result<(), AllocError>
-    ensures { OnOk result (Added S.holds out.old out.new (spec.delimited (codes "\\g") (spec.signed amount))) }
+fn put_call_by_amount(out: &mut TextOutput, amount: isize) -> Result<(), AllocError>
+    ensures { OnOk result (Added out.old out.new (spec.delimited (codes "\\g") (spec.signed amount))) }
 {
     put_ascii(out, r"\g<")?;
     put_signed(out, amount)?;
@@ -268,8 +268,8 @@ fn put_call_by_amount<S: TextOutput>(out: &mut S, amount: isize) -> Result<(), A
 
 /// Writes a call by number.
 #[tactic(auto, using(crate::proofs::OutputLemmas::added_steps))]
-fn put_call_by_number<S: TextOutput>(out: &mut S, group: usize) -> Result<(), AllocError>
-    ensures { OnOk result (Added S.holds out.old out.new (spec.delimited (codes "\\g") (decimal group))) }
+fn put_call_by_number(out: &mut TextOutput, group: usize) -> Result<(), AllocError>
+    ensures { OnOk result (Added out.old out.new (spec.delimited (codes "\\g") (decimal group))) }
 {
     put_ascii(out, r"\g<")?;
     out.put_number(group)?;
@@ -277,11 +277,8 @@ fn put_call_by_number<S: TextOutput>(out: &mut S, group: usize) -> Result<(), Al
 }
 
 /// Writes a call with this target that refers to no group.
-fn put_unresolved_call<S: TextOutput>(
-    out: &mut S,
-    target: &CaptureGroupTarget,
-) -> Result<(), AllocError>
-    ensures { OnOk result (Added S.holds out.old out.new (spec.unresolved_text (ast_call (view_target target.now)))) }
+fn put_unresolved_call(out: &mut TextOutput, target: &CaptureGroupTarget) -> Result<(), AllocError>
+    ensures { OnOk result (Added out.old out.new (spec.unresolved_text (ast_call (view_target target.now)))) }
 {
     match target {
         CaptureGroupTarget::ByName(name) => put_call_by_name(out, name.as_str()),
@@ -292,9 +289,9 @@ fn put_unresolved_call<S: TextOutput>(
 
 /// Writes a call that refers to no group.
 #[tactic(auto, using(crate::proofs::OutputLemmas::added_steps))]
-pub(crate) fn put_unresolved<S: TextOutput>(out: &mut S, node: &AstNode) -> Result<(), AllocError>
+pub(crate) fn put_unresolved(out: &mut TextOutput, node: &AstNode) -> Result<(), AllocError>
     ensures { (m : GroupInfo) (h : Context) (position : ℕ) →
-        OnOk result (Added S.holds out.old out.new (leaf_text_of m (view_ast node.now position) h)) }
+        OnOk result (Added out.old out.new (leaf_text_of m (view_ast node.now position) h)) }
 {
     match node {
         AstNode::SubroutineCall(target) => put_unresolved_call(out, target),
@@ -317,8 +314,8 @@ fn name_prefix(first: char) -> &'static str
 }
 
 /// Writes the opening of a capturing group with this name.
-fn put_name_opening<S: TextOutput>(out: &mut S, name: &str) -> Result<(), AllocError>
-    ensures { OnOk result (Added S.holds out.old out.new (spec.name_opening (chars name.now))) }
+fn put_name_opening(out: &mut TextOutput, name: &str) -> Result<(), AllocError>
+    ensures { OnOk result (Added out.old out.new (spec.name_opening (chars name.now))) }
 {
     let Some((first, _)) = next(name) else {
         return Ok(());
@@ -331,13 +328,13 @@ fn put_name_opening<S: TextOutput>(out: &mut S, name: &str) -> Result<(), AllocE
 
 /// Writes what follows the parenthesis of a capturing group.
 #[tactic(auto, using(crate::proofs::OutputLemmas::added_steps))]
-pub(crate) fn put_group_opening<S: TextOutput>(
-    out: &mut S,
+pub(crate) fn put_group_opening(
+    out: &mut TextOutput,
     names: &GroupNames,
     group: usize,
 ) -> Result<(), AllocError>
     ensures { (m : GroupInfo) → AreGroupNames names.now m →
-        OnOk result (Added S.holds out.old out.new (spec.group_opening m group)) }
+        OnOk result (Added out.old out.new (spec.group_opening m group)) }
 {
     match names.name_of(group) {
         Some(name) => put_name_opening(out, name.text),

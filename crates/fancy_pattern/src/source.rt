@@ -122,16 +122,16 @@ fn letter(upper: bool) -> &'static str
 }
 
 /// Writes a property by its name: the reader removes one caret, and changes the case of the letter.
-fn put_property<S: TextOutput>(out: &mut S, upper: bool, name: &str) -> Result<(), AllocError>
-    ensures { OnOk result (Added S.holds out.old out.new (spec.named_property upper (chars name.now))) }
+fn put_property(out: &mut TextOutput, upper: bool, name: &str) -> Result<(), AllocError>
+    ensures { OnOk result (Added out.old out.new (spec.named_property upper (chars name.now))) }
 {
     put_property_front(out, upper, name)?;
     out.put('}')
 }
 
 /// Writes what is before the closing brace of a property.
-fn put_property_front<S: TextOutput>(out: &mut S, upper: bool, name: &str) -> Result<(), AllocError>
-    ensures { OnOk result (Added S.holds out.old out.new (spec.named_front upper (chars name.now))) }
+fn put_property_front(out: &mut TextOutput, upper: bool, name: &str) -> Result<(), AllocError>
+    ensures { OnOk result (Added out.old out.new (spec.named_front upper (chars name.now))) }
 {
     match after(name, '^') {
         Some(name) => {
@@ -148,12 +148,12 @@ fn put_property_front<S: TextOutput>(out: &mut S, upper: bool, name: &str) -> Re
 }
 
 /// Writes what follows the letter of a property, and returns the rest.
-fn put_property_at<'a, S: TextOutput>(
-    out: &mut S,
+fn put_property_at<'a>(
+    out: &mut TextOutput,
     upper: bool,
     text: &'a str,
 ) -> Result<&'a str, AllocError>
-    ensures { IfOk result (λ r. AddedPart S.holds out.old out.new (spec.property_part upper (chars text.now)) (chars r.now)) }
+    ensures { IfOk result (λ r. AddedPart out.old out.new (spec.property_part upper (chars text.now)) (chars r.now)) }
 {
     let Some((c, rest)) = next(text) else {
         put_ascii(out, letter(upper))?;
@@ -177,8 +177,8 @@ fn put_property_at<'a, S: TextOutput>(
 }
 
 /// Writes a character, or a backslash and what belongs to it, and returns the rest.
-fn put_unit<'a, S: TextOutput>(out: &mut S, c: char, rest: &'a str) -> Result<&'a str, AllocError>
-    ensures { IfOk result (λ r. AddedPart S.holds out.old out.new (spec.single_part c (chars rest.now)) (chars r.now)) }
+fn put_unit<'a>(out: &mut TextOutput, c: char, rest: &'a str) -> Result<&'a str, AllocError>
+    ensures { IfOk result (λ r. AddedPart out.old out.new (spec.single_part c (chars rest.now)) (chars r.now)) }
 {
     if c == '\\'
         && let Some((letter, tail)) = next(rest)
@@ -195,8 +195,8 @@ fn put_unit<'a, S: TextOutput>(out: &mut S, c: char, rest: &'a str) -> Result<&'
 }
 
 /// Writes a source that the reader turns into this text.
-fn put_source<S: TextOutput>(out: &mut S, text: &str, unicode: bool) -> Result<(), AllocError>
-    ensures { OnOk result (Added S.holds out.old out.new (spec.source unicode (chars text.now))) }
+fn put_source(out: &mut TextOutput, text: &str, unicode: bool) -> Result<(), AllocError>
+    ensures { OnOk result (Added out.old out.new (spec.source unicode (chars text.now))) }
 {
     let mut rest = text;
     let mut seen = false;
@@ -214,13 +214,13 @@ fn put_source<S: TextOutput>(out: &mut S, text: &str, unicode: bool) -> Result<(
 }
 
 /// Writes a Delegate.
-pub(crate) fn put_delegate<S: TextOutput>(
-    out: &mut S,
+pub(crate) fn put_delegate(
+    out: &mut TextOutput,
     inner: &str,
     casei: bool,
     flags: Flags,
 ) -> Result<(), AllocError>
-    ensures { OnOk result (Added S.holds out.old out.new (spec.delegate_text flags casei (chars inner.now))) }
+    ensures { OnOk result (Added out.old out.new (spec.delegate_text flags casei (chars inner.now))) }
 {
     if flags.casei && !casei && is_text(inner, "[0-9A-Fa-f]") {
         return put_ascii(out, r"\h");

@@ -41,8 +41,8 @@ use fancy_syntax::expr::{Absent, Expr, LookAround};
 use std::alloc::AllocError;
 
 /// Writes the whole text: first the flags that all leaves need (`agreed`), then the tree.
-pub(crate) fn put_pattern<S: TextOutput>(
-    out: &mut S,
+pub(crate) fn put_pattern(
+    out: &mut TextOutput,
     names: &GroupNames,
     tree: &Expr,
     agreed: Needs,
@@ -51,7 +51,7 @@ pub(crate) fn put_pattern<S: TextOutput>(
     ensures { (m : GroupInfo) (f : Flags) → AreGroupNames names.now m →
         agreed ≡ needs both f.oniguruma_mode (view tree.now) →
         IsContext context.entry (record { flags = f; opened = 0; depth = 0 }) (needs_listed f.oniguruma_mode (view tree.now)) →
-        OnOk result (Added S.holds out.old out.new (spec.pattern_text f (view tree.now) m)) }
+        OnOk result (Added out.old out.new (spec.pattern_text f (view tree.now) m)) }
 {
     let mut context = context;
     put_inline_flags(out, agreed, &mut context)?;
@@ -60,14 +60,14 @@ pub(crate) fn put_pattern<S: TextOutput>(
 
 /// Writes a tree's text in its context, which then becomes the context of what follows.
 #[cycle(write)]
-fn put_tree<S: TextOutput>(
-    out: &mut S,
+fn put_tree(
+    out: &mut TextOutput,
     names: &GroupNames,
     tree: &Expr,
     precedence: Precedence,
     context: &mut Context,
 ) -> Result<(), AllocError>
-    ensures { (m : GroupInfo) → AreGroupNames names.now m → OnOk result (Writes S.holds out.old out.new context.old context.new
+    ensures { (m : GroupInfo) → AreGroupNames names.now m → OnOk result (Writes out.old out.new context.old context.new
         (λ o. needs_listed o (view tree.now)) (spec.written m (view tree.now) precedence)
         (spec.after (view tree.now) precedence)) }
 {
@@ -76,7 +76,27 @@ fn put_tree<S: TextOutput>(
         Expr::Empty => put_empty(out, precedence),
         Expr::Concat(pieces) => put_concat(out, names, pieces, precedence, needs, context),
         Expr::Alt(branches) => put_alt(out, names, branches, precedence, needs, context),
-        _ => {
+        Expr::Any { .. }
+        | Expr::Assertion(_)
+        | Expr::GeneralNewline { .. }
+        | Expr::Literal { .. }
+        | Expr::LiteralBytes { .. }
+        | Expr::Group(_)
+        | Expr::LookAround(..)
+        | Expr::Repeat { .. }
+        | Expr::Delegate { .. }
+        | Expr::Backref { .. }
+        | Expr::BackrefWithRelativeRecursionLevel { .. }
+        | Expr::AtomicGroup(_)
+        | Expr::KeepOut
+        | Expr::ContinueFromPreviousMatchEnd
+        | Expr::BackrefExistsCondition { .. }
+        | Expr::Conditional { .. }
+        | Expr::SubroutineCall(_)
+        | Expr::BacktrackingControlVerb(_)
+        | Expr::Absent(_)
+        | Expr::DefineGroup { .. }
+        | Expr::AstNode(..) => {
             put_inline_flags(out, needs, context)?;
             put_settled(out, names, tree, precedence, context)
         }
@@ -85,8 +105,8 @@ fn put_tree<S: TextOutput>(
 
 /// Writes an Empty: nothing, or `()` if several pieces are not allowed there.
 #[tactic(auto, using(crate::proofs::OutputLemmas::added_steps))]
-fn put_empty<S: TextOutput>(out: &mut S, precedence: Precedence) -> Result<(), AllocError>
-    ensures { OnOk result (Added S.holds out.old out.new (if spec.takes_pieces precedence then [] else codes "()")) }
+fn put_empty(out: &mut TextOutput, precedence: Precedence) -> Result<(), AllocError>
+    ensures { OnOk result (Added out.old out.new (if spec.takes_pieces precedence then [] else codes "()")) }
 {
     if takes_pieces(precedence) {
         Ok(())
@@ -135,8 +155,8 @@ fn allowed(precedence: Precedence, context: &Context) -> usize
 
 /// Writes a Concat, in a group of its own if several pieces are not allowed there.
 #[cycle(write)]
-fn put_concat<S: TextOutput>(
-    out: &mut S,
+fn put_concat(
+    out: &mut TextOutput,
     names: &GroupNames,
     pieces: &[Expr],
     precedence: Precedence,
@@ -145,7 +165,7 @@ fn put_concat<S: TextOutput>(
 ) -> Result<(), AllocError>
     ensures { (m : GroupInfo) → AreGroupNames names.now m →
         needs ≡ needs_all first context.old.flags.oniguruma_mode (trees_of (views pieces.now)) →
-        OnOk result (Writes S.holds out.old out.new context.old context.new (λ o. all_listed o (trees_of (views pieces.now)))
+        OnOk result (Writes out.old out.new context.old context.new (λ o. all_listed o (trees_of (views pieces.now)))
         (spec.in_flag_group_unless (spec.takes_pieces precedence) (concat (trees_of (views pieces.now)))
         (spec.written_all m false (trees_of (views pieces.now))))
         (spec.after (concat (trees_of (views pieces.now))) precedence)) }
@@ -161,13 +181,13 @@ fn put_concat<S: TextOutput>(
 
 /// Writes trees one after the other. A text that begins with a digit is separated from a reference in digits before it.
 #[cycle(write)]
-fn put_pieces<S: TextOutput>(
-    out: &mut S,
+fn put_pieces(
+    out: &mut TextOutput,
     names: &GroupNames,
     pieces: &[Expr],
     context: &mut Context,
 ) -> Result<(), AllocError>
-    ensures { (m : GroupInfo) → AreGroupNames names.now m → OnOk result (Writes S.holds out.old out.new context.old context.new
+    ensures { (m : GroupInfo) → AreGroupNames names.now m → OnOk result (Writes out.old out.new context.old context.new
         (λ o. all_listed o (trees_of (views pieces.now))) (spec.written_all m false (trees_of (views pieces.now)))
         (after_all (trees_of (views pieces.now)) Piece)) }
 {
@@ -182,12 +202,12 @@ fn put_pieces<S: TextOutput>(
 }
 
 /// If a reference in digits is before the position, and a digit follows, inserts a separator at the position.
-fn separate_after_digits<S: TextOutput>(
-    out: &mut S,
+fn separate_after_digits(
+    out: &mut TextOutput,
     position: usize,
     after_digits: bool,
 ) -> Result<(), AllocError>
-    ensures { OnOk result (Changed S.holds out.old out.new position (λ u. spec.separated_if (after_digits && at_digit u) u)) }
+    ensures { OnOk result (Changed out.old out.new position (λ u. spec.separated_if (after_digits && at_digit u) u)) }
 {
     if after_digits {
         out.separate(position, Separator::Number)
@@ -205,8 +225,8 @@ fn is_in_digits(names: &GroupNames, tree: &Expr) -> bool
 
 /// Writes an Alt, in a group of its own if several branches are not allowed there.
 #[cycle(write)]
-fn put_alt<S: TextOutput>(
-    out: &mut S,
+fn put_alt(
+    out: &mut TextOutput,
     names: &GroupNames,
     branches: &[Expr],
     precedence: Precedence,
@@ -215,7 +235,7 @@ fn put_alt<S: TextOutput>(
 ) -> Result<(), AllocError>
     ensures { (m : GroupInfo) → AreGroupNames names.now m →
         needs ≡ needs_all first context.old.flags.oniguruma_mode (trees_of (views branches.now)) →
-        OnOk result (Writes S.holds out.old out.new context.old context.new (λ o. all_listed o (trees_of (views branches.now)))
+        OnOk result (Writes out.old out.new context.old context.new (λ o. all_listed o (trees_of (views branches.now)))
         (spec.in_flag_group_unless (spec.takes_branches precedence) (alt (trees_of (views branches.now)))
         (spec.written_branches m (trees_of (views branches.now))))
         (spec.after (alt (trees_of (views branches.now))) precedence)) }
@@ -231,13 +251,13 @@ fn put_alt<S: TextOutput>(
 
 /// Writes trees with bars between them.
 #[cycle(write)]
-fn put_branches<S: TextOutput>(
-    out: &mut S,
+fn put_branches(
+    out: &mut TextOutput,
     names: &GroupNames,
     branches: &[Expr],
     context: &mut Context,
 ) -> Result<(), AllocError>
-    ensures { (m : GroupInfo) → AreGroupNames names.now m → OnOk result (Writes S.holds out.old out.new context.old context.new
+    ensures { (m : GroupInfo) → AreGroupNames names.now m → OnOk result (Writes out.old out.new context.old context.new
         (λ o. all_listed o (trees_of (views branches.now))) (spec.written_branches m (trees_of (views branches.now)))
         (after_all (trees_of (views branches.now)) Branch)) }
 {
@@ -254,8 +274,8 @@ fn put_branches<S: TextOutput>(
 
 /// Writes a tree that is no Empty, Concat or Alt. The flags that it needs are set already.
 #[cycle(write)]
-fn put_settled<S: TextOutput>(
-    out: &mut S,
+fn put_settled(
+    out: &mut TextOutput,
     names: &GroupNames,
     tree: &Expr,
     precedence: Precedence,
@@ -263,7 +283,7 @@ fn put_settled<S: TextOutput>(
 ) -> Result<(), AllocError>
     requires { takes_inline_flags (view tree.now) ≡ true }
     ensures { (m : GroupInfo) → AreGroupNames names.now m → OnOk result
-        (WritesSettled S.holds out.old out.new context.old context.new m (view tree.now) precedence) }
+        (WritesSettled out.old out.new context.old context.new m (view tree.now) precedence) }
 {
     match tree {
         Expr::Group(child) => put_group(out, names, child, context),
@@ -296,7 +316,24 @@ fn put_settled<S: TextOutput>(
         Expr::Absent(Absent::Repeater(child)) => put_repeater(out, names, child, context),
         Expr::Absent(Absent::Expression { .. }) => put_expression(out, names, tree, context),
         Expr::Absent(Absent::Stopper(child)) => put_stopper(out, names, child, context),
-        _ => put_leaf_at(out, names, tree, precedence, context),
+        Expr::Any { .. }
+        | Expr::Assertion(_)
+        | Expr::GeneralNewline { .. }
+        | Expr::Literal { .. }
+        | Expr::LiteralBytes { .. }
+        | Expr::Delegate { .. }
+        | Expr::Backref { .. }
+        | Expr::BackrefWithRelativeRecursionLevel { .. }
+        | Expr::KeepOut
+        | Expr::ContinueFromPreviousMatchEnd
+        | Expr::BackrefExistsCondition { .. }
+        | Expr::SubroutineCall(_)
+        | Expr::BacktrackingControlVerb(_)
+        | Expr::Absent(Absent::Clear)
+        | Expr::AstNode(..)
+        | Expr::Empty
+        | Expr::Concat(_)
+        | Expr::Alt(_) => put_leaf_at(out, names, tree, precedence, context),
     }
 }
 
@@ -308,14 +345,14 @@ fn needs_group(tree: &Expr, precedence: Precedence, flags: Flags) -> bool
 }
 
 /// Writes a leaf, in a group if a quantifier follows that the leaf cannot take.
-fn put_leaf_at<S: TextOutput>(
-    out: &mut S,
+fn put_leaf_at(
+    out: &mut TextOutput,
     names: &GroupNames,
     leaf: &Expr,
     precedence: Precedence,
     context: &mut Context,
 ) -> Result<(), AllocError>
-    ensures { (m : GroupInfo) → AreGroupNames names.now m → OnOk result (Writes S.holds out.old out.new context.old context.new (λ o. [])
+    ensures { (m : GroupInfo) → AreGroupNames names.now m → OnOk result (Writes out.old out.new context.old context.new (λ o. [])
         (spec.as_atom (view leaf.now) precedence (leaf_text_of m (view leaf.now))) (λ h. h)) }
 {
     if needs_group(leaf, precedence, context.flags) {
@@ -329,15 +366,15 @@ fn put_leaf_at<S: TextOutput>(
 
 /// Writes a tree in a group with this opening.
 #[cycle(write)]
-fn put_in_group<S: TextOutput>(
-    out: &mut S,
+fn put_in_group(
+    out: &mut TextOutput,
     names: &GroupNames,
     opening: &str,
     child: &Expr,
     context: &mut Context,
 ) -> Result<(), AllocError>
     requires { list_all (λ b. nat_lt b 128) opening.now ≡ true }
-    ensures { (m : GroupInfo) → AreGroupNames names.now m → OnOk result (Writes S.holds out.old out.new context.old context.new
+    ensures { (m : GroupInfo) → AreGroupNames names.now m → OnOk result (Writes out.old out.new context.old context.new
         (λ o. needs_listed o (view child.now)) (spec.in_parens opening.now (spec.written m (view child.now) Whole))
         (spec.past_groups (spec.group_count (view child.now)))) }
 {
@@ -349,15 +386,15 @@ fn put_in_group<S: TextOutput>(
 
 /// Writes a look-around, in a group if a quantifier follows.
 #[cycle(write)]
-fn put_look_around<S: TextOutput>(
-    out: &mut S,
+fn put_look_around(
+    out: &mut TextOutput,
     names: &GroupNames,
     child: &Expr,
     look: LookAround,
     precedence: Precedence,
     context: &mut Context,
 ) -> Result<(), AllocError>
-    ensures { (m : GroupInfo) → AreGroupNames names.now m → OnOk result (Writes S.holds out.old out.new context.old context.new
+    ensures { (m : GroupInfo) → AreGroupNames names.now m → OnOk result (Writes out.old out.new context.old context.new
         (λ o. needs_listed o (view child.now))
         (spec.as_atom (look_around (view child.now) look) precedence
         (spec.in_parens (spec.look_opening look) (spec.written m (view child.now) Whole)))
@@ -374,13 +411,13 @@ fn put_look_around<S: TextOutput>(
 
 /// Writes a capturing group.
 #[cycle(write)]
-fn put_group<S: TextOutput>(
-    out: &mut S,
+fn put_group(
+    out: &mut TextOutput,
     names: &GroupNames,
     child: &Expr,
     context: &mut Context,
 ) -> Result<(), AllocError>
-    ensures { (m : GroupInfo) → AreGroupNames names.now m → OnOk result (Writes S.holds out.old out.new context.old context.new
+    ensures { (m : GroupInfo) → AreGroupNames names.now m → OnOk result (Writes out.old out.new context.old context.new
         (λ o. needs_listed o (view child.now))
         (λ h. spec.in_parens (group_opening m (h.opened + 1)) (spec.written m (view child.now) Whole) (spec.past_groups 1 h))
         (spec.past_groups (spec.group_count (view child.now) + 1))) }
@@ -395,15 +432,15 @@ fn put_group<S: TextOutput>(
 
 /// Writes a Repeat, in a group if a quantifier follows before which no other is allowed.
 #[cycle(write)]
-fn put_repeat<S: TextOutput>(
-    out: &mut S,
+fn put_repeat(
+    out: &mut TextOutput,
     names: &GroupNames,
     child: &Expr,
     quantifier: Quantifier,
     precedence: Precedence,
     context: &mut Context,
 ) -> Result<(), AllocError>
-    ensures { (m : GroupInfo) → AreGroupNames names.now m → OnOk result (Writes S.holds out.old out.new context.old context.new
+    ensures { (m : GroupInfo) → AreGroupNames names.now m → OnOk result (Writes out.old out.new context.old context.new
         (λ o. needs_listed o (view child.now))
         (spec.in_parens_if (spec.is_last_operand precedence) (codes "?:")
         (spec.repeated quantifier.possessive (view child.now) quantifier.lo quantifier.hi quantifier.greedy
@@ -426,15 +463,15 @@ fn needs_atomic_group(lo: usize, hi: usize, precedence: Precedence, flags: Flags
 
 /// Writes an AtomicGroup. That of a Repeat is written as a possessive quantifier, if one parses as it.
 #[cycle(write)]
-fn put_atomic<S: TextOutput>(
-    out: &mut S,
+fn put_atomic(
+    out: &mut TextOutput,
     names: &GroupNames,
     child: &Expr,
     precedence: Precedence,
     context: &mut Context,
 ) -> Result<(), AllocError>
     ensures { (m : GroupInfo) → AreGroupNames names.now m → OnOk result
-        (WritesSettled S.holds out.old out.new context.old context.new m (atomic_group (view child.now)) precedence) }
+        (WritesSettled out.old out.new context.old context.new m (atomic_group (view child.now)) precedence) }
 {
     let Expr::Repeat {
         child: repeated,
@@ -462,8 +499,8 @@ fn put_atomic<S: TextOutput>(
 
 /// Writes a tree and the quantifier after it, in a group with this opening.
 #[cycle(write)]
-fn put_quantified_in_group<S: TextOutput>(
-    out: &mut S,
+fn put_quantified_in_group(
+    out: &mut TextOutput,
     names: &GroupNames,
     opening: &str,
     child: &Expr,
@@ -471,7 +508,7 @@ fn put_quantified_in_group<S: TextOutput>(
     context: &mut Context,
 ) -> Result<(), AllocError>
     requires { list_all (λ b. nat_lt b 128) opening.now ≡ true }
-    ensures { (m : GroupInfo) → AreGroupNames names.now m → OnOk result (Writes S.holds out.old out.new context.old context.new
+    ensures { (m : GroupInfo) → AreGroupNames names.now m → OnOk result (Writes out.old out.new context.old context.new
         (λ o. needs_listed o (view child.now))
         (spec.in_parens opening.now (spec.repeated quantifier.possessive (view child.now) quantifier.lo quantifier.hi quantifier.greedy
         (spec.written m (view child.now)) Whole))
@@ -492,15 +529,15 @@ fn is_adjacent(allowed: usize, child: &Expr, flags: Flags) -> bool
 
 /// Writes a tree and the quantifier after it.
 #[cycle(write)]
-fn put_quantified<S: TextOutput>(
-    out: &mut S,
+fn put_quantified(
+    out: &mut TextOutput,
     names: &GroupNames,
     child: &Expr,
     quantifier: Quantifier,
     precedence: Precedence,
     context: &mut Context,
 ) -> Result<(), AllocError>
-    ensures { (m : GroupInfo) → AreGroupNames names.now m → OnOk result (Writes S.holds out.old out.new context.old context.new
+    ensures { (m : GroupInfo) → AreGroupNames names.now m → OnOk result (Writes out.old out.new context.old context.new
         (λ o. needs_listed o (view child.now)) (spec.repeated quantifier.possessive (view child.now) quantifier.lo quantifier.hi quantifier.greedy
         (spec.written m (view child.now)) precedence)
         (spec.past_groups (spec.group_count (view child.now)))) }
@@ -515,14 +552,14 @@ fn put_quantified<S: TextOutput>(
 
 /// Writes a Conditional.
 #[cycle(write)]
-fn put_conditional<S: TextOutput>(
-    out: &mut S,
+fn put_conditional(
+    out: &mut TextOutput,
     names: &GroupNames,
     tree: &Expr,
     context: &mut Context,
 ) -> Result<(), AllocError>
     ensures { (m : GroupInfo) → AreGroupNames names.now m → is_conditional (view tree.now) ≡ true →
-        OnOk result (Writes S.holds out.old out.new context.old context.new
+        OnOk result (Writes out.old out.new context.old context.new
         (λ o. needs_below o (view tree.now)) (parts_text m (view tree.now))
         (spec.past_groups (spec.group_count (view tree.now)))) }
 {
@@ -539,13 +576,13 @@ fn put_conditional<S: TextOutput>(
 
 /// Writes a condition.
 #[cycle(write)]
-fn put_condition<S: TextOutput>(
-    out: &mut S,
+fn put_condition(
+    out: &mut TextOutput,
     names: &GroupNames,
     condition: &Expr,
     context: &mut Context,
 ) -> Result<(), AllocError>
-    ensures { (m : GroupInfo) → AreGroupNames names.now m → OnOk result (Writes S.holds out.old out.new context.old context.new
+    ensures { (m : GroupInfo) → AreGroupNames names.now m → OnOk result (Writes out.old out.new context.old context.new
         (λ o. needs_listed o (view condition.now))
         (λ h. spec.condition_text m (view condition.now) (spec.written m (view condition.now) Whole h))
         (spec.after (view condition.now) Whole)) }
@@ -586,14 +623,14 @@ fn needs_bar(true_branch: &Expr, false_branch: &Expr) -> bool
 
 /// Writes the branches of a Conditional.
 #[cycle(write)]
-fn put_choice<S: TextOutput>(
-    out: &mut S,
+fn put_choice(
+    out: &mut TextOutput,
     names: &GroupNames,
     tree: &Expr,
     context: &mut Context,
 ) -> Result<(), AllocError>
     ensures { (m : GroupInfo) → AreGroupNames names.now m → is_conditional (view tree.now) ≡ true →
-        OnOk result (Writes S.holds out.old out.new context.old context.new
+        OnOk result (Writes out.old out.new context.old context.new
         (λ o. branches_needs o (view tree.now)) (choice_text m (view tree.now)) (after_branches (view tree.now))) }
 {
     let Expr::Conditional {
@@ -620,13 +657,13 @@ fn put_choice<S: TextOutput>(
 
 /// Writes an absent repeater. A bar right after the `(?~` would make it another absent form, and so it is separated.
 #[cycle(write)]
-fn put_repeater<S: TextOutput>(
-    out: &mut S,
+fn put_repeater(
+    out: &mut TextOutput,
     names: &GroupNames,
     child: &Expr,
     context: &mut Context,
 ) -> Result<(), AllocError>
-    ensures { (m : GroupInfo) → AreGroupNames names.now m → OnOk result (Writes S.holds out.old out.new context.old context.new
+    ensures { (m : GroupInfo) → AreGroupNames names.now m → OnOk result (Writes out.old out.new context.old context.new
         (λ o. needs_listed o (view child.now))
         (spec.in_parens (codes "?~") (λ h. spec.repeater_text (spec.written m (view child.now) Whole h)))
         (spec.past_groups (spec.group_count (view child.now)))) }
@@ -641,14 +678,14 @@ fn put_repeater<S: TextOutput>(
 
 /// Writes an absent expression of two parts.
 #[cycle(write)]
-fn put_expression<S: TextOutput>(
-    out: &mut S,
+fn put_expression(
+    out: &mut TextOutput,
     names: &GroupNames,
     tree: &Expr,
     context: &mut Context,
 ) -> Result<(), AllocError>
     ensures { (m : GroupInfo) → AreGroupNames names.now m → is_expression (view tree.now) ≡ true →
-        OnOk result (Writes S.holds out.old out.new context.old context.new
+        OnOk result (Writes out.old out.new context.old context.new
         (λ o. needs_below o (view tree.now)) (parts_text m (view tree.now))
         (spec.past_groups (spec.group_count (view tree.now)))) }
 {
@@ -667,8 +704,8 @@ fn put_expression<S: TextOutput>(
 }
 
 /// Writes an empty group, if nothing was written from the position on.
-fn fill<S: TextOutput>(out: &mut S, position: usize) -> Result<(), AllocError>
-    ensures { OnOk result (Changed S.holds out.old out.new position spec.stopper_text) }
+fn fill(out: &mut TextOutput, position: usize) -> Result<(), AllocError>
+    ensures { OnOk result (Changed out.old out.new position spec.stopper_text) }
 {
     if out.len() == position {
         put_ascii(out, "()")
@@ -679,13 +716,13 @@ fn fill<S: TextOutput>(out: &mut S, position: usize) -> Result<(), AllocError>
 
 /// Writes an absent stopper. If its child has no text, `()` is written, since the stopper would be a clear otherwise.
 #[cycle(write)]
-fn put_stopper<S: TextOutput>(
-    out: &mut S,
+fn put_stopper(
+    out: &mut TextOutput,
     names: &GroupNames,
     child: &Expr,
     context: &mut Context,
 ) -> Result<(), AllocError>
-    ensures { (m : GroupInfo) → AreGroupNames names.now m → OnOk result (Writes S.holds out.old out.new context.old context.new
+    ensures { (m : GroupInfo) → AreGroupNames names.now m → OnOk result (Writes out.old out.new context.old context.new
         (λ o. needs_listed o (view child.now))
         (spec.in_parens (codes "?~|") (λ h. spec.stopper_text (spec.written m (view child.now) Branch h)))
         (spec.past_groups (spec.group_count (view child.now)))) }

@@ -1,6 +1,5 @@
-use Rattle.std.proofs.Common.{◌≡◌, [], ◌++◌, subst, ap, ◌∙◌, chars, string_bytes}
+use Rattle.std.proofs.Common.{◌≡◌, ◌++◌, subst, ap, ◌∙◌, chars, string_bytes}
 use Rattle.fancy_grammar.specs.Pattern.{pattern_text}
-use Rattle.std.proofs.lemmas.Str.{chars-nil}
 use Rattle.fancy_grammar.specs.PatternWalk.{needs_listed}
 use Rattle.fancy_lex.specs.Text.{text_of}
 use Rattle.fancy_syntax.specs.InfoViews.{info_of}
@@ -18,9 +17,8 @@ returns c =
     ∙ ap (λ l. l ++ needs_listed f.oniguruma_mode tree) c.in_ok-listed.ensures.items in
     let at = subst (IsContext c.at_start-context.result (record { flags = f; opened = 0; depth = 0 })) needs
     c.at_start-context.ensures in
-    let nothing : text_of c.in_ok-text.text ≡ [] = ap chars c.in_ok-text.ensures.bytes ∙ chars-nil in
     let written = (c.in_ok-put_pattern.ensures (info_of c.args.tree.now) f c.in_ok-names.ensures
-    c.in_ok-needs.ensures.common at).after [] nothing in
+    c.in_ok-needs.ensures.common at).after in
     ok_then c.from_str.result (λ s. string_bytes s ≡ c.as_str.result.now)
     (λ s. text_of s ≡ pattern_text f tree (info_of c.args.tree.now)) c.from_str.ensures.ok
-    (λ s same. ap chars (same ∙ c.as_str.ensures.value) ∙ written)
+    (λ s same. ap chars same ∙ c.as_str.ensures ∙ written ∙ ap (λ t. t ++ pattern_text f tree (info_of c.args.tree.now)) c.in_ok-out.ensures)

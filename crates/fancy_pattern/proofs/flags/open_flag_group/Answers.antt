@@ -4,8 +4,8 @@ use Rattle.fancy_pattern.specs.TextOutput.{Added}
 use Rattle.fancy_pattern.proofs.flags.open_flag_group.Goals as goal
 
 pub returns : goal.returns
-returns g c = (
-  subst (λ f. Added g.S.TextOutput.holds c.args.out.now c.put_flag_group_opening.new.out
+returns c = (
+  subst (λ f. Added c.args.out.now c.put_flag_group_opening.new.out
       (codes "(?" ++ (letters_between c.args.context.now.flags f ++ codes ":")))
       c.set.ensures.flags c.in_ok-put_flag_group_opening.ensures,
   λ h l is. c.enter.ensures _ _ (c.set.ensures.context h l is),

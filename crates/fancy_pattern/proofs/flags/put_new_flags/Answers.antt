@@ -6,8 +6,8 @@ use Rattle.fancy_pattern.proofs.WritesLemmas.{on_both}
 use Rattle.fancy_pattern.proofs.flags.put_new_flags.Goals as goal
 
 pub returns : goal.returns
-returns g c =
+returns c =
     on_both c.put_group.result _ _
-    (subst (λ f. OnOk c.put_group.result (Added g.S.TextOutput.holds c.args.out.now c.put_group.new.out
+    (subst (λ f. OnOk c.put_group.result (Added c.args.out.now c.put_group.new.out
     (inline_flags c.args.context.now.flags f))) c.set.ensures.flags c.put_group.ensures)
     c.set.ensures.context

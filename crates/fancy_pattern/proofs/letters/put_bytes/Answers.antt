@@ -5,15 +5,15 @@ use Rattle.fancy_pattern.proofs.OutputLemmas.{adding_starts, adding_later, addin
 use Rattle.fancy_pattern.proofs.letters.put_bytes.Goals as goal
 
 pub loop-byte-init : goal.loop-byte-init
-loop-byte-init g c = adding_starts g.S.TextOutput.holds c.args.out.now _
+loop-byte-init c = adding_starts c.args.out.now _
 
 pub loop-byte-preserved : goal.loop-byte-preserved
-loop-byte-preserved g c =
-    adding_later g.S.TextOutput.holds _ _ _ _ _ _ _
+loop-byte-preserved c =
+    adding_later _ _ _ _ _ _ _
     (mapped_at byte_text c.args.bytes.now c.loop-byte.byte-index (omega arith))
     c.loop-byte.invariant c.in_ok-put_byte.ensures
 
 pub returns : goal.returns
-returns g c =
-    adding_ends g.S.TextOutput.holds _ _ _ _
+returns c =
+    adding_ends _ _ _ _
     (mapped_end byte_text _ (drop_all c.loop-byte.byte-index c.args.bytes.now (omega arith))) c.loop-byte.invariant

@@ -5,5 +5,5 @@ use Rattle.fancy_pattern.proofs.OutputLemmas.{Adding}
 use Rattle.fancy_pattern.proofs.letters.put_bytes.Given as goal
 
 abbrev pub invariant-loop-byte : goal.invariant-loop-byte
-invariant-loop-byte g l = Adding g.S.TextOutput.holds l.initial.out l.out (flat_map byte_text (drop l.byte-index l.bytes))
+invariant-loop-byte l = Adding l.initial.out l.out (flat_map byte_text (drop l.byte-index l.bytes))
     (flat_map byte_text l.bytes)

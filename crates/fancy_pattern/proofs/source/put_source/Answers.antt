@@ -7,18 +7,18 @@ use Rattle.fancy_pattern.proofs.SourceWalk.{source_done}
 use Rattle.fancy_pattern.proofs.source.put_source.Goals as goal
 
 pub loop-c-smaller-in-Some-replaced_at : goal.loop-c-smaller-in-Some-replaced_at
-loop-c-smaller-in-Some-replaced_at g c =
+loop-c-smaller-in-Some-replaced_at c =
     let found = c.in-Some-replaced_at.found in
     part_shorter c.args.unicode c.loop-c.seen (chars c.loop-c.rest.now) (chars found.rest.now) (part_of found)
     (begins_replaced _ _ c.in-Some.c (chars c.in-Some.tail.now) _ found c.in-Some.ensures.value
     (c.in-Some-replaced_at.ensures _ c.in-Some.ensures.value)) refl
 
 pub loop-c-preserved-in-Some-replaced_at : goal.loop-c-preserved-in-Some-replaced_at
-loop-c-preserved-in-Some-replaced_at g c =
+loop-c-preserved-in-Some-replaced_at c =
     let found = c.in-Some-replaced_at.found in
     record {
       text = search rules;
-      writing = part_written g.S.TextOutput.holds c.args.out.now c.loop-c.out c.put_text.new.self c.args.unicode
+      writing = part_written c.args.out.now c.loop-c.out c.put_text.new.self c.args.unicode
           c.loop-c.seen
           _ (chars c.loop-c.rest.now) (chars found.rest.now) _ (part_of found)
           (begins_replaced _ _ c.in-Some.c (chars c.in-Some.tail.now) _ found c.in-Some.ensures.value
@@ -27,7 +27,7 @@ loop-c-preserved-in-Some-replaced_at g c =
     }
 
 pub loop-c-smaller : goal.loop-c-smaller
-loop-c-smaller g c =
+loop-c-smaller c =
     part_shorter c.args.unicode c.loop-c.seen (chars c.loop-c.rest.now) (chars c.in_ok-rest-in-None.rest.now)
     (single_part c.in-Some.c (chars c.in-Some.tail.now))
     (begins_single _ _ c.in-Some.c (chars c.in-Some.tail.now) _ c.in-Some.ensures.value
@@ -35,10 +35,10 @@ loop-c-smaller g c =
     c.in_ok-rest-in-None.ensures.rest
 
 pub loop-c-preserved : goal.loop-c-preserved
-loop-c-preserved g c =
+loop-c-preserved c =
     record {
       text = search rules;
-      writing = part_written g.S.TextOutput.holds c.args.out.now c.loop-c.out c.put_unit.new.out c.args.unicode
+      writing = part_written c.args.out.now c.loop-c.out c.put_unit.new.out c.args.unicode
           c.loop-c.seen
           _ (chars c.loop-c.rest.now) (chars c.in_ok-rest-in-None.rest.now) _
           (single_part c.in-Some.c (chars c.in-Some.tail.now))
@@ -49,6 +49,6 @@ loop-c-preserved g c =
     }
 
 pub returns : goal.returns
-returns g c =
-    adding_ends g.S.TextOutput.holds _ _ _ _ (source_done c.args.unicode c.loop-c.seen (chars c.loop-c.rest.now)
+returns c =
+    adding_ends _ _ _ _ (source_done c.args.unicode c.loop-c.seen (chars c.loop-c.rest.now)
     c.in_default.ensures.value) c.loop-c.invariant.writing

@@ -6,11 +6,11 @@ use Rattle.fancy_pattern.proofs.OutputLemmas.{Adding}
 use Rattle.fancy_pattern.proofs.source.put_source.Given as goal
 
 abbrev pub invariant-loop-c : goal.invariant-loop-c
-invariant-loop-c g l = record {
+invariant-loop-c l = record {
   text : shadow (Utf8 l.rest);
-  writing : Adding g.S.TextOutput.holds l.initial.out l.out (source_from l.unicode l.seen (chars l.rest))
+  writing : Adding l.initial.out l.out (source_from l.unicode l.seen (chars l.rest))
       (source l.unicode (chars l.text));
 }
 
 abbrev pub decreases-loop-c : goal.decreases-loop-c
-decreases-loop-c g l = length (chars l.rest)
+decreases-loop-c l = length (chars l.rest)

@@ -32,227 +32,225 @@ use Rattle.fancy_pattern.proofs.NodeLemmas.{settled_define, settled_repeater, se
 use Rattle.fancy_pattern.proofs.NodeLemmas.{settled_conditional, pieces_writes, branches_writes, concat_in_flag_group}
 use Rattle.fancy_pattern.proofs.NodeLemmas.{alt_in_flag_group, condition_of, conditional_is, expression_is}
 use Rattle.fancy_pattern.proofs.write.+write.Goals as goal
-use Rattle.fancy_pattern.proofs.write.+write.Goals.{put_settled-in_default-via-in-Absent+in_default}
-use Rattle.fancy_pattern.proofs.write.+write.Goals.{put_settled-in_default-via-in_default}
 
 -- ---- groups
 
 pub put_in_group-returns : goal.put_in_group-returns
-put_in_group-returns g t c = λ m names. on_then _ _ _ c.close.ensures
-    (λ closed. parens_writes g.S.TextOutput.holds _ _ _ _ _ _ _ _ _ _ _ _ c.in_ok-open.ensures.0
+put_in_group-returns t c = λ m names. on_then _ _ _ c.close.ensures
+    (λ closed. parens_writes _ _ _ _ _ _ _ _ _ _ _ _ c.in_ok-open.ensures.0
     c.in_ok-open.ensures.1 (c.in_ok-put_tree.ensures m names) closed.0 closed.1)
 
 pub put_quantified_in_group-returns : goal.put_quantified_in_group-returns
-put_quantified_in_group-returns g t c = λ m names. on_then _ _ _ c.close.ensures
-    (λ closed. parens_writes g.S.TextOutput.holds _ _ _ _ _ _ _ _ _ _ _ _ c.in_ok-open.ensures.0
+put_quantified_in_group-returns t c = λ m names. on_then _ _ _ c.close.ensures
+    (λ closed. parens_writes _ _ _ _ _ _ _ _ _ _ _ _ c.in_ok-open.ensures.0
     c.in_ok-open.ensures.1 (c.in_ok-put_quantified.ensures m names) closed.0 closed.1)
 
 pub put_look_around-returns-then-is_operand : goal.put_look_around-returns-then-is_operand
-put_look_around-returns-then-is_operand g t c = λ m names.
+put_look_around-returns-then-is_operand t c = λ m names.
     let child = view c.args.child.now in
     let inner = in_parens (look_opening c.args.look) (written m child Whole) in
-    let w = subst (λ x. Writes g.S.TextOutput.holds c.open.new.out c.put_in_group.new.out c.open.new.context
+    let w = subst (λ x. Writes c.open.new.out c.put_in_group.new.out c.open.new.context
     c.put_in_group.new.context
     (λ o. needs_listed o child) (in_parens x (written m child Whole)) (past_groups (group_count child)))
     (sym c.look_opening.ensures.text) (c.in_ok-put_in_group.ensures m names) in
     on_then _ _ _ c.close.ensures
-    (λ closed. look_writes g.S.TextOutput.holds _ _ _ _ child c.args.look c.args.precedence (λ o. needs_listed o child)
+    (λ closed. look_writes _ _ _ _ child c.args.look c.args.precedence (λ o. needs_listed o child)
     inner
     (past_groups (group_count child)) true (sym c.if-is_operand.true ∙ c.is_operand.ensures)
-    (parens_writes g.S.TextOutput.holds _ _ _ _ _ _ _ _ _ _ _ _ c.in_ok-open.ensures.0 c.in_ok-open.ensures.1 w closed.0
+    (parens_writes _ _ _ _ _ _ _ _ _ _ _ _ c.in_ok-open.ensures.0 c.in_ok-open.ensures.1 w closed.0
     closed.1))
 
 pub put_look_around-returns : goal.put_look_around-returns
-put_look_around-returns g t c = λ m names. on_then _ _ _ (c.put_in_group-2.ensures m names)
-    (λ w. look_writes g.S.TextOutput.holds _ _ _ _ (view c.args.child.now) c.args.look c.args.precedence _ _ _ false
+put_look_around-returns t c = λ m names. on_then _ _ _ (c.put_in_group-2.ensures m names)
+    (λ w. look_writes _ _ _ _ (view c.args.child.now) c.args.look c.args.precedence _ _ _ false
     (sym c.if-is_operand.false ∙ c.is_operand.ensures)
-    (subst (λ x. Writes g.S.TextOutput.holds c.args.out.now c.put_in_group-2.new.out c.args.context.now
+    (subst (λ x. Writes c.args.out.now c.put_in_group-2.new.out c.args.context.now
     c.put_in_group-2.new.context
     (λ o. needs_listed o (view c.args.child.now)) (in_parens x (written m (view c.args.child.now) Whole))
     (past_groups (group_count (view c.args.child.now)))) (sym c.look_opening-2.ensures.text) w))
 
 pub put_group-returns : goal.put_group-returns
-put_group-returns g t c = λ m names. on_then _ _ _ c.close.ensures
-    (λ closed. group_writes g.S.TextOutput.holds _ _ _ _ _ _ _ _ _ _ m _ c.in_ok-open.ensures.0 c.in_ok-open.ensures.1
+put_group-returns t c = λ m names. on_then _ _ _ c.close.ensures
+    (λ closed. group_writes _ _ _ _ _ _ _ _ _ _ m _ c.in_ok-open.ensures.0 c.in_ok-open.ensures.1
     c.in_ok-count_opening.ensures (c.in_ok-put_group_opening.ensures m names) (c.in_ok-put_tree.ensures m names) closed.0
     closed.1)
 
 pub put_repeater-returns : goal.put_repeater-returns
-put_repeater-returns g t c = λ m names. on_then _ _ _ c.close.ensures
-    (λ closed. parens_writes g.S.TextOutput.holds _ _ _ _ _ _ _ _ _ _ _ _ c.in_ok-open.ensures.0
+put_repeater-returns t c = λ m names. on_then _ _ _ c.close.ensures
+    (λ closed. parens_writes _ _ _ _ _ _ _ _ _ _ _ _ c.in_ok-open.ensures.0
     c.in_ok-open.ensures.1
-    (changed_writes g.S.TextOutput.holds _ _ _ _ _ _ _ _ _ _ c.len-position.ensures (c.in_ok-put_tree.ensures m names)
+    (changed_writes _ _ _ _ _ _ _ _ _ _ c.len-position.ensures (c.in_ok-put_tree.ensures m names)
     c.in_ok-separate.ensures)
     closed.0 closed.1)
 
 pub put_stopper-returns : goal.put_stopper-returns
-put_stopper-returns g t c = λ m names. on_then _ _ _ c.close.ensures
-    (λ closed. parens_writes g.S.TextOutput.holds _ _ _ _ _ _ _ _ _ _ _ _ c.in_ok-open.ensures.0
+put_stopper-returns t c = λ m names. on_then _ _ _ c.close.ensures
+    (λ closed. parens_writes _ _ _ _ _ _ _ _ _ _ _ _ c.in_ok-open.ensures.0
     c.in_ok-open.ensures.1
-    (changed_writes g.S.TextOutput.holds _ _ _ _ _ _ _ _ _ _ c.len-position.ensures (c.in_ok-put_tree.ensures m names)
+    (changed_writes _ _ _ _ _ _ _ _ _ _ c.len-position.ensures (c.in_ok-put_tree.ensures m names)
     c.in_ok-fill.ensures)
     closed.0 closed.1)
 
 pub put_expression-returns-in_default : goal.put_expression-returns-in_default
-put_expression-returns-in_default g t c = λ m names e.
+put_expression-returns-in_default t c = λ m names e.
     let no : is_expression (view c.args.tree.now) ≡ false = search (rules, the_lemmas) in
     absurd cc
 
 pub put_expression-returns-in_default-parts : goal.put_expression-returns-in_default-parts
-put_expression-returns-in_default-parts g t c = λ m names e.
+put_expression-returns-in_default-parts t c = λ m names e.
     let is : view c.args.tree.now ≡ view_absent c.in-Absent.parts = search (rules, the_lemmas) in
     let no = not_expression c.in-Absent.parts c.in_default-parts.not-Expression in
     absurd (false≢true (sym no ∙ ap is_expression (sym is) ∙ e))
 
 pub put_expression-returns : goal.put_expression-returns
-put_expression-returns g t c = λ m names e.
+put_expression-returns t c = λ m names e.
     let is : view c.args.tree.now ≡ expression (view c.deref.result.now) (view c.deref-2.result.now)
     = search (rules, the_lemmas) in
     on_then _ _ _ c.close.ensures
-    (λ closed. subst (λ x. Writes g.S.TextOutput.holds c.args.out.now c.close.new.out c.args.context.now
+    (λ closed. subst (λ x. Writes c.args.out.now c.close.new.out c.args.context.now
     c.close.new.context (λ o. needs_below o x) (parts_text m x)
     (past_groups (group_count x))) (sym is)
-    (expression_writes g.S.TextOutput.holds _ _ _ _ _ _ _ _ _ _ _ m _ _ c.in_ok-open.ensures.0
+    (expression_writes _ _ _ _ _ _ _ _ _ _ _ m _ _ c.in_ok-open.ensures.0
     c.in_ok-open.ensures.1 (c.in_ok-put_tree.ensures m names) c.in_ok-put.ensures (c.in_ok-put_tree-2.ensures m names)
     closed.0 closed.1))
 
 pub put_conditional-returns-in_default : goal.put_conditional-returns-in_default
-put_conditional-returns-in_default g t c = λ m names e.
+put_conditional-returns-in_default t c = λ m names e.
     let no : is_conditional (view c.args.tree.now) ≡ false = search (rules, the_lemmas) in
     absurd cc
 
 pub put_conditional-returns : goal.put_conditional-returns
-put_conditional-returns g t c = λ m names e.
+put_conditional-returns t c = λ m names e.
     let shape = conditional_is (view c.args.tree.now) e in
     let q = shape.0 in
     let is : view c.args.tree.now ≡ conditional q shape.1.0 shape.1.1.0 = shape.1.1.1 in
     let found : view c.deref.result.now ≡ condition_of (view c.args.tree.now) = search (rules, the_lemmas) in
-    let first = subst (λ x. Writes g.S.TextOutput.holds c.open.new.out c.put_condition.new.out c.open.new.context
+    let first = subst (λ x. Writes c.open.new.out c.put_condition.new.out c.open.new.context
     c.put_condition.new.context (λ o. needs_listed o x) (λ h. condition_text m x (written m x Whole h)) (after x Whole))
     (found ∙ ap condition_of is) (c.in_ok-put_condition.ensures m names) in
-    let rest = subst (λ x. Writes g.S.TextOutput.holds c.put.new.self c.put_choice.new.out c.put_condition.new.context
+    let rest = subst (λ x. Writes c.put.new.self c.put_choice.new.out c.put_condition.new.context
     c.put_choice.new.context
     (λ o. branches_needs o x) (choice_text m x) (after_branches x)) is (c.in_ok-put_choice.ensures m names e) in
     on_then _ _ _ c.close.ensures
-    (λ closed. subst (λ x. Writes g.S.TextOutput.holds c.args.out.now c.close.new.out c.args.context.now
+    (λ closed. subst (λ x. Writes c.args.out.now c.close.new.out c.args.context.now
     c.close.new.context (λ o. needs_below o x) (parts_text m x)
     (past_groups (group_count x))) (sym is)
-    (conditional_writes g.S.TextOutput.holds _ _ _ _ _ _ _ _ _ _ _ m q shape.1.0 shape.1.1.0 c.in_ok-open.ensures.0
+    (conditional_writes _ _ _ _ _ _ _ _ _ _ _ m q shape.1.0 shape.1.1.0 c.in_ok-open.ensures.0
     c.in_ok-open.ensures.1
     first c.in_ok-put.ensures rest closed.0 closed.1))
 
 -- ---- quantifiers
 
 pub put_quantified-returns : goal.put_quantified-returns
-put_quantified-returns g t c = λ m names.
+put_quantified-returns t c = λ m names.
     let q = c.args.quantifier in
     on_then _ _ _ c.put_quantifier.ensures
-    (λ added. quantified_writes g.S.TextOutput.holds _ _ _ _ _ _ m (view c.args.child.now) c.args.precedence
+    (λ added. quantified_writes _ _ _ _ _ _ m (view c.args.child.now) c.args.precedence
     q.possessive q.lo q.hi q.greedy
     c.allowed-allowed.result c.allowed-allowed.ensures (c.in_ok-put_tree.ensures m names)
-    (subst (λ b. Added g.S.TextOutput.holds c.put_tree.new.out c.put_quantifier.new.out
+    (subst (λ b. Added c.put_tree.new.out c.put_quantifier.new.out
     (quantifier_text c.args.context.now.flags q.possessive b q.lo q.hi q.greedy)) c.is_adjacent-adjacent.ensures added)
     c.leave.ensures)
 
 pub put_repeat-returns-then-is_last_operand : goal.put_repeat-returns-then-is_last_operand
-put_repeat-returns-then-is_last_operand g t c = λ m names.
+put_repeat-returns-then-is_last_operand t c = λ m names.
     let child = view c.args.child.now in
     let q = c.args.quantifier in
     let text = repeated q.possessive child q.lo q.hi q.greedy (written m child) in
     on_then c.put_quantified_in_group.result
-    (Writes g.S.TextOutput.holds c.args.out.now c.put_quantified_in_group.new.out c.args.context.now
+    (Writes c.args.out.now c.put_quantified_in_group.new.out c.args.context.now
     c.put_quantified_in_group.new.context (λ o. needs_listed o child) (in_parens (codes "?:") (text Whole))
     (past_groups (group_count child)))
     _ (c.put_quantified_in_group.ensures m names)
-    (λ w. last_writes g.S.TextOutput.holds c.args.out.now c.put_quantified_in_group.new.out c.args.context.now
+    (λ w. last_writes c.args.out.now c.put_quantified_in_group.new.out c.args.context.now
     c.put_quantified_in_group.new.context c.args.precedence (codes "?:") (λ o. needs_listed o child) text
     (past_groups (group_count child)) true (sym c.if-is_last_operand.true ∙ c.is_last_operand.ensures) w)
 
 pub put_repeat-returns : goal.put_repeat-returns
-put_repeat-returns g t c = λ m names.
+put_repeat-returns t c = λ m names.
     let child = view c.args.child.now in
     let q = c.args.quantifier in
     let text = repeated q.possessive child q.lo q.hi q.greedy (written m child) in
     on_then c.put_quantified.result
-    (Writes g.S.TextOutput.holds c.args.out.now c.put_quantified.new.out c.args.context.now c.put_quantified.new.context
+    (Writes c.args.out.now c.put_quantified.new.out c.args.context.now c.put_quantified.new.context
     (λ o. needs_listed o child) (text c.args.precedence) (past_groups (group_count child)))
     _ (c.put_quantified.ensures m names)
-    (λ w. last_writes g.S.TextOutput.holds c.args.out.now c.put_quantified.new.out c.args.context.now
+    (λ w. last_writes c.args.out.now c.put_quantified.new.out c.args.context.now
     c.put_quantified.new.context c.args.precedence (codes "?:") (λ o. needs_listed o child) text
     (past_groups (group_count child)) false (sym c.if-is_last_operand.false ∙ c.is_last_operand.ensures) w)
 
 pub put_atomic-returns-in_default : goal.put_atomic-returns-in_default
-put_atomic-returns-in_default g t c = λ m names. on_then _ _ _ (c.put_in_group.ensures m names)
-    (λ w. atomic_in_group g.S.TextOutput.holds _ _ _ _ m (view c.args.child.now) c.args.precedence
+put_atomic-returns-in_default t c = λ m names. on_then _ _ _ (c.put_in_group.ensures m names)
+    (λ w. atomic_in_group _ _ _ _ m (view c.args.child.now) c.args.precedence
     (search (rules, the_lemmas)) w)
 
 pub put_atomic-returns-then-grouped : goal.put_atomic-returns-then-grouped
-put_atomic-returns-then-grouped g t c = λ m names.
+put_atomic-returns-then-grouped t c = λ m names.
     let repeated = view c.deref.result.now in
     let is : view c.args.child.now ≡ repeat repeated c.in-Repeat.lo c.in-Repeat.hi c.in-Repeat.greedy
     = search (rules, the_lemmas) in
     on_then _ _ _ (c.put_quantified_in_group.ensures m names)
-    (λ w. subst (λ x. WritesSettled g.S.TextOutput.holds c.args.out.now c.put_quantified_in_group.new.out
+    (λ w. subst (λ x. WritesSettled c.args.out.now c.put_quantified_in_group.new.out
     c.args.context.now c.put_quantified_in_group.new.context m (atomic_group x)
     c.args.precedence) (sym is)
-    (atomic_writes g.S.TextOutput.holds _ _ _ _ m repeated c.in-Repeat.lo c.in-Repeat.hi c.in-Repeat.greedy
+    (atomic_writes _ _ _ _ m repeated c.in-Repeat.lo c.in-Repeat.hi c.in-Repeat.greedy
     c.args.precedence true
     (sym c.if-grouped.true ∙ c.needs_atomic_group-grouped.ensures)
-    (past_writes g.S.TextOutput.holds _ _ _ _ _ (λ o. needs first o repeated) _ _ _ c.pass_node.ensures w)))
+    (past_writes _ _ _ _ _ (λ o. needs first o repeated) _ _ _ c.pass_node.ensures w)))
 
 pub put_atomic-returns : goal.put_atomic-returns
-put_atomic-returns g t c = λ m names.
+put_atomic-returns t c = λ m names.
     let repeated = view c.deref-2.result.now in
     let is : view c.args.child.now ≡ repeat repeated c.in-Repeat.lo c.in-Repeat.hi c.in-Repeat.greedy
     = search (rules, the_lemmas) in
     on_then _ _ _ (c.put_quantified.ensures m names)
-    (λ w. subst (λ x. WritesSettled g.S.TextOutput.holds c.args.out.now c.put_quantified.new.out c.args.context.now
+    (λ w. subst (λ x. WritesSettled c.args.out.now c.put_quantified.new.out c.args.context.now
     c.put_quantified.new.context m (atomic_group x)
     c.args.precedence) (sym is)
-    (atomic_writes g.S.TextOutput.holds _ _ _ _ m repeated c.in-Repeat.lo c.in-Repeat.hi c.in-Repeat.greedy
+    (atomic_writes _ _ _ _ m repeated c.in-Repeat.lo c.in-Repeat.hi c.in-Repeat.greedy
     c.args.precedence false
     (sym c.if-grouped.false ∙ c.needs_atomic_group-grouped.ensures)
-    (past_writes g.S.TextOutput.holds _ _ _ _ _ (λ o. needs first o repeated) _ _ _ c.pass_node.ensures w)))
+    (past_writes _ _ _ _ _ (λ o. needs first o repeated) _ _ _ c.pass_node.ensures w)))
 
 -- ---- conditionals
 
 pub put_condition-returns-in-BackrefExistsCondition : goal.put_condition-returns-in-BackrefExistsCondition
-put_condition-returns-in-BackrefExistsCondition g t c = λ m names.
+put_condition-returns-in-BackrefExistsCondition t c = λ m names.
     let n = c.in-BackrefExistsCondition.group in
     let level = c.in-BackrefExistsCondition.relative_recursion_level in
     let is : view c.args.condition.now ≡ backref_exists n level = search (rules, the_lemmas) in
     on_then _ _ _ (c.put_target.ensures m names)
-    (λ w. subst (λ x. Writes g.S.TextOutput.holds c.args.out.now c.put_target.new.out c.args.context.now
+    (λ w. subst (λ x. Writes c.args.out.now c.put_target.new.out c.args.context.now
     c.pass_node.new.self
     (λ o. needs_listed o x) (λ h. condition_text m x (written m x Whole h)) (after x Whole)) (sym is)
-    (word_writes g.S.TextOutput.holds _ _ _ _ m (label.backref_exists n level) (target_text m n level) refl (λ x. refl) w
+    (word_writes _ _ _ _ m (label.backref_exists n level) (target_text m n level) refl (λ x. refl) w
     c.pass_node.ensures))
 
 pub put_condition-returns-in-BacktrackingControlVerb : goal.put_condition-returns-in-BacktrackingControlVerb
-put_condition-returns-in-BacktrackingControlVerb g t c = λ m names.
+put_condition-returns-in-BacktrackingControlVerb t c = λ m names.
     let v = c.in-BacktrackingControlVerb.verb in
     let is : view c.args.condition.now ≡ verb v = search (rules, the_lemmas) in
     on_then _ _ _ c.put_ascii.ensures
-    (λ w. subst (λ x. Writes g.S.TextOutput.holds c.args.out.now c.put_ascii.new.out c.args.context.now
+    (λ w. subst (λ x. Writes c.args.out.now c.put_ascii.new.out c.args.context.now
     c.pass_node-in-BacktrackingControlVerb.new.self (λ o. needs_listed o x)
     (λ h. condition_text m x (written m x Whole h)) (after x Whole)) (sym is)
-    (word_writes g.S.TextOutput.holds _ _ _ _ m (label.verb v) (verb_name v) refl (λ x. refl)
-    (subst (Added g.S.TextOutput.holds c.args.out.now c.put_ascii.new.out) (sym c.verb_name.ensures.text) w)
+    (word_writes _ _ _ _ m (label.verb v) (verb_name v) refl (λ x. refl)
+    (subst (Added c.args.out.now c.put_ascii.new.out) (sym c.verb_name.ensures.text) w)
     c.pass_node-in-BacktrackingControlVerb.ensures))
 
 pub put_condition-returns-in_ok-put_tree-in_default : goal.put_condition-returns-in_ok-put_tree-in_default
-put_condition-returns-in_ok-put_tree-in_default g t c = λ m names. on_then _ _ _ c.separate.ensures
-    (λ w. condition_writes g.S.TextOutput.holds _ _ _ _ m (view c.args.condition.now) (search (rules, the_lemmas))
-    (changed_writes g.S.TextOutput.holds _ _ _ _ _ _ _ _ _ _ c.len-position.ensures
+put_condition-returns-in_ok-put_tree-in_default t c = λ m names. on_then _ _ _ c.separate.ensures
+    (λ w. condition_writes _ _ _ _ m (view c.args.condition.now) (search (rules, the_lemmas))
+    (changed_writes _ _ _ _ _ _ _ _ _ _ c.len-position.ensures
     (c.in_ok-put_tree-in_default.ensures m names) w))
 
 pub put_choice-returns-in_default : goal.put_choice-returns-in_default
-put_choice-returns-in_default g t c = λ m names e.
+put_choice-returns-in_default t c = λ m names e.
     let no : is_conditional (view c.args.tree.now) ≡ false = search (rules, the_lemmas) in
     absurd cc
 
 pub put_choice-returns-then-are_empty : goal.put_choice-returns-then-are_empty
-put_choice-returns-then-are_empty g t c = λ m names e.
+put_choice-returns-then-are_empty t c = λ m names e.
     let t = view c.in-Conditional.true_branch.value in
     let f = view c.in-Conditional.false_branch.value in
     let is : view c.args.tree.now ≡ conditional (view c.in-Conditional.condition.value) t f = search (rules, the_lemmas) in
@@ -261,14 +259,14 @@ put_choice-returns-then-are_empty g t c = λ m names e.
     let empty_is : c.are_empty.result ≡ (is_empty t && is_empty f)
     = c.are_empty.ensures ∙ (λ i. is_empty (first i) && is_empty (other i)) in
     on_then _ _ _ c.put_ascii.ensures
-    (λ w. subst (λ x. Writes g.S.TextOutput.holds c.args.out.now c.put_ascii.new.out c.args.context.now
+    (λ w. subst (λ x. Writes c.args.out.now c.put_ascii.new.out c.args.context.now
     c.pass_node-then-are_empty.new.self
     (λ o. branches_needs o x) (choice_text m x) (after_branches x)) (sym is)
-    (no_choice g.S.TextOutput.holds _ _ _ _ _ m t f (sym empty_is ∙ c.if-are_empty.true) w
+    (no_choice _ _ _ _ _ m t f (sym empty_is ∙ c.if-are_empty.true) w
     c.pass_node.ensures c.pass_node-then-are_empty.ensures))
 
 pub put_choice-returns-then-not-needs_bar : goal.put_choice-returns-then-not-needs_bar
-put_choice-returns-then-not-needs_bar g t c = λ m names e.
+put_choice-returns-then-not-needs_bar t c = λ m names e.
     let t = view c.in-Conditional.true_branch.value in
     let f = view c.in-Conditional.false_branch.value in
     let is : view c.args.tree.now ≡ conditional (view c.in-Conditional.condition.value) t f = search (rules, the_lemmas) in
@@ -281,17 +279,17 @@ put_choice-returns-then-not-needs_bar g t c = λ m names e.
     let second : view c.deref-5.result.now ≡ f = search (rules, the_lemmas) in
     let bar_is : c.needs_bar.result ≡ (not (is_empty f) || is_alt t)
     = c.needs_bar.ensures ∙ (λ i. not (is_empty (second i)) || is_alt (again i)) in
-    let w = subst (λ x. Writes g.S.TextOutput.holds c.args.out.now c.put_tree.new.out c.args.context.now
+    let w = subst (λ x. Writes c.args.out.now c.put_tree.new.out c.args.context.now
     c.put_tree.new.context
     (λ o. needs_listed o x) (written m x Branch) (after x Branch)) one (c.in_ok-put_tree.ensures m names) in
-    subst (λ x. Writes g.S.TextOutput.holds c.args.out.now c.put_tree.new.out c.args.context.now
+    subst (λ x. Writes c.args.out.now c.put_tree.new.out c.args.context.now
     c.pass_node-then-not-needs_bar.new.self (λ o. branches_needs o x) (choice_text m x)
     (after_branches x)) (sym is)
-    (one_choice g.S.TextOutput.holds _ _ _ _ _ m t f (sym empty_is ∙ c.if-are_empty.false)
+    (one_choice _ _ _ _ _ m t f (sym empty_is ∙ c.if-are_empty.false)
     (sym bar_is ∙ c.if-not-needs_bar.true) w c.pass_node-then-not-needs_bar.ensures)
 
 pub put_choice-returns : goal.put_choice-returns
-put_choice-returns g t c = λ m names e.
+put_choice-returns t c = λ m names e.
     let t = view c.in-Conditional.true_branch.value in
     let f = view c.in-Conditional.false_branch.value in
     let is : view c.args.tree.now ≡ conditional (view c.in-Conditional.condition.value) t f = search (rules, the_lemmas) in
@@ -304,241 +302,237 @@ put_choice-returns g t c = λ m names e.
     let second : view c.deref-5.result.now ≡ f = search (rules, the_lemmas) in
     let bar_is : c.needs_bar.result ≡ (not (is_empty f) || is_alt t)
     = c.needs_bar.ensures ∙ (λ i. not (is_empty (second i)) || is_alt (again i)) in
-    let w = subst (λ x. Writes g.S.TextOutput.holds c.args.out.now c.put_tree.new.out c.args.context.now
+    let w = subst (λ x. Writes c.args.out.now c.put_tree.new.out c.args.context.now
     c.put_tree.new.context
     (λ o. needs_listed o x) (written m x Branch) (after x Branch)) one (c.in_ok-put_tree.ensures m names) in
     let last : view c.deref-6.result.now ≡ f = search (rules, the_lemmas) in
     on_then _ _ _ (c.put_tree-2.ensures m names)
-    (λ v. subst (λ x. Writes g.S.TextOutput.holds c.args.out.now c.put_tree-2.new.out c.args.context.now
+    (λ v. subst (λ x. Writes c.args.out.now c.put_tree-2.new.out c.args.context.now
     c.put_tree-2.new.context (λ o. branches_needs o x) (choice_text m x)
     (after_branches x)) (sym is)
-    (two_choices g.S.TextOutput.holds c.args.out.now c.put_tree.new.out c.put.new.self c.put_tree-2.new.out
+    (two_choices c.args.out.now c.put_tree.new.out c.put.new.self c.put_tree-2.new.out
     c.args.context.now
     c.put_tree.new.context c.put_tree-2.new.context m t f (sym empty_is ∙ c.if-are_empty.false)
     (sym bar_is ∙ c.if-not-needs_bar.false) w
     c.in_ok-put.ensures
-    (subst (λ x. Writes g.S.TextOutput.holds c.put.new.self c.put_tree-2.new.out c.put_tree.new.context
+    (subst (λ x. Writes c.put.new.self c.put_tree-2.new.out c.put_tree.new.context
     c.put_tree-2.new.context (λ o. needs_listed o x)
     (written m x Whole) (after x Whole)) last v)))
 
 -- ---- rows
 
 pub put_pieces-loop-piece-init : goal.put_pieces-loop-piece-init
-put_pieces-loop-piece-init g t c = λ m names. on_starts g.S.TextOutput.holds _ _ _
+put_pieces-loop-piece-init t c = λ m names. on_starts _ _ _
 
 pub put_pieces-loop-piece-preserved : goal.put_pieces-loop-piece-preserved
-put_pieces-loop-piece-preserved g t c = λ m names.
+put_pieces-loop-piece-preserved t c = λ m names.
     let pieces = c.args.pieces.now in
     let i = c.loop-piece.piece-index in
     let step = left_step pieces i c.piece-item.result c.loop-piece-test.true c.piece-item.is in
-    on_as g.S.TextOutput.holds _ _ _ _ _ _ _ (ap (λ b. pieces_left m b (left pieces (i + 1)))
+    on_as _ _ _ _ _ _ _ (ap (λ b. pieces_left m b (left pieces (i + 1)))
     (sym (c.is_in_digits-after_digits.ensures m names)))
-    (on_piece g.S.TextOutput.holds _ _ _ _ _ _ _ m c.loop-piece.after_digits c.len-position.result
+    (on_piece _ _ _ _ _ _ _ m c.loop-piece.after_digits c.len-position.result
     (view c.piece-item.result)
     (left pieces (i + 1)) _ c.len-position.ensures
-    (on_as g.S.TextOutput.holds _ _ _ _ _ _ _ (ap (pieces_left m c.loop-piece.after_digits) step)
+    (on_as _ _ _ _ _ _ _ (ap (pieces_left m c.loop-piece.after_digits) step)
     (c.loop-piece.invariant m names))
     (c.in_ok-put_tree.ensures m names) c.in_ok-separate_after_digits.ensures)
 
 pub put_pieces-returns : goal.put_pieces-returns
-put_pieces-returns g t c = λ m names.
+put_pieces-returns t c = λ m names.
     let none = left_end c.args.pieces.now c.loop-piece.piece-index c.loop-piece-test.false in
-    pieces_end g.S.TextOutput.holds _ _ _ _ m c.loop-piece.after_digits _
-    (on_as g.S.TextOutput.holds _ _ _ _ _ _ _ (ap (pieces_left m c.loop-piece.after_digits) none)
+    pieces_end _ _ _ _ m c.loop-piece.after_digits _
+    (on_as _ _ _ _ _ _ _ (ap (pieces_left m c.loop-piece.after_digits) none)
     (c.loop-piece.invariant m names))
 
 pub put_branches-loop-branch-init : goal.put_branches-loop-branch-init
-put_branches-loop-branch-init g t c = λ m names.
+put_branches-loop-branch-init t c = λ m names.
     let is = first_branch c.args.branches.now c.first-item.result c.in-len1-up.len_at_least c.first-item.is in
-    on_first g.S.TextOutput.holds _ _ _ _ _ _ m (view c.first-item.result) _ _
-    (on_as g.S.TextOutput.holds _ _ _ _ _ _ _ (ap (all_branches m) is) (on_starts g.S.TextOutput.holds _ _ _))
+    on_first _ _ _ _ _ _ m (view c.first-item.result) _ _
+    (on_as _ _ _ _ _ _ _ (ap (all_branches m) is) (on_starts _ _ _))
     (c.in_ok-put_tree.ensures m names)
 
 pub put_branches-loop-branch-preserved : goal.put_branches-loop-branch-preserved
-put_branches-loop-branch-preserved g t c = λ m names.
+put_branches-loop-branch-preserved t c = λ m names.
     let step = left_step _ c.loop-branch.branch-index c.branch-item.result c.loop-branch-test.true c.branch-item.is in
-    on_branch g.S.TextOutput.holds _ _ _ _ _ _ _ m (view c.branch-item.result) _ _
-    (on_as g.S.TextOutput.holds _ _ _ _ _ _ _ (ap (barred_left m) step) (c.loop-branch.invariant m names))
+    on_branch _ _ _ _ _ _ _ m (view c.branch-item.result) _ _
+    (on_as _ _ _ _ _ _ _ (ap (barred_left m) step) (c.loop-branch.invariant m names))
     c.in_ok-put.ensures
     (c.in_ok-put_tree-2.ensures m names)
 
 pub put_branches-returns-in_default : goal.put_branches-returns-in_default
-put_branches-returns-in_default g t c = λ m names. no_branches g.S.TextOutput.holds _ _ m c.args.branches.now
+put_branches-returns-in_default t c = λ m names. no_branches _ _ m c.args.branches.now
     c.in_default.len_below
 
 pub put_branches-returns : goal.put_branches-returns
-put_branches-returns g t c = λ m names.
+put_branches-returns t c = λ m names.
     let none = left_end _ c.loop-branch.branch-index c.loop-branch-test.false in
-    branches_end g.S.TextOutput.holds _ _ _ _ m _
-    (on_as g.S.TextOutput.holds _ _ _ _ _ _ _ (ap (barred_left m) none) (c.loop-branch.invariant m names))
+    branches_end _ _ _ _ m _
+    (on_as _ _ _ _ _ _ _ (ap (barred_left m) none) (c.loop-branch.invariant m names))
 
 pub put_concat-returns-then-takes_pieces : goal.put_concat-returns-then-takes_pieces
-put_concat-returns-then-takes_pieces g t c = λ m names e. on_then _ _ _ (c.put_pieces.ensures m names)
-    (λ w. pieces_writes g.S.TextOutput.holds _ _ _ _ m (trees_of (views c.args.pieces.now)) c.args.precedence
+put_concat-returns-then-takes_pieces t c = λ m names e. on_then _ _ _ (c.put_pieces.ensures m names)
+    (λ w. pieces_writes _ _ _ _ m (trees_of (views c.args.pieces.now)) c.args.precedence
     (sym c.takes_pieces.ensures ∙ c.if-takes_pieces.true) w)
 
 pub put_concat-returns : goal.put_concat-returns
-put_concat-returns g t c = λ m names e.
+put_concat-returns t c = λ m names e.
     let ts = trees_of (views c.args.pieces.now) in
     on_then _ _ _ c.close.ensures
-    (λ closed. concat_in_flag_group g.S.TextOutput.holds _ _ _ _ m ts c.args.precedence
+    (λ closed. concat_in_flag_group _ _ _ _ m ts c.args.precedence
     (sym c.takes_pieces.ensures ∙ c.if-takes_pieces.false)
-    (flag_group_writes g.S.TextOutput.holds _ _ _ _ _ _ _ _ c.args.needs (concat ts) (written_all m false ts) _ e
+    (flag_group_writes _ _ _ _ _ _ _ _ c.args.needs (concat ts) (written_all m false ts) _ e
     c.in_ok-open_flag_group.ensures.0
     c.in_ok-open_flag_group.ensures.1 (c.in_ok-put_pieces.ensures m names) closed.0 closed.1))
 
 pub put_alt-returns-then-takes_branches : goal.put_alt-returns-then-takes_branches
-put_alt-returns-then-takes_branches g t c = λ m names e. on_then _ _ _ (c.put_branches.ensures m names)
-    (λ w. branches_writes g.S.TextOutput.holds _ _ _ _ m (trees_of (views c.args.branches.now)) c.args.precedence
+put_alt-returns-then-takes_branches t c = λ m names e. on_then _ _ _ (c.put_branches.ensures m names)
+    (λ w. branches_writes _ _ _ _ m (trees_of (views c.args.branches.now)) c.args.precedence
     (sym c.takes_branches.ensures ∙ c.if-takes_branches.true) w)
 
 pub put_alt-returns : goal.put_alt-returns
-put_alt-returns g t c = λ m names e.
+put_alt-returns t c = λ m names e.
     let ts = trees_of (views c.args.branches.now) in
     on_then _ _ _ c.close.ensures
-    (λ closed. alt_in_flag_group g.S.TextOutput.holds _ _ _ _ m ts c.args.precedence
+    (λ closed. alt_in_flag_group _ _ _ _ m ts c.args.precedence
     (sym c.takes_branches.ensures ∙ c.if-takes_branches.false)
-    (flag_group_writes g.S.TextOutput.holds _ _ _ _ _ _ _ _ c.args.needs (alt ts) (written_branches m ts) _ e
+    (flag_group_writes _ _ _ _ _ _ _ _ c.args.needs (alt ts) (written_branches m ts) _ e
     c.in_ok-open_flag_group.ensures.0
     c.in_ok-open_flag_group.ensures.1 (c.in_ok-put_branches.ensures m names) closed.0 closed.1))
 
 -- ---- any tree
 
 pub put_settled-returns-in-Group : goal.put_settled-returns-in-Group
-put_settled-returns-in-Group g t c = λ m names.
+put_settled-returns-in-Group t c = λ m names.
     let is : view c.args.tree.now ≡ group (view c.deref.result.now) = search (rules, the_lemmas) in
     on_then _ _ _ (c.put_group.ensures m names)
-    (λ w. subst (λ x. WritesSettled g.S.TextOutput.holds c.args.out.now c.put_group.new.out c.args.context.now
+    (λ w. subst (λ x. WritesSettled c.args.out.now c.put_group.new.out c.args.context.now
     c.put_group.new.context m x c.args.precedence) (sym is)
-    (settled_group g.S.TextOutput.holds _ _ _ _ m _ c.args.precedence w))
+    (settled_group _ _ _ _ m _ c.args.precedence w))
 
 pub put_settled-returns-in-LookAround : goal.put_settled-returns-in-LookAround
-put_settled-returns-in-LookAround g t c = λ m names.
+put_settled-returns-in-LookAround t c = λ m names.
     let is : view c.args.tree.now ≡ look_around (view c.deref-in-LookAround.result.now) c.in-LookAround.look = search
     (rules, the_lemmas) in
     on_then _ _ _ (c.put_look_around.ensures m names)
-    (λ w. subst (λ x. WritesSettled g.S.TextOutput.holds c.args.out.now c.put_look_around.new.out c.args.context.now
+    (λ w. subst (λ x. WritesSettled c.args.out.now c.put_look_around.new.out c.args.context.now
     c.put_look_around.new.context m x c.args.precedence) (sym is)
-    (settled_look g.S.TextOutput.holds _ _ _ _ m _ _ c.args.precedence w))
+    (settled_look _ _ _ _ m _ _ c.args.precedence w))
 
 pub put_settled-returns-in-Repeat : goal.put_settled-returns-in-Repeat
-put_settled-returns-in-Repeat g t c = λ m names.
+put_settled-returns-in-Repeat t c = λ m names.
     let is : view c.args.tree.now ≡ repeat (view c.deref-in-Repeat.result.now) c.in-Repeat.lo c.in-Repeat.hi
     c.in-Repeat.greedy = search (rules, the_lemmas) in
     on_then _ _ _ (c.put_repeat.ensures m names)
-    (λ w. subst (λ x. WritesSettled g.S.TextOutput.holds c.args.out.now c.put_repeat.new.out c.args.context.now
+    (λ w. subst (λ x. WritesSettled c.args.out.now c.put_repeat.new.out c.args.context.now
     c.put_repeat.new.context m x c.args.precedence) (sym is)
-    (settled_repeat g.S.TextOutput.holds _ _ _ _ m _ _ _ _ c.args.precedence w))
+    (settled_repeat _ _ _ _ m _ _ _ _ c.args.precedence w))
 
 pub put_settled-returns-in-AtomicGroup : goal.put_settled-returns-in-AtomicGroup
-put_settled-returns-in-AtomicGroup g t c = λ m names.
+put_settled-returns-in-AtomicGroup t c = λ m names.
     let is : view c.args.tree.now ≡ atomic_group (view c.deref-in-AtomicGroup.result.now) = search (rules, the_lemmas) in
     on_then _ _ _ (c.put_atomic.ensures m names)
-    (λ w. subst (λ x. WritesSettled g.S.TextOutput.holds c.args.out.now c.put_atomic.new.out c.args.context.now
+    (λ w. subst (λ x. WritesSettled c.args.out.now c.put_atomic.new.out c.args.context.now
     c.put_atomic.new.context m x c.args.precedence) (sym is)
     (w))
 
 pub put_settled-returns-in-DefineGroup : goal.put_settled-returns-in-DefineGroup
-put_settled-returns-in-DefineGroup g t c = λ m names.
+put_settled-returns-in-DefineGroup t c = λ m names.
     let is : view c.args.tree.now ≡ define_group (view c.deref-in-DefineGroup.result.now) = search (rules, the_lemmas) in
     on_then _ _ _ (c.put_in_group.ensures m names)
-    (λ w. subst (λ x. WritesSettled g.S.TextOutput.holds c.args.out.now c.put_in_group.new.out c.args.context.now
+    (λ w. subst (λ x. WritesSettled c.args.out.now c.put_in_group.new.out c.args.context.now
     c.put_in_group.new.context m x c.args.precedence) (sym is)
-    (settled_define g.S.TextOutput.holds _ _ _ _ m _ c.args.precedence w))
+    (settled_define _ _ _ _ m _ c.args.precedence w))
 
 pub put_settled-returns-in-Conditional : goal.put_settled-returns-in-Conditional
-put_settled-returns-in-Conditional g t c = λ m names.
+put_settled-returns-in-Conditional t c = λ m names.
     let e : is_conditional (view c.args.tree.now) ≡ true = search (rules, the_lemmas) in
     let shape = conditional_is (view c.args.tree.now) e in
     let is : view c.args.tree.now ≡ conditional shape.0 shape.1.0 shape.1.1.0 = shape.1.1.1 in
     on_then _ _ _ (c.put_conditional.ensures m names e)
-    (λ w. subst (λ x. WritesSettled g.S.TextOutput.holds c.args.out.now c.put_conditional.new.out c.args.context.now
+    (λ w. subst (λ x. WritesSettled c.args.out.now c.put_conditional.new.out c.args.context.now
     c.put_conditional.new.context m x c.args.precedence)
     (sym is)
-    (settled_conditional g.S.TextOutput.holds _ _ _ _ m shape.0 shape.1.0 shape.1.1.0 c.args.precedence
-    (subst (λ x. Writes g.S.TextOutput.holds c.args.out.now c.put_conditional.new.out c.args.context.now
+    (settled_conditional _ _ _ _ m shape.0 shape.1.0 shape.1.1.0 c.args.precedence
+    (subst (λ x. Writes c.args.out.now c.put_conditional.new.out c.args.context.now
     c.put_conditional.new.context (λ o. needs_below o x)
     (parts_text m x) (past_groups (group_count x))) is w)))
 
 pub put_settled-returns-in-Absent-Repeater : goal.put_settled-returns-in-Absent-Repeater
-put_settled-returns-in-Absent-Repeater g t c = λ m names.
+put_settled-returns-in-Absent-Repeater t c = λ m names.
     let is : view c.args.tree.now ≡ repeater (view c.deref-in-Absent-Repeater.result.now) = search (rules, the_lemmas) in
     on_then _ _ _ (c.put_repeater.ensures m names)
-    (λ w. subst (λ x. WritesSettled g.S.TextOutput.holds c.args.out.now c.put_repeater.new.out c.args.context.now
+    (λ w. subst (λ x. WritesSettled c.args.out.now c.put_repeater.new.out c.args.context.now
     c.put_repeater.new.context m x c.args.precedence) (sym is)
-    (settled_repeater g.S.TextOutput.holds _ _ _ _ m _ c.args.precedence w))
+    (settled_repeater _ _ _ _ m _ c.args.precedence w))
 
 pub put_settled-returns-in-Absent-Expression : goal.put_settled-returns-in-Absent-Expression
-put_settled-returns-in-Absent-Expression g t c = λ m names.
+put_settled-returns-in-Absent-Expression t c = λ m names.
     let e : is_expression (view c.args.tree.now) ≡ true = search (rules, the_lemmas) in
     let shape = expression_is (view c.args.tree.now) e in
     let is : view c.args.tree.now ≡ expression shape.0 shape.1.0 = shape.1.1 in
     on_then _ _ _ (c.put_expression.ensures m names e)
-    (λ w. subst (λ x. WritesSettled g.S.TextOutput.holds c.args.out.now c.put_expression.new.out c.args.context.now
+    (λ w. subst (λ x. WritesSettled c.args.out.now c.put_expression.new.out c.args.context.now
     c.put_expression.new.context m x c.args.precedence)
     (sym is)
-    (settled_expression g.S.TextOutput.holds _ _ _ _ m shape.0 shape.1.0 c.args.precedence
-    (subst (λ x. Writes g.S.TextOutput.holds c.args.out.now c.put_expression.new.out c.args.context.now
+    (settled_expression _ _ _ _ m shape.0 shape.1.0 c.args.precedence
+    (subst (λ x. Writes c.args.out.now c.put_expression.new.out c.args.context.now
     c.put_expression.new.context (λ o. needs_below o x)
     (parts_text m x) (past_groups (group_count x))) is w)))
 
 pub put_settled-returns-in-Absent-Stopper : goal.put_settled-returns-in-Absent-Stopper
-put_settled-returns-in-Absent-Stopper g t c = λ m names.
+put_settled-returns-in-Absent-Stopper t c = λ m names.
     let is : view c.args.tree.now ≡ stopper (view c.deref-in-Absent-Stopper.result.now) = search (rules, the_lemmas) in
     on_then _ _ _ (c.put_stopper.ensures m names)
-    (λ w. subst (λ x. WritesSettled g.S.TextOutput.holds c.args.out.now c.put_stopper.new.out c.args.context.now
+    (λ w. subst (λ x. WritesSettled c.args.out.now c.put_stopper.new.out c.args.context.now
     c.put_stopper.new.context m x c.args.precedence) (sym is)
-    (settled_stopper g.S.TextOutput.holds _ _ _ _ m _ c.args.precedence w))
+    (settled_stopper _ _ _ _ m _ c.args.precedence w))
 
-pub put_settled-returns-in_default : goal.put_settled-returns-in_default
-put_settled-returns-in_default g t c = λ m names.
-    let is : is_leaf (view c.args.tree.now) ≡ true
-    = elim c.in_default.branch [
-      | put_settled-in_default-via-in-Absent+in_default w ↦ search (rules, the_lemmas, absent_type.the_lemmas)
-      | put_settled-in_default-via-in_default w ↦ search (rules, the_lemmas)
-    ] in
+pub put_settled-returns-in-Any : goal.put_settled-returns-in-Any
+put_settled-returns-in-Any t c = λ m names.
+    let is : is_leaf (view c.args.tree.now) ≡ true = search (rules, the_lemmas, absent_type.the_lemmas) in
     on_then _ _ _ (c.put_leaf_at.ensures m names)
-    (λ w. leaf_writes g.S.TextOutput.holds _ _ _ _ m (view c.args.tree.now) c.args.precedence is c.requires w)
+    (λ w. leaf_writes _ _ _ _ m (view c.args.tree.now) c.args.precedence is c.requires w)
 
 pub put_tree-returns-in-Empty : goal.put_tree-returns-in-Empty
-put_tree-returns-in-Empty g t c = λ m names.
+put_tree-returns-in-Empty t c = λ m names.
     let is : view c.args.tree.now ≡ empty = search (rules, the_lemmas) in
     on_then _ _ _ c.put_empty.ensures
-    (λ w. subst (λ x. Writes g.S.TextOutput.holds c.args.out.now c.put_empty.new.out c.args.context.now
+    (λ w. subst (λ x. Writes c.args.out.now c.put_empty.new.out c.args.context.now
     c.next_node-needs.new.self
     (λ o. needs_listed o x) (written m x c.args.precedence) (after x c.args.precedence)) (sym is)
-    (node_writes g.S.TextOutput.holds _ _ _ _ _ c.next_node-needs.result m empty c.args.precedence
+    (node_writes _ _ _ _ _ c.next_node-needs.result m empty c.args.precedence
     c.next_node-needs.ensures
-    (λ e. empty_writes g.S.TextOutput.holds _ _ _ _ m c.args.precedence (text_writes g.S.TextOutput.holds _ _ _ _ w))))
+    (λ e. empty_writes _ _ _ _ m c.args.precedence (text_writes _ _ _ _ w))))
 
 pub put_tree-returns-in-Concat : goal.put_tree-returns-in-Concat
-put_tree-returns-in-Concat g t c = λ m names.
+put_tree-returns-in-Concat t c = λ m names.
     let ts = trees_of (views c.deref.result.now) in
     let is : view c.args.tree.now ≡ concat ts = search (rules, the_lemmas) in
     on_then _ _ _ (on_when _ _ (c.put_concat.ensures m names))
-    (λ w. subst (λ x. Writes g.S.TextOutput.holds c.args.out.now c.put_concat.new.out c.args.context.now
+    (λ w. subst (λ x. Writes c.args.out.now c.put_concat.new.out c.args.context.now
     c.put_concat.new.context (λ o. needs_listed o x)
     (written m x c.args.precedence) (after x c.args.precedence)) (sym is)
-    (node_writes g.S.TextOutput.holds _ _ _ _ _ c.next_node-needs.result m (concat ts) c.args.precedence
+    (node_writes _ _ _ _ _ c.next_node-needs.result m (concat ts) c.args.precedence
     c.next_node-needs.ensures w))
 
 pub put_tree-returns-in-Alt : goal.put_tree-returns-in-Alt
-put_tree-returns-in-Alt g t c = λ m names.
+put_tree-returns-in-Alt t c = λ m names.
     let ts = trees_of (views c.deref-in-Alt.result.now) in
     let is : view c.args.tree.now ≡ alt ts = search (rules, the_lemmas) in
     on_then _ _ _ (on_when _ _ (c.put_alt.ensures m names))
-    (λ w. subst (λ x. Writes g.S.TextOutput.holds c.args.out.now c.put_alt.new.out c.args.context.now
+    (λ w. subst (λ x. Writes c.args.out.now c.put_alt.new.out c.args.context.now
     c.put_alt.new.context (λ o. needs_listed o x)
     (written m x c.args.precedence) (after x c.args.precedence)) (sym is)
-    (node_writes g.S.TextOutput.holds _ _ _ _ _ c.next_node-needs.result m (alt ts) c.args.precedence
+    (node_writes _ _ _ _ _ c.next_node-needs.result m (alt ts) c.args.precedence
     c.next_node-needs.ensures w))
 
-pub put_tree-returns-in_ok-put_inline_flags-in_default : goal.put_tree-returns-in_ok-put_inline_flags-in_default
-put_tree-returns-in_ok-put_inline_flags-in_default g t c = λ m names.
+pub put_tree-returns-in_ok-put_inline_flags-in-Any : goal.put_tree-returns-in_ok-put_inline_flags-in-Any
+put_tree-returns-in_ok-put_inline_flags-in-Any t c = λ m names.
     let takes : takes_inline_flags (view c.args.tree.now) ≡ true = search (rules, the_lemmas) in
     on_then _ _ _ (c.put_settled.ensures m names)
-    (λ w. node_writes g.S.TextOutput.holds _ _ _ _ _ c.next_node-needs.result m (view c.args.tree.now) c.args.precedence
+    (λ w. node_writes _ _ _ _ _ c.next_node-needs.result m (view c.args.tree.now) c.args.precedence
     c.next_node-needs.ensures
-    (λ e. settled_writes g.S.TextOutput.holds _ _ _ _ _ _ c.next_node-needs.result m (view c.args.tree.now)
+    (λ e. settled_writes _ _ _ _ _ _ c.next_node-needs.result m (view c.args.tree.now)
     c.args.precedence takes e
-    c.in_ok-put_inline_flags-in_default.ensures.0 c.in_ok-put_inline_flags-in_default.ensures.1 w))
+    c.in_ok-put_inline_flags-in-Any.ensures.0 c.in_ok-put_inline_flags-in-Any.ensures.1 w))
