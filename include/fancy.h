@@ -200,8 +200,9 @@ typedef struct {
     bool numbered_groups_ignored;          /* groups without a name have no number */
 } fancy_info;
 
-/* Capacities that suffice for a pattern of this length in bytes, so that one call of fancy_parse or fancy_tree is enough;
- * FANCY_MAX_TEXTS also suffices for the message that fancy_tree writes. docs/c.md says which are proved. */
+/* Capacities that suffice for a pattern of this length in bytes, so that one call of fancy_parse or fancy_tree is enough. This
+ * is proved for trees, whose texts have at most 6 * length bytes, and whose names at most length rows. FANCY_MAX_TEXTS also
+ * suffices for the message that fancy_tree writes, which is tested. */
 #define FANCY_MAX_NODES(length) (2 * (length) + 1)
 #define FANCY_MAX_TEXTS(length) (6 * (length) + 128)
 #define FANCY_MAX_NAMES(length) (2 * (length) + 1)

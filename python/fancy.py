@@ -433,8 +433,8 @@ class Tree:
         return self.root.walk()
 
     def format(self) -> Optional[str]:
-        """Returns a pattern that is parsed, under the same flags, as this tree with these names; or None if there is none, as may
-        be after the tree was changed. Of the group information it needs only the names, by the numbers that groups have in the
+        """Returns a pattern that is parsed, under the same flags, as this tree with these names; or None if no pattern is, which can
+        happen after the tree was changed. Of the group information it needs only the names, by the numbers that groups have in the
         tree, and the two fields that say whether references are written by numbers.
 
         >>> from dataclasses import replace

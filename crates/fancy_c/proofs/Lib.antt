@@ -7,4 +7,14 @@ mod RowLemmas
 mod NumberedLemmas
 mod NameRowLemmas
 mod BoundLemmas
+-- ---- how long the texts of a tree and the names of its groups are
+mod EscapeCosts
+mod ClassCosts
+mod TreeCosts
+mod StartCosts
+mod ReadCosts
+mod ParsedCosts
+-- ---- all of it in the buffers
 mod NodesLemmas
+-- ---- a tree that is built from rows
+mod RowTreeLemmas

@@ -1,5 +1,5 @@
 -- A tree and its group information in the buffers.
-use Rattle.std.proofs.Common.{◌≡◌, ℕ, zero, suc, ◌+◌, ◌≤◌, List, [], ◌∷◌, ◌++◌, length, drop, map, chars, ap, ◌∙◌}
+use Rattle.std.proofs.Common.{◌≡◌, ◌<◌, ◌⊎◌, inl, inr, ℕ, zero, suc, ◌+◌, ◌≤◌, List, [], ◌∷◌, ◌++◌, length, drop, map, chars, ap, ◌∙◌}
 use Rattle.std.proofs.Common.{subst, length-append, zero-add, arith}
 use Rattle.std.specs.List.{AllByRecursion}
 use Rattle.fancy_lex.specs.declared.flags.Flags.{Flags}
@@ -14,10 +14,11 @@ use Rattle.fancy_c.specs.Buffer.{Fills, put_at}
 use Rattle.fancy_grammar.proofs.ParsedSpans.{nests_within}
 use Rattle.fancy_syntax.specs.SpanViews.{span_of}
 use Rattle.fancy_syntax.specs.declared.span.Span.{Span}
-use Rattle.fancy_c.specs.InfoRows.{summary, IsSummaryOf, AreSpansOfBytes}
-use Rattle.fancy_c.specs.Node.{listed, listed_all, span_at}
+use Rattle.fancy_c.specs.InfoRows.{summary, name_texts, AreEnough, IsSummaryOf, AreSpansOfBytes}
+use Rattle.fancy_c.specs.Node.{listed, listed_all, span_at, texts}
 use Rattle.fancy_c.specs.declared.info_rows.TreeInfo.{TreeInfo}
 use Rattle.fancy_c.proofs.BoundLemmas.{few_backrefs}
+use Rattle.fancy_c.proofs.ParsedCosts.{parsed_cost}
 use Rattle.fancy_c.proofs.RowLemmas.{put_more}
 
 pub filled : {A : Type 0} (old new items : List A) → length items ≤ length old → new ≡ put_at old 0 items →
@@ -49,7 +50,25 @@ is_summary_of f bytes t m info tree is = record {
   is = is;
   few = omega (arith, tree.small.0, listed_nodes t, ap (λ k. k.node_count) is);
   few_backrefs = omega (arith, few_backrefs f bytes t m tree, ap (λ k. k.backref_count) is);
+  short_texts =
+      omega (
+        arith,
+        parsed_cost f bytes t m tree.utf8 tree.tree,
+        length-append (texts (listed t)) (name_texts m.named_groups),
+        ap (λ k. k.texts_size) is,
+      );
+  few_names = omega (arith, parsed_cost f bytes t m tree.utf8 tree.tree, ap (λ k. k.name_count) is);
 }
+
+-- no buffer with such a capacity is too short
+pub suffices : {info : TreeInfo} {f : Flags} {bytes : List ℕ} {t : Tree} {m : GroupInfo} {nodes texts names backrefs : ℕ} →
+    IsSummaryOf info f bytes t m → AreEnough (length bytes) nodes texts names backrefs →
+    (nodes < info.node_count) ⊎ ((texts < info.texts_size) ⊎ ((names < info.name_count) ⊎ (backrefs < info.backref_count))) →
+    ⊥
+suffices s e (inl h) = omega (arith, s.few, e.for_nodes, h)
+suffices s e (inr (inl h)) = omega (arith, s.short_texts, e.for_texts, h)
+suffices s e (inr (inr (inl h))) = omega (arith, s.few_names, e.for_names, h)
+suffices s e (inr (inr (inr h))) = omega (arith, s.few_backrefs, e.for_backrefs, h)
 
 -- a span of the list is within the bytes
 span_within : (n : ℕ) (l : List Span) → AllByRecursion (λ p. (0 ≤ p.start) × (p.start ≤ p.end) × (p.end ≤ n))

@@ -79,10 +79,19 @@ pub record AreSpansAsked (flags : ℕ) (bytes : List ℕ) (t : Tree) (spans : Li
   pub asked : has_bit flags WITHOUT_SPANS ≡ false → AreSpansOfBytes (flags_of flags) bytes t spans
   pub left_out : has_bit flags WITHOUT_SPANS ≡ true → spans ≡ []
 
--- the info is that of the tree of the bytes, and a pattern of n bytes has at most 2 n + 1 nodes and as many back
--- references
+-- The info is that of the tree of the bytes. A pattern of n bytes has at most 2 n + 1 nodes and as many back references;
+-- its texts have at most 6 n bytes, and its names at most n rows.
 pub record IsSummaryOf (info : TreeInfo) (f : Flags) (bytes : List ℕ) (t : Tree) (m : GroupInfo) : Type 0 where
   pub tree : IsTreeOfBytes f bytes t m
   pub is : info ≡ summary t m
   pub few : info.node_count ≤ 2 * length bytes + 1
   pub few_backrefs : info.backref_count ≤ 2 * length bytes + 1
+  pub short_texts : info.texts_size ≤ 6 * length bytes
+  pub few_names : info.name_count ≤ length bytes
+
+-- these capacities of the buffers suffice for the tree of each pattern of n bytes
+pub record AreEnough (n nodes texts names backrefs : ℕ) : Type 0 where
+  pub for_nodes : 2 * n + 1 ≤ nodes
+  pub for_texts : 6 * n ≤ texts
+  pub for_names : n ≤ names
+  pub for_backrefs : 2 * n + 1 ≤ backrefs

@@ -3,4 +3,5 @@ pub mod Buffer
 pub mod WrittenText
 pub mod Node
 pub mod Numbered
+pub mod RowTree
 pub mod InfoRows

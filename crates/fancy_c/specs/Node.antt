@@ -18,7 +18,7 @@ use Rattle.fancy_grammar.specs.Tree.{define_group, ast_node, ast_group, Trees, n
 use Rattle.fancy_grammar.specs.Tree.{clear, leaf, over, row as row_of}
 use Rattle.fancy_syntax.specs.declared.span.Span.{Span}
 use Rattle.fancy_c.specs.declared.node.Node.{Node}
-use Rattle.fancy_c.specs.declared.node.Location.{Location}
+use Rattle.fancy_c.specs.declared.node.NodeLocation.{NodeLocation}
 use Rattle.fancy_c.specs.declared.node.TheConstants as number
 
 -- ---- the numbers of the variants of a kind
@@ -75,7 +75,7 @@ carried _ = []
 -- ---- the row of a node
 
 -- a node of this kind that has only its text
-abbrev pub plain : ℕ → Location → ℕ → Node
+abbrev pub plain : ℕ → NodeLocation → ℕ → Node
 plain k s n = record {
   kind = k;
   which = 0;
@@ -97,16 +97,16 @@ plain k s n = record {
   has_level = false;
 }
 
-abbrev pub condition : Location → ℕ → Option ℤ → Node
+abbrev pub condition : NodeLocation → ℕ → Option ℤ → Node
 condition s n None = record (plain number.NODE_BACKREF_EXISTS_CONDITION s 0) { group = n }
 condition s n (Some l) =
     record (plain number.NODE_BACKREF_EXISTS_CONDITION s 0) { group = n; level = l; has_level = true }
 
-abbrev pub with_text : Location → ℕ → Text → Bool → Node
+abbrev pub with_text : NodeLocation → ℕ → Text → Bool → Node
 with_text s k w casei = record (plain k s (length (encode_utf8_all w))) { casei = casei }
 
 -- a call that was read and not resolved
-abbrev pub row_of_call : Location → Target → ℕ → Node
+abbrev pub row_of_call : NodeLocation → Target → ℕ → Node
 row_of_call s (by_number n) p =
     record (plain number.NODE_AST_NODE s 0) { which = number.TARGET_BY_NUMBER; group = n; position = p }
 row_of_call s (by_name w) p =
@@ -114,15 +114,15 @@ row_of_call s (by_name w) p =
 row_of_call s (relative z) p =
     record (plain number.NODE_AST_NODE s 0) { which = number.TARGET_RELATIVE; level = z; position = p }
 
-abbrev pub row_of_read : Location → AstReference → ℕ → Node
+abbrev pub row_of_read : NodeLocation → AstReference → ℕ → Node
 row_of_read s (ast_call t) p = row_of_call s t p
 row_of_read s _ p = plain number.NODE_AST_NODE s 0
 
 -- an absent form
-abbrev pub absent_row : Location → ℕ → Node
+abbrev pub absent_row : NodeLocation → ℕ → Node
 absent_row s n = record (plain number.NODE_ABSENT s 0) { which = n }
 
-abbrev pub row : Location → Tree → Node
+abbrev pub row : NodeLocation → Tree → Node
 row s empty = plain number.NODE_EMPTY s 0
 row s (any newline crlf) = record (plain number.NODE_ANY s 0) { newline = newline; crlf = crlf }
 row s (assertion a) = record (plain number.NODE_ASSERTION s 0) { which = assertion_number a; crlf = has_crlf a }

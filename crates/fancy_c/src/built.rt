@@ -1,6 +1,11 @@
 //! A tree built from the rows of its nodes. They may have been changed, so that they are a tree is tested.
-ghost use Rattle.std.specs.Prelude.{◌≡◌};
+ghost use Rattle.std.specs.Prelude.{◌≡◌, ◌+◌, ◌<◌, ℕ, IfOk, List, [], ◌∷◌, length};
+ghost use Rattle.fancy_grammar.specs.Tree.{children as children_of};
+ghost use Rattle.fancy_syntax.specs.View.{view, views};
 ghost use Rattle.fancy_c.specs.CallResult.{result_of_rows};
+ghost use Rattle.fancy_c.specs.Node as spec;
+ghost use Rattle.fancy_c.specs.RowTree.{IsRowOf, AreRowsOfTree, AreBuiltFrom, AreTreesOf};
+ghost use Rattle.fancy_c.specs.declared.node.Node as row_type;
 
 use crate::call_result::{CallResult, ERROR_NONE, STATUS_NO_TREE, STATUS_OUT_OF_MEMORY};
 use crate::node::{
@@ -64,7 +69,9 @@ impl RowsError {
 }
 
 /// The look-around with this number.
-fn look_around(number: u32) -> Result<LookAround, RowsError> {
+fn look_around(number: u32) -> Result<LookAround, RowsError>
+    ensures { IfOk result (λ l. number ≡ spec.look_around_number l) }
+{
     Ok(match number {
         LOOK_AHEAD => LookAround::LookAhead,
         LOOK_AHEAD_NEG => LookAround::LookAheadNeg,
@@ -75,7 +82,10 @@ fn look_around(number: u32) -> Result<LookAround, RowsError> {
 }
 
 /// The node of a row with this child.
-fn over_one(alloc: Global, row: &Node, child: Expr) -> Result<Expr, RowsError> {
+fn over_one(alloc: Global, row: &Node, child: Expr) -> Result<Expr, RowsError>
+    ensures row { (texts : List ℕ) → IfOk result (λ e. IsRowOf texts row.now (view e)) }
+    ensures child { IfOk result (λ e. children_of (view e) ≡ view child ∷ []) }
+{
     let child = Box::new(alloc, child)?;
     Ok(match row.kind {
         NODE_GROUP => Expr::Group(child),
@@ -95,7 +105,10 @@ fn over_one(alloc: Global, row: &Node, child: Expr) -> Result<Expr, RowsError> {
 }
 
 /// The node of a row with these two children.
-fn over_two(alloc: Global, row: &Node, first: Expr, second: Expr) -> Result<Expr, RowsError> {
+fn over_two(alloc: Global, row: &Node, first: Expr, second: Expr) -> Result<Expr, RowsError>
+    ensures row { (texts : List ℕ) → IfOk result (λ e. IsRowOf texts row.now (view e)) }
+    ensures children { IfOk result (λ e. children_of (view e) ≡ view first ∷ view second ∷ []) }
+{
     if row.kind != NODE_ABSENT || row.which != ABSENT_EXPRESSION {
         return Err(RowsError::NoTree);
     }
@@ -112,7 +125,10 @@ fn over_three(
     first: Expr,
     second: Expr,
     third: Expr,
-) -> Result<Expr, RowsError> {
+) -> Result<Expr, RowsError>
+    ensures row { (texts : List ℕ) → IfOk result (λ e. IsRowOf texts row.now (view e)) }
+    ensures children { IfOk result (λ e. children_of (view e) ≡ view first ∷ view second ∷ view third ∷ []) }
+{
     if row.kind != NODE_CONDITIONAL {
         return Err(RowsError::NoTree);
     }
@@ -124,7 +140,10 @@ fn over_three(
 }
 
 /// The node of a row with these children.
-fn node(alloc: Global, row: &Node, texts: &[u8], children: Vec<Expr>) -> Result<Expr, RowsError> {
+fn node(alloc: Global, row: &Node, texts: &[u8], children: Vec<Expr>) -> Result<Expr, RowsError>
+    ensures row { IfOk result (λ e. IsRowOf texts.now row.now (view e)) }
+    ensures children { IfOk result (λ e. children_of (view e) ≡ views children.items) }
+{
     if row.kind == NODE_CONCAT {
         return Ok(Expr::Concat(children));
     }
@@ -158,7 +177,7 @@ struct Built {
 
 /// The children of a node.
 #[derive(Drop)]
-struct Children {
+struct ChildTrees {
     trees: Vec<Expr>,
     /// The most levels of one of them.
     levels: usize,
@@ -170,8 +189,13 @@ fn take_children(
     built: &mut Vec<Built>,
     first: usize,
     end: usize,
-) -> Result<Children, RowsError> {
-    let mut children = Children {
+) -> Result<ChildTrees, RowsError>
+    ensures trees { (texts : List ℕ) (nodes : List row_type.Node) → AreBuiltFrom texts nodes first built.old.items →
+        IfOk result (λ c. AreTreesOf texts nodes first end (views c.trees.items)) }
+    ensures left { (texts : List ℕ) (nodes : List row_type.Node) → AreBuiltFrom texts nodes first built.old.items →
+        IfOk result (λ _. AreBuiltFrom texts nodes end built.new.items) }
+{
+    let mut children = ChildTrees {
         trees: Vec::new(alloc),
         levels: 0,
     };
@@ -180,11 +204,12 @@ fn take_children(
         if next >= end {
             break;
         }
-        if let Some(child) = built.pop() {
-            next = child.end;
-            children.levels = children.levels.max(child.levels);
-            children.trees.push(child.tree)?;
-        }
+        let Some(child) = built.pop() else {
+            break;
+        };
+        next = child.end;
+        children.levels = children.levels.max(child.levels);
+        children.trees.push(child.tree)?;
     }
     if next != end || children.levels >= MAX_LEVELS {
         return Err(RowsError::NoTree);
@@ -196,13 +221,18 @@ fn take_children(
 fn build(
     alloc: Global,
     built: &mut Vec<Built>,
-    row: &Node,
+    nodes: &[Node],
     texts: &[u8],
     index: usize,
-) -> Result<(), RowsError> {
-    let children = take_children(alloc, built, index.saturating_add(1), row.end)?;
+) -> Result<(), RowsError>
+    requires index { index < length nodes.now }
+    requires below { AreBuiltFrom texts.now nodes.now (index + 1) built.old.items }
+    ensures { IfOk result (λ _. AreBuiltFrom texts.now nodes.now index built.new.items) }
+{
+    let row = nodes[index];
+    let children = take_children(alloc, built, index + 1, row.end)?;
     let levels = children.levels.saturating_add(1);
-    let tree = node(alloc, row, texts, children.trees)?;
+    let tree = node(alloc, &row, texts, children.trees)?;
     built.push(Built {
         tree,
         levels,
@@ -226,11 +256,19 @@ pub(crate) fn tree_at(
     nodes: &[Node],
     texts: &[u8],
     index: usize,
-) -> Result<Expr, RowsError> {
-    let rows = rows_below(nodes, index);
+) -> Result<Expr, RowsError>
+    ensures { IfOk result (λ e. AreRowsOfTree texts.now nodes.now index (view e)) }
+{
+    let end = match nodes.get(index) {
+        Some(root) => root.end,
+        None => return Err(RowsError::NoTree),
+    };
+    if end <= index || nodes.len() < end {
+        return Err(RowsError::NoTree);
+    }
     let mut built = Vec::new(alloc);
-    for (i, row) in rows.iter().enumerate().rev() {
-        build(alloc, &mut built, row, texts, index.saturating_add(i))?;
+    for done in 0..end - index {
+        build(alloc, &mut built, nodes, texts, end - 1 - done)?;
     }
     match built.pop() {
         Some(root) => Ok(root.tree),

@@ -1,4 +1,5 @@
 //! The groups of a tree that is built from rows: their numbers, their names, and what refers to them.
+ghost use Rattle.std.specs.Prelude.{◌≡◌, IfOk};
 
 use crate::built::{RowsError, rows_below};
 use crate::info_rows::{Name, TreeInfo};
@@ -64,7 +65,9 @@ pub(crate) fn names_from(
 }
 
 /// Adds what a row refers to.
-fn refer(tree: &mut ExprTree, row: &Node, info: &TreeInfo) -> Result<(), AllocError> {
+fn refer(tree: &mut ExprTree, row: &Node, info: &TreeInfo) -> Result<(), AllocError>
+    ensures { tree.new.expr ≡ tree.old.expr }
+{
     match row.kind {
         NODE_BACKREF | NODE_BACKREF_AT_LEVEL => {
             if row.kind == NODE_BACKREF && info.numeric_capture_group_references {
@@ -98,7 +101,9 @@ pub(crate) fn with_groups(
     named_groups: BTreeMap<String, Vec<usize>>,
     info: &TreeInfo,
     flags: u32,
-) -> Result<ExprTree, AllocError> {
+) -> Result<ExprTree, AllocError>
+    ensures { IfOk result (λ t. t.expr ≡ expr) }
+{
     let ignored = Flags::from_bits(flags).ignore_numbered_groups && !named_groups.is_empty();
     let mut tree = ExprTree {
         expr,

@@ -211,7 +211,7 @@ pub struct Node {
 /// Where a node is: the index after its last descendant, where its text begins (0 if it has none), and its span in the
 /// pattern.
 #[derive(Clone, Copy)]
-pub(crate) struct Location {
+pub(crate) struct NodeLocation {
     pub(crate) end: usize,
     pub(crate) text: usize,
     pub(crate) span: Span,
@@ -321,11 +321,30 @@ pub(crate) fn carried(tree: &Expr) -> &[u8]
         Expr::LiteralBytes { bytes } => bytes,
         Expr::Delegate { inner, .. } => inner.as_bytes(),
         Expr::AstNode(node, _) => called_name(node),
-        _ => &[],
+        Expr::Empty
+        | Expr::Any { .. }
+        | Expr::Assertion(_)
+        | Expr::GeneralNewline { .. }
+        | Expr::Concat(_)
+        | Expr::Alt(_)
+        | Expr::Group(_)
+        | Expr::LookAround(_, _)
+        | Expr::Repeat { .. }
+        | Expr::Backref { .. }
+        | Expr::BackrefWithRelativeRecursionLevel { .. }
+        | Expr::AtomicGroup(_)
+        | Expr::KeepOut
+        | Expr::ContinueFromPreviousMatchEnd
+        | Expr::BackrefExistsCondition { .. }
+        | Expr::Conditional { .. }
+        | Expr::SubroutineCall(_)
+        | Expr::BacktrackingControlVerb(_)
+        | Expr::Absent(_)
+        | Expr::DefineGroup { .. } => &[],
     }
 }
 
-impl Location {
+impl NodeLocation {
     /// A node of this kind that has only its text.
     fn plain(self, kind: u32, size: usize) -> Node
         ensures { result ≡ spec.plain kind self size }

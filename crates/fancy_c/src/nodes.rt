@@ -8,7 +8,7 @@ ghost use Rattle.fancy_syntax.specs.InfoViews.{info_of};
 ghost use Rattle.fancy_syntax.specs.View.{view};
 ghost use Rattle.fancy_syntax.specs.declared.span.Span.{Span};
 ghost use Rattle.fancy_c.specs.CallResult.{number_of_kind, IsErrorOfBytes, IsNoUtf8};
-ghost use Rattle.fancy_c.specs.InfoRows.{summary, all_texts, name_rows, AreWritten, AreSpansOfBytes, IsSummaryOf};
+ghost use Rattle.fancy_c.specs.InfoRows.{summary, all_texts, name_rows, AreEnough, AreWritten, AreSpansOfBytes, IsSummaryOf};
 ghost use Rattle.fancy_c.specs.Node.{listed, span_at};
 
 use crate::call_result::{
@@ -151,10 +151,11 @@ pub(crate) fn write_tree(
 
 /// Parses a pattern as `fancy_check_nonnull` does, and sets `info` to the sizes of its tree and to its group
 /// information. If all of it fits, returns `STATUS_OK`, and the buffers hold, from their front: the nodes of the tree
-/// in preorder, each with its span in the pattern, and each group with its number; the texts of the nodes, and after them the names of groups; for each
-/// name in byte order its group numbers, ascending; and the numbers of the back references, ascending. If something
-/// does not fit, returns `STATUS_BUFFER_TOO_SHORT`, and no buffer is written. A pattern of n bytes has at most 2 n + 1
-/// nodes. For a pattern without a tree it returns what `fancy_check_nonnull` returns, and nothing is written.
+/// in preorder, each with its span in the pattern, and each group with its number; the texts of the nodes, and after
+/// them the names of groups; for each name in byte order its group numbers, ascending; and the numbers of the back
+/// references, ascending. If something does not fit, returns `STATUS_BUFFER_TOO_SHORT`, and no buffer is written. A
+/// pattern of n bytes has at most 2 n + 1 nodes and as many back references, 6 n bytes of texts, and n rows of names. For
+/// a pattern without a tree it returns what `fancy_check_nonnull` returns, and nothing is written.
 #[unsafe(no_mangle)]
 pub extern "C" fn fancy_parse_nonnull(
     alloc: Global,
@@ -173,6 +174,9 @@ pub extern "C" fn fancy_parse_nonnull(
         (t : Tree) × (m : GroupInfo) × IsSummaryOf info.new (flags_of flags) pattern.now t m
         × ((length nodes.old < info.new.node_count) ⊎ ((length texts.old < info.new.texts_size)
         ⊎ ((length names.old < info.new.name_count) ⊎ (length backrefs.old < info.new.backref_count)))) }
+    ensures enough { AreEnough (length pattern.now) (length nodes.old) (length texts.old) (length names.old)
+        (length backrefs.old) →
+        result.status ≢ STATUS_BUFFER_TOO_SHORT }
     ensures refused { result.status ≡ STATUS_REFUSED → (k : Kind) × (result.kind ≡ number_of_kind k)
         × IsErrorOfBytes (flags_of flags) pattern.now k result.position }
     ensures no_utf8 { result.status ≡ STATUS_NOT_UTF8 → IsNoUtf8 pattern.now result.position }

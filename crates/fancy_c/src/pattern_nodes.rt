@@ -1,15 +1,18 @@
 //! The pattern for a tree that is given by its rows.
-ghost use Rattle.std.specs.Prelude.{◌≡◌, ◌≢◌, ◌<◌, ◌≤◌, ℕ, List, length};
+ghost use Rattle.std.specs.Prelude.{◌≡◌, ◌≢◌, ◌<◌, ◌≤◌, ℕ, IfOk, List, length};
 ghost use Rattle.fancy_lex.specs.Flags.{flags_of};
 ghost use Rattle.fancy_grammar.specs.GroupInfo.{GroupInfo};
+ghost use Rattle.fancy_grammar.specs.OfPattern.{IsOfPattern};
 ghost use Rattle.fancy_grammar.specs.Tree.{Tree};
+ghost use Rattle.fancy_syntax.specs.View.{view};
 ghost use Rattle.fancy_c.specs.Buffer.{Fills};
+ghost use Rattle.fancy_c.specs.RowTree.{AreRowsOfTree};
 ghost use Rattle.fancy_c.specs.WrittenText.{IsPatternText};
 
 use crate::built::{RowsError, rows_below, tree_at};
 use crate::call_result::{
-    CallResult, ERROR_NONE, STATUS_BUFFER_TOO_SHORT, STATUS_NO_TREE, STATUS_NOT_PRINTABLE,
-    STATUS_NOT_UTF8, STATUS_OK, STATUS_REFUSED,
+    CallResult, ERROR_NONE, STATUS_BUFFER_TOO_SHORT, STATUS_NO_PATTERN, STATUS_NO_TREE,
+    STATUS_NOT_PRINTABLE, STATUS_NOT_UTF8, STATUS_OK, STATUS_REFUSED,
 };
 use crate::group_rows::{names_from, with_groups};
 use crate::info_rows::{Name, TreeInfo};
@@ -18,19 +21,29 @@ use crate::pattern::put_pattern;
 use fancy_syntax::tree::ExprTree;
 use std::alloc::Global;
 
+/// What a caller in C says of the groups of a tree.
+#[derive(Clone, Copy)]
+struct GivenGroups<'a> {
+    names: &'a [Name],
+    info: &'a TreeInfo,
+    /// The bits of the flags that the pattern is for.
+    flags: u32,
+}
+
 /// The tree of the rows from an index on, with its group information.
 fn tree_with_groups(
     alloc: Global,
     nodes: &[Node],
     texts: &[u8],
     index: usize,
-    names: &[Name],
-    info: &TreeInfo,
-    flags: u32,
-) -> Result<ExprTree, RowsError> {
+    groups: GivenGroups<'_>,
+) -> Result<ExprTree, RowsError>
+    ensures { IfOk result (λ t. AreRowsOfTree texts.now nodes.now index (view t.expr)) }
+{
     let expr = tree_at(alloc, nodes, texts, index)?;
-    let named = names_from(alloc, nodes, index, texts, names)?;
-    Ok(with_groups(alloc, expr, rows_below(nodes, index), named, info, flags)?)
+    let named = names_from(alloc, nodes, index, texts, groups.names)?;
+    let rows = rows_below(nodes, index);
+    Ok(with_groups(alloc, expr, rows, named, groups.info, groups.flags)?)
 }
 
 /// Builds the tree of the rows that `fancy_parse_nonnull` wrote, from the one with an index on, with the names of its
@@ -54,9 +67,13 @@ pub extern "C" fn fancy_pattern_nodes_nonnull(
     buffer: &mut [u8],
 ) -> CallResult
     ensures read { result.status ≡ STATUS_OK → (t : Tree) × (m : GroupInfo) × (w : List ℕ)
-        × IsPatternText (flags_of flags) t m w × (result.size ≡ length w) × Fills buffer.old buffer.new w }
+        × AreRowsOfTree texts.now nodes.now index t × IsPatternText (flags_of flags) t m w
+        × (result.size ≡ length w) × Fills buffer.old buffer.new w }
     ensures short { result.status ≡ STATUS_BUFFER_TOO_SHORT → (t : Tree) × (m : GroupInfo) × (w : List ℕ)
-        × IsPatternText (flags_of flags) t m w × (result.size ≡ length w) × (length buffer.old < length w) }
+        × AreRowsOfTree texts.now nodes.now index t × IsPatternText (flags_of flags) t m w
+        × (result.size ≡ length w) × (length buffer.old < length w) }
+    ensures unwritten { result.status ≡ STATUS_NO_PATTERN → (t : Tree) × (m : GroupInfo)
+        × AreRowsOfTree texts.now nodes.now index t × (IsOfPattern (flags_of flags) t m → ⊥) }
     ensures kept { result.status ≢ STATUS_OK → buffer.new ≡ buffer.old }
     ensures no_pattern { (result.status ≢ STATUS_REFUSED) × (result.status ≢ STATUS_NOT_UTF8) }
     ensures printed { result.status ≢ STATUS_NOT_PRINTABLE }
@@ -65,7 +82,8 @@ pub extern "C" fn fancy_pattern_nodes_nonnull(
     ensures no_position { result.position ≡ 0 }
     ensures no_size { result.status ≢ STATUS_OK → result.status ≢ STATUS_BUFFER_TOO_SHORT → result.size ≡ 0 }
 {
-    match tree_with_groups(alloc, nodes, texts, index, names, info, flags) {
+    let groups = GivenGroups { names, info, flags };
+    match tree_with_groups(alloc, nodes, texts, index, groups) {
         Ok(tree) => put_pattern(alloc, &tree, flags, buffer),
         Err(error) => error.call_result(),
     }

@@ -3,6 +3,7 @@ ghost use Rattle.std.specs.Prelude.{◌≡◌, ◌≢◌, ◌<◌, ◌≤◌, �
 ghost use Rattle.fancy_grammar.specs.Printable.{printable};
 ghost use Rattle.fancy_grammar.specs.Tree.{Tree};
 ghost use Rattle.fancy_c.specs.Buffer.{Fills};
+ghost use Rattle.fancy_c.specs.RowTree.{AreRowsOfTree};
 ghost use Rattle.fancy_c.specs.WrittenText.{IsText};
 
 use crate::built::tree_at;
@@ -27,11 +28,14 @@ pub extern "C" fn fancy_print_nodes_nonnull(
     precedence: u8,
     buffer: &mut [u8],
 ) -> CallResult
-    ensures read { result.status ≡ STATUS_OK → (t : Tree) × (w : List ℕ) × IsText t precedence w
+    ensures read { result.status ≡ STATUS_OK → (t : Tree) × (w : List ℕ)
+        × AreRowsOfTree texts.now nodes.now index t × IsText t precedence w
         × (result.size ≡ length w) × Fills buffer.old buffer.new w }
-    ensures short { result.status ≡ STATUS_BUFFER_TOO_SHORT → (t : Tree) × (w : List ℕ) × IsText t precedence w
+    ensures short { result.status ≡ STATUS_BUFFER_TOO_SHORT → (t : Tree) × (w : List ℕ)
+        × AreRowsOfTree texts.now nodes.now index t × IsText t precedence w
         × (result.size ≡ length w) × (length buffer.old < length w) }
-    ensures not_printable { result.status ≡ STATUS_NOT_PRINTABLE → (t : Tree) × (printable t ≡ false) }
+    ensures not_printable { result.status ≡ STATUS_NOT_PRINTABLE → (t : Tree)
+        × AreRowsOfTree texts.now nodes.now index t × (printable t ≡ false) }
     ensures kept { result.status ≢ STATUS_OK → buffer.new ≡ buffer.old }
     ensures no_pattern { (result.status ≢ STATUS_REFUSED) × (result.status ≢ STATUS_NOT_UTF8)
         × (result.status ≢ STATUS_NO_PATTERN) }

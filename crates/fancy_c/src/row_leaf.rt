@@ -1,4 +1,12 @@
 //! A node without children, from its row. The row may have been changed, so all of it is tested.
+ghost use Rattle.std.specs.Prelude.{◌≡◌, ◌+◌, ◌≤◌, IfOk, [], length, take, drop, encode_utf8_all};
+ghost use Rattle.fancy_lex.specs.Text.{text_of as chars_of};
+ghost use Rattle.std.specs.Str.{IsUtf8};
+ghost use Rattle.fancy_lex.specs.NameViews.{view_target};
+ghost use Rattle.fancy_grammar.specs.Tree.{children};
+ghost use Rattle.fancy_syntax.specs.View.{view};
+ghost use Rattle.fancy_c.specs.Node as spec;
+ghost use Rattle.fancy_c.specs.RowTree.{HasText, HasTarget, HasCrlf, IsRowOf};
 
 use crate::built::RowsError;
 use crate::node::{
@@ -6,12 +14,13 @@ use crate::node::{
     ASSERTION_END_TEXT_IGNORE_TRAILING_NEWLINES, ASSERTION_LEFT_WORD_BOUNDARY,
     ASSERTION_LEFT_WORD_HALF_BOUNDARY, ASSERTION_NOT_WORD_BOUNDARY, ASSERTION_RIGHT_WORD_BOUNDARY,
     ASSERTION_RIGHT_WORD_HALF_BOUNDARY, ASSERTION_START_LINE, ASSERTION_START_LINE_ONIGURUMA,
-    ASSERTION_START_TEXT, ASSERTION_WORD_BOUNDARY, NODE_ABSENT, NODE_ANY, NODE_ASSERTION,
-    NODE_AST_NODE, NODE_BACKREF, NODE_BACKREF_AT_LEVEL, NODE_BACKREF_EXISTS_CONDITION,
-    NODE_CONTINUE_FROM_PREVIOUS_MATCH_END, NODE_DELEGATE, NODE_EMPTY, NODE_GENERAL_NEWLINE,
-    NODE_KEEP_OUT, NODE_LITERAL, NODE_LITERAL_BYTES, NODE_SUBROUTINE_CALL, NODE_VERB, Node,
-    TARGET_BY_NAME, TARGET_BY_NUMBER, TARGET_RELATIVE, VERB_ACCEPT, VERB_COMMIT, VERB_FAIL,
-    VERB_PRUNE, VERB_SKIP,
+    ASSERTION_START_TEXT, ASSERTION_WORD_BOUNDARY, NODE_ABSENT, NODE_ALT, NODE_ANY, NODE_ASSERTION,
+    NODE_AST_NODE, NODE_ATOMIC_GROUP, NODE_BACKREF, NODE_BACKREF_AT_LEVEL,
+    NODE_BACKREF_EXISTS_CONDITION, NODE_CONCAT, NODE_CONDITIONAL,
+    NODE_CONTINUE_FROM_PREVIOUS_MATCH_END, NODE_DEFINE_GROUP, NODE_DELEGATE, NODE_EMPTY,
+    NODE_GENERAL_NEWLINE, NODE_GROUP, NODE_KEEP_OUT, NODE_LITERAL, NODE_LITERAL_BYTES,
+    NODE_LOOK_AROUND, NODE_REPEAT, NODE_SUBROUTINE_CALL, NODE_VERB, Node, TARGET_BY_NAME,
+    TARGET_BY_NUMBER, TARGET_RELATIVE, VERB_ACCEPT, VERB_COMMIT, VERB_FAIL, VERB_PRUNE, VERB_SKIP,
 };
 use fancy_syntax::expr::{
     Absent, Assertion, AstNode, BacktrackingControlVerb, CaptureGroupTarget, Expr,
@@ -20,7 +29,10 @@ use std::alloc::Global;
 use std::str;
 
 /// The bytes of this size from an offset on.
-pub(crate) fn bytes_at(texts: &[u8], start: usize, size: usize) -> Result<&[u8], RowsError> {
+pub(crate) fn bytes_at(texts: &[u8], start: usize, size: usize) -> Result<&[u8], RowsError>
+    ensures inside { IfOk result (λ bytes. start + size ≤ length texts.now) }
+    ensures bytes { IfOk result (λ bytes. bytes.now ≡ take size (drop start texts.now)) }
+{
     let Some(end) = start.checked_add(size) else {
         return Err(RowsError::NoTree);
     };
@@ -31,7 +43,10 @@ pub(crate) fn bytes_at(texts: &[u8], start: usize, size: usize) -> Result<&[u8],
 }
 
 /// The text of this size from an offset on.
-pub(crate) fn text_at(texts: &[u8], start: usize, size: usize) -> Result<&str, RowsError> {
+pub(crate) fn text_at(texts: &[u8], start: usize, size: usize) -> Result<&str, RowsError>
+    ensures inside { IfOk result (λ text. start + size ≤ length texts.now) }
+    ensures text { IfOk result (λ text. text.now ≡ take size (drop start texts.now)) }
+{
     match str::from_utf8(bytes_at(texts, start, size)?) {
         Ok(text) => Ok(text),
         Err(_) => Err(RowsError::NoTree),
@@ -39,12 +54,18 @@ pub(crate) fn text_at(texts: &[u8], start: usize, size: usize) -> Result<&str, R
 }
 
 /// The text of a node, in memory of its own.
-fn text_of(alloc: Global, row: &Node, texts: &[u8]) -> Result<String, RowsError> {
+#[tactic(auto, using(crate::proofs::NodeLemmas::string_text))]
+fn text_of(alloc: Global, row: &Node, texts: &[u8]) -> Result<String, RowsError>
+    ensures { IfOk result (λ text. HasText texts.now row.now (encode_utf8_all (chars_of text))) }
+{
     Ok(String::from_str(alloc, text_at(texts, row.text, row.text_size)?)?)
 }
 
 /// The assertion with this number.
-fn assertion(number: u32, crlf: bool) -> Result<Assertion, RowsError> {
+fn assertion(number: u32, crlf: bool) -> Result<Assertion, RowsError>
+    ensures number { IfOk result (λ a. number ≡ spec.assertion_number a) }
+    ensures crlf { IfOk result (λ a. HasCrlf crlf a) }
+{
     Ok(match number {
         ASSERTION_START_TEXT => Assertion::StartText,
         ASSERTION_END_TEXT => Assertion::EndText,
@@ -65,7 +86,9 @@ fn assertion(number: u32, crlf: bool) -> Result<Assertion, RowsError> {
 }
 
 /// The verb with this number.
-fn verb(number: u32) -> Result<BacktrackingControlVerb, RowsError> {
+fn verb(number: u32) -> Result<BacktrackingControlVerb, RowsError>
+    ensures { IfOk result (λ v. number ≡ spec.verb_number v) }
+{
     Ok(match number {
         VERB_FAIL => BacktrackingControlVerb::Fail,
         VERB_ACCEPT => BacktrackingControlVerb::Accept,
@@ -77,7 +100,9 @@ fn verb(number: u32) -> Result<BacktrackingControlVerb, RowsError> {
 }
 
 /// What an unresolved call names.
-fn target(alloc: Global, row: &Node, texts: &[u8]) -> Result<CaptureGroupTarget, RowsError> {
+fn target(alloc: Global, row: &Node, texts: &[u8]) -> Result<CaptureGroupTarget, RowsError>
+    ensures { IfOk result (λ t. HasTarget texts.now row.now (view_target t)) }
+{
     Ok(match row.which {
         TARGET_BY_NUMBER => CaptureGroupTarget::ByNumber(row.group),
         TARGET_BY_NAME => CaptureGroupTarget::ByName(text_of(alloc, row, texts)?),
@@ -87,7 +112,10 @@ fn target(alloc: Global, row: &Node, texts: &[u8]) -> Result<CaptureGroupTarget,
 }
 
 /// A node that refers to a group.
-fn reference(alloc: Global, row: &Node, texts: &[u8]) -> Result<Expr, RowsError> {
+fn reference(alloc: Global, row: &Node, texts: &[u8]) -> Result<Expr, RowsError>
+    ensures row { IfOk result (λ e. IsRowOf texts.now row.now (view e)) }
+    ensures alone { IfOk result (λ e. children (view e) ≡ []) }
+{
     let group = row.group;
     let casei = row.casei;
     Ok(match row.kind {
@@ -111,7 +139,10 @@ fn reference(alloc: Global, row: &Node, texts: &[u8]) -> Result<Expr, RowsError>
 }
 
 /// The node of a row that has no rows below it.
-pub(crate) fn leaf(alloc: Global, row: &Node, texts: &[u8]) -> Result<Expr, RowsError> {
+pub(crate) fn leaf(alloc: Global, row: &Node, texts: &[u8]) -> Result<Expr, RowsError>
+    ensures row { IfOk result (λ e. IsRowOf texts.now row.now (view e)) }
+    ensures alone { IfOk result (λ e. children (view e) ≡ []) }
+{
     let casei = row.casei;
     Ok(match row.kind {
         NODE_EMPTY => Expr::Empty,
@@ -138,6 +169,22 @@ pub(crate) fn leaf(alloc: Global, row: &Node, texts: &[u8]) -> Result<Expr, Rows
         NODE_CONTINUE_FROM_PREVIOUS_MATCH_END => Expr::ContinueFromPreviousMatchEnd,
         NODE_VERB => Expr::BacktrackingControlVerb(verb(row.which)?),
         NODE_ABSENT if row.which == ABSENT_CLEAR => Expr::Absent(Absent::Clear),
-        _ => reference(alloc, row, texts)?,
+        NODE_BACKREF
+        | NODE_BACKREF_AT_LEVEL
+        | NODE_BACKREF_EXISTS_CONDITION
+        | NODE_SUBROUTINE_CALL
+        | NODE_AST_NODE => reference(alloc, row, texts)?,
+        // these have children
+        NODE_CONCAT
+        | NODE_ALT
+        | NODE_GROUP
+        | NODE_LOOK_AROUND
+        | NODE_REPEAT
+        | NODE_ATOMIC_GROUP
+        | NODE_CONDITIONAL
+        | NODE_ABSENT
+        | NODE_DEFINE_GROUP => return Err(RowsError::NoTree),
+        // no node has such a number
+        _ => return Err(RowsError::NoTree),
     })
 }

@@ -7,7 +7,7 @@ ghost use Rattle.fancy_c.specs.Buffer.{put_at};
 ghost use Rattle.fancy_c.specs.Node as spec;
 ghost use Rattle.fancy_c.specs.Node.{listed, listed_each, rows, span_at, texts};
 
-use crate::node::{Location, Node, carried};
+use crate::node::{Node, NodeLocation, carried};
 use fancy_syntax::expr::Expr;
 use fancy_syntax::span::Span;
 
@@ -88,7 +88,7 @@ pub(crate) fn put_tree(
         text: put_text(bytes, before.text, text),
     };
     let after = put_children(nodes, bytes, tree, spans, first);
-    let location = Location {
+    let location = NodeLocation {
         end: after.rows,
         text: start_of_text(before.text, text),
         span: span_at(spans, before.rows),

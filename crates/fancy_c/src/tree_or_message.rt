@@ -9,7 +9,7 @@ ghost use Rattle.fancy_syntax.specs.View.{view};
 ghost use Rattle.fancy_syntax.specs.declared.span.Span.{Span};
 ghost use Rattle.fancy_c.specs.Buffer.{Fills};
 ghost use Rattle.fancy_c.specs.CallResult.{IsReported, IsTreeOfBytes, IsErrorOfBytes, IsNoUtf8, IsRefusalOf};
-ghost use Rattle.fancy_c.specs.InfoRows.{AreWritten, AreSpansAsked, IsSummaryOf};
+ghost use Rattle.fancy_c.specs.InfoRows.{AreEnough, AreWritten, AreSpansAsked, IsSummaryOf};
 ghost use Rattle.fancy_c.specs.Node.{span_at};
 
 use crate::call_result::{
@@ -68,6 +68,9 @@ pub extern "C" fn fancy_tree_nonnull(
         (t : Tree) × (m : GroupInfo) × IsSummaryOf info.new (flags_of flags) pattern.now t m
         × ((length nodes.old < info.new.node_count) ⊎ ((length texts.old < info.new.texts_size)
         ⊎ ((length names.old < info.new.name_count) ⊎ (length backrefs.old < info.new.backref_count)))) }
+    ensures enough { AreEnough (length pattern.now) (length nodes.old) (length texts.old) (length names.old)
+        (length backrefs.old) →
+        result.status ≡ STATUS_BUFFER_TOO_SHORT → result.kind ≢ ERROR_NONE }
     ensures short_message { result.status ≡ STATUS_BUFFER_TOO_SHORT → result.kind ≢ ERROR_NONE →
         (k : Kind) × IsReported result result.position k
         × IsErrorOfBytes (flags_of flags) pattern.now k result.position × (length texts.old < result.size) }
