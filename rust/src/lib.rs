@@ -35,6 +35,7 @@ mod ffi;
 mod flags;
 mod node;
 mod numbers;
+mod owned;
 mod rows;
 mod tree;
 mod written;
@@ -68,7 +69,7 @@ use rows::with_kept;
 pub fn parse(pattern: &str, flags: Flags) -> Result<Tree, Error> {
     with_kept(|rows| {
         let expr = rows.parse_expr(pattern, flags.bits())?;
-        Ok(Tree { expr, spans: rows.root().walk().map(NodeRef::span).collect(), groups: rows.groups() })
+        Ok(Tree { expr, spans: rows.checked_spans(pattern)?, groups: rows.groups() })
     })
 }
 

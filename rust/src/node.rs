@@ -1,8 +1,9 @@
 //! The nodes of a tree, seen in the rows that the library wrote.
 
 use crate::ffi::Node;
+use crate::rows::MAX_LEVELS;
 use crate::written::{pattern_of_rows, print_rows};
-use crate::{numbers, Absent, Assertion, AstNode, BacktrackingControlVerb, CaptureGroupTarget};
+use crate::{numbers, Assertion, BacktrackingControlVerb, CaptureGroupTarget};
 use crate::{Error, Expr, Flags, LookAround, Precedence, Rows, Span};
 use std::fmt;
 
@@ -70,13 +71,13 @@ pub enum Kind<'a> {
 /// Which absent form a node is, without its children.
 #[derive(Debug, Clone, Copy, PartialEq, Eq)]
 pub enum AbsentKind {
-    /// As [`Absent::Repeater`], with one child.
+    /// As [`Absent::Repeater`](crate::Absent::Repeater), with one child.
     Repeater,
-    /// As [`Absent::Expression`], with two children.
+    /// As [`Absent::Expression`](crate::Absent::Expression), with two children.
     Expression,
-    /// As [`Absent::Stopper`], with one child.
+    /// As [`Absent::Stopper`](crate::Absent::Stopper), with one child.
     Stopper,
-    /// As [`Absent::Clear`].
+    /// As [`Absent::Clear`](crate::Absent::Clear).
     Clear,
 }
 
@@ -118,7 +119,7 @@ impl<'a> NodeRef<'a> {
     /// ```
     pub fn kind(self) -> Kind<'a> {
         // every row was read once when the pattern was parsed
-        Kind::read(self.row(), self.rows.texts()).unwrap_or(Kind::Empty)
+        Kind::read(self.row(), Texts::unread(self.rows.texts())).unwrap_or(Kind::Empty)
     }
 
     /// The part of the pattern that the node was parsed from.
@@ -226,7 +227,7 @@ impl<'a> NodeRef<'a> {
     }
 
     /// Writes a pattern that is parsed, under these flags, as the node and its descendants, with the names of the groups among
-    /// them; `None` if there is none. References keep their numbers.
+    /// them; `None` if no pattern is parsed as these. References keep their numbers.
     ///
     /// # Errors
     ///
@@ -255,25 +256,10 @@ impl<'a> NodeRef<'a> {
     /// # Ok::<(), fancy_syntax::Error>(())
     /// ```
     pub fn to_expr(self) -> Expr {
-        // backwards, so that the children of a node are built before it: they are the last ones, the first child at the end
-        let mut built = Vec::new();
-        for node in self.walk().rev() {
-            let expr = node.kind().with_children(node.children().count(), &mut built);
-            built.push(expr);
-        }
-        built.pop().unwrap_or(Expr::Empty)
+        // every row was read once when the pattern was parsed
+        let mut builder = self.rows.builder_at(self.index);
+        builder.tree(MAX_LEVELS).unwrap_or(Expr::Empty)
     }
-}
-
-/// The last nodes that were built, so many, the last of them first.
-fn last(count: usize, built: &mut Vec<Expr>) -> Vec<Expr> {
-    let first = built.len().saturating_sub(count);
-    built.drain(first..).rev().collect()
-}
-
-/// The next child of a node among the nodes that were built. There is one: the rows were counted when they were parsed.
-fn child(built: &mut Vec<Expr>) -> Box<Expr> {
-    Box::new(built.pop().unwrap_or(Expr::Empty))
 }
 
 impl fmt::Debug for NodeRef<'_> {
@@ -305,19 +291,10 @@ impl AbsentKind {
             _ => return None,
         })
     }
-
-    fn with_children(self, built: &mut Vec<Expr>) -> Absent {
-        match self {
-            AbsentKind::Repeater => Absent::Repeater(child(built)),
-            AbsentKind::Expression => Absent::Expression { absent: child(built), exp: child(built) },
-            AbsentKind::Stopper => Absent::Stopper(child(built)),
-            AbsentKind::Clear => Absent::Clear,
-        }
-    }
 }
 
 impl CallTarget<'_> {
-    fn to_owned(self) -> CaptureGroupTarget {
+    pub(crate) fn to_owned(self) -> CaptureGroupTarget {
         match self {
             CallTarget::ByNumber(group) => CaptureGroupTarget::ByNumber(group),
             CallTarget::ByName(name) => CaptureGroupTarget::ByName(name.to_owned()),
@@ -328,7 +305,8 @@ impl CallTarget<'_> {
 
 impl<'a> Kind<'a> {
     /// What a row is; `None` if it is not one that `fancy.h` allows, or its text is not UTF-8.
-    pub(crate) fn read(row: &Node, texts: &'a [u8]) -> Option<Kind<'a>> {
+    #[inline(always)]
+    pub(crate) fn read(row: &Node, texts: Texts<'a>) -> Option<Kind<'a>> {
         let crlf = row.crlf != 0;
         let casei = row.casei != 0;
         let group = row.group;
@@ -337,14 +315,14 @@ impl<'a> Kind<'a> {
             numbers::NODE_ANY => Kind::Any { newline: row.newline != 0, crlf },
             numbers::NODE_ASSERTION => Kind::Assertion(assertion(row.which, crlf)?),
             numbers::NODE_GENERAL_NEWLINE => Kind::GeneralNewline { unicode: row.unicode != 0 },
-            numbers::NODE_LITERAL => Kind::Literal { val: text(row, texts)?, casei },
-            numbers::NODE_LITERAL_BYTES => Kind::LiteralBytes { bytes: bytes(texts, row.text, row.text_size)? },
+            numbers::NODE_LITERAL => Kind::Literal { val: texts.text(row)?, casei },
+            numbers::NODE_LITERAL_BYTES => Kind::LiteralBytes { bytes: texts.bytes(row)? },
             numbers::NODE_CONCAT => Kind::Concat,
             numbers::NODE_ALT => Kind::Alt,
             numbers::NODE_GROUP => Kind::Group,
             numbers::NODE_LOOK_AROUND => Kind::LookAround(look_around(row.which)?),
             numbers::NODE_REPEAT => Kind::Repeat { lo: row.lo, hi: row.hi, greedy: row.greedy != 0 },
-            numbers::NODE_DELEGATE => Kind::Delegate { inner: text(row, texts)?, casei },
+            numbers::NODE_DELEGATE => Kind::Delegate { inner: texts.text(row)?, casei },
             numbers::NODE_BACKREF => Kind::Backref { group, casei },
             numbers::NODE_BACKREF_AT_LEVEL => {
                 let relative_level = row.level;
@@ -365,42 +343,6 @@ impl<'a> Kind<'a> {
             numbers::NODE_AST_NODE => Kind::AstNode(call_target(row, texts)?, row.position),
             _ => return None,
         })
-    }
-
-    /// The node with its children, which are the last ones that were built, the first of them at the end.
-    pub(crate) fn with_children(self, children: usize, built: &mut Vec<Expr>) -> Expr {
-        match self {
-            Kind::Empty => Expr::Empty,
-            Kind::Any { newline, crlf } => Expr::Any { newline, crlf },
-            Kind::Assertion(which) => Expr::Assertion(which),
-            Kind::GeneralNewline { unicode } => Expr::GeneralNewline { unicode },
-            Kind::Literal { val, casei } => Expr::Literal { val: val.to_owned(), casei },
-            Kind::LiteralBytes { bytes } => Expr::LiteralBytes { bytes: bytes.to_owned() },
-            Kind::Concat => Expr::Concat(last(children, built)),
-            Kind::Alt => Expr::Alt(last(children, built)),
-            Kind::Group => Expr::Group(child(built)),
-            Kind::LookAround(which) => Expr::LookAround(child(built), which),
-            Kind::Repeat { lo, hi, greedy } => Expr::Repeat { child: child(built), lo, hi, greedy },
-            Kind::Delegate { inner, casei } => Expr::Delegate { inner: inner.to_owned(), casei },
-            Kind::Backref { group, casei } => Expr::Backref { group, casei },
-            Kind::BackrefWithRelativeRecursionLevel { group, relative_level, casei } => {
-                Expr::BackrefWithRelativeRecursionLevel { group, relative_level, casei }
-            }
-            Kind::AtomicGroup => Expr::AtomicGroup(child(built)),
-            Kind::KeepOut => Expr::KeepOut,
-            Kind::ContinueFromPreviousMatchEnd => Expr::ContinueFromPreviousMatchEnd,
-            Kind::BackrefExistsCondition { group, relative_recursion_level } => {
-                Expr::BackrefExistsCondition { group, relative_recursion_level }
-            }
-            Kind::Conditional => {
-                Expr::Conditional { condition: child(built), true_branch: child(built), false_branch: child(built) }
-            }
-            Kind::SubroutineCall(group) => Expr::SubroutineCall(group),
-            Kind::BacktrackingControlVerb(which) => Expr::BacktrackingControlVerb(which),
-            Kind::Absent(which) => Expr::Absent(which.with_children(built)),
-            Kind::DefineGroup => Expr::DefineGroup { definitions: child(built) },
-            Kind::AstNode(target, position) => Expr::AstNode(AstNode::SubroutineCall(target.to_owned()), position),
-        }
     }
 
     /// Whether a node of this kind may have so many children.
@@ -425,14 +367,41 @@ pub(crate) fn bytes(texts: &[u8], start: usize, size: usize) -> Option<&[u8]> {
     texts.get(start..start.checked_add(size)?)
 }
 
-fn text<'a>(row: &Node, texts: &'a [u8]) -> Option<&'a str> {
-    std::str::from_utf8(bytes(texts, row.text, row.text_size)?).ok()
+/// The buffer of texts, which is looked through once if it is UTF-8, as it is without a [`Kind::LiteralBytes`].
+#[derive(Clone, Copy)]
+pub(crate) struct Texts<'a> {
+    bytes: &'a [u8],
+    text: Option<&'a str>,
 }
 
-fn call_target<'a>(row: &Node, texts: &'a [u8]) -> Option<CallTarget<'a>> {
+impl<'a> Texts<'a> {
+    /// For all nodes.
+    pub(crate) fn of(bytes: &'a [u8]) -> Texts<'a> {
+        Texts { bytes, text: std::str::from_utf8(bytes).ok() }
+    }
+
+    /// For one node.
+    pub(crate) fn unread(bytes: &'a [u8]) -> Texts<'a> {
+        Texts { bytes, text: None }
+    }
+
+    fn bytes(self, row: &Node) -> Option<&'a [u8]> {
+        bytes(self.bytes, row.text, row.text_size)
+    }
+
+    #[inline(always)]
+    fn text(self, row: &Node) -> Option<&'a str> {
+        match self.text {
+            Some(text) => text.get(row.text..row.text.checked_add(row.text_size)?),
+            None => std::str::from_utf8(self.bytes(row)?).ok(),
+        }
+    }
+}
+
+fn call_target<'a>(row: &Node, texts: Texts<'a>) -> Option<CallTarget<'a>> {
     Some(match row.which {
         numbers::TARGET_BY_NUMBER => CallTarget::ByNumber(row.group),
-        numbers::TARGET_BY_NAME => CallTarget::ByName(text(row, texts)?),
+        numbers::TARGET_BY_NAME => CallTarget::ByName(texts.text(row)?),
         numbers::TARGET_RELATIVE => CallTarget::Relative(row.level),
         _ => return None,
     })

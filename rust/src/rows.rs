@@ -2,13 +2,15 @@
 
 use crate::call::{grow, ready, RowsIn};
 use crate::ffi::{self, CallResult, Info, Name, Node};
-use crate::node::{self, Kind, NodeRef};
-use crate::{numbers, Error, Expr, Flags, GroupInfo, Tree};
+use crate::node::{self, Kind, NodeRef, Texts};
+use crate::owned::Builder;
+use crate::{numbers, Error, Expr, Flags, GroupInfo, Span, Tree};
 use std::cell::Cell;
+use std::collections::BTreeMap;
 use std::fmt;
 
 /// A tree has at most so many levels (`docs/proved.md`).
-const MAX_LEVELS: usize = 832;
+pub(crate) const MAX_LEVELS: usize = 832;
 
 /// The tree of one pattern, as the library writes it: a row for each node, in buffers that the next pattern uses again.
 ///
@@ -32,6 +34,8 @@ pub struct Rows {
     names: Vec<Name>,
     backrefs: Vec<usize>,
     info: Info,
+    /// The buffers are long enough for patterns with fewer bytes than this, as long as the header says or nearly so.
+    enough_below: usize,
     /// How many levels each node has below it, while rows are checked.
     levels: Vec<usize>,
 }
@@ -42,7 +46,7 @@ const MOST_KEPT: usize = 2048;
 /// Calls with buffers that this thread used before, if there are any.
 pub(crate) fn with_kept<T>(call: impl FnOnce(&mut Rows) -> T) -> T {
     thread_local! {
-        static KEPT: Cell<Option<Rows>> = const { Cell::new(None) };
+        static KEPT: Cell<Option<Box<Rows>>> = const { Cell::new(None) };
     }
     let mut rows = KEPT.try_with(Cell::take).ok().flatten().unwrap_or_default();
     let result = call(&mut rows);
@@ -73,6 +77,7 @@ impl Rows {
             names: Vec::new(),
             backrefs: Vec::new(),
             info: Info::default(),
+            enough_below: 0,
             levels: Vec::new(),
         };
         rows.clear();
@@ -118,29 +123,39 @@ impl Rows {
     }
 
     fn parse_bits(&mut self, pattern: &str, bits: u32) -> Result<&Rows, Error> {
-        let outcome = self.fill(pattern, bits).and_then(|()| self.check(pattern, |_, _| ()));
+        let outcome = self.fill(pattern, bits).and_then(|()| self.check(pattern));
         if outcome.is_err() {
             self.clear();
         }
         outcome.map(|()| &*self)
     }
 
-    /// Parses a pattern, and builds its tree while the rows are checked.
+    /// Parses a pattern, and builds its tree, by which the rows are checked, but not their spans.
     pub(crate) fn parse_expr(&mut self, pattern: &str, bits: u32) -> Result<Expr, Error> {
-        let mut built = Vec::new();
-        let build = |kind: Kind<'_>, children| {
-            let node = kind.with_children(children, &mut built);
-            built.push(node);
-        };
-        let outcome = self.fill(pattern, bits).and_then(|()| self.check(pattern, build));
+        let outcome = self.fill(pattern, bits).and_then(|()| self.built());
         if outcome.is_err() {
             self.clear();
         }
-        outcome.map(|()| built.pop().unwrap_or(Expr::Empty))
+        outcome
     }
 
-    /// Writes a pattern that is parsed, under these flags, as this tree with its names. `None` if there is none, as may be under
-    /// other flags than those that the tree was parsed under. [`NodeRef::to_pattern`] does this for a part of the tree.
+    fn built(&self) -> Result<Expr, Error> {
+        self.check_buffers()?;
+        let expr = self.builder_at(0).tree(MAX_LEVELS);
+        expr.ok_or(Error::Library("nodes that are no tree, or a text that is not UTF-8"))
+    }
+
+    /// The spans of the nodes, if each is a part of the pattern.
+    pub(crate) fn checked_spans(&self, pattern: &str) -> Result<Vec<Span>, Error> {
+        self.nodes[..self.info.node_count].iter().map(|row| checked_span(row, pattern)).collect()
+    }
+
+    pub(crate) fn builder_at(&self, index: usize) -> Builder<'_> {
+        Builder::at(&self.nodes[..self.info.node_count], self.texts(), index)
+    }
+
+    /// Writes a pattern that is parsed, under these flags, as this tree with its names; `None` if no pattern is, which can
+    /// happen under other flags than those of the parse. [`NodeRef::to_pattern`] does this for a part of the tree.
     ///
     /// # Errors
     ///
@@ -220,7 +235,8 @@ impl Rows {
     /// ```
     pub fn groups(&self) -> GroupInfo {
         let info = &self.info;
-        let mut groups = GroupInfo {
+        GroupInfo {
+            named_groups: self.named_groups(),
             backrefs: self.backrefs().iter().copied().collect(),
             total_groups: info.total_groups,
             out_of_range_backref: (info.has_out_of_range_backref != 0).then_some(info.out_of_range_backref),
@@ -228,15 +244,18 @@ impl Rows {
             contains_subroutines: info.contains_subroutines != 0,
             self_recursive: info.self_recursive != 0,
             numbered_groups_ignored: info.numbered_groups_ignored != 0,
-            ..GroupInfo::default()
-        };
+        }
+    }
+
+    fn named_groups(&self) -> BTreeMap<String, Vec<usize>> {
+        let mut named: BTreeMap<String, Vec<usize>> = BTreeMap::new();
         for (name, group) in self.names() {
-            match groups.named_groups.get_mut(name) {
+            match named.get_mut(name) {
                 Some(numbers) => numbers.push(group),
-                None => drop(groups.named_groups.insert(name.to_owned(), vec![group])),
+                None => drop(named.insert(name.to_owned(), vec![group])),
             }
         }
-        groups
+        named
     }
 
     /// The tree with its spans and group information, in memory of its own.
@@ -287,12 +306,15 @@ impl Rows {
     /// Lets the library write, into buffers as long as the header says that they have to be, or as long as a pattern needs that
     /// spells names and references as shortly as it can. If a buffer is too short all the same, the library says what it needs.
     fn fill(&mut self, pattern: &str, bits: u32) -> Result<(), Error> {
-        ready()?;
         let length = pattern.len();
-        grow(&mut self.nodes, length.saturating_mul(2).saturating_add(1))?;
-        grow(&mut self.texts, length.saturating_mul(6).saturating_add(128))?;
-        grow(&mut self.names, length / 4 + 1)?;
-        grow(&mut self.backrefs, length / 2 + 1)?;
+        if length >= self.enough_below {
+            ready()?;
+            grow(&mut self.nodes, length.saturating_mul(2).saturating_add(1))?;
+            grow(&mut self.texts, length.saturating_mul(6).saturating_add(128))?;
+            grow(&mut self.names, length / 4 + 1)?;
+            grow(&mut self.backrefs, length / 2 + 1)?;
+            self.enough_below = length.saturating_add(1);
+        }
         let mut result = self.call(pattern, bits);
         if result.status == numbers::STATUS_BUFFER_TOO_SHORT {
             self.check_sizes(length)?;
@@ -311,14 +333,15 @@ impl Rows {
         ffi::tree(pattern, bits, nodes, texts, names, backrefs, info)
     }
 
-    /// Checks the sizes of a tree, so that those of no tree are never allocated. A pattern of n bytes has at most 2 n + 1 nodes
-    /// and back references. For the rest there is no proved bound; no pattern is known that needs more than 6 n bytes of texts or
-    /// n / 6 names.
+    /// Checks the sizes of a tree, so that those of no tree are never allocated. It is proved that a pattern of n bytes has at most
+    /// 2 n + 1 nodes and back references, 6 n bytes of texts and n rows of names.
     fn check_sizes(&self, length: usize) -> Result<(), Error> {
         let info = &self.info;
-        let bound = length.saturating_mul(64).saturating_add(64);
-        if info.node_count > length.saturating_mul(2).saturating_add(1)
-            || [info.texts_size, info.name_count, info.backref_count].iter().any(|size| *size > bound)
+        let nodes = length.saturating_mul(2).saturating_add(1);
+        if info.node_count > nodes
+            || info.backref_count > nodes
+            || info.texts_size > length.saturating_mul(6)
+            || info.name_count > length
         {
             return Err(Error::Library("a tree that is larger than any"));
         }
@@ -337,9 +360,8 @@ impl Rows {
         grow(&mut self.backrefs, info.backref_count)
     }
 
-    /// Checks that what the library wrote is a tree, so that nobody who looks at it later has to, and shows each node with the
-    /// number of its children, from the last to the first.
-    fn check(&mut self, pattern: &str, mut see: impl FnMut(Kind<'_>, usize)) -> Result<(), Error> {
+    /// Checks that the sizes of a tree are within the buffers, its root is the first row, and its names are texts.
+    fn check_buffers(&self) -> Result<(), Error> {
         let info = &self.info;
         if info.node_count > self.nodes.len()
             || info.texts_size > self.texts.len()
@@ -351,25 +373,28 @@ impl Rows {
         if info.node_count == 0 || self.node(0).end != info.node_count {
             return Err(Error::Library("a node that is in no tree"));
         }
-        let mut levels = std::mem::take(&mut self.levels);
-        grow(&mut levels, self.info.node_count)?;
-        for index in (0..self.info.node_count).rev() {
-            let (kind, children) = self.checked_node(index, pattern, &mut levels)?;
-            see(kind, children);
-        }
-        self.levels = levels;
-        if self.names[..self.info.name_count].iter().any(|name| self.name(name).is_none()) {
+        if self.names[..info.name_count].iter().any(|name| self.name(name).is_none()) {
             return Err(Error::Library("a name that is not UTF-8"));
         }
         Ok(())
     }
 
-    /// Checks a node, after those with higher indices: so the ends of its descendants lie after them. Returns what it is, and the
-    /// number of its children.
-    fn checked_node(&self, index: usize, pattern: &str, below: &mut [usize]) -> Result<(Kind<'_>, usize), Error> {
+    /// Checks that what the library wrote is a tree, so that nobody who looks at it later has to.
+    fn check(&mut self, pattern: &str) -> Result<(), Error> {
+        self.check_buffers()?;
+        let mut levels = std::mem::take(&mut self.levels);
+        grow(&mut levels, self.info.node_count)?;
+        let texts = Texts::of(self.texts());
+        let checked = (0..self.info.node_count).rev().try_for_each(|i| self.check_node(i, texts, pattern, &mut levels));
+        self.levels = levels;
+        checked
+    }
+
+    /// Checks a node, after those with higher indices: so the ends of its descendants lie after them.
+    fn check_node(&self, index: usize, texts: Texts<'_>, pattern: &str, below: &mut [usize]) -> Result<(), Error> {
         let row = &self.nodes[index];
-        let kind = Kind::read(row, self.texts())
-            .ok_or(Error::Library("a node of no kind, or with a text that is not UTF-8"))?;
+        let kind =
+            Kind::read(row, texts).ok_or(Error::Library("a node of no kind, or with a text that is not UTF-8"))?;
         let (mut children, mut levels, mut child) = (0, 0, index + 1);
         while child < row.end.min(self.info.node_count) {
             children += 1;
@@ -379,11 +404,16 @@ impl Rows {
         if child != row.end || !kind.takes(children) || levels >= MAX_LEVELS {
             return Err(Error::Library("nodes that are no tree"));
         }
-        if row.start > row.stop || !pattern.is_char_boundary(row.start) || !pattern.is_char_boundary(row.stop) {
-            return Err(Error::Library("a span that is no part of the pattern"));
-        }
         below[index] = levels + 1;
-        Ok((kind, children))
+        checked_span(row, pattern).map(drop)
+    }
+}
+
+/// The span of a node, if it is a part of the pattern.
+fn checked_span(row: &Node, pattern: &str) -> Result<Span, Error> {
+    match pattern.get(row.start..row.stop) {
+        Some(_) => Ok(row.start..row.stop),
+        None => Err(Error::Library("a span that is no part of the pattern")),
     }
 }
 

@@ -64,8 +64,8 @@ impl Tree {
 
     /// Each node with its span, in preorder: each node before its children, and these in the order of the pattern.
     ///
-    /// After a change of `expr` the spans are still those of the parsed nodes, one after another; nodes for which there is none
-    /// have the span `0..0`.
+    /// After a change of `expr` the spans are still those of the parsed nodes, one after another. If there are more nodes than
+    /// spans, each of the last ones has the span `0..0`.
     ///
     /// ```
     /// use fancy_syntax::{parse, Expr, Flags};
