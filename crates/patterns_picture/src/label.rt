@@ -1,8 +1,11 @@
 //! The words on the boxes.
+use fancy_spans::SpannedTree;
 use fancy_syntax::expr::Expr;
+use patterns_text::columns::ColumnTable;
 use patterns_text::names::Names;
+use patterns_text::nodes::nodes_of;
 use patterns_text::words::{Held, is_reference, write_reference};
-use std::alloc::Global;
+use std::alloc::{AllocError, Global};
 use std::io::Write;
 use std::{io, str};
 
@@ -10,7 +13,7 @@ use std::{io, str};
 #[derive(Drop)]
 pub(crate) struct Words<'a> {
     names: Names<'a>,
-    pattern: &'a str,
+    columns: ColumnTable,
     /// Those of one node.
     buffer: Vec<u8>,
 }
@@ -47,6 +50,15 @@ fn shortened(words: &str) -> &str {
     words.split_once(", ").map_or(words, |parts| parts.0)
 }
 
+/// The words of a node, shortened if it is a leaf.
+fn shortened_leaf<'w>(node: &Expr, words: &'w str) -> &'w str {
+    if node.is_leaf_node() {
+        shortened(words)
+    } else {
+        words
+    }
+}
+
 /// How often a node is repeated. That it is greedy is left out, and so is what the rail past an optional one shows.
 fn of_repeat(words: &str) -> &str {
     let words = words.strip_prefix("repeat ").unwrap_or(words);
@@ -58,19 +70,25 @@ fn of_repeat(words: &str) -> &str {
 }
 
 impl<'a> Words<'a> {
-    pub(crate) fn new(alloc: Global, names: Names<'a>, pattern: &'a str) -> Words<'a> {
-        Words {
-            names,
-            pattern,
+    /// Those of the nodes of the pattern's tree.
+    pub(crate) fn new(
+        alloc: Global,
+        pattern: &str,
+        parsed: &'a SpannedTree,
+    ) -> Result<Words<'a>, AllocError> {
+        let nodes = nodes_of(alloc, parsed)?;
+        Ok(Words {
+            names: Names::of(alloc, &parsed.tree)?,
+            columns: ColumnTable::of(alloc, pattern, &nodes)?,
             buffer: Vec::new(alloc),
-        }
+        })
     }
 
     /// Writes what the node is. The number is that of the last group that has opened.
     fn write(&mut self, node: &Expr, groups: usize) -> io::Result<()> {
         self.buffer.clear();
         if is_reference(node) {
-            return write_reference(&mut self.buffer, node, &self.names, self.pattern);
+            return write_reference(&mut self.buffer, node, &self.names, &self.columns);
         }
         match node {
             Expr::Group(_) => write!(self.buffer, "{}", self.names.group(groups)),
@@ -113,8 +131,23 @@ impl<'a> Words<'a> {
             Expr::Any { newline, crlf } => Ok(any_words(*newline, *crlf)),
             Expr::Delegate { inner, .. } => Ok(class_words(inner.as_str())),
             Expr::Repeat { .. } => Ok(of_repeat(self.of(node, groups)?)),
-            _ if node.is_leaf_node() => Ok(shortened(self.of(node, groups)?)),
-            _ => self.of(node, groups),
+            Expr::Assertion(_)
+            | Expr::GeneralNewline { .. }
+            | Expr::LiteralBytes { .. }
+            | Expr::Group(_)
+            | Expr::LookAround(..)
+            | Expr::Backref { .. }
+            | Expr::BackrefWithRelativeRecursionLevel { .. }
+            | Expr::AtomicGroup(_)
+            | Expr::KeepOut
+            | Expr::ContinueFromPreviousMatchEnd
+            | Expr::BackrefExistsCondition { .. }
+            | Expr::Conditional { .. }
+            | Expr::SubroutineCall(_)
+            | Expr::BacktrackingControlVerb(_)
+            | Expr::Absent(_)
+            | Expr::DefineGroup { .. }
+            | Expr::AstNode(..) => Ok(shortened_leaf(node, self.of(node, groups)?)),
         }
     }
 }

@@ -51,10 +51,13 @@ impl Drawn<'_> {
 
     /// The text in its box, where it has one.
     pub(crate) fn text<'t>(&'t self, pattern: &'t str) -> &'t str {
-        match self.node {
-            Expr::Literal { val, .. } if val.as_str() == " " => "\u{2423}",
-            Expr::Literal { val, .. } => val.as_str(),
-            _ => pattern.get(self.span.start..self.span.end).unwrap_or(""),
+        let Expr::Literal { val, .. } = self.node else {
+            return self.span.text(pattern).unwrap_or("");
+        };
+        if val.as_str() == " " {
+            "\u{2423}"
+        } else {
+            val.as_str()
         }
     }
 

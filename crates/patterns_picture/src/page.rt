@@ -4,6 +4,7 @@ use crate::text::{Xml, XmlLines};
 use fancy_spans::{SpannedNode, SpannedTree};
 use fancy_syntax::expr::Expr;
 use fancy_syntax::span::Span;
+use patterns_text::columns::ColumnTable;
 use patterns_text::drawing::{Look, Style, write_tree};
 use patterns_text::error::RunError;
 use patterns_text::listing::{Lead, write_references};
@@ -80,8 +81,9 @@ fn write_groups_and_references<O: Write>(
     if parsed.tree.total_groups > 0 {
         write_groups(out, pattern, &nodes, &names)?;
     }
+    let columns = ColumnTable::of(alloc, pattern, &nodes)?;
     let mut text = Vec::new(alloc);
-    write_references(&mut text, Lead::Indent, pattern, &nodes, &names)?;
+    write_references(&mut text, Lead::Indent, &columns, &nodes, &names)?;
     if !text.is_empty() {
         write_section(out, "References", &text)?;
     }
@@ -98,6 +100,7 @@ fn write_drawn_tree<O: Write>(
         style: Style::Lines,
         has_spans: false,
         has_each_literal: false,
+        has_classes: false,
     };
     let mut text = Vec::new(subject.alloc);
     write_tree(subject, look, parsed, &mut text)?;

@@ -12,7 +12,6 @@ use fancy_syntax::expr::Expr;
 use fancy_syntax::span::Span;
 use patterns_text::drawing::role;
 use patterns_text::error::RunError;
-use patterns_text::names::Names;
 use patterns_text::subject::Subject;
 use std::io;
 use std::io::Write;
@@ -67,7 +66,26 @@ fn referred(node: &Expr) -> Option<usize> {
         | Expr::BackrefWithRelativeRecursionLevel { group, .. }
         | Expr::BackrefExistsCondition { group, .. }
         | Expr::SubroutineCall(group) => Some(*group),
-        _ => None,
+        Expr::Empty
+        | Expr::Any { .. }
+        | Expr::Assertion(_)
+        | Expr::GeneralNewline { .. }
+        | Expr::Literal { .. }
+        | Expr::LiteralBytes { .. }
+        | Expr::Concat(_)
+        | Expr::Alt(_)
+        | Expr::Group(_)
+        | Expr::LookAround(..)
+        | Expr::Repeat { .. }
+        | Expr::Delegate { .. }
+        | Expr::AtomicGroup(_)
+        | Expr::KeepOut
+        | Expr::ContinueFromPreviousMatchEnd
+        | Expr::Conditional { .. }
+        | Expr::BacktrackingControlVerb(_)
+        | Expr::Absent(_)
+        | Expr::DefineGroup { .. }
+        | Expr::AstNode(..) => None,
     }
 }
 
@@ -281,7 +299,7 @@ impl<'a> Picture<'a> {
         width: usize,
     ) -> Result<Picture<'a>, RunError> {
         let Subject { alloc, pattern, .. } = subject;
-        let mut words = Words::new(alloc, Names::of(alloc, &parsed.tree)?, pattern);
+        let mut words = Words::new(alloc, pattern, parsed)?;
         let left = MARGIN + SIDE;
         let inside = narrowed(width, 2 * left);
         let layout = Layout::of(subject, &mut words, parsed, (left, MARGIN), inside)?;

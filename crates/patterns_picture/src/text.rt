@@ -1,4 +1,5 @@
 //! Texts as they are shown in a picture.
+use patterns_text::shown::is_hidden;
 use std::fmt;
 use unicode_width::UnicodeWidthChar;
 
@@ -10,24 +11,6 @@ enum Appearance {
     Escape(&'static str),
     /// By its code.
     Code(u32),
-}
-
-/// Whether a character has no shape of its own, changes the direction of the text, or may not be in XML.
-fn is_hidden(c: char) -> bool {
-    c.is_control()
-        || matches!(
-            c,
-            '\u{AD}'
-                | '\u{61C}'
-                | '\u{180E}'
-                | '\u{200B}'..='\u{200F}'
-                | '\u{2028}'..='\u{202E}'
-                | '\u{2060}'..='\u{206F}'
-                | '\u{FEFF}'
-                | '\u{FFF9}'..='\u{FFFB}'
-                | '\u{FFFE}'..='\u{FFFF}'
-                | '\u{E0000}'..='\u{E007F}'
-        )
 }
 
 impl Appearance {

@@ -1,13 +1,18 @@
 //! A pattern's tree, drawn with branches.
+use crate::class_words::ClassWords;
+use crate::columns::ColumnTable;
 use crate::error::RunError;
 use crate::group_info::write_group_info;
 use crate::names::Names;
+use crate::nodes::nodes_of;
 use crate::subject::Subject;
 use crate::words::{Held, LiteralWords, Visible, is_reference, write_reference};
+use class_meaning::characters_of;
+use fancy_lex::flags::Flags;
 use fancy_spans::{SpannedNode, SpannedTree};
 use fancy_syntax::expr::{Absent, Expr};
 use fancy_syntax::span::Span;
-use std::alloc::AllocError;
+use std::alloc::{AllocError, Global};
 use std::io::Write;
 use std::{fmt, io};
 
@@ -28,6 +33,8 @@ pub struct Look {
     pub has_spans: bool,
     /// Whether each literal has a line of its own. Otherwise adjacent literals of a concatenation have one together.
     pub has_each_literal: bool,
+    /// Whether what a class contains is written after it.
+    pub has_classes: bool,
 }
 
 /// What is before a node: for each level from the first whether the node that it runs through is the last there.
@@ -116,9 +123,12 @@ fn is_run(node: &Expr) -> bool {
 /// A tree that is being drawn.
 #[derive(Drop)]
 struct Drawing<'a> {
+    alloc: Global,
+    flags: Flags,
     look: Look,
     pattern: &'a str,
     names: Names<'a>,
+    columns: ColumnTable,
     /// How many groups are drawn.
     groups: usize,
     lasts: Vec<bool>,
@@ -130,13 +140,25 @@ impl Drawing<'_> {
     /// Writes what the node is.
     fn write_label<O: Write>(&mut self, out: &mut O, node: &Expr) -> io::Result<()> {
         if is_reference(node) {
-            return write_reference(out, node, &self.names, self.pattern);
+            return write_reference(out, node, &self.names, &self.columns);
         }
         if let Expr::Group(_) = node {
             self.groups = self.groups.saturating_add(1);
             return write!(out, "{}", self.names.group(self.groups));
         }
         write!(out, "{}", Held(node))
+    }
+
+    /// Writes what the node contains, if it is a class, and that is written.
+    fn write_class<O: Write>(&self, out: &mut O, node: &Expr) -> Result<(), RunError> {
+        let Expr::Delegate { .. } = node else {
+            return Ok(());
+        };
+        if self.look.has_classes {
+            let meaning = characters_of(self.alloc, node, self.flags.unicode)?;
+            write!(out, ": {}", ClassWords(&meaning))?;
+        }
+        Ok(())
     }
 
     /// Writes the span and the text there, if spans are written, and ends the line.
@@ -170,10 +192,12 @@ impl Drawing<'_> {
         out: &mut O,
         role: &str,
         node: SpannedNode<'_>,
-    ) -> io::Result<()> {
+    ) -> Result<(), RunError> {
         self.begin_line(out, role)?;
         self.write_label(out, node.expr())?;
-        self.end_line(out, node.span())
+        self.write_class(out, node.expr())?;
+        self.end_line(out, node.span())?;
+        Ok(())
     }
 
     /// Writes the line of the run, after which there is none.
@@ -307,14 +331,19 @@ pub fn write_tree<O: Write>(
     parsed: &SpannedTree,
     out: &mut O,
 ) -> Result<(), RunError> {
+    let Subject { alloc, pattern, .. } = subject;
+    let nodes = nodes_of(alloc, parsed)?;
     let mut drawing = Drawing {
+        alloc,
+        flags: Flags::from_bits(subject.flags),
         look,
-        pattern: subject.pattern,
-        names: Names::of(subject.alloc, &parsed.tree)?,
+        pattern,
+        names: Names::of(alloc, &parsed.tree)?,
+        columns: ColumnTable::of(alloc, pattern, &nodes)?,
         groups: 0,
-        lasts: Vec::new(subject.alloc),
+        lasts: Vec::new(alloc),
         run: LiteralRun {
-            text: String::new(subject.alloc),
+            text: String::new(alloc),
             casei: false,
             span: Span { start: 0, end: 0 },
         },

@@ -1,5 +1,8 @@
 //! Errors that end a run.
-ghost use Rattle.std.specs.Prelude.{◌≡◌};
+ghost use Rattle.std.specs.Prelude.{◌≡◌, alloc_error};
+ghost use Rattle.std.specs.IoError.{error_kind};
+ghost use Rattle.std.specs.declared.io.ErrorKind.TheVariants.{OutOfMemory};
+ghost use Rattle.patterns_text.specs.declared.error.RunError.TheVariants as run;
 
 use std::alloc::AllocError;
 use std::io;
@@ -14,7 +17,21 @@ pub enum RunError {
     Memory(#[from(alloc)] AllocError),
     /// A write failed.
     #[error("cannot write")]
-    Write(#[from] io::Error),
+    Write(io::Error),
+}
+
+/// A buffer in memory also has errors of writing: that memory ran out.
+impl From<io::Error> for RunError {
+    ghost from_gives = { λ error e. (error_kind error ≡ OutOfMemory → e ≡ run.Memory alloc_error)
+        × ((error_kind error ≡ OutOfMemory → ⊥) → e ≡ run.Write error) };
+
+    fn from(error: io::Error) -> RunError {
+        if error.kind() == ErrorKind::OutOfMemory {
+            RunError::Memory(AllocError)
+        } else {
+            RunError::Write(error)
+        }
+    }
 }
 
 impl RunError {

@@ -1,6 +1,7 @@
 //! What is written of a pattern as text: where it is, why it is invalid, its nodes in words, its tree, its groups.
 #![tactic(auto)]
 
+pub mod class_words;
 pub mod columns;
 pub mod drawing;
 pub mod error;

@@ -1,11 +1,16 @@
 //! A pattern's groups, and what its references and calls refer to, a line each.
+use crate::class_words::ClassWords;
 use crate::columns::ColumnTable;
+use crate::error::RunError;
 use crate::names::Names;
 use crate::paint::Ink;
 use crate::position::Location;
-use crate::words::{is_reference, write_reference, write_unresolved};
+use crate::subject::Subject;
+use crate::words::{Held, is_reference, write_reference};
+use class_meaning::characters_of;
+use fancy_lex::flags::Flags;
 use fancy_spans::SpannedNode;
-use fancy_syntax::expr::{AstNode, Expr};
+use fancy_syntax::expr::Expr;
 use fancy_syntax::span::Span;
 use std::io;
 use std::io::Write;
@@ -34,21 +39,6 @@ impl Lead<'_> {
                 let (bold, end) = (at.listed.begin(Ink::Position), at.listed.end());
                 write!(out, "{bold}{at}:{}:{end} ", columns.of_span(span))
             }
-        }
-    }
-
-    /// Writes what a reference refers to.
-    fn write_reference<O: Write>(
-        self,
-        out: &mut O,
-        pattern: &str,
-        node: &Expr,
-        names: &Names<'_>,
-    ) -> io::Result<()> {
-        match (self, node) {
-            (Lead::At(_, columns), Expr::AstNode(AstNode::SubroutineCall(target), position)) =>
-                write_unresolved(out, target, &columns.point(*position)),
-            _ => write_reference(out, node, names, pattern),
         }
     }
 
@@ -83,19 +73,37 @@ pub fn write_numbered<O: Write>(
     Ok(())
 }
 
-/// Writes the references and calls in the order of the text, a line each.
+/// Writes the references and calls in the order of the text, a line each. The table has the columns of the nodes.
 pub fn write_references<O: Write>(
     out: &mut O,
     lead: Lead<'_>,
-    pattern: &str,
+    columns: &ColumnTable,
     nodes: &[SpannedNode<'_>],
     names: &Names<'_>,
 ) -> io::Result<()> {
     for node in nodes {
         if is_reference(node.expr()) {
             lead.write(out, node.span())?;
-            lead.write_reference(out, pattern, node.expr(), names)?;
+            write_reference(out, node.expr(), names, columns)?;
             out.write_all(b"\n")?;
+        }
+    }
+    Ok(())
+}
+
+/// Writes the classes in the order of the text, a line each: what each is, and what it contains.
+pub fn write_classes<O: Write>(
+    out: &mut O,
+    lead: Lead<'_>,
+    subject: Subject<'_>,
+    nodes: &[SpannedNode<'_>],
+) -> Result<(), RunError> {
+    let flags = Flags::from_bits(subject.flags);
+    for node in nodes {
+        if let Expr::Delegate { .. } = node.expr() {
+            let meaning = characters_of(subject.alloc, node.expr(), flags.unicode)?;
+            lead.write(out, node.span())?;
+            writeln!(out, "{}: {}", Held(node.expr()), ClassWords(&meaning))?;
         }
     }
     Ok(())

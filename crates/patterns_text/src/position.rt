@@ -18,11 +18,17 @@ pub struct FilePosition {
     pub line: u64,
     /// The column in the line, from 1.
     pub column: u64,
+    /// How many characters are before it in the line, and 1.
+    pub character: u64,
 }
 
 impl FilePosition {
     /// The start of a file.
-    pub const START: FilePosition = FilePosition { line: 1, column: 1 };
+    pub const START: FilePosition = FilePosition {
+        line: 1,
+        column: 1,
+        character: 1,
+    };
 
     /// The position after a text that begins here.
     pub fn after(self, text: &str) -> FilePosition {
@@ -33,10 +39,12 @@ impl FilePosition {
                     .saturating_add(above.matches('\n').count() as u64)
                     .saturating_add(1),
                 column: column_after(before) as u64,
+                character: (before.chars().count() as u64).saturating_add(1),
             },
             None => FilePosition {
                 line: self.line,
                 column: self.column.saturating_add(text.width() as u64),
+                character: self.character.saturating_add(text.chars().count() as u64),
             },
         }
     }

@@ -7,7 +7,8 @@ use std::fmt;
 use unicode::properties::GeneralCategory;
 use unicode_width::{UnicodeWidthChar, UnicodeWidthStr};
 
-/// Whether the category is that of control or format characters, or of separators of lines or paragraphs.
+/// Whether the category is that of control or format characters, of separators of lines or paragraphs, or of what Unicode
+/// does not assign.
 fn is_hidden_category(category: GeneralCategory) -> bool
     ensures { result ≡ spec.is_hidden_category category }
 {
@@ -15,12 +16,14 @@ fn is_hidden_category(category: GeneralCategory) -> bool
         category,
         GeneralCategory::Control
             | GeneralCategory::Format
+            | GeneralCategory::Unassigned
             | GeneralCategory::LineSeparator
             | GeneralCategory::ParagraphSeparator
     )
 }
 
-/// Whether the character is a control character, a format character, or a separator of lines or paragraphs.
+/// Whether the character is a control character, a format character, a separator of lines or paragraphs, or not assigned by
+/// Unicode. Each character that may not be in XML is hidden.
 pub fn is_hidden(c: char) -> bool
     ensures { result ≡ spec.is_hidden c }
 {

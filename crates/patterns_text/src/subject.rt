@@ -77,6 +77,9 @@ impl Refusal {
     }
 }
 
+/// The file name that reports have for a pattern that is an argument of the program.
+pub const ARGUMENT: &str = "PATTERN";
+
 impl<'a> Subject<'a> {
     /// The pattern that is an argument of the program.
     pub fn of_argument(alloc: Global, flags: u32, pattern: &'a str) -> Subject<'a>
@@ -88,7 +91,7 @@ impl<'a> Subject<'a> {
         Subject {
             alloc,
             flags,
-            at: Location::plain("PATTERN", 1),
+            at: Location::plain(ARGUMENT, 1),
             pattern,
         }
     }

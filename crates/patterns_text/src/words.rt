@@ -1,6 +1,6 @@
 //! Nodes described for people.
+use crate::columns::ColumnTable;
 use crate::names::Names;
-use crate::position::Cut;
 use crate::shown::{Code, is_hidden};
 use fancy_lex::escape::Assertion;
 use fancy_lex::name::CaptureGroupTarget;
@@ -177,25 +177,13 @@ impl fmt::Display for WrittenTarget<'_> {
     }
 }
 
-/// Writes what an unresolved call refers to, and its position.
-pub(crate) fn write_unresolved<O: Write, P: fmt::Display>(
-    out: &mut O,
-    target: &CaptureGroupTarget,
-    position: &P,
-) -> io::Result<()> {
-    write!(
-        out,
-        r"unresolved call \g<{}>, {position}",
-        WrittenTarget(target)
-    )
-}
-
-/// Writes what a reference or a subroutine call refers to; nothing for any other node.
+/// Writes what a reference or a subroutine call refers to, and the position of a call that is unresolved; nothing for any
+/// other node.
 pub fn write_reference<O: Write>(
     out: &mut O,
     node: &Expr,
     names: &Names<'_>,
-    pattern: &str,
+    columns: &ColumnTable,
 ) -> io::Result<()> {
     match node {
         Expr::Backref { group, casei } => {
@@ -225,7 +213,8 @@ pub fn write_reference<O: Write>(
         Expr::SubroutineCall(0) => write!(out, "call of the whole pattern"),
         Expr::SubroutineCall(group) => write!(out, "call of {}", names.group(*group)),
         Expr::AstNode(AstNode::SubroutineCall(target), position) => {
-            write_unresolved(out, target, &Cut::at(pattern, *position))
+            let (target, point) = (WrittenTarget(target), columns.point(*position));
+            write!(out, r"unresolved call \g<{target}>, {point}")
         }
         Expr::Empty
         | Expr::Any { .. }

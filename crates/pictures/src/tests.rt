@@ -163,6 +163,48 @@ fn colours(rt: HostRuntime) -> Result<(), Fail> {
     Ok(())
 }
 
+/// Whether a character may be in XML 1.0.
+fn may_be_in_xml(c: char) -> bool {
+    matches!(
+        c,
+        '\t'
+            | '\n'
+            | '\r'
+            | '\u{20}'..='\u{D7FF}'
+            | '\u{E000}'..='\u{FFFD}'
+            | '\u{10000}'..='\u{10FFFF}'
+    )
+}
+
+/// Characters that are shown as escapes: those that may not be in XML, a format character, and one that is not assigned.
+#[test]
+fn hidden_characters(rt: HostRuntime) -> Result<(), Fail> {
+    let mut pattern = String::from_str(rt.alloc(), "(?<n>[\u{FFFE}]\u{FFFF}\u{200B}\u{2065})")?;
+    for c in '\0'..=' ' {
+        pattern.push(c)?;
+    }
+    for canvas in [Canvas::Svg, Canvas::Page] {
+        let mut out = Vec::new(rt.alloc());
+        let mut err = Vec::new(rt.alloc());
+        let subject = Subject::of_argument(rt.alloc(), FLAG_UNICODE, pattern.as_str());
+        let status = draw_picture(subject, canvas, WIDTH, &mut out, &mut err);
+        let text = str::from_utf8(&out)?;
+        assert!(rt; status == 0 && text.chars().all(may_be_in_xml));
+        assert!(rt; !text.contains('\u{200B}') && !text.contains('\u{2065}'));
+        for escape in [
+            r"\u{00}",
+            r"\u{1f}",
+            r"\u{200b}",
+            r"\u{2065}",
+            r"\u{fffe}",
+            r"\u{ffff}",
+        ] {
+            assert!(rt; text.contains(escape), "{escape}");
+        }
+    }
+    Ok(())
+}
+
 /// A write that fails is reported.
 #[test]
 fn refused_write(rt: HostRuntime) -> Result<(), Fail> {
