@@ -8,15 +8,15 @@ _patterns() {
     case $before in
         --color) mapfile -t COMPREPLY < <(compgen -W 'auto always never' -- "$word") && return ;;
         --allow | --warn | --deny) mapfile -t COMPREPLY < <(compgen -W 'missing-group missing-begin-group missing-capture-group useless-backreference unresolved-call duplicate-group-name unused-capturing-group duplicate-branch unreachable-branch empty-branch quantified-assertion empty-loop useless-quantifier zero-quantifier useless-flag single-character-class all' -- "$word") && return ;;
-        --flags | --keys | --max-warnings) return ;;
+        --flags | --keys | --max-warnings | --regexp | -e) return ;;
     esac
     case ${COMP_WORDS[1]} in
-        check) options='--flags -z --null-data --quiet --color --textmate --keys --json -h --help' ;;
-        tree) options='--flags --ascii --spans --all --json --file -h --help' ;;
+        check) options='--flags -e --regexp -z --null-data --quiet --color --textmate --keys --json -h --help' ;;
+        tree) options='--flags --ascii --spans --all --classes --json --file -h --help' ;;
         picture) options='--flags --html --width --file -h --help' ;;
-        lint) options='--flags -z --null-data --quiet --color --textmate --keys --allow --warn --deny --max-warnings --json --rules -h --help' ;;
-        format) options='--flags -z --null-data --quiet --color --check --drop-comments -h --help' ;;
-        groups) options='--flags -z --null-data --quiet --color --textmate --keys --json -h --help' ;;
+        lint) options='--flags -e --regexp -z --null-data --quiet --color --textmate --keys --allow --warn --deny --max-warnings --json --rules -h --help' ;;
+        format) options='--flags -e --regexp -z --null-data --quiet --color --check --drop-comments -h --help' ;;
+        groups) options='--flags -e --regexp -z --null-data --quiet --color --textmate --keys --json -h --help' ;;
         help) options='check tree picture lint format groups' ;;
     esac
     case $word in

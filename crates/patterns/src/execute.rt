@@ -99,13 +99,12 @@ impl<S: System, O: Write, E: Write> ProgramCall<'_, S, O, E> {
         flags: u32,
         matches: &ArgMatches<'_>,
     ) -> Result<u8, RunError> {
-        let Some(files) = matches.get_strs("files") else {
-            return Ok(MISUSED);
-        };
+        let files = matches.get_strs("files").unwrap_or(&[]);
         let job = Job {
             verb,
             flags,
             form: form_chosen(matches),
+            patterns: matches.get_strs("regexp").unwrap_or(&[]),
             is_quiet: matches.get_flag("quiet"),
             max_warnings: max_warnings_chosen(matches),
             paints: paints_chosen(matches, self.auto),

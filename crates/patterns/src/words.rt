@@ -1,5 +1,5 @@
 //! The arguments of the program.
-use clap::builder::ValueParser;
+use clap::builder::{ArgPredicate, ValueParser};
 use clap::{Arg, ArgAction, ArgMatches, Command, value_parser};
 use fre_program::flag_word::flags_named;
 use patterns_picture::picture::{Canvas, WIDTH};
@@ -37,6 +37,9 @@ const LETTERS: &str = "The letters of --flags:
   n  if some group has a name, groups without a name have no number";
 
 const FILES_HELP: &str = "Files with one pattern per line, in UTF-8; - is standard input";
+
+const REGEXP_HELP: &str = "A pattern, which may begin with -; can be given several times. Files
+are read after these patterns, and only if they are named";
 
 const NULL_HELP: &str = "A pattern ends with NUL, and not with its line";
 
@@ -86,6 +89,9 @@ and its text";
 
 const ALL_HELP: &str = "Draws each node in its own line; otherwise adjacent letters are
 drawn as one literal";
+
+const CLASSES_HELP: &str = "Writes after each class the characters that it contains, as ranges,
+of which only the first are written";
 
 const POSITION_HELP: &str = "Reads the pattern from a file, at a position: FILE:LINE, or for a
 text of JSON FILE:PATH, as in grammar.json:patterns[0].match; also
@@ -173,13 +179,25 @@ fn flags_arg<'a>(alloc: Global) -> Arg<'a> {
         .help(FLAGS_HELP)
 }
 
-fn files_arg<'a>(alloc: Global) -> Arg<'a> {
-    Arg::new(alloc, "files")
+/// The files; standard input if neither they nor patterns are given.
+fn files_arg<'a>(alloc: Global) -> Result<Arg<'a>, AllocError> {
+    let arg = Arg::new(alloc, "files")
         .value_name("FILE")
         .action(ArgAction::Append)
         .num_args(0..)
         .default_value(STANDARD_INPUT)
-        .help(FILES_HELP)
+        .help(FILES_HELP);
+    arg.default_value_if("regexp", ArgPredicate::IsPresent, None)
+}
+
+fn regexp_arg<'a>(alloc: Global) -> Arg<'a> {
+    Arg::new(alloc, "regexp")
+        .short('e')
+        .long("regexp")
+        .value_name("PATTERN")
+        .allow_hyphen_values(true)
+        .action(ArgAction::Append)
+        .help(REGEXP_HELP)
 }
 
 fn null_arg<'a>(alloc: Global) -> Arg<'a> {
@@ -218,10 +236,11 @@ fn over_files<'a>(
         .before_help(example)
         .after_help(LETTERS)
         .arg(flags_arg(alloc))?
+        .arg(regexp_arg(alloc))?
         .arg(null_arg(alloc))?
         .arg(quiet_arg(alloc))?
         .arg(color_arg(alloc))?
-        .arg(files_arg(alloc))
+        .arg(files_arg(alloc)?)
 }
 
 /// The options by which files are JSON.
@@ -230,14 +249,16 @@ fn with_values<'a>(alloc: Global, command: Command<'a>) -> Result<Command<'a>, A
         .long("textmate")
         .action(ArgAction::SetTrue)
         .help(TEXTMATE_HELP)
-        .conflicts_with("null-data")?;
+        .conflicts_with("null-data")?
+        .conflicts_with("regexp")?;
     let keys = Arg::new(alloc, "keys")
         .long("keys")
         .value_name("NAME[,NAME..]")
         .value_delimiter(',')
         .action(ArgAction::Append)
         .help(KEYS_HELP)
-        .conflicts_with("null-data")?;
+        .conflicts_with("null-data")?
+        .conflicts_with("regexp")?;
     command.arg(textmate)?.arg(keys)
 }
 
@@ -261,6 +282,14 @@ fn with_pattern<'a>(alloc: Global, command: Command<'a>) -> Result<Command<'a>, 
         .required_unless_present("file")?
         .help("The pattern; put -- before one that begins with -");
     command.arg(file)?.arg(pattern)
+}
+
+fn classes_arg<'a>(alloc: Global) -> Result<Arg<'a>, AllocError> {
+    Arg::new(alloc, "classes")
+        .long("classes")
+        .action(ArgAction::SetTrue)
+        .help(CLASSES_HELP)
+        .conflicts_with("json")
 }
 
 fn check_command<'a>(alloc: Global) -> Result<Command<'a>, AllocError> {
@@ -288,6 +317,7 @@ fn tree_command<'a>(alloc: Global) -> Result<Command<'a>, AllocError> {
         .arg(ascii)?
         .arg(spans)?
         .arg(all)?
+        .arg(classes_arg(alloc)?)?
         .arg(json_arg(alloc))?;
     with_pattern(alloc, command)
 }
@@ -409,7 +439,7 @@ pub(crate) fn verb_chosen(name: &str, matches: &ArgMatches<'_>) -> Option<Verb> 
         "format" if matches.get_flag("check") => Some(Verb::IsFormatted(comments_chosen(matches))),
         "format" => Some(Verb::Format(comments_chosen(matches))),
         "groups" if matches.get_flag("json") => Some(Verb::Json(Report::Groups)),
-        "groups" => Some(Verb::Groups),
+        "groups" => Some(Verb::Groups { has_classes: false }),
         _ => None,
     }
 }
@@ -452,6 +482,7 @@ pub(crate) fn look_chosen(matches: &ArgMatches<'_>) -> Look {
         style,
         has_spans: matches.get_flag("spans"),
         has_each_literal: matches.get_flag("all"),
+        has_classes: matches.get_flag("classes"),
     }
 }
 

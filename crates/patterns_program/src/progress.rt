@@ -20,7 +20,12 @@ pub(crate) struct Output<'a, W> {
     has_line: bool,
 }
 
-impl<W: io::Write> Output<'_, W> {
+impl<'a, W: io::Write> Output<'a, W> {
+    fn over(stream: &'a mut W) -> Self {
+        let has_line = false;
+        Output { stream, has_line }
+    }
+
     /// Erases the line, and writes the bytes.
     fn put(&mut self, bytes: &[u8]) -> io::Result<()>
         ensures written { OnOk result (Appends (W.contents self.old.stream.now) (W.contents self.new.stream.now)
@@ -85,14 +90,8 @@ impl<'a, S: System, O: io::Write, E: io::Write> Screen<'a, S, O, E> {
         let is_shown = !is_quiet && system.terminals().err;
         let begin = Instant::now(system).ok().filter(|_| is_shown);
         Screen {
-            out: Output {
-                stream: out,
-                has_line: false,
-            },
-            err: Output {
-                stream: err,
-                has_line: false,
-            },
+            out: Output::over(out),
+            err: Output::over(err),
             system,
             due: begin.and_then(first_due),
             bytes_in_step: 0,
@@ -112,11 +111,8 @@ impl<'a, S: System, O: io::Write, E: io::Write> Screen<'a, S, O, E> {
             self.out.stream.flush()?;
             self.out.has_line = self.system.terminals().out;
             self.err.has_line = true;
-            write!(
-                self.err.stream,
-                "\x1b[?7l\r{}\x1b[K\x1b[?7h",
-                ProgressText(tally)
-            )?;
+            let text = ProgressText(tally);
+            write!(self.err.stream, "\x1b[?7l\r{text}\x1b[K\x1b[?7h")?;
             self.err.stream.flush()?;
         }
         Ok(())

@@ -24,7 +24,7 @@ use patterns_text::error::{RunError, give_up};
 use patterns_text::paint::Paints;
 use patterns_text::position::{Location, Spot};
 use patterns_text::shown::Shown;
-use patterns_text::subject::Subject;
+use patterns_text::subject::{ARGUMENT, Subject};
 use std::alloc::{AllocError, Global};
 use std::io::{BufRead, ErrorKind, Write};
 use std::{io, str};
@@ -41,8 +41,8 @@ pub enum Verb {
     Format(Comments),
     /// Check whether `Format` would write it unchanged.
     IsFormatted(Comments),
-    /// List its groups, and what its references and calls refer to.
-    Groups,
+    /// List its groups, and what its references and calls refer to; and its classes, if so.
+    Groups { has_classes: bool },
     /// Report likely mistakes in it.
     Lint(Chosen),
     /// Report on it as JSON.
@@ -57,6 +57,8 @@ pub struct Job<'a> {
     pub verb: Verb,
     pub flags: u32,
     pub form: FileFormat<'a>,
+    /// Patterns that are arguments. They come before those of the files.
+    pub patterns: &'a [&'a str],
     /// Whether the run says neither how far it is nor, at its end, what the outcomes of the patterns are; and not
     /// that a file is read as lines whose name is that of a file of another format.
     pub is_quiet: bool,
@@ -77,7 +79,7 @@ impl Verb {
             Verb::Check | Verb::Lint(_) => Stream::Out,
             Verb::Format(_)
             | Verb::IsFormatted(_)
-            | Verb::Groups
+            | Verb::Groups { .. }
             | Verb::Json(_)
             | Verb::LintJson(_) => Stream::Err,
         }
@@ -89,8 +91,11 @@ impl Job<'_> {
     fn reads_rules(self, keys: Keys<'_>) -> bool {
         let is_lint = match self.verb {
             Verb::Lint(_) | Verb::LintJson(_) => true,
-            Verb::Check | Verb::Format(_) | Verb::IsFormatted(_) | Verb::Groups | Verb::Json(_) =>
-                false,
+            Verb::Check
+            | Verb::Format(_)
+            | Verb::IsFormatted(_)
+            | Verb::Groups { .. }
+            | Verb::Json(_) => false,
         };
         is_lint && keys.has_textmate
     }
@@ -159,7 +164,11 @@ fn process<O: Write, E: Write>(
                 tally,
             )
         }
-        Verb::Groups => list_groups(subject, &mut Text::new(out, err, verb.errors())),
+        Verb::Groups { has_classes } => {
+            let mut text = Text::new(out, err, verb.errors());
+            text.look.has_classes = has_classes;
+            list_groups(subject, &mut text)
+        }
         Verb::Lint(chosen) => {
             lint(
                 subject,
@@ -278,6 +287,22 @@ impl<S: System, O: Write, E: Write> FileRun<'_, S, O, E> {
                 Ok(Outcome::Unread)
             }
         }
+    }
+
+    /// Does the verb's work on each pattern that is an argument, as if they were the records of a file.
+    fn process_arguments(&mut self) -> Result<Outcome, RunError> {
+        let end = [self.job.form.ending().byte()];
+        let mut outcome = Outcome::Good;
+        let mut line = 1u64;
+        for pattern in self.job.patterns {
+            let at = located(self.job, ARGUMENT, Spot::Line(line));
+            self.write_missing_end(&end)?;
+            let found = self.process_pattern(pattern, &end, at, None)?;
+            line = line.saturating_add(lines_in(pattern.as_bytes()));
+            outcome = outcome.and(found);
+            self.count(found, pattern.len())?;
+        }
+        Ok(outcome)
     }
 
     /// Counts the outcome of a pattern that has so many bytes, and an end.
@@ -423,9 +448,9 @@ impl<S: System, O: Write, E: Write> FileRun<'_, S, O, E> {
         }
     }
 
-    /// Does the verb's work on each pattern of each file, and sees that it is written.
+    /// Does the verb's work on each pattern that is an argument and on each of each file, and sees that it is written.
     fn process_files(&mut self, files: &[&str]) -> Result<Outcome, RunError> {
-        let mut outcome = Outcome::Good;
+        let mut outcome = self.process_arguments()?;
         for (done, file) in files.iter().enumerate() {
             self.tally.done = done;
             self.screen.go_on(STEP, &self.tally)?;

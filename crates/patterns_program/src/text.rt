@@ -9,7 +9,7 @@ use patterns_lint::problem::Found;
 use patterns_text::columns::ColumnTable;
 use patterns_text::drawing::{Look, Style, write_tree};
 use patterns_text::error::RunError;
-use patterns_text::listing::{Lead, write_at, write_numbered, write_references};
+use patterns_text::listing::{Lead, write_at, write_classes, write_numbered, write_references};
 use patterns_text::names::Names;
 use patterns_text::nodes::nodes_of;
 use patterns_text::shown::ShownLines;
@@ -31,7 +31,7 @@ pub(crate) struct Text<'a, O, E> {
     /// Where errors are written.
     errors: Stream,
     /// How trees are drawn.
-    look: Look,
+    pub(crate) look: Look,
 }
 
 impl<'a, O: Write, E: Write> Text<'a, O, E> {
@@ -45,6 +45,7 @@ impl<'a, O: Write, E: Write> Text<'a, O, E> {
                 style: Style::Lines,
                 has_spans: false,
                 has_each_literal: false,
+                has_classes: false,
             },
         }
     }
@@ -97,7 +98,10 @@ impl<O: Write, E: Write> Reporter for Text<'_, O, E> {
         let columns = ColumnTable::of(alloc, pattern, &nodes)?;
         let lead = Lead::At(at, &columns);
         write_numbered(self.out, lead, &nodes, &names)?;
-        write_references(self.out, lead, pattern, &nodes, &names)?;
+        write_references(self.out, lead, &columns, &nodes, &names)?;
+        if self.look.has_classes {
+            write_classes(self.out, lead, subject, &nodes)?;
+        }
         if parsed.tree.self_recursive {
             write_at(self.out, at)?;
             self.out.write_all(b"the pattern calls itself\n")?;
