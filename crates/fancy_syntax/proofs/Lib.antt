@@ -7,6 +7,7 @@ pub mod LoanLemmas
 pub mod WriteLemmas
 -- ---- the loop of the grammar
 mod TreesLemmas
+mod SolidLemmas
 mod StepLemmas
 mod MachineLemmas
 mod PlainLaws

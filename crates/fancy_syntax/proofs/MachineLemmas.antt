@@ -19,7 +19,7 @@ use Rattle.fancy_grammar.specs.Grammar.{piece_error, Piece, piece, layout_error,
 use Rattle.fancy_grammar.specs.Grammar.{condition_error, two_branches, one_branch, absent_error, closed, closed_at}
 use Rattle.fancy_grammar.specs.Grammar.{more, next, restored, conditional_after, clear_or_stopper, Pieces, Branches}
 use Rattle.fancy_grammar.specs.Grammar as grammar
-use Rattle.fancy_grammar.specs.Join.{solid, one_or, choice, is_empty}
+use Rattle.fancy_grammar.specs.Join.{solid, one_or, choice}
 use Rattle.fancy_grammar.specs.Spans.{end_of}
 use Rattle.fancy_syntax.specs.Log.{Log, part_begun, branch_begun, branch_ended, atom_closed}
 use Rattle.fancy_syntax.specs.Recording.{PieceTo, PiecesTo, BranchTo, BranchesTo, AlternationTo, piece_recorded}
@@ -31,7 +31,7 @@ use Rattle.fancy_syntax.specs.View.{view}
 use Rattle.fancy_grammar.specs.AtomStart.{AtomStart, nothing, read, atom_start}
 use Rattle.fancy_grammar.specs.Grammar.{a_nothing, a_read}
 use Rattle.fancy_syntax.specs.Log.{leaf_recorded, left_out}
-use Rattle.fancy_syntax.specs.Machine.{IsRecordedPlain}
+use Rattle.fancy_syntax.specs.Machine.{IsPlainLeaf}
 use Rattle.fancy_syntax.specs.Recording.{start_recorded, skipped_recorded, step_recorded}
 use Rattle.fancy_syntax.specs.Machine.{part_recorded, close_recorded, taken_recorded}
 use Rattle.fancy_syntax.specs.Machine.{OpenPart, top, group, condition, body, first, second, part_of, holds_one}
@@ -52,10 +52,11 @@ use Rattle.fancy_syntax.specs.declared.grammar.frame.PieceStart.{PieceStart}
 use Rattle.fancy_syntax.specs.declared.grammar.step.Step.{Step}
 use Rattle.fancy_syntax.specs.declared.grammar.step.Step.TheVariants as step
 use Rattle.fancy_lex.proofs.TextLemmas.{strip_is}
-use Rattle.fancy_grammar.proofs.OutcomeLemmas.{IsErrorAmong-map, before-nil, before-push}
+use Rattle.fancy_grammar.proofs.OutcomeLemmas.{Holds, IsErrorAmong-map, before-nil, before-push}
 use Rattle.fancy_grammar.proofs.OutcomeLemmas.{trees_before, solid-append, piece_as}
 use Rattle.fancy_grammar.proofs.ReadLaws.{piece_read}
 use Rattle.fancy_grammar.proofs.Slices.{current, on, strip_slice}
+use Rattle.fancy_syntax.proofs.SolidLemmas.{IsSolid, quants_solid}
 
 -- ---- a step
 
@@ -579,20 +580,24 @@ running_piece {t} {v} {l} {m} {r} all h e a i = record {
   reading = reading_piece _ _ h.reading e (subst (λ d. PieceTo d t (done r v) l m) (sym h.is_depth) a) refl refl;
 }
 
--- a leaf that a look ahead reads
-pub running_leaf : {start t : State} {none l : Log} {stack : List Frame} {f : Frame} {trees : List Tree} {u : Text}
-    {r : Tree} (all : List Tree) → Running start none stack f trees t l → IsRecordedPlain t r u →
-    all ≡ trees ++ solid (r ∷ []) →
-    Running start none stack f all (at t u) (leaf_recorded (reach_of t.rest) (reach_of u) l)
-running_leaf {start} {t} {none} {l} {stack} {f} {u} {r} all h p e =
-    let m = leaf_recorded (reach_of t.rest) (reach_of u) l in
-    subst (Running start none stack f all (at t u)) (ap (λ b. if b then left_out m else m) p.solid)
-    (running_piece all h p.more (p.piece _ l) e)
+-- a leaf that a look ahead reads, under its quantifiers
+pub running_leaf : {start t u v : State} {none l : Log} {stack : List Frame} {f : Frame} {trees : List Tree}
+    {r q : Tree} (all : List Tree) → Running start none stack f trees t l → IsPlainLeaf t r u →
+    quants (length stack) (bytes t.rest) r u ≡ done q v → all ≡ trees ++ q ∷ [] →
+    Running start none stack f all v
+    (quants_recorded (bytes t.rest) (done r u) (leaf_recorded (reach_of t.rest) (reach_of u.rest) l))
+running_leaf {start} {t} {u} {v} {none} {l} {stack} {f} {trees} {r} {q} all h p e i =
+    let m = quants_recorded (bytes t.rest) (done r u) (leaf_recorded (reach_of t.rest) (reach_of u.rest) l) in
+    let solid = subst (Holds IsSolid) e (quants_solid (length stack) (bytes t.rest) r u p.solid) in
+    subst (Running start none stack f all v) (ap (λ b. if b then left_out m else m) solid)
+    (running_piece all h p.more (piece_to p.no_layout (atom (p.leaf (length stack)) a_read, refl) e refl)
+    (i ∙ ap (λ b. trees ++ (if b then [] else q ∷ [])) (sym solid)))
 
--- a leaf after others, if it is no Empty
-pub added_leaf : (r : Tree) (a b x y : ℕ) (l : Log) → is_empty r ≡ false → a ≡ x → b ≡ y →
-    added r (leaf_recorded a b l) ≡ leaf_recorded x y l
-added_leaf r a b x y l e i j = rw (i, j, e) refl
+-- an error in its quantifiers is the error of the whole text
+pub running_leaf_error : {start t u : State} {none l : Log} {stack : List Frame} {f : Frame} {trees : List Tree}
+    {r : Tree} {p : ℕ} {k : Kind} → Running start none stack f trees t l → IsPlainLeaf t r u →
+    quants (length stack) (bytes t.rest) r u ≡ failed k p → Alternation 0 start (failed k p)
+running_leaf_error h p e = running_error h p.more (piece_as p.no_layout (atom (p.leaf _) a_read) e)
 
 -- a part is opened in the piece that began there
 running_open : {start t v : State} {none l m : Log} {stack : List Frame} {f : Frame} {trees : List Tree} {o : OpenPart}

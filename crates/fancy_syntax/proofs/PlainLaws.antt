@@ -1,4 +1,4 @@
--- A plain character is a piece that is recorded as a leaf, and so is an escape of one character.
+-- A plain character is a leaf, and so is an escape. Where no quantifier follows, none is recorded.
 use Rattle.std.proofs.Common.{◌≡◌, ℕ, Bool, true, false, [], ◌∷◌, refl, sym, ap, ◌∙◌, subst, if◌then◌else◌}
 use Rattle.fancy_lex.specs.Characters.{backslash}
 use Rattle.fancy_lex.specs.Escape.{escape}
@@ -6,22 +6,20 @@ use Rattle.fancy_lex.specs.Escaped.{Escape}
 use Rattle.fancy_lex.specs.Escaped as escaped
 use Rattle.fancy_lex.specs.LayoutSteps.{is_layout}
 use Rattle.fancy_lex.specs.Reading.{gives}
-use Rattle.fancy_lex.specs.Text.{Text, bytes, reach_of}
-use Rattle.fancy_grammar.specs.AtomStart.{leaf_node}
-use Rattle.fancy_grammar.specs.Grammar.{atom, a_read}
+use Rattle.fancy_lex.specs.Text.{Text, bytes}
+use Rattle.fancy_grammar.specs.AtomStart.{atom_start, leaf_node, read}
 use Rattle.fancy_grammar.specs.Join.{is_empty}
 use Rattle.fancy_grammar.specs.Plain.{is_special, is_suffix}
-use Rattle.fancy_grammar.specs.Quantified.{quant, quants, max_adjacent}
+use Rattle.fancy_grammar.specs.Quantified.{quant, max_adjacent}
 use Rattle.fancy_grammar.specs.Spans.{if_done}
 use Rattle.fancy_grammar.specs.State.{ends, State, at, done}
 use Rattle.fancy_grammar.specs.Tree.{Tree, literal}
 use Rattle.fancy_grammar.proofs.PlainLemmas.{unmoved, not_open, not_paren, no_layout, no_end, is_leaf, no_counts}
 use Rattle.fancy_grammar.proofs.PlainLemmas.{no_quant, no_layout_at_end, no_counts_at_end, no_quant_at_end}
 use Rattle.fancy_grammar.proofs.PlainLemmas.{backslash_no_layout, is_escape}
-use Rattle.fancy_syntax.specs.Log.{Log, leaf_recorded}
-use Rattle.fancy_syntax.specs.Machine.{IsRecordedPlain}
+use Rattle.fancy_syntax.specs.Log.{Log}
+use Rattle.fancy_syntax.specs.Machine.{IsPlainLeaf}
 use Rattle.fancy_syntax.specs.Recording.{quant_recorded, adjacent_recorded, quants_recorded}
-use Rattle.fancy_syntax.proofs.MachineLemmas.{piece_to}
 use Rattle.fancy_syntax.proofs.RecordingLemmas.{recorded_ends}
 
 -- if no quantifier follows, none is recorded
@@ -53,17 +51,13 @@ unquantified_recorded s c t left a l e x h =
     (none_recorded left a (at s (c ∷ t)) l (λ k. no_quant k c a s t x h)
     (rw (no_layout c s.flags.ignore_space t (not_paren c h) x, no_counts c s.flags.ignore_space t h) refl))
 
-pub is_recorded_plain : (s : State) (c : ℕ) (t : Text) → is_layout s.flags.ignore_space c ≡ false →
-    s.rest ≡ c ∷ t → is_special c ≡ false →
-    ((d left : ℕ) (a : Tree) → quants d left a (at s t) ≡ done a (at s t)) →
-    ((left : ℕ) (a : Tree) (l : Log) → quants_recorded left (done a (at s t)) l ≡ l) →
-    IsRecordedPlain s (literal (c ∷ []) s.flags.casei) t
-is_recorded_plain s c t x e h q n = record {
+pub is_plain_literal : (s : State) (c : ℕ) (t : Text) → is_layout s.flags.ignore_space c ≡ false →
+    s.rest ≡ c ∷ t → is_special c ≡ false → IsPlainLeaf s (literal (c ∷ []) s.flags.casei) (at s t)
+is_plain_literal s c t x e h = record {
   more = ap ends e ∙ no_end c t h;
-  piece = λ b l.
-      piece_to (rw e (no_layout c s.flags.ignore_space t (not_open c h) x))
-      (atom (is_leaf b c s t h) a_read, refl) (q b _ _)
-      (n _ _ _ ∙ ap (λ z. leaf_recorded (reach_of z) (reach_of t) l) (sym e));
+  no_layout = rw e (no_layout c s.flags.ignore_space t (not_open c h) x);
+  leaf = λ d. subst (λ u. atom_start d (at s u) ≡ read (done (literal (c ∷ []) s.flags.casei) (at s t))) (sym e)
+      (is_leaf d c s t h);
   solid = refl;
 }
 
@@ -79,15 +73,11 @@ leaf_is_solid (escaped.delegate t casei) = refl
 leaf_is_solid (escaped.backref r casei) = refl
 leaf_is_solid (escaped.subroutine_call c) = refl
 
-pub is_recorded_escape : (s : State) (t u : Text) (e : Escape) → s.rest ≡ backslash ∷ t →
-    escape s.flags false t ≡ gives e u →
-    ((d left : ℕ) (a : Tree) → quants d left a (at s u) ≡ done a (at s u)) →
-    ((left : ℕ) (a : Tree) (l : Log) → quants_recorded left (done a (at s u)) l ≡ l) → IsRecordedPlain s (leaf_node e) u
-is_recorded_escape s t u e i h q n = record {
+pub is_plain_escape : (s : State) (t u : Text) (e : Escape) → s.rest ≡ backslash ∷ t →
+    escape s.flags false t ≡ gives e u → IsPlainLeaf s (leaf_node e) (at s u)
+is_plain_escape s t u e i h = record {
   more = ap ends i;
-  piece = λ b l. piece_to (rw i (no_layout backslash s.flags.ignore_space t refl
-      (backslash_no_layout s.flags.ignore_space)))
-      (atom (is_escape b s t u e h) a_read, refl) (q b _ _)
-      (n _ _ _ ∙ ap (λ z. leaf_recorded (reach_of z) (reach_of u) l) (sym i));
+  no_layout = rw i (no_layout backslash s.flags.ignore_space t refl (backslash_no_layout s.flags.ignore_space));
+  leaf = λ d. subst (λ v. atom_start d (at s v) ≡ read (done (leaf_node e) (at s u))) (sym i) (is_escape d s t u e h);
   solid = leaf_is_solid e;
 }

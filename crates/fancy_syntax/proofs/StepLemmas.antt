@@ -1,14 +1,16 @@
--- A step that finds no atom.
+-- A step that finds no atom, and the quantifiers of the last tree.
+use Rattle.std.proofs.Common.{List, [], ◌∷◌, ◌++◌}
 use Rattle.std.proofs.Common.{◌≡◌, ℕ, ◌<◌, ◌≤◌, false, Result, Ok, Err, IfOk, sym, ◌∙◌, subst, ap, arith, ⊎_elim}
 use Rattle.std.proofs.Math.Nat.{eq-or-lt_of_le}
 use Rattle.fancy_lex.specs.Text.{Text, bytes}
 use Rattle.fancy_lex.specs.declared.error.ReadError.{ReadError}
 use Rattle.fancy_grammar.specs.AtomStart.{nothing, atom_start}
 use Rattle.fancy_grammar.specs.Quantified.{quants}
-use Rattle.fancy_grammar.specs.State.{ends, State, at}
-use Rattle.fancy_grammar.specs.Tree.{empty}
+use Rattle.fancy_grammar.specs.State.{ends, State, at, Outcome}
+use Rattle.fancy_grammar.specs.Tree.{Tree, empty}
 use Rattle.fancy_grammar.proofs.AtomStartLemmas.{nothing_repeats}
-use Rattle.fancy_syntax.specs.Machine.{GivesPiece}
+use Rattle.fancy_syntax.specs.Machine.{GivesPiece, TurnsLast}
+use Rattle.fancy_syntax.specs.Parsed.{Turns}
 use Rattle.fancy_syntax.specs.declared.grammar.step.Step.{Step}
 use Rattle.fancy_syntax.specs.declared.grammar.step.Step.TheVariants as step
 
@@ -38,3 +40,9 @@ nothing_shorter d k l m left s u r v e h b g i same within = ⊎_elim stops shor
         let at_start : left ≡ bytes u = b ∙ ap bytes (sym (same j)) in
         nothing_stops d s u r v _ e (ap ends (same j) ∙ h)
         (subst (λ x. GivesPiece r (quants d x empty (at s u)) v) at_start g)
+
+-- a tree turns as the last of all does, if it is put in its place
+pub turns_last : (r : Result (Unit {0}) ReadError) (all below : List Tree) (t : Tree) (s : State) (o : Outcome Tree) →
+    all ≡ below ++ t ∷ [] → Turns r t s o → TurnsLast r all below s o
+turns_last (Ok u) all below t s o h k = (t, h, k)
+turns_last (Err e) all below t s o h k = k

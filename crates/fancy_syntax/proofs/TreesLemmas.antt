@@ -1,7 +1,9 @@
 -- The trees of the open groups, one above the other.
 use Rattle.std.proofs.Common.{◌≡◌, ◌≢◌, ◌≤◌, ℕ, ◌+◌, List, [], ◌∷◌, ◌++◌, length, take, drop, arith, refl, sym, ap, ◌∙◌}
-use Rattle.std.proofs.lemmas.List.{append_assoc, length-append, length-map, length-drop, drop-map}
-use Rattle.std.proofs.Math.Seq.{take-append_seam, drop-append_seam}
+use Rattle.std.proofs.Common.{get_or, set}
+use Rattle.std.proofs.lemmas.List.{append_assoc, length-append, length-map, length-drop, drop-map, length_push, map-set}
+use Rattle.std.proofs.Math.ListN.{get_or-map}
+use Rattle.std.proofs.Math.Seq.{take-append_seam, drop-append_seam, get_or-append_seam, set-append_seam}
 use Rattle.fancy_grammar.specs.Join.{one_or, choice}
 use Rattle.fancy_grammar.specs.Tree.{Tree, Trees, concat, alt, trees_of}
 use Rattle.fancy_syntax.specs.Machine.{HoldsTrees}
@@ -26,6 +28,19 @@ holds_below f below branches pieces h = (
 
 pub views_length : (es : List Expr) → length (views es) ≡ length es
 views_length es = length-map es view
+
+-- the last tree, and the trees once it is replaced
+pub last_is : (es : List Expr) (i : ℕ) (e : Expr) (below : List Tree) (t : Tree) → views es ≡ below ++ t ∷ [] →
+    i + 1 ≡ length es → e ≡ get_or es i e → view e ≡ t
+last_is es i e below t h n is =
+    let k : i ≡ length below = omega (arith, n, views_length es, ap length h, length_push below t) in
+    ap view is ∙ sym (get_or-map view es i e) ∙ rw (h, k) (get_or-append_seam below t [] (view e))
+
+pub last_set : (es : List Expr) (i : ℕ) (x : Expr) (below : List Tree) (t : Tree) → views es ≡ below ++ t ∷ [] →
+    i + 1 ≡ length es → views (set es i x) ≡ below ++ view x ∷ []
+last_set es i x below t h n =
+    let k : i ≡ length below = omega (arith, n, views_length es, ap length h, length_push below t) in
+    map-set view es i x ∙ rw (h, k) (set-append_seam below t [] (view x))
 
 -- two trees or more are a node
 several : (node : Trees → Tree) (ts : List Tree) → 2 ≤ length ts → one_or node ts ≡ node (trees_of ts)

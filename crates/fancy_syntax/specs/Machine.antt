@@ -16,7 +16,7 @@ use Rattle.fancy_grammar.specs.GroupKind.{GroupKind, group_node}
 use Rattle.fancy_grammar.specs.Join.{solid, is_empty}
 use Rattle.fancy_grammar.specs.Slices.{Slice}
 use Rattle.fancy_grammar.specs.Spans.{if_done}
-use Rattle.fancy_syntax.specs.Log.{Log, leaf_recorded, opened, body_opened, part_begun, branch_begun, atom_closed}
+use Rattle.fancy_syntax.specs.Log.{Log, opened, body_opened, part_begun, branch_begun, atom_closed}
 use Rattle.fancy_syntax.specs.Recording.{PieceTo, PiecesTo, BranchTo, BranchesTo, AlternationTo, inside_recorded}
 use Rattle.fancy_syntax.specs.Recording.{branch_recorded}
 use Rattle.fancy_syntax.specs.Recording.{group_recorded, conditional_recorded, stopper_recorded, quants_recorded, added}
@@ -235,8 +235,14 @@ HasRead start none r l = Running start none r.stack.items r.frame (views r.trees
 abbrev pub HasReadTo : State → Log → Parser → (Log → Type 0) → Type 0
 HasReadTo start none r P = (l : Log) × HasRead start none r l × P l
 
--- the leaf r is at s and is a piece at any depth, recorded only as a leaf, and t follows it
-pub record IsRecordedPlain (s : State) (r : Tree) (t : Text) : Type 0 where
+-- the outcome is the last of all trees, read up to the state, and those below it stay; or it is the error of the result
+abbrev pub TurnsLast : Result (Unit {0}) ReadError → (all below : List Tree) → State → Outcome Tree → Type 0
+TurnsLast r all below s o =
+    MatchResult r (λ _. (t : Tree) × (all ≡ below ++ t ∷ []) × (o ≡ done t s)) (λ e. IsErrorAmong e (λ q. o ≡ q))
+
+-- the leaf r, which is no Empty, is at s without layout before it, and is read up to t
+pub record IsPlainLeaf (s : State) (r : Tree) (t : State) : Type 0 where
   pub more : ends s.rest ≡ false
-  pub piece : (d : ℕ) (l : Log) → PieceTo d s (done r (at s t)) l (leaf_recorded (reach_of s.rest) (reach_of t) l)
+  pub no_layout : skipped s ≡ rest s.rest
+  pub leaf : (d : ℕ) → atom_start d s ≡ seen.read (done r t)
   pub solid : is_empty r ≡ false

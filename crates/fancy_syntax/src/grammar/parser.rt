@@ -1,15 +1,16 @@
 //! The state of the loop that reads the raw tree of a text.
 ghost use Rattle.std.specs.Prelude.{◌≡◌, ◌∷◌, [], ◌++◌, ◌<◌, ◌≤◌, true, false, length, chars, vec_len, vec_capacity};
-ghost use Rattle.std.specs.Prelude.{Some, None, IfOk, OnOk, MatchOption, MatchResult};
+ghost use Rattle.std.specs.Prelude.{Some, None, IfOk, OnOk, MatchOption, MatchResult, if◌then◌else◌};
+ghost use Rattle.fancy_grammar.specs.Tree.{Tree};
 ghost use Rattle.fancy_lex.specs.Characters.{bar};
-ghost use Rattle.fancy_lex.specs.Text.{strip};
+ghost use Rattle.fancy_lex.specs.Text.{reach_of, strip};
 ghost use Rattle.fancy_grammar.specs.Depth.{max_depth};
 ghost use Rattle.fancy_grammar.specs.Errors.{IsErrorAmong};
 ghost use Rattle.fancy_grammar.specs.Grammar.{Alternation};
 ghost use Rattle.fancy_grammar.specs.State.{done, ends};
 ghost use Rattle.fancy_grammar.specs.State as states;
-ghost use Rattle.fancy_syntax.specs.Log.{Log};
-ghost use Rattle.fancy_syntax.specs.Machine.{Takes, HasRead, HasReadTo, taken_recorded};
+ghost use Rattle.fancy_syntax.specs.Log.{Log, leaf_recorded};
+ghost use Rattle.fancy_syntax.specs.Machine.{Takes, HasRead, HasReadTo, IsPlainLeaf, taken_recorded};
 ghost use Rattle.fancy_syntax.specs.Recording.{AlternationTo};
 ghost use Rattle.fancy_syntax.specs.Parsed.{state};
 ghost use Rattle.fancy_syntax.specs.StackCapacity.{groups_at_once, HasStackCapacity, IsReserved, HasCapacityFor};
@@ -19,11 +20,11 @@ ghost use Rattle.fancy_syntax.specs.View.{view, views};
 use crate::expr::Expr;
 use crate::grammar::atom::{leaf_node, literal};
 use crate::grammar::frame::{Frame, OpenGroup, PieceStart};
-use crate::grammar::plain::{plain, plain_escape};
+use crate::grammar::plain::{is_unquantified, plain, plain_escape};
 use crate::grammar::spanning::Spanning;
 use crate::grammar::state::State;
-use crate::grammar::step::{FinishedPart, Step, close, read_step};
-use crate::grammar::trees::add;
+use crate::grammar::step::{FinishedPart, Step, close, quantify_last, read_step};
+use crate::grammar::trees::{add, push};
 use fancy_grammar::depth::MAX_DEPTH;
 use fancy_lex::error::ReadError;
 use fancy_lex::text::{byte_len, reach};
@@ -69,34 +70,41 @@ impl<'a> Parser<'a> {
         Ok(parser)
     }
 
-    /// Reads the leaf at the front if a look ahead reads all of it, and returns whether it does.
+    /// Reads the leaf at the front and its quantifiers if a look ahead reads all of the leaf, and returns whether it
+    /// does. A returned error is the error of the text.
     #[inline(always)]
     pub(crate) fn add_leaf<S: Spanning>(
         &mut self,
         alloc: Global,
         spans: &mut S,
-    ) -> Result<bool, AllocError>
+    ) -> Result<bool, ReadError>
+        requires depth { length self.old.stack.items < max_depth }
         ensures reading { (start : states.State) (none l : Log) → HasRead start none self.old l →
-            OnOk result (HasReadTo start none self.new (λ m. S.records spans.old l → S.records spans.new m)) }
+            MatchResult result
+            (λ _. HasReadTo start none self.new (λ m. S.records spans.old l → S.records spans.new m))
+            (λ e. IsErrorAmong e (Alternation 0 start)) }
         ensures stack { self.new.stack ≡ self.old.stack }
         ensures within { length self.new.current.rest.now ≤ length self.old.current.rest.now }
         ensures shorter { IfOk result (λ found. found ≡ true →
             length self.new.current.rest.now < length self.old.current.rest.now) }
     {
-        if let Some((c, rest)) = plain(self.current) {
-            let leaf = literal(alloc, c, self.current.flags.casei)?;
-            spans.record_leaf(reach(self.current.rest), reach(rest))?;
-            add(&mut self.trees, leaf, spans)?;
-            self.current.rest = rest;
+        let left = byte_len(self.current.rest);
+        if !read_leaf(alloc, &mut self.trees, &mut self.current, spans)? {
+            return Ok(false);
+        }
+        // Usually no quantifier follows: this saves a call for each leaf.
+        if is_unquantified(self.current) {
             return Ok(true);
         }
-        let Some((escaped, rest)) = plain_escape::<S>(self.current) else {
-            return Ok(false);
-        };
-        let leaf = leaf_node(alloc, escaped)?;
-        spans.record_leaf(reach(self.current.rest), reach(rest))?;
-        add(&mut self.trees, leaf, spans)?;
-        self.current.rest = rest;
+        let depth = self.stack.len();
+        quantify_last(
+            alloc,
+            &mut self.trees,
+            &mut self.current,
+            left,
+            depth,
+            spans,
+        )?;
         Ok(true)
     }
 
@@ -219,6 +227,41 @@ impl<'a> Parser<'a> {
             }
         }
     }
+}
+
+/// Reads the leaf at the front if a look ahead reads all of it, and returns whether it does.
+#[inline(always)]
+fn read_leaf<S: Spanning>(
+    alloc: Global,
+    trees: &mut Vec<Expr>,
+    current: &mut State,
+    spans: &mut S,
+) -> Result<bool, AllocError>
+    ensures leaf { IfOk result (λ found. found ≡ true → (r : Tree) × IsPlainLeaf (state current.old) r (state current.new)
+        × (views trees.new.items ≡ views trees.old.items ++ r ∷ [])) }
+    ensures stays { IfOk result (λ found. found ≡ false →
+        (current.new ≡ current.old) × (views trees.new.items ≡ views trees.old.items)) }
+    ensures spans { (l : Log) → S.records spans.old l → IfOk result (λ found. S.records spans.new
+        (if found then leaf_recorded (reach_of (chars current.old.rest.now)) (reach_of (chars current.new.rest.now)) l
+        else l)) }
+    ensures within { length current.new.rest.now ≤ length current.old.rest.now }
+    ensures shorter { IfOk result (λ found. found ≡ true → length current.new.rest.now < length current.old.rest.now) }
+{
+    if let Some((c, rest)) = plain(*current) {
+        let leaf = literal(alloc, c, current.flags.casei)?;
+        spans.record_leaf(reach(current.rest), reach(rest))?;
+        push(trees, leaf)?;
+        current.rest = rest;
+        return Ok(true);
+    }
+    let Some((escaped, rest)) = plain_escape::<S>(*current) else {
+        return Ok(false);
+    };
+    let leaf = leaf_node(alloc, escaped)?;
+    spans.record_leaf(reach(current.rest), reach(rest))?;
+    push(trees, leaf)?;
+    current.rest = rest;
+    Ok(true)
 }
 
 /// Pushes a frame on the stack, which has capacity for it. It is a function of its own: inlined, it would cost each

@@ -1,14 +1,14 @@
-//! Plain characters and escapes of one character. Most pieces are one of these.
+//! Plain characters and escapes that a look ahead reads. Most atoms are one of these.
 ghost use Rattle.std.specs.Prelude.{◌≡◌, ◌<◌, ℕ, true, [], ◌∷◌, length, chars, IfSome};
 ghost use Rattle.fancy_lex.specs.EscapeViews.{escape_of};
 ghost use Rattle.fancy_grammar.specs.AtomStart.{leaf_node};
 ghost use Rattle.fancy_syntax.specs.Log.{Log};
-ghost use Rattle.fancy_syntax.specs.Machine.{IsRecordedPlain};
+ghost use Rattle.fancy_syntax.specs.Machine.{IsPlainLeaf};
 ghost use Rattle.fancy_syntax.specs.Recording.{quants_recorded};
 ghost use Rattle.fancy_syntax.specs.Parsed.{state};
 ghost use Rattle.fancy_grammar.specs.Plain as spec;
 ghost use Rattle.fancy_grammar.specs.Quantified.{quants};
-ghost use Rattle.fancy_grammar.specs.State.{done};
+ghost use Rattle.fancy_grammar.specs.State.{at, done};
 ghost use Rattle.fancy_grammar.specs.Tree.{Tree, literal};
 
 use crate::grammar::spanning::Spanning;
@@ -17,44 +17,30 @@ use fancy_lex::escape::{Escaped, short_escape};
 use fancy_lex::layout::is_layout;
 use fancy_lex::text::{after, next};
 
-/// The character at the front and what follows it, if one look ahead shows that it is a literal without layout and
-/// quantifiers.
+/// The character at the front and what follows it, if it is a literal.
 #[inline(always)]
 pub(crate) fn plain<'a>(current: State<'a>) -> Option<(char, &'a str)>
-    ensures plain { IfSome result (λ p. IsRecordedPlain (state current.entry)
-        (literal (p.0 ∷ []) current.entry.flags.casei) (chars p.1.now)) }
+    ensures plain { IfSome result (λ p. IsPlainLeaf (state current.entry)
+        (literal (p.0 ∷ []) current.entry.flags.casei) (at (state current.entry) (chars p.1.now))) }
     ensures shorter { IfSome result (λ p. length p.1.now < length current.entry.rest.now) }
 {
     let (c, rest) = next(current.rest)?;
     if is_special(c) || is_layout(current.flags.ignore_space, c) {
         return None;
     }
-    let past = State {
-        flags: current.flags,
-        rest,
-    };
-    if !is_unquantified(past) {
-        return None;
-    }
     Some((c, rest))
 }
 
-/// The leaf of the escape at the front and what follows it, if a look ahead reads all of it and no layout or
-/// quantifier follows. Each way to record spans has a copy of its own, which is inlined at its call.
+/// The leaf of the escape at the front and what follows it, if a look ahead reads all of it. Each way to record spans
+/// has a copy of its own, which is inlined at its call.
 #[inline(always)]
 pub(crate) fn plain_escape<'a, S: Spanning>(current: State<'a>) -> Option<(Escaped<'a>, &'a str)>
-    ensures plain { IfSome result (λ p. IsRecordedPlain (state current.entry) (leaf_node (escape_of p.0)) (chars p.1.now)) }
+    ensures plain { IfSome result (λ p. IsPlainLeaf (state current.entry) (leaf_node (escape_of p.0))
+        (at (state current.entry) (chars p.1.now))) }
     ensures shorter { IfSome result (λ p. length p.1.now < length current.entry.rest.now) }
 {
     let text = after(current.rest, '\\')?;
     let (leaf, rest) = short_escape(text, current.flags)?;
-    let past = State {
-        flags: current.flags,
-        rest,
-    };
-    if !is_unquantified(past) {
-        return None;
-    }
     Some((leaf, rest))
 }
 

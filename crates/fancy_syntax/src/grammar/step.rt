@@ -1,5 +1,6 @@
 //! The steps of the loop that read a piece, or continue with the next part of a group.
-ghost use Rattle.std.specs.Prelude.{◌≡◌, ◌+◌, ◌<◌, ◌≤◌, true, false, length, chars, IfOk, OnOk, MatchResult, None};
+ghost use Rattle.std.specs.Prelude.{◌≡◌, ◌+◌, ◌<◌, ◌≤◌, true, false, List, [], ◌∷◌, ◌++◌, length, chars, vec_len, IfOk, OnOk};
+ghost use Rattle.std.specs.Prelude.{MatchResult, None};
 ghost use Rattle.fancy_lex.specs.Characters.{bar};
 ghost use Rattle.fancy_lex.specs.Text.{bytes, reach_of, strip};
 ghost use Rattle.fancy_grammar.specs.State.{ends};
@@ -8,14 +9,14 @@ ghost use Rattle.fancy_grammar.specs.Grammar as spec;
 ghost use Rattle.fancy_syntax.specs.Log.{Log};
 ghost use Rattle.fancy_syntax.specs.Machine as machine;
 ghost use Rattle.fancy_syntax.specs.Machine.{OpensPart, OpensBelow, Part, GivesStep, GivesPiece, ended_part, part_of};
-ghost use Rattle.fancy_syntax.specs.Machine.{close_recorded, part_recorded};
+ghost use Rattle.fancy_syntax.specs.Machine.{TurnsLast, close_recorded, part_recorded};
 ghost use Rattle.fancy_syntax.specs.Recording.{body_separated, group_recorded, quants_recorded, step_recorded};
 ghost use Rattle.fancy_syntax.specs.Parsed.{group_kind, state, GivesTree};
 ghost use Rattle.fancy_grammar.specs.Quantified.{quants};
 ghost use Rattle.fancy_grammar.specs.Errors.{IsErrorAmong};
 ghost use Rattle.fancy_grammar.specs.State as states;
 ghost use Rattle.fancy_grammar.specs.Tree.{Tree};
-ghost use Rattle.fancy_syntax.specs.View.{view};
+ghost use Rattle.fancy_syntax.specs.View.{view, views};
 
 use crate::expr::{Absent, Expr};
 use crate::grammar::atom::read_atom_start;
@@ -126,6 +127,29 @@ fn piece<'a, S: Spanning>(
             Err(error)
         }
     }
+}
+
+/// Reads the quantifiers of the last tree.
+#[inline(never)]
+pub(crate) fn quantify_last<S: Spanning>(
+    alloc: Global,
+    trees: &mut Vec<Expr>,
+    current: &mut State,
+    left: usize,
+    depth: usize,
+    spans: &mut S,
+) -> Result<(), ReadError>
+    requires depth { depth < max_depth }
+    requires some { 0 < vec_len trees.old }
+    ensures value { (below : List Tree) (tree : Tree) → views trees.old.items ≡ below ++ tree ∷ [] →
+        TurnsLast result (views trees.new.items) below (state current.new) (quants depth left tree (state current.old)) }
+    ensures within { length current.new.rest.now ≤ length current.old.rest.now }
+    ensures spans { (below : List Tree) (tree : Tree) (l : Log) → views trees.old.items ≡ below ++ tree ∷ [] →
+        S.records spans.old l →
+        OnOk result (S.records spans.new (quants_recorded left (states.done tree (state current.old)) l)) }
+{
+    let last = trees.len() - 1;
+    quantify(alloc, &mut trees[last], current, left, depth, spans)
 }
 
 /// Ends a part that no bar follows: the piece ends with it, or the next part of the same group opens. A quantifier

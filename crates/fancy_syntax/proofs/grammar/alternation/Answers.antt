@@ -15,6 +15,12 @@ loop-parser-init g c =
       within = rw r.current (omega arith);
     }
 
+pub returns-in_err-add_leaf-clause-value : goal.returns-in_err-add_leaf-clause-value
+returns-in_err-add_leaf-clause-value g c =
+    let e = err_from_is_err_and c.from_residual-in_err-add_leaf.result c.from_residual-in_err-add_leaf.ensures.1 in
+    let (l, h, n) = c.loop-parser.invariant.reading (started 0) in
+    rw (e.1, e.2) (c.in_err-add_leaf.ensures.reading _ _ l h)
+
 pub returns-in_err-step-clause-value : goal.returns-in_err-step-clause-value
 returns-in_err-step-clause-value g c =
     let e = err_from_is_err_and c.from_residual-in_err-step.result c.from_residual-in_err-step.ensures.1 in

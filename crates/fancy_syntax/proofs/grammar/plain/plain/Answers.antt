@@ -1,10 +1,9 @@
 use Rattle.std.proofs.Common.{sym}
 use Rattle.fancy_syntax.specs.Parsed.{state}
-use Rattle.fancy_syntax.proofs.PlainLaws.{is_recorded_plain}
+use Rattle.fancy_syntax.proofs.PlainLaws.{is_plain_literal}
 use Rattle.fancy_syntax.proofs.grammar.plain.plain.Goals as goal
 
 pub returns-clause-plain : goal.returns-clause-plain
 returns-clause-plain c =
-    is_recorded_plain (state c.args.current) _ _ (sym c.if-is_layout.ensures) c.in_ok-c.ensures.value
-    (sym c.if-is_special.ensures) (c.is_unquantified.ensures.quants c.if-not-is_unquantified.false)
-    (c.is_unquantified.ensures.spans c.if-not-is_unquantified.false)
+    is_plain_literal (state c.args.current) _ _ (sym c.if-is_layout.ensures) c.in_ok-c.ensures.value
+    (sym c.if-is_special.ensures)

@@ -1,27 +1,64 @@
-use Rattle.std.proofs.Common.{ap, ◌∙◌, subst}
-use Rattle.fancy_grammar.specs.Join.{is_empty}
-use Rattle.fancy_syntax.specs.View.{view}
-use Rattle.fancy_syntax.proofs.MachineLemmas.{running_leaf, added_leaf}
+use Rattle.std.proofs.Common.{◌≡◌, length, arith, ap, ◌∙◌, sym, subst, if◌then◌else◌}
+use Rattle.std.proofs.lemmas.Result.{err_from_is_err_and}
+use Rattle.fancy_lex.specs.Text.{bytes, reach_of}
+use Rattle.fancy_grammar.specs.Grammar.{Alternation}
+use Rattle.fancy_grammar.specs.Quantified.{quants}
+use Rattle.fancy_grammar.specs.State.{done}
+use Rattle.fancy_syntax.specs.Log.{leaf_recorded}
+use Rattle.fancy_syntax.specs.Recording.{quants_recorded}
+use Rattle.fancy_syntax.specs.Parsed.{state}
+use Rattle.fancy_syntax.proofs.MachineLemmas.{running_leaf, running_leaf_error}
+use Rattle.fancy_grammar.proofs.OutcomeLemmas.{IsErrorAmong-map}
 use Rattle.fancy_syntax.proofs.grammar.parser.Parser.add_leaf.Goals as goal
 
-pub returns-in-Some-clause-reading : goal.returns-in-Some-clause-reading
-returns-in-Some-clause-reading g c start none l h =
-    let p = c.in-Some.ensures.plain in (
+pub returns-in_err-quantify_last-clause-reading : goal.returns-in_err-quantify_last-clause-reading
+returns-in_err-quantify_last-clause-reading g c start none l h =
+    let s = state c.args.self.now.current in
+    let u = state c.read_leaf.new.current in
+    let n : c.len-depth.result ≡ length c.args.self.now.stack.items =
+    omega (arith, c.len-depth.ensures, c.args.self.now.stack.ok.0) in
+    let (r, p, put) = c.in_ok-read_leaf.ensures.leaf c.if-not-branch.false in
+    let e = err_from_is_err_and c.from_residual-in_err-quantify_last.result
+    c.from_residual-in_err-quantify_last.ensures.1 in
+    rw (e.1, e.2) (IsErrorAmong-map (λ o. quants c.len-depth.result c.byte_len-left.result r u ≡ o)
+    (Alternation 0 start) c.in_err-quantify_last.field-0.0
+    (λ k q x. running_leaf_error h p (ap (λ d. quants d (bytes s.rest) r u) (sym n)
+    ∙ ap (λ left. quants c.len-depth.result left r u) (sym c.byte_len-left.ensures) ∙ x))
+    (c.in_err-quantify_last.ensures.value _ r put))
+
+pub returns-then-is_unquantified-clause-reading : goal.returns-then-is_unquantified-clause-reading
+returns-then-is_unquantified-clause-reading g c start none l h =
+    let s = state c.args.self.now.current in
+    let u = state c.read_leaf.new.current in
+    let found = c.if-not-branch.false in
+    let (r, p, put) = c.in_ok-read_leaf.ensures.leaf found in
+    let m = leaf_recorded (reach_of s.rest) (reach_of u.rest) l in (
       _,
-      running_leaf _ h p (rw c.in_ok-leaf.ensures at c.in_ok-add.ensures.trees),
-      λ n. subst (g.S.Spanning.records c.add.new.spans)
-          (added_leaf (view c.in_ok-leaf.leaf) _ _ _ _ l (ap is_empty c.in_ok-leaf.ensures ∙ p.solid)
-          c.reach.ensures c.reach-in-Some.ensures)
-          (c.in_ok-add.ensures.spans _ (c.in_ok-record_leaf.ensures l n)),
+      running_leaf _ h p
+          (c.is_unquantified.ensures.quants c.if-is_unquantified.true (length c.args.self.now.stack.items) (bytes s.rest) r)
+          put,
+      λ x. subst (g.S.Spanning.records c.read_leaf.new.spans)
+          (sym (c.is_unquantified.ensures.spans c.if-is_unquantified.true (bytes s.rest) r m))
+          (subst (λ b. g.S.Spanning.records c.read_leaf.new.spans (if b then m else l)) found
+          (c.in_ok-read_leaf.ensures.spans l x)),
     )
 
 pub returns-clause-reading : goal.returns-clause-reading
 returns-clause-reading g c start none l h =
-    let p = c.in-Some-plain_escape.ensures.plain in (
+    let s = state c.args.self.now.current in
+    let u = state c.read_leaf.new.current in
+    let n : c.len-depth.result ≡ length c.args.self.now.stack.items =
+    omega (arith, c.len-depth.ensures, c.args.self.now.stack.ok.0) in
+    let found = c.if-not-branch.false in
+    let (r, p, put) = c.in_ok-read_leaf.ensures.leaf found in
+    let (q, all, is) = c.in_ok-quantify_last.ensures.value _ r put in
+    let m = leaf_recorded (reach_of s.rest) (reach_of u.rest) l in (
       _,
-      running_leaf _ h p (rw c.in_ok-leaf-2.ensures at c.in_ok-add-2.ensures.trees),
-      λ n. subst (g.S.Spanning.records c.add-2.new.spans)
-          (added_leaf (view c.in_ok-leaf-2.leaf) _ _ _ _ l (ap is_empty c.in_ok-leaf-2.ensures ∙ p.solid)
-          c.reach-2.ensures c.reach-3.ensures)
-          (c.in_ok-add-2.ensures.spans _ (c.in_ok-record_leaf-2.ensures l n)),
+      running_leaf _ h p (ap (λ d. quants d (bytes s.rest) r u) (sym n)
+          ∙ ap (λ left. quants c.len-depth.result left r u) (sym c.byte_len-left.ensures) ∙ is) all,
+      λ x. subst (λ left. g.S.Spanning.records c.quantify_last.new.spans (quants_recorded left (done r u) m))
+          c.byte_len-left.ensures
+          (c.in_ok-quantify_last.ensures.spans _ r _ put
+          (subst (λ b. g.S.Spanning.records c.read_leaf.new.spans (if b then m else l)) found
+          (c.in_ok-read_leaf.ensures.spans l x))),
     )
