@@ -5,7 +5,6 @@ pub mod WritesLemmas
 pub mod SettledLemmas
 pub mod RowLemmas
 pub mod NodeLemmas
-mod ExpressionLemmas
 mod AmongLemmas
 mod NamesLemmas
 pub mod InfoLemmas

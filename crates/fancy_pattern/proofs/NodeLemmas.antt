@@ -13,7 +13,7 @@ use Rattle.fancy_grammar.specs.Pattern.{Context, deeper, past_groups, in_parens,
 use Rattle.fancy_grammar.specs.Pattern.{is_last_operand, after_inline_flags, allowed, repeated, written, group_count}
 use Rattle.fancy_grammar.specs.Pattern.{after, condition_text, branches_text, is_alt, repeater_text, stopper_text}
 use Rattle.fancy_grammar.specs.Pattern.{look_opening, takes_pieces, takes_branches, in_flag_group_unless, written_all}
-use Rattle.fancy_grammar.specs.Pattern.{written_branches}
+use Rattle.fancy_grammar.specs.Pattern.{written_branches, parenthesized}
 use Rattle.fancy_grammar.specs.PatternQuantifier.{is_possessive, is_quantified, quantifier_text}
 use Rattle.fancy_grammar.specs.PatternReference.{group_opening}
 use Rattle.fancy_grammar.specs.PatternWalk.{needs_listed, all_listed, after_all}
@@ -26,13 +26,13 @@ use Rattle.fancy_grammar.specs.declared.precedence.Precedence.{Precedence}
 use Rattle.fancy_grammar.specs.declared.precedence.Precedence.TheVariants.{Whole, Branch, Piece, Operand}
 use Rattle.fancy_pattern.specs.TextOutput.{Added, Changed, separated}
 use Rattle.fancy_pattern.specs.ContextViews.{IsContext}
-use Rattle.fancy_pattern.specs.Writers.{Writes, WritesSettled, needs_below, is_conditional, is_expression, parts_text}
+use Rattle.fancy_pattern.specs.Writers.{Writes, WritesSettled, WritesChoice, needs_below}
 use Rattle.fancy_pattern.specs.declared.context.Context as code
 use Rattle.fancy_pattern.specs.declared.output.TextOutput.{TextOutput}
 use Rattle.fancy_pattern.specs.declared.separator.Separator.TheVariants.{Condition}
 use Rattle.fancy_pattern.proofs.SettledLemmas.{keeps_after, no_more_groups}
 use Rattle.fancy_pattern.proofs.OutputLemmas.{added_as, then_added}
-use Rattle.fancy_pattern.proofs.WritesLemmas.{then_writes, text_writes, writes_as, after_writes}
+use Rattle.fancy_pattern.proofs.WritesLemmas.{then_writes, text_writes, writes_as}
 use Rattle.fancy_pattern.proofs.WritesLemmas.{parens_writes}
 
 -- ---- tests
@@ -114,21 +114,6 @@ atomic_alone m (over label.repeater t) p h e = refl
 atomic_alone m (over label.stopper t) p h e = refl
 atomic_alone m (over (label.ast_group name position) t) p h e = refl
 atomic_alone m (row r ts) p h e = refl
-
--- ---- nodes of two parts or three
-
-pub conditional_is : (t : Tree) → is_conditional t ≡ true →
-    (q : Tree) × ((u : Tree) × ((v : Tree) × (t ≡ conditional q u v)))
-conditional_is (row label.conditional (more_trees q (more_trees u (more_trees v no_trees)))) e = (q, (u, (v, refl)))
-conditional_is _ e = absurd (cc)
-
-abbrev pub condition_of : Tree → Tree
-condition_of (conditional q u v) = q
-condition_of _ = empty
-
-pub expression_is : (t : Tree) → is_expression t ≡ true → (u : Tree) × ((v : Tree) × (t ≡ expression u v))
-expression_is (row label.expression (more_trees u (more_trees v no_trees))) e = (u, (v, refl))
-expression_is _ e = absurd (cc)
 
 -- ---- a text without bytes
 
@@ -314,90 +299,90 @@ pub condition_writes : (a b : TextOutput) (i j : code.Context) (m : GroupInfo) (
 condition_writes a b i j m c e w =
     writes_as a b i j _ _ _ _ _ _ w (λ o. refl) (λ h. text_condition m c (written m c Whole h) e) (λ h. refl)
 
-abbrev pub ChoiceWrites : TextOutput → TextOutput → code.Context → code.Context → GroupInfo → Tree → Tree → Type 0
-ChoiceWrites a b i j m t e = Writes a b i j (λ o. all_listed o (more_trees t (more_trees e no_trees)))
-    (λ h. branches_text t e (written m t Branch h) (written m e Whole (after t Branch h)))
-    (λ h. after e Whole (after t Branch h))
+chosen : (none bar : Bool) (v w : Text) → (none ≡ true → (v ≡ []) × ((bar ≡ false) × (w ≡ []))) →
+    (bar ≡ false → w ≡ []) →
+    (if none then codes "()" else []) ++ (v ++ ((if bar then codes "|" else []) ++ w))
+    ≡ (if none then codes "()" else v ++ (if bar then codes "|" ++ w else []))
+chosen true bar v w e n =
+    let is = e refl in
+    ap (λ x. codes "()" ++ (x ++ ((if bar then codes "|" else []) ++ w))) is.0
+    ∙ ap (λ b. codes "()" ++ ((if b then codes "|" else []) ++ w)) is.1.0
+    ∙ ap (λ x. codes "()" ++ x) is.1.1
+chosen false true v w e n = refl
+chosen false false v w e n = ap (λ x. v ++ x) (n refl)
 
-pub no_choice : (a b : TextOutput) (i j k : code.Context) (m : GroupInfo) (t e : Tree) → (is_empty t && is_empty e) ≡ true →
-    Added a b (codes "()") →
-    ((h : Context) (d : Needs) (r : List Needs) → IsContext i h (d ∷ r) → IsContext j h r) →
-    ((h : Context) (d : Needs) (r : List Needs) → IsContext j h (d ∷ r) → IsContext k h r) → ChoiceWrites a b i k m t e
-no_choice a b i j k m t e none p past more =
-    let both = both_true (is_empty t) (is_empty e) none in
-    subst (λ x. ChoiceWrites a b i k m x e) (sym (empty_is t both.0))
-    (subst (λ x. ChoiceWrites a b i k m empty x) (sym (empty_is e both.1)) (record {
-      writes = λ h r at. (
-        p,
-        subst (λ g. IsContext k g r) (no_more_groups h ∙ no_more_groups (past_groups 0 h))
-            (more h _ r (past h _ (_ ∷ r) at)),
-      );
-    }))
+-- an empty branch has no text
+branches_as : (m : GroupInfo) (t u : Tree) (h g : Context) →
+    (if is_empty t && is_empty u then codes "()" else [])
+    ++ (written m t Branch h ++ ((if not (is_empty u) || is_alt t then codes "|" else []) ++ written m u Whole g))
+    ≡ branches_text t u (written m t Branch h) (written m u Whole g)
+branches_as m t u h g =
+    chosen (is_empty t && is_empty u) (not (is_empty u) || is_alt t) (written m t Branch h) (written m u Whole g)
+    (λ none.
+    let both = both_true (is_empty t) (is_empty u) none in
+    let first = empty_is t both.0 in (
+      ap (λ x. written m x Branch h) first,
+      (
+        ap (λ b. not b || is_alt t) both.1 ∙ ap is_alt first,
+        ap (λ x. written m x Whole g) (empty_is u both.1),
+      ),
+    ))
+    (λ bar. ap (λ x. written m x Whole g) (empty_is u (neither (is_empty u) (is_alt t) bar)))
 
-without_bar : (t e : Tree) (v w : Text) → (is_empty t && is_empty e) ≡ false →
-    (not (is_empty e) || is_alt t) ≡ false → v ≡ branches_text t e v w
-without_bar t e v w some none = rw (some, none) (sym (append-nil v))
+pub choice_writes : (a b c d e : TextOutput) (i j k : code.Context) (m : GroupInfo) (t u : Tree) →
+    Added a b (if is_empty t && is_empty u then codes "()" else []) →
+    Writes b c i j (λ o. needs_listed o t) (written m t Branch) (after t Branch) →
+    Added c d (if not (is_empty u) || is_alt t then codes "|" else []) →
+    Writes d e j k (λ o. needs_listed o u) (written m u Whole) (after u Whole) → WritesChoice a e i k m t u
+choice_writes a b c d e i j k m t u p w q v =
+    writes_as a e i k _ _ _ _ _ _
+    (then_writes a b e i i k _ _ _ _ _ _ (λ h. refl) (text_writes a b i _ p)
+    (then_writes b c e i j k _ _ _ _ _ _ (keeps_after t Branch) w
+    (then_writes c d e j j k _ _ _ _ _ _ (λ h. refl) (text_writes c d j _ q) v)))
+    (λ o. ap (λ l. needs_listed o t ++ l) (sym (append-nil (needs_listed o u))))
+    (λ h. branches_as m t u h (after t Branch h)) (λ h. refl)
 
-with_bar : (t e : Tree) (v w : Text) → (is_empty t && is_empty e) ≡ false → (not (is_empty e) || is_alt t) ≡ true →
-    v ++ (codes "|" ++ w) ≡ branches_text t e v w
-with_bar t e v w some one = rw (some, one) refl
+abbrev conditional_text : GroupInfo → Tree → Tree → Tree → Context → Text
+conditional_text m q t u =
+    in_parens (codes "?") (λ i. let j = after q Whole i in parenthesized (condition_text m q (written m q Whole i))
+    ++ branches_text t u (written m t Branch j) (written m u Whole (after t Branch j)))
 
-pub one_choice : (a b : TextOutput) (i j k : code.Context) (m : GroupInfo) (t e : Tree) → (is_empty t && is_empty e) ≡ false →
-    (not (is_empty e) || is_alt t) ≡ false →
-    Writes a b i j (λ o. needs_listed o t) (written m t Branch) (after t Branch) →
-    ((h : Context) (d : Needs) (r : List Needs) → IsContext j h (d ∷ r) → IsContext k h r) → ChoiceWrites a b i k m t e
-one_choice a b i j k m t e some bars w past =
-    let none = empty_is e (neither (is_empty e) (is_alt t) bars) in
-    subst (λ x. ChoiceWrites a b i k m t x) (sym none)
-    (writes_as a b i k _ _ _ _ _ _
-    (after_writes a b i j k (λ o. _) (λ o. needs_listed o t) (written m t Branch) (after t Branch)
-    (keeps_after t Branch) past w)
-    (λ o. refl)
-    (λ h. without_bar t empty (written m t Branch h) (written m empty Whole (after t Branch h))
-    (subst (λ x. (is_empty t && is_empty x) ≡ false) none some)
-    (subst (λ x. (not (is_empty x) || is_alt t) ≡ false) none bars))
-    (λ h. no_more_groups (after t Branch h)))
-
-pub two_choices : (a b c d : TextOutput) (i j k : code.Context) (m : GroupInfo) (t e : Tree) →
-    (is_empty t && is_empty e) ≡ false →
-    (not (is_empty e) || is_alt t) ≡ true →
-    Writes a b i j (λ o. needs_listed o t) (written m t Branch) (after t Branch) →
-    Added b c (codes "|") →
-    Writes c d j k (λ o. needs_listed o e) (written m e Whole) (after e Whole) → ChoiceWrites a d i k m t e
-two_choices a b c d i j k m t e some bars w p v =
-    writes_as a d i k _ _ _ _ _ _
-    (then_writes a b d i j k _ _ _ _ _ _ (keeps_after t Branch) w
-    (then_writes b c d j j k _ _ _ _ _ _ (λ h. refl) (text_writes b c j (codes "|") p) v))
-    (λ o. ap (λ l. needs_listed o t ++ l) (sym (append-nil (needs_listed o e))))
-    (λ h. with_bar t e (written m t Branch h) (written m e Whole (after t Branch h)) some bars) (λ h. refl)
-
-pub conditional_writes : (a b c d e f : TextOutput) (i j k o z : code.Context) (m : GroupInfo) (q t u : Tree) →
-    Added a b (codes "(" ++ codes "?(") →
+pub conditional_writes : (a b c d e f : TextOutput) (i j k o z : code.Context) (m : GroupInfo) (q t u : Tree)
+    (p : Precedence) → Added a b (codes "(" ++ codes "?(") →
     ((h : Context) (l : List Needs) → IsContext i h l → IsContext j (deeper h) l) →
     Writes b c j k (λ o. needs_listed o q) (λ h. condition_text m q (written m q Whole h)) (after q Whole) →
-    Added c d (codes ")") → ChoiceWrites d e k o m t u → Added e f (codes ")") →
+    Added c d (codes ")") → WritesChoice d e k o m t u → Added e f (codes ")") →
     ((h g : Context) (x l : List Needs) → IsContext i h x → IsContext o g l →
     IsContext z (record h { opened = g.opened }) l) →
-    Writes a f i z (λ o. needs_below o (conditional q t u)) (parts_text m (conditional q t u))
-    (past_groups (group_count (conditional q t u)))
-conditional_writes a b c d e f i j k o z m q t u opens at w symbol v closes out =
+    WritesSettled a f i z m (conditional q t u) p
+conditional_writes a b c d e f i j k o z m q t u p opens at w symbol v closes out =
     let text : Context → Text = λ h. branches_text t u (written m t Branch h) (written m u Whole (after t Branch h)) in
     let whole = parens_writes a b e f i j o z (codes "?(") _ _ _ opens at
     (then_writes b c e j k o _ _ _ _ _ _ (keeps_after q Whole) w
     (then_writes c d e k k o _ _ _ _ _ _ (λ h. refl) (text_writes c d k (codes ")") symbol) v))
     closes out in
-    writes_as a f i z _ _ _ _ _ _ whole (λ o. refl)
-    (λ h.
-    let g = deeper h in
-    ap (λ x. codes "(?(" ++ (x ++ codes ")"))
-    (sym (append_assoc (condition_text m q (written m q Whole g)) (codes ")") (text (after q Whole g)))))
-    (λ h.
-    let groups : h.opened + group_count q + group_count t + group_count u
-    ≡ h.opened + (group_count q + (group_count t + (group_count u + 0))) = omega arith in
-    ap (λ n. record h { opened = n }) groups)
+    record {
+      text = conditional_text m q t u;
+      is = λ h. refl;
+      writes = writes_as a f i z _ _ _ _ _ _ whole (λ o. refl)
+          (λ h.
+          let g = deeper h in
+          ap (λ x. codes "(?(" ++ (x ++ codes ")"))
+          (sym (append_assoc (condition_text m q (written m q Whole g)) (codes ")") (text (after q Whole g)))))
+          (λ h.
+          let groups : h.opened + group_count q + group_count t + group_count u
+          ≡ h.opened + (group_count q + (group_count t + (group_count u + 0))) = omega arith in
+          ap (λ n. record h { opened = n }) groups);
+    }
 
-pub expression_writes : (a b c d e f : TextOutput) (i j k o z : code.Context) (m : GroupInfo) (t u : Tree) →
-    Added a b (codes "(" ++ codes "?~|") →
+-- ---- absent expressions
+
+abbrev expression_text : GroupInfo → Tree → Tree → Context → Text
+expression_text m t u =
+    in_parens (codes "?~|") (λ i. written m t Branch i ++ (codes "|" ++ written m u Branch (after t Branch i)))
+
+pub expression_writes : (a b c d e f : TextOutput) (i j k o z : code.Context) (m : GroupInfo) (t u : Tree)
+    (p : Precedence) → Added a b (codes "(" ++ codes "?~|") →
     ((h : Context) (l : List Needs) → IsContext i h l → IsContext j (deeper h) l) →
     Writes b c j k (λ o. needs_listed o t) (written m t Branch) (after t Branch) →
     Added c d (codes "|") →
@@ -405,19 +390,22 @@ pub expression_writes : (a b c d e f : TextOutput) (i j k o z : code.Context) (m
     Added e f (codes ")") →
     ((h g : Context) (x l : List Needs) → IsContext i h x → IsContext o g l →
     IsContext z (record h { opened = g.opened }) l) →
-    Writes a f i z (λ o. needs_below o (expression t u))
-    (parts_text m (expression t u)) (past_groups (group_count (expression t u)))
-expression_writes a b c d e f i j k o z m t u opens at w symbol v closes out =
+    WritesSettled a f i z m (expression t u) p
+expression_writes a b c d e f i j k o z m t u p opens at w symbol v closes out =
     let whole = parens_writes a b e f i j o z (codes "?~|") _ _ _ opens at
     (then_writes b c e j k o _ _ _ _ _ _ (keeps_after t Branch) w
     (then_writes c d e k k o _ _ _ _ _ _ (λ h. refl) (text_writes c d k (codes "|") symbol) v))
     closes out in
-    writes_as a f i z _ _ _ _ _ _ whole
-    (λ o. ap (λ l. needs_listed o t ++ l) (sym (append-nil (needs_listed o u)))) (λ h. refl)
-    (λ h.
-    let groups : h.opened + group_count t + group_count u ≡ h.opened + (group_count t + (group_count u + 0))
-    = omega arith in
-    ap (λ n. record h { opened = n }) groups)
+    record {
+      text = expression_text m t u;
+      is = λ h. refl;
+      writes = writes_as a f i z _ _ _ _ _ _ whole
+          (λ o. ap (λ l. needs_listed o t ++ l) (sym (append-nil (needs_listed o u)))) (λ h. refl)
+          (λ h.
+          let groups : h.opened + group_count t + group_count u ≡ h.opened + (group_count t + (group_count u + 0))
+          = omega arith in
+          ap (λ n. record h { opened = n }) groups);
+    }
 
 -- ---- what follows the flags that are set before a tree
 
@@ -480,19 +468,6 @@ settled_stopper a b i j m t p w = record {
   is = λ h. refl;
   writes = w;
 }
-
-pub settled_expression : (a b : TextOutput) (i j : code.Context) (m : GroupInfo) (t u : Tree) (p : Precedence) →
-    Writes a b i j (λ o. needs_below o (expression t u))
-    (parts_text m (expression t u)) (past_groups (group_count (expression t u))) →
-    WritesSettled a b i j m (expression t u) p
-settled_expression a b i j m t u p w = record { text = parts_text m (expression t u); is = λ h. refl; writes = w }
-
-pub settled_conditional : (a b : TextOutput) (i j : code.Context) (m : GroupInfo) (q t u : Tree) (p : Precedence) →
-    Writes a b i j (λ o. needs_below o (conditional q t u)) (parts_text m (conditional q t u))
-    (past_groups (group_count (conditional q t u))) →
-    WritesSettled a b i j m (conditional q t u) p
-settled_conditional a b i j m q t u p w =
-    record { text = parts_text m (conditional q t u); is = λ h. refl; writes = w }
 
 -- ---- rows
 

@@ -83,17 +83,6 @@ past_writes a b i j k d l t n past p = record {
   writes = λ h r is. p.writes h r (past h (d h.flags.oniguruma_mode) (l h.flags.oniguruma_mode ++ r) is);
 }
 
-pub after_writes : (a b : TextOutput) (i j k : code.Context) (d : Bool → Needs) (l : Bool → List Needs) (t : Context → Text)
-    (n : Context → Context) → KeepsMode n →
-    ((h : Context) (e : Needs) (r : List Needs) → IsContext j h (e ∷ r) → IsContext k h r) →
-    Writes a b i j l t n → Writes a b i k (λ o. l o ++ (d o ∷ [])) t n
-after_writes a b i j k d l t n mode past p = record {
-  writes = λ h r is.
-      let o = h.flags.oniguruma_mode in
-      let done = p.writes h (d o ∷ r) (subst (IsContext i h) (append_assoc (l o) (d o ∷ []) r) is) in
-      (done.0, past (n h) (d o) r done.1);
-}
-
 -- the added text is changed
 pub change_added : (a b c : TextOutput) (position : ℕ) (change : Text → Text) (u : Text) →
     position ≡ bytes (text_of a.text) → Added a b u → Changed b c position change →

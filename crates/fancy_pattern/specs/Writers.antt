@@ -1,11 +1,10 @@
 -- What the writers of a walk over a tree write.
-use Rattle.std.specs.Prelude.{◌≡◌, ◌++◌, Bool, true, false, List, [], ◌∷◌, codes}
+use Rattle.std.specs.Prelude.{◌≡◌, ◌++◌, Bool, true, false, List, [], ◌∷◌}
 use Rattle.fancy_lex.specs.Text.{Text}
 use Rattle.fancy_grammar.specs.GroupInfo.{GroupInfo}
-use Rattle.fancy_grammar.specs.Pattern.{Context, after_inline_flags, past_groups, group_count, written, in_parens, after}
-use Rattle.fancy_grammar.specs.Pattern.{parenthesized, condition_text, branches_text}
+use Rattle.fancy_grammar.specs.Pattern.{Context, after_inline_flags, past_groups, group_count, written, after, branches_text}
 use Rattle.fancy_grammar.specs.PatternWalk.{needs_listed, all_listed}
-use Rattle.fancy_grammar.specs.Tree.{Tree, no_trees, more_trees, empty, concat, alt, conditional, expression}
+use Rattle.fancy_grammar.specs.Tree.{Tree, no_trees, more_trees, empty, concat, alt}
 use Rattle.fancy_grammar.specs.declared.needs.Needs.{Needs}
 use Rattle.fancy_grammar.specs.declared.precedence.Precedence.{Precedence}
 use Rattle.fancy_grammar.specs.declared.precedence.Precedence.TheVariants.{Whole, Branch}
@@ -21,37 +20,11 @@ pub record Writes (old new : TextOutput) (from to : code.Context) (needs : Bool 
   pub writes : (h : Context) (l : List Needs) → IsContext from h (needs h.flags.oniguruma_mode ++ l) →
       Added old new (text h) × IsContext to (next h) l
 
--- ---- a node of two parts or three
-
-abbrev pub is_conditional : Tree → Bool
-is_conditional (conditional c t e) = true
-is_conditional _ = false
-
-abbrev pub is_expression : Tree → Bool
-is_expression (expression a e) = true
-is_expression _ = false
-
--- the group of the node, after the flags that are set before it
-abbrev pub parts_text : GroupInfo → Tree → Context → Text
-parts_text m (conditional c t e) h =
-    in_parens (codes "?") (λ i. let j = after c Whole i in parenthesized (condition_text m c (written m c Whole i))
-    ++ branches_text t e (written m t Branch j) (written m e Whole (after t Branch j))) h
-parts_text m (expression a e) h =
-    in_parens (codes "?~|") (λ i. written m a Branch i ++ (codes "|" ++ written m e Branch (after a Branch i))) h
-parts_text m _ h = []
-
--- the branches of a conditional: the needs of their nodes, their text, and the context of what follows
-abbrev pub branches_needs : Bool → Tree → List Needs
-branches_needs o (conditional c t e) = all_listed o (more_trees t (more_trees e no_trees))
-branches_needs o _ = []
-
-abbrev pub choice_text : GroupInfo → Tree → Context → Text
-choice_text m (conditional c t e) h = branches_text t e (written m t Branch h) (written m e Whole (after t Branch h))
-choice_text m _ h = []
-
-abbrev pub after_branches : Tree → Context → Context
-after_branches (conditional c t e) h = after e Whole (after t Branch h)
-after_branches _ h = h
+-- a writer wrote the branches of a conditional, and passed their nodes
+abbrev pub WritesChoice : TextOutput → TextOutput → code.Context → code.Context → GroupInfo → Tree → Tree → Type 0
+WritesChoice old new from to m t e = Writes old new from to (λ o. all_listed o (more_trees t (more_trees e no_trees)))
+    (λ h. branches_text t e (written m t Branch h) (written m e Whole (after t Branch h)))
+    (λ h. after e Whole (after t Branch h))
 
 -- ---- a tree before which flags are set
 

@@ -153,6 +153,17 @@ pub(crate) fn put_leaf(
         } => put_condition_alone(out, names, *group, *relative_recursion_level),
         Expr::SubroutineCall(group) => put_call(out, names, *group, context.opened),
         Expr::AstNode(node, _) => put_unresolved(out, node),
-        _ => Ok(()),
+        Expr::Empty
+        | Expr::Concat(_)
+        | Expr::Alt(_)
+        | Expr::Group(_)
+        | Expr::LookAround(..)
+        | Expr::Repeat { .. }
+        | Expr::AtomicGroup(_)
+        | Expr::Conditional { .. }
+        | Expr::Absent(Absent::Repeater(_))
+        | Expr::Absent(Absent::Expression { .. })
+        | Expr::Absent(Absent::Stopper(_))
+        | Expr::DefineGroup { .. } => Ok(()),
     }
 }

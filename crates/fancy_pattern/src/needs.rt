@@ -79,7 +79,14 @@ fn assertion_needs(assertion: Assertion) -> Needs
             crlf: Need::Fixed(crlf),
             ..no_needs()
         },
-        _ => no_needs(),
+        Assertion::StartText
+        | Assertion::EndText
+        | Assertion::WordBoundary
+        | Assertion::NotWordBoundary
+        | Assertion::LeftWordBoundary
+        | Assertion::RightWordBoundary
+        | Assertion::LeftWordHalfBoundary
+        | Assertion::RightWordHalfBoundary => no_needs(),
     }
 }
 
@@ -131,7 +138,24 @@ fn leaf_needs(tree: &Expr, oniguruma_mode: bool) -> Needs
             needs_dot(*newline, *crlf)
         },
         Expr::Assertion(assertion) => assertion_needs(*assertion),
-        _ => no_needs(),
+        Expr::Empty
+        | Expr::GeneralNewline { .. }
+        | Expr::LiteralBytes { .. }
+        | Expr::Concat(_)
+        | Expr::Alt(_)
+        | Expr::Group(_)
+        | Expr::LookAround(..)
+        | Expr::Repeat { .. }
+        | Expr::AtomicGroup(_)
+        | Expr::KeepOut
+        | Expr::ContinueFromPreviousMatchEnd
+        | Expr::BackrefExistsCondition { .. }
+        | Expr::Conditional { .. }
+        | Expr::SubroutineCall(_)
+        | Expr::BacktrackingControlVerb(_)
+        | Expr::Absent(_)
+        | Expr::DefineGroup { .. }
+        | Expr::AstNode(..) => no_needs(),
     }
 }
 

@@ -4,6 +4,7 @@ ghost use Rattle.std.specs.List.{list_all};
 ghost use Rattle.fancy_parts.specs.Quote.{range, counts_as};
 ghost use Rattle.fancy_grammar.specs.Depth.{max_depth};
 ghost use Rattle.fancy_grammar.specs.PatternQuantifier as spec;
+ghost use Rattle.fancy_grammar.specs.Tree.{atomic_group};
 ghost use Rattle.fancy_pattern.specs.TextOutput.{Added};
 ghost use Rattle.fancy_syntax.specs.View.{view};
 
@@ -30,17 +31,45 @@ pub(crate) fn is_possessive(lo: usize, hi: usize, flags: Flags) -> bool
     !flags.oniguruma_mode || lo < hi
 }
 
+/// Whether an atomic group of the tree is written as a possessive quantifier.
+fn is_possessive_repeat(tree: &Expr, flags: Flags) -> bool
+    ensures { result ≡ spec.is_quantified flags (atomic_group (view tree.now)) }
+{
+    let Expr::Repeat { lo, hi, .. } = tree else {
+        return false;
+    };
+    is_possessive(*lo, *hi, flags)
+}
+
 /// Whether the tree's text ends with a quantifier of its own.
 pub(crate) fn is_quantified(tree: &Expr, flags: Flags) -> bool
     ensures { result ≡ spec.is_quantified flags (view tree.now) }
 {
     match tree {
         Expr::Repeat { .. } => true,
-        Expr::AtomicGroup(child) => match &**child {
-            Expr::Repeat { lo, hi, .. } => is_possessive(*lo, *hi, flags),
-            _ => false,
-        },
-        _ => false,
+        Expr::AtomicGroup(child) => is_possessive_repeat(child, flags),
+        Expr::Empty
+        | Expr::Any { .. }
+        | Expr::Assertion(_)
+        | Expr::GeneralNewline { .. }
+        | Expr::Literal { .. }
+        | Expr::LiteralBytes { .. }
+        | Expr::Concat(_)
+        | Expr::Alt(_)
+        | Expr::Group(_)
+        | Expr::LookAround(..)
+        | Expr::Delegate { .. }
+        | Expr::Backref { .. }
+        | Expr::BackrefWithRelativeRecursionLevel { .. }
+        | Expr::KeepOut
+        | Expr::ContinueFromPreviousMatchEnd
+        | Expr::BackrefExistsCondition { .. }
+        | Expr::Conditional { .. }
+        | Expr::SubroutineCall(_)
+        | Expr::BacktrackingControlVerb(_)
+        | Expr::Absent(_)
+        | Expr::DefineGroup { .. }
+        | Expr::AstNode(..) => false,
     }
 }
 

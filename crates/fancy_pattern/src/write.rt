@@ -12,22 +12,21 @@ ghost use Rattle.fancy_grammar.specs.PatternQuantifier as spec_quantifier;
 ghost use Rattle.fancy_grammar.specs.PatternReference.{group_opening};
 ghost use Rattle.fancy_grammar.specs.Quantified as spec_quantified;
 ghost use Rattle.fancy_grammar.specs.PatternWalk.{needs_listed, all_listed, after_all};
-ghost use Rattle.fancy_grammar.specs.Tree.{concat, alt, look_around, atomic_group, trees_of};
+ghost use Rattle.fancy_grammar.specs.Tree.{concat, alt, look_around, atomic_group, conditional, expression, trees_of};
 ghost use Rattle.fancy_grammar.specs.declared.needs.Needs.{Needs};
+ghost use Rattle.fancy_grammar.specs.declared.precedence.Precedence.{Precedence};
 ghost use Rattle.fancy_grammar.specs.declared.precedence.Precedence.TheVariants.{Whole, Branch, Piece};
 ghost use Rattle.fancy_pattern.specs.TextOutput.{Added, Changed};
 ghost use Rattle.fancy_syntax.specs.View.{view, views};
 ghost use Rattle.fancy_pattern.specs.ContextViews.{IsContext, AreGroupNames, leaf_text_of};
-ghost use Rattle.fancy_pattern.specs.Writers.{Writes, WritesSettled, needs_below, takes_inline_flags};
-ghost use Rattle.fancy_pattern.specs.Writers.{is_conditional, is_expression, parts_text, branches_needs, choice_text};
-ghost use Rattle.fancy_pattern.specs.Writers.{after_branches};
+ghost use Rattle.fancy_pattern.specs.Writers.{Writes, WritesSettled, WritesChoice, takes_inline_flags};
 
 use crate::context::Context;
 use crate::flags::{open_flag_group, put_inline_flags};
 use crate::group_text::{close, look_opening, open};
 use crate::leaf::{put_leaf, verb_name};
 use crate::names::GroupNames;
-use crate::output::{TextOutput, put_ascii};
+use crate::output::{TextOutput, put_ascii, put_if};
 use crate::quantifier::{
     Quantifier, is_possessive, is_quantified, most_quantifiers, put_quantifier,
 };
@@ -312,9 +311,15 @@ fn put_settled(
             definitions,
             context,
         ),
-        Expr::Conditional { .. } => put_conditional(out, names, tree, context),
+        Expr::Conditional {
+            condition,
+            true_branch,
+            false_branch,
+        } => put_conditional(out, names, condition, true_branch, false_branch, context),
         Expr::Absent(Absent::Repeater(child)) => put_repeater(out, names, child, context),
-        Expr::Absent(Absent::Expression { .. }) => put_expression(out, names, tree, context),
+        Expr::Absent(Absent::Expression { absent, exp }) => put_expression(
+            out, names, absent, exp, context,
+        ),
         Expr::Absent(Absent::Stopper(child)) => put_stopper(out, names, child, context),
         Expr::Any { .. }
         | Expr::Assertion(_)
@@ -555,22 +560,20 @@ fn put_quantified(
 fn put_conditional(
     out: &mut TextOutput,
     names: &GroupNames,
-    tree: &Expr,
+    condition: &Expr,
+    true_branch: &Expr,
+    false_branch: &Expr,
     context: &mut Context,
 ) -> Result<(), AllocError>
-    ensures { (m : GroupInfo) → AreGroupNames names.now m → is_conditional (view tree.now) ≡ true →
-        OnOk result (Writes out.old out.new context.old context.new
-        (λ o. needs_below o (view tree.now)) (parts_text m (view tree.now))
-        (spec.past_groups (spec.group_count (view tree.now)))) }
+    ensures { (m : GroupInfo) (p : Precedence) → AreGroupNames names.now m → OnOk result
+        (WritesSettled out.old out.new context.old context.new m
+        (conditional (view condition.now) (view true_branch.now) (view false_branch.now)) p) }
 {
-    let Expr::Conditional { condition, .. } = tree else {
-        return Ok(());
-    };
     let outside = *context;
     open(out, "?(", context)?;
     put_condition(out, names, condition, context)?;
     out.put(')')?;
-    put_choice(out, names, tree, context)?;
+    put_choice(out, names, true_branch, false_branch, context)?;
     close(out, &outside, context)
 }
 
@@ -599,7 +602,28 @@ fn put_condition(
             context.pass_node();
             put_ascii(out, verb_name(*verb))
         }
-        _ => {
+        Expr::Empty
+        | Expr::Any { .. }
+        | Expr::Assertion(_)
+        | Expr::GeneralNewline { .. }
+        | Expr::Literal { .. }
+        | Expr::LiteralBytes { .. }
+        | Expr::Concat(_)
+        | Expr::Alt(_)
+        | Expr::Group(_)
+        | Expr::LookAround(..)
+        | Expr::Repeat { .. }
+        | Expr::Delegate { .. }
+        | Expr::Backref { .. }
+        | Expr::BackrefWithRelativeRecursionLevel { .. }
+        | Expr::AtomicGroup(_)
+        | Expr::KeepOut
+        | Expr::ContinueFromPreviousMatchEnd
+        | Expr::Conditional { .. }
+        | Expr::SubroutineCall(_)
+        | Expr::Absent(_)
+        | Expr::DefineGroup { .. }
+        | Expr::AstNode(..) => {
             let position = out.len();
             put_tree(out, names, condition, Precedence::Whole, context)?;
             out.separate(position, Separator::Condition)
@@ -607,11 +631,20 @@ fn put_condition(
     }
 }
 
-/// Whether both branches of a Conditional are empty.
-fn are_empty(true_branch: &Expr, false_branch: &Expr) -> bool
-    ensures { result ≡ (is_empty (view true_branch.now) && is_empty (view false_branch.now)) }
+/// Writes `()` if both branches of a Conditional are empty: a condition alone would be parsed as another node.
+fn put_empty_choice(
+    out: &mut TextOutput,
+    true_branch: &Expr,
+    false_branch: &Expr,
+) -> Result<(), AllocError>
+    ensures { OnOk result (Added out.old out.new
+        (if is_empty (view true_branch.now) && is_empty (view false_branch.now) then codes "()" else [])) }
 {
-    matches!(true_branch, Expr::Empty) && matches!(false_branch, Expr::Empty)
+    if matches!(true_branch, Expr::Empty) && matches!(false_branch, Expr::Empty) {
+        put_ascii(out, "()")
+    } else {
+        Ok(())
+    }
 }
 
 /// Whether a bar follows the first branch of a Conditional. Without it, an Alt there would be parsed as both branches.
@@ -621,37 +654,21 @@ fn needs_bar(true_branch: &Expr, false_branch: &Expr) -> bool
     !matches!(false_branch, Expr::Empty) || matches!(true_branch, Expr::Alt(_))
 }
 
-/// Writes the branches of a Conditional.
+/// Writes the branches of a Conditional. An empty one adds no text.
 #[cycle(write)]
 fn put_choice(
     out: &mut TextOutput,
     names: &GroupNames,
-    tree: &Expr,
+    true_branch: &Expr,
+    false_branch: &Expr,
     context: &mut Context,
 ) -> Result<(), AllocError>
-    ensures { (m : GroupInfo) → AreGroupNames names.now m → is_conditional (view tree.now) ≡ true →
-        OnOk result (Writes out.old out.new context.old context.new
-        (λ o. branches_needs o (view tree.now)) (choice_text m (view tree.now)) (after_branches (view tree.now))) }
+    ensures { (m : GroupInfo) → AreGroupNames names.now m → OnOk result
+        (WritesChoice out.old out.new context.old context.new m (view true_branch.now) (view false_branch.now)) }
 {
-    let Expr::Conditional {
-        true_branch,
-        false_branch,
-        ..
-    } = tree
-    else {
-        return Ok(());
-    };
-    if are_empty(true_branch, false_branch) {
-        context.pass_node();
-        context.pass_node();
-        return put_ascii(out, "()");
-    }
+    put_empty_choice(out, true_branch, false_branch)?;
     put_tree(out, names, true_branch, Precedence::Branch, context)?;
-    if !needs_bar(true_branch, false_branch) {
-        context.pass_node();
-        return Ok(());
-    }
-    out.put('|')?;
+    put_if(out, needs_bar(true_branch, false_branch), '|')?;
     put_tree(out, names, false_branch, Precedence::Whole, context)
 }
 
@@ -681,20 +698,13 @@ fn put_repeater(
 fn put_expression(
     out: &mut TextOutput,
     names: &GroupNames,
-    tree: &Expr,
+    absent: &Expr,
+    exp: &Expr,
     context: &mut Context,
 ) -> Result<(), AllocError>
-    ensures { (m : GroupInfo) → AreGroupNames names.now m → is_expression (view tree.now) ≡ true →
-        OnOk result (Writes out.old out.new context.old context.new
-        (λ o. needs_below o (view tree.now)) (parts_text m (view tree.now))
-        (spec.past_groups (spec.group_count (view tree.now)))) }
+    ensures { (m : GroupInfo) (p : Precedence) → AreGroupNames names.now m → OnOk result
+        (WritesSettled out.old out.new context.old context.new m (expression (view absent.now) (view exp.now)) p) }
 {
-    let Expr::Absent(parts) = tree else {
-        return Ok(());
-    };
-    let Absent::Expression { absent, exp } = parts else {
-        return Ok(());
-    };
     let outside = *context;
     open(out, "?~|", context)?;
     put_tree(out, names, absent, Precedence::Branch, context)?;

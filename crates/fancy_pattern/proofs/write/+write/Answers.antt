@@ -1,36 +1,32 @@
-use Rattle.std.proofs.Common.{◌≡◌, ◌+◌, not, ◌&&◌, ◌||◌, true, false, codes, sym, ap, ◌∙◌, subst, refl, rules}
-use Rattle.fancy_grammar.specs.Join.{is_empty}
+use Rattle.std.proofs.Common.{◌≡◌, ◌+◌, true, false, [], codes, sym, ap, ◌∙◌, subst, refl, rules, if◌then◌else◌}
 use Rattle.fancy_grammar.specs.Label as label
 use Rattle.fancy_grammar.specs.Pattern.{written, written_all, written_branches, condition_text, after, verb_name}
-use Rattle.fancy_grammar.specs.Pattern.{in_parens, past_groups, group_count, look_opening, is_alt, repeated}
+use Rattle.fancy_grammar.specs.Pattern.{in_parens, past_groups, group_count, look_opening, repeated}
 use Rattle.fancy_grammar.specs.PatternNeeds.{first, needs}
 use Rattle.fancy_grammar.specs.PatternQuantifier.{quantifier_text}
 use Rattle.fancy_grammar.specs.PatternReference.{target_text}
 use Rattle.fancy_grammar.specs.PatternWalk.{needs_listed}
 use Rattle.fancy_grammar.specs.Tree.{group, look_around, repeat, atomic_group, define_group, repeater, stopper, expression}
 use Rattle.fancy_grammar.specs.Tree.{conditional, concat, alt, empty, backref_exists, verb, is_leaf, trees_of}
-use Rattle.fancy_grammar.specs.declared.precedence.Precedence.TheVariants.{Whole, Branch}
+use Rattle.fancy_grammar.specs.declared.precedence.Precedence.TheVariants.{Whole}
 use Rattle.fancy_pattern.specs.TextOutput.{Added}
-use Rattle.std.proofs.lemmas.Bool.{false≢true}
-use Rattle.fancy_syntax.specs.View.{view, view_absent, views}
 use Rattle.fancy_pattern.specs.Writers.{Writes, WritesSettled, takes_inline_flags}
-use Rattle.fancy_pattern.specs.Writers.{needs_below, is_conditional, is_expression, parts_text, branches_needs}
-use Rattle.fancy_pattern.specs.Writers.{choice_text, after_branches}
+use Rattle.fancy_syntax.specs.View.{view, views}
 use Rattle.fancy_syntax.specs.declared.expr.Absent as absent_type
 use Rattle.fancy_syntax.specs.declared.expr.Expr.{the_lemmas}
 use Rattle.fancy_syntax.proofs.PrintLemmas.{left, left_step, left_end}
+use Rattle.fancy_pattern.proofs.OutputLemmas.{added_as}
 use Rattle.fancy_pattern.proofs.WritesLemmas.{on_then, on_when, parens_writes, changed_writes, past_writes, text_writes}
 use Rattle.fancy_pattern.proofs.SettledLemmas.{leaf_writes, settled_writes, node_writes, empty_writes, flag_group_writes}
 use Rattle.fancy_pattern.proofs.RowLemmas.{pieces_left, all_branches, barred_left, on_starts, on_as, on_piece}
 use Rattle.fancy_pattern.proofs.RowLemmas.{pieces_end, on_first, on_branch, branches_end, no_branches, first_branch}
-use Rattle.fancy_pattern.proofs.ExpressionLemmas.{not_expression}
 use Rattle.fancy_pattern.proofs.NodeLemmas.{look_writes, last_writes, group_writes}
 use Rattle.fancy_pattern.proofs.NodeLemmas.{quantified_writes, atomic_writes, atomic_in_group, word_writes}
-use Rattle.fancy_pattern.proofs.NodeLemmas.{condition_writes, no_choice, one_choice, two_choices, conditional_writes}
+use Rattle.fancy_pattern.proofs.NodeLemmas.{condition_writes, choice_writes, conditional_writes}
 use Rattle.fancy_pattern.proofs.NodeLemmas.{expression_writes, settled_group, settled_look, settled_repeat}
-use Rattle.fancy_pattern.proofs.NodeLemmas.{settled_define, settled_repeater, settled_stopper, settled_expression}
-use Rattle.fancy_pattern.proofs.NodeLemmas.{settled_conditional, pieces_writes, branches_writes, concat_in_flag_group}
-use Rattle.fancy_pattern.proofs.NodeLemmas.{alt_in_flag_group, condition_of, conditional_is, expression_is}
+use Rattle.fancy_pattern.proofs.NodeLemmas.{settled_define, settled_repeater, settled_stopper}
+use Rattle.fancy_pattern.proofs.NodeLemmas.{pieces_writes, branches_writes, concat_in_flag_group}
+use Rattle.fancy_pattern.proofs.NodeLemmas.{alt_in_flag_group}
 use Rattle.fancy_pattern.proofs.write.+write.Goals as goal
 
 -- ---- groups
@@ -91,53 +87,17 @@ put_stopper-returns t c = λ m names. on_then _ _ _ c.close.ensures
     c.in_ok-fill.ensures)
     closed.0 closed.1)
 
-pub put_expression-returns-in_default : goal.put_expression-returns-in_default
-put_expression-returns-in_default t c = λ m names e.
-    let no : is_expression (view c.args.tree.now) ≡ false = search (rules, the_lemmas) in
-    absurd cc
-
-pub put_expression-returns-in_default-parts : goal.put_expression-returns-in_default-parts
-put_expression-returns-in_default-parts t c = λ m names e.
-    let is : view c.args.tree.now ≡ view_absent c.in-Absent.parts = search (rules, the_lemmas) in
-    let no = not_expression c.in-Absent.parts c.in_default-parts.not-Expression in
-    absurd (false≢true (sym no ∙ ap is_expression (sym is) ∙ e))
-
 pub put_expression-returns : goal.put_expression-returns
-put_expression-returns t c = λ m names e.
-    let is : view c.args.tree.now ≡ expression (view c.deref.result.now) (view c.deref-2.result.now)
-    = search (rules, the_lemmas) in
-    on_then _ _ _ c.close.ensures
-    (λ closed. subst (λ x. Writes c.args.out.now c.close.new.out c.args.context.now
-    c.close.new.context (λ o. needs_below o x) (parts_text m x)
-    (past_groups (group_count x))) (sym is)
-    (expression_writes _ _ _ _ _ _ _ _ _ _ _ m _ _ c.in_ok-open.ensures.0
-    c.in_ok-open.ensures.1 (c.in_ok-put_tree.ensures m names) c.in_ok-put.ensures (c.in_ok-put_tree-2.ensures m names)
-    closed.0 closed.1))
-
-pub put_conditional-returns-in_default : goal.put_conditional-returns-in_default
-put_conditional-returns-in_default t c = λ m names e.
-    let no : is_conditional (view c.args.tree.now) ≡ false = search (rules, the_lemmas) in
-    absurd cc
+put_expression-returns t c = λ m p names. on_then _ _ _ c.close.ensures
+    (λ closed. expression_writes _ _ _ _ _ _ _ _ _ _ _ m _ _ p c.in_ok-open.ensures.0 c.in_ok-open.ensures.1
+    (c.in_ok-put_tree.ensures m names) c.in_ok-put.ensures (c.in_ok-put_tree-2.ensures m names)
+    closed.0 closed.1)
 
 pub put_conditional-returns : goal.put_conditional-returns
-put_conditional-returns t c = λ m names e.
-    let shape = conditional_is (view c.args.tree.now) e in
-    let q = shape.0 in
-    let is : view c.args.tree.now ≡ conditional q shape.1.0 shape.1.1.0 = shape.1.1.1 in
-    let found : view c.deref.result.now ≡ condition_of (view c.args.tree.now) = search (rules, the_lemmas) in
-    let first = subst (λ x. Writes c.open.new.out c.put_condition.new.out c.open.new.context
-    c.put_condition.new.context (λ o. needs_listed o x) (λ h. condition_text m x (written m x Whole h)) (after x Whole))
-    (found ∙ ap condition_of is) (c.in_ok-put_condition.ensures m names) in
-    let rest = subst (λ x. Writes c.put.new.self c.put_choice.new.out c.put_condition.new.context
-    c.put_choice.new.context
-    (λ o. branches_needs o x) (choice_text m x) (after_branches x)) is (c.in_ok-put_choice.ensures m names e) in
-    on_then _ _ _ c.close.ensures
-    (λ closed. subst (λ x. Writes c.args.out.now c.close.new.out c.args.context.now
-    c.close.new.context (λ o. needs_below o x) (parts_text m x)
-    (past_groups (group_count x))) (sym is)
-    (conditional_writes _ _ _ _ _ _ _ _ _ _ _ m q shape.1.0 shape.1.1.0 c.in_ok-open.ensures.0
-    c.in_ok-open.ensures.1
-    first c.in_ok-put.ensures rest closed.0 closed.1))
+put_conditional-returns t c = λ m p names. on_then _ _ _ c.close.ensures
+    (λ closed. conditional_writes _ _ _ _ _ _ _ _ _ _ _ m _ _ _ p c.in_ok-open.ensures.0 c.in_ok-open.ensures.1
+    (c.in_ok-put_condition.ensures m names) c.in_ok-put.ensures (c.in_ok-put_choice.ensures m names)
+    closed.0 closed.1)
 
 -- ---- quantifiers
 
@@ -238,86 +198,16 @@ put_condition-returns-in-BacktrackingControlVerb t c = λ m names.
     (subst (Added c.args.out.now c.put_ascii.new.out) (sym c.verb_name.ensures.text) w)
     c.pass_node-in-BacktrackingControlVerb.ensures))
 
-pub put_condition-returns-in_ok-put_tree-in_default : goal.put_condition-returns-in_ok-put_tree-in_default
-put_condition-returns-in_ok-put_tree-in_default t c = λ m names. on_then _ _ _ c.separate.ensures
+pub put_condition-returns-in_ok-put_tree-in-Empty : goal.put_condition-returns-in_ok-put_tree-in-Empty
+put_condition-returns-in_ok-put_tree-in-Empty t c = λ m names. on_then _ _ _ c.separate.ensures
     (λ w. condition_writes _ _ _ _ m (view c.args.condition.now) (search (rules, the_lemmas))
     (changed_writes _ _ _ _ _ _ _ _ _ _ c.len-position.ensures
-    (c.in_ok-put_tree-in_default.ensures m names) w))
-
-pub put_choice-returns-in_default : goal.put_choice-returns-in_default
-put_choice-returns-in_default t c = λ m names e.
-    let no : is_conditional (view c.args.tree.now) ≡ false = search (rules, the_lemmas) in
-    absurd cc
-
-pub put_choice-returns-then-are_empty : goal.put_choice-returns-then-are_empty
-put_choice-returns-then-are_empty t c = λ m names e.
-    let t = view c.in-Conditional.true_branch.value in
-    let f = view c.in-Conditional.false_branch.value in
-    let is : view c.args.tree.now ≡ conditional (view c.in-Conditional.condition.value) t f = search (rules, the_lemmas) in
-    let first : view c.deref.result.now ≡ t = search (rules, the_lemmas) in
-    let other : view c.deref-2.result.now ≡ f = search (rules, the_lemmas) in
-    let empty_is : c.are_empty.result ≡ (is_empty t && is_empty f)
-    = c.are_empty.ensures ∙ (λ i. is_empty (first i) && is_empty (other i)) in
-    on_then _ _ _ c.put_ascii.ensures
-    (λ w. subst (λ x. Writes c.args.out.now c.put_ascii.new.out c.args.context.now
-    c.pass_node-then-are_empty.new.self
-    (λ o. branches_needs o x) (choice_text m x) (after_branches x)) (sym is)
-    (no_choice _ _ _ _ _ m t f (sym empty_is ∙ c.if-are_empty.true) w
-    c.pass_node.ensures c.pass_node-then-are_empty.ensures))
-
-pub put_choice-returns-then-not-needs_bar : goal.put_choice-returns-then-not-needs_bar
-put_choice-returns-then-not-needs_bar t c = λ m names e.
-    let t = view c.in-Conditional.true_branch.value in
-    let f = view c.in-Conditional.false_branch.value in
-    let is : view c.args.tree.now ≡ conditional (view c.in-Conditional.condition.value) t f = search (rules, the_lemmas) in
-    let first : view c.deref.result.now ≡ t = search (rules, the_lemmas) in
-    let other : view c.deref-2.result.now ≡ f = search (rules, the_lemmas) in
-    let empty_is : c.are_empty.result ≡ (is_empty t && is_empty f)
-    = c.are_empty.ensures ∙ (λ i. is_empty (first i) && is_empty (other i)) in
-    let one : view c.deref-3.result.now ≡ t = search (rules, the_lemmas) in
-    let again : view c.deref-4.result.now ≡ t = search (rules, the_lemmas) in
-    let second : view c.deref-5.result.now ≡ f = search (rules, the_lemmas) in
-    let bar_is : c.needs_bar.result ≡ (not (is_empty f) || is_alt t)
-    = c.needs_bar.ensures ∙ (λ i. not (is_empty (second i)) || is_alt (again i)) in
-    let w = subst (λ x. Writes c.args.out.now c.put_tree.new.out c.args.context.now
-    c.put_tree.new.context
-    (λ o. needs_listed o x) (written m x Branch) (after x Branch)) one (c.in_ok-put_tree.ensures m names) in
-    subst (λ x. Writes c.args.out.now c.put_tree.new.out c.args.context.now
-    c.pass_node-then-not-needs_bar.new.self (λ o. branches_needs o x) (choice_text m x)
-    (after_branches x)) (sym is)
-    (one_choice _ _ _ _ _ m t f (sym empty_is ∙ c.if-are_empty.false)
-    (sym bar_is ∙ c.if-not-needs_bar.true) w c.pass_node-then-not-needs_bar.ensures)
+    (c.in_ok-put_tree-in-Empty.ensures m names) w))
 
 pub put_choice-returns : goal.put_choice-returns
-put_choice-returns t c = λ m names e.
-    let t = view c.in-Conditional.true_branch.value in
-    let f = view c.in-Conditional.false_branch.value in
-    let is : view c.args.tree.now ≡ conditional (view c.in-Conditional.condition.value) t f = search (rules, the_lemmas) in
-    let first : view c.deref.result.now ≡ t = search (rules, the_lemmas) in
-    let other : view c.deref-2.result.now ≡ f = search (rules, the_lemmas) in
-    let empty_is : c.are_empty.result ≡ (is_empty t && is_empty f)
-    = c.are_empty.ensures ∙ (λ i. is_empty (first i) && is_empty (other i)) in
-    let one : view c.deref-3.result.now ≡ t = search (rules, the_lemmas) in
-    let again : view c.deref-4.result.now ≡ t = search (rules, the_lemmas) in
-    let second : view c.deref-5.result.now ≡ f = search (rules, the_lemmas) in
-    let bar_is : c.needs_bar.result ≡ (not (is_empty f) || is_alt t)
-    = c.needs_bar.ensures ∙ (λ i. not (is_empty (second i)) || is_alt (again i)) in
-    let w = subst (λ x. Writes c.args.out.now c.put_tree.new.out c.args.context.now
-    c.put_tree.new.context
-    (λ o. needs_listed o x) (written m x Branch) (after x Branch)) one (c.in_ok-put_tree.ensures m names) in
-    let last : view c.deref-6.result.now ≡ f = search (rules, the_lemmas) in
-    on_then _ _ _ (c.put_tree-2.ensures m names)
-    (λ v. subst (λ x. Writes c.args.out.now c.put_tree-2.new.out c.args.context.now
-    c.put_tree-2.new.context (λ o. branches_needs o x) (choice_text m x)
-    (after_branches x)) (sym is)
-    (two_choices c.args.out.now c.put_tree.new.out c.put.new.self c.put_tree-2.new.out
-    c.args.context.now
-    c.put_tree.new.context c.put_tree-2.new.context m t f (sym empty_is ∙ c.if-are_empty.false)
-    (sym bar_is ∙ c.if-not-needs_bar.false) w
-    c.in_ok-put.ensures
-    (subst (λ x. Writes c.put.new.self c.put_tree-2.new.out c.put_tree.new.context
-    c.put_tree-2.new.context (λ o. needs_listed o x)
-    (written m x Whole) (after x Whole)) last v)))
+put_choice-returns t c = λ m names. on_then _ _ _ (c.put_tree-2.ensures m names)
+    (λ w. choice_writes _ _ _ _ _ _ _ _ m _ _ c.in_ok-put_empty_choice.ensures (c.in_ok-put_tree.ensures m names)
+    (added_as _ _ _ _ c.in_ok-put_if.ensures (ap (λ b. if b then codes "|" else []) c.needs_bar.ensures)) w)
 
 -- ---- rows
 
@@ -446,17 +336,11 @@ put_settled-returns-in-DefineGroup t c = λ m names.
 
 pub put_settled-returns-in-Conditional : goal.put_settled-returns-in-Conditional
 put_settled-returns-in-Conditional t c = λ m names.
-    let e : is_conditional (view c.args.tree.now) ≡ true = search (rules, the_lemmas) in
-    let shape = conditional_is (view c.args.tree.now) e in
-    let is : view c.args.tree.now ≡ conditional shape.0 shape.1.0 shape.1.1.0 = shape.1.1.1 in
-    on_then _ _ _ (c.put_conditional.ensures m names e)
+    let is : view c.args.tree.now ≡ conditional (view c.deref-in-Conditional.result.now)
+    (view c.deref-in-Conditional-2.result.now) (view c.deref-in-Conditional-3.result.now) = search (rules, the_lemmas) in
+    on_then _ _ _ (c.put_conditional.ensures m c.args.precedence names)
     (λ w. subst (λ x. WritesSettled c.args.out.now c.put_conditional.new.out c.args.context.now
-    c.put_conditional.new.context m x c.args.precedence)
-    (sym is)
-    (settled_conditional _ _ _ _ m shape.0 shape.1.0 shape.1.1.0 c.args.precedence
-    (subst (λ x. Writes c.args.out.now c.put_conditional.new.out c.args.context.now
-    c.put_conditional.new.context (λ o. needs_below o x)
-    (parts_text m x) (past_groups (group_count x))) is w)))
+    c.put_conditional.new.context m x c.args.precedence) (sym is) w)
 
 pub put_settled-returns-in-Absent-Repeater : goal.put_settled-returns-in-Absent-Repeater
 put_settled-returns-in-Absent-Repeater t c = λ m names.
@@ -468,17 +352,11 @@ put_settled-returns-in-Absent-Repeater t c = λ m names.
 
 pub put_settled-returns-in-Absent-Expression : goal.put_settled-returns-in-Absent-Expression
 put_settled-returns-in-Absent-Expression t c = λ m names.
-    let e : is_expression (view c.args.tree.now) ≡ true = search (rules, the_lemmas) in
-    let shape = expression_is (view c.args.tree.now) e in
-    let is : view c.args.tree.now ≡ expression shape.0 shape.1.0 = shape.1.1 in
-    on_then _ _ _ (c.put_expression.ensures m names e)
+    let is : view c.args.tree.now ≡ expression (view c.deref-in-Absent-Expression.result.now)
+    (view c.deref-in-Absent-Expression-2.result.now) = search (rules, the_lemmas) in
+    on_then _ _ _ (c.put_expression.ensures m c.args.precedence names)
     (λ w. subst (λ x. WritesSettled c.args.out.now c.put_expression.new.out c.args.context.now
-    c.put_expression.new.context m x c.args.precedence)
-    (sym is)
-    (settled_expression _ _ _ _ m shape.0 shape.1.0 c.args.precedence
-    (subst (λ x. Writes c.args.out.now c.put_expression.new.out c.args.context.now
-    c.put_expression.new.context (λ o. needs_below o x)
-    (parts_text m x) (past_groups (group_count x))) is w)))
+    c.put_expression.new.context m x c.args.precedence) (sym is) w)
 
 pub put_settled-returns-in-Absent-Stopper : goal.put_settled-returns-in-Absent-Stopper
 put_settled-returns-in-Absent-Stopper t c = λ m names.
