@@ -1,13 +1,10 @@
 //! `patterns SUBCOMMAND ..` checks, shows and formats patterns, as `patterns --help` says.
 #![tactic(auto)]
 
-mod execute;
 mod files;
-mod rules;
-mod words;
 
-use execute::execute;
 use files::Host;
+use patterns_command::execute::execute;
 use patterns_program::sources::{System, Terminals};
 use patterns_text::error::{RunError, give_up};
 use patterns_text::paint::{Paint, Paints};
@@ -57,8 +54,3 @@ fn main(rt: HostRuntime) -> ExitCode {
         Err(_) => ExitCode::from(give_up(&mut rt.stderr(), RunError::Memory(AllocError))),
     }
 }
-
-#[cfg(test)]
-mod memory;
-#[cfg(test)]
-mod tests;

@@ -10,7 +10,7 @@ use crate::text::Xml;
 use fancy_spans::SpannedTree;
 use fancy_syntax::expr::Expr;
 use fancy_syntax::span::Span;
-use patterns_text::drawing::role;
+use patterns_listing::drawing::role;
 use patterns_text::error::RunError;
 use patterns_text::subject::Subject;
 use std::io;

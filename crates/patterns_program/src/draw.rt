@@ -5,7 +5,7 @@ ghost use Rattle.patterns_text.specs.Subject.{IsAccepted, IsRefused};
 use crate::objects::Json;
 use crate::reporter::{Reporter, parse};
 use crate::text::Text;
-use patterns_text::drawing::Look;
+use patterns_listing::drawing::Look;
 use patterns_text::error::{RunError, give_up};
 use patterns_text::subject::Subject;
 use std::io::Write;

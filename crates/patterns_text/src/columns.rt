@@ -49,11 +49,16 @@ pub struct ColumnTable {
     points: Vec<Point>,
 }
 
-/// Where the groups and the references begin and end, and the positions of unresolved calls, in the order of the text.
+/// Whether the node has a line in a list: a group, a reference or a class.
+fn is_listed(node: &Expr) -> bool {
+    matches!(node, Expr::Group(_) | Expr::Delegate { .. }) || is_reference(node)
+}
+
+/// Where the nodes that are listed begin and end, and the positions of unresolved calls, in the order of the text.
 fn positions_of(alloc: Global, nodes: &[SpannedNode<'_>]) -> Result<Vec<usize>, AllocError> {
     let mut positions = Vec::new(alloc);
     for node in nodes {
-        if matches!(node.expr(), Expr::Group(_)) || is_reference(node.expr()) {
+        if is_listed(node.expr()) {
             let Span { start, end } = node.span();
             positions.push(start)?;
             positions.push(end)?;
@@ -67,7 +72,8 @@ fn positions_of(alloc: Global, nodes: &[SpannedNode<'_>]) -> Result<Vec<usize>, 
 }
 
 impl ColumnTable {
-    /// That of the starts and the ends of the groups and the references among the nodes, which are those of the pattern.
+    /// That of the starts and the ends of the groups, references and classes among the nodes, which are those of the
+    /// pattern.
     pub fn of(
         alloc: Global,
         pattern: &str,

@@ -1,14 +1,11 @@
-//! What is written of a pattern as text: where it is, why it is invalid, its nodes in words, its tree, its groups.
+//! What is written of a pattern as text: where it is, why it is invalid, its nodes in words.
 #![tactic(auto)]
 
-pub mod class_words;
 pub mod columns;
-pub mod drawing;
 pub mod error;
 pub mod excerpt;
 pub mod group_info;
 pub mod hints;
-pub mod listing;
 pub mod names;
 pub mod nodes;
 pub mod octal;

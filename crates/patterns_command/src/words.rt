@@ -2,6 +2,7 @@
 use clap::builder::{ArgPredicate, ValueParser};
 use clap::{Arg, ArgAction, ArgMatches, Command, value_parser};
 use fre_program::flag_word::flags_named;
+use patterns_listing::drawing::{Look, Style};
 use patterns_picture::picture::{Canvas, WIDTH};
 use patterns_program::form::FileFormat;
 use patterns_program::lines::Ending;
@@ -9,7 +10,6 @@ use patterns_program::objects::Report;
 use patterns_program::printing::Comments;
 use patterns_program::run::{STANDARD_INPUT, Verb};
 use patterns_program::values::keys::Keys;
-use patterns_text::drawing::{Look, Style};
 use patterns_text::paint::{Paint, Paints};
 use std::alloc::{AllocError, Global};
 
@@ -92,6 +92,10 @@ drawn as one literal";
 
 const CLASSES_HELP: &str = "Writes after each class the characters that it contains, as ranges,
 of which only the first are written";
+
+const CLASS_LINES_HELP: &str =
+    "Lists the classes as well, each with the characters that it contains,
+as ranges, of which only the first are written";
 
 const POSITION_HELP: &str = "Reads the pattern from a file, at a position: FILE:LINE, or for a
 text of JSON FILE:PATH, as in grammar.json:patterns[0].match; also
@@ -284,11 +288,11 @@ fn with_pattern<'a>(alloc: Global, command: Command<'a>) -> Result<Command<'a>, 
     command.arg(file)?.arg(pattern)
 }
 
-fn classes_arg<'a>(alloc: Global) -> Result<Arg<'a>, AllocError> {
+fn classes_arg<'a>(alloc: Global, help: &'a str) -> Result<Arg<'a>, AllocError> {
     Arg::new(alloc, "classes")
         .long("classes")
         .action(ArgAction::SetTrue)
-        .help(CLASSES_HELP)
+        .help(help)
         .conflicts_with("json")
 }
 
@@ -317,7 +321,7 @@ fn tree_command<'a>(alloc: Global) -> Result<Command<'a>, AllocError> {
         .arg(ascii)?
         .arg(spans)?
         .arg(all)?
-        .arg(classes_arg(alloc)?)?
+        .arg(classes_arg(alloc, CLASSES_HELP)?)?
         .arg(json_arg(alloc))?;
     with_pattern(alloc, command)
 }
@@ -393,6 +397,7 @@ fn lint_command<'a>(alloc: Global, names: &'a [&'a str]) -> Result<Command<'a>, 
 fn groups_command<'a>(alloc: Global) -> Result<Command<'a>, AllocError> {
     with_values(alloc, over_files(alloc, "groups", GROUPS, GROUPS_EXAMPLE)?)?
         .long_about(GROUPS_MORE)
+        .arg(classes_arg(alloc, CLASS_LINES_HELP)?)?
         .arg(json_arg(alloc))
 }
 
@@ -439,7 +444,9 @@ pub(crate) fn verb_chosen(name: &str, matches: &ArgMatches<'_>) -> Option<Verb> 
         "format" if matches.get_flag("check") => Some(Verb::IsFormatted(comments_chosen(matches))),
         "format" => Some(Verb::Format(comments_chosen(matches))),
         "groups" if matches.get_flag("json") => Some(Verb::Json(Report::Groups)),
-        "groups" => Some(Verb::Groups { has_classes: false }),
+        "groups" => Some(Verb::Groups {
+            has_classes: matches.get_flag("classes"),
+        }),
         _ => None,
     }
 }

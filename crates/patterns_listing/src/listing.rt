@@ -1,17 +1,17 @@
 //! A pattern's groups, and what its references and calls refer to, a line each.
 use crate::class_words::ClassWords;
-use crate::columns::ColumnTable;
-use crate::error::RunError;
-use crate::names::Names;
-use crate::paint::Ink;
-use crate::position::Location;
-use crate::subject::Subject;
-use crate::words::{Held, is_reference, write_reference};
 use class_meaning::characters_of;
 use fancy_lex::flags::Flags;
 use fancy_spans::SpannedNode;
 use fancy_syntax::expr::Expr;
 use fancy_syntax::span::Span;
+use patterns_text::columns::ColumnTable;
+use patterns_text::error::RunError;
+use patterns_text::names::Names;
+use patterns_text::paint::Ink;
+use patterns_text::position::Location;
+use patterns_text::subject::Subject;
+use patterns_text::words::{Held, is_reference, write_reference};
 use std::io;
 use std::io::Write;
 

@@ -1,6 +1,6 @@
 //! What a class contains.
-use crate::shown::Code;
 use class_meaning::ClassMeaning;
+use patterns_text::shown::Code;
 use std::fmt;
 
 /// How many ranges of a class are written.

@@ -3,7 +3,7 @@ use Rattle.fancy_spans.specs.Spanned.{remaining_spanned, spanned_of}
 use Rattle.fancy_syntax.specs.Tree.{levels}
 use Rattle.fancy_syntax.specs.View.{view, views}
 use Rattle.fancy_syntax.proofs.Descents.{within_start, within_first, within_next, levels_of_child}
-use Rattle.patterns_text.proofs.drawing.+draw.Goals as goal
+use Rattle.patterns_listing.proofs.drawing.+draw.Goals as goal
 
 pub loop-child-init : goal.loop-child-init
 loop-child-init g t c =

@@ -3,7 +3,7 @@ use Rattle.fancy_spans.specs.Spanned.{remaining_spanned, spanned_of}
 use Rattle.fancy_syntax.specs.Tree.{levels}
 use Rattle.fancy_syntax.specs.View.{view}
 use Rattle.fancy_syntax.proofs.Descents.{Within}
-use Rattle.patterns_text.proofs.drawing.+draw.Given as goal
+use Rattle.patterns_listing.proofs.drawing.+draw.Given as goal
 
 abbrev pub decreases-draw : goal.decreases-draw
 decreases-draw g l = levels (view (spanned_of l.node).expr)

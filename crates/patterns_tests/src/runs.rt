@@ -1,7 +1,6 @@
-//! What no run from outside shows: a reader and writers that fail, and colours on one terminal only. What the program
-//! writes is compared by `.ci/patterns` with the folder `data`.
-use crate::execute::execute;
+//! Runs on files and streams in memory.
 use crate::memory::{Limited, Memory};
+use patterns_command::execute::execute;
 use patterns_text::paint::{Paint, Paints};
 use std::alloc::Global;
 use std::test::Fail;

@@ -1,17 +1,17 @@
 //! A pattern's tree, drawn with branches.
 use crate::class_words::ClassWords;
-use crate::columns::ColumnTable;
-use crate::error::RunError;
-use crate::group_info::write_group_info;
-use crate::names::Names;
-use crate::nodes::nodes_of;
-use crate::subject::Subject;
-use crate::words::{Held, LiteralWords, Visible, is_reference, write_reference};
 use class_meaning::characters_of;
 use fancy_lex::flags::Flags;
 use fancy_spans::{SpannedNode, SpannedTree};
 use fancy_syntax::expr::{Absent, Expr};
 use fancy_syntax::span::Span;
+use patterns_text::columns::ColumnTable;
+use patterns_text::error::RunError;
+use patterns_text::group_info::write_group_info;
+use patterns_text::names::Names;
+use patterns_text::nodes::nodes_of;
+use patterns_text::subject::Subject;
+use patterns_text::words::{Held, LiteralWords, Visible, is_reference, write_reference};
 use std::alloc::{AllocError, Global};
 use std::io::Write;
 use std::{fmt, io};

@@ -161,7 +161,7 @@ impl<S: System, O: Write, E: Write> ProgramCall<'_, S, O, E> {
 /// Does what the arguments ask, the program's name first, and returns the exit status: that of the run, or 0 if help
 /// was asked for, 2 if the arguments are wrong, and 3 if memory ran out or a write failed. Where the arguments leave it open,
 /// `auto` says which stream has colours.
-pub(crate) fn execute<'a, S: System, O: Write, E: Write>(
+pub fn execute<'a, S: System, O: Write, E: Write>(
     alloc: Global,
     auto: Paints,
     words: &[String],
