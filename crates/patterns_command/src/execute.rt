@@ -1,8 +1,8 @@
 //! What the program does with its arguments.
 use crate::rules::{rule_names, rules_chosen};
 use crate::words::{
-    canvas_chosen, command, flags_chosen, form_chosen, look_chosen, max_warnings_chosen,
-    paints_chosen, verb_chosen, width_chosen,
+    ReportFormat, canvas_chosen, command, flags_chosen, form_chosen, format_chosen, look_chosen,
+    max_warnings_chosen, paints_chosen, verb_chosen, width_chosen,
 };
 use clap::error::ErrorKind;
 use clap::{ArgMatches, Error};
@@ -120,10 +120,10 @@ impl<S: System, O: Write, E: Write> ProgramCall<'_, S, O, E> {
             return Ok(0);
         }
         let chosen = rules_chosen(self.alloc, matches)?;
-        let verb = if matches.get_flag("json") {
-            Verb::LintJson(chosen)
-        } else {
-            Verb::Lint(chosen)
+        let verb = match format_chosen(matches) {
+            ReportFormat::Text => Verb::Lint(chosen),
+            ReportFormat::Json => Verb::LintJson(chosen),
+            ReportFormat::Annotations(format) => Verb::LintAnnotate(chosen, format),
         };
         self.execute_files(verb, flags, matches)
     }

@@ -11,6 +11,7 @@ use patterns_program::printing::Comments;
 use patterns_program::run::{STANDARD_INPUT, Verb};
 use patterns_program::values::keys::Keys;
 use patterns_text::paint::{Paint, Paints};
+use report_formats::annotation::AnnotationFormat;
 use std::alloc::{AllocError, Global};
 
 const ABOUT: &str =
@@ -53,6 +54,10 @@ const KEYS_HELP: &str = "Each file is JSON, and its texts under these keys are t
 patterns; with --textmate too, those under its keys are as well";
 
 const JSON_HELP: &str = "Writes JSON, one object per line, to standard output";
+
+const FORMAT_HELP: &str = "How reports are written: as text, which is the default; as json,
+like --json; as the workflow commands of github; or as sarif, which
+is SARIF 2.1.0";
 
 const QUIET_HELP: &str = "Shows neither progress nor the final summary on standard error,
 and no note on a file whose name is that of another format";
@@ -266,6 +271,19 @@ fn with_values<'a>(alloc: Global, command: Command<'a>) -> Result<Command<'a>, A
     command.arg(textmate)?.arg(keys)
 }
 
+/// The formats of reports.
+static FORMATS: [&str; 4] = ["text", "json", "github", "sarif"];
+
+/// The format of reports.
+fn format_arg<'a>(alloc: Global) -> Result<Arg<'a>, AllocError> {
+    Arg::new(alloc, "format")
+        .long("format")
+        .value_name("FORMAT")
+        .value_parser(FORMATS.as_slice())
+        .help(FORMAT_HELP)
+        .conflicts_with("json")
+}
+
 fn json_arg<'a>(alloc: Global) -> Arg<'a> {
     Arg::new(alloc, "json")
         .long("json")
@@ -297,7 +315,9 @@ fn classes_arg<'a>(alloc: Global, help: &'a str) -> Result<Arg<'a>, AllocError> 
 }
 
 fn check_command<'a>(alloc: Global) -> Result<Command<'a>, AllocError> {
-    with_values(alloc, over_files(alloc, "check", CHECK, CHECK_EXAMPLE)?)?.arg(json_arg(alloc))
+    with_values(alloc, over_files(alloc, "check", CHECK, CHECK_EXAMPLE)?)?
+        .arg(format_arg(alloc)?)?
+        .arg(json_arg(alloc))
 }
 
 fn tree_command<'a>(alloc: Global) -> Result<Command<'a>, AllocError> {
@@ -390,6 +410,7 @@ fn lint_command<'a>(alloc: Global, names: &'a [&'a str]) -> Result<Command<'a>, 
         .arg(level_arg(alloc, "warn", "Makes the reports of rules warnings", names))?
         .arg(level_arg(alloc, "deny", "Makes the reports of rules errors", names))?
         .arg(max_warnings)?
+        .arg(format_arg(alloc)?)?
         .arg(json_arg(alloc))?
         .arg(rules)
 }
@@ -436,11 +457,36 @@ fn comments_chosen(matches: &ArgMatches<'_>) -> Comments {
     }
 }
 
+/// How reports are written.
+#[derive(Clone, Copy)]
+pub(crate) enum ReportFormat {
+    /// As text, for people.
+    Text,
+    /// As JSON, an object a line.
+    Json,
+    /// For another tool.
+    Annotations(AnnotationFormat),
+}
+
+/// How the arguments choose reports to be written.
+pub(crate) fn format_chosen(matches: &ArgMatches<'_>) -> ReportFormat {
+    match matches.get_str("format") {
+        Some("json") => ReportFormat::Json,
+        Some("github") => ReportFormat::Annotations(AnnotationFormat::Github),
+        Some("sarif") => ReportFormat::Annotations(AnnotationFormat::Sarif),
+        _ if matches.get_flag("json") => ReportFormat::Json,
+        _ => ReportFormat::Text,
+    }
+}
+
 /// The subcommand over files that the arguments choose.
 pub(crate) fn verb_chosen(name: &str, matches: &ArgMatches<'_>) -> Option<Verb> {
     match name {
-        "check" if matches.get_flag("json") => Some(Verb::Json(Report::Check)),
-        "check" => Some(Verb::Check),
+        "check" => Some(match format_chosen(matches) {
+            ReportFormat::Text => Verb::Check,
+            ReportFormat::Json => Verb::Json(Report::Check),
+            ReportFormat::Annotations(format) => Verb::Annotate(format),
+        }),
         "format" if matches.get_flag("check") => Some(Verb::IsFormatted(comments_chosen(matches))),
         "format" => Some(Verb::Format(comments_chosen(matches))),
         "groups" if matches.get_flag("json") => Some(Verb::Json(Report::Groups)),

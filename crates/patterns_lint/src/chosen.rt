@@ -17,17 +17,18 @@ pub enum Level {
 /// The level of each rule.
 #[derive(Clone, Copy)]
 pub struct Chosen {
-    levels: [Level; 16],
+    levels: [Level; 17],
 }
 
 impl Chosen {
-    /// Every rule warns, except `unused-capturing-group`, which is silent: many patterns mix named and numbered groups
-    /// on purpose.
+    /// Every rule warns, except two, which are silent: `unused-capturing-group`, since many patterns mix named and numbered
+    /// groups on purpose; and `dialect-difference`, since many patterns are for this dialect alone.
     pub fn new() -> Chosen {
         let mut chosen = Chosen {
-            levels: [Level::Warn; 16],
+            levels: [Level::Warn; 17],
         };
         chosen.set(Rule::UnusedCapturingGroup, Level::Allow);
+        chosen.set(Rule::DialectDifference, Level::Allow);
         chosen
     }
 
@@ -51,9 +52,9 @@ impl Chosen {
 
     /// Gives every rule this level.
     pub fn set_all(&mut self, level: Level)
-        ensures { self.new.levels ≡ replicate 16 level }
+        ensures { self.new.levels ≡ replicate 17 level }
     {
-        self.levels = [level; 16];
+        self.levels = [level; 17];
     }
 
     /// Gives the rule this level.

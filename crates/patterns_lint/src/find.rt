@@ -1,11 +1,13 @@
 //! All that the rules find in a pattern.
 use crate::flags::useless_flags;
 use crate::grammar_rule::{GrammarRule, missing_captures};
-use crate::problem::Found;
+use crate::problem::{Found, Problem};
 use crate::references::{Ways, follow};
 use crate::scan::{Around, PatternInfo, scan};
 use crate::walk::Walk;
+use dialects::spelling::{DifferentSpelling, spellings};
 use fancy_spans::SpannedTree;
+use patterns_text::nodes::nodes_of;
 use patterns_text::subject::Subject;
 use std::alloc::AllocError;
 
@@ -15,6 +17,22 @@ static ROOT: Around = Around {
     is_whole: true,
     has_count_twin: false,
 };
+
+/// Adds what other dialects read otherwise.
+fn add_differences(
+    found: &mut Vec<Found<'_>>,
+    spellings: &[DifferentSpelling],
+) -> Result<(), AllocError> {
+    for one in spellings {
+        let DifferentSpelling { span, difference } = *one;
+        found.push(Found {
+            span,
+            problem: Problem::DialectDifference { difference },
+            related: None,
+        })?;
+    }
+    Ok(())
+}
 
 /// All that the rules find, in the order of the text. The tree is that of the pattern; `grammar` is what the object around
 /// it says, if it is a pattern of a grammar.
@@ -47,6 +65,10 @@ pub fn problems<'a>(
     let mut found = walk.found;
     found.extend_from_slice(&ways.walk.found)?;
     found.extend_from_slice(&useless_flags(alloc, pattern, &walk.leaves, flags)?)?;
+    add_differences(
+        &mut found,
+        &spellings(alloc, pattern, &nodes_of(alloc, parsed)?)?,
+    )?;
     if let Some(rule) = grammar {
         let captures = &rule.captures;
         found.extend_from_slice(&missing_captures(alloc, pattern, tree.total_groups, captures)?)?;

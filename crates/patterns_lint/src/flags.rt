@@ -1,6 +1,7 @@
 //! Flags that are set where they are set already. No node records inline flags or flag groups, so the text is read
 //! again: the text of each leaf is passed over, and what is left opens and closes groups.
 use crate::problem::{Found, Problem};
+use dialects::spelling::of_flag;
 use fancy_lex::flags::Flags;
 use fancy_lex::layout::past_layout;
 use fancy_lex::text::{after, next};
@@ -111,28 +112,41 @@ impl<'a> GroupReader<'a> {
         self.rest = rest;
     }
 
-    /// Reads the letter of a flag, which ends where `rest` begins, and returns the flags after it.
+    /// Adds what is wrong with the letter that ends where `rest` begins.
+    fn report(&mut self, rest: &str, problem: Problem<'static>) -> Result<(), AllocError> {
+        let end = self.position(rest);
+        let span = Span {
+            start: end.saturating_sub(1),
+            end,
+        };
+        self.found.push(Found {
+            span,
+            problem,
+            related: None,
+        })?;
+        Ok(())
+    }
+
+    /// Reads the letter of a flag, which ends where `rest` begins, and returns the flags after it. `is_first` says that no
+    /// letter is before it.
     fn letter(
         &mut self,
         flags: Flags,
         letter: char,
         clears: bool,
+        is_first: bool,
         rest: &str,
     ) -> Result<Flags, AllocError> {
-        if is_set(flags, letter) == Some(true) && !clears {
-            let end = self.position(rest);
-            let span = Span {
-                start: end.saturating_sub(1),
-                end,
-            };
-            let problem = Problem::UselessFlag { letter };
-            self.found.push(Found {
-                span,
-                problem,
-                related: None,
-            })?;
+        if clears {
+            return Ok(with(flags, letter, false));
         }
-        Ok(with(flags, letter, !clears))
+        if is_set(flags, letter) == Some(true) {
+            self.report(rest, Problem::UselessFlag { letter })?;
+        }
+        if let Some(difference) = of_flag(letter, rest, is_first, flags.oniguruma_mode) {
+            self.report(rest, Problem::DialectDifference { difference })?;
+        }
+        Ok(with(flags, letter, true))
     }
 
     /// Reads the letters of inline flags or of a flag group.
@@ -140,7 +154,7 @@ impl<'a> GroupReader<'a> {
         let mut clears = false;
         let mut flags = self.flags;
         let mut rest = text;
-        for _ in 0..text.len() {
+        for count in 0..text.len() {
             let Some((c, tail)) = next(self.past_layout(rest, flags)) else {
                 break;
             };
@@ -156,7 +170,7 @@ impl<'a> GroupReader<'a> {
                     break;
                 }
                 '-' => clears = true,
-                _ => flags = self.letter(flags, c, clears, rest)?,
+                _ => flags = self.letter(flags, c, clears, count == 0, rest)?,
             }
         }
         self.rest = rest;

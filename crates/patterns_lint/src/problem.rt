@@ -2,6 +2,7 @@
 use crate::grammar_rule::CaptureKey;
 use crate::rule::Rule;
 use crate::targets::is_of_digits;
+use dialects::difference::Difference;
 use fancy_syntax::span::Span;
 use patterns_text::excerpt::Related;
 use patterns_text::names::Named;
@@ -59,6 +60,10 @@ pub enum Problem<'a> {
         letter: char,
     },
     SingleCharacterClass,
+    /// What other dialects read otherwise.
+    DialectDifference {
+        difference: Difference,
+    },
 }
 
 /// A problem, and the part of the pattern that has it.
@@ -79,6 +84,8 @@ pub enum Help {
     Octal(Octal),
     /// About a back reference to group 0.
     WholePattern,
+    /// About what other dialects read otherwise.
+    Dialect(Difference),
 }
 
 impl fmt::Display for Help {
@@ -89,6 +96,7 @@ impl fmt::Display for Help {
             Help::WholePattern => {
                 f.write_str(r"group 0 is the whole match: write `\g<0>` to call the whole pattern")
             }
+            Help::Dialect(difference) => f.write_str(difference.advice()),
         }
     }
 }
@@ -128,6 +136,7 @@ impl Found<'_> {
                     (None, _) => rule,
                 }
             }
+            Problem::DialectDifference { difference } => Help::Dialect(difference),
             _ => rule,
         }
     }
@@ -163,6 +172,7 @@ impl Problem<'_> {
             Problem::ZeroQuantifier => Rule::ZeroQuantifier,
             Problem::UselessFlag { .. } => Rule::UselessFlag,
             Problem::SingleCharacterClass => Rule::SingleCharacterClass,
+            Problem::DialectDifference { .. } => Rule::DialectDifference,
         }
     }
 }
@@ -239,6 +249,7 @@ impl fmt::Display for Problem<'_> {
             Problem::ZeroQuantifier => f.write_str("quantifier that repeats zero times"),
             Problem::UselessFlag { letter } => write!(f, "flag {letter} is set already"),
             Problem::SingleCharacterClass => f.write_str("class of one character"),
+            Problem::DialectDifference { difference } => write!(f, "{difference}"),
         }
     }
 }

@@ -40,10 +40,12 @@ pub enum Rule {
     UselessFlag,
     /// A class of one letter or digit.
     SingleCharacterClass,
+    /// What other dialects read otherwise. The rule is off by default.
+    DialectDifference,
 }
 
 /// All rules, in the order in which they are listed.
-pub static RULES: [Rule; 16] = [
+pub static RULES: [Rule; 17] = [
     Rule::MissingGroup,
     Rule::MissingBeginGroup,
     Rule::MissingCaptureGroup,
@@ -60,6 +62,7 @@ pub static RULES: [Rule; 16] = [
     Rule::ZeroQuantifier,
     Rule::UselessFlag,
     Rule::SingleCharacterClass,
+    Rule::DialectDifference,
 ];
 
 /// The texts of a rule.
@@ -173,6 +176,12 @@ impl Rule {
                 example: r"[a]b",
                 help: "write the character without brackets",
             },
+            Rule::DialectDifference => RuleInfo {
+                name: "dialect-difference",
+                what: "what other dialects of regular expressions read otherwise (off by default)",
+                example: r"\h",
+                help: "write it so that every dialect reads the same",
+            },
         }
     }
 
@@ -186,6 +195,11 @@ impl Rule {
     /// A pattern that the rule reports; of a rule on grammars, an object of JSON.
     pub fn example(self) -> &'static str {
         self.about().example
+    }
+
+    /// What the rule reports.
+    pub fn what(self) -> &'static str {
+        self.about().what
     }
 
     /// What to do about a report of the rule.

@@ -3,7 +3,7 @@ ghost use Rattle.std.specs.Prelude.{◌≡◌, ◌≤◌, ◌⊎◌, Ok, IfOk};
 ghost use Rattle.patterns_text.specs.Subject.{IsAccepted, IsRefused};
 
 use crate::objects::Json;
-use crate::reporter::{Reporter, parse};
+use crate::reporter::{TreeReporter, parse};
 use crate::text::Text;
 use patterns_listing::drawing::Look;
 use patterns_text::error::{RunError, give_up};
@@ -11,7 +11,7 @@ use patterns_text::subject::Subject;
 use std::io::Write;
 
 /// Reports the tree of the pattern, or its error if it is invalid.
-fn report_tree<R: Reporter>(subject: Subject<'_>, reporter: &mut R) -> Result<u8, RunError>
+fn report_tree<R: TreeReporter>(subject: Subject<'_>, reporter: &mut R) -> Result<u8, RunError>
     ensures read { result ≡ Ok 0 → IsAccepted subject.entry }
     ensures refused { result ≡ Ok 1 → IsRefused subject.entry }
     ensures status { IfOk result (λ n. n ≤ 1) }

@@ -4,12 +4,12 @@ ghost use Rattle.patterns_program.specs.declared.outcome.Outcome.{Outcome};
 ghost use Rattle.patterns_text.specs.Subject.{IsAccepted, IsRefused};
 
 use crate::outcome::Outcome;
-use crate::reporter::{Reporter, parse};
+use crate::reporter::{TreeReporter, parse};
 use patterns_text::error::RunError;
 use patterns_text::subject::Subject;
 
 /// Reports the groups of the pattern and what its references and calls refer to, or its error if it is invalid.
-pub(crate) fn list_groups<R: Reporter>(
+pub(crate) fn list_groups<R: TreeReporter>(
     subject: Subject<'_>,
     reporter: &mut R,
 ) -> Result<Outcome, RunError>

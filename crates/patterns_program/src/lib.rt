@@ -2,6 +2,7 @@
 //! what a subcommand says. The tests of this crate are in `patterns`, and in its folder `data`, which `.ci/patterns` reads.
 #![tactic(auto)]
 
+mod annotations;
 mod check;
 mod comments;
 pub mod draw;

@@ -1,5 +1,5 @@
 //! Reports as JSON, an object a line.
-mod code;
+pub(crate) mod code;
 mod group_fields;
 mod line;
 mod node;
@@ -12,7 +12,7 @@ use crate::objects::line::{begin, finish, write_related, write_span, write_text}
 use crate::objects::node::write_node;
 use crate::objects::positions::Positions;
 use crate::objects::problem::{write_omitted, write_problem};
-use crate::reporter::{MAX_REPORTS, Reporter};
+use crate::reporter::{MAX_REPORTS, Reporter, TreeReporter};
 use fancy_spans::SpannedTree;
 use fancy_syntax::span::Span;
 use patterns_lint::chosen::Chosen;
@@ -73,7 +73,9 @@ impl<O: Write> Reporter for Json<'_, O> {
         }
         write_omitted(subject, found.len().saturating_sub(MAX_REPORTS), self.out)
     }
+}
 
+impl<O: Write> TreeReporter for Json<'_, O> {
     fn groups(&mut self, subject: Subject<'_>, parsed: &SpannedTree) -> Result<(), RunError> {
         let Subject { alloc, pattern, .. } = subject;
         let positions = Positions::of(alloc, pattern)?;

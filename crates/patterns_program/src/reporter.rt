@@ -21,7 +21,10 @@ pub(crate) trait Reporter {
         chosen: &Chosen,
         found: &[Found<'_>],
     ) -> Result<(), RunError>;
+}
 
+/// What writes the trees of patterns too.
+pub(crate) trait TreeReporter: Reporter {
     /// Writes the groups of the pattern, and what its references and calls refer to.
     fn groups(&mut self, subject: Subject<'_>, parsed: &SpannedTree) -> Result<(), RunError>;
 

@@ -1,6 +1,7 @@
 //! A run over files of patterns.
 ghost use Rattle.std.specs.Prelude.{◌≤◌};
 
+use crate::annotations::{Annotations, annotation_rules};
 use crate::check::check;
 use crate::form::FileFormat;
 use crate::groups::list_groups;
@@ -25,6 +26,7 @@ use patterns_text::paint::Paints;
 use patterns_text::position::{Location, Spot};
 use patterns_text::shown::Shown;
 use patterns_text::subject::{ARGUMENT, Subject};
+use report_formats::annotation::{AnnotationFormat, AnnotationLog};
 use std::alloc::{AllocError, Global};
 use std::io::{BufRead, ErrorKind, Write};
 use std::{io, str};
@@ -49,6 +51,10 @@ pub enum Verb {
     Json(Report),
     /// Report likely mistakes in it as JSON.
     LintJson(Chosen),
+    /// Report for another tool why it is invalid, if it is.
+    Annotate(AnnotationFormat),
+    /// Report likely mistakes in it for another tool.
+    LintAnnotate(Chosen, AnnotationFormat),
 }
 
 /// A subcommand over files, the flags that the patterns are parsed under, and how the files have patterns.
@@ -81,7 +87,36 @@ impl Verb {
             | Verb::IsFormatted(_)
             | Verb::Groups { .. }
             | Verb::Json(_)
-            | Verb::LintJson(_) => Stream::Err,
+            | Verb::LintJson(_)
+            | Verb::Annotate(_)
+            | Verb::LintAnnotate(..) => Stream::Err,
+        }
+    }
+
+    /// Whether likely mistakes are reported.
+    fn is_lint(self) -> bool {
+        match self {
+            Verb::Lint(_) | Verb::LintJson(_) | Verb::LintAnnotate(..) => true,
+            Verb::Check
+            | Verb::Format(_)
+            | Verb::IsFormatted(_)
+            | Verb::Groups { .. }
+            | Verb::Json(_)
+            | Verb::Annotate(_) => false,
+        }
+    }
+
+    /// The format of reports for another tool.
+    fn annotations(self) -> Option<AnnotationFormat> {
+        match self {
+            Verb::Annotate(format) | Verb::LintAnnotate(_, format) => Some(format),
+            Verb::Check
+            | Verb::Format(_)
+            | Verb::IsFormatted(_)
+            | Verb::Groups { .. }
+            | Verb::Lint(_)
+            | Verb::Json(_)
+            | Verb::LintJson(_) => None,
         }
     }
 }
@@ -89,15 +124,7 @@ impl Verb {
 impl Job<'_> {
     /// Whether it reports what the rules of a grammar say of groups.
     fn reads_rules(self, keys: Keys<'_>) -> bool {
-        let is_lint = match self.verb {
-            Verb::Lint(_) | Verb::LintJson(_) => true,
-            Verb::Check
-            | Verb::Format(_)
-            | Verb::IsFormatted(_)
-            | Verb::Groups { .. }
-            | Verb::Json(_) => false,
-        };
-        is_lint && keys.has_textmate
+        self.verb.is_lint() && keys.has_textmate
     }
 }
 
@@ -144,6 +171,7 @@ fn process<O: Write, E: Write>(
     verb: Verb,
     out: &mut O,
     err: &mut E,
+    log: &mut AnnotationLog,
     tally: &mut Tally,
 ) -> Result<Outcome, RunError> {
     let PatternEntry {
@@ -181,6 +209,16 @@ fn process<O: Write, E: Write>(
         Verb::Json(Report::Check) => check(subject, &mut Json { out }),
         Verb::Json(Report::Groups) => list_groups(subject, &mut Json { out }),
         Verb::LintJson(chosen) => lint(subject, grammar, &chosen, &mut Json { out }, tally),
+        Verb::Annotate(_) => check(subject, &mut Annotations { out, log }),
+        Verb::LintAnnotate(chosen, _) => {
+            lint(
+                subject,
+                grammar,
+                &chosen,
+                &mut Annotations { out, log },
+                tally,
+            )
+        }
     }
 }
 
@@ -189,10 +227,11 @@ fn process_on<S: System, O: Write, E: Write>(
     entry: PatternEntry<'_>,
     verb: Verb,
     screen: &mut Screen<'_, S, O, E>,
+    log: &mut AnnotationLog,
     tally: &mut Tally,
 ) -> Result<Outcome, RunError> {
     let Screen { out, err, .. } = screen;
-    process(entry, verb, out, err, tally)
+    process(entry, verb, out, err, log, tally)
 }
 
 /// What has been written of the patterns that are formatted.
@@ -212,6 +251,7 @@ struct FileRun<'a, S, O, E> {
     job: Job<'a>,
     sources: &'a S,
     screen: Screen<'a, S, O, E>,
+    log: AnnotationLog,
     tally: Tally,
     written: Written,
 }
@@ -246,7 +286,13 @@ impl<S: System, O: Write, E: Write> FileRun<'_, S, O, E> {
             end,
             grammar,
         };
-        process_on(entry, self.job.verb, &mut self.screen, &mut self.tally)
+        process_on(
+            entry,
+            self.job.verb,
+            &mut self.screen,
+            &mut self.log,
+            &mut self.tally,
+        )
     }
 
     /// Writes the byte order mark of a file that is formatted, if nothing is written yet: in the middle of the output it would
@@ -448,14 +494,28 @@ impl<S: System, O: Write, E: Write> FileRun<'_, S, O, E> {
         }
     }
 
+    /// Writes what comes before reports for another tool.
+    fn begin_log(&mut self) -> io::Result<()> {
+        match self.log.format() {
+            None | Some(AnnotationFormat::Github) => Ok(()),
+            Some(AnnotationFormat::Sarif) => {
+                let rules = annotation_rules(self.alloc, self.job.verb.is_lint())?;
+                self.log
+                    .begin(self.alloc, "patterns", &rules, &mut self.screen.out)
+            }
+        }
+    }
+
     /// Does the verb's work on each pattern that is an argument and on each of each file, and sees that it is written.
     fn process_files(&mut self, files: &[&str]) -> Result<Outcome, RunError> {
+        self.begin_log()?;
         let mut outcome = self.process_arguments()?;
         for (done, file) in files.iter().enumerate() {
             self.tally.done = done;
             self.screen.go_on(STEP, &self.tally)?;
             outcome = outcome.and(self.process_file(file)?);
         }
+        self.log.end(&mut self.screen.out)?;
         self.screen.out.flush()?;
         outcome = outcome.and(self.check_warnings()?);
         if !self.job.is_quiet {
@@ -490,6 +550,7 @@ pub fn run<S: System, O: Write, E: Write>(
         job,
         sources,
         screen: Screen::new(sources, job.is_quiet, out, err),
+        log: AnnotationLog::new(job.verb.annotations()),
         tally: Tally::new(files.len()),
         written: Written::Nothing,
     };

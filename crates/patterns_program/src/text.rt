@@ -1,7 +1,7 @@
 //! Reports as lines of text.
 mod problem;
 
-use crate::reporter::{MAX_REPORTS, Reporter};
+use crate::reporter::{MAX_REPORTS, Reporter, TreeReporter};
 use crate::text::problem::{write_more, write_report};
 use fancy_spans::SpannedTree;
 use patterns_lint::chosen::Chosen;
@@ -83,7 +83,9 @@ impl<O: Write, E: Write> Reporter for Text<'_, O, E> {
         write_more(self.out, subject, found.len().saturating_sub(MAX_REPORTS))?;
         Ok(())
     }
+}
 
+impl<O: Write, E: Write> TreeReporter for Text<'_, O, E> {
     fn groups(&mut self, subject: Subject<'_>, parsed: &SpannedTree) -> Result<(), RunError> {
         let Subject {
             alloc,

@@ -68,6 +68,35 @@ fn closed_pipes(rt: HostRuntime) -> Result<(), Fail> {
     Ok(())
 }
 
+/// Whether a run with reports for another tool ends silently if its output takes so many bytes, and is closed then, and has
+/// written a beginning of the whole output.
+fn is_cut_off(alloc: Global, words: &[&str], capacity: usize, whole: &[u8]) -> Result<bool, Fail> {
+    let run = run(alloc, Paints::both(Paint::Plain), words, capacity)?;
+    Ok(run.status == 3 && whole.starts_with(&run.out.text))
+}
+
+/// Whether that is so for each sixteenth capacity that is below the length of the whole output.
+fn are_cut_off(alloc: Global, words: &[&str]) -> Result<bool, Fail> {
+    let whole = run(alloc, Paints::both(Paint::Plain), words, usize::MAX)?;
+    for step in 0..whole.out.text.len() / 16 {
+        if !is_cut_off(alloc, words, step.saturating_mul(16), &whole.out.text)? {
+            return Ok(false);
+        }
+    }
+    Ok(whole.status == 1)
+}
+
+#[test]
+fn closed_pipes_of_formats(rt: HostRuntime) -> Result<(), Fail> {
+    for format in ["json", "github", "sarif"].iter() {
+        let words = [
+            "patterns", "lint", "--quiet", "--format", format, "-e", "(", "-e", "a{1}",
+        ];
+        assert!(rt; are_cut_off(rt.alloc(), &words)?, "{format}");
+    }
+    Ok(())
+}
+
 const BROKEN: &str = "broken:1:2: Opening parenthesis without closing parenthesis
 (
 -^

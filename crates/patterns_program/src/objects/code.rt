@@ -6,7 +6,7 @@ ghost use Rattle.patterns_program.specs.Codes.{code_of};
 use fancy_lex::error::ParseError;
 
 /// The name of the kind, as `ParseError` has it.
-pub(super) fn code(kind: &ParseError) -> &'static str
+pub(crate) fn code(kind: &ParseError) -> &'static str
     ensures { result.now ≡ code_of (kind_of kind.now) }
 {
     match kind {

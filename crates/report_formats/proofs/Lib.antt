@@ -1,0 +1,2 @@
+-- ---- the texts of workflow commands
+pub mod EscapeLemmas
