@@ -7,7 +7,7 @@ _patterns() {
     fi
     case $before in
         --color) mapfile -t COMPREPLY < <(compgen -W 'auto always never' -- "$word") && return ;;
-        --allow | --warn | --deny) mapfile -t COMPREPLY < <(compgen -W 'missing-group missing-begin-group missing-capture-group useless-backreference unresolved-call duplicate-group-name unused-capturing-group duplicate-branch unreachable-branch empty-branch quantified-assertion empty-loop useless-quantifier zero-quantifier useless-flag single-character-class all' -- "$word") && return ;;
+        --allow | --warn | --deny) mapfile -t COMPREPLY < <(compgen -W 'missing-group missing-begin-group missing-capture-group useless-backreference unresolved-call duplicate-group-name unused-capturing-group duplicate-branch unreachable-branch empty-branch quantified-assertion empty-loop useless-quantifier zero-quantifier exponential-backtracking useless-flag single-character-class all' -- "$word") && return ;;
         --flags | --keys | --max-warnings | --regexp | -e) return ;;
     esac
     case ${COMP_WORDS[1]} in

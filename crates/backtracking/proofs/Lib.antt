@@ -1,3 +1,4 @@
 mod CharacterLemmas
 mod ManyLemmas
 mod WayLemmas
+mod RepeatLemmas

@@ -5,3 +5,4 @@ pub mod TwoWays
 pub mod ManyWays
 pub mod Witnessed
 pub mod Remains
+pub mod SlowRepeats

@@ -53,7 +53,7 @@ pub(crate) struct Pairs<'a> {
 }
 
 /// A character of the set.
-fn some_character(set: &CharacterSet) -> Option<char> {
+pub(crate) fn some_character(set: &CharacterSet) -> Option<char> {
     for c in FIRST_CHARACTERS.chars() {
         if set.contains(c) {
             return Some(c);

@@ -5,6 +5,7 @@ use crate::problem::{Found, Problem};
 use crate::references::{Ways, follow};
 use crate::scan::{Around, PatternInfo, scan};
 use crate::walk::Walk;
+use backtracking::repeats::SlowRepeat;
 use dialects::spelling::{DifferentSpelling, spellings};
 use fancy_spans::SpannedTree;
 use patterns_text::nodes::nodes_of;
@@ -35,11 +36,12 @@ fn add_differences(
 }
 
 /// All that the rules find, in the order of the text. The tree is that of the pattern; `grammar` is what the object around
-/// it says, if it is a pattern of a grammar.
+/// it says, if it is a pattern of a grammar, and `slow` are its slow repeats.
 pub fn problems<'a>(
     subject: Subject<'_>,
     parsed: &'a SpannedTree,
     grammar: Option<&GrammarRule>,
+    slow: &'a [SlowRepeat],
 ) -> Result<Vec<Found<'a>>, AllocError> {
     let Subject {
         alloc,
@@ -58,6 +60,9 @@ pub fn problems<'a>(
     };
     let mut walk = Walk::new(alloc);
     scan(parsed.root(), &mut walk, about, ROOT)?;
+    for repeat in slow {
+        walk.report(repeat.span, Problem::ExponentialBacktracking { repeat })?;
+    }
     let mut ways = Ways::new(alloc, tree)?;
     follow(parsed.root(), &mut ways)?;
     ways.add_groups();

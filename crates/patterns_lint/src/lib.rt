@@ -1,6 +1,7 @@
 //! The rules of `patterns lint`: what may be wrong with a pattern that is accepted.
 #![tactic(auto)]
 
+mod attack_text;
 mod branches;
 pub mod chosen;
 mod classes;

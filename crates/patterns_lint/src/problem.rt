@@ -1,7 +1,9 @@
 //! What `lint` finds in a pattern.
+use crate::attack_text::AttackText;
 use crate::grammar_rule::CaptureKey;
 use crate::rule::Rule;
 use crate::targets::is_of_digits;
+use backtracking::repeats::SlowRepeat;
 use dialects::difference::Difference;
 use fancy_syntax::span::Span;
 use patterns_text::excerpt::Related;
@@ -55,6 +57,10 @@ pub enum Problem<'a> {
     EmptyLoop,
     UselessQuantifier,
     ZeroQuantifier,
+    /// A repeat that can match a text in exponentially many ways.
+    ExponentialBacktracking {
+        repeat: &'a SlowRepeat,
+    },
     /// A flag that is set already.
     UselessFlag {
         letter: char,
@@ -170,6 +176,7 @@ impl Problem<'_> {
             Problem::EmptyLoop => Rule::EmptyLoop,
             Problem::UselessQuantifier => Rule::UselessQuantifier,
             Problem::ZeroQuantifier => Rule::ZeroQuantifier,
+            Problem::ExponentialBacktracking { .. } => Rule::ExponentialBacktracking,
             Problem::UselessFlag { .. } => Rule::UselessFlag,
             Problem::SingleCharacterClass => Rule::SingleCharacterClass,
             Problem::DialectDifference { .. } => Rule::DialectDifference,
@@ -247,6 +254,9 @@ impl fmt::Display for Problem<'_> {
             }
             Problem::UselessQuantifier => f.write_str("quantifier that repeats exactly once"),
             Problem::ZeroQuantifier => f.write_str("quantifier that repeats zero times"),
+            Problem::ExponentialBacktracking { repeat } => {
+                write!(f, "exponential backtracking on {}", AttackText(repeat))
+            }
             Problem::UselessFlag { letter } => write!(f, "flag {letter} is set already"),
             Problem::SingleCharacterClass => f.write_str("class of one character"),
             Problem::DialectDifference { difference } => write!(f, "{difference}"),

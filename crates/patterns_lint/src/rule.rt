@@ -36,6 +36,8 @@ pub enum Rule {
     UselessQuantifier,
     /// A quantifier that repeats zero times.
     ZeroQuantifier,
+    /// A repeat that can match a text in exponentially many ways, where what follows can fail.
+    ExponentialBacktracking,
     /// A flag that is set although it is set already.
     UselessFlag,
     /// A class of one letter or digit.
@@ -60,6 +62,7 @@ pub static RULES: [Rule; 17] = [
     Rule::EmptyLoop,
     Rule::UselessQuantifier,
     Rule::ZeroQuantifier,
+    Rule::ExponentialBacktracking,
     Rule::UselessFlag,
     Rule::SingleCharacterClass,
     Rule::DialectDifference,
@@ -163,6 +166,12 @@ impl Rule {
                 what: "a quantifier that repeats zero times",
                 example: r"ab{0}",
                 help: "remove the quantifier with its operand",
+            },
+            Rule::ExponentialBacktracking => RuleInfo {
+                name: "exponential-backtracking",
+                what: "a repeat that can match a text in exponentially many ways, if what follows can fail",
+                example: r"(a+)+b",
+                help: "make it possessive or atomic, or let its parts match different characters",
             },
             Rule::UselessFlag => RuleInfo {
                 name: "useless-flag",

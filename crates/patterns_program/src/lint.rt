@@ -8,12 +8,17 @@ ghost use Rattle.patterns_text.specs.Subject.{IsAccepted, IsRefused};
 use crate::outcome::Outcome;
 use crate::reporter::{Reporter, parse};
 use crate::tally::Tally;
+use backtracking::repeats::{SlowRepeat, slow_repeats};
+use fancy_spans::SpannedTree;
+use fancy_syntax::FLAG_UNICODE;
 use patterns_lint::chosen::{Chosen, Level};
 use patterns_lint::find::problems;
 use patterns_lint::grammar_rule::GrammarRule;
 use patterns_lint::problem::Found;
+use patterns_lint::rule::Rule;
 use patterns_text::error::RunError;
 use patterns_text::subject::Subject;
+use std::alloc::AllocError;
 
 /// Counts the likely mistakes, and returns whether the rule of one is denied.
 fn count_denied(found: &[Found<'_>], chosen: &Chosen, tally: &mut Tally) -> bool
@@ -26,6 +31,18 @@ fn count_denied(found: &[Found<'_>], chosen: &Chosen, tally: &mut Tally) -> bool
         is_denied = is_denied || level == Level::Deny;
     }
     is_denied
+}
+
+/// The slow repeats of the pattern; none if their rule is silent.
+fn slow_repeats_of(
+    subject: Subject<'_>,
+    parsed: &SpannedTree,
+    chosen: &Chosen,
+) -> Result<Vec<SlowRepeat>, AllocError> {
+    if chosen.level(Rule::ExponentialBacktracking) == Level::Allow {
+        return Ok(Vec::new(subject.alloc));
+    }
+    slow_repeats(subject.alloc, parsed, subject.flags & FLAG_UNICODE != 0)
 }
 
 /// Reports the likely mistakes in the pattern, or its error if it is invalid. `grammar` is what the object around it says, if
@@ -44,7 +61,8 @@ pub(crate) fn lint<R: Reporter>(
     let Some(parsed) = parse(subject, reporter)? else {
         return Ok(Outcome::Refused);
     };
-    let mut found = problems(subject, &parsed, grammar)?;
+    let slow = slow_repeats_of(subject, &parsed, chosen)?;
+    let mut found = problems(subject, &parsed, grammar, &slow)?;
     found.retain(|one| chosen.level(one.problem.rule()) != Level::Allow);
     reporter.problems(subject, chosen, &found)?;
     if count_denied(&found, chosen, tally) {

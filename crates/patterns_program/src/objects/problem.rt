@@ -1,10 +1,12 @@
 //! Likely mistakes, as JSON.
 use crate::objects::line::{begin, finish, write_number, write_related, write_span, write_text};
 use crate::objects::positions::Positions;
+use json::Writer;
 use patterns_lint::chosen::Level;
-use patterns_lint::problem::Found;
+use patterns_lint::problem::{Found, Problem};
 use patterns_text::error::RunError;
 use patterns_text::subject::Subject;
+use std::alloc::{AllocError, Global};
 use std::io::Write;
 
 /// What a report is called.
@@ -14,6 +16,39 @@ fn type_name(level: Level) -> &'static str {
     } else {
         "warning"
     }
+}
+
+/// Writes a field that is a text, given by its characters.
+fn write_characters(
+    alloc: Global,
+    writer: &mut Writer,
+    name: &str,
+    characters: &[char],
+) -> Result<(), AllocError> {
+    let mut text = String::new(alloc);
+    for c in characters {
+        text.push(*c)?;
+    }
+    write_text(writer, name, text.as_str())
+}
+
+/// Writes the field of the text on which a repeat is slow, if the report is on one.
+fn write_attack(
+    alloc: Global,
+    writer: &mut Writer,
+    problem: Problem<'_>,
+) -> Result<(), AllocError> {
+    let Problem::ExponentialBacktracking { repeat } = problem else {
+        return Ok(());
+    };
+    writer.key("attack")?;
+    writer.begin_object()?;
+    if let Some(before) = &repeat.attack.before {
+        write_characters(alloc, writer, "before", before)?;
+    }
+    write_characters(alloc, writer, "repeat", &repeat.witness.word)?;
+    write_characters(alloc, writer, "after", &repeat.attack.after)?;
+    writer.end_object()
 }
 
 /// Writes a likely mistake.
@@ -45,6 +80,7 @@ pub(super) fn write_problem<O: Write>(
         format!(in subject.alloc; "{help}")?.as_str(),
     )?;
     write_related(subject.alloc, &mut writer, positions, related)?;
+    write_attack(subject.alloc, &mut writer, problem)?;
     finish(writer, out)
 }
 

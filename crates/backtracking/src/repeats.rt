@@ -1,0 +1,145 @@
+//! The repeats of a pattern that can match a text in exponentially many ways.
+ghost use Rattle.std.specs.Prelude.{IfOk, OnOk};
+ghost use Rattle.std.specs.List.{AllByRecursion};
+ghost use Rattle.fancy_spans.specs.Spanned.{Spanned, spanned_of, spanned_of_tree};
+ghost use Rattle.backtracking.specs.SlowRepeats.{IsNodeOf, IsSlowIn, IsLooked};
+
+use crate::attack::{Attack, Surroundings, enclosing_of, find_attack};
+use crate::shape::{PartKind, kind_of};
+use crate::witness::{RepeatWays, Witness, ways_of_repeat};
+use fancy_spans::{SpannedNode, SpannedTree};
+use fancy_syntax::expr::{Expr, LookAround};
+use fancy_syntax::span::Span;
+use std::alloc::{AllocError, Global};
+
+/// A repeat is looked at if it has no limit, or one above this.
+const SMALL_LIMIT: usize = 20;
+
+/// A repeat that can match a text in exponentially many ways.
+#[derive(Drop)]
+pub struct SlowRepeat {
+    /// The part of the pattern with its quantifier, in byte offsets.
+    pub span: Span,
+    /// The word, each repetition of which doubles the ways, and two of these ways.
+    pub witness: Witness,
+    /// What to put around the repeated word.
+    pub attack: Attack,
+}
+
+/// What is known of the pattern.
+#[derive(Clone, Copy)]
+struct SearchOptions {
+    alloc: Global,
+    unicode: bool,
+}
+
+/// What has come of a look at a node.
+#[derive(Drop)]
+enum Looked {
+    Slow(SlowRepeat),
+    /// Nor are the repeats below it slow.
+    Fast,
+    /// What is below it is to be looked at.
+    Unknown,
+}
+
+/// Searches for two ways through the repeat that the node is, and for what to put around the word.
+fn look_at<'a>(
+    node: SpannedNode<'a>,
+    options: SearchOptions,
+    surroundings: &mut Surroundings<'a>,
+) -> Result<Looked, AllocError>
+    ensures { IfOk result (IsLooked options.unicode (spanned_of node.entry)) }
+{
+    let SearchOptions { alloc, unicode } = options;
+    let Expr::Repeat { child, hi, .. } = node.expr() else {
+        return Ok(Looked::Unknown);
+    };
+    if *hi <= SMALL_LIMIT {
+        return Ok(Looked::Unknown);
+    }
+    match kind_of(child) {
+        PartKind::OneWay => return Ok(Looked::Fast),
+        PartKind::Irregular => return Ok(Looked::Unknown),
+        PartKind::Choices => {}
+    }
+    let witness = match ways_of_repeat(alloc, child, unicode)? {
+        RepeatWays::Exponential(witness) => witness,
+        RepeatWays::NoneFound => return Ok(Looked::Fast),
+        RepeatWays::NotLookedAt => return Ok(Looked::Unknown),
+    };
+    match find_attack(alloc, unicode, node.expr(), &witness.word, surroundings)? {
+        Some(attack) => Ok(Looked::Slow(SlowRepeat {
+            span: node.span(),
+            witness,
+            attack,
+        })),
+        None => Ok(Looked::Unknown),
+    }
+}
+
+/// Whether repeats below the node are left alone: it looks back, or what follows them is not known.
+fn is_left_alone(tree: &Expr) -> bool {
+    matches!(
+        tree,
+        Expr::LookAround(_, LookAround::LookBehind | LookAround::LookBehindNeg)
+            | Expr::Absent(_)
+            | Expr::DefineGroup { .. }
+            | Expr::AstNode(..)
+    )
+}
+
+/// Adds the slow repeats among the node and those below it. One inside another is not added.
+fn look<'a>(
+    node: SpannedNode<'a>,
+    options: SearchOptions,
+    surroundings: &mut Surroundings<'a>,
+    found: &mut Vec<SlowRepeat>,
+) -> Result<(), AllocError>
+    ensures { OnOk result ((root : Spanned) → IsNodeOf (spanned_of node.entry) root →
+        AllByRecursion (IsSlowIn options.unicode root) found.old.items →
+        AllByRecursion (IsSlowIn options.unicode root) found.new.items) }
+{
+    match look_at(node, options, surroundings)? {
+        Looked::Slow(repeat) => {
+            found.push(repeat)?;
+            return Ok(());
+        }
+        Looked::Fast => return Ok(()),
+        Looked::Unknown => {}
+    }
+    if is_left_alone(node.expr()) {
+        return Ok(());
+    }
+    let depth = surroundings.around.len();
+    let mut index = 0usize;
+    for child in node.children() {
+        surroundings.around.push(enclosing_of(node.expr(), index))?;
+        look(child, options, surroundings, found)?;
+        surroundings.around.truncate(depth);
+        index = index.saturating_add(1);
+    }
+    Ok(())
+}
+
+/// The repeats of the pattern that can match a text in exponentially many ways, where what follows can fail.
+pub fn slow_repeats(
+    alloc: Global,
+    parsed: &SpannedTree,
+    unicode: bool,
+) -> Result<Vec<SlowRepeat>, AllocError>
+    ensures witnessed { IfOk result (λ found. AllByRecursion (IsSlowIn unicode (spanned_of_tree parsed.now)) found.items) }
+{
+    let mut surroundings = Surroundings {
+        around: Vec::new(alloc),
+        trials: 0,
+    };
+    let mut found = Vec::new(alloc);
+    look(
+        parsed.root(),
+        SearchOptions { alloc, unicode },
+        &mut surroundings,
+        &mut found,
+    )?;
+    Ok(found)
+}

@@ -1,0 +1,94 @@
+//! Which parts of a pattern are searched for two ways.
+use fancy_syntax::expr::Expr;
+
+/// The most nodes that are looked at.
+const MOST_NODES: usize = 2000;
+
+/// What is known of a tree from its nodes.
+#[derive(Clone, Copy)]
+struct Shape {
+    nodes: usize,
+    /// Whether each node has ways, as a class or a group has, and there are not too many.
+    is_regular: bool,
+    /// Whether a node has several ways: an alternation, or a repeat that may end sooner or later.
+    has_choice: bool,
+}
+
+/// Whether two ways through the tree are searched for.
+#[derive(Clone, Copy, PartialEq, Eq)]
+pub(crate) enum PartKind {
+    /// A turn may have several ways.
+    Choices,
+    /// Each turn has one way.
+    OneWay,
+    /// It holds look-around, a reference or the like, or it is too large.
+    Irregular,
+}
+
+impl Shape {
+    /// Adds the nodes of a tree.
+    #[cycle(add)]
+    fn add(&mut self, tree: &Expr) {
+        self.nodes = self.nodes.saturating_add(1);
+        if self.nodes > MOST_NODES {
+            self.is_regular = false;
+        }
+        if !self.is_regular {
+            return;
+        }
+        match tree {
+            Expr::Empty | Expr::Any { .. } | Expr::Literal { .. } | Expr::Delegate { .. } => {}
+            Expr::Group(child) => self.add(child),
+            Expr::Concat(trees) => self.add_all(trees),
+            Expr::Alt(branches) => {
+                self.has_choice = true;
+                self.add_all(branches);
+            }
+            Expr::Repeat { child, lo, hi, .. } => {
+                self.has_choice = self.has_choice || *lo < *hi;
+                self.add(child);
+            }
+            Expr::Assertion(_)
+            | Expr::GeneralNewline { .. }
+            | Expr::LiteralBytes { .. }
+            | Expr::LookAround(..)
+            | Expr::Backref { .. }
+            | Expr::BackrefWithRelativeRecursionLevel { .. }
+            | Expr::AtomicGroup(_)
+            | Expr::KeepOut
+            | Expr::ContinueFromPreviousMatchEnd
+            | Expr::BackrefExistsCondition { .. }
+            | Expr::Conditional { .. }
+            | Expr::SubroutineCall(_)
+            | Expr::BacktrackingControlVerb(_)
+            | Expr::Absent(_)
+            | Expr::DefineGroup { .. }
+            | Expr::AstNode(..) => self.is_regular = false,
+        }
+    }
+
+    /// Adds the nodes of the trees.
+    #[cycle(add)]
+    fn add_all(&mut self, trees: &[Expr]) {
+        for tree in trees {
+            self.add(tree);
+        }
+    }
+}
+
+/// Whether two ways through the tree are searched for.
+pub(crate) fn kind_of(tree: &Expr) -> PartKind {
+    let mut shape = Shape {
+        nodes: 0,
+        is_regular: true,
+        has_choice: false,
+    };
+    shape.add(tree);
+    if !shape.is_regular {
+        PartKind::Irregular
+    } else if shape.has_choice {
+        PartKind::Choices
+    } else {
+        PartKind::OneWay
+    }
+}
