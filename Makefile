@@ -8,7 +8,7 @@ DATADIR = $(PREFIX)/share
 DESTDIR =
 INSTALL = install
 
-sources := $(shell find crates/fancy_*/src crates/fre*/src crates/patterns*/src -type f -name '*.rt')
+sources := $(shell find crates/*/src -type f -name '*.rt')
 
 all: crates/patterns/out/patterns crates/fre/out/fre
 

@@ -48,12 +48,11 @@ def encoded(text: str) -> bytes:
 
 
 def is_old(program: Path) -> bool:
-    """Whether the program is not there, or is older than what it is made of."""
+    """Whether the program is not there, or is older than the code of a crate."""
     if not program.exists():
         return True
     made = program.stat().st_mtime
-    own = [program.parent.parent, *(it for name in ("fancy_*", "fre_*", "patterns_*") for it in CRATES.glob(name))]
-    return any(it.stat().st_mtime > made for crate in own for it in crate.glob("src/**/*.rt"))
+    return any(it.stat().st_mtime > made for it in CRATES.glob("*/src/**/*.rt"))
 
 
 def build(program: str) -> Path:

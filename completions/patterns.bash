@@ -11,10 +11,10 @@ _patterns() {
         --flags | --keys | --max-warnings | --regexp | -e) return ;;
     esac
     case ${COMP_WORDS[1]} in
-        check) options='--flags -e --regexp -z --null-data --quiet --color --textmate --keys --json -h --help' ;;
+        check) options='--flags -e --regexp -z --null-data --quiet --color --textmate --keys --format --json -h --help' ;;
         tree) options='--flags --ascii --spans --all --classes --json --file -h --help' ;;
         picture) options='--flags --html --width --file -h --help' ;;
-        lint) options='--flags -e --regexp -z --null-data --quiet --color --textmate --keys --allow --warn --deny --max-warnings --json --rules -h --help' ;;
+        lint) options='--flags -e --regexp -z --null-data --quiet --color --textmate --keys --allow --warn --deny --max-warnings --format --json --rules -h --help' ;;
         format) options='--flags -e --regexp -z --null-data --quiet --color --check --drop-comments -h --help' ;;
         groups) options='--flags -e --regexp -z --null-data --quiet --color --textmate --keys --json -h --help' ;;
         help) options='check tree picture lint format groups' ;;

@@ -42,7 +42,7 @@ static ENDINGS: [&str; 28] = [
     "\u{1F600}",
 ];
 
-/// What is around a node: of each node around it what may come before or after the one below.
+/// What a node has around the one below it: what may come before and after that.
 #[derive(Clone, Copy)]
 pub(crate) enum Enclosing<'a> {
     /// A group, or an alternation.

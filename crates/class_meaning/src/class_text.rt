@@ -21,7 +21,8 @@ pub enum ClassMeaning {
     /// The engine refuses the node, so it builds no pattern that has it. The positions are byte offsets in the class's
     /// text.
     Refused(ClassError),
-    /// The node does not match one character, or the crate does not see that it does.
+    /// The node does not match one character, or the crate does not see that it does. The engine reads `[0-[a]b]`, for
+    /// example, as a class and two characters.
     NotOneCharacter,
 }
 

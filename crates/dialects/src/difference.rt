@@ -52,7 +52,7 @@ impl Difference {
                 r"`\<` and `\>` are the start and the end of a word here, and these characters in Java, PCRE, Perl and Python"
             }
             Difference::EndOfText => {
-                r"`\Z` allows any number of line feeds after it here, at most one in Java, PCRE and Perl, and no one in Python"
+                r"`\Z` allows any number of line feeds after it here, at most one in Java, PCRE and Perl, and none in Python"
             }
             Difference::NamedCharacter => {
                 r"`\N` is any character but a line feed here, and `\N{..}` is a character by its name in Perl and Python"

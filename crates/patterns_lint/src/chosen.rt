@@ -17,18 +17,21 @@ pub enum Level {
 /// The level of each rule.
 #[derive(Clone, Copy)]
 pub struct Chosen {
-    levels: [Level; 17],
+    levels: [Level; 23],
 }
 
 impl Chosen {
-    /// Every rule warns, except two, which are silent: `unused-capturing-group`, since many patterns mix named and numbered
-    /// groups on purpose; and `dialect-difference`, since many patterns are for this dialect alone.
+    /// Every rule warns, except four. `unused-capturing-group`, `suspicious-range` and `dialect-difference` are silent, since
+    /// many patterns mix named and numbered groups, or kinds of characters, on purpose, and are for this dialect alone. The
+    /// reports of `invalid-class` are errors, since no engine runs such a pattern.
     pub fn new() -> Chosen {
         let mut chosen = Chosen {
-            levels: [Level::Warn; 17],
+            levels: [Level::Warn; 23],
         };
         chosen.set(Rule::UnusedCapturingGroup, Level::Allow);
+        chosen.set(Rule::SuspiciousRange, Level::Allow);
         chosen.set(Rule::DialectDifference, Level::Allow);
+        chosen.set(Rule::InvalidClass, Level::Deny);
         chosen
     }
 
@@ -52,9 +55,9 @@ impl Chosen {
 
     /// Gives every rule this level.
     pub fn set_all(&mut self, level: Level)
-        ensures { self.new.levels ≡ replicate 17 level }
+        ensures { self.new.levels ≡ replicate 23 level }
     {
-        self.levels = [level; 17];
+        self.levels = [level; 23];
     }
 
     /// Gives the rule this level.

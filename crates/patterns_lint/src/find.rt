@@ -6,6 +6,8 @@ use crate::references::{Ways, follow};
 use crate::scan::{Around, PatternInfo, scan};
 use crate::walk::Walk;
 use backtracking::repeats::SlowRepeat;
+use class_rules::class_walk::class_findings;
+pub use class_rules::known_classes::KnownClasses;
 use dialects::spelling::{DifferentSpelling, spellings};
 use fancy_spans::SpannedTree;
 use patterns_text::nodes::nodes_of;
@@ -36,11 +38,13 @@ fn add_differences(
 }
 
 /// All that the rules find, in the order of the text. The tree is that of the pattern; `grammar` is what the object around
-/// it says, if it is a pattern of a grammar, and `slow` are its slow repeats.
+/// it says, if it is a pattern of a grammar. `known` has the classes of the run's patterns, and `slow` are the slow repeats
+/// of this one.
 pub fn problems<'a>(
     subject: Subject<'_>,
     parsed: &'a SpannedTree,
     grammar: Option<&GrammarRule>,
+    known: &mut KnownClasses,
     slow: &'a [SlowRepeat],
 ) -> Result<Vec<Found<'a>>, AllocError> {
     let Subject {
@@ -69,6 +73,9 @@ pub fn problems<'a>(
     ways.report_unused()?;
     let mut found = walk.found;
     found.extend_from_slice(&ways.walk.found)?;
+    for finding in class_findings(alloc, parsed.root(), pattern, known)? {
+        found.push(Found::of_class(finding))?;
+    }
     found.extend_from_slice(&useless_flags(alloc, pattern, &walk.leaves, flags)?)?;
     add_differences(
         &mut found,

@@ -4,9 +4,10 @@ use crate::grammar_rule::CaptureKey;
 use crate::rule::Rule;
 use crate::targets::is_of_digits;
 use backtracking::repeats::SlowRepeat;
+use class_rules::class_problem::{ClassFinding, ClassProblem};
 use dialects::difference::Difference;
 use fancy_syntax::span::Span;
-use patterns_text::excerpt::Related;
+use patterns_text::excerpt::{Label, Related};
 use patterns_text::names::Named;
 use patterns_text::octal::Octal;
 use std::fmt;
@@ -66,10 +67,23 @@ pub enum Problem<'a> {
         letter: char,
     },
     SingleCharacterClass,
+    /// What is wrong with a class or a branch of one character.
+    Class(ClassProblem),
     /// What other dialects read otherwise.
     DialectDifference {
         difference: Difference,
     },
+}
+
+/// The rule that reports the problem.
+fn rule_of_class(problem: ClassProblem) -> Rule {
+    match problem {
+        ClassProblem::Invalid(_) => Rule::InvalidClass,
+        ClassProblem::Empty => Rule::EmptyClass,
+        ClassProblem::DuplicateCharacters => Rule::DuplicateCharacters,
+        ClassProblem::SuspiciousRange { .. } => Rule::SuspiciousRange,
+        ClassProblem::SubsumedBranch { .. } => Rule::SubsumedBranch,
+    }
 }
 
 /// A problem, and the part of the pattern that has it.
@@ -117,7 +131,26 @@ fn octal_digits(text: &str) -> Option<&str> {
     }
 }
 
-impl Found<'_> {
+impl<'a> Found<'a> {
+    /// What is wrong with a class or a branch of one character.
+    pub(crate) fn of_class(finding: ClassFinding) -> Found<'a> {
+        let related = match finding.problem {
+            ClassProblem::SubsumedBranch { other, span } => Some(Related {
+                span,
+                label: Label::Branch(other),
+            }),
+            ClassProblem::Invalid(_)
+            | ClassProblem::Empty
+            | ClassProblem::DuplicateCharacters
+            | ClassProblem::SuspiciousRange { .. } => None,
+        };
+        Found {
+            span: finding.span,
+            problem: Problem::Class(finding.problem),
+            related,
+        }
+    }
+
     /// Whether it is wrong with the number of a back reference that is a backslash and digits.
     pub fn is_of_digits(&self, pattern: &str) -> bool {
         match self.problem {
@@ -179,6 +212,7 @@ impl Problem<'_> {
             Problem::ExponentialBacktracking { .. } => Rule::ExponentialBacktracking,
             Problem::UselessFlag { .. } => Rule::UselessFlag,
             Problem::SingleCharacterClass => Rule::SingleCharacterClass,
+            Problem::Class(problem) => rule_of_class(problem),
             Problem::DialectDifference { .. } => Rule::DialectDifference,
         }
     }
@@ -259,6 +293,7 @@ impl fmt::Display for Problem<'_> {
             }
             Problem::UselessFlag { letter } => write!(f, "flag {letter} is set already"),
             Problem::SingleCharacterClass => f.write_str("class of one character"),
+            Problem::Class(problem) => write!(f, "{problem}"),
             Problem::DialectDifference { difference } => write!(f, "{difference}"),
         }
     }

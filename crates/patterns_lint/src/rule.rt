@@ -42,12 +42,22 @@ pub enum Rule {
     UselessFlag,
     /// A class of one letter or digit.
     SingleCharacterClass,
+    /// A class that the matching engine refuses. The rule is an error by default.
+    InvalidClass,
+    /// A class that contains no character.
+    EmptyClass,
+    /// An item of a class that the others contain.
+    DuplicateCharacters,
+    /// A range from one kind of character to another. The rule is off by default.
+    SuspiciousRange,
+    /// A branch of one character that another branch contains.
+    SubsumedBranch,
     /// What other dialects read otherwise. The rule is off by default.
     DialectDifference,
 }
 
 /// All rules, in the order in which they are listed.
-pub static RULES: [Rule; 17] = [
+pub static RULES: [Rule; 23] = [
     Rule::MissingGroup,
     Rule::MissingBeginGroup,
     Rule::MissingCaptureGroup,
@@ -65,6 +75,11 @@ pub static RULES: [Rule; 17] = [
     Rule::ExponentialBacktracking,
     Rule::UselessFlag,
     Rule::SingleCharacterClass,
+    Rule::InvalidClass,
+    Rule::EmptyClass,
+    Rule::DuplicateCharacters,
+    Rule::SuspiciousRange,
+    Rule::SubsumedBranch,
     Rule::DialectDifference,
 ];
 
@@ -184,6 +199,36 @@ impl Rule {
                 what: "a class of one letter or digit",
                 example: r"[a]b",
                 help: "write the character without brackets",
+            },
+            Rule::InvalidClass => RuleInfo {
+                name: "invalid-class",
+                what: "a class or a property that the matching engine refuses",
+                example: r"[z-a]",
+                help: "correct it: no engine is built from a pattern that has it",
+            },
+            Rule::EmptyClass => RuleInfo {
+                name: "empty-class",
+                what: "a class that contains no character",
+                example: r"[a&&b]",
+                help: "it never matches: correct it, or write `(?!)`",
+            },
+            Rule::DuplicateCharacters => RuleInfo {
+                name: "duplicate-characters",
+                what: "characters in a class that the rest of the class contains already",
+                example: r"[0-9\d]",
+                help: "remove them",
+            },
+            Rule::SuspiciousRange => RuleInfo {
+                name: "suspicious-range",
+                what: "a range from one kind of character to another",
+                example: r"[A-z]",
+                help: "write a range for each kind, as in `A-Za-z`, or a backslash before the hyphen",
+            },
+            Rule::SubsumedBranch => RuleInfo {
+                name: "subsumed-branch",
+                what: "a branch of one character that another branch matches too",
+                example: r"\d|\w",
+                help: "remove it",
             },
             Rule::DialectDifference => RuleInfo {
                 name: "dialect-difference",

@@ -33,13 +33,14 @@ pub(crate) fn annotation_rules(
         })?;
     }
     if is_lint {
-        add_lint_rules(&mut rules)?;
+        rules.extend_from_slice(&lint_rules(alloc)?)?;
     }
     Ok(rules)
 }
 
-/// Adds the rules of `lint`.
-fn add_lint_rules(rules: &mut Vec<AnnotationRule<'static>>) -> Result<(), AllocError> {
+/// The rules of `lint`.
+fn lint_rules(alloc: Global) -> Result<Vec<AnnotationRule<'static>>, AllocError> {
+    let mut rules = Vec::new(alloc);
     for rule in RULES.iter() {
         rules.push(AnnotationRule {
             name: rule.name(),
@@ -47,7 +48,7 @@ fn add_lint_rules(rules: &mut Vec<AnnotationRule<'static>>) -> Result<(), AllocE
             help: rule.help(),
         })?;
     }
-    Ok(())
+    Ok(rules)
 }
 
 /// What is reported of a part of a pattern.

@@ -1,5 +1,5 @@
 //! What the program `patterns` does: it reads files with one pattern per line, or with patterns in JSON, and does with each
-//! what a subcommand says. The tests of this crate are in `patterns`, and in its folder `data`, which `.ci/patterns` reads.
+//! what a subcommand says. The tests of this crate are `patterns_tests`, and the folder `data` of `patterns`, which `.ci/patterns` reads.
 #![tactic(auto)]
 
 mod annotations;

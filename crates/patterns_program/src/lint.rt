@@ -12,7 +12,7 @@ use backtracking::repeats::{SlowRepeat, slow_repeats};
 use fancy_spans::SpannedTree;
 use fancy_syntax::FLAG_UNICODE;
 use patterns_lint::chosen::{Chosen, Level};
-use patterns_lint::find::problems;
+use patterns_lint::find::{KnownClasses, problems};
 use patterns_lint::grammar_rule::GrammarRule;
 use patterns_lint::problem::Found;
 use patterns_lint::rule::Rule;
@@ -46,12 +46,13 @@ fn slow_repeats_of(
 }
 
 /// Reports the likely mistakes in the pattern, or its error if it is invalid. `grammar` is what the object around it says, if
-/// it is a pattern of a grammar.
+/// it is a pattern of a grammar; `known` has the classes of the run's patterns.
 pub(crate) fn lint<R: Reporter>(
     subject: Subject<'_>,
     grammar: Option<&GrammarRule>,
     chosen: &Chosen,
     reporter: &mut R,
+    known: &mut KnownClasses,
     tally: &mut Tally,
 ) -> Result<Outcome, RunError>
     ensures good { result ≡ Ok Outcome.Good → IsAccepted subject.entry }
@@ -62,7 +63,7 @@ pub(crate) fn lint<R: Reporter>(
         return Ok(Outcome::Refused);
     };
     let slow = slow_repeats_of(subject, &parsed, chosen)?;
-    let mut found = problems(subject, &parsed, grammar, &slow)?;
+    let mut found = problems(subject, &parsed, grammar, known, &slow)?;
     found.retain(|one| chosen.level(one.problem.rule()) != Level::Allow);
     reporter.problems(subject, chosen, &found)?;
     if count_denied(&found, chosen, tally) {

@@ -20,6 +20,7 @@ use crate::values::text_of;
 use crate::values::trail::{Tokens, Trail};
 use json::Scratch;
 use patterns_lint::chosen::Chosen;
+use patterns_lint::find::KnownClasses;
 use patterns_lint::grammar_rule::GrammarRule;
 use patterns_text::error::{RunError, give_up};
 use patterns_text::paint::Paints;
@@ -155,10 +156,11 @@ pub(crate) fn unread<E: Write>(
     Ok(Outcome::Unread)
 }
 
-/// A pattern of a file, and what the file has around it.
+/// A pattern of a file, what is to be done with it, and what the file has around it.
 #[derive(Clone, Copy)]
 struct PatternEntry<'a> {
     subject: Subject<'a>,
+    verb: Verb,
     /// What it ends with.
     end: &'a [u8],
     /// What the object around it says of groups, if it is one of a grammar.
@@ -168,14 +170,15 @@ struct PatternEntry<'a> {
 /// Does the verb's work on a pattern.
 fn process<O: Write, E: Write>(
     entry: PatternEntry<'_>,
-    verb: Verb,
     out: &mut O,
     err: &mut E,
     log: &mut AnnotationLog,
+    known: &mut KnownClasses,
     tally: &mut Tally,
 ) -> Result<Outcome, RunError> {
     let PatternEntry {
         subject,
+        verb,
         end,
         grammar,
     } = entry;
@@ -203,12 +206,13 @@ fn process<O: Write, E: Write>(
                 grammar,
                 &chosen,
                 &mut Text::new(out, err, verb.errors()),
+                known,
                 tally,
             )
         }
         Verb::Json(Report::Check) => check(subject, &mut Json { out }),
         Verb::Json(Report::Groups) => list_groups(subject, &mut Json { out }),
-        Verb::LintJson(chosen) => lint(subject, grammar, &chosen, &mut Json { out }, tally),
+        Verb::LintJson(chosen) => lint(subject, grammar, &chosen, &mut Json { out }, known, tally),
         Verb::Annotate(_) => check(subject, &mut Annotations { out, log }),
         Verb::LintAnnotate(chosen, _) => {
             lint(
@@ -216,6 +220,7 @@ fn process<O: Write, E: Write>(
                 grammar,
                 &chosen,
                 &mut Annotations { out, log },
+                known,
                 tally,
             )
         }
@@ -225,13 +230,13 @@ fn process<O: Write, E: Write>(
 /// The same, on a screen.
 fn process_on<S: System, O: Write, E: Write>(
     entry: PatternEntry<'_>,
-    verb: Verb,
     screen: &mut Screen<'_, S, O, E>,
     log: &mut AnnotationLog,
+    known: &mut KnownClasses,
     tally: &mut Tally,
 ) -> Result<Outcome, RunError> {
     let Screen { out, err, .. } = screen;
-    process(entry, verb, out, err, log, tally)
+    process(entry, out, err, log, known, tally)
 }
 
 /// What has been written of the patterns that are formatted.
@@ -252,6 +257,8 @@ struct FileRun<'a, S, O, E> {
     sources: &'a S,
     screen: Screen<'a, S, O, E>,
     log: AnnotationLog,
+    /// The classes of the patterns, where they are looked at.
+    known: KnownClasses,
     tally: Tally,
     written: Written,
 }
@@ -283,14 +290,15 @@ impl<S: System, O: Write, E: Write> FileRun<'_, S, O, E> {
         };
         let entry = PatternEntry {
             subject,
+            verb: self.job.verb,
             end,
             grammar,
         };
         process_on(
             entry,
-            self.job.verb,
             &mut self.screen,
             &mut self.log,
+            &mut self.known,
             &mut self.tally,
         )
     }
@@ -551,6 +559,7 @@ pub fn run<S: System, O: Write, E: Write>(
         sources,
         screen: Screen::new(sources, job.is_quiet, out, err),
         log: AnnotationLog::new(job.verb.annotations()),
+        known: KnownClasses::new(alloc, job.flags),
         tally: Tally::new(files.len()),
         written: Written::Nothing,
     };

@@ -1,0 +1,4 @@
+mod CutLemmas
+mod SetLemmas
+mod ProblemLemmas
+mod KnownLemmas

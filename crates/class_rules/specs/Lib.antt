@@ -1,0 +1,4 @@
+pub mod ClassSource
+pub mod ClassProblems
+pub mod Subsumed
+pub mod KnownClasses

@@ -1,0 +1,97 @@
+//! What is wrong with a class, or with a branch of one character.
+ghost use Rattle.std.specs.Prelude.{◌≡◌};
+ghost use Rattle.class_rules.specs.ClassProblems as spec;
+
+use class_meaning::ClassErrorKind;
+use fancy_syntax::span::Span;
+use std::fmt;
+
+/// The kinds of characters that a range is expected to stay within.
+#[derive(Debug, Clone, Copy, PartialEq, Eq)]
+pub enum CharacterKind {
+    /// 0 to 9.
+    Digit,
+    /// A to Z.
+    UpperCase,
+    /// a to z.
+    LowerCase,
+    /// Any other character.
+    Other,
+}
+
+impl CharacterKind {
+    /// The kind of the character.
+    pub fn of(c: char) -> CharacterKind
+        ensures { result ≡ spec.character_kind c }
+    {
+        match c {
+            '0'..='9' => CharacterKind::Digit,
+            'A'..='Z' => CharacterKind::UpperCase,
+            'a'..='z' => CharacterKind::LowerCase,
+            _ => CharacterKind::Other,
+        }
+    }
+
+    /// What messages call a character of the kind.
+    pub fn name(self) -> &'static str {
+        match self {
+            CharacterKind::Digit => "a digit",
+            CharacterKind::UpperCase => "an upper-case letter",
+            CharacterKind::LowerCase => "a lower-case letter",
+            CharacterKind::Other => "another character",
+        }
+    }
+}
+
+/// What is wrong with a class, or with a branch of one character.
+#[derive(Debug, Clone, Copy, PartialEq, Eq)]
+pub enum ClassProblem {
+    /// The engine refuses the class, for this reason.
+    Invalid(ClassErrorKind),
+    /// No character is in the class.
+    Empty,
+    /// An item of the class whose characters the others contain.
+    DuplicateCharacters,
+    /// A range from a character of one kind to one of another.
+    SuspiciousRange {
+        first: CharacterKind,
+        last: CharacterKind,
+    },
+    /// A branch of one character that another branch contains.
+    SubsumedBranch {
+        /// The number of the other branch, counted from 1.
+        other: usize,
+        /// Where the other branch is.
+        span: Span,
+    },
+}
+
+/// The message of a report.
+impl fmt::Display for ClassProblem {
+    fn fmt<W: fmt::Write>(&self, f: &mut fmt::Formatter<W>) -> fmt::Result {
+        match self {
+            ClassProblem::Invalid(kind) => write!(
+                f,
+                "class that the matching engine refuses: {}",
+                kind.message()
+            ),
+            ClassProblem::Empty => f.write_str("class that contains no character"),
+            ClassProblem::DuplicateCharacters => {
+                f.write_str("characters that the rest of the class contains already")
+            }
+            ClassProblem::SuspiciousRange { first, last } => {
+                write!(f, "range from {} to {}", first.name(), last.name())
+            }
+            ClassProblem::SubsumedBranch { other, .. } => {
+                write!(f, "branch whose characters branch {other} matches too")
+            }
+        }
+    }
+}
+
+/// A problem, and the part of the text that has it, in byte offsets.
+#[derive(Debug, Clone, Copy, PartialEq, Eq)]
+pub struct ClassFinding {
+    pub span: Span,
+    pub problem: ClassProblem,
+}

@@ -1,0 +1,94 @@
+//! The walk over the nodes of a pattern's tree.
+use crate::class_problem::ClassFinding;
+use crate::known_classes::{ClassText, KnownClasses};
+use crate::subsumed::add_subsumed;
+use fancy_spans::SpannedNode;
+use fancy_syntax::expr::Expr;
+use fancy_syntax::span::Span;
+use std::alloc::{AllocError, Global};
+
+/// Adds what is wrong with the class.
+fn add_of_class(
+    node: SpannedNode<'_>,
+    pattern: &str,
+    known: &mut KnownClasses,
+    found: &mut Vec<ClassFinding>,
+) -> Result<(), AllocError> {
+    let Some(class) = ClassText::of(node, pattern) else {
+        return Ok(());
+    };
+    let start = node.span().start;
+    for finding in known.findings(class)? {
+        let span = Span {
+            start: start.saturating_add(finding.span.start),
+            end: start.saturating_add(finding.span.end),
+        };
+        found.push(ClassFinding {
+            span,
+            problem: finding.problem,
+        })?;
+    }
+    Ok(())
+}
+
+/// Adds what is wrong with the node itself, or with branches of it.
+fn look_at(
+    node: SpannedNode<'_>,
+    pattern: &str,
+    known: &mut KnownClasses,
+    found: &mut Vec<ClassFinding>,
+) -> Result<(), AllocError> {
+    match node.expr() {
+        Expr::Delegate { .. } => add_of_class(node, pattern, known, found),
+        Expr::Alt(_) => add_subsumed(node, pattern, known, found),
+        Expr::Empty
+        | Expr::Any { .. }
+        | Expr::Assertion(_)
+        | Expr::GeneralNewline { .. }
+        | Expr::Literal { .. }
+        | Expr::LiteralBytes { .. }
+        | Expr::Concat(_)
+        | Expr::Group(_)
+        | Expr::LookAround(..)
+        | Expr::Repeat { .. }
+        | Expr::Backref { .. }
+        | Expr::BackrefWithRelativeRecursionLevel { .. }
+        | Expr::AtomicGroup(_)
+        | Expr::KeepOut
+        | Expr::ContinueFromPreviousMatchEnd
+        | Expr::BackrefExistsCondition { .. }
+        | Expr::Conditional { .. }
+        | Expr::SubroutineCall(_)
+        | Expr::BacktrackingControlVerb(_)
+        | Expr::Absent(_)
+        | Expr::DefineGroup { .. }
+        | Expr::AstNode(..) => Ok(()),
+    }
+}
+
+/// Adds what is wrong with the classes and the branches in the node.
+fn walk(
+    node: SpannedNode<'_>,
+    pattern: &str,
+    known: &mut KnownClasses,
+    found: &mut Vec<ClassFinding>,
+) -> Result<(), AllocError> {
+    look_at(node, pattern, known, found)?;
+    for child in node.children() {
+        walk(child, pattern, known, found)?;
+    }
+    Ok(())
+}
+
+/// What is wrong with the classes and the branches of one character in the tree, whose pattern is given. `known` has the
+/// classes of patterns that were looked at before, under the same flags.
+pub fn class_findings(
+    alloc: Global,
+    root: SpannedNode<'_>,
+    pattern: &str,
+    known: &mut KnownClasses,
+) -> Result<Vec<ClassFinding>, AllocError> {
+    let mut found = Vec::new(alloc);
+    walk(root, pattern, known, &mut found)?;
+    Ok(found)
+}

@@ -1,0 +1,12 @@
+//! The rules of `patterns lint` about classes and about branches of one character.
+#![tactic(auto)]
+
+mod class_items;
+pub mod class_problem;
+mod class_source;
+pub mod class_walk;
+mod covered;
+pub mod known_classes;
+mod mixed_range;
+mod needless;
+mod subsumed;

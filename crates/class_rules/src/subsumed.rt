@@ -1,0 +1,221 @@
+//! Branches of one character that another branch contains.
+ghost use Rattle.std.specs.Prelude.{IfOk, IfSome, IsTrue};
+ghost use Rattle.fancy_syntax.specs.View.{view};
+ghost use Rattle.class_rules.specs.Subsumed.{MatchesOne, IsSubsumed};
+
+use crate::class_problem::{ClassFinding, ClassProblem};
+use crate::known_classes::{ClassText, KnownClasses, MAX_BYTES};
+use class_meaning::{CharacterSet, ClassMeaning, characters_of};
+use fancy_lex::text::next;
+use fancy_spans::SpannedNode;
+use fancy_syntax::expr::Expr;
+use std::alloc::{AllocError, Global};
+
+/// How many classes of an alternation its branches are compared with.
+const MAX_CLASSES: usize = 8;
+
+/// The characters that the node matches; none if it does not match one character.
+fn characters_of_node(
+    alloc: Global,
+    node: &Expr,
+    unicode: bool,
+) -> Result<Option<CharacterSet>, AllocError>
+    ensures { IfOk result (λ o. IfSome o (MatchesOne unicode (view node.now))) }
+{
+    match characters_of(alloc, node, unicode)? {
+        ClassMeaning::Characters(set) => Ok(Some(set)),
+        ClassMeaning::Refused(_) | ClassMeaning::NotOneCharacter => Ok(None),
+    }
+}
+
+/// Whether each character that the one matches is one that the other matches, and neither matches anything else.
+fn is_subsumed(alloc: Global, one: &Expr, other: &Expr, unicode: bool) -> Result<bool, AllocError>
+    ensures { IfOk result (λ b. IsTrue b → IsSubsumed unicode (view one.now) (view other.now)) }
+{
+    let Some(set) = characters_of_node(alloc, one, unicode)? else {
+        return Ok(false);
+    };
+    let Some(others) = characters_of_node(alloc, other, unicode)? else {
+        return Ok(false);
+    };
+    let within = set.is_subset_of(&others)?;
+    Ok(within)
+}
+
+/// A branch that is a short class, a dot or a literal of one character.
+#[derive(Clone, Copy)]
+struct OneCharacterBranch<'a> {
+    /// How many branches are before it.
+    index: usize,
+    node: SpannedNode<'a>,
+}
+
+/// The one character of the text.
+fn only_character(text: &str) -> Option<char> {
+    let (c, rest) = next(text)?;
+    if rest.is_empty() { Some(c) } else { None }
+}
+
+/// Whether the node is a class or a dot.
+fn is_class(node: &Expr) -> bool {
+    matches!(node, Expr::Delegate { .. } | Expr::Any { .. })
+}
+
+/// Whether the node is a class that is short enough to be kept, a dot or a literal of one character.
+fn is_one_character(node: SpannedNode<'_>) -> bool {
+    let span = node.span();
+    if span.end.saturating_sub(span.start) > MAX_BYTES {
+        return false;
+    }
+    match node.expr() {
+        Expr::Literal { val, .. } => only_character(val.as_str()).is_some(),
+        tree => is_class(tree),
+    }
+}
+
+/// The branches that are short classes, dots or literals of one character.
+fn one_character_branches<'a>(
+    alloc: Global,
+    alternation: SpannedNode<'a>,
+) -> Result<Vec<OneCharacterBranch<'a>>, AllocError> {
+    let mut branches = Vec::new(alloc);
+    let mut index = 0usize;
+    for node in alternation.children() {
+        if is_one_character(node) {
+            branches.push(OneCharacterBranch { index, node })?;
+        }
+        index = index.saturating_add(1);
+    }
+    Ok(branches)
+}
+
+/// Where among these the first classes and dots are.
+fn classes_among(
+    alloc: Global,
+    branches: &[OneCharacterBranch<'_>],
+) -> Result<Vec<usize>, AllocError> {
+    let mut classes = Vec::new(alloc);
+    for (position, branch) in branches.iter().enumerate() {
+        if classes.len() < MAX_CLASSES && is_class(branch.node.expr()) {
+            classes.push(position)?;
+        }
+    }
+    Ok(classes)
+}
+
+/// Whether the branch can be left out, if the other one matches its character too: a later one can, and an earlier one if
+/// each branch between the two matches one character.
+fn can_be_left_out(branches: &[OneCharacterBranch<'_>], position: usize, other: usize) -> bool {
+    let (Some(branch), Some(containing)) = (branches.get(position), branches.get(other)) else {
+        return false;
+    };
+    other < position
+        || containing.index.saturating_sub(branch.index) == other.saturating_sub(position)
+}
+
+/// Whether the characters of the one node may be among those of the other, as far as is known without much work.
+fn may_contain(
+    known: &mut KnownClasses,
+    pattern: &str,
+    one: SpannedNode<'_>,
+    other: SpannedNode<'_>,
+) -> Result<bool, AllocError> {
+    let Some(class) = ClassText::of(other, pattern) else {
+        return Ok(true);
+    };
+    if let Expr::Literal { val, .. } = one.expr() {
+        return match only_character(val.as_str()) {
+            Some(c) => known.contains(class, c),
+            None => Ok(false),
+        };
+    }
+    match ClassText::of(one, pattern) {
+        Some(part) => known.may_contain(class, part),
+        None => Ok(true),
+    }
+}
+
+/// Whether the characters of the one branch are among those of the other, which differs from it. Of two with the same
+/// characters the earlier one has not.
+fn is_contained(
+    alloc: Global,
+    known: &mut KnownClasses,
+    pattern: &str,
+    one: OneCharacterBranch<'_>,
+    other: OneCharacterBranch<'_>,
+) -> Result<bool, AllocError> {
+    let unicode = known.is_unicode();
+    let (tree, containing) = (one.node.expr(), other.node.expr());
+    if *tree == *containing || !may_contain(known, pattern, one.node, other.node)? {
+        return Ok(false);
+    }
+    if !is_subsumed(alloc, tree, containing, unicode)? {
+        return Ok(false);
+    }
+    if one.index < other.index && is_class(tree) {
+        return Ok(!is_subsumed(alloc, containing, tree, unicode)?);
+    }
+    Ok(true)
+}
+
+/// The branches of an alternation that match one character.
+#[derive(Drop)]
+struct OneCharacterBranches<'a> {
+    branches: Vec<OneCharacterBranch<'a>>,
+    /// Where among them the first classes and dots are.
+    classes: Vec<usize>,
+}
+
+impl OneCharacterBranches<'_> {
+    /// The number of the class, counted from 1, that contains the branch at the position, and its span.
+    fn containing(
+        &self,
+        position: usize,
+        pattern: &str,
+        known: &mut KnownClasses,
+        alloc: Global,
+    ) -> Result<Option<ClassProblem>, AllocError> {
+        let Some(branch) = self.branches.get(position).copied() else {
+            return Ok(None);
+        };
+        for other in &self.classes {
+            let Some(class) = self.branches.get(*other).copied() else {
+                continue;
+            };
+            if *other != position
+                && can_be_left_out(&self.branches, position, *other)
+                && is_contained(alloc, known, pattern, branch, class)?
+            {
+                return Ok(Some(ClassProblem::SubsumedBranch {
+                    other: class.index.saturating_add(1),
+                    span: class.node.span(),
+                }));
+            }
+        }
+        Ok(None)
+    }
+}
+
+/// Adds the branches of the alternation that another one contains.
+pub(crate) fn add_subsumed(
+    alternation: SpannedNode<'_>,
+    pattern: &str,
+    known: &mut KnownClasses,
+    found: &mut Vec<ClassFinding>,
+) -> Result<(), AllocError> {
+    let alloc = *found.allocator();
+    let branches = one_character_branches(alloc, alternation)?;
+    let classes = classes_among(alloc, &branches)?;
+    let compared = OneCharacterBranches { branches, classes };
+    for position in 0..compared.branches.len() {
+        if let Some(problem) = compared.containing(position, pattern, known, alloc)?
+            && let Some(branch) = compared.branches.get(position)
+        {
+            found.push(ClassFinding {
+                span: branch.node.span(),
+                problem,
+            })?;
+        }
+    }
+    Ok(())
+}
