@@ -2,3 +2,4 @@ mod CutLemmas
 mod SetLemmas
 mod ProblemLemmas
 mod KnownLemmas
+mod BeginningLemmas

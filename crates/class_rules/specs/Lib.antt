@@ -1,4 +1,5 @@
 pub mod ClassSource
 pub mod ClassProblems
 pub mod Subsumed
+pub mod Beginnings
 pub mod KnownClasses

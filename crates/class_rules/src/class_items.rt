@@ -148,8 +148,8 @@ impl<'a> ItemReader<'a> {
     }
 }
 
-/// The items of the class. None if they are not seen to be all: if there is a class in it, or an operator between
-/// classes.
+/// The items of the class. Returns `None` if a class is in it, or an operator between classes, so that these may not be
+/// all.
 pub(crate) fn items_of(class: ClassSource<'_>) -> Result<Option<Vec<ClassItem>>, AllocError> {
     let Some(inside) = after(class.source, '[') else {
         return Ok(None);

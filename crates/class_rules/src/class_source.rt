@@ -23,7 +23,7 @@ pub(crate) struct ClassSource<'a> {
     pub(crate) flags: Flags,
 }
 
-/// The text that the parser writes for the class; none if the source is no class.
+/// The text that the parser writes for the class. Returns `None` if the source is not a class.
 #[tactic(auto, using(fancy_lex::proofs::TextLemmas::strip_is))]
 fn written(alloc: Global, source: &str, flags: Flags) -> Result<Option<String>, AllocError>
     ensures { IfOk result (λ o. IfSome o (λ text. IsWrittenAs flags (chars source.now) (text_of text))) }
@@ -41,7 +41,7 @@ fn written(alloc: Global, source: &str, flags: Flags) -> Result<Option<String>, 
     }
 }
 
-/// The characters of the class; none if the source is no class, or the engine refuses it.
+/// The characters of the class. Returns `None` if the source is not a class, or the engine refuses it.
 pub(crate) fn characters_of_source(
     alloc: Global,
     source: &str,

@@ -80,8 +80,8 @@ fn walk(
     Ok(())
 }
 
-/// What is wrong with the classes and the branches of one character in the tree, whose pattern is given. `known` has the
-/// classes of patterns that were looked at before, under the same flags.
+/// What is wrong with the classes and the branches of one character in the tree, whose pattern is given. `known` has
+/// the classes of patterns that were looked at before, under the same flags.
 pub fn class_findings(
     alloc: Global,
     root: SpannedNode<'_>,

@@ -24,8 +24,8 @@ const MAX_CLASSES: usize = 1024;
 /// The most bytes of a class that is kept, and of one whose items are looked at, or that branches are compared with.
 pub(crate) const MAX_BYTES: usize = 256;
 
-/// A class in a pattern: the text that the pattern has, the text that the engine is given for it, and whether it ignores
-/// case.
+/// A class in a pattern: the text that the pattern has, the text that the engine is given for it, and whether it
+/// ignores case.
 #[derive(Clone, Copy)]
 pub(crate) struct ClassText<'a> {
     pub(crate) source: &'a str,
@@ -34,7 +34,7 @@ pub(crate) struct ClassText<'a> {
 }
 
 impl<'a> ClassText<'a> {
-    /// The class that is the node; none if it is none.
+    /// The node as a class. Returns `None` if it is not a class.
     pub(crate) fn of(node: SpannedNode<'a>, pattern: &'a str) -> Option<ClassText<'a>> {
         let Expr::Delegate { inner, casei } = node.expr() else {
             return None;
@@ -182,7 +182,8 @@ fn hash_of(class: ClassText<'_>) -> u64 {
 #[derive(Drop)]
 pub struct KnownClasses {
     alloc: Global,
-    flags: u32,
+    /// The flags that the patterns are parsed under.
+    pub flags: u32,
     classes: Vec<KnownClass>,
     /// Where each of them is, by its hash.
     by_hash: HashMap<u64, usize>,
@@ -202,7 +203,9 @@ impl KnownClasses {
     }
 
     /// Whether patterns are parsed with Unicode.
-    pub(crate) fn is_unicode(&self) -> bool {
+    pub(crate) fn is_unicode(&self) -> bool
+        ensures { result ≡ (flags_of self.now.flags).unicode }
+    {
         Flags::from_bits(self.flags).unicode
     }
 

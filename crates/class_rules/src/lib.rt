@@ -1,6 +1,7 @@
 //! The rules of `patterns lint` about classes and about branches of one character.
 #![tactic(auto)]
 
+pub mod beginnings;
 mod class_items;
 pub mod class_problem;
 mod class_source;

@@ -6,7 +6,7 @@ ghost use Rattle.class_rules.specs.Subsumed.{MatchesOne, IsSubsumed};
 use crate::class_problem::{ClassFinding, ClassProblem};
 use crate::known_classes::{ClassText, KnownClasses, MAX_BYTES};
 use class_meaning::{CharacterSet, ClassMeaning, characters_of};
-use fancy_lex::text::next;
+use fancy_lex::text::{is_same_text, next};
 use fancy_spans::SpannedNode;
 use fancy_syntax::expr::Expr;
 use std::alloc::{AllocError, Global};
@@ -14,7 +14,7 @@ use std::alloc::{AllocError, Global};
 /// How many classes of an alternation its branches are compared with.
 const MAX_CLASSES: usize = 8;
 
-/// The characters that the node matches; none if it does not match one character.
+/// The characters that the node matches. Returns `None` if it does not match one character.
 fn characters_of_node(
     alloc: Global,
     node: &Expr,
@@ -29,7 +29,12 @@ fn characters_of_node(
 }
 
 /// Whether each character that the one matches is one that the other matches, and neither matches anything else.
-fn is_subsumed(alloc: Global, one: &Expr, other: &Expr, unicode: bool) -> Result<bool, AllocError>
+pub(crate) fn is_subsumed(
+    alloc: Global,
+    one: &Expr,
+    other: &Expr,
+    unicode: bool,
+) -> Result<bool, AllocError>
     ensures { IfOk result (λ b. IsTrue b → IsSubsumed unicode (view one.now) (view other.now)) }
 {
     let Some(set) = characters_of_node(alloc, one, unicode)? else {
@@ -62,7 +67,7 @@ fn is_class(node: &Expr) -> bool {
 }
 
 /// Whether the node is a class that is short enough to be kept, a dot or a literal of one character.
-fn is_one_character(node: SpannedNode<'_>) -> bool {
+pub(crate) fn is_one_character(node: SpannedNode<'_>) -> bool {
     let span = node.span();
     if span.end.saturating_sub(span.start) > MAX_BYTES {
         return false;
@@ -103,8 +108,8 @@ fn classes_among(
     Ok(classes)
 }
 
-/// Whether the branch can be left out, if the other one matches its character too: a later one can, and an earlier one if
-/// each branch between the two matches one character.
+/// Whether the branch can be left out, if the other one matches its character too: a later one can, and an earlier one
+/// if each branch between the two matches one character.
 fn can_be_left_out(branches: &[OneCharacterBranch<'_>], position: usize, other: usize) -> bool {
     let (Some(branch), Some(containing)) = (branches.get(position), branches.get(other)) else {
         return false;
@@ -113,13 +118,24 @@ fn can_be_left_out(branches: &[OneCharacterBranch<'_>], position: usize, other: 
         || containing.index.saturating_sub(branch.index) == other.saturating_sub(position)
 }
 
+/// Whether the literal may match each character that the node matches.
+fn literal_may_contain(node: &Expr, text: &str, casei: bool) -> bool {
+    let Expr::Literal { val, .. } = node else {
+        return false;
+    };
+    casei || is_same_text(val.as_str(), text)
+}
+
 /// Whether the characters of the one node may be among those of the other, as far as is known without much work.
-fn may_contain(
+pub(crate) fn may_contain(
     known: &mut KnownClasses,
     pattern: &str,
     one: SpannedNode<'_>,
     other: SpannedNode<'_>,
 ) -> Result<bool, AllocError> {
+    if let Expr::Literal { val, casei } = other.expr() {
+        return Ok(literal_may_contain(one.expr(), val.as_str(), *casei));
+    }
     let Some(class) = ClassText::of(other, pattern) else {
         return Ok(true);
     };
@@ -131,7 +147,7 @@ fn may_contain(
     }
     match ClassText::of(one, pattern) {
         Some(part) => known.may_contain(class, part),
-        None => Ok(true),
+        None => known.contains(class, char::MAX),
     }
 }
 

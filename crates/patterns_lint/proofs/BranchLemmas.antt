@@ -1,11 +1,10 @@
 -- Pieces of branches, one by one.
-use Rattle.std.proofs.Common.{◌≡◌, ℕ, suc, Vec, Global, ◌+◌, ◌<◌, ◌≤◌, ◌&&◌, true, false, List, ◌∷◌, length, drop, get_or}
+use Rattle.std.proofs.Common.{◌≡◌, ℕ, suc, ◌+◌, ◌<◌, ◌≤◌, ◌&&◌, true, false, List, ◌∷◌, length, drop, get_or}
 use Rattle.std.proofs.Common.{sym, ap, ◌∙◌, drop-cons, add-one}
 use Rattle.std.proofs.lemmas.List.{drop_all, nil_from_length}
 use Rattle.fancy_syntax.specs.View.{view, views}
-use Rattle.fancy_syntax.proofs.ChildrenLemmas.{view_Concat, list_of_trees_of}
-use Rattle.fancy_syntax.specs.declared.expr.Expr.{Expr, Concat}
-use Rattle.patterns_lint.specs.Branches.{pieces, covers, begins_with}
+use Rattle.fancy_syntax.specs.declared.expr.Expr.{Expr}
+use Rattle.patterns_lint.specs.Branches.{covers, begins_with}
 
 -- the trees from i on are the one at i and those after it
 trees_suc : (es : List Expr) (i : ℕ) (e : Expr) → i < length es → e ≡ get_or es i e →
@@ -35,7 +34,3 @@ begins_none es i e rest h is none =
 pub begins_end : (es : List Expr) (i : ℕ) (rest : List Expr) → length es ≤ i →
     begins_with (views (drop i es)) (views rest) ≡ true
 begins_end es i rest h = ap (λ us. begins_with (views us) (views rest)) (drop_all i es h)
-
--- the pieces of a concatenation are what it holds
-pub pieces_Concat : (e : Expr) (v : Vec Expr Global) → e ≡ Concat v → pieces (view e) ≡ views v.items
-pieces_Concat e v h = ap (λ x. pieces (view x)) h ∙ ap pieces (view_Concat v) ∙ list_of_trees_of _

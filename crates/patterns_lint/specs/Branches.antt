@@ -4,12 +4,8 @@ use Rattle.std.specs.Prelude.{Option, Some, None}
 use Rattle.std.specs.Str.{bytes_eq}
 use Rattle.patterns_lint.specs.declared.problem.Problem.{Problem}
 use Rattle.patterns_lint.specs.declared.problem.Problem.TheVariants as problem
-use Rattle.fancy_grammar.specs.Tree.{Tree, literal, repeat, concat, list_of}
-
--- the pieces of a branch
-abbrev pub pieces : Tree → List Tree
-pieces (concat ts) = list_of ts
-pieces t = t ∷ []
+use Rattle.fancy_grammar.specs.Tree.{Tree, literal, repeat}
+use Rattle.class_rules.specs.Beginnings.{pieces}
 
 -- whether a literal matches what another one matches: it has the same text, and ignores case if the other does
 abbrev pub covers : Tree → Tree → Bool

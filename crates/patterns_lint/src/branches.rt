@@ -1,26 +1,19 @@
 //! Branches that are likely mistakes.
-ghost use Rattle.std.specs.Prelude.{◌≡◌, ◌↔◌, ℕ, true, false, Some, IsTrue, IfSome, IsSomeAnd, slice_get};
+ghost use Rattle.std.specs.Prelude.{◌≡◌, ◌↔◌, ℕ, true, false, Some, IsTrue, IfOk, IfSome, IsSomeAnd, slice_get};
 ghost use Rattle.fancy_syntax.specs.View.{view, views};
 ghost use Rattle.patterns_lint.specs.Branches as spec;
 ghost use Rattle.patterns_lint.specs.declared.problem.Problem.TheVariants as reported;
 
 use crate::fingerprint::Fingerprint;
 use crate::problem::Problem;
+use class_rules::beginnings::{begins_within, operand, pieces};
+use class_rules::known_classes::KnownClasses;
 use fancy_lex::text::is_same_text;
+use fancy_spans::SpannedNode;
 use fancy_syntax::expr::Expr;
+use fancy_syntax::span::Span;
 use std::alloc::{AllocError, Global};
 use std::collections::HashMap;
-use std::slice;
-
-/// The pieces of a branch.
-fn pieces(branch: &Expr) -> &[Expr]
-    ensures { views result.now ≡ spec.pieces (view branch.now) }
-{
-    match branch {
-        Expr::Concat(trees) => trees,
-        _ => slice::from_ref(branch),
-    }
-}
 
 /// Whether the one is a literal that matches what the other matches, which is a literal too.
 fn covers(earlier: &Expr, later: &Expr) -> bool
@@ -136,6 +129,17 @@ pub(crate) fn is_word_list(branches: &[Expr]) -> bool {
     true
 }
 
+/// How many branches of an alternation, other than literals, later ones are compared with by their sets of characters.
+const MAX_COMPARED: usize = 8;
+
+/// Whether the node matches one character, as far as its form says.
+fn is_character(tree: &Expr) -> bool {
+    matches!(
+        tree,
+        Expr::Literal { .. } | Expr::Delegate { .. } | Expr::Any { .. }
+    )
+}
+
 /// Where a branch is.
 #[derive(Clone, Copy)]
 pub(crate) struct Situation {
@@ -151,11 +155,17 @@ pub(crate) struct Situation {
 
 /// The branches before one, by their fingerprints: of each the first, so that a branch is compared with few.
 #[derive(Drop)]
-pub(crate) struct Earlier {
+pub(crate) struct Earlier<'b> {
+    /// The pattern that they are branches of.
+    pattern: &'b str,
+    /// All of them.
+    nodes: Vec<SpannedNode<'b>>,
     /// By all that they hold.
     whole: HashMap<u64, usize>,
     /// Those of literals only, by their text.
     literals: HashMap<u64, usize>,
+    /// The first of the others.
+    others: Vec<usize>,
 }
 
 /// Adds the branch of this index, where none is known by the fingerprint.
@@ -170,27 +180,39 @@ fn add_first(
     Ok(())
 }
 
-impl Earlier {
+impl<'b> Earlier<'b> {
     /// No branch.
-    pub(crate) fn none(alloc: Global) -> Earlier {
+    pub(crate) fn none(alloc: Global, pattern: &'b str) -> Earlier<'b> {
         Earlier {
+            pattern,
+            nodes: Vec::new(alloc),
             whole: HashMap::new(alloc),
             literals: HashMap::new(alloc),
+            others: Vec::new(alloc),
         }
     }
 
-    /// Adds the branch, which has this index and this fingerprint.
+    /// Adds the branch, which has this fingerprint.
     pub(crate) fn add(
         &mut self,
-        i: usize,
-        branch: &Expr,
+        branch: SpannedNode<'b>,
         whole: Fingerprint,
     ) -> Result<(), AllocError> {
+        let i = self.nodes.len();
+        self.nodes.push(branch)?;
         add_first(&mut self.whole, whole, i)?;
-        match text_of(branch) {
-            Some(text) => add_first(&mut self.literals, text, i),
-            None => Ok(()),
+        if let Some(text) = text_of(branch.expr()) {
+            return add_first(&mut self.literals, text, i);
         }
+        if self.others.len() < MAX_COMPARED {
+            self.others.push(i)?;
+        }
+        Ok(())
+    }
+
+    /// Where the branch of this number is, counted from 1.
+    pub(crate) fn span(&self, number: usize) -> Option<Span> {
+        Some(self.nodes.get(number.checked_sub(1)?)?.span())
     }
 
     /// The branch that is equal to this one, which has this fingerprint.
@@ -227,32 +249,116 @@ impl Earlier {
         None
     }
 
-    /// What is wrong with a branch after these, which has this fingerprint.
-    pub(crate) fn problem(
+    /// The branch of literals that this one begins with, but for a quantifier on the last of them.
+    fn literals_of(&self, branch: &Expr) -> Option<usize> {
+        let mut text = Fingerprint::new();
+        for piece in pieces(branch) {
+            let Expr::Literal { val, .. } = operand(piece) else {
+                return None;
+            };
+            text = text.with(val.as_str());
+            if let Some(i) = self.literals.get(&text.number()) {
+                return Some(*i);
+            }
+            if let Expr::Repeat { .. } = piece {
+                return None;
+            }
+        }
+        None
+    }
+
+    /// Whether the branch begins with what the branch of this index matches, by their sets of characters. It is false
+    /// if both are one character, which `subsumed-branch` is for.
+    fn is_beginning(
+        &self,
+        i: usize,
+        branch: SpannedNode<'_>,
+        known: &mut KnownClasses,
+    ) -> Result<bool, AllocError> {
+        let Some(earlier) = self.nodes.get(i) else {
+            return Ok(false);
+        };
+        if is_character(branch.expr()) && is_character(earlier.expr()) {
+            return Ok(false);
+        }
+        begins_within(
+            *self.nodes.allocator(),
+            known,
+            self.pattern,
+            branch,
+            *earlier,
+        )
+    }
+
+    /// The branch that leaves this one nothing to match, by their sets of characters.
+    fn covering(
+        &self,
+        branch: SpannedNode<'_>,
+        known: &mut KnownClasses,
+    ) -> Result<Option<usize>, AllocError> {
+        if let Some(i) = self.literals_of(branch.expr())
+            && self.is_beginning(i, branch, known)?
+        {
+            return Ok(Some(i));
+        }
+        for i in &self.others {
+            if self.is_beginning(*i, branch, known)? {
+                return Ok(Some(*i));
+            }
+        }
+        Ok(None)
+    }
+
+    /// What is wrong with a branch after these, apart from sets of characters. It has this fingerprint.
+    fn problem_of_text(
         &self,
         earlier: &[Expr],
         branch: &Expr,
         whole: Fingerprint,
-        situation: Situation,
+        is_last: bool,
     ) -> Option<Problem<'static>>
-        ensures followed { situation.is_at_end ≡ false → (i : ℕ) → result ≡ Some (reported.UnreachableBranch i) → ⊥ }
-        ensures extended { situation.may_be_extended ≡ true → (i : ℕ) → result ≡ Some (reported.UnreachableBranch i) → ⊥ }
+        ensures { (i : ℕ) → result ≡ Some (reported.UnreachableBranch i) → ⊥ }
     {
         if let Expr::Empty = branch {
-            return empty_branch_problem(earlier.is_empty(), situation.is_last);
+            return empty_branch_problem(earlier.is_empty(), is_last);
         }
-        if let Some(i) = self.equal_to(earlier, branch, whole) {
-            return Some(Problem::DuplicateBranch {
-                earlier: i.saturating_add(1),
-            });
-        }
-        if !situation.is_at_end || situation.may_be_extended || situation.has_calls {
-            return None;
-        }
-        let i = self.beginning_of(earlier, branch)?;
-        Some(Problem::UnreachableBranch {
+        let i = self.equal_to(earlier, branch, whole)?;
+        Some(Problem::DuplicateBranch {
             earlier: i.saturating_add(1),
         })
+    }
+
+    /// What is wrong with a branch after these, which has this fingerprint.
+    pub(crate) fn problem(
+        &self,
+        earlier: &[Expr],
+        branch: SpannedNode<'_>,
+        whole: Fingerprint,
+        situation: Situation,
+        known: &mut KnownClasses,
+    ) -> Result<Option<Problem<'static>>, AllocError>
+        ensures followed { IfOk result (λ problem.
+            situation.is_at_end ≡ false → (i : ℕ) → problem ≡ Some (reported.UnreachableBranch i) → ⊥) }
+        ensures extended { IfOk result (λ problem.
+            situation.may_be_extended ≡ true → (i : ℕ) → problem ≡ Some (reported.UnreachableBranch i) → ⊥) }
+    {
+        let tree = branch.expr();
+        if let Some(problem) = self.problem_of_text(earlier, tree, whole, situation.is_last) {
+            return Ok(Some(problem));
+        }
+        if !situation.is_at_end || situation.may_be_extended || situation.has_calls {
+            return Ok(None);
+        }
+        let covering = match self.beginning_of(earlier, tree) {
+            Some(i) => Some(i),
+            None => self.covering(branch, known)?,
+        };
+        let Some(i) = covering else {
+            return Ok(None);
+        };
+        Ok(Some(Problem::UnreachableBranch {
+            earlier: i.saturating_add(1),
+        }))
     }
 }
 

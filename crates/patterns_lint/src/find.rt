@@ -63,7 +63,7 @@ pub fn problems<'a>(
         begin_groups: grammar.and_then(|rule| rule.begin_groups),
     };
     let mut walk = Walk::new(alloc);
-    scan(parsed.root(), &mut walk, about, ROOT)?;
+    scan(parsed.root(), &mut walk, about, ROOT, known)?;
     for repeat in slow {
         walk.report(repeat.span, Problem::ExponentialBacktracking { repeat })?;
     }

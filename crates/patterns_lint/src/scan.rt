@@ -6,6 +6,7 @@ use crate::problem::Problem;
 use crate::quantifiers::quantifier_problem;
 use crate::targets::{is_unresolved_call, missing_begin_group, missing_group};
 use crate::walk::Walk;
+use class_rules::known_classes::KnownClasses;
 use fancy_spans::SpannedNode;
 use fancy_syntax::expr::{Absent, Expr, LookAround};
 use fancy_syntax::span::Span;
@@ -136,9 +137,7 @@ fn is_child_at_end(tree: &Expr, index: usize, is_at_end: bool) -> bool {
 #[derive(Drop)]
 struct AltBranches<'b> {
     all: &'b [Expr],
-    earlier: Earlier,
-    /// Where each of those before the next one is.
-    spans: Vec<Span>,
+    earlier: Earlier<'b>,
     is_at_end: bool,
     may_be_extended: bool,
     has_calls: bool,
@@ -146,7 +145,7 @@ struct AltBranches<'b> {
 
 impl<'b> AltBranches<'b> {
     /// Those of the node. After a list of words that is the whole pattern an engine may add `\b`, as for keywords.
-    fn of(tree: &'b Expr, about: PatternInfo<'_>, around: Around) -> AltBranches<'b> {
+    fn of(tree: &'b Expr, about: PatternInfo<'b>, around: Around) -> AltBranches<'b> {
         let all: &[Expr] = match tree {
             Expr::Alt(branches) => branches,
             Expr::Empty
@@ -175,8 +174,7 @@ impl<'b> AltBranches<'b> {
         };
         AltBranches {
             all,
-            earlier: Earlier::none(about.alloc),
-            spans: Vec::new(about.alloc),
+            earlier: Earlier::none(about.alloc, about.pattern),
             is_at_end: around.is_at_end,
             may_be_extended: around.is_whole && !about.is_complete && is_word_list(all),
             has_calls: about.has_calls,
@@ -187,20 +185,21 @@ impl<'b> AltBranches<'b> {
     fn related(&self, problem: Problem<'_>) -> Option<Related> {
         let number = problem.earlier_branch()?;
         Some(Related {
-            span: *self.spans.get(number.saturating_sub(1))?,
+            span: self.earlier.span(number)?,
             label: Label::Branch(number),
         })
     }
 
-    /// What is wrong with the branch of this index and this span, which is the next one.
+    /// What is wrong with the branch of this index, which is the next one.
     fn next_problem(
         &mut self,
         i: usize,
-        span: Span,
+        branch: SpannedNode<'b>,
+        known: &mut KnownClasses,
     ) -> Result<Option<Problem<'static>>, AllocError> {
-        let Some(branch) = self.all.get(i) else {
+        if i >= self.all.len() {
             return Ok(None);
-        };
+        }
         let situation = Situation {
             is_last: i.saturating_add(1) == self.all.len(),
             is_at_end: self.is_at_end,
@@ -208,10 +207,11 @@ impl<'b> AltBranches<'b> {
             has_calls: self.has_calls,
         };
         let before = self.all.get(..i).unwrap_or(&[]);
-        let whole = Fingerprint::of(branch);
-        let problem = self.earlier.problem(before, branch, whole, situation);
-        self.earlier.add(i, branch, whole)?;
-        self.spans.push(span)?;
+        let whole = Fingerprint::of(branch.expr());
+        let problem = self
+            .earlier
+            .problem(before, branch, whole, situation, known)?;
+        self.earlier.add(branch, whole)?;
         Ok(problem)
     }
 }
@@ -241,22 +241,23 @@ fn around_child(tree: &Expr, branches: &[Expr], index: usize, around: Around) ->
     }
 }
 
-/// Scans a node and those below it.
+/// Scans a node and those below it. `known` has the classes of the run's patterns.
 pub(crate) fn scan<'a>(
     node: SpannedNode<'_>,
     walk: &mut Walk<'a>,
     about: PatternInfo<'_>,
     around: Around,
+    known: &mut KnownClasses,
 ) -> Result<(), AllocError> {
     look_at(node, walk, about, around.has_count_twin)?;
     let mut branches = AltBranches::of(node.expr(), about, around);
     let mut index = 0usize;
     for child in node.children() {
-        if let Some(problem) = branches.next_problem(index, child.span())? {
+        if let Some(problem) = branches.next_problem(index, child, known)? {
             walk.report_beside(child.span(), problem, branches.related(problem))?;
         }
         let inside = around_child(node.expr(), branches.all, index, around);
-        scan(child, walk, about, inside)?;
+        scan(child, walk, about, inside, known)?;
         index = index.saturating_add(1);
     }
     Ok(())

@@ -1,8 +1,8 @@
 use Rattle.std.proofs.Common.{◌≡◌, rules}
 use Rattle.fancy_syntax.specs.View.{view, views}
-use Rattle.patterns_lint.specs.Branches.{pieces}
-use Rattle.patterns_lint.proofs.BranchLemmas.{pieces_Concat}
-use Rattle.patterns_lint.proofs.branches.pieces.Goals as goal
+use Rattle.class_rules.specs.Beginnings.{pieces}
+use Rattle.class_rules.proofs.BeginningLemmas.{pieces_Concat}
+use Rattle.class_rules.proofs.beginnings.pieces.Goals as goal
 
 pub returns-in-Concat : goal.returns-in-Concat
 returns-in-Concat c =
