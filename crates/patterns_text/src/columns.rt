@@ -67,7 +67,7 @@ fn positions_of(alloc: Global, nodes: &[SpannedNode<'_>]) -> Result<Vec<usize>, 
             positions.push(*position)?;
         }
     }
-    positions.sort_by_key(|position| *position)?;
+    positions.sort()?;
     Ok(positions)
 }
 

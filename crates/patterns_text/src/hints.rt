@@ -1,6 +1,6 @@
 //! What to write in place of what other dialects of regular expressions have, and of frequent slips.
 use crate::octal::Octal;
-use crate::opening::{Opening, UNMATCHED};
+use crate::opening::{Opening, is_unmatched};
 use fancy_lex::error::ParseError;
 use std::fmt;
 
@@ -301,6 +301,17 @@ fn hint_on_digits(pattern: &str, position: usize) -> Option<Hint> {
     Some(Hint::ClassDigits(Octal::of(digits)))
 }
 
+/// Whether it is a class that a bracket was opened in.
+fn is_nested(opening: Option<Opening>) -> bool {
+    matches!(
+        opening,
+        Some(Opening {
+            nests_class: true,
+            ..
+        })
+    )
+}
+
 /// What to do about the error at the position; none if that is not known.
 pub(crate) fn hint_for(
     kind: &ParseError,
@@ -309,12 +320,12 @@ pub(crate) fn hint_for(
     opening: Option<Opening>,
 ) -> Option<Hint> {
     match kind {
-        ParseError::GeneralParseError(message) if message.as_str() == UNMATCHED => Some(
-            Hint::Sentence(r"unmatched closing parenthesis: remove it, or write `\)`"),
-        ),
-        ParseError::InvalidClass if opening.is_some_and(|opening| opening.nests_class) => Some(
-            Hint::Sentence(r"a `[` in a class opens a class in it: write `\[` for the character"),
-        ),
+        kind if is_unmatched(kind) => Some(Hint::Sentence(
+            r"unmatched closing parenthesis: remove it, or write `\)`",
+        )),
+        ParseError::InvalidClass if is_nested(opening) => Some(Hint::Sentence(
+            r"a `[` in a class opens a class in it: write `\[` for the character",
+        )),
         ParseError::InvalidClass => hint_on_digits(pattern, position),
         kind => hint_on_dialect(kind, pattern, position),
     }

@@ -24,8 +24,9 @@ impl Octal {
             };
             code = Some(code.unwrap_or(0u32).saturating_mul(8).saturating_add(digit));
         }
+        let is_code = matches!(code, Some(..=MAX_CODE));
         Octal {
-            code: code.filter(|code| *code <= MAX_CODE),
+            code: if is_code { code } else { None },
         }
     }
 }

@@ -1,11 +1,13 @@
 //! Where the group, the comment or the class opens that a pattern does not close. The parser itself is asked: it parses
 //! the pattern with closing delimiters after it, a few times, and then the nodes say where they begin.
 use crate::error::RunError;
+use crate::excerpt::{Label, Related};
 use crate::nodes::nodes_of;
 use crate::subject::{Refusal, Subject};
 use fancy_lex::error::ParseError;
 use fancy_spans::{SpannedNode, SpannedTree};
 use fancy_syntax::expr::Expr;
+use fancy_syntax::span::Span;
 use std::alloc::{AllocError, Global};
 
 /// Ends a line comment, gives a group some contents, and closes it.
@@ -24,7 +26,7 @@ const MAX_CLASSES: usize = 64;
 const MAX_COMMENTS: usize = 4;
 
 /// The message of the error at a closing parenthesis without an opening one.
-pub(crate) const UNMATCHED: &str = "end of string not reached";
+const UNMATCHED: &str = "end of string not reached";
 
 /// What a pattern does not close.
 #[derive(Clone, Copy)]
@@ -33,6 +35,19 @@ pub(crate) struct Opening {
     pub(crate) start: usize,
     /// Whether it is a class that a bracket was opened in.
     pub(crate) nests_class: bool,
+}
+
+impl Opening {
+    /// The delimiter, as a second part that a report points at.
+    pub(crate) fn related(self) -> Related {
+        Related {
+            span: Span {
+                start: self.start,
+                end: self.start.saturating_add(1),
+            },
+            label: Label::Opened,
+        }
+    }
 }
 
 /// A text, and another after it so many times.
@@ -66,23 +81,50 @@ fn parse(subject: Subject<'_>, text: &str) -> Result<Result<SpannedTree, Refusal
     .parse()
 }
 
+/// Whether the error is a closing parenthesis without an opening one.
+pub(crate) fn is_unmatched(kind: &ParseError) -> bool {
+    matches!(kind, ParseError::GeneralParseError(message) if message.as_str() == UNMATCHED)
+}
+
+/// The position of the closing parenthesis without an opening one, if that is the error of the text.
+fn unmatched_position(subject: Subject<'_>, text: &str) -> Result<Option<usize>, RunError> {
+    let refusal = parse(subject, text)?.err();
+    match &refusal {
+        Some(Refusal { position, kind }) if is_unmatched(kind) => Ok(Some(*position)),
+        Some(_) | None => Ok(None),
+    }
+}
+
 /// How many closing parentheses the text needs after it; none if it is invalid for another reason.
 fn count_open(subject: Subject<'_>, text: &str) -> Result<Option<usize>, RunError> {
     let closed = followed_by(subject.alloc, text, CLOSER, MAX_CLOSERS)?;
-    let Err(
-        Refusal {
-            position,
-            kind: ParseError::GeneralParseError(message),
-        },
-    ) = parse(subject, closed.as_str())?
-    else {
+    let Some(position) = unmatched_position(subject, closed.as_str())? else {
         return Ok(None);
     };
-    if message.as_str() != UNMATCHED {
+    let Some(after) = position.checked_sub(text.len()) else {
         return Ok(None);
-    }
-    let after = position.checked_sub(text.len());
-    Ok(after.map(|bytes| bytes / CLOSER.len()))
+    };
+    Ok(Some(after / CLOSER.len()))
+}
+
+/// The tree of the text with the closing parentheses after it that it needs; none if it is invalid for another reason.
+fn parse_closed(subject: Subject<'_>, text: &str) -> Result<Option<SpannedTree>, RunError> {
+    let Some(count) = count_open(subject, text)? else {
+        return Ok(None);
+    };
+    let closed = followed_by(subject.alloc, text, CLOSER, count)?;
+    Ok(parse(subject, closed.as_str())?.ok())
+}
+
+/// The tree of the pattern with the ending after it so many times, and the closing parentheses after that which it needs;
+/// none if it is invalid for another reason.
+fn parse_ended(
+    subject: Subject<'_>,
+    ending: &str,
+    count: usize,
+) -> Result<Option<SpannedTree>, RunError> {
+    let ended = followed_by(subject.alloc, subject.pattern, ending, count)?;
+    parse_closed(subject, ended.as_str())
 }
 
 /// Whether a parenthesis after the text opens a group.
@@ -103,14 +145,16 @@ fn is_in_comment(subject: Subject<'_>) -> Result<bool, RunError> {
     Ok(count_open(subject, opened.as_str())? == Some(count))
 }
 
+/// Whether the text ends with a backslash that escapes what follows it.
+fn escapes_next(text: &str) -> bool {
+    let backslashes = text.len().saturating_sub(text.trim_end_matches('\\').len());
+    backslashes % 2 == 1
+}
+
 /// The text after the last closing parenthesis that no backslash escapes.
 fn after_last_parenthesis(pattern: &str) -> &str {
     for (i, _) in pattern.rmatch_indices(')') {
-        let before = pattern.get(..i).unwrap_or("");
-        let backslashes = before
-            .len()
-            .saturating_sub(before.trim_end_matches('\\').len());
-        if backslashes % 2 == 0 {
+        if !escapes_next(pattern.get(..i).unwrap_or("")) {
             return pattern.get(i..).unwrap_or("");
         }
     }
@@ -185,27 +229,29 @@ fn node_ending_at<'a>(nodes: &[SpannedNode<'a>], end: usize) -> Option<SpannedNo
     found
 }
 
+/// Where the innermost node of the tree begins that ends at the offset, if it is that of a group with the ending.
+fn group_ending_at(
+    alloc: Global,
+    parsed: Option<&SpannedTree>,
+    ending: GroupEnding,
+    end: usize,
+) -> Result<Option<usize>, AllocError> {
+    let Some(parsed) = parsed else {
+        return Ok(None);
+    };
+    let nodes = nodes_of(alloc, parsed)?;
+    match node_ending_at(&nodes, end) {
+        Some(node) if ending.is_of_group(node.expr()) => Ok(Some(node.span().start)),
+        Some(_) | None => Ok(None),
+    }
+}
+
 /// Where the innermost open group begins, if the ending fits it.
 fn group_start_with(subject: Subject<'_>, ending: GroupEnding) -> Result<Option<usize>, RunError> {
-    let alloc = subject.alloc;
-    let ended = followed_by(alloc, subject.pattern, ending.text(), 1)?;
-    let Some(count) = count_open(subject, ended.as_str())? else {
-        return Ok(None);
-    };
-    let closed = followed_by(alloc, ended.as_str(), CLOSER, count)?;
-    let Ok(parsed) = parse(subject, closed.as_str())? else {
-        return Ok(None);
-    };
-    let nodes = nodes_of(alloc, &parsed)?;
-    let Some(node) = node_ending_at(&nodes, ended.len()) else {
-        return Ok(None);
-    };
-    let is_found = ending.is_of_group(node.expr());
-    Ok(if is_found {
-        Some(node.span().start)
-    } else {
-        None
-    })
+    let text = ending.text();
+    let end = subject.pattern.len().saturating_add(text.len());
+    let parsed = parse_ended(subject, text, 1)?;
+    Ok(group_ending_at(subject.alloc, parsed.as_ref(), ending, end)?)
 }
 
 /// Where the innermost open group begins.
@@ -285,49 +331,77 @@ impl Brackets {
     fn pop(&mut self) {
         self.open.pop();
     }
+
+    /// The innermost one, in a text that begins at the offset, if so many are open.
+    fn innermost(&self, start: usize, depth: usize) -> Option<Opening> {
+        let innermost = self.open.last()?;
+        if self.open.len() != depth {
+            return None;
+        }
+        Some(Opening {
+            start: start.saturating_add(*innermost),
+            nests_class: self.nests_class,
+        })
+    }
 }
 
-/// The class that goes on after the offset.
-fn class_around<'a>(nodes: &[SpannedNode<'a>], offset: usize) -> Option<SpannedNode<'a>> {
+/// The span of the class that goes on after the offset.
+fn class_around(nodes: &[SpannedNode<'_>], offset: usize) -> Option<Span> {
     for node in nodes {
         let span = node.span();
         if matches!(node.expr(), Expr::Delegate { .. })
             && span.start < offset
             && offset < span.end
         {
-            return Some(*node);
+            return Some(span);
         }
     }
     None
 }
 
+/// The span of the class of the tree that goes on after the offset.
+fn class_in(
+    alloc: Global,
+    parsed: Option<&SpannedTree>,
+    offset: usize,
+) -> Result<Option<Span>, AllocError> {
+    let Some(parsed) = parsed else {
+        return Ok(None);
+    };
+    let nodes = nodes_of(alloc, parsed)?;
+    Ok(class_around(&nodes, offset))
+}
+
+/// The span of the outermost open class, in the pattern with closing brackets after it.
+fn class_span(subject: Subject<'_>) -> Result<Option<Span>, RunError> {
+    let parsed = parse_ended(subject, CLASS_CLOSER, MAX_CLASSES)?;
+    Ok(class_in(subject.alloc, parsed.as_ref(), subject.pattern.len())?)
+}
+
 /// What is known of the innermost open class. The brackets are counted by hand, and have to be as many as the parser needs.
 fn class_opening(subject: Subject<'_>) -> Result<Option<Opening>, RunError> {
     let Subject { alloc, pattern, .. } = subject;
-    let ended = followed_by(alloc, pattern, CLASS_CLOSER, MAX_CLASSES)?;
-    let Some(count) = count_open(subject, ended.as_str())? else {
+    let Some(Span { start, end }) = class_span(subject)? else {
         return Ok(None);
     };
-    let closed = followed_by(alloc, ended.as_str(), CLOSER, count)?;
-    let Ok(parsed) = parse(subject, closed.as_str())? else {
+    let depth = end.saturating_sub(pattern.len()) / CLASS_CLOSER.len();
+    let brackets = Brackets::of(alloc, pattern.get(start..).unwrap_or(""))?;
+    Ok(brackets.innermost(start, depth))
+}
+
+/// What opens the group or the comment that the pattern does not close.
+fn group_opening(subject: Subject<'_>) -> Result<Option<Opening>, RunError> {
+    let start = if is_in_comment(subject)? {
+        comment_start(subject)?
+    } else {
+        group_start(subject)?
+    };
+    let Some(start) = start else {
         return Ok(None);
     };
-    let nodes = nodes_of(alloc, &parsed)?;
-    let Some(class) = class_around(&nodes, pattern.len()) else {
-        return Ok(None);
-    };
-    let span = class.span();
-    let depth = span.end.saturating_sub(pattern.len()) / CLASS_CLOSER.len();
-    let brackets = Brackets::of(alloc, pattern.get(span.start..).unwrap_or(""))?;
-    let Some(innermost) = brackets.open.last() else {
-        return Ok(None);
-    };
-    if brackets.open.len() != depth {
-        return Ok(None);
-    }
     Ok(Some(Opening {
-        start: span.start.saturating_add(*innermost),
-        nests_class: brackets.nests_class,
+        start,
+        nests_class: false,
     }))
 }
 
@@ -342,17 +416,7 @@ pub(crate) fn opening_of(
     }
     match refusal.kind {
         ParseError::InvalidClass => class_opening(subject),
-        ParseError::UnclosedOpenParen => {
-            let start = if is_in_comment(subject)? {
-                comment_start(subject)?
-            } else {
-                group_start(subject)?
-            };
-            Ok(start.map(|start| Opening {
-                start,
-                nests_class: false,
-            }))
-        }
+        ParseError::UnclosedOpenParen => group_opening(subject),
         _ => Ok(None),
     }
 }

@@ -209,8 +209,14 @@ impl Cut<'_> {
         let (front, rest) = pattern.split_at(pattern.floor_char_boundary(position));
         Cut {
             above: front.matches('\n').count(),
-            before: front.rsplit_once('\n').map_or(front, |parts| parts.1),
-            after: rest.split_once('\n').map_or(rest, |parts| parts.0),
+            before: match front.rsplit_once('\n') {
+                Some((_, line)) => line,
+                None => front,
+            },
+            after: match rest.split_once('\n') {
+                Some((line, _)) => line,
+                None => rest,
+            },
         }
     }
 }

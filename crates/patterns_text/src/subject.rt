@@ -5,14 +5,13 @@ ghost use Rattle.fre_program.specs.Words.{HasTree, HasError};
 ghost use Rattle.patterns_text.specs.Subject.{IsAccepted, IsRefused, IsParsedAs};
 
 use crate::error::RunError;
-use crate::excerpt::{Label, Related};
+use crate::excerpt::Related;
 use crate::hints::{Hint, hint_for};
-use crate::opening::opening_of;
+use crate::opening::{Opening, opening_of};
 use crate::position::{Location, write_refusal};
 use fancy_lex::error::ParseError;
 use fancy_spans::SpannedTree;
 use fancy_syntax::error::Error;
-use fancy_syntax::span::Span;
 use std::alloc::{AllocError, Global};
 use std::io::Write;
 
@@ -48,13 +47,7 @@ impl Refusal {
     pub fn advice(&self, subject: Subject<'_>) -> Result<Advice, RunError> {
         let opened = opening_of(subject, self)?;
         Ok(Advice {
-            related: opened.map(|opening| Related {
-                span: Span {
-                    start: opening.start,
-                    end: opening.start.saturating_add(1),
-                },
-                label: Label::Opened,
-            }),
+            related: opened.map(Opening::related),
             hint: hint_for(&self.kind, subject.pattern, self.position, opened),
         })
     }
