@@ -1,0 +1,3 @@
+mod SetLemmas
+mod GroupLemmas
+mod FixedLemmas

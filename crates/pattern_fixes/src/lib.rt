@@ -1,0 +1,8 @@
+//! Edits of a pattern's text that fix what `patterns lint` reports of it, and the proof that they change nothing else.
+#![tactic(auto)]
+
+pub mod edit;
+mod edits;
+pub mod fixed;
+mod groups;
+pub mod tree;
