@@ -1,0 +1,2 @@
+pub mod WildLemmas
+pub mod GlobLemmas

@@ -1,0 +1,4 @@
+-- The definitions that the contracts use.
+
+pub mod Wild
+pub mod Globs
