@@ -21,7 +21,8 @@ The work is done by the shared library libfancy, whose functions are proved to m
 the environment variable FANCY_LIBRARY names; or else the one that `make -C c` built in this source tree; or else the one
 that is installed. Its functions may be called in several threads at once. Python 3.8 or later.
 
-On the command line, `python -m fancy check FILE` reports each line of a file that is not a valid pattern.
+On the command line, `python -m fancy check FILE` reports each line of a file that is not a valid pattern, and
+`python -m fancy extract FILE` writes the patterns of source files as records in JSON.
 """
 
 from __future__ import annotations
@@ -534,6 +535,12 @@ def _check_version(library: ctypes.CDLL, name: str) -> None:
         raise ImportError(f"{name} has the version {major}.{minor}, and {_MAJOR}.{_MINOR} or a later {_MAJOR} is needed")
 
 
+if __name__ == "__main__" and sys.argv[1:2] == ["extract"]:
+    # this subcommand does without the library
+    from fancy_extract import main as _extract
+
+    sys.exit(_extract(sys.argv[2:]))
+
 _library = _load()
 
 
@@ -817,7 +824,7 @@ def _lines(name: str) -> Iterator[Tuple[int, Pattern]]:
 def _main(arguments: Optional[Sequence[str]] = None) -> int:
     parser = argparse.ArgumentParser(prog="python -m fancy", description="Checks and formats files of patterns.")
     parser.add_argument("--version", action="version", version=f"libfancy {__version__}")
-    subcommands = parser.add_subparsers(dest="subcommand", required=True, metavar="check|format")
+    subcommands = parser.add_subparsers(dest="subcommand", required=True, metavar="check|format|extract")
     for name, summary in {
         "check": "reports each line that is not a valid pattern, as FILE:LINE:COLUMN: message",
         "format": "writes each pattern in one form and without its comments, or as it is if it is invalid",
@@ -825,6 +832,8 @@ def _main(arguments: Optional[Sequence[str]] = None) -> int:
         subcommand = subcommands.add_parser(name, help=summary, description=f"{name} {summary}.")
         subcommand.add_argument("--flags", type=_flags, default=UNICODE, metavar="LETTERS", help=f"of {_LETTERS}")
         subcommand.add_argument("files", nargs="*", default=["-"], metavar="FILE", help="one pattern per line; - is standard input")
+    # it is run before the library is loaded
+    subcommands.add_parser("extract", help="writes the patterns of source files as records in JSON", add_help=False)
     given = parser.parse_args(arguments)
     status = 0
     for file in given.files:
