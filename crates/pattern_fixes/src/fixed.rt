@@ -3,10 +3,11 @@ ghost use Rattle.std.specs.Prelude.{◌≡◌, chars, string_bytes, IfOk, IfSome
 ghost use Rattle.fancy_lex.specs.Flags.{flags_of};
 ghost use Rattle.fancy_syntax.specs.InfoViews.{info_of};
 ghost use Rattle.fancy_syntax.specs.View.{view};
+ghost use Rattle.pattern_fixes.specs.Edits as spec;
 ghost use Rattle.pattern_fixes.specs.Fixed.{IsFixedText};
 
 use crate::edit::{Edit, FixableReport, edit_of};
-use crate::edits::{apart, edited};
+use crate::edits::{apart, with_edit, with_edits};
 use crate::groups::has_same_groups;
 use crate::tree::is_fixed;
 use fancy_lex::flags::Flags;
@@ -50,7 +51,7 @@ impl<'p> ParsedPattern<'p, '_> {
         ensures { IfOk result (λ o. IfSome o (λ text. IsFixedText (flags_of self.now.flags) (chars (string_bytes text))
             (view self.now.tree.now.expr) (info_of self.now.tree.now))) }
     {
-        let Some(text) = edited(self.alloc, self.pattern, edits)? else {
+        let Some(text) = with_edits(self.alloc, self.pattern, edits)? else {
             return Ok(None);
         };
         if self.is_fixed_as(text.as_str())? {
@@ -65,13 +66,20 @@ impl<'p> ParsedPattern<'p, '_> {
         &self,
         report: FixableReport,
         reports: &[FixableReport],
-    ) -> Result<Option<Edit<'p>>, AllocError> {
+    ) -> Result<Option<Edit<'p>>, AllocError>
+        ensures fixed { IfOk result (λ o. IfSome o (λ edit. IsFixedText (flags_of self.now.flags)
+            (chars (spec.with_edit self.now.pattern.now edit)) (view self.now.tree.now.expr) (info_of self.now.tree.now))) }
+    {
         let Some(edit) = edit_of(self.pattern, report, reports) else {
             return Ok(None);
         };
-        match self.fixed_by(&[edit])? {
-            Some(_) => Ok(Some(edit)),
-            None => Ok(None),
+        let Some(text) = with_edit(self.alloc, self.pattern, edit)? else {
+            return Ok(None);
+        };
+        if self.is_fixed_as(text.as_str())? {
+            Ok(Some(edit))
+        } else {
+            Ok(None)
         }
     }
 
@@ -100,7 +108,7 @@ impl<'p> ParsedPattern<'p, '_> {
     /// The pattern with reports fixed, and nothing else changed; none if none of them can be fixed. Of reports that
     /// overlap the first is fixed, and no more than `MAX_FIXES` are.
     pub fn fixed(&self, reports: &[FixableReport]) -> Result<Option<String>, AllocError>
-        ensures { IfOk result (λ o. IfSome o (λ text. IsFixedText (flags_of self.now.flags) (chars (string_bytes text))
+        ensures fixed { IfOk result (λ o. IfSome o (λ text. IsFixedText (flags_of self.now.flags) (chars (string_bytes text))
             (view self.now.tree.now.expr) (info_of self.now.tree.now))) }
     {
         let edits = self.edits(reports)?;
