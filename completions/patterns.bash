@@ -8,14 +8,14 @@ _patterns() {
     case $before in
         --color) mapfile -t COMPREPLY < <(compgen -W 'auto always never' -- "$word") && return ;;
         --format) mapfile -t COMPREPLY < <(compgen -W 'text json github sarif' -- "$word") && return ;;
-        --allow | --warn | --deny) mapfile -t COMPREPLY < <(compgen -W 'missing-group missing-begin-group missing-capture-group useless-backreference unresolved-call duplicate-group-name unused-capturing-group duplicate-branch unreachable-branch empty-branch quantified-assertion empty-loop useless-quantifier zero-quantifier exponential-backtracking useless-flag single-character-class invalid-class empty-class duplicate-characters suspicious-range subsumed-branch dialect-difference all' -- "$word") && return ;;
+        --allow | --warn | --deny) mapfile -t COMPREPLY < <(compgen -W 'missing-group missing-begin-group missing-capture-group useless-backreference unresolved-call duplicate-group-name unused-capturing-group duplicate-branch unreachable-branch empty-branch quantified-assertion empty-loop useless-quantifier zero-quantifier exponential-backtracking polynomial-backtracking useless-flag single-character-class invalid-class empty-class duplicate-characters suspicious-range subsumed-branch dialect-difference all' -- "$word") && return ;;
         --flags | --keys | --max-warnings | --regexp | -e) return ;;
     esac
     case ${COMP_WORDS[1]} in
         check) options='--flags -e --regexp -z --null-data --quiet --color --textmate --keys --format --json -h --help' ;;
         tree) options='--flags --ascii --spans --all --classes --json --file -h --help' ;;
         picture) options='--flags --html --width --file -h --help' ;;
-        lint) options='--flags -e --regexp -z --null-data --quiet --color --textmate --keys --allow --warn --deny --max-warnings --format --json --rules -h --help' ;;
+        lint) options='--flags -e --regexp -z --null-data --quiet --color --textmate --keys --allow --warn --deny --max-warnings --format --json --verbose --rules -h --help' ;;
         format) options='--flags -e --regexp -z --null-data --quiet --color --check --drop-comments -h --help' ;;
         groups) options='--flags -e --regexp -z --null-data --quiet --color --textmate --keys --classes --json -h --help' ;;
         help) options='check tree picture lint format groups' ;;

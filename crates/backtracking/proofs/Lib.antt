@@ -2,3 +2,5 @@ mod CharacterLemmas
 mod ManyLemmas
 mod WayLemmas
 mod RepeatLemmas
+mod SplitLemmas
+mod SequenceLemmas

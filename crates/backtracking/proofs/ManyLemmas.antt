@@ -8,7 +8,7 @@ use Rattle.backtracking.specs.TwoWays.{Turns, no_turn, turn, Part, here, later, 
 use Rattle.backtracking.specs.declared.decision.Decision.{Decision}
 
 -- what remains, with more after it
-abbrev and_then : Rest → Rest → Rest
+abbrev pub and_then : Rest → Rest → Rest
 and_then s r = at (s.decisions ++ r.decisions) (s.text ++ r.text)
 
 longer : (v w x : List ℕ) → length v < length w → length (v ++ x) < length (w ++ x)
@@ -23,25 +23,25 @@ mutual
   more_goes unicode t s u r (branch at_index k) = branch at_index (more_goes unicode _ _ u r k)
   more_goes unicode t s u r (turns k low high) = turns (more_turns unicode _ _ s _ r k) low high
 
-  more_goes_all : (unicode : Bool) (ts : Trees) (s u r : Rest) → GoesAll unicode ts s u →
+  pub more_goes_all : (unicode : Bool) (ts : Trees) (s u r : Rest) → GoesAll unicode ts s u →
       GoesAll unicode ts (and_then s r) (and_then u r)
   more_goes_all unicode ts s u r no_more = no_more
   more_goes_all unicode ts s u r (next k l) = next (more_goes unicode _ s _ r k) (more_goes_all unicode _ _ u r l)
 
-  more_turns : (unicode : Bool) (t : Tree) (n : ℕ) (s u r : Rest) → Turns unicode t n s u →
+  pub more_turns : (unicode : Bool) (t : Tree) (n : ℕ) (s u r : Rest) → Turns unicode t n s u →
       Turns unicode t n (and_then s r) (and_then u r)
   more_turns unicode t n s u r no_turn = no_turn
   more_turns unicode t n s u r (turn {w = w} k l less) =
       turn (more_turns unicode t _ s _ r k) (more_goes unicode t _ u r l) (longer u.text w r.text less)
 
 -- turns after turns
-joined : (unicode : Bool) (t : Tree) (n m : ℕ) (s u v : Rest) → Turns unicode t n s u → Turns unicode t m u v →
+pub joined : (unicode : Bool) (t : Tree) (n m : ℕ) (s u v : Rest) → Turns unicode t n s u → Turns unicode t m u v →
     (count : ℕ) × Turns unicode t count s v
 joined unicode t n m s u v k no_turn = (n, k)
 joined unicode t n m s u v k (turn l g less) = let before = joined unicode t n _ s u _ k l in (suc before.0, turn before.1 g less)
 
 -- a way over one word, and one over another, are a way over both
-both : (unicode : Bool) (t : Tree) (w x : List ℕ) (ds es : List Decision) → IsWay unicode t w ds → IsWay unicode t x es →
+pub both : (unicode : Bool) (t : Tree) (w x : List ℕ) (ds es : List Decision) → IsWay unicode t w ds → IsWay unicode t x es →
     IsWay unicode t (w ++ x) (ds ++ es)
 both unicode t w x ds es k l =
     let all = joined unicode t k.count l.count (at (ds ++ es) (w ++ x)) (at es x) (at [] [])
@@ -54,15 +54,15 @@ many unicode t w ds es h [] = record { count = 0; goes = no_turn }
 many unicode t w ds es h (true ∷ bs) = both unicode t w (times (length bs) w) ds (chosen ds es bs) h.first (many unicode t w ds es h bs)
 many unicode t w ds es h (false ∷ bs) = both unicode t w (times (length bs) w) es (chosen ds es bs) h.second (many unicode t w ds es h bs)
 
-part_more : (ds es x y : List Decision) → Part ds es → Part (ds ++ x) (es ++ y)
+pub part_more : (ds es x y : List Decision) → Part ds es → Part (ds ++ x) (es ++ y)
 part_more ds es x y (here h) = here h
 part_more ds es x y (later k) = later (part_more _ _ x y k)
 
-part_same : (ds x y : List Decision) → Part x y → Part (ds ++ x) (ds ++ y)
+pub part_same : (ds x y : List Decision) → Part x y → Part (ds ++ x) (ds ++ y)
 part_same [] x y k = k
 part_same (d ∷ ds) x y k = later (part_same ds x y k)
 
-part_turned : (ds es : List Decision) → Part ds es → Part es ds
+pub part_turned : (ds es : List Decision) → Part ds es → Part es ds
 part_turned ds es (here h) = here (λ e. h (sym e))
 part_turned ds es (later k) = later (part_turned _ _ k)
 

@@ -30,7 +30,7 @@ at_some P o x h k = subst (λ p. IfSome p P) h k
 view_Empty : view Empty ≡ empty
 view_Empty = search (rules, the_lemmas)
 
-view_Group : (b : Box Expr Global) → view (Group b) ≡ group (view b.value)
+pub view_Group : (b : Box Expr Global) → view (Group b) ≡ group (view b.value)
 view_Group b = search (rules, the_lemmas)
 
 pub went_empty : (unicode : Bool) (e : Expr) (s : Rest) → e ≡ Empty → Goes unicode (view e) s s

@@ -6,3 +6,7 @@ pub mod ManyWays
 pub mod Witnessed
 pub mod Remains
 pub mod SlowRepeats
+pub mod ThreeWays
+pub mod ManySplits
+pub mod Across
+pub mod SlowSequences

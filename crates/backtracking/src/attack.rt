@@ -2,6 +2,7 @@
 use crate::sample::Sample;
 use crate::trial::{Trial, add_positions, is_any};
 use fancy_syntax::expr::Expr;
+use fancy_syntax::span::Span;
 use std::alloc::{AllocError, Global};
 
 /// How many times a trial has the word.
@@ -11,7 +12,7 @@ const REPETITIONS: usize = 3;
 const MOST_TRIALS: usize = 20_000;
 
 /// What may follow the repeated word, each in its turn.
-static ENDINGS: [&str; 28] = [
+static ENDINGS: [&str; 29] = [
     "!",
     "\n\n",
     "@",
@@ -40,6 +41,7 @@ static ENDINGS: [&str; 28] = [
     "",
     "\0",
     "\u{1F600}",
+    "\n!",
 ];
 
 /// What a node has around the one below it: what may come before and after that.
@@ -55,11 +57,29 @@ pub(crate) enum Enclosing<'a> {
     Atomic,
 }
 
-/// What is around a node, from the outermost on, and how many nodes were tried for the pattern.
+/// What a word is repeated for.
+#[derive(Clone, Copy)]
+pub(crate) enum Target<'a> {
+    /// A repeat.
+    Repeat(&'a Expr),
+    /// The trees of a concatenation from one index through another.
+    Sequence {
+        trees: &'a [Expr],
+        first: usize,
+        last: usize,
+    },
+}
+
+/// What is around a node, from the outermost on, and what a walk over the pattern has come to so far.
 #[derive(Drop)]
 pub(crate) struct Surroundings<'a> {
     pub(crate) around: Vec<Enclosing<'a>>,
+    /// How many nodes were tried.
     pub(crate) trials: usize,
+    /// How many pairs of repeats were searched.
+    pub(crate) searches: usize,
+    /// What there was too much of to look at.
+    pub(crate) too_large: Vec<Span>,
 }
 
 /// What is put around a word that is repeated.
@@ -69,6 +89,61 @@ pub struct Attack {
     pub before: Option<Vec<char>>,
     /// What makes the engine try all ways.
     pub after: Vec<char>,
+}
+
+impl<'a> Target<'a> {
+    /// What comes before it in its concatenation.
+    fn before(self) -> &'a [Expr] {
+        match self {
+            Target::Repeat(_) => &[],
+            Target::Sequence { trees, first, .. } => trees.get(..first).unwrap_or(&[]),
+        }
+    }
+
+    /// What comes after it in its concatenation.
+    fn after(self) -> &'a [Expr] {
+        match self {
+            Target::Repeat(_) => &[],
+            Target::Sequence { trees, last, .. } => {
+                trees.get(last.saturating_add(1)..).unwrap_or(&[])
+            }
+        }
+    }
+
+    /// The same with all that comes before it in its concatenation.
+    fn from_start(self) -> Target<'a> {
+        match self {
+            Target::Repeat(_) => self,
+            Target::Sequence { trees, last, .. } => Target::Sequence {
+                trees,
+                first: 0,
+                last,
+            },
+        }
+    }
+
+    /// The positions that it may lead to from these.
+    fn ends(self, trial: &mut Trial<'_>, starts: &[bool]) -> Result<Vec<bool>, AllocError> {
+        match self {
+            Target::Repeat(tree) => trial.ends(tree, starts),
+            Target::Sequence { trees, first, last } => {
+                let inside = trees.get(first..=last).unwrap_or(&[]);
+                trial.after_each(inside, starts)
+            }
+        }
+    }
+}
+
+impl<'a> Surroundings<'a> {
+    /// Those of the root.
+    pub(crate) fn new(alloc: Global) -> Surroundings<'a> {
+        Surroundings {
+            around: Vec::new(alloc),
+            trials: 0,
+            searches: 0,
+            too_large: Vec::new(alloc),
+        }
+    }
 }
 
 /// What is around the child at the index.
@@ -100,13 +175,16 @@ pub(crate) fn enclosing_of(tree: &Expr, index: usize) -> Enclosing<'_> {
     }
 }
 
-/// A text that leads to the node that all this is around, from the outermost on.
-fn text_before(
-    alloc: Global,
-    unicode: bool,
-    around: &[Enclosing<'_>],
-) -> Result<Option<Vec<char>>, AllocError> {
-    let mut sample = Sample::new(alloc, unicode);
+/// A text that leads to a target.
+#[derive(Drop)]
+struct Lead {
+    text: Vec<char>,
+    /// Where the target or its concatenation starts.
+    start: usize,
+}
+
+/// Adds a text that leads to the node that all this is around, from the outermost on, and says whether one was found.
+fn add_text_before(sample: &mut Sample, around: &[Enclosing<'_>]) -> Result<bool, AllocError> {
     for one in around {
         let is_found = match one {
             Enclosing::Group | Enclosing::Atomic => true,
@@ -116,13 +194,34 @@ fn text_before(
             Enclosing::Repeat { child, lo } => sample.add_turns(child, lo.saturating_sub(1))?,
         };
         if !is_found {
-            return Ok(None);
+            return Ok(false);
         }
     }
-    Ok(Some(sample.text))
+    Ok(true)
 }
 
-/// Whether something follows the node in what is around it.
+/// A text that leads to the target, if one was found.
+fn lead_to(
+    alloc: Global,
+    unicode: bool,
+    target: Target<'_>,
+    around: &[Enclosing<'_>],
+) -> Result<Option<Lead>, AllocError> {
+    let mut sample = Sample::new(alloc, unicode);
+    if !add_text_before(&mut sample, around)? {
+        return Ok(None);
+    }
+    let start = sample.text.len();
+    if !sample.add_texts(target.before())? {
+        return Ok(None);
+    }
+    Ok(Some(Lead {
+        text: sample.text,
+        start,
+    }))
+}
+
+/// Whether something follows in what is around a node.
 fn is_followed(around: &[Enclosing<'_>]) -> bool {
     for one in around.iter().rev() {
         match one {
@@ -138,15 +237,16 @@ fn is_followed(around: &[Enclosing<'_>]) -> bool {
     false
 }
 
-/// Whether what follows the repeat fails after each position that the repeat leads to from the start.
+/// Whether what follows the target fails after each position that the target leads to from the start.
 fn fails_after(
     trial: &mut Trial<'_>,
-    repeat: &Expr,
+    target: Target<'_>,
     start: usize,
     around: &[Enclosing<'_>],
 ) -> Result<bool, AllocError> {
     let mut now = trial.only(start)?;
-    now = trial.ends(repeat, &now)?;
+    now = target.ends(trial, &now)?;
+    now = trial.after_each(target.after(), &now)?;
     for one in around.iter().rev() {
         match one {
             Enclosing::Group => {}
@@ -164,44 +264,66 @@ fn fails_after(
     Ok(!is_any(&now))
 }
 
-/// What to put around the word, so that an engine tries all ways through the repeat; `None` if nothing was found that lets what
-/// follows the repeat fail.
-pub(crate) fn find_attack(
+/// What to put after the text, so that what follows the target fails; `None` if nothing was found.
+fn find_ending(
     alloc: Global,
     unicode: bool,
-    repeat: &Expr,
-    word: &[char],
+    target: Target<'_>,
+    start: usize,
+    text: &mut Vec<char>,
     surroundings: &mut Surroundings<'_>,
-) -> Result<Option<Attack>, AllocError> {
-    if !is_followed(&surroundings.around) {
-        return Ok(None);
-    }
-    let before = text_before(alloc, unicode, &surroundings.around)?;
-    let mut text = Vec::new(alloc);
-    if let Some(before) = &before {
-        text.extend_from_slice(before)?;
-    }
-    let start = text.len();
-    for _ in 0..REPETITIONS {
-        text.extend_from_slice(word)?;
-    }
+) -> Result<Option<Vec<char>>, AllocError> {
     let end = text.len();
     for ending in ENDINGS.iter() {
         text.truncate(end);
         for c in ending.chars() {
             text.push(c)?;
         }
-        let mut trial = Trial::new(alloc, unicode, &text);
-        let fails = fails_after(&mut trial, repeat, start, &surroundings.around)?;
+        let mut trial = Trial::new(alloc, unicode, text);
+        let fails = fails_after(&mut trial, target, start, &surroundings.around)?;
         surroundings.trials = surroundings.trials.saturating_add(trial.count());
         if fails {
             let mut after = Vec::new(alloc);
             after.extend_from_slice(text.get(end..).unwrap_or(&[]))?;
-            return Ok(Some(Attack { before, after }));
+            return Ok(Some(after));
         }
         if surroundings.trials > MOST_TRIALS {
-            return Ok(None);
+            break;
         }
     }
     Ok(None)
+}
+
+/// What to put around the word, so that an engine tries all ways through the target; `None` if nothing was found that
+/// lets what follows the target fail.
+pub(crate) fn find_attack(
+    alloc: Global,
+    unicode: bool,
+    target: Target<'_>,
+    word: &[char],
+    surroundings: &mut Surroundings<'_>,
+) -> Result<Option<Attack>, AllocError> {
+    if target.after().is_empty() && !is_followed(&surroundings.around) {
+        return Ok(None);
+    }
+    let lead = lead_to(alloc, unicode, target, &surroundings.around)?;
+    let mut text = Vec::new(alloc);
+    let mut tried = target;
+    let mut start = 0usize;
+    if let Some(lead) = &lead {
+        text.extend_from_slice(&lead.text)?;
+        tried = target.from_start();
+        start = lead.start;
+    }
+    for _ in 0..REPETITIONS {
+        text.extend_from_slice(word)?;
+    }
+    let Some(after) = find_ending(alloc, unicode, tried, start, &mut text, surroundings)? else {
+        return Ok(None);
+    };
+    let before = match lead {
+        Some(lead) => Some(lead.text),
+        None => None,
+    };
+    Ok(Some(Attack { before, after }))
 }

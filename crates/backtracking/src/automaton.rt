@@ -1,14 +1,30 @@
 //! The steps that an engine takes through turns of a part of a pattern.
+use crate::cut::Cut;
 use crate::decision::Decision;
 use class_meaning::{CharacterSet, ClassMeaning, characters_of};
 use fancy_syntax::expr::Expr;
 use std::alloc::{AllocError, Global};
+use thiserror::Error;
 
 /// The most positions of an automaton.
 const MOST_POSITIONS: usize = 500;
 
 /// The most steps of an automaton.
 const MOST_STEPS: usize = 4000;
+
+/// Why there is no automaton of a part of a pattern.
+#[derive(Debug, Drop, Error)]
+pub(crate) enum NotBuilt {
+    /// Out of memory.
+    #[error("out of memory")]
+    Memory(#[from(alloc)] AllocError),
+    /// The part holds what has no ways of its own, as a reference.
+    #[error("a part without ways")]
+    Irregular,
+    /// The automaton would be too large.
+    #[error("too large")]
+    TooLarge,
+}
 
 /// A decision, and the step after it.
 #[derive(Clone, Copy)]
@@ -28,7 +44,7 @@ pub(crate) enum Action {
     EndTurn { start: usize, next: usize },
 }
 
-/// Where a character is matched. The first position stands for the start of a turn of the whole, which matches none.
+/// Where a character is matched. The first positions are those of the starts of turns, which match none.
 #[derive(Clone, Copy)]
 pub(crate) struct Position {
     /// The index of the set of characters.
@@ -37,7 +53,7 @@ pub(crate) struct Position {
     pub(crate) next: usize,
 }
 
-/// The automaton of turns of a tree. It begins and ends at the first step, before a turn.
+/// The steps of turns of a repeat, or across a concatenation from turns of one repeat to turns of another.
 #[derive(Drop)]
 pub(crate) struct Automaton {
     alloc: Global,
@@ -46,30 +62,79 @@ pub(crate) struct Automaton {
     pub(crate) positions: Vec<Position>,
     /// The different sets of characters.
     pub(crate) sets: Vec<CharacterSet>,
+    /// How many of the positions are starts of turns.
+    pub(crate) starts: usize,
+}
+
+/// The automaton across a concatenation: first the positions of the first repeat, then those of the last one, then
+/// those between.
+#[derive(Drop)]
+pub(crate) struct AcrossAutomaton {
+    pub(crate) automaton: Automaton,
+    /// The number of positions up to those of the last repeat.
+    pub(crate) last_end: usize,
 }
 
 impl Automaton {
-    /// The automaton of turns of the tree. Returns `None` if the tree holds what has no ways of its own, as a reference,
-    /// or if the automaton would be too large.
-    pub(crate) fn of(
-        alloc: Global,
-        tree: &Expr,
-        unicode: bool,
-    ) -> Result<Option<Automaton>, AllocError> {
-        let mut automaton = Automaton {
+    /// An automaton without steps.
+    fn new(alloc: Global, unicode: bool) -> Automaton {
+        Automaton {
             alloc,
             unicode,
             steps: Vec::new(alloc),
             positions: Vec::new(alloc),
             sets: Vec::new(alloc),
-        };
-        let at = automaton.add(Action::Decide(Vec::new(alloc)))?;
-        automaton.positions.push(Position { set: 0, next: at })?;
-        let Some(turn) = automaton.add_turn(tree, at, at)? else {
-            return Ok(None);
-        };
+            starts: 0,
+        }
+    }
+
+    /// The automaton of turns of the tree. It begins and ends at the first step, before a turn.
+    pub(crate) fn of(alloc: Global, tree: &Expr, unicode: bool) -> Result<Automaton, NotBuilt> {
+        let mut automaton = Automaton::new(alloc, unicode);
+        let at = automaton.add_start()?;
+        let turn = automaton.add_turn(tree, at, at)?;
         automaton.set_exits(at, turn, None)?;
-        Ok(Some(automaton))
+        Ok(automaton)
+    }
+
+    /// The automaton across the cut. It begins before a turn of the first repeat, and ends before a turn of the last
+    /// one.
+    pub(crate) fn across(
+        alloc: Global,
+        cut: Cut<'_>,
+        unicode: bool,
+    ) -> Result<AcrossAutomaton, NotBuilt> {
+        let mut automaton = Automaton::new(alloc, unicode);
+        let first = automaton.add_start()?;
+        let last = automaton.add_start()?;
+        let first_turn = automaton.add_turn(cut.first, first, first)?;
+        let last_turn = automaton.add_turn(cut.last, last, last)?;
+        let last_end = automaton.positions.len();
+        let between = automaton.add_all(cut.between, last)?;
+        automaton.set_exits(first, first_turn, Some(between))?;
+        automaton.set_exits(last, last_turn, None)?;
+        Ok(AcrossAutomaton {
+            automaton,
+            last_end,
+        })
+    }
+
+    /// Adds a step before turns, and its position.
+    fn add_start(&mut self) -> Result<usize, AllocError> {
+        let at = self.add(Action::Decide(Vec::new(self.alloc)))?;
+        self.positions.push(Position { set: 0, next: at })?;
+        self.starts = self.positions.len();
+        Ok(at)
+    }
+
+    /// The position of the step, if turns start there.
+    pub(crate) fn start_at(&self, step: usize) -> Option<usize> {
+        for (i, position) in self.positions.iter().take(self.starts).enumerate() {
+            if position.next == step {
+                return Some(i);
+            }
+        }
+        None
     }
 
     /// Adds a step.
@@ -100,9 +165,9 @@ impl Automaton {
 
     /// Adds the steps of the tree, after which `next` follows. Returns the first of them.
     #[cycle(add_tree)]
-    fn add_tree(&mut self, tree: &Expr, next: usize) -> Result<Option<usize>, AllocError> {
+    fn add_tree(&mut self, tree: &Expr, next: usize) -> Result<usize, NotBuilt> {
         match tree {
-            Expr::Empty => Ok(Some(next)),
+            Expr::Empty => Ok(next),
             Expr::Group(child) => self.add_tree(child, next),
             Expr::Concat(trees) => self.add_all(trees, next),
             Expr::Alt(branches) => self.add_branches(branches, next),
@@ -125,54 +190,39 @@ impl Automaton {
             | Expr::BacktrackingControlVerb(_)
             | Expr::Absent(_)
             | Expr::DefineGroup { .. }
-            | Expr::AstNode(..) => Ok(None),
+            | Expr::AstNode(..) => Err(NotBuilt::Irregular),
         }
     }
 
     /// Adds the steps of the trees, one after another.
     #[cycle(add_tree)]
-    fn add_all(&mut self, trees: &[Expr], next: usize) -> Result<Option<usize>, AllocError> {
+    fn add_all(&mut self, trees: &[Expr], next: usize) -> Result<usize, NotBuilt> {
         let mut at = next;
         for i in (0..trees.len()).rev() {
-            let Some(tree) = trees.get(i) else {
-                return Ok(None);
-            };
-            let Some(start) = self.add_tree(tree, at)? else {
-                return Ok(None);
-            };
-            at = start;
+            if let Some(tree) = trees.get(i) {
+                at = self.add_tree(tree, at)?;
+            }
         }
-        Ok(Some(at))
+        Ok(at)
     }
 
     /// Adds the steps of the branches, and a decision for one of them.
     #[cycle(add_tree)]
-    fn add_branches(
-        &mut self,
-        branches: &[Expr],
-        next: usize,
-    ) -> Result<Option<usize>, AllocError> {
+    fn add_branches(&mut self, branches: &[Expr], next: usize) -> Result<usize, NotBuilt> {
         let mut exits = Vec::new(self.alloc);
         for (i, branch) in branches.iter().enumerate() {
-            let Some(at) = self.add_tree(branch, next)? else {
-                return Ok(None);
-            };
+            let at = self.add_tree(branch, next)?;
             exits.push(Exit {
                 decision: Decision::Branch(i),
                 next: at,
             })?;
         }
-        Ok(Some(self.add(Action::Decide(exits))?))
+        Ok(self.add(Action::Decide(exits))?)
     }
 
     /// Adds a turn of the tree, which began with a decision at `start`.
     #[cycle(add_tree)]
-    fn add_turn(
-        &mut self,
-        tree: &Expr,
-        start: usize,
-        next: usize,
-    ) -> Result<Option<usize>, AllocError> {
+    fn add_turn(&mut self, tree: &Expr, start: usize, next: usize) -> Result<usize, NotBuilt> {
         let end = self.add(Action::EndTurn { start, next })?;
         self.add_tree(tree, end)
     }
@@ -185,13 +235,11 @@ impl Automaton {
         lo: usize,
         hi: usize,
         next: usize,
-    ) -> Result<Option<usize>, AllocError> {
+    ) -> Result<usize, NotBuilt> {
         let mut after = self.add(Action::Decide(Vec::new(self.alloc)))?;
         let mut copies = hi;
         if hi == usize::MAX {
-            let Some(turn) = self.add_turn(tree, after, after)? else {
-                return Ok(None);
-            };
+            let turn = self.add_turn(tree, after, after)?;
             self.set_exits(after, turn, Some(next))?;
             copies = lo;
         } else {
@@ -200,16 +248,14 @@ impl Automaton {
         for i in (0..copies).rev() {
             let done = if i < lo { None } else { Some(next) };
             let at = self.add(Action::Decide(Vec::new(self.alloc)))?;
-            let Some(turn) = self.add_turn(tree, at, after)? else {
-                return Ok(None);
-            };
+            let turn = self.add_turn(tree, at, after)?;
             self.set_exits(at, turn, done)?;
             after = at;
             if self.steps.len() > MOST_STEPS {
-                return Ok(None);
+                return Err(NotBuilt::TooLarge);
             }
         }
-        Ok(Some(after))
+        Ok(after)
     }
 
     /// Sets the decision at a step where the last turn has ended.
@@ -226,17 +272,17 @@ impl Automaton {
     }
 
     /// Adds a node that matches one character.
-    fn add_position(&mut self, tree: &Expr, next: usize) -> Result<Option<usize>, AllocError> {
+    fn add_position(&mut self, tree: &Expr, next: usize) -> Result<usize, NotBuilt> {
         if self.positions.len() > MOST_POSITIONS {
-            return Ok(None);
+            return Err(NotBuilt::TooLarge);
         }
         let ClassMeaning::Characters(set) = characters_of(self.alloc, tree, self.unicode)? else {
-            return Ok(None);
+            return Err(NotBuilt::Irregular);
         };
         let set = self.add_set(set)?;
         let position = self.positions.len();
         self.positions.push(Position { set, next })?;
-        Ok(Some(self.add(Action::Match { position })?))
+        Ok(self.add(Action::Match { position })?)
     }
 
     /// The index of the set, which is added if there is no equal one.

@@ -19,9 +19,9 @@ pub(crate) struct Remaining<'a> {
 
 /// Turns of a repeat, and what remains after them.
 #[derive(Clone, Copy)]
-struct Turned<'a> {
-    count: usize,
-    rest: Remaining<'a>,
+pub(crate) struct Turned<'a> {
+    pub(crate) count: usize,
+    pub(crate) rest: Remaining<'a>,
 }
 
 /// What remains after the node has matched one character.
@@ -86,7 +86,7 @@ fn go_over<'a>(
 
 /// What remains after the trees have gone one after another.
 #[cycle(go_over)]
-fn go_over_all<'a>(
+pub(crate) fn go_over_all<'a>(
     alloc: Global,
     trees: &[Expr],
     unicode: bool,
@@ -130,7 +130,7 @@ fn go_over_branch<'a>(
 
 /// Turns of the tree, at most so many, while the decision is to take one more. Each has to match a character.
 #[cycle(go_over)]
-fn take_turns<'a>(
+pub(crate) fn take_turns<'a>(
     alloc: Global,
     tree: &Expr,
     unicode: bool,
@@ -192,7 +192,7 @@ fn go_over_repeat<'a>(
 }
 
 /// Whether the decisions are a way of matching all of the text by turns of the tree.
-fn is_way(
+pub(crate) fn is_way(
     alloc: Global,
     tree: &Expr,
     unicode: bool,
@@ -216,7 +216,7 @@ fn is_same(one: Decision, other: Decision) -> bool
 }
 
 /// Whether the lists are the same up to a point where each goes on with another decision.
-fn do_part(first: &[Decision], second: &[Decision]) -> bool
+pub(crate) fn do_part(first: &[Decision], second: &[Decision]) -> bool
     ensures { IsTrue result → Part first.now second.now }
 {
     let mut rest = second;

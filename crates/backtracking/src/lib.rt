@@ -1,15 +1,22 @@
-//! Repeats that can match a text in exponentially many ways, each with a word that a proved checker has accepted.
+//! Repeats that can match a text in many ways, each with a word that a proved checker has accepted: exponentially many
+//! for one repeat, and polynomially many for two of a concatenation.
 #![tactic(auto)]
 
 pub mod attack;
 mod automaton;
 mod characters;
 mod checker;
+mod crossing;
+pub mod cut;
 pub mod decision;
 mod pairs;
+mod pieces;
 pub mod repeats;
 mod routes;
 mod sample;
+pub mod sequence;
+pub mod sequences;
 mod shape;
 mod trial;
+mod triples;
 pub mod witness;

@@ -34,6 +34,7 @@ struct Pair {
 pub(crate) enum Searched {
     Found(Witness),
     Nothing,
+    Irregular,
     TooLarge,
 }
 

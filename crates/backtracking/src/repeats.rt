@@ -4,7 +4,7 @@ ghost use Rattle.std.specs.List.{AllByRecursion};
 ghost use Rattle.fancy_spans.specs.Spanned.{Spanned, spanned_of, spanned_of_tree};
 ghost use Rattle.backtracking.specs.SlowRepeats.{IsNodeOf, IsSlowIn, IsLooked};
 
-use crate::attack::{Attack, Surroundings, enclosing_of, find_attack};
+use crate::attack::{Attack, Surroundings, Target, enclosing_of, find_attack};
 use crate::shape::{PartKind, kind_of};
 use crate::witness::{RepeatWays, Witness, ways_of_repeat};
 use fancy_spans::{SpannedNode, SpannedTree};
@@ -13,7 +13,7 @@ use fancy_syntax::span::Span;
 use std::alloc::{AllocError, Global};
 
 /// A repeat is looked at if it has no limit, or one above this.
-const SMALL_LIMIT: usize = 20;
+pub(crate) const SMALL_LIMIT: usize = 20;
 
 /// A repeat that can match a text in exponentially many ways.
 #[derive(Drop)]
@@ -26,11 +26,19 @@ pub struct SlowRepeat {
     pub attack: Attack,
 }
 
+/// The repeats of a pattern that are slow, and those that are not known to be slow or not.
+#[derive(Drop)]
+pub struct SlowRepeats {
+    pub slow: Vec<SlowRepeat>,
+    /// Those that have too much to look at, in byte offsets.
+    pub too_large: Vec<Span>,
+}
+
 /// What is known of the pattern.
 #[derive(Clone, Copy)]
-struct SearchOptions {
-    alloc: Global,
-    unicode: bool,
+pub(crate) struct SearchOptions {
+    pub(crate) alloc: Global,
+    pub(crate) unicode: bool,
 }
 
 /// What has come of a look at a node.
@@ -61,14 +69,28 @@ fn look_at<'a>(
     match kind_of(child) {
         PartKind::OneWay => return Ok(Looked::Fast),
         PartKind::Irregular => return Ok(Looked::Unknown),
+        PartKind::TooLarge => {
+            surroundings.too_large.push(node.span())?;
+            return Ok(Looked::Unknown);
+        }
         PartKind::Choices => {}
     }
     let witness = match ways_of_repeat(alloc, child, unicode)? {
         RepeatWays::Exponential(witness) => witness,
         RepeatWays::NoneFound => return Ok(Looked::Fast),
-        RepeatWays::NotLookedAt => return Ok(Looked::Unknown),
+        RepeatWays::Irregular => return Ok(Looked::Unknown),
+        RepeatWays::TooLarge => {
+            surroundings.too_large.push(node.span())?;
+            return Ok(Looked::Unknown);
+        }
     };
-    match find_attack(alloc, unicode, node.expr(), &witness.word, surroundings)? {
+    match find_attack(
+        alloc,
+        unicode,
+        Target::Repeat(node.expr()),
+        &witness.word,
+        surroundings,
+    )? {
         Some(attack) => Ok(Looked::Slow(SlowRepeat {
             span: node.span(),
             witness,
@@ -79,7 +101,7 @@ fn look_at<'a>(
 }
 
 /// Whether repeats below the node are left alone: it looks back, or what follows them is not known.
-fn is_left_alone(tree: &Expr) -> bool {
+pub(crate) fn is_left_alone(tree: &Expr) -> bool {
     matches!(
         tree,
         Expr::LookAround(_, LookAround::LookBehind | LookAround::LookBehindNeg)
@@ -122,18 +144,16 @@ fn look<'a>(
     Ok(())
 }
 
-/// The repeats of the pattern that can match a text in exponentially many ways, where what follows can fail.
+/// The repeats of the pattern that can match a text in exponentially many ways, where what follows can fail. `unicode`
+/// says whether the pattern is one for text with Unicode, as under `FLAG_UNICODE`.
 pub fn slow_repeats(
     alloc: Global,
     parsed: &SpannedTree,
     unicode: bool,
-) -> Result<Vec<SlowRepeat>, AllocError>
-    ensures witnessed { IfOk result (λ found. AllByRecursion (IsSlowIn unicode (spanned_of_tree parsed.now)) found.items) }
+) -> Result<SlowRepeats, AllocError>
+    ensures witnessed { IfOk result (λ r. AllByRecursion (IsSlowIn unicode (spanned_of_tree parsed.now)) r.slow.items) }
 {
-    let mut surroundings = Surroundings {
-        around: Vec::new(alloc),
-        trials: 0,
-    };
+    let mut surroundings = Surroundings::new(alloc);
     let mut found = Vec::new(alloc);
     look(
         parsed.root(),
@@ -141,5 +161,8 @@ pub fn slow_repeats(
         &mut surroundings,
         &mut found,
     )?;
-    Ok(found)
+    Ok(SlowRepeats {
+        slow: found,
+        too_large: surroundings.too_large,
+    })
 }

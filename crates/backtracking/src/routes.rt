@@ -126,8 +126,10 @@ pub(crate) fn routes_from(
                 }
             }
             Some(Action::Decide(exits)) => {
-                if at == 0 && position != 0 {
-                    walk.arrive(0, last)?;
+                if position >= automaton.starts
+                    && let Some(start) = automaton.start_at(at)
+                {
+                    walk.arrive(start, last)?;
                 }
                 walk.decide(at, exits, last)?;
             }
@@ -135,4 +137,19 @@ pub(crate) fn routes_from(
         }
     }
     Ok(None)
+}
+
+/// The routes from each position. Returns `None` if there is too much to look at.
+pub(crate) fn all_routes(
+    alloc: Global,
+    automaton: &Automaton,
+) -> Result<Option<Vec<Vec<Route>>>, AllocError> {
+    let mut all = Vec::new(alloc);
+    for position in 0..automaton.positions.len() {
+        let Some(routes) = routes_from(alloc, automaton, position)? else {
+            return Ok(None);
+        };
+        all.push(routes)?;
+    }
+    Ok(Some(all))
 }

@@ -8,7 +8,7 @@ const MOST_NODES: usize = 2000;
 #[derive(Clone, Copy)]
 struct Shape {
     nodes: usize,
-    /// Whether each node has ways, as a class or a group has, and there are not too many.
+    /// Whether each node has ways, as a class or a group has.
     is_regular: bool,
     /// Whether a node has several ways: an alternation, or a repeat that may end sooner or later.
     has_choice: bool,
@@ -21,8 +21,10 @@ pub(crate) enum PartKind {
     Choices,
     /// Each turn has one way.
     OneWay,
-    /// It holds look-around, a reference or the like, or it is too large.
+    /// It holds look-around, a reference or the like.
     Irregular,
+    /// It has too many nodes.
+    TooLarge,
 }
 
 impl Shape {
@@ -30,10 +32,7 @@ impl Shape {
     #[cycle(add)]
     fn add(&mut self, tree: &Expr) {
         self.nodes = self.nodes.saturating_add(1);
-        if self.nodes > MOST_NODES {
-            self.is_regular = false;
-        }
-        if !self.is_regular {
+        if !self.is_regular || self.nodes > MOST_NODES {
             return;
         }
         match tree {
@@ -86,6 +85,8 @@ pub(crate) fn kind_of(tree: &Expr) -> PartKind {
     shape.add(tree);
     if !shape.is_regular {
         PartKind::Irregular
+    } else if shape.nodes > MOST_NODES {
+        PartKind::TooLarge
     } else if shape.has_choice {
         PartKind::Choices
     } else {

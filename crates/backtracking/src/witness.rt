@@ -3,11 +3,11 @@ ghost use Rattle.std.specs.Prelude.{IfOk};
 ghost use Rattle.fancy_syntax.specs.View.{view};
 ghost use Rattle.backtracking.specs.Witnessed.{IsWitnessed, IsExponential};
 
-use crate::automaton::Automaton;
+use crate::automaton::{Automaton, NotBuilt};
 use crate::checker::are_two_ways;
 use crate::decision::Decision;
 use crate::pairs::{Pairs, Searched};
-use crate::routes::{Route, routes_from};
+use crate::routes::all_routes;
 use fancy_syntax::expr::Expr;
 use std::alloc::{AllocError, Global};
 
@@ -29,26 +29,19 @@ pub enum RepeatWays {
     Exponential(Witness),
     /// No such word was found.
     NoneFound,
-    /// It was not looked at: it holds look-around, a reference or the like, or it is too large.
-    NotLookedAt,
-}
-
-/// The routes from each position.
-fn all_routes(alloc: Global, automaton: &Automaton) -> Result<Option<Vec<Vec<Route>>>, AllocError> {
-    let mut all = Vec::new(alloc);
-    for position in 0..automaton.positions.len() {
-        let Some(routes) = routes_from(alloc, automaton, position)? else {
-            return Ok(None);
-        };
-        all.push(routes)?;
-    }
-    Ok(Some(all))
+    /// It holds look-around, a reference or the like.
+    Irregular,
+    /// There is too much to look at.
+    TooLarge,
 }
 
 /// Searches for a word that turns of the tree can match in two ways. What it finds is still to be checked.
 fn search(alloc: Global, tree: &Expr, unicode: bool) -> Result<Searched, AllocError> {
-    let Some(automaton) = Automaton::of(alloc, tree, unicode)? else {
-        return Ok(Searched::TooLarge);
+    let automaton = match Automaton::of(alloc, tree, unicode) {
+        Ok(automaton) => automaton,
+        Err(NotBuilt::Memory(error)) => return Err(error),
+        Err(NotBuilt::Irregular) => return Ok(Searched::Irregular),
+        Err(NotBuilt::TooLarge) => return Ok(Searched::TooLarge),
     };
     let Some(routes) = all_routes(alloc, &automaton)? else {
         return Ok(Searched::TooLarge);
@@ -67,7 +60,8 @@ pub fn ways_of_repeat(alloc: Global, tree: &Expr, unicode: bool) -> Result<Repea
     let witness = match search(alloc, tree, unicode)? {
         Searched::Found(witness) => witness,
         Searched::Nothing => return Ok(RepeatWays::NoneFound),
-        Searched::TooLarge => return Ok(RepeatWays::NotLookedAt),
+        Searched::Irregular => return Ok(RepeatWays::Irregular),
+        Searched::TooLarge => return Ok(RepeatWays::TooLarge),
     };
     if are_two_ways(
         alloc,

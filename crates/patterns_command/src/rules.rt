@@ -80,5 +80,6 @@ pub(crate) fn rules_chosen(alloc: Global, matches: &ArgMatches<'_>) -> Result<Ch
             None => chosen.set_all(choice.level),
         }
     }
+    chosen.is_verbose = matches.get_flag("verbose");
     Ok(chosen)
 }

@@ -145,6 +145,9 @@ when it is silent.
 --allow, --warn and --deny take the names of rules, with commas between, or all. Each can be given
 several times. Of those that name a rule the last one counts, and all names every rule.";
 
+const VERBOSE_HELP: &str = "Writes which parts of patterns are too large to be searched for
+backtracking";
+
 const MAX_WARNINGS_HELP: &str = "The exit status is 1 if there are more warnings than this";
 
 const GROUPS: &str = "Lists the groups of each pattern, and what its references and calls refer to";
@@ -404,6 +407,10 @@ fn lint_command<'a>(alloc: Global, names: &'a [&'a str]) -> Result<Command<'a>, 
         .value_name("N")
         .value_parser(value_parser!(u64))
         .help(MAX_WARNINGS_HELP);
+    let verbose = Arg::new(alloc, "verbose")
+        .long("verbose")
+        .action(ArgAction::SetTrue)
+        .help(VERBOSE_HELP);
     with_values(alloc, over_files(alloc, "lint", LINT, LINT_EXAMPLE)?)?
         .long_about(LINT_MORE)
         .arg(level_arg(alloc, "allow", "Silences rules", names))?
@@ -412,6 +419,7 @@ fn lint_command<'a>(alloc: Global, names: &'a [&'a str]) -> Result<Command<'a>, 
         .arg(max_warnings)?
         .arg(format_arg(alloc)?)?
         .arg(json_arg(alloc))?
+        .arg(verbose)?
         .arg(rules)
 }
 

@@ -1,5 +1,7 @@
-//! Texts on which a repeat is slow, in words.
+//! Texts on which a pattern is slow, in words.
+use backtracking::attack::Attack;
 use backtracking::repeats::SlowRepeat;
+use backtracking::sequences::SlowSequence;
 use patterns_text::shown::{Code, is_hidden};
 use std::fmt;
 
@@ -23,23 +25,42 @@ impl fmt::Display for QuotedCharacters<'_> {
     }
 }
 
-/// A text on which an engine tries all ways through a repeat.
+/// A text on which an engine tries all ways.
 #[derive(Clone, Copy)]
-pub(crate) struct AttackText<'a>(pub(crate) &'a SlowRepeat);
+pub struct AttackText<'a> {
+    /// What is repeated.
+    pub word: &'a [char],
+    /// What is put around it.
+    pub attack: &'a Attack,
+}
+
+impl<'a> AttackText<'a> {
+    /// The text on which a repeat is slow.
+    pub(crate) fn of_repeat(repeat: &'a SlowRepeat) -> AttackText<'a> {
+        AttackText {
+            word: &repeat.witness.word,
+            attack: &repeat.attack,
+        }
+    }
+
+    /// The text on which two repeats are slow.
+    pub(crate) fn of_sequence(sequence: &'a SlowSequence) -> AttackText<'a> {
+        AttackText {
+            word: &sequence.witness.word,
+            attack: &sequence.attack,
+        }
+    }
+}
 
 impl fmt::Display for AttackText<'_> {
     fn fmt<W: fmt::Write>(&self, f: &mut fmt::Formatter<W>) -> fmt::Result {
-        let SlowRepeat {
-            witness,
-            attack,
-            ..
-        } = self.0;
+        let AttackText { word, attack } = *self;
         if let Some(before) = &attack.before
             && !before.is_empty()
         {
             write!(f, "{}, then ", QuotedCharacters(before))?;
         }
-        write!(f, "{} repeated", QuotedCharacters(&witness.word))?;
+        write!(f, "{} repeated", QuotedCharacters(word))?;
         if !attack.after.is_empty() {
             write!(f, ", then {}", QuotedCharacters(&attack.after))?;
         }

@@ -17,20 +17,25 @@ pub enum Level {
 /// The level of each rule.
 #[derive(Clone, Copy)]
 pub struct Chosen {
-    levels: [Level; 23],
+    levels: [Level; 24],
+    /// Whether it is reported too which parts of a pattern no rule looks at, since they are too large.
+    pub is_verbose: bool,
 }
 
 impl Chosen {
-    /// Every rule warns, except four. `unused-capturing-group`, `suspicious-range` and `dialect-difference` are silent, since
-    /// many patterns mix named and numbered groups, or kinds of characters, on purpose, and are for this dialect alone. The
-    /// reports of `invalid-class` are errors, since no engine runs such a pattern.
+    /// Every rule warns, except five. `unused-capturing-group`, `suspicious-range` and `dialect-difference` are silent,
+    /// since many patterns mix named and numbered groups, or kinds of characters, on purpose, and are for this dialect
+    /// alone. `polynomial-backtracking` is silent, since it matters only for long texts. The reports of `invalid-class`
+    /// are errors, since no engine runs such a pattern.
     pub fn new() -> Chosen {
         let mut chosen = Chosen {
-            levels: [Level::Warn; 23],
+            levels: [Level::Warn; 24],
+            is_verbose: false,
         };
         chosen.set(Rule::UnusedCapturingGroup, Level::Allow);
         chosen.set(Rule::SuspiciousRange, Level::Allow);
         chosen.set(Rule::DialectDifference, Level::Allow);
+        chosen.set(Rule::PolynomialBacktracking, Level::Allow);
         chosen.set(Rule::InvalidClass, Level::Deny);
         chosen
     }
@@ -55,9 +60,9 @@ impl Chosen {
 
     /// Gives every rule this level.
     pub fn set_all(&mut self, level: Level)
-        ensures { self.new.levels ≡ replicate 23 level }
+        ensures { self.new.levels ≡ replicate 24 level }
     {
-        self.levels = [level; 23];
+        self.levels = [level; 24];
     }
 
     /// Gives the rule this level.

@@ -1,11 +1,12 @@
 //! All that the rules find in a pattern.
+use crate::attack_text::AttackText;
 use crate::flags::useless_flags;
 use crate::grammar_rule::{GrammarRule, missing_captures};
 use crate::problem::{Found, Problem};
 use crate::references::{Ways, follow};
 use crate::scan::{Around, PatternInfo, scan};
+use crate::slow::SlowParts;
 use crate::walk::Walk;
-use backtracking::repeats::SlowRepeat;
 use class_rules::class_walk::class_findings;
 pub use class_rules::known_classes::KnownClasses;
 use dialects::spelling::{DifferentSpelling, spellings};
@@ -37,15 +38,28 @@ fn add_differences(
     Ok(())
 }
 
-/// All that the rules find, in the order of the text. The tree is that of the pattern; `grammar` is what the object around
-/// it says, if it is a pattern of a grammar. `known` has the classes of the run's patterns, and `slow` are the slow repeats
-/// of this one.
+/// Reports what is slow.
+fn report_slow<'a>(slow: &'a SlowParts, walk: &mut Walk<'a>) -> Result<(), AllocError> {
+    for repeat in &slow.repeats {
+        let text = AttackText::of_repeat(repeat);
+        walk.report(repeat.span, Problem::ExponentialBacktracking { text })?;
+    }
+    for sequence in &slow.sequences {
+        let text = AttackText::of_sequence(sequence);
+        walk.report(sequence.span, Problem::PolynomialBacktracking { text })?;
+    }
+    Ok(())
+}
+
+/// All that the rules find, in the order of the text. The tree is that of the pattern; `grammar` is what the object
+/// around it says, if it is a pattern of a grammar. `known` has the classes of the run's patterns, and `slow` what is
+/// slow in this one.
 pub fn problems<'a>(
     subject: Subject<'_>,
     parsed: &'a SpannedTree,
     grammar: Option<&GrammarRule>,
     known: &mut KnownClasses,
-    slow: &'a [SlowRepeat],
+    slow: &'a SlowParts,
 ) -> Result<Vec<Found<'a>>, AllocError> {
     let Subject {
         alloc,
@@ -64,9 +78,7 @@ pub fn problems<'a>(
     };
     let mut walk = Walk::new(alloc);
     scan(parsed.root(), &mut walk, about, ROOT, known)?;
-    for repeat in slow {
-        walk.report(repeat.span, Problem::ExponentialBacktracking { repeat })?;
-    }
+    report_slow(slow, &mut walk)?;
     let mut ways = Ways::new(alloc, tree)?;
     follow(parsed.root(), &mut ways)?;
     ways.add_groups();

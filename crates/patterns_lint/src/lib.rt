@@ -1,7 +1,7 @@
 //! The rules of `patterns lint`: what may be wrong with a pattern that is accepted.
 #![tactic(auto)]
 
-mod attack_text;
+pub mod attack_text;
 mod branches;
 pub mod chosen;
 mod classes;
@@ -15,5 +15,6 @@ mod quantifiers;
 mod references;
 pub mod rule;
 mod scan;
+pub mod slow;
 mod targets;
 mod walk;

@@ -3,7 +3,6 @@ use crate::attack_text::AttackText;
 use crate::grammar_rule::CaptureKey;
 use crate::rule::Rule;
 use crate::targets::is_of_digits;
-use backtracking::repeats::SlowRepeat;
 use class_rules::class_problem::{ClassFinding, ClassProblem};
 use dialects::difference::Difference;
 use fancy_syntax::span::Span;
@@ -60,7 +59,11 @@ pub enum Problem<'a> {
     ZeroQuantifier,
     /// A repeat that can match a text in exponentially many ways.
     ExponentialBacktracking {
-        repeat: &'a SlowRepeat,
+        text: AttackText<'a>,
+    },
+    /// Two repeats of a concatenation that can match a text in polynomially many ways.
+    PolynomialBacktracking {
+        text: AttackText<'a>,
     },
     /// A flag that is set already.
     UselessFlag {
@@ -210,6 +213,7 @@ impl Problem<'_> {
             Problem::UselessQuantifier => Rule::UselessQuantifier,
             Problem::ZeroQuantifier => Rule::ZeroQuantifier,
             Problem::ExponentialBacktracking { .. } => Rule::ExponentialBacktracking,
+            Problem::PolynomialBacktracking { .. } => Rule::PolynomialBacktracking,
             Problem::UselessFlag { .. } => Rule::UselessFlag,
             Problem::SingleCharacterClass => Rule::SingleCharacterClass,
             Problem::Class(problem) => rule_of_class(problem),
@@ -288,8 +292,11 @@ impl fmt::Display for Problem<'_> {
             }
             Problem::UselessQuantifier => f.write_str("quantifier that repeats exactly once"),
             Problem::ZeroQuantifier => f.write_str("quantifier that repeats zero times"),
-            Problem::ExponentialBacktracking { repeat } => {
-                write!(f, "exponential backtracking on {}", AttackText(repeat))
+            Problem::ExponentialBacktracking { text } => {
+                write!(f, "exponential backtracking on {text}")
+            }
+            Problem::PolynomialBacktracking { text } => {
+                write!(f, "polynomial backtracking on {text}")
             }
             Problem::UselessFlag { letter } => write!(f, "flag {letter} is set already"),
             Problem::SingleCharacterClass => f.write_str("class of one character"),

@@ -24,7 +24,7 @@ pub enum Rule {
     UnusedCapturingGroup,
     /// A branch that is equal to an earlier one.
     DuplicateBranch,
-    /// A branch that begins with the whole of an earlier one, if nothing follows the alternation.
+    /// A branch that an earlier one leaves nothing to match, if nothing follows the alternation.
     UnreachableBranch,
     /// An empty branch that is neither the first nor the last one.
     EmptyBranch,
@@ -38,6 +38,9 @@ pub enum Rule {
     ZeroQuantifier,
     /// A repeat that can match a text in exponentially many ways, where what follows can fail.
     ExponentialBacktracking,
+    /// Two repeats of a concatenation that can match a text in polynomially many ways, where what follows can fail. The
+    /// rule is off by default.
+    PolynomialBacktracking,
     /// A flag that is set although it is set already.
     UselessFlag,
     /// A class of one letter or digit.
@@ -57,7 +60,7 @@ pub enum Rule {
 }
 
 /// All rules, in the order in which they are listed.
-pub static RULES: [Rule; 23] = [
+pub static RULES: [Rule; 24] = [
     Rule::MissingGroup,
     Rule::MissingBeginGroup,
     Rule::MissingCaptureGroup,
@@ -73,6 +76,7 @@ pub static RULES: [Rule; 23] = [
     Rule::UselessQuantifier,
     Rule::ZeroQuantifier,
     Rule::ExponentialBacktracking,
+    Rule::PolynomialBacktracking,
     Rule::UselessFlag,
     Rule::SingleCharacterClass,
     Rule::InvalidClass,
@@ -148,7 +152,7 @@ impl Rule {
             },
             Rule::UnreachableBranch => RuleInfo {
                 name: "unreachable-branch",
-                what: "a branch that begins with the whole of an earlier one, if nothing follows the alternation",
+                what: "a branch that never matches, since an earlier one matches wherever it would, and nothing follows",
                 example: r"#(?:if|ifdef)",
                 help: "put it before the earlier branch, or remove it",
             },
@@ -187,6 +191,12 @@ impl Rule {
                 what: "a repeat that can match a text in exponentially many ways, if what follows can fail",
                 example: r"(a+)+b",
                 help: "make it possessive or atomic, or let its parts match different characters",
+            },
+            Rule::PolynomialBacktracking => RuleInfo {
+                name: "polynomial-backtracking",
+                what: "two repeats that can share a text in many ways, if what follows can fail (off by default)",
+                example: r"\d+\d+x",
+                help: "make the first one possessive or atomic, or let the two, or what is between them, match different characters",
             },
             Rule::UselessFlag => RuleInfo {
                 name: "useless-flag",

@@ -8,6 +8,7 @@ use fancy_syntax::span::Span;
 use patterns_lint::chosen::{Chosen, Level};
 use patterns_lint::problem::Found;
 use patterns_lint::rule::RULES;
+use patterns_lint::slow::NOT_SEARCHED;
 use patterns_text::error::RunError;
 use patterns_text::position::{Cut, Spot};
 use patterns_text::shown::Shown;
@@ -215,5 +216,18 @@ impl<O: Write> Reporter for Annotations<'_, O> {
             self.write_problem(subject, level, *one)?;
         }
         self.write_omitted(subject, found.len().saturating_sub(MAX_REPORTS))
+    }
+
+    fn not_searched(&mut self, subject: Subject<'_>, parts: &[Span]) -> Result<(), RunError> {
+        for span in parts.iter().take(MAX_REPORTS) {
+            let report = PartReport {
+                severity: Severity::Notice,
+                span: *span,
+                rule: None,
+                message: NOT_SEARCHED,
+            };
+            self.write_report(subject, report)?;
+        }
+        Ok(())
     }
 }

@@ -8,17 +8,13 @@ ghost use Rattle.patterns_text.specs.Subject.{IsAccepted, IsRefused};
 use crate::outcome::Outcome;
 use crate::reporter::{Reporter, parse};
 use crate::tally::Tally;
-use backtracking::repeats::{SlowRepeat, slow_repeats};
-use fancy_spans::SpannedTree;
-use fancy_syntax::FLAG_UNICODE;
 use patterns_lint::chosen::{Chosen, Level};
 use patterns_lint::find::{KnownClasses, problems};
 use patterns_lint::grammar_rule::GrammarRule;
 use patterns_lint::problem::Found;
-use patterns_lint::rule::Rule;
+use patterns_lint::slow::SlowParts;
 use patterns_text::error::RunError;
 use patterns_text::subject::Subject;
-use std::alloc::AllocError;
 
 /// Counts the likely mistakes, and returns whether the rule of one is denied.
 fn count_denied(found: &[Found<'_>], chosen: &Chosen, tally: &mut Tally) -> bool
@@ -31,18 +27,6 @@ fn count_denied(found: &[Found<'_>], chosen: &Chosen, tally: &mut Tally) -> bool
         is_denied = is_denied || level == Level::Deny;
     }
     is_denied
-}
-
-/// The slow repeats of the pattern; none if their rule is silent.
-fn slow_repeats_of(
-    subject: Subject<'_>,
-    parsed: &SpannedTree,
-    chosen: &Chosen,
-) -> Result<Vec<SlowRepeat>, AllocError> {
-    if chosen.level(Rule::ExponentialBacktracking) == Level::Allow {
-        return Ok(Vec::new(subject.alloc));
-    }
-    slow_repeats(subject.alloc, parsed, subject.flags & FLAG_UNICODE != 0)
 }
 
 /// Reports the likely mistakes in the pattern, or its error if it is invalid. `grammar` is what the object around it says, if
@@ -62,10 +46,13 @@ pub(crate) fn lint<R: Reporter>(
     let Some(parsed) = parse(subject, reporter)? else {
         return Ok(Outcome::Refused);
     };
-    let slow = slow_repeats_of(subject, &parsed, chosen)?;
+    let slow = SlowParts::of(subject, &parsed, chosen)?;
     let mut found = problems(subject, &parsed, grammar, known, &slow)?;
     found.retain(|one| chosen.level(one.problem.rule()) != Level::Allow);
     reporter.problems(subject, chosen, &found)?;
+    if chosen.is_verbose {
+        reporter.not_searched(subject, &slow.too_large)?;
+    }
     if count_denied(&found, chosen, tally) {
         tally.denied = tally.denied.saturating_add(1);
         return Ok(Outcome::Refused);

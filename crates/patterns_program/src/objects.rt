@@ -11,7 +11,7 @@ use crate::objects::group_fields::{write_group_info, write_groups, write_referen
 use crate::objects::line::{begin, finish, write_related, write_span, write_text};
 use crate::objects::node::write_node;
 use crate::objects::positions::Positions;
-use crate::objects::problem::{write_omitted, write_problem};
+use crate::objects::problem::{write_not_searched, write_omitted, write_problem};
 use crate::reporter::{MAX_REPORTS, Reporter, TreeReporter};
 use fancy_spans::SpannedTree;
 use fancy_syntax::span::Span;
@@ -72,6 +72,14 @@ impl<O: Write> Reporter for Json<'_, O> {
             write_problem(subject, &positions, level, *one, self.out)?;
         }
         write_omitted(subject, found.len().saturating_sub(MAX_REPORTS), self.out)
+    }
+
+    fn not_searched(&mut self, subject: Subject<'_>, parts: &[Span]) -> Result<(), RunError> {
+        let positions = Positions::of(subject.alloc, subject.pattern)?;
+        for span in parts.iter().take(MAX_REPORTS) {
+            write_not_searched(subject, &positions, *span, self.out)?;
+        }
+        Ok(())
     }
 }
 

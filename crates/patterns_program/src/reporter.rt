@@ -3,6 +3,7 @@ ghost use Rattle.std.specs.Prelude.{IfOk, IfSome, OnSome, IfNone};
 ghost use Rattle.patterns_text.specs.Subject.{IsAccepted, IsRefused, IsParsedAs};
 
 use fancy_spans::SpannedTree;
+use fancy_syntax::span::Span;
 use patterns_lint::chosen::Chosen;
 use patterns_lint::problem::Found;
 use patterns_text::error::RunError;
@@ -21,6 +22,9 @@ pub(crate) trait Reporter {
         chosen: &Chosen,
         found: &[Found<'_>],
     ) -> Result<(), RunError>;
+
+    /// Writes which parts of the pattern were not searched, since they are too large.
+    fn not_searched(&mut self, subject: Subject<'_>, parts: &[Span]) -> Result<(), RunError>;
 }
 
 /// What writes the trees of patterns too.

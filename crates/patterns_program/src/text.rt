@@ -2,8 +2,9 @@
 mod problem;
 
 use crate::reporter::{MAX_REPORTS, Reporter, TreeReporter};
-use crate::text::problem::{write_more, write_report};
+use crate::text::problem::{write_more, write_not_searched, write_report};
 use fancy_spans::SpannedTree;
+use fancy_syntax::span::Span;
 use patterns_lint::chosen::Chosen;
 use patterns_lint::problem::Found;
 use patterns_listing::drawing::{Look, Style, write_tree};
@@ -81,6 +82,13 @@ impl<O: Write, E: Write> Reporter for Text<'_, O, E> {
             write_report(self.out, subject, level, *one)?;
         }
         write_more(self.out, subject, found.len().saturating_sub(MAX_REPORTS))?;
+        Ok(())
+    }
+
+    fn not_searched(&mut self, subject: Subject<'_>, parts: &[Span]) -> Result<(), RunError> {
+        for span in parts.iter().take(MAX_REPORTS) {
+            write_not_searched(self.err, subject, *span)?;
+        }
         Ok(())
     }
 }

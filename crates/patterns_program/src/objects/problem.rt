@@ -1,9 +1,11 @@
 //! Likely mistakes, as JSON.
 use crate::objects::line::{begin, finish, write_number, write_related, write_span, write_text};
 use crate::objects::positions::Positions;
+use fancy_syntax::span::Span;
 use json::Writer;
 use patterns_lint::chosen::Level;
 use patterns_lint::problem::{Found, Problem};
+use patterns_lint::slow::NOT_SEARCHED;
 use patterns_text::error::RunError;
 use patterns_text::subject::Subject;
 use std::alloc::{AllocError, Global};
@@ -32,22 +34,24 @@ fn write_characters(
     write_text(writer, name, text.as_str())
 }
 
-/// Writes the field of the text on which a repeat is slow, if the report is on one.
+/// Writes the field of the text on which the pattern is slow, if the report is on that.
 fn write_attack(
     alloc: Global,
     writer: &mut Writer,
     problem: Problem<'_>,
 ) -> Result<(), AllocError> {
-    let Problem::ExponentialBacktracking { repeat } = problem else {
+    let (Problem::ExponentialBacktracking { text } | Problem::PolynomialBacktracking { text }) =
+        problem
+    else {
         return Ok(());
     };
     writer.key("attack")?;
     writer.begin_object()?;
-    if let Some(before) = &repeat.attack.before {
+    if let Some(before) = &text.attack.before {
         write_characters(alloc, writer, "before", before)?;
     }
-    write_characters(alloc, writer, "repeat", &repeat.witness.word)?;
-    write_characters(alloc, writer, "after", &repeat.attack.after)?;
+    write_characters(alloc, writer, "repeat", text.word)?;
+    write_characters(alloc, writer, "after", &text.attack.after)?;
     writer.end_object()
 }
 
@@ -95,5 +99,18 @@ pub(super) fn write_omitted<O: Write>(
     }
     let mut writer = begin(subject, "omitted")?;
     write_number(&mut writer, "count", more as u64)?;
+    finish(writer, out)
+}
+
+/// Writes that a part of the pattern was not searched.
+pub(super) fn write_not_searched<O: Write>(
+    subject: Subject<'_>,
+    positions: &Positions,
+    span: Span,
+    out: &mut O,
+) -> Result<(), RunError> {
+    let mut writer = begin(subject, "note")?;
+    write_span(&mut writer, positions, span)?;
+    write_text(&mut writer, "message", NOT_SEARCHED)?;
     finish(writer, out)
 }

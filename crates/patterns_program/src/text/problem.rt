@@ -1,6 +1,8 @@
 //! How a report of `lint` is written.
+use fancy_syntax::span::Span;
 use patterns_lint::chosen::Level;
 use patterns_lint::problem::Found;
+use patterns_lint::slow::NOT_SEARCHED;
 use patterns_text::excerpt::write_excerpt;
 use patterns_text::paint::Ink;
 use patterns_text::position::{Cut, column_after};
@@ -49,4 +51,15 @@ pub(super) fn write_more<O: Write>(
         writeln!(out, "{}: {more} more reports are not shown", subject.at)?;
     }
     Ok(())
+}
+
+/// Writes that the part of the pattern was not searched.
+pub(super) fn write_not_searched<E: Write>(
+    err: &mut E,
+    subject: Subject<'_>,
+    span: Span,
+) -> io::Result<()> {
+    let Cut { above, before, .. } = Cut::at(subject.pattern, span.start);
+    let (line, column) = (subject.at.below(above), column_after(before));
+    writeln!(err, "{line}:{column}: note: {NOT_SEARCHED}")
 }

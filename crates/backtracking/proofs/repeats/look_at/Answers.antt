@@ -17,7 +17,7 @@ returns-in-Some c =
       is_repeat = repeats (spanned_of c.args.node).expr c.deref-2.result.now c.in-Repeat.child c.in-Repeat.lo c.in-Repeat.hi
           c.in-Repeat.greedy (sym c.expr.ensures ∙ c.in-Repeat.is) c.deref-2.ensures;
       limit = c.if-hi-le-SMALL_LIMIT.false;
-      span = c.span.ensures;
+      span = c.span-in-Some.ensures;
       two = subst (IsWitnessed unicode part) c.in-Exponential.is c.in_ok-witness.ensures.witnessed;
       many = subst (IsExponential unicode part) c.in-Exponential.is c.in_ok-witness.ensures.exponential;
     }

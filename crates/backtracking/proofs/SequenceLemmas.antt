@@ -1,0 +1,71 @@
+-- Repeats of a concatenation, by the expressions that hold them, and lists of slow pairs.
+use Rattle.std.proofs.Common.{◌≡◌, ℕ, ◌-◌, ◌<◌, Bool, List, [], ◌∷◌, ◌++◌, map, Option, Some, None, Box, Vec, Global, IfSome, refl}
+use Rattle.std.proofs.Common.{sym, ap, ◌∙◌, subst, ◌+◌, length, get_or, take, drop}
+use Rattle.std.proofs.lemmas.List.{append-nil, drop-map, take-map}
+use Rattle.std.proofs.lemmas.Option.{slice_get-map, slice_get_read}
+use Rattle.std.specs.List.{AllByRecursion, slice_range}
+use Rattle.std.specs.Option.{option_to_list}
+use Rattle.std.specs.Prelude.{IsSomeAnd, slice_get, option_map}
+use Rattle.fancy_grammar.specs.Tree.{Tree, concat, trees_of}
+use Rattle.fancy_spans.specs.Spanned.{Spanned, first_span}
+use Rattle.fancy_syntax.proofs.ChildrenLemmas.{view_Concat}
+use Rattle.fancy_syntax.specs.View.{view, views}
+use Rattle.fancy_syntax.specs.declared.expr.Expr.{Expr, Repeat, Group, Concat}
+use Rattle.fancy_syntax.specs.declared.span.Span.{Span}
+use Rattle.backtracking.proofs.RepeatLemmas.{repeats}
+use Rattle.backtracking.proofs.WayLemmas.{view_Group}
+use Rattle.backtracking.specs.SlowRepeats.{IsNodeOf, spanned_children}
+use Rattle.backtracking.specs.SlowSequences.{IsRepeatOf, itself, inside, IsSlowAcross, IsSlowSequenceIn}
+use Rattle.backtracking.specs.declared.sequences.SlowSequence.{SlowSequence}
+
+pub is_repeat : (e x : Expr) (b : Box Expr Global) (lo hi : ℕ) (greedy : Bool) → e ≡ Repeat b lo hi greedy → x ≡ b.value → 20 < hi - lo →
+    IsRepeatOf (view x) (view e)
+is_repeat e x b lo hi greedy h is less =
+    subst (IsRepeatOf (view x)) (sym (repeats e x b lo hi greedy h is)) (itself less)
+
+pub group_of_repeat : (e x : Expr) (part : Tree) (b : Box Expr Global) → e ≡ Group b → x ≡ b.value → IsRepeatOf part (view x) →
+    IsRepeatOf part (view e)
+group_of_repeat e x part b h is k = subst (IsRepeatOf part) (sym (ap view h ∙ view_Group b))
+    (inside (subst (λ y. IsRepeatOf part (view y)) is k))
+
+pub concat_of : (e : Expr) (es : List Expr) (v : Vec Expr Global) → e ≡ Concat v → es ≡ v.items → view e ≡ concat (trees_of (views es))
+concat_of e es v h is = ap view h ∙ view_Concat v ∙ ap (λ ys. concat (trees_of (views ys))) (sym is)
+
+-- the tree at an index is a repeat
+pub repeat_at : (es : List Expr) (i : ℕ) (e : Expr) (part : Tree) → i < length es → e ≡ get_or es i e → IsRepeatOf part (view e) →
+    IsSomeAnd (slice_get (views es) i) (IsRepeatOf part)
+repeat_at es i e part h is k = subst (λ o. IsSomeAnd o (IsRepeatOf part))
+    (sym (slice_get-map view es i ∙ ap (option_map view) (slice_get_read es (length es) i e refl h is))) k
+
+-- the trees of a range
+pub trees_between : (es bs : List Expr) (i s j : ℕ) → s ≡ i + 1 → bs ≡ slice_range es s j →
+    views bs ≡ slice_range (views es) (i + 1) j
+trees_between es bs i s j start is = ap views is ∙ ap (λ n. views (slice_range es n j)) start
+    ∙ sym (ap (take (j - (i + 1))) (drop-map view (i + 1) es) ∙ take-map view (j - (i + 1)) (drop (i + 1) es))
+
+-- a pair of repeats of a node of a tree is one of the tree
+slow_in : (unicode : Bool) (tree node : Spanned) (trees : List Tree) (spans : List Span) (r : SlowSequence) → IsNodeOf node tree →
+    view node.expr ≡ concat (trees_of trees) → spans ≡ map (λ c. first_span c.spans) (spanned_children node) →
+    IsSlowAcross unicode trees spans r → IsSlowSequenceIn unicode tree r
+slow_in unicode tree node trees spans r k is h slow = record {
+  node = node;
+  inside = k;
+  trees = trees;
+  is_concat = is;
+  slow = subst (λ ss. IsSlowAcross unicode trees ss r) h slow;
+}
+
+one_more : (P : SlowSequence → Type 0) (rs : List SlowSequence) (r : SlowSequence) → P r → AllByRecursion P rs →
+    AllByRecursion P (rs ++ (r ∷ []))
+one_more P [] r k all = (k, tt)
+one_more P (x ∷ xs) r k all = (all.0, one_more P xs r k all.1)
+
+-- one more that is slow, if there is one
+pub found_more : (unicode : Bool) (tree node : Spanned) (trees : List Tree) (spans : List Span) (o : Option SlowSequence)
+    (rs : List SlowSequence) → IsNodeOf node tree → view node.expr ≡ concat (trees_of trees) →
+    spans ≡ map (λ c. first_span c.spans) (spanned_children node) → IfSome o (IsSlowAcross unicode trees spans) →
+    AllByRecursion (IsSlowSequenceIn unicode tree) rs → AllByRecursion (IsSlowSequenceIn unicode tree) (rs ++ option_to_list o)
+found_more unicode tree node trees spans None rs k is h slow all =
+    subst (AllByRecursion (IsSlowSequenceIn unicode tree)) (sym (append-nil rs)) all
+found_more unicode tree node trees spans (Some r) rs k is h slow all =
+    one_more (IsSlowSequenceIn unicode tree) rs r (slow_in unicode tree node trees spans r k is h slow) all

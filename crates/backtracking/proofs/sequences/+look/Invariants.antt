@@ -1,0 +1,22 @@
+use Rattle.std.proofs.Common.{map}
+use Rattle.std.specs.List.{AllByRecursion}
+use Rattle.fancy_spans.specs.Spanned.{Spanned, remaining_spanned, spanned_of}
+use Rattle.fancy_syntax.specs.Tree.{levels}
+use Rattle.fancy_syntax.specs.View.{view}
+use Rattle.fancy_syntax.proofs.Descents.{Within}
+use Rattle.backtracking.specs.SlowRepeats.{IsNodeOf}
+use Rattle.backtracking.specs.SlowSequences.{IsSlowSequenceIn}
+use Rattle.backtracking.proofs.RepeatLemmas.{Remain}
+use Rattle.backtracking.proofs.sequences.+look.Given as goal
+
+abbrev pub decreases-look : goal.decreases-look
+decreases-look l = levels (view (spanned_of l.node).expr)
+
+abbrev pub invariant-loop-child : goal.invariant-loop-child
+invariant-loop-child l = record {
+  within : Within (spanned_of l.fn.node).expr (map (λ p. p.expr) (remaining_spanned l.child-iterator));
+  left : Remain (spanned_of l.fn.node) (remaining_spanned l.child-iterator);
+  added : (tree : Spanned) → IsNodeOf (spanned_of l.fn.node) tree →
+      AllByRecursion (IsSlowSequenceIn l.fn.options.unicode tree) l.fn.found.items →
+      AllByRecursion (IsSlowSequenceIn l.fn.options.unicode tree) l.found.items;
+}

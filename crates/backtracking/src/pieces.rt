@@ -1,0 +1,219 @@
+//! Which trees of a concatenation a text can go across.
+use crate::sequences::repeated_part;
+use crate::shape::{PartKind, kind_of};
+use class_meaning::{CharacterSet, ClassMeaning, characters_of};
+use fancy_syntax::expr::Expr;
+use std::alloc::{AllocError, Global};
+
+/// A tree of a concatenation.
+#[derive(Drop)]
+pub(crate) enum Piece {
+    /// It has ways of its own.
+    Regular(RegularPiece),
+    /// It holds look-around, a reference or the like.
+    Irregular,
+    /// It has too many nodes.
+    TooLarge,
+}
+
+/// A tree that has ways of its own.
+#[derive(Drop)]
+pub(crate) struct RegularPiece {
+    /// The characters that it may match, if it may match any.
+    alphabet: Option<CharacterSet>,
+    can_be_empty: bool,
+    is_repeat: bool,
+}
+
+/// What the characters of a repeat say of a later tree.
+#[derive(Clone, Copy, PartialEq, Eq)]
+pub(crate) enum Reach {
+    /// It may be the other repeat.
+    Repeat,
+    /// The text may go across it.
+    Across,
+    /// No text of the repeat goes across it.
+    Blocked,
+    /// It is too large.
+    TooLarge,
+}
+
+/// A set of characters that grows.
+#[derive(Drop)]
+struct Alphabet {
+    alloc: Global,
+    unicode: bool,
+    set: Option<CharacterSet>,
+}
+
+impl Alphabet {
+    /// Adds the characters of the tree.
+    #[cycle(add)]
+    fn add(&mut self, tree: &Expr) -> Result<(), AllocError> {
+        match tree {
+            Expr::Group(child) | Expr::Repeat { child, .. } => self.add(child),
+            Expr::Concat(trees) | Expr::Alt(trees) => self.add_all(trees),
+            Expr::Any { .. } | Expr::Literal { .. } | Expr::Delegate { .. } => self.add_node(tree),
+            Expr::Empty
+            | Expr::Assertion(_)
+            | Expr::GeneralNewline { .. }
+            | Expr::LiteralBytes { .. }
+            | Expr::LookAround(..)
+            | Expr::Backref { .. }
+            | Expr::BackrefWithRelativeRecursionLevel { .. }
+            | Expr::AtomicGroup(_)
+            | Expr::KeepOut
+            | Expr::ContinueFromPreviousMatchEnd
+            | Expr::BackrefExistsCondition { .. }
+            | Expr::Conditional { .. }
+            | Expr::SubroutineCall(_)
+            | Expr::BacktrackingControlVerb(_)
+            | Expr::Absent(_)
+            | Expr::DefineGroup { .. }
+            | Expr::AstNode(..) => Ok(()),
+        }
+    }
+
+    /// Adds the characters of the trees.
+    #[cycle(add)]
+    fn add_all(&mut self, trees: &[Expr]) -> Result<(), AllocError> {
+        for tree in trees {
+            self.add(tree)?;
+        }
+        Ok(())
+    }
+
+    /// Adds the characters of a node that matches one.
+    fn add_node(&mut self, tree: &Expr) -> Result<(), AllocError> {
+        if let ClassMeaning::Characters(set) = characters_of(self.alloc, tree, self.unicode)? {
+            self.set = Some(match &self.set {
+                Some(old) => old.union(&set)?,
+                None => set,
+            });
+        }
+        Ok(())
+    }
+}
+
+/// Whether the tree may match the empty text. Only trees with ways of their own are looked at.
+#[cycle(can_be_empty)]
+fn can_be_empty(tree: &Expr) -> bool {
+    match tree {
+        Expr::Empty => true,
+        Expr::Group(child) => can_be_empty(child),
+        Expr::Repeat { child, lo, .. } => *lo == 0 || can_be_empty(child),
+        Expr::Concat(trees) => can_all_be_empty(trees),
+        Expr::Alt(branches) => can_any_be_empty(branches),
+        Expr::Any { .. }
+        | Expr::Literal { .. }
+        | Expr::Delegate { .. }
+        | Expr::Assertion(_)
+        | Expr::GeneralNewline { .. }
+        | Expr::LiteralBytes { .. }
+        | Expr::LookAround(..)
+        | Expr::Backref { .. }
+        | Expr::BackrefWithRelativeRecursionLevel { .. }
+        | Expr::AtomicGroup(_)
+        | Expr::KeepOut
+        | Expr::ContinueFromPreviousMatchEnd
+        | Expr::BackrefExistsCondition { .. }
+        | Expr::Conditional { .. }
+        | Expr::SubroutineCall(_)
+        | Expr::BacktrackingControlVerb(_)
+        | Expr::Absent(_)
+        | Expr::DefineGroup { .. }
+        | Expr::AstNode(..) => false,
+    }
+}
+
+/// Whether each tree may match the empty text.
+#[cycle(can_be_empty)]
+fn can_all_be_empty(trees: &[Expr]) -> bool {
+    for tree in trees {
+        if !can_be_empty(tree) {
+            return false;
+        }
+    }
+    true
+}
+
+/// Whether some tree may match the empty text.
+#[cycle(can_be_empty)]
+fn can_any_be_empty(trees: &[Expr]) -> bool {
+    for tree in trees {
+        if can_be_empty(tree) {
+            return true;
+        }
+    }
+    false
+}
+
+/// The tree as a piece.
+fn piece_of(alloc: Global, tree: &Expr, unicode: bool) -> Result<Piece, AllocError> {
+    match kind_of(tree) {
+        PartKind::Irregular => return Ok(Piece::Irregular),
+        PartKind::TooLarge => return Ok(Piece::TooLarge),
+        PartKind::Choices | PartKind::OneWay => {}
+    }
+    let mut alphabet = Alphabet {
+        alloc,
+        unicode,
+        set: None,
+    };
+    alphabet.add(tree)?;
+    Ok(Piece::Regular(RegularPiece {
+        alphabet: alphabet.set,
+        can_be_empty: can_be_empty(tree),
+        is_repeat: repeated_part(tree).is_some(),
+    }))
+}
+
+/// The trees of a concatenation as pieces.
+pub(crate) fn pieces_of(
+    alloc: Global,
+    trees: &[Expr],
+    unicode: bool,
+) -> Result<Vec<Piece>, AllocError> {
+    let mut pieces = Vec::with_capacity(alloc, trees.len())?;
+    for tree in trees {
+        pieces.push(piece_of(alloc, tree, unicode)?)?;
+    }
+    Ok(pieces)
+}
+
+impl RegularPiece {
+    /// Whether both may match some character.
+    fn meets(&self, other: &RegularPiece) -> Result<bool, AllocError> {
+        match (&self.alphabet, &other.alphabet) {
+            (Some(one), Some(other)) => one.intersects(other),
+            (None, _) | (_, None) => Ok(false),
+        }
+    }
+}
+
+impl Piece {
+    /// The piece, if it is a repeat that is looked at.
+    pub(crate) fn as_repeat(&self) -> Option<&RegularPiece> {
+        match self {
+            Piece::Regular(piece) if piece.is_repeat => Some(piece),
+            Piece::Regular(_) | Piece::Irregular | Piece::TooLarge => None,
+        }
+    }
+
+    /// What the characters of an earlier repeat say of it.
+    pub(crate) fn reach(&self, repeat: &RegularPiece) -> Result<Reach, AllocError> {
+        let piece = match self {
+            Piece::Regular(piece) => piece,
+            Piece::Irregular => return Ok(Reach::Blocked),
+            Piece::TooLarge => return Ok(Reach::TooLarge),
+        };
+        let meets = repeat.meets(piece)?;
+        if meets && piece.is_repeat {
+            Ok(Reach::Repeat)
+        } else if meets || piece.can_be_empty {
+            Ok(Reach::Across)
+        } else {
+            Ok(Reach::Blocked)
+        }
+    }
+}

@@ -1,0 +1,331 @@
+//! The concatenations of a pattern that can match a text in polynomially many ways.
+ghost use Rattle.std.specs.Prelude.{◌≡◌, ◌++◌, map, IfOk, IfSome, OnOk};
+ghost use Rattle.std.specs.Option.{option_to_list};
+ghost use Rattle.std.specs.List.{AllByRecursion};
+ghost use Rattle.fancy_spans.specs.Spanned.{Spanned, spanned_of, spanned_of_tree, first_span};
+ghost use Rattle.fancy_grammar.specs.Tree.{concat, trees_of};
+ghost use Rattle.fancy_syntax.specs.View.{view, views};
+ghost use Rattle.backtracking.specs.SlowRepeats.{IsNodeOf, spanned_children};
+ghost use Rattle.backtracking.specs.SlowSequences.{IsRepeatOf, IsCut, IsSpanAcross, IsSlowAcross, IsSlowSequenceIn};
+
+use crate::attack::{Attack, Surroundings, Target, enclosing_of, find_attack};
+use crate::cut::{Cut, SequenceWays, SequenceWitness};
+use crate::pieces::{Piece, Reach, pieces_of};
+use crate::repeats::{SMALL_LIMIT, SearchOptions, is_left_alone};
+use crate::sequence::ways_of_sequence;
+use fancy_spans::{SpannedNode, SpannedTree};
+use fancy_syntax::expr::Expr;
+use fancy_syntax::span::Span;
+use std::alloc::{AllocError, Global};
+
+/// The most trees after a repeat that are looked at.
+const MOST_LATER: usize = 500;
+
+/// The most pairs of repeats of a pattern that are searched.
+const MOST_SEARCHES: usize = 100;
+
+/// Two repeats of a concatenation that can match a text in polynomially many ways.
+#[derive(Drop)]
+pub struct SlowSequence {
+    /// The part of the pattern from the first repeat through the last one, in byte offsets.
+    pub span: Span,
+    /// The word, of which n repetitions have n ways, and what these are made of.
+    pub witness: SequenceWitness,
+    /// What to put around the repeated word.
+    pub attack: Attack,
+}
+
+/// The pairs of repeats of a pattern that are slow, and those that are not known to be slow or not.
+#[derive(Drop)]
+pub struct SlowSequences {
+    pub slow: Vec<SlowSequence>,
+    /// Those that have too much to look at, from the first repeat on, in byte offsets.
+    pub too_large: Vec<Span>,
+}
+
+/// A concatenation: its trees, and their spans.
+#[derive(Clone, Copy)]
+struct Row<'a> {
+    trees: &'a [Expr],
+    spans: &'a [Span],
+}
+
+/// What the tree repeats more than 20 times more than it must, if it is such a repeat, or a group of one.
+pub(crate) fn repeated_part(tree: &Expr) -> Option<&Expr>
+    ensures { IfSome result (λ part. IsRepeatOf (view part.now) (view tree.now)) }
+{
+    match tree {
+        Expr::Repeat { child, lo, hi, .. } if hi.saturating_sub(*lo) > SMALL_LIMIT => Some(child),
+        Expr::Group(child) => repeated_part(child),
+        Expr::Repeat { .. }
+        | Expr::Empty
+        | Expr::Any { .. }
+        | Expr::Assertion(_)
+        | Expr::GeneralNewline { .. }
+        | Expr::Literal { .. }
+        | Expr::LiteralBytes { .. }
+        | Expr::Concat(_)
+        | Expr::Alt(_)
+        | Expr::LookAround(..)
+        | Expr::Delegate { .. }
+        | Expr::Backref { .. }
+        | Expr::BackrefWithRelativeRecursionLevel { .. }
+        | Expr::AtomicGroup(_)
+        | Expr::KeepOut
+        | Expr::ContinueFromPreviousMatchEnd
+        | Expr::BackrefExistsCondition { .. }
+        | Expr::Conditional { .. }
+        | Expr::SubroutineCall(_)
+        | Expr::BacktrackingControlVerb(_)
+        | Expr::Absent(_)
+        | Expr::DefineGroup { .. }
+        | Expr::AstNode(..) => None,
+    }
+}
+
+/// The cut at the trees with these indices, if both are repeats.
+fn cut_at(trees: &[Expr], first: usize, last: usize) -> Option<Cut<'_>>
+    ensures { IfSome result (λ cut. IsCut (views trees.now) first last (view cut.first.now) (views cut.between.now)
+        (view cut.last.now)) }
+{
+    Some(Cut {
+        first: repeated_part(trees.get(first)?)?,
+        between: trees.get(first.checked_add(1)?..last)?,
+        last: repeated_part(trees.get(last)?)?,
+    })
+}
+
+/// The span from the one at an index through the one at another.
+fn span_across(spans: &[Span], first: usize, last: usize) -> Option<Span>
+    ensures { IfSome result (IsSpanAcross spans.now first last) }
+{
+    let start = spans.get(first)?.start;
+    let end = spans.get(last)?.end;
+    Some(Span { start, end })
+}
+
+/// Searches for three ways from one repeat of the concatenation to another, and for what to put around the word.
+fn look_at_cut(
+    row: Row<'_>,
+    first: usize,
+    last: usize,
+    options: SearchOptions,
+    surroundings: &mut Surroundings<'_>,
+) -> Result<Option<SlowSequence>, AllocError>
+    ensures { IfOk result (λ o. IfSome o (IsSlowAcross options.unicode (views row.entry.trees.now) row.entry.spans.now)) }
+{
+    let SearchOptions { alloc, unicode } = options;
+    let Some(cut) = cut_at(row.trees, first, last) else {
+        return Ok(None);
+    };
+    let Some(span) = span_across(row.spans, first, last) else {
+        return Ok(None);
+    };
+    if surroundings.searches >= MOST_SEARCHES {
+        surroundings.too_large.push(span)?;
+        return Ok(None);
+    }
+    surroundings.searches = surroundings.searches.saturating_add(1);
+    let witness = match ways_of_sequence(alloc, cut, unicode)? {
+        SequenceWays::Polynomial(witness) => witness,
+        SequenceWays::NoneFound | SequenceWays::Irregular => return Ok(None),
+        SequenceWays::TooLarge => {
+            surroundings.too_large.push(span)?;
+            return Ok(None);
+        }
+    };
+    let target = Target::Sequence {
+        trees: row.trees,
+        first,
+        last,
+    };
+    match find_attack(alloc, unicode, target, &witness.word, surroundings)? {
+        Some(attack) => Ok(Some(SlowSequence {
+            span,
+            witness,
+            attack,
+        })),
+        None => Ok(None),
+    }
+}
+
+/// What the characters of a repeat say of a later tree, by their indices. No tree that is not a repeat reaches another.
+fn reach_at(pieces: &[Piece], first: usize, last: usize) -> Result<Reach, AllocError> {
+    let Some(repeat) = pieces.get(first).and_then(|piece| piece.as_repeat()) else {
+        return Ok(Reach::Blocked);
+    };
+    let Some(piece) = pieces.get(last) else {
+        return Ok(Reach::Blocked);
+    };
+    if last.saturating_sub(first) > MOST_LATER {
+        return Ok(Reach::TooLarge);
+    }
+    piece.reach(repeat)
+}
+
+/// Adds that there is too much to look at from one tree to another.
+fn add_too_large(
+    row: Row<'_>,
+    first: usize,
+    last: usize,
+    surroundings: &mut Surroundings<'_>,
+) -> Result<(), AllocError> {
+    if let Some(span) = span_across(row.spans, first, last) {
+        surroundings.too_large.push(span)?;
+    }
+    Ok(())
+}
+
+/// Searches for a slow pair: the tree at the index, and the nearest later one.
+fn look_from(
+    row: Row<'_>,
+    pieces: &[Piece],
+    first: usize,
+    options: SearchOptions,
+    surroundings: &mut Surroundings<'_>,
+) -> Result<Option<SlowSequence>, AllocError>
+    ensures { IfOk result (λ o. IfSome o (IsSlowAcross options.unicode (views row.entry.trees.now) row.entry.spans.now)) }
+{
+    for last in first.saturating_add(1)..row.trees.len() {
+        match reach_at(pieces, first, last)? {
+            Reach::Across => {}
+            Reach::Blocked => break,
+            Reach::TooLarge => {
+                add_too_large(row, first, last, surroundings)?;
+                break;
+            }
+            Reach::Repeat => {
+                if let Some(slow) = look_at_cut(row, first, last, options, surroundings)? {
+                    return Ok(Some(slow));
+                }
+            }
+        }
+    }
+    Ok(None)
+}
+
+/// The spans of the children of a node.
+fn child_spans(alloc: Global, node: SpannedNode<'_>) -> Result<Vec<Span>, AllocError>
+    ensures { IfOk result (λ v. v.items ≡ map (λ c. first_span c.spans) (spanned_children (spanned_of node.entry))) }
+{
+    let mut spans = Vec::new(alloc);
+    for child in node.children() {
+        spans.push(child.span())?;
+    }
+    Ok(spans)
+}
+
+/// How many of the trees are repeats that are looked at.
+fn count_repeats(trees: &[Expr]) -> usize {
+    trees
+        .iter()
+        .filter(|tree| repeated_part(tree).is_some())
+        .count()
+}
+
+/// Adds the slow pair, if there is one.
+fn add_found(slow: Option<SlowSequence>, found: &mut Vec<SlowSequence>) -> Result<(), AllocError>
+    ensures { OnOk result (found.new.items ≡ found.old.items ++ option_to_list slow) }
+{
+    if let Some(slow) = slow {
+        found.push(slow)?;
+    }
+    Ok(())
+}
+
+/// Adds the slow pairs of repeats of the concatenation that the node is.
+fn add_slow<'a>(
+    node: SpannedNode<'a>,
+    trees: &'a [Expr],
+    options: SearchOptions,
+    surroundings: &mut Surroundings<'a>,
+    found: &mut Vec<SlowSequence>,
+) -> Result<(), AllocError>
+    ensures { OnOk result ((root : Spanned) → IsNodeOf (spanned_of node.entry) root →
+        view (spanned_of node.entry).expr ≡ concat (trees_of (views trees.now)) →
+        AllByRecursion (IsSlowSequenceIn options.unicode root) found.old.items →
+        AllByRecursion (IsSlowSequenceIn options.unicode root) found.new.items) }
+{
+    let spans = child_spans(options.alloc, node)?;
+    let pieces = pieces_of(options.alloc, trees, options.unicode)?;
+    let row = Row {
+        trees,
+        spans: &spans,
+    };
+    for first in 0..trees.len() {
+        let slow = look_from(row, &pieces, first, options, surroundings)?;
+        add_found(slow, found)?;
+    }
+    Ok(())
+}
+
+/// Adds the slow pairs of repeats of the node, if it is a concatenation.
+fn look_at<'a>(
+    node: SpannedNode<'a>,
+    options: SearchOptions,
+    surroundings: &mut Surroundings<'a>,
+    found: &mut Vec<SlowSequence>,
+) -> Result<(), AllocError>
+    ensures { OnOk result ((root : Spanned) → IsNodeOf (spanned_of node.entry) root →
+        AllByRecursion (IsSlowSequenceIn options.unicode root) found.old.items →
+        AllByRecursion (IsSlowSequenceIn options.unicode root) found.new.items) }
+{
+    let Expr::Concat(trees) = node.expr() else {
+        return Ok(());
+    };
+    if count_repeats(trees) < 2 {
+        return Ok(());
+    }
+    add_slow(node, trees, options, surroundings, found)?;
+    Ok(())
+}
+
+/// Adds the slow pairs of repeats in the node and in those below it.
+fn look<'a>(
+    node: SpannedNode<'a>,
+    options: SearchOptions,
+    surroundings: &mut Surroundings<'a>,
+    found: &mut Vec<SlowSequence>,
+) -> Result<(), AllocError>
+    ensures { OnOk result ((root : Spanned) → IsNodeOf (spanned_of node.entry) root →
+        AllByRecursion (IsSlowSequenceIn options.unicode root) found.old.items →
+        AllByRecursion (IsSlowSequenceIn options.unicode root) found.new.items) }
+{
+    if is_left_alone(node.expr()) {
+        return Ok(());
+    }
+    look_at(node, options, surroundings, found)?;
+    let depth = surroundings.around.len();
+    let mut index = 0usize;
+    for child in node.children() {
+        surroundings.around.push(enclosing_of(node.expr(), index))?;
+        look(child, options, surroundings, found)?;
+        surroundings.around.truncate(depth);
+        index = index.saturating_add(1);
+    }
+    Ok(())
+}
+
+/// The pairs of repeats of a concatenation of the pattern that can match a text in polynomially many ways, where what
+/// follows can fail. For each first repeat there is at most one: the one with the nearest last repeat. `unicode` says
+/// whether the pattern is one for text with Unicode, as under `FLAG_UNICODE`.
+pub fn slow_sequences(
+    alloc: Global,
+    parsed: &SpannedTree,
+    unicode: bool,
+) -> Result<SlowSequences, AllocError>
+    ensures witnessed { IfOk result (λ r. AllByRecursion (IsSlowSequenceIn unicode (spanned_of_tree parsed.now)) r.slow.items) }
+{
+    let mut surroundings = Surroundings::new(alloc);
+    let mut found = Vec::new(alloc);
+    look(
+        parsed.root(),
+        SearchOptions { alloc, unicode },
+        &mut surroundings,
+        &mut found,
+    )?;
+    Ok(SlowSequences {
+        slow: found,
+        too_large: surroundings.too_large,
+    })
+}

@@ -1,0 +1,57 @@
+//! The parts of a pattern that can match a text in many ways.
+use crate::chosen::{Chosen, Level};
+use crate::rule::Rule;
+use backtracking::repeats::{SlowRepeat, SlowRepeats, slow_repeats};
+use backtracking::sequences::{SlowSequence, SlowSequences, slow_sequences};
+use fancy_spans::SpannedTree;
+use fancy_syntax::FLAG_UNICODE;
+use fancy_syntax::span::Span;
+use patterns_text::subject::Subject;
+use std::alloc::{AllocError, Global};
+
+/// What is said of a part that was not looked at.
+pub const NOT_SEARCHED: &str = "this part is too large to be searched for backtracking";
+
+/// What is slow in a pattern.
+#[derive(Drop)]
+pub struct SlowParts {
+    /// The repeats that can match a text in exponentially many ways.
+    pub repeats: Vec<SlowRepeat>,
+    /// The pairs of repeats that can match a text in polynomially many ways.
+    pub sequences: Vec<SlowSequence>,
+    /// The repeats and pairs that were not looked at, since they are too large.
+    pub too_large: Vec<Span>,
+}
+
+impl SlowParts {
+    /// Nothing is slow.
+    fn new(alloc: Global) -> SlowParts {
+        SlowParts {
+            repeats: Vec::new(alloc),
+            sequences: Vec::new(alloc),
+            too_large: Vec::new(alloc),
+        }
+    }
+
+    /// What is slow in the pattern, as far as the rules are not silent. Of a silent rule nothing is looked for.
+    pub fn of(
+        subject: Subject<'_>,
+        parsed: &SpannedTree,
+        chosen: &Chosen,
+    ) -> Result<SlowParts, AllocError> {
+        let Subject { alloc, flags, .. } = subject;
+        let unicode = flags & FLAG_UNICODE != 0;
+        let mut parts = SlowParts::new(alloc);
+        if chosen.level(Rule::ExponentialBacktracking) != Level::Allow {
+            let SlowRepeats { slow, too_large } = slow_repeats(alloc, parsed, unicode)?;
+            parts.repeats = slow;
+            parts.too_large = too_large;
+        }
+        if chosen.level(Rule::PolynomialBacktracking) != Level::Allow {
+            let SlowSequences { slow, too_large } = slow_sequences(alloc, parsed, unicode)?;
+            parts.sequences = slow;
+            parts.too_large.extend_from_slice(&too_large)?;
+        }
+        Ok(parts)
+    }
+}
