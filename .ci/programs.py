@@ -68,7 +68,9 @@ def output_of(path: Path, run: Run) -> Output:
     """What the program writes in a run."""
     with tempfile.TemporaryDirectory() as folder:
         for name, text in run.files:
-            (Path(folder) / name).write_bytes(encoded(text))
+            file = Path(folder) / name
+            file.parent.mkdir(parents=True, exist_ok=True)
+            file.write_bytes(encoded(text))
         got = subprocess.run([path, *run.words], cwd=folder, input=encoded(run.stdin), capture_output=True, check=False)
     return Output(decoded(got.stdout), decoded(got.stderr), got.returncode)
 

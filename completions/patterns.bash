@@ -12,12 +12,12 @@ _patterns() {
         --flags | --keys | --max-warnings | --regexp | -e) return ;;
     esac
     case ${COMP_WORDS[1]} in
-        check) options='--flags -e --regexp -z --null-data --quiet --color --textmate --keys --format --json -h --help' ;;
+        check) options='--flags -e --regexp -z --null-data --quiet --color --config --no-config --textmate --keys --records --format --json -h --help' ;;
         tree) options='--flags --ascii --spans --all --classes --json --file -h --help' ;;
         picture) options='--flags --html --width --file -h --help' ;;
-        lint) options='--flags -e --regexp -z --null-data --quiet --color --textmate --keys --allow --warn --deny --max-warnings --format --json --verbose --rules -h --help' ;;
-        format) options='--flags -e --regexp -z --null-data --quiet --color --check --drop-comments -h --help' ;;
-        groups) options='--flags -e --regexp -z --null-data --quiet --color --textmate --keys --classes --json -h --help' ;;
+        lint) options='--flags -e --regexp -z --null-data --quiet --color --config --no-config --textmate --keys --records --allow --warn --deny --max-warnings --fix --diff --format --json --verbose --rules -h --help' ;;
+        format) options='--flags -e --regexp -z --null-data --quiet --color --config --no-config --check --drop-comments -h --help' ;;
+        groups) options='--flags -e --regexp -z --null-data --quiet --color --config --no-config --textmate --keys --records --classes --json -h --help' ;;
         help) options='check tree picture lint format groups' ;;
     esac
     case $word in

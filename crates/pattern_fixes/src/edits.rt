@@ -28,7 +28,7 @@ pub(crate) fn with_edit(
     text: &str,
     edit: Edit<'_>,
 ) -> Result<Option<String>, AllocError>
-    ensures value { IfOk result (λ o. IfSome o (λ s. string_bytes s ≡ with_edit text.now edit)) }
+    ensures value { IfOk result (λ o. IfSome o (λ s. string_bytes s ≡ with_edit text.now edit.entry)) }
 {
     let Some(before) = text.get(..edit.span.start) else {
         return Ok(None);

@@ -165,7 +165,7 @@ fn is_fixed_absent(
 /// that is equal to an earlier one, or a class has another text, or a literal in its place, but the same characters.
 #[cycle(is_fixed)]
 pub fn is_fixed(alloc: Global, old: &Expr, new: &Expr, unicode: bool) -> Result<bool, AllocError>
-    ensures fixed { IfOk result (λ b. IsTrue b → IsFixed unicode (view old.now) (view new.now)) }
+    ensures { IfOk result (λ b. IsTrue b → IsFixed unicode (view old.now) (view new.now)) }
 {
     match old {
         Expr::Repeat {

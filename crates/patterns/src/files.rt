@@ -1,4 +1,5 @@
 //! The files of the system, its clock, and what the outputs are.
+use crate::replace::replace;
 use patterns_program::sources::{Sources, System, Terminals};
 use std::env::Env;
 use std::fs::File;
@@ -19,6 +20,10 @@ impl Sources for Host<'_> {
 
     fn open(&self, name: &str) -> io::Result<BufReader<File>> {
         BufReader::new(self.rt.alloc(), fs::open(self.rt, name)?)
+    }
+
+    fn replace(&self, name: &str, bytes: &[u8]) -> io::Result<()> {
+        replace(self.rt, name, bytes)
     }
 
     fn input(&self) -> io::Result<BufReader<Stdin>> {

@@ -2,6 +2,8 @@
 #![tactic(auto)]
 
 mod files;
+mod folders;
+mod replace;
 
 use files::Host;
 use patterns_command::execute::execute;

@@ -1,16 +1,19 @@
 //! What the program does with its arguments.
-use crate::rules::{rule_names, rules_chosen};
+use crate::rules::levels_chosen;
 use crate::words::{
-    ReportFormat, canvas_chosen, command, flags_chosen, form_chosen, format_chosen, look_chosen,
-    max_warnings_chosen, paints_chosen, verb_chosen, width_chosen,
+    ReportFormat, canvas_chosen, choices_chosen, command, fixing_chosen, flags_chosen, form_chosen,
+    format_chosen, look_chosen, max_warnings_chosen, paints_chosen, verb_chosen, width_chosen,
 };
 use clap::error::ErrorKind;
 use clap::{ArgMatches, Error};
+use patterns_lint::chosen::Chosen;
 use patterns_lint::rule::write_rules;
 use patterns_picture::picture::draw_picture;
+use patterns_program::choices::{RuleLevel, rule_names};
 use patterns_program::draw::{draw_tree, write_tree};
 use patterns_program::file_pattern::read_pattern;
-use patterns_program::run::{Job, Verb, run};
+use patterns_program::fixes::FixMode;
+use patterns_program::run::{Job, STANDARD_INPUT, Verb, run};
 use patterns_program::sources::System;
 use patterns_text::error::{RunError, give_up};
 use patterns_text::paint::Paints;
@@ -40,6 +43,23 @@ fn explain_flags<E: Write>(err: &mut E) -> Result<u8, RunError> {
     writeln!(
         err,
         "patterns: --flags takes letters of imsUxuRon, or - for none"
+    )?;
+    Ok(MISUSED)
+}
+
+/// Whether standard output has either reports or patterns that are fixed: where it has patterns, reports are text.
+fn can_report(verb: Verb, fixing: Option<FixMode>) -> bool {
+    match fixing {
+        Some(FixMode::Write { has_output: true }) => matches!(verb, Verb::Lint(_)),
+        Some(FixMode::Write { has_output: false } | FixMode::Show) | None => true,
+    }
+}
+
+/// Says that standard output cannot have both.
+fn explain_fix<E: Write>(err: &mut E) -> Result<u8, RunError> {
+    writeln!(
+        err,
+        "patterns: with --json or --format, --fix takes files: it writes other patterns to standard output"
     )?;
     Ok(MISUSED)
 }
@@ -93,21 +113,31 @@ impl<S: System, O: Write, E: Write> ProgramCall<'_, S, O, E> {
     }
 
     /// Runs a subcommand over files.
-    fn execute_files(
+    fn execute_files<'m>(
         &mut self,
         verb: Verb,
         flags: u32,
-        matches: &ArgMatches<'_>,
+        matches: &'m ArgMatches<'_>,
+        levels: &'m [RuleLevel<'m>],
     ) -> Result<u8, RunError> {
         let files = matches.get_strs("files").unwrap_or(&[]);
+        let patterns = matches.get_strs("regexp").unwrap_or(&[]);
+        let is_written = !patterns.is_empty() || files.contains(&STANDARD_INPUT);
+        let has_output = is_written && !matches.get_flag("records");
+        let fixing = fixing_chosen(matches, has_output);
+        if !can_report(verb, fixing) {
+            return explain_fix(self.err);
+        }
         let job = Job {
             verb,
             flags,
             form: form_chosen(matches),
-            patterns: matches.get_strs("regexp").unwrap_or(&[]),
+            fixing,
+            patterns,
             is_quiet: matches.get_flag("quiet"),
             max_warnings: max_warnings_chosen(matches),
             paints: paints_chosen(matches, self.auto),
+            choices: choices_chosen(matches, levels),
         };
         Ok(run(self.alloc, job, files, self.sources, self.out, self.err))
     }
@@ -119,13 +149,15 @@ impl<S: System, O: Write, E: Write> ProgramCall<'_, S, O, E> {
             self.out.flush()?;
             return Ok(0);
         }
-        let chosen = rules_chosen(self.alloc, matches)?;
+        let levels = levels_chosen(self.alloc, matches)?;
+        // The run gives them to the rules, for each file after those of its configuration.
+        let chosen = Chosen::new();
         let verb = match format_chosen(matches) {
             ReportFormat::Text => Verb::Lint(chosen),
             ReportFormat::Json => Verb::LintJson(chosen),
             ReportFormat::Annotations(format) => Verb::LintAnnotate(chosen, format),
         };
-        self.execute_files(verb, flags, matches)
+        self.execute_files(verb, flags, matches, &levels)
     }
 
     /// Runs a subcommand.
@@ -142,7 +174,7 @@ impl<S: System, O: Write, E: Write> ProgramCall<'_, S, O, E> {
         let Some(verb) = verb_chosen(name, matches) else {
             return Ok(MISUSED);
         };
-        self.execute_files(verb, flags, matches)
+        self.execute_files(verb, flags, matches, &[])
     }
 
     /// Runs the subcommand that the arguments choose, or reports what is wrong with them.
@@ -159,8 +191,8 @@ impl<S: System, O: Write, E: Write> ProgramCall<'_, S, O, E> {
 }
 
 /// Does what the arguments ask, the program's name first, and returns the exit status: that of the run, or 0 if help
-/// was asked for, 2 if the arguments are wrong, and 3 if memory ran out or a write failed. Where the arguments leave it open,
-/// `auto` says which stream has colours.
+/// was asked for, 2 if the arguments are wrong, and 3 if memory ran out or a write failed. Where the arguments leave it
+/// open, `auto` says which stream has colours.
 pub fn execute<'a, S: System, O: Write, E: Write>(
     alloc: Global,
     auto: Paints,

@@ -1,9 +1,7 @@
-//! The rules of `lint` that the arguments choose.
-use crate::words::form_chosen;
+//! The levels of rules that the arguments choose.
 use clap::ArgMatches;
-use patterns_lint::chosen::{Chosen, Level};
-use patterns_lint::rule::{RULES, Rule};
-use patterns_program::form::FileFormat;
+use patterns_lint::chosen::Level;
+use patterns_program::choices::RuleLevel;
 use std::alloc::{AllocError, Global};
 
 /// The options that give a level to rules.
@@ -13,26 +11,12 @@ static OPTIONS: [(&str, Level); 3] = [
     ("deny", Level::Deny),
 ];
 
-/// The name that these options take for all rules.
-const ALL: &str = "all";
-
-/// The names that these options take: those of the rules, and one for all.
-pub(crate) fn rule_names(alloc: Global) -> Result<Vec<&'static str>, AllocError> {
-    let mut names = Vec::with_capacity(alloc, RULES.len().saturating_add(1))?;
-    for rule in RULES.iter() {
-        names.push(rule.name())?;
-    }
-    names.push(ALL)?;
-    Ok(names)
-}
-
 /// A level that the arguments give to a rule, or to all.
 #[derive(Clone, Copy)]
 struct LevelChoice<'a> {
     /// Where the name is among the arguments.
     index: usize,
-    name: &'a str,
-    level: Level,
+    level: RuleLevel<'a>,
 }
 
 /// Adds the levels that one of the options gives.
@@ -48,38 +32,25 @@ fn add_choices<'a>(
     for (name, index) in names.iter().zip(indices) {
         choices.push(LevelChoice {
             index: *index,
-            name,
-            level,
+            level: RuleLevel { name, level },
         })?;
     }
     Ok(())
 }
 
 /// The levels that the arguments give, in the order of the arguments.
-fn choices<'a>(
+pub(crate) fn levels_chosen<'a>(
     alloc: Global,
     matches: &ArgMatches<'a>,
-) -> Result<Vec<LevelChoice<'a>>, AllocError> {
+) -> Result<Vec<RuleLevel<'a>>, AllocError> {
     let mut choices = Vec::new(alloc);
     for (option, level) in OPTIONS.iter() {
         add_choices(&mut choices, matches, option, *level)?;
     }
     choices.sort_unstable_by_key(|choice| choice.index);
-    Ok(choices)
-}
-
-/// The levels that the arguments choose: of several for a rule, the last one.
-pub(crate) fn rules_chosen(alloc: Global, matches: &ArgMatches<'_>) -> Result<Chosen, AllocError> {
-    let mut chosen = match form_chosen(matches) {
-        FileFormat::Records(_) => Chosen::new(),
-        FileFormat::Values(_) => Chosen::for_values(),
-    };
-    for choice in &choices(alloc, matches)? {
-        match Rule::named(choice.name) {
-            Some(rule) => chosen.set(rule, choice.level),
-            None => chosen.set_all(choice.level),
-        }
+    let mut levels = Vec::with_capacity(alloc, choices.len())?;
+    for choice in &choices {
+        levels.push(choice.level)?;
     }
-    chosen.is_verbose = matches.get_flag("verbose");
-    Ok(chosen)
+    Ok(levels)
 }

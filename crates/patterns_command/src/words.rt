@@ -1,9 +1,12 @@
 //! The arguments of the program.
 use clap::builder::{ArgPredicate, ValueParser};
+use clap::parser::ValueSource;
 use clap::{Arg, ArgAction, ArgMatches, Command, value_parser};
 use fre_program::flag_word::flags_named;
 use patterns_listing::drawing::{Look, Style};
 use patterns_picture::picture::{Canvas, WIDTH};
+use patterns_program::choices::{Choices, ConfigChoice, RuleLevel};
+use patterns_program::fixes::FixMode;
 use patterns_program::form::FileFormat;
 use patterns_program::lines::Ending;
 use patterns_program::objects::Report;
@@ -37,7 +40,13 @@ const LETTERS: &str = "The letters of --flags:
   o  Oniguruma's syntax
   n  if some group has a name, groups without a name have no number";
 
-const FILES_HELP: &str = "Files with one pattern per line, in UTF-8; - is standard input";
+const FILES_HELP: &str = "Files with one pattern per line, in UTF-8; - is standard input. Of a
+folder those files are read that `files` in patterns.toml names";
+
+const CONFIG_HELP: &str = "Reads this configuration, and looks for no patterns.toml";
+
+const NO_CONFIG_HELP: &str = "Reads no configuration. Otherwise each file has the nearest
+patterns.toml, from its folder upwards; options win over it";
 
 const REGEXP_HELP: &str = "A pattern, which may begin with -; can be given several times. Files
 are read after these patterns, and only if they are named";
@@ -52,6 +61,10 @@ a group of begin";
 
 const KEYS_HELP: &str = "Each file is JSON, and its texts under these keys are the
 patterns; with --textmate too, those under its keys are as well";
+
+const RECORDS_HELP: &str = "Each line is a JSON object, as python -m fancy extract writes them:
+a pattern, and where it is in a source; reports have the positions
+in the source";
 
 const JSON_HELP: &str = "Writes JSON, one object per line, to standard output";
 
@@ -150,6 +163,14 @@ backtracking";
 
 const MAX_WARNINGS_HELP: &str = "The exit status is 1 if there are more warnings than this";
 
+const FIX_HELP: &str = "Fixes reports that a plain edit fixes, in the files, or in the
+sources with --records, and reports what is left; standard input
+and patterns of -e are written to standard output, and the reports
+to standard error";
+
+const DIFF_HELP: &str = "Writes no file; shows each pattern that --fix would change, as it is
+and as it would be, and then reports what would be left";
+
 const GROUPS: &str = "Lists the groups of each pattern, and what its references and calls refer to";
 
 const GROUPS_MORE: &str =
@@ -236,6 +257,20 @@ fn color_arg<'a>(alloc: Global) -> Arg<'a> {
         .help(COLOR_HELP)
 }
 
+/// The options that choose the configuration.
+fn with_config<'a>(alloc: Global, command: Command<'a>) -> Result<Command<'a>, AllocError> {
+    let config = Arg::new(alloc, "config")
+        .long("config")
+        .value_name("FILE")
+        .help(CONFIG_HELP)
+        .conflicts_with("no-config")?;
+    let no_config = Arg::new(alloc, "no-config")
+        .long("no-config")
+        .action(ArgAction::SetTrue)
+        .help(NO_CONFIG_HELP);
+    command.arg(config)?.arg(no_config)
+}
+
 /// A subcommand over files; the example begins its help.
 fn over_files<'a>(
     alloc: Global,
@@ -243,7 +278,7 @@ fn over_files<'a>(
     about: &'a str,
     example: &'a str,
 ) -> Result<Command<'a>, AllocError> {
-    Command::new(alloc, name)
+    let command = Command::new(alloc, name)
         .about(about)
         .before_help(example)
         .after_help(LETTERS)
@@ -251,8 +286,8 @@ fn over_files<'a>(
         .arg(regexp_arg(alloc))?
         .arg(null_arg(alloc))?
         .arg(quiet_arg(alloc))?
-        .arg(color_arg(alloc))?
-        .arg(files_arg(alloc)?)
+        .arg(color_arg(alloc))?;
+    with_config(alloc, command)?.arg(files_arg(alloc)?)
 }
 
 /// The options by which files are JSON.
@@ -271,7 +306,15 @@ fn with_values<'a>(alloc: Global, command: Command<'a>) -> Result<Command<'a>, A
         .help(KEYS_HELP)
         .conflicts_with("null-data")?
         .conflicts_with("regexp")?;
-    command.arg(textmate)?.arg(keys)
+    let records = Arg::new(alloc, "records")
+        .long("records")
+        .action(ArgAction::SetTrue)
+        .help(RECORDS_HELP)
+        .conflicts_with("null-data")?
+        .conflicts_with("regexp")?
+        .conflicts_with("textmate")?
+        .conflicts_with("keys")?;
+    command.arg(textmate)?.arg(keys)?.arg(records)
 }
 
 /// The formats of reports.
@@ -397,26 +440,52 @@ fn level_arg<'a>(alloc: Global, name: &'a str, help: &'a str, rules: &'a [&'a st
         .help(help)
 }
 
-fn lint_command<'a>(alloc: Global, names: &'a [&'a str]) -> Result<Command<'a>, AllocError> {
-    let rules = Arg::new(alloc, "rules")
-        .long("rules")
-        .action(ArgAction::SetTrue)
-        .help("Lists the rules with an example of each, and reads no file");
+/// The options of `lint` on the rules of these names, and on how many reports there may be.
+fn with_levels<'a>(
+    alloc: Global,
+    command: Command<'a>,
+    names: &'a [&'a str],
+) -> Result<Command<'a>, AllocError> {
     let max_warnings = Arg::new(alloc, "max-warnings")
         .long("max-warnings")
         .value_name("N")
         .value_parser(value_parser!(u64))
         .help(MAX_WARNINGS_HELP);
+    command
+        .arg(level_arg(alloc, "allow", "Silences rules", names))?
+        .arg(level_arg(alloc, "warn", "Makes the reports of rules warnings", names))?
+        .arg(level_arg(alloc, "deny", "Makes the reports of rules errors", names))?
+        .arg(max_warnings)
+}
+
+/// The options of `lint` on fixes.
+fn with_fixes<'a>(alloc: Global, command: Command<'a>) -> Result<Command<'a>, AllocError> {
+    let fix = Arg::new(alloc, "fix")
+        .long("fix")
+        .action(ArgAction::SetTrue)
+        .help(FIX_HELP);
+    let diff = Arg::new(alloc, "diff")
+        .long("diff")
+        .action(ArgAction::SetTrue)
+        .help(DIFF_HELP)
+        .conflicts_with("fix")?
+        .conflicts_with("json")?
+        .conflicts_with("format")?;
+    command.arg(fix)?.arg(diff)
+}
+
+fn lint_command<'a>(alloc: Global, names: &'a [&'a str]) -> Result<Command<'a>, AllocError> {
+    let rules = Arg::new(alloc, "rules")
+        .long("rules")
+        .action(ArgAction::SetTrue)
+        .help("Lists the rules with an example of each, and reads no file");
     let verbose = Arg::new(alloc, "verbose")
         .long("verbose")
         .action(ArgAction::SetTrue)
         .help(VERBOSE_HELP);
-    with_values(alloc, over_files(alloc, "lint", LINT, LINT_EXAMPLE)?)?
-        .long_about(LINT_MORE)
-        .arg(level_arg(alloc, "allow", "Silences rules", names))?
-        .arg(level_arg(alloc, "warn", "Makes the reports of rules warnings", names))?
-        .arg(level_arg(alloc, "deny", "Makes the reports of rules errors", names))?
-        .arg(max_warnings)?
+    let command = with_values(alloc, over_files(alloc, "lint", LINT, LINT_EXAMPLE)?)?;
+    let command = with_levels(alloc, command.long_about(LINT_MORE), names)?;
+    with_fixes(alloc, command)?
         .arg(format_arg(alloc)?)?
         .arg(json_arg(alloc))?
         .arg(verbose)?
@@ -516,6 +585,9 @@ fn ending_chosen(matches: &ArgMatches<'_>) -> Ending {
 
 /// How the files have patterns, as the arguments choose.
 pub(crate) fn form_chosen<'m>(matches: &'m ArgMatches<'_>) -> FileFormat<'m> {
+    if matches.get_flag("records") {
+        return FileFormat::Extracted;
+    }
     let has_textmate = matches.get_flag("textmate");
     let named = matches.get_strs("keys");
     if !has_textmate && named.is_none() {
@@ -524,7 +596,52 @@ pub(crate) fn form_chosen<'m>(matches: &'m ArgMatches<'_>) -> FileFormat<'m> {
     FileFormat::Values(Keys {
         has_textmate,
         named: named.unwrap_or(&[]),
+        configured: &[],
     })
+}
+
+/// Whether the arguments choose that reports are fixed. `has_output` says that patterns are read that are in no file.
+pub(crate) fn fixing_chosen(matches: &ArgMatches<'_>, has_output: bool) -> Option<FixMode> {
+    if matches.get_flag("fix") {
+        Some(FixMode::Write { has_output })
+    } else if matches.get_flag("diff") {
+        Some(FixMode::Show)
+    } else {
+        None
+    }
+}
+
+/// Which configuration the arguments choose.
+fn config_chosen<'m>(matches: &'m ArgMatches<'_>) -> ConfigChoice<'m> {
+    if matches.get_flag("no-config") {
+        return ConfigChoice::None;
+    }
+    match matches.get_str("config") {
+        Some(file) => ConfigChoice::File(file),
+        None => ConfigChoice::Nearest,
+    }
+}
+
+/// Whether the arguments choose how files have patterns.
+fn has_form(matches: &ArgMatches<'_>) -> bool {
+    match form_chosen(matches) {
+        FileFormat::Values(_) | FileFormat::Extracted => true,
+        FileFormat::Records(ending) => ending == Ending::Null,
+    }
+}
+
+/// What the arguments choose where a configuration may say otherwise.
+pub(crate) fn choices_chosen<'m>(
+    matches: &'m ArgMatches<'_>,
+    levels: &'m [RuleLevel<'m>],
+) -> Choices<'m> {
+    Choices {
+        config: config_chosen(matches),
+        has_flags: matches.value_source("flags") == Some(ValueSource::CommandLine),
+        has_form: has_form(matches),
+        is_verbose: matches.get_flag("verbose"),
+        levels,
+    }
 }
 
 /// How many warnings there may be, if the arguments limit that.

@@ -24,8 +24,8 @@ pub struct SlowParts {
 }
 
 impl SlowParts {
-    /// Nothing is slow.
-    fn new(alloc: Global) -> SlowParts {
+    /// Nothing is looked for.
+    pub fn new(alloc: Global) -> SlowParts {
         SlowParts {
             repeats: Vec::new(alloc),
             sequences: Vec::new(alloc),

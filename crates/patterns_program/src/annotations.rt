@@ -4,6 +4,8 @@ mod error_kinds;
 use crate::annotations::error_kinds::{ERROR_HELP, ERROR_KINDS};
 use crate::objects::code::code;
 use crate::reporter::{MAX_REPORTS, Reporter};
+use crate::source_positions::SourcePositions;
+use fancy_spans::SpannedTree;
 use fancy_syntax::span::Span;
 use patterns_lint::chosen::{Chosen, Level};
 use patterns_lint::problem::Found;
@@ -61,8 +63,8 @@ struct PartReport<'a> {
     message: &'a str,
 }
 
-/// The position in a file of an offset in a pattern: in a line of its own that of the character; in JSON, whose escapes are
-/// not counted, so many characters from the quote on.
+/// The position in a file of an offset in a pattern: in a line of its own that of the character; in JSON, whose escapes
+/// are not counted, so many characters from the quote on.
 fn point_of(spot: Spot<'_>, cut: Cut<'_>, from_quote: u64) -> FilePoint {
     match spot {
         Spot::Line(line) => FilePoint {
@@ -93,12 +95,32 @@ impl fmt::Display for PathPrefix<'_> {
 
 /// Reports for another tool.
 #[derive(Drop)]
-pub(crate) struct Annotations<'a, O> {
+pub(crate) struct Annotations<'a, 's, O> {
     pub(crate) out: &'a mut O,
     pub(crate) log: &'a mut AnnotationLog,
+    /// Where the pattern is in its source, if it was extracted from one.
+    pub(crate) source: Option<&'s SourcePositions>,
 }
 
-impl<O: Write> Annotations<'_, O> {
+impl<O: Write> Annotations<'_, '_, O> {
+    /// The start and the end of a span in the file.
+    fn points(&self, subject: Subject<'_>, span: Span) -> (FilePoint, FilePoint) {
+        let Subject { at, pattern, .. } = subject;
+        if let Some(source) = self.source {
+            return (
+                source.point(pattern, span.start),
+                source.point(pattern, span.end),
+            );
+        }
+        let (cut, cut_end) = (Cut::at(pattern, span.start), Cut::at(pattern, span.end));
+        (point_of(at.spot, cut, 0), point_of(at.spot, cut_end, 1))
+    }
+
+    /// Whether the points are those of the span itself, so that the message needs no position.
+    fn is_exact(&self, pattern: &str) -> bool {
+        self.source.is_some_and(|source| source.are_known(pattern))
+    }
+
     /// Writes a report on a file.
     fn write_on(
         &mut self,
@@ -118,15 +140,20 @@ impl<O: Write> Annotations<'_, O> {
             rule,
             message,
         } = report;
-        let (cut, cut_end) = (Cut::at(pattern, span.start), Cut::at(pattern, span.end));
-        let message = format!(in alloc; "{}{message}", PathPrefix(at.spot, cut))?;
+        let (start, end) = self.points(subject, span);
+        let text = if self.is_exact(pattern) {
+            String::from_str(alloc, message)?
+        } else {
+            let prefix = PathPrefix(at.spot, Cut::at(pattern, span.start));
+            format!(in alloc; "{prefix}{message}")?
+        };
         let annotation = Annotation {
             severity,
             file,
-            start: point_of(at.spot, cut, 0),
-            end: point_of(at.spot, cut_end, 1),
+            start,
+            end,
             rule,
-            message: message.as_str(),
+            message: text.as_str(),
         };
         self.log.write(alloc, annotation, self.out)?;
         Ok(())
@@ -186,7 +213,7 @@ impl<O: Write> Annotations<'_, O> {
     }
 }
 
-impl<O: Write> Reporter for Annotations<'_, O> {
+impl<O: Write> Reporter for Annotations<'_, '_, O> {
     fn error(&mut self, subject: Subject<'_>, refusal: &Refusal) -> Result<(), RunError> {
         let Subject { alloc, pattern, .. } = subject;
         let start = refusal.position.min(pattern.len());
@@ -208,6 +235,7 @@ impl<O: Write> Reporter for Annotations<'_, O> {
     fn problems(
         &mut self,
         subject: Subject<'_>,
+        _parsed: &SpannedTree,
         chosen: &Chosen,
         found: &[Found<'_>],
     ) -> Result<(), RunError> {

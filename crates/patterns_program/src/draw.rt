@@ -52,7 +52,7 @@ pub fn write_tree<O: Write, E: Write>(subject: Subject<'_>, out: &mut O, err: &m
     ensures refused { result ≡ 1 → IsRefused subject.entry }
     ensures status { (result ≡ 0) ⊎ ((result ≡ 1) ⊎ (result ≡ 3)) }
 {
-    match report_tree(subject, &mut Json { out }) {
+    match report_tree(subject, &mut Json { out, source: None }) {
         Ok(status) => status,
         Err(error) => give_up(err, error),
     }

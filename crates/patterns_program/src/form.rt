@@ -11,6 +11,8 @@ pub enum FileFormat<'a> {
     Records(Ending),
     /// It is JSON, and its texts under these keys are patterns.
     Values(Keys<'a>),
+    /// Each line is a record of JSON, which has a pattern and where it is in a source.
+    Extracted,
 }
 
 impl FileFormat<'_> {
@@ -18,7 +20,7 @@ impl FileFormat<'_> {
     pub(crate) fn ending(self) -> Ending {
         match self {
             FileFormat::Records(ending) => ending,
-            FileFormat::Values(_) => Ending::Line,
+            FileFormat::Values(_) | FileFormat::Extracted => Ending::Line,
         }
     }
 

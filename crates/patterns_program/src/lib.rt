@@ -4,19 +4,26 @@
 
 mod annotations;
 mod check;
+pub mod choices;
 mod comments;
+mod configs;
 pub mod draw;
 pub mod file_pattern;
+pub mod fixes;
 pub mod form;
 mod groups;
 pub mod lines;
 mod lint;
 pub mod objects;
 mod outcome;
+mod plan;
 pub mod printing;
 mod progress;
+mod record;
 mod reporter;
 pub mod run;
+mod settings;
+mod source_positions;
 pub mod sources;
 mod tally;
 mod text;

@@ -7,7 +7,7 @@ use std::io::{BufRead, Chain, Read};
 pub(crate) const BOM: &[u8] = b"\xEF\xBB\xBF";
 
 /// What ends a record.
-#[derive(Clone, Copy)]
+#[derive(Clone, Copy, PartialEq, Eq)]
 pub enum Ending {
     /// LF, or CR LF: each line is a record.
     Line,

@@ -49,7 +49,7 @@ pub(crate) fn lint<R: Reporter>(
     let slow = SlowParts::of(subject, &parsed, chosen)?;
     let mut found = problems(subject, &parsed, grammar, known, &slow)?;
     found.retain(|one| chosen.level(one.problem.rule()) != Level::Allow);
-    reporter.problems(subject, chosen, &found)?;
+    reporter.problems(subject, &parsed, chosen, &found)?;
     if chosen.is_verbose {
         reporter.not_searched(subject, &slow.too_large)?;
     }

@@ -6,6 +6,7 @@ mod node;
 mod positions;
 mod problem;
 
+use crate::fixes::pattern::fixes_of;
 use crate::objects::code::code;
 use crate::objects::group_fields::{write_group_info, write_groups, write_references};
 use crate::objects::line::{begin, finish, write_related, write_span, write_text};
@@ -13,6 +14,7 @@ use crate::objects::node::write_node;
 use crate::objects::positions::Positions;
 use crate::objects::problem::{write_not_searched, write_omitted, write_problem};
 use crate::reporter::{MAX_REPORTS, Reporter, TreeReporter};
+use crate::source_positions::{SourcePositions, subject_at};
 use fancy_spans::SpannedTree;
 use fancy_syntax::span::Span;
 use patterns_lint::chosen::Chosen;
@@ -33,16 +35,19 @@ pub enum Report {
 
 /// Reports as JSON, errors too.
 #[derive(Drop)]
-pub(crate) struct Json<'a, O> {
+pub(crate) struct Json<'a, 's, O> {
     pub(crate) out: &'a mut O,
+    /// Where the pattern is in its source, if it was extracted from one.
+    pub(crate) source: Option<&'s SourcePositions>,
 }
 
-impl<O: Write> Reporter for Json<'_, O> {
+impl<O: Write> Reporter for Json<'_, '_, O> {
     /// The span is empty, and is at most at the end of the pattern.
     fn error(&mut self, subject: Subject<'_>, refusal: &Refusal) -> Result<(), RunError> {
         let Subject { alloc, pattern, .. } = subject;
         let start = refusal.position.min(pattern.len());
         let kind = &refusal.kind;
+        let subject = subject_at(subject, self.source, start);
         let Advice { related, hint } = refusal.advice(subject)?;
         let positions = Positions::of(alloc, pattern)?;
         let mut writer = begin(subject, "error")?;
@@ -63,13 +68,17 @@ impl<O: Write> Reporter for Json<'_, O> {
     fn problems(
         &mut self,
         subject: Subject<'_>,
+        parsed: &SpannedTree,
         chosen: &Chosen,
         found: &[Found<'_>],
     ) -> Result<(), RunError> {
         let positions = Positions::of(subject.alloc, subject.pattern)?;
-        for one in found.iter().take(MAX_REPORTS) {
+        let written = found.get(..MAX_REPORTS).unwrap_or(found);
+        let fixes = fixes_of(subject, parsed, written)?;
+        for (one, fix) in written.iter().zip(&fixes) {
             let level = chosen.level(one.problem.rule());
-            write_problem(subject, &positions, level, *one, self.out)?;
+            let subject = subject_at(subject, self.source, one.span.start);
+            write_problem(subject, &positions, level, *one, *fix, self.out)?;
         }
         write_omitted(subject, found.len().saturating_sub(MAX_REPORTS), self.out)
     }
@@ -77,13 +86,14 @@ impl<O: Write> Reporter for Json<'_, O> {
     fn not_searched(&mut self, subject: Subject<'_>, parts: &[Span]) -> Result<(), RunError> {
         let positions = Positions::of(subject.alloc, subject.pattern)?;
         for span in parts.iter().take(MAX_REPORTS) {
+            let subject = subject_at(subject, self.source, span.start);
             write_not_searched(subject, &positions, *span, self.out)?;
         }
         Ok(())
     }
 }
 
-impl<O: Write> TreeReporter for Json<'_, O> {
+impl<O: Write> TreeReporter for Json<'_, '_, O> {
     fn groups(&mut self, subject: Subject<'_>, parsed: &SpannedTree) -> Result<(), RunError> {
         let Subject { alloc, pattern, .. } = subject;
         let positions = Positions::of(alloc, pattern)?;

@@ -48,7 +48,7 @@ fn is_new(byte: u8, text: &str, pattern: &str) -> bool
 
 /// Whether the text, in a line of its own, would be read as another: it holds an end of a line or of a record that the
 /// pattern does not hold, or ends with a CR.
-fn breaks_line(text: &str, pattern: &str) -> bool
+pub(crate) fn breaks_line(text: &str, pattern: &str) -> bool
     ensures { result ≡ spec.breaks_line text.now pattern.now }
 {
     is_new(b'\n', text, pattern)
@@ -111,7 +111,7 @@ pub(crate) fn format_pattern<O: Write, E: Write>(
     subject: Subject<'_>,
     end: &[u8],
     comments: Comments,
-    text: &mut Text<'_, O, E>,
+    text: &mut Text<'_, '_, O, E>,
 ) -> Result<Outcome, RunError>
     ensures good { result ≡ Ok Outcome.Good → IsAccepted subject.entry }
     ensures refused { result ≡ Ok Outcome.Refused → IsRefused subject.entry
@@ -134,7 +134,11 @@ pub(crate) fn format_pattern<O: Write, E: Write>(
 }
 
 /// Writes that the pattern would change, what it is, and what it would be.
-fn write_change<O: Write>(out: &mut O, subject: Subject<'_>, text: &str) -> io::Result<()> {
+pub(crate) fn write_change<O: Write>(
+    out: &mut O,
+    subject: Subject<'_>,
+    text: &str,
+) -> io::Result<()> {
     let Subject { at, pattern, .. } = subject;
     let (bold, red, green, end) = (
         at.listed.begin(Ink::Position),
@@ -152,7 +156,7 @@ fn write_change<O: Write>(out: &mut O, subject: Subject<'_>, text: &str) -> io::
 pub(crate) fn is_formatted<O: Write, E: Write>(
     subject: Subject<'_>,
     comments: Comments,
-    text: &mut Text<'_, O, E>,
+    text: &mut Text<'_, '_, O, E>,
     tally: &mut Tally,
 ) -> Result<Outcome, RunError>
     ensures good { result ≡ Ok Outcome.Good → Stays (flags_of subject.entry.flags) subject.entry.pattern.now }

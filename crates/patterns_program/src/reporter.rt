@@ -14,11 +14,12 @@ pub(crate) trait Reporter {
     /// Writes where and why the pattern is invalid.
     fn error(&mut self, subject: Subject<'_>, refusal: &Refusal) -> Result<(), RunError>;
 
-    /// Writes the likely mistakes in the pattern, or the first ones and how many more there are. Each is of a rule that is
-    /// not silent.
+    /// Writes the likely mistakes in the pattern, whose tree this is, or the first ones and how many more there are. Each is
+    /// of a rule that is not silent.
     fn problems(
         &mut self,
         subject: Subject<'_>,
+        parsed: &SpannedTree,
         chosen: &Chosen,
         found: &[Found<'_>],
     ) -> Result<(), RunError>;

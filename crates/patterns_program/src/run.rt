@@ -1,16 +1,25 @@
 //! A run over files of patterns.
 ghost use Rattle.std.specs.Prelude.{◌≤◌};
 
+mod extracted;
+mod fixing;
+mod fixing_sources;
+
 use crate::annotations::{Annotations, annotation_rules};
 use crate::check::check;
+use crate::choices::Choices;
+use crate::fixes::FixMode;
 use crate::form::FileFormat;
 use crate::groups::list_groups;
 use crate::lines::{BOM, LineRecord, Start, lines_in, next_record};
 use crate::lint::lint;
 use crate::objects::{Json, Report};
 use crate::outcome::Outcome;
+use crate::plan::{Plan, PlannedFile};
 use crate::printing::{Comments, format_pattern, is_formatted};
 use crate::progress::{STEP, Screen};
+use crate::settings::{flags_with, keys_with, levels_with};
+use crate::source_positions::SourcePositions;
 use crate::sources::System;
 use crate::tally::{Counted, Tally};
 use crate::text::{Stream, Text};
@@ -35,6 +44,9 @@ use std::{io, str};
 /// The file name that stands for standard input.
 pub const STANDARD_INPUT: &str = "-";
 
+/// Why `format` does not read a file that a configuration says is JSON.
+const NO_VALUES: &str = "patterns.toml says that it is JSON, which format does not write";
+
 /// What is done with each pattern.
 #[derive(Clone, Copy)]
 pub enum Verb {
@@ -58,12 +70,15 @@ pub enum Verb {
     LintAnnotate(Chosen, AnnotationFormat),
 }
 
-/// A subcommand over files, the flags that the patterns are parsed under, and how the files have patterns.
+/// A subcommand over files, and as far as no configuration says otherwise the flags that the patterns are parsed under,
+/// and how the files have patterns.
 #[derive(Clone, Copy)]
 pub struct Job<'a> {
     pub verb: Verb,
     pub flags: u32,
     pub form: FileFormat<'a>,
+    /// Whether reports of `lint` are fixed.
+    pub fixing: Option<FixMode>,
     /// Patterns that are arguments. They come before those of the files.
     pub patterns: &'a [&'a str],
     /// Whether the run says neither how far it is nor, at its end, what the outcomes of the patterns are; and not
@@ -72,6 +87,8 @@ pub struct Job<'a> {
     /// How many warnings of `lint` the run may have, if that is limited.
     pub max_warnings: Option<u64>,
     pub paints: Paints,
+    /// What the arguments choose where a configuration may say otherwise.
+    pub choices: Choices<'a>,
 }
 
 impl Verb {
@@ -107,6 +124,50 @@ impl Verb {
         }
     }
 
+    /// The levels of the rules, if likely mistakes are reported.
+    fn chosen(self) -> Option<Chosen> {
+        match self {
+            Verb::Lint(chosen) | Verb::LintJson(chosen) | Verb::LintAnnotate(chosen, _) => {
+                Some(chosen)
+            }
+            Verb::Check
+            | Verb::Format(_)
+            | Verb::IsFormatted(_)
+            | Verb::Groups { .. }
+            | Verb::Json(_)
+            | Verb::Annotate(_) => None,
+        }
+    }
+
+    /// The same with these levels of rules, if likely mistakes are reported.
+    pub(crate) fn with_levels(self, levels: Chosen) -> Verb {
+        match self {
+            Verb::Lint(_) => Verb::Lint(levels),
+            Verb::LintJson(_) => Verb::LintJson(levels),
+            Verb::LintAnnotate(_, format) => Verb::LintAnnotate(levels, format),
+            Verb::Check
+            | Verb::Format(_)
+            | Verb::IsFormatted(_)
+            | Verb::Groups { .. }
+            | Verb::Json(_)
+            | Verb::Annotate(_) => self,
+        }
+    }
+
+    /// Whether patterns are formatted, or would be.
+    fn is_format(self) -> bool {
+        match self {
+            Verb::Format(_) | Verb::IsFormatted(_) => true,
+            Verb::Check
+            | Verb::Groups { .. }
+            | Verb::Lint(_)
+            | Verb::Json(_)
+            | Verb::LintJson(_)
+            | Verb::Annotate(_)
+            | Verb::LintAnnotate(..) => false,
+        }
+    }
+
     /// The format of reports for another tool.
     fn annotations(self) -> Option<AnnotationFormat> {
         match self {
@@ -123,15 +184,28 @@ impl Verb {
 }
 
 impl Job<'_> {
+    /// Where errors are written, and not as JSON, and likely mistakes: not among patterns that are written.
+    fn errors(self) -> Stream {
+        match self.fixing {
+            Some(FixMode::Write { has_output: true }) => Stream::Err,
+            Some(FixMode::Write { has_output: false } | FixMode::Show) | None => self.verb.errors(),
+        }
+    }
+
     /// Whether it reports what the rules of a grammar say of groups.
     fn reads_rules(self, keys: Keys<'_>) -> bool {
         self.verb.is_lint() && keys.has_textmate
+    }
+
+    /// Whether it formats lines unless a configuration says that files are JSON, which nothing formats.
+    pub(crate) fn formats_lines(self) -> bool {
+        self.verb.is_format() && !self.choices.has_form
     }
 }
 
 /// Where a pattern is, with the colours of the streams that the verb writes to.
 fn located<'a>(job: Job<'_>, file: &'a str, spot: Spot<'a>) -> Location<'a> {
-    let reported = match job.verb.errors() {
+    let reported = match job.errors() {
         Stream::Out => job.paints.out,
         Stream::Err => job.paints.err,
     };
@@ -158,18 +232,22 @@ pub(crate) fn unread<E: Write>(
 
 /// A pattern of a file, what is to be done with it, and what the file has around it.
 #[derive(Clone, Copy)]
-struct PatternEntry<'a> {
+struct PatternEntry<'a, 's> {
     subject: Subject<'a>,
     verb: Verb,
+    /// Where errors are written.
+    errors: Stream,
     /// What it ends with.
     end: &'a [u8],
     /// What the object around it says of groups, if it is one of a grammar.
     grammar: Option<&'a GrammarRule>,
+    /// Where it is in its source, if it was extracted from one.
+    source: Option<&'s SourcePositions>,
 }
 
 /// Does the verb's work on a pattern.
 fn process<O: Write, E: Write>(
-    entry: PatternEntry<'_>,
+    entry: PatternEntry<'_, '_>,
     out: &mut O,
     err: &mut E,
     log: &mut AnnotationLog,
@@ -179,47 +257,52 @@ fn process<O: Write, E: Write>(
     let PatternEntry {
         subject,
         verb,
+        errors,
         end,
         grammar,
+        source,
     } = entry;
     match verb {
-        Verb::Check => check(subject, &mut Text::new(out, err, verb.errors())),
+        Verb::Check => check(subject, &mut Text::of(out, err, errors, source)),
         Verb::Format(kept) => {
-            format_pattern(subject, end, kept, &mut Text::new(out, err, verb.errors()))
+            format_pattern(subject, end, kept, &mut Text::new(out, err, errors))
         }
         Verb::IsFormatted(kept) => {
-            is_formatted(
-                subject,
-                kept,
-                &mut Text::new(out, err, verb.errors()),
-                tally,
-            )
+            is_formatted(subject, kept, &mut Text::new(out, err, errors), tally)
         }
         Verb::Groups { has_classes } => {
-            let mut text = Text::new(out, err, verb.errors());
+            let mut text = Text::of(out, err, errors, source);
             text.look.has_classes = has_classes;
             list_groups(subject, &mut text)
         }
-        Verb::Lint(chosen) => {
-            lint(
-                subject,
-                grammar,
-                &chosen,
-                &mut Text::new(out, err, verb.errors()),
-                known,
-                tally,
-            )
-        }
-        Verb::Json(Report::Check) => check(subject, &mut Json { out }),
-        Verb::Json(Report::Groups) => list_groups(subject, &mut Json { out }),
-        Verb::LintJson(chosen) => lint(subject, grammar, &chosen, &mut Json { out }, known, tally),
-        Verb::Annotate(_) => check(subject, &mut Annotations { out, log }),
+        Verb::Lint(chosen) => match errors {
+            Stream::Out => {
+                let mut text = Text::of(out, err, Stream::Out, source);
+                lint(subject, grammar, &chosen, &mut text, known, tally)
+            }
+            Stream::Err => {
+                let mut text = Text::of(err, out, Stream::Out, source);
+                text.aside = Stream::Out;
+                lint(subject, grammar, &chosen, &mut text, known, tally)
+            }
+        },
+        Verb::Json(Report::Check) => check(subject, &mut Json { out, source }),
+        Verb::Json(Report::Groups) => list_groups(subject, &mut Json { out, source }),
+        Verb::LintJson(chosen) => lint(
+            subject,
+            grammar,
+            &chosen,
+            &mut Json { out, source },
+            known,
+            tally,
+        ),
+        Verb::Annotate(_) => check(subject, &mut Annotations { out, log, source }),
         Verb::LintAnnotate(chosen, _) => {
             lint(
                 subject,
                 grammar,
                 &chosen,
-                &mut Annotations { out, log },
+                &mut Annotations { out, log, source },
                 known,
                 tally,
             )
@@ -229,7 +312,7 @@ fn process<O: Write, E: Write>(
 
 /// The same, on a screen.
 fn process_on<S: System, O: Write, E: Write>(
-    entry: PatternEntry<'_>,
+    entry: PatternEntry<'_, '_>,
     screen: &mut Screen<'_, S, O, E>,
     log: &mut AnnotationLog,
     known: &mut KnownClasses,
@@ -251,19 +334,27 @@ enum Written {
 
 /// A run over files.
 #[derive(Drop)]
-struct FileRun<'a, S, O, E> {
+struct FileRun<'a, 'p, S, O, E> {
     alloc: Global,
+    /// The job without a configuration.
+    base: Job<'a>,
+    plan: &'p Plan,
+    /// The job with the flags and the levels of rules for the file that is read.
     job: Job<'a>,
+    /// The keys by which the file is JSON, if a configuration says so.
+    configured: Option<Keys<'p>>,
     sources: &'a S,
     screen: Screen<'a, S, O, E>,
     log: AnnotationLog,
-    /// The classes of the patterns, where they are looked at.
+    /// The classes of the patterns that are parsed under the same flags, where they are looked at.
     known: KnownClasses,
+    /// These flags.
+    known_flags: u32,
     tally: Tally,
     written: Written,
 }
 
-impl<S: System, O: Write, E: Write> FileRun<'_, S, O, E> {
+impl<'a, S: System, O: Write, E: Write> FileRun<'a, '_, S, O, E> {
     /// Says that the line is no text; where lines are formatted, it is written as it was.
     fn pass_over(&mut self, at: Location<'_>, record: LineRecord<'_>) -> io::Result<()> {
         writeln!(self.screen.err, "{at}: the line is not valid UTF-8")?;
@@ -274,7 +365,8 @@ impl<S: System, O: Write, E: Write> FileRun<'_, S, O, E> {
         Ok(())
     }
 
-    /// Does the verb's work on a pattern that ends so; `grammar` is what the object around it says, if it is one of a grammar.
+    /// Does the verb's work on a pattern that ends so; `grammar` is what the object around it says, if it is one of a
+    /// grammar.
     fn process_pattern<'p>(
         &mut self,
         pattern: &'p str,
@@ -291,8 +383,10 @@ impl<S: System, O: Write, E: Write> FileRun<'_, S, O, E> {
         let entry = PatternEntry {
             subject,
             verb: self.job.verb,
+            errors: self.job.errors(),
             end,
             grammar,
+            source: None,
         };
         process_on(
             entry,
@@ -303,8 +397,8 @@ impl<S: System, O: Write, E: Write> FileRun<'_, S, O, E> {
         )
     }
 
-    /// Writes the byte order mark of a file that is formatted, if nothing is written yet: in the middle of the output it would
-    /// be part of a pattern.
+    /// Writes the byte order mark of a file that is formatted, if nothing is written yet: in the middle of the output
+    /// it would be part of a pattern.
     fn write_bom(&mut self) -> io::Result<()> {
         if let (true, Written::Nothing) = (self.job.verb.writes_patterns(), self.written) {
             self.screen.out.write_all(BOM)?;
@@ -313,8 +407,8 @@ impl<S: System, O: Write, E: Write> FileRun<'_, S, O, E> {
         Ok(())
     }
 
-    /// Where patterns are formatted, ends the last one of the file before, if it had no end, since one that ends so comes
-    /// next.
+    /// Where patterns are formatted, ends the last one of the file before, if it had no end, since one that ends so
+    /// comes next.
     fn write_missing_end(&mut self, end: &[u8]) -> io::Result<()> {
         if let (true, Written::Unended) = (self.job.verb.writes_patterns(), self.written) {
             self.screen.out.write_all(&[self.job.form.ending().byte()])?;
@@ -351,6 +445,8 @@ impl<S: System, O: Write, E: Write> FileRun<'_, S, O, E> {
         for pattern in self.job.patterns {
             let at = located(self.job, ARGUMENT, Spot::Line(line));
             self.write_missing_end(&end)?;
+            let fixed = self.fix_argument(pattern, &end, at)?;
+            let pattern = fixed.as_ref().map_or(*pattern, |text| text.as_str());
             let found = self.process_pattern(pattern, &end, at, None)?;
             line = line.saturating_add(lines_in(pattern.as_bytes()));
             outcome = outcome.and(found);
@@ -449,7 +545,7 @@ impl<S: System, O: Write, E: Write> FileRun<'_, S, O, E> {
 
     /// Says how the file is read, if its name is that of a file of another format.
     fn write_other_format(&mut self, file: &str) -> io::Result<()> {
-        if self.job.is_quiet {
+        if self.job.is_quiet || self.configured.is_some() {
             return Ok(());
         }
         if let Some(format) = self.job.form.other_format(file) {
@@ -464,24 +560,83 @@ impl<S: System, O: Write, E: Write> FileRun<'_, S, O, E> {
         file: &str,
         reader: &mut R,
     ) -> Result<Outcome, RunError> {
+        if let Some(keys) = self.configured {
+            return self.process_values(keys, file, reader);
+        }
         match self.job.form {
             FileFormat::Records(_) => self.process_lines(file, reader),
             FileFormat::Values(keys) => self.process_values(keys, file, reader),
+            FileFormat::Extracted => self.process_extracted(file, reader),
         }
+    }
+
+    /// Does the verb's work on each pattern of a reader, whose reports are fixed first if the job says so.
+    fn process_opened<R: BufRead>(
+        &mut self,
+        file: &str,
+        reader: &mut R,
+    ) -> Result<Outcome, RunError> {
+        match (self.job.fixing, self.job.form) {
+            (Some(mode), FileFormat::Records(_) | FileFormat::Values(_)) => {
+                self.process_fixed(mode, file, reader)
+            }
+            (Some(_), FileFormat::Extracted) | (None, _) => self.process_reader(file, reader),
+        }
+    }
+
+    /// Begins a file of the plan, or the patterns that are arguments, with the job without a configuration.
+    fn begin(&mut self, base: Job<'a>, file: &PlannedFile) -> Result<(), AllocError> {
+        let settings = self.plan.settings(self.alloc, file)?;
+        self.configured = keys_with(base, &settings);
+        self.job.flags = flags_with(base, &settings);
+        self.job.verb = base.verb.with_levels(levels_with(base, &settings));
+        self.see_flags(self.job.flags);
+        Ok(())
+    }
+
+    /// Forgets the classes of other patterns, if those were parsed under other flags.
+    fn see_flags(&mut self, flags: u32) {
+        if flags != self.known_flags {
+            self.known = KnownClasses::new(self.alloc, flags);
+            self.known_flags = flags;
+        }
+    }
+
+    /// Does the verb's work on the patterns that are arguments, if there are some. They are never JSON.
+    fn process_planned_arguments(&mut self) -> Result<Outcome, RunError> {
+        let plan = self.plan;
+        let Some(arguments) = &plan.arguments else {
+            return Ok(Outcome::Good);
+        };
+        let mut base = self.base;
+        base.choices.has_form = true;
+        self.begin(base, arguments)?;
+        self.process_arguments()
+    }
+
+    /// Does the verb's work on each pattern of a file of the plan.
+    fn process_planned(&mut self, file: &PlannedFile) -> Result<Outcome, RunError> {
+        self.begin(self.base, file)?;
+        let name = file.name.as_str();
+        if self.job.formats_lines() && self.configured.is_some() {
+            writeln!(self.screen.err, "patterns: {}: {NO_VALUES}", Shown(name))?;
+            return Ok(Outcome::Unread);
+        }
+        self.process_file(name)
     }
 
     /// Does the verb's work on each pattern of a file.
     fn process_file(&mut self, file: &str) -> Result<Outcome, RunError> {
         if file == STANDARD_INPUT {
             return match self.sources.input() {
-                Ok(mut input) => self.process_reader(file, &mut input),
+                Ok(mut input) => self.process_opened(file, &mut input),
                 Err(error) => unread(file, error, &mut self.screen.err),
             };
         }
         match self.sources.open(file) {
             Ok(mut opened) => {
                 self.write_other_format(file)?;
-                self.process_reader(file, &mut opened)
+                self.process_opened(file, &mut opened)
             }
             Err(error) => unread(file, error, &mut self.screen.err),
         }
@@ -515,13 +670,14 @@ impl<S: System, O: Write, E: Write> FileRun<'_, S, O, E> {
     }
 
     /// Does the verb's work on each pattern that is an argument and on each of each file, and sees that it is written.
-    fn process_files(&mut self, files: &[&str]) -> Result<Outcome, RunError> {
+    fn process_files(&mut self) -> Result<Outcome, RunError> {
         self.begin_log()?;
-        let mut outcome = self.process_arguments()?;
-        for (done, file) in files.iter().enumerate() {
+        let plan = self.plan;
+        let mut outcome = plan.outcome.and(self.process_planned_arguments()?);
+        for (done, file) in plan.files.iter().enumerate() {
             self.tally.done = done;
             self.screen.go_on(STEP, &self.tally)?;
-            outcome = outcome.and(self.process_file(file)?);
+            outcome = outcome.and(self.process_planned(file)?);
         }
         self.log.end(&mut self.screen.out)?;
         self.screen.out.flush()?;
@@ -533,16 +689,55 @@ impl<S: System, O: Write, E: Write> FileRun<'_, S, O, E> {
     }
 }
 
-/// Does the job on each pattern of the files, and returns the exit status: 0 if every pattern passes; 1 if one does not, or
-/// there are more warnings than there may be; 2 if a file, or a line of one, cannot be read, which is reported on `err`
-/// while the others are still read; 3 if memory ran out or a write failed, which is reported on `err` if that is possible,
-/// unless the reader of a pipe closed it, and `out` may then have part of the output. A pattern of a file of records ends
-/// as the job says, and is reported with the number of its first line; a NUL that ends a pattern ends a line too. A text
-/// of JSON is reported with its path. The file `-` is standard input. The last line on `err` counts the patterns and their
-/// outcomes, unless the job is quiet or the status is 3.
+/// Does the job on what the plan has, and returns the exit status.
+fn run_plan<S: System, O: Write, E: Write>(
+    alloc: Global,
+    job: Job<'_>,
+    plan: &Plan,
+    sources: &S,
+    out: &mut O,
+    err: &mut E,
+) -> u8
+    ensures status { result ≤ 3 }
+{
+    let mut work = FileRun {
+        alloc,
+        base: job,
+        plan,
+        job,
+        configured: None,
+        sources,
+        screen: Screen::new(sources, job.is_quiet, out, err),
+        log: AnnotationLog::new(job.verb.annotations()),
+        known: KnownClasses::new(alloc, job.flags),
+        known_flags: job.flags,
+        tally: Tally::new(plan.files.len()),
+        written: Written::Nothing,
+    };
+    match work.process_files() {
+        Ok(outcome) => outcome.status(),
+        Err(error) => {
+            // Erases the line, which stays otherwise if nothing is reported.
+            let _ = work.screen.err.write(b"");
+            give_up(&mut work.screen.err, error)
+        }
+    }
+}
+
+/// Does the job on each pattern of the files, and returns the exit status: 0 if every pattern passes; 1 if one does
+/// not, or there are more warnings than there may be; 2 if a file, a line of one, a folder or a configuration cannot be
+/// read, which is reported on `err` while the others are still read; 3 if memory ran out or a write failed, which is
+/// reported on `err` if that is possible, unless the reader of a pipe closed it, and `out` may then have part of the
+/// output. A pattern of a file of records ends as the job says, and is reported with the number of its first line; a
+/// NUL that ends a pattern ends a line too. A text of JSON is reported with its path. The file `-` is standard input.
+/// Of a folder those files are read that its configuration names, sorted by name. The last line on `err` counts the
+/// patterns and their outcomes, unless the job is quiet or the status is 3.
 ///
-/// Where `err` is a terminal and the job is not quiet, a line on it says how far the run is, once that takes longer than
-/// a second; it is erased before anything else is written.
+/// The configuration of a file is the nearest `patterns.toml` from its folder upwards, and for what has no file that of
+/// the current folder, unless the job chooses one, or none. What it says counts where the arguments leave it open.
+///
+/// Where `err` is a terminal and the job is not quiet, a line on it says how far the run is, once that takes longer
+/// than a second; it is erased before anything else is written.
 pub fn run<S: System, O: Write, E: Write>(
     alloc: Global,
     job: Job<'_>,
@@ -553,22 +748,8 @@ pub fn run<S: System, O: Write, E: Write>(
 ) -> u8
     ensures status { result ≤ 3 }
 {
-    let mut work = FileRun {
-        alloc,
-        job,
-        sources,
-        screen: Screen::new(sources, job.is_quiet, out, err),
-        log: AnnotationLog::new(job.verb.annotations()),
-        known: KnownClasses::new(alloc, job.flags),
-        tally: Tally::new(files.len()),
-        written: Written::Nothing,
-    };
-    match work.process_files(files) {
-        Ok(outcome) => outcome.status(),
-        Err(error) => {
-            // Erases the line, which stays otherwise if nothing is reported.
-            let _ = work.screen.err.write(b"");
-            give_up(&mut work.screen.err, error)
-        }
+    match Plan::of(alloc, job, files, sources, err) {
+        Ok(plan) => run_plan(alloc, job, &plan, sources, out, err),
+        Err(error) => give_up(err, error),
     }
 }

@@ -14,7 +14,10 @@ pub(crate) struct Tally {
     failed: u64,
     /// Those among them that are accepted, and would be written otherwise.
     pub(crate) changed: u64,
-    /// Those among them that are accepted, and in which a denied rule reports.
+    /// Those whose reports are fixed, and those for which that is only shown. They count as what they have become.
+    pub(crate) fixed: u64,
+    pub(crate) fixable: u64,
+    /// Those that are not as the verb asks, are accepted, and in which a denied rule reports.
     pub(crate) denied: u64,
     errors: u64,
     pub(crate) warnings: u64,
@@ -29,6 +32,8 @@ impl Tally {
             patterns: 0,
             failed: 0,
             changed: 0,
+            fixed: 0,
+            fixable: 0,
             denied: 0,
             errors: 0,
             warnings: 0,
@@ -109,8 +114,12 @@ impl fmt::Display for Tally {
     fn fmt<W: fmt::Write>(&self, f: &mut fmt::Formatter<W>) -> fmt::Result {
         let patterns = Counted(self.patterns, "pattern");
         write!(f, "{patterns}, {} refused", Thousands(self.refused()))?;
-        if self.changed > 0 {
-            write!(f, ", {} would change", Thousands(self.changed))?;
+        if self.fixed > 0 {
+            write!(f, ", {} fixed", Thousands(self.fixed))?;
+        }
+        let changed = self.changed.saturating_add(self.fixable);
+        if changed > 0 {
+            write!(f, ", {} would change", Thousands(changed))?;
         }
         if self.errors > 0 {
             write!(f, ", {}", Counted(self.errors, "error"))?;

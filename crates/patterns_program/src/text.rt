@@ -2,6 +2,7 @@
 mod problem;
 
 use crate::reporter::{MAX_REPORTS, Reporter, TreeReporter};
+use crate::source_positions::{SourcePositions, subject_at};
 use crate::text::problem::{write_more, write_not_searched, write_report};
 use fancy_spans::SpannedTree;
 use fancy_syntax::span::Span;
@@ -26,44 +27,65 @@ pub(crate) enum Stream {
 
 /// Reports as lines of text on `out`, and errors on `out` or `err`.
 #[derive(Drop)]
-pub(crate) struct Text<'a, O, E> {
+pub(crate) struct Text<'a, 's, O, E> {
     pub(crate) out: &'a mut O,
     pub(crate) err: &'a mut E,
     /// Where errors are written.
     errors: Stream,
+    /// Where what is neither an error nor a report is written.
+    pub(crate) aside: Stream,
     /// How trees are drawn.
     pub(crate) look: Look,
+    /// Where the pattern is in its source, if it was extracted from one.
+    pub(crate) source: Option<&'s SourcePositions>,
 }
 
-impl<'a, O: Write, E: Write> Text<'a, O, E> {
+impl<'a, 's, O: Write, E: Write> Text<'a, 's, O, E> {
     /// Trees are drawn with the characters of Unicode, and without spans.
-    pub(crate) fn new(out: &'a mut O, err: &'a mut E, errors: Stream) -> Text<'a, O, E> {
+    pub(crate) fn new(out: &'a mut O, err: &'a mut E, errors: Stream) -> Text<'a, 's, O, E> {
         Text {
             out,
             err,
             errors,
+            aside: Stream::Err,
             look: Look {
                 style: Style::Lines,
                 has_spans: false,
                 has_each_literal: false,
                 has_classes: false,
             },
+            source: None,
         }
     }
 
+    /// The same, for a pattern that was extracted from a source, if it was.
+    pub(crate) fn of(
+        out: &'a mut O,
+        err: &'a mut E,
+        errors: Stream,
+        source: Option<&'s SourcePositions>,
+    ) -> Text<'a, 's, O, E> {
+        let mut text = Text::new(out, err, errors);
+        text.source = source;
+        text
+    }
+
     /// Trees are drawn so, and errors are written to `err`.
-    pub(crate) fn drawn(out: &'a mut O, err: &'a mut E, look: Look) -> Text<'a, O, E> {
+    pub(crate) fn drawn(out: &'a mut O, err: &'a mut E, look: Look) -> Text<'a, 's, O, E> {
         Text {
             out,
             err,
             errors: Stream::Err,
+            aside: Stream::Err,
             look,
+            source: None,
         }
     }
 }
 
-impl<O: Write, E: Write> Reporter for Text<'_, O, E> {
+impl<O: Write, E: Write> Reporter for Text<'_, '_, O, E> {
     fn error(&mut self, subject: Subject<'_>, refusal: &Refusal) -> Result<(), RunError> {
+        let subject = subject_at(subject, self.source, refusal.position);
         match self.errors {
             Stream::Out => refusal.write(self.out, subject)?,
             Stream::Err => refusal.write(self.err, subject)?,
@@ -74,11 +96,13 @@ impl<O: Write, E: Write> Reporter for Text<'_, O, E> {
     fn problems(
         &mut self,
         subject: Subject<'_>,
+        _parsed: &SpannedTree,
         chosen: &Chosen,
         found: &[Found<'_>],
     ) -> Result<(), RunError> {
         for one in found.iter().take(MAX_REPORTS) {
             let level = chosen.level(one.problem.rule());
+            let subject = subject_at(subject, self.source, one.span.start);
             write_report(self.out, subject, level, *one)?;
         }
         write_more(self.out, subject, found.len().saturating_sub(MAX_REPORTS))?;
@@ -87,13 +111,17 @@ impl<O: Write, E: Write> Reporter for Text<'_, O, E> {
 
     fn not_searched(&mut self, subject: Subject<'_>, parts: &[Span]) -> Result<(), RunError> {
         for span in parts.iter().take(MAX_REPORTS) {
-            write_not_searched(self.err, subject, *span)?;
+            let subject = subject_at(subject, self.source, span.start);
+            match self.aside {
+                Stream::Out => write_not_searched(self.out, subject, *span)?,
+                Stream::Err => write_not_searched(self.err, subject, *span)?,
+            }
         }
         Ok(())
     }
 }
 
-impl<O: Write, E: Write> TreeReporter for Text<'_, O, E> {
+impl<O: Write, E: Write> TreeReporter for Text<'_, '_, O, E> {
     fn groups(&mut self, subject: Subject<'_>, parsed: &SpannedTree) -> Result<(), RunError> {
         let Subject {
             alloc,

@@ -1,5 +1,5 @@
 //! Files, and writers, that lie in memory.
-use patterns_program::sources::{Sources, System, Terminals};
+use patterns_program::sources::{EntryKind, Folders, Sources, System, Terminals};
 use std::alloc::Global;
 use std::io;
 use std::io::{BufRead, Chain, ErrorKind, Read, Write};
@@ -32,15 +32,17 @@ impl BufRead for End {
 }
 
 /// The names of files, and what they hold.
-static FILES: [(&str, &[u8]); 3] = [
+static FILES: [(&str, &[u8]); 4] = [
     ("mixed", b"a|b\r\n(\n\n\xFFx\na)b\n"),
     ("mixed:5", b"x\n[\n"),
     ("broken", b"(\r\n"),
+    ("full", b"a|a\n"),
 ];
 
-/// The files above, of which `broken` cannot be read to its end, and a standard input.
+/// The files above, of which `broken` cannot be read to its end, and none can be written, and a standard input.
 #[derive(Clone, Copy)]
 pub(crate) struct Memory<'a> {
+    pub(crate) alloc: Global,
     pub(crate) input: &'a [u8],
 }
 
@@ -61,8 +63,27 @@ impl<'a> Sources for Memory<'a> {
         Err(io::Error::from(ErrorKind::NotFound))
     }
 
+    fn replace(&self, _name: &str, _bytes: &[u8]) -> io::Result<()> {
+        Err(io::Error::from(ErrorKind::StorageFull))
+    }
+
     fn input(&self) -> io::Result<&'a [u8]> {
         Ok(self.input)
+    }
+}
+
+/// One folder, without a configuration.
+impl Folders for Memory<'_> {
+    fn kind(&self, _name: &str) -> EntryKind {
+        EntryKind::File
+    }
+
+    fn entries(&self, _folder: &str) -> io::Result<Vec<String>> {
+        Err(io::Error::from(ErrorKind::NotFound))
+    }
+
+    fn absolute(&self, _folder: &str) -> io::Result<String> {
+        Ok(String::from_str(self.alloc, "/")?)
     }
 }
 

@@ -26,7 +26,7 @@ fn run(alloc: Global, auto: Paints, words: &[&str], capacity: usize) -> Result<T
         alloc,
         auto,
         &owned,
-        &Memory { input: b"(" },
+        &Memory { alloc, input: b"(" },
         &mut out,
         &mut err,
     );
@@ -68,8 +68,8 @@ fn closed_pipes(rt: HostRuntime) -> Result<(), Fail> {
     Ok(())
 }
 
-/// Whether a run with reports for another tool ends silently if its output takes so many bytes, and is closed then, and has
-/// written a beginning of the whole output.
+/// Whether a run with reports for another tool ends silently if its output takes so many bytes, and is closed then, and
+/// has written a beginning of the whole output.
 fn is_cut_off(alloc: Global, words: &[&str], capacity: usize, whole: &[u8]) -> Result<bool, Fail> {
     let run = run(alloc, Paints::both(Paint::Plain), words, capacity)?;
     Ok(run.status == 3 && whole.starts_with(&run.out.text))
@@ -108,22 +108,65 @@ patterns: broken: connection reset
 1 pattern, 1 refused
 ";
 
+const NO_CONFIG: &str = "patterns: broken: connection reset
+0 patterns, 0 refused
+";
+
+const NO_RECORDS: &str = "broken:1:1: the line is not valid JSON
+patterns: broken: connection reset
+0 patterns, 0 refused
+";
+
+/// Words, and what is written to the two outputs: a file that is not there, and one that cannot be read to its end, as
+/// lines, as a configuration and as records.
+static UNREADABLE: [(&[&str], &str, &str); 3] = [
+    (&["patterns", "check", "none", "broken"], BROKEN, NO_FILES),
+    (
+        &["patterns", "check", "--config", "broken", "mixed"],
+        "",
+        NO_CONFIG,
+    ),
+    (
+        &["patterns", "check", "--records", "broken"],
+        "",
+        NO_RECORDS,
+    ),
+];
+
 #[test]
 fn files_that_cannot_be_read(rt: HostRuntime) -> Result<(), Fail> {
-    let run = run(
-        rt.alloc(),
-        Paints::both(Paint::Plain),
-        &["patterns", "check", "none", "broken"],
-        usize::MAX,
-    )?;
-    assert!(rt; run.status == 2);
-    assert!(rt; run.out.text.as_slice() == BROKEN.as_bytes());
-    assert!(rt; run.err.text.as_slice() == NO_FILES.as_bytes());
+    for (words, out, err) in UNREADABLE.iter() {
+        let run = run(rt.alloc(), Paints::both(Paint::Plain), words, usize::MAX)?;
+        assert!(rt; run.status == 2, "{words:?}");
+        assert!(rt; run.out.text.as_slice() == out.as_bytes(), "{words:?}");
+        assert!(rt; run.err.text.as_slice() == err.as_bytes(), "{words:?}");
+    }
     Ok(())
 }
 
-/// Positions in files, one of which has a name with a colon, and how the report of the error begins: that of the longest
-/// name that there is.
+const LEFT: &str = "full:1:3: warning: branch that is equal to branch 1 [duplicate-branch]
+a|a
+- ^
+branch 1
+help: remove it
+";
+
+const NOT_WRITTEN: &str = "patterns: full: cannot be written: no storage space
+1 pattern, 0 refused, 1 warning
+";
+
+#[test]
+fn a_file_that_cannot_be_written(rt: HostRuntime) -> Result<(), Fail> {
+    let words = ["patterns", "lint", "--fix", "full"];
+    let run = run(rt.alloc(), Paints::both(Paint::Plain), &words, usize::MAX)?;
+    assert!(rt; run.status == 2);
+    assert!(rt; run.out.text.as_slice() == LEFT.as_bytes());
+    assert!(rt; run.err.text.as_slice() == NOT_WRITTEN.as_bytes());
+    Ok(())
+}
+
+/// Positions in files, one of which has a name with a colon, and how the report of the error begins: that of the
+/// longest name that there is.
 static POSITIONS: [(&str, &str); 7] = [
     ("mixed:2", "mixed:2:2: Opening parenthesis"),
     ("mixed:2:2:", "mixed:2:2: Opening parenthesis"),

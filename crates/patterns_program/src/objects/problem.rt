@@ -3,6 +3,7 @@ use crate::objects::line::{begin, finish, write_number, write_related, write_spa
 use crate::objects::positions::Positions;
 use fancy_syntax::span::Span;
 use json::Writer;
+use pattern_fixes::edit::Edit;
 use patterns_lint::chosen::Level;
 use patterns_lint::problem::{Found, Problem};
 use patterns_lint::slow::NOT_SEARCHED;
@@ -55,12 +56,26 @@ fn write_attack(
     writer.end_object()
 }
 
+/// Writes the field of the edit that fixes a likely mistake, if there is one.
+fn write_fix(writer: &mut Writer, fix: Option<Edit<'_>>) -> Result<(), AllocError> {
+    let Some(Edit { span, text }) = fix else {
+        return Ok(());
+    };
+    writer.key("fix")?;
+    writer.begin_object()?;
+    write_number(writer, "start", span.start as u64)?;
+    write_number(writer, "end", span.end as u64)?;
+    write_text(writer, "text", text)?;
+    writer.end_object()
+}
+
 /// Writes a likely mistake.
 pub(super) fn write_problem<O: Write>(
     subject: Subject<'_>,
     positions: &Positions,
     level: Level,
     found: Found<'_>,
+    fix: Option<Edit<'_>>,
     out: &mut O,
 ) -> Result<(), RunError> {
     let Found {
@@ -85,6 +100,7 @@ pub(super) fn write_problem<O: Write>(
     )?;
     write_related(subject.alloc, &mut writer, positions, related)?;
     write_attack(subject.alloc, &mut writer, problem)?;
+    write_fix(&mut writer, fix)?;
     finish(writer, out)
 }
 

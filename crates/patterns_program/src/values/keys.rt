@@ -8,6 +8,8 @@ pub struct Keys<'a> {
     /// Whether those of TextMate's grammars are among them.
     pub has_textmate: bool,
     pub named: &'a [&'a str],
+    /// Those that a configuration names.
+    pub configured: &'a [String],
 }
 
 /// Whether the key is one of those under which the rules of TextMate's grammars have patterns.
@@ -32,10 +34,11 @@ impl Keys<'_> {
     pub(crate) fn has(self, key: &str) -> bool {
         (self.has_textmate && (is_of_rule(key) || is_of_grammar(key)))
             || self.named.iter().any(|name| *name == key)
+            || self.configured.iter().any(|name| name.as_str() == key)
     }
 
-    /// Whether a number in a back reference is that of a group of another pattern, in a pattern under the key: in TextMate's
-    /// grammars those of `end` and `while` are of the groups of `begin`.
+    /// Whether a number in a back reference is that of a group of another pattern, in a pattern under the key: in
+    /// TextMate's grammars those of `end` and `while` are of the groups of `begin`.
     pub(crate) fn refers_to_begin(self, key: &str) -> bool {
         self.has_textmate && matches!(key, "end" | "while")
     }

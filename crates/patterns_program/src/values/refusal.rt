@@ -64,12 +64,35 @@ impl Reason {
     }
 }
 
-impl fmt::Display for Reason {
+/// A text that is to be JSON, for reports: a file, or a line of one.
+#[derive(Clone, Copy)]
+pub(crate) struct JsonText<'a> {
+    pub(crate) file: &'a str,
+    /// The number of the line; none of a whole file.
+    pub(crate) line: Option<u64>,
+}
+
+impl JsonText<'_> {
+    /// What it is called.
+    fn noun(self) -> &'static str {
+        match self.line {
+            Some(_) => "line",
+            None => "file",
+        }
+    }
+}
+
+/// Why a text is not read as JSON.
+#[derive(Clone, Copy)]
+struct ReasonOf<'a>(Reason, JsonText<'a>);
+
+impl fmt::Display for ReasonOf<'_> {
     fn fmt<W: fmt::Write>(&self, f: &mut fmt::Formatter<W>) -> fmt::Result {
-        if let Reason::TooDeep = self {
+        let ReasonOf(reason, text) = *self;
+        if let Reason::TooDeep = reason {
             return write!(f, "the JSON nests deeper than {MAX_DEPTH} levels");
         }
-        write!(f, "the file is not valid JSON{}", self.text())
+        write!(f, "the {} is not valid JSON{}", text.noun(), reason.text())
     }
 }
 
@@ -145,18 +168,19 @@ fn end_of_json(alloc: Global, text: &str) -> Result<(usize, Reason), AllocError>
 pub(super) fn write_refusal<E: Write>(
     alloc: Global,
     err: &mut E,
-    file: &str,
+    of: JsonText<'_>,
     text: &str,
 ) -> Result<(), RunError> {
     let (end, reason) = end_of_json(alloc, text)?;
     let Cut { above, before, .. } = Cut::at(text, end);
-    let (line, column) = (above.saturating_add(1), column_after(before));
-    writeln!(err, "{}:{line}:{column}: {reason}", Shown(file))?;
+    let line = of.line.unwrap_or(1).saturating_add(above as u64);
+    let (file, column) = (Shown(of.file), column_after(before));
+    writeln!(err, "{file}:{line}:{column}: {}", ReasonOf(reason, of))?;
     Ok(())
 }
 
 /// Says in which line a file has bytes that are no text: it is one up to the offset.
-pub(super) fn write_not_text<E: Write>(
+pub(crate) fn write_not_text<E: Write>(
     err: &mut E,
     file: &str,
     bytes: &[u8],

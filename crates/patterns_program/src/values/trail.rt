@@ -36,6 +36,33 @@ impl<'a> Tokens<'a> {
         self.reader.next()
     }
 
+    /// The byte offset at which the last token begins.
+    pub(crate) fn start(&self) -> usize {
+        self.start
+    }
+
+    /// The text.
+    pub(crate) fn text(&self) -> &'a str {
+        self.text
+    }
+
+    /// Goes on past a value, whose first token comes next.
+    pub(crate) fn skip_value(&mut self) {
+        let mut depth = 0usize;
+        for _ in 0..=self.text.len() {
+            match self.next() {
+                Some(Token::BeginObject | Token::BeginArray) => depth = depth.saturating_add(1),
+                Some(Token::EndObject | Token::EndArray) => depth = depth.saturating_sub(1),
+                Some(Token::Key(_)) => continue,
+                Some(Token::String(_) | Token::Number(_) | Token::Bool(_) | Token::Null) => {}
+                Some(Token::Bad) | None => break,
+            }
+            if depth == 0 {
+                break;
+            }
+        }
+    }
+
     /// Where the last token begins, in lines and columns.
     pub(crate) fn position(&mut self) -> FilePosition {
         let passed = self.text.get(self.counted..self.start).unwrap_or("");
@@ -66,7 +93,8 @@ impl<'a> Trail<'a> {
         format!(in alloc; "{path}")
     }
 
-    /// Where the token is that the walk has come to at this position, if it is a text under one of the keys, and that text.
+    /// Where the token is that the walk has come to at this position, if it is a text under one of the keys, and that
+    /// text.
     pub(crate) fn pattern(
         &self,
         token: Token<'a>,

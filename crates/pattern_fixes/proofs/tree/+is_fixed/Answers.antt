@@ -13,7 +13,7 @@ pub are_branches-loop-i-preserved-in-loop-i : goal.are_branches-loop-i-preserved
 are_branches-loop-i-preserved-in-loop-i t c =
     kept_next c.args.unicode c.args.old.now c.loop-i.i c.index-old-i.result c.loop-i.rest.now c.in-Some.first.now
     c.in-Some.more.now (omega arith) c.index-old-i.is (rw c.in-Some.is at c.split_first.ensures.cases).0
-    (c.in_ok-is_fixed.ensures.fixed c.if-branch.true) c.loop-i.invariant
+    (c.in_ok-is_fixed.ensures c.if-branch.true) c.loop-i.invariant
 
 pub are_branches-loop-i-preserved : goal.are_branches-loop-i-preserved
 are_branches-loop-i-preserved t c =
@@ -29,7 +29,7 @@ pub are_fixed-loop-tree-preserved : goal.are_fixed-loop-tree-preserved
 are_fixed-loop-tree-preserved t c =
     fixed_next c.args.unicode c.args.old.now c.loop-tree.tree-index c.tree-item.result c.loop-tree.rest.now
     c.in-Some.first.now c.in-Some.more.now c.loop-tree-test.true c.tree-item.is
-    (rw c.in-Some.is at c.split_first.ensures.cases).0 (c.in_ok-is_fixed.ensures.fixed c.if-not-branch.false)
+    (rw c.in-Some.is at c.split_first.ensures.cases).0 (c.in_ok-is_fixed.ensures c.if-not-branch.false)
     c.loop-tree.invariant
 
 pub are_fixed-returns : goal.are_fixed-returns
@@ -46,13 +46,13 @@ is_fixed-returns-in-Repeat-new t c =
     (repeat_is lo hi greedy c.in-Repeat.is refl refl refl)
     (repeat_is lo hi greedy c.in-Repeat-new.is c.if-lo-low.true c.if-hi-high.true
     ((booleans_Decides greedy c.in-Repeat-new.is_greedy).0 c.if-greedy-is_greedy.true))
-    (ap view c.deref.ensures) (ap view c.deref-in-Repeat-new.ensures) c.is_fixed.ensures.fixed
+    (ap view c.deref.ensures) (ap view c.deref-in-Repeat-new.ensures) c.is_fixed.ensures
 
 pub is_fixed-returns-in_default : goal.is_fixed-returns-in_default
 is_fixed-returns-in_default t c =
     once_case c.is_fixed-in_default.result c.args.unicode c.in-Repeat.greedy _ _ _ _
     (repeat_is 1 1 c.in-Repeat.greedy c.in-Repeat.is (sym c.if-lo-eq1.true) (sym c.if-hi-eq1.true) refl)
-    (ap view c.deref-in_default.ensures) c.is_fixed-in_default.ensures.fixed
+    (ap view c.deref-in_default.ensures) c.is_fixed-in_default.ensures
 
 pub is_fixed-returns-in-Concat-new : goal.is_fixed-returns-in-Concat-new
 is_fixed-returns-in-Concat-new t c =
@@ -64,7 +64,7 @@ pub is_fixed-returns-in-Group-new : goal.is_fixed-returns-in-Group-new
 is_fixed-returns-in-Group-new t c =
     over_case c.is_fixed-in-Group-new.result c.args.unicode label.group _ _ _ _ _ _ (ap view c.in-Group.is ∙ view_Group _)
     (ap view c.in-Group-new.is ∙ view_Group _) (ap view c.deref-in-Group-new.ensures)
-    (ap view c.deref-in-Group-new-2.ensures) c.is_fixed-in-Group-new.ensures.fixed
+    (ap view c.deref-in-Group-new-2.ensures) c.is_fixed-in-Group-new.ensures
 
 pub is_fixed-returns-in-LookAround-new : goal.is_fixed-returns-in-LookAround-new
 is_fixed-returns-in-LookAround-new t c =
@@ -74,21 +74,21 @@ is_fixed-returns-in-LookAround-new t c =
     (ap view c.in-LookAround-new.is ∙ view_LookAround _ _
     ∙ ap (look_around (view c.in-LookAround-new.other.value)) (sym same))
     (ap view c.deref-in-LookAround-new.ensures) (ap view c.deref-in-LookAround-new-2.ensures)
-    c.is_fixed-in-LookAround-new.ensures.fixed
+    c.is_fixed-in-LookAround-new.ensures
 
 pub is_fixed-returns-in-AtomicGroup-new : goal.is_fixed-returns-in-AtomicGroup-new
 is_fixed-returns-in-AtomicGroup-new t c =
     over_case c.is_fixed-in-AtomicGroup-new.result c.args.unicode label.atomic_group _ _ _ _ _ _
     (ap view c.in-AtomicGroup.is ∙ view_AtomicGroup _) (ap view c.in-AtomicGroup-new.is ∙ view_AtomicGroup _)
     (ap view c.deref-in-AtomicGroup-new.ensures) (ap view c.deref-in-AtomicGroup-new-2.ensures)
-    c.is_fixed-in-AtomicGroup-new.ensures.fixed
+    c.is_fixed-in-AtomicGroup-new.ensures
 
 pub is_fixed-returns-in-DefineGroup-new : goal.is_fixed-returns-in-DefineGroup-new
 is_fixed-returns-in-DefineGroup-new t c =
     over_case c.is_fixed-in-DefineGroup-new.result c.args.unicode label.define_group _ _ _ _ _ _
     (ap view c.in-DefineGroup.is ∙ view_DefineGroup _) (ap view c.in-DefineGroup-new.is ∙ view_DefineGroup _)
     (ap view c.deref-in-DefineGroup-new.ensures) (ap view c.deref-in-DefineGroup-new-2.ensures)
-    c.is_fixed-in-DefineGroup-new.ensures.fixed
+    c.is_fixed-in-DefineGroup-new.ensures
 
 pub is_fixed-returns-else-not-branch-2 : goal.is_fixed-returns-else-not-branch-2
 is_fixed-returns-else-not-branch-2 t c =
@@ -97,8 +97,8 @@ is_fixed-returns-else-not-branch-2 t c =
     c.deref-in-Conditional-new-5.ensures)
     (conditional_is c.in-Conditional-new.is c.deref-in-Conditional-new-2.ensures c.deref-in-Conditional-new-4.ensures
     c.deref-in-Conditional-new-6.ensures)
-    (c.in_ok-is_fixed-in-Conditional-new.ensures.fixed c.if-not-branch.false)
-    (c.in_ok-is_fixed-in-Conditional-new-2.ensures.fixed c.if-not-branch-2.false) c.is_fixed-in-Conditional-new-3.ensures.fixed
+    (c.in_ok-is_fixed-in-Conditional-new.ensures c.if-not-branch.false)
+    (c.in_ok-is_fixed-in-Conditional-new-2.ensures c.if-not-branch-2.false) c.is_fixed-in-Conditional-new-3.ensures
 
 pub is_fixed-returns-in-Empty : goal.is_fixed-returns-in-Empty
 is_fixed-returns-in-Empty t c = λ is. fixed.same (c.is_same_but_for_positions.ensures.0 is)
@@ -108,14 +108,14 @@ is_fixed_absent-returns-in-Repeater-Repeater t c =
     over_case c.is_fixed.result c.args.unicode label.repeater _ _ _ _ _ _
     (ap view_absent c.in-Repeater-Repeater.is-0 ∙ view_Repeater _)
     (ap view_absent c.in-Repeater-Repeater.is-1 ∙ view_Repeater _) (ap view c.deref.ensures)
-    (ap view c.deref-in-Repeater-Repeater.ensures) c.is_fixed.ensures.fixed
+    (ap view c.deref-in-Repeater-Repeater.ensures) c.is_fixed.ensures
 
 pub is_fixed_absent-returns-in-Stopper-Stopper : goal.is_fixed_absent-returns-in-Stopper-Stopper
 is_fixed_absent-returns-in-Stopper-Stopper t c =
     over_case c.is_fixed-in-Stopper-Stopper.result c.args.unicode label.stopper _ _ _ _ _ _
     (ap view_absent c.in-Stopper-Stopper.is-0 ∙ view_Stopper _)
     (ap view_absent c.in-Stopper-Stopper.is-1 ∙ view_Stopper _) (ap view c.deref-in-Stopper-Stopper.ensures)
-    (ap view c.deref-in-Stopper-Stopper-2.ensures) c.is_fixed-in-Stopper-Stopper.ensures.fixed
+    (ap view c.deref-in-Stopper-Stopper-2.ensures) c.is_fixed-in-Stopper-Stopper.ensures
 
 pub is_fixed_absent-returns-else-not-branch : goal.is_fixed_absent-returns-else-not-branch
 is_fixed_absent-returns-else-not-branch t c =
@@ -124,8 +124,8 @@ is_fixed_absent-returns-else-not-branch t c =
     c.deref-in-Expression-Expression-3.ensures)
     (expression_is c.in-Expression-Expression.is-1 c.deref-in-Expression-Expression-2.ensures
     c.deref-in-Expression-Expression-4.ensures)
-    (c.in_ok-is_fixed-in-Expression-Expression.ensures.fixed c.if-not-branch.false)
-    c.is_fixed-in-Expression-Expression-2.ensures.fixed
+    (c.in_ok-is_fixed-in-Expression-Expression.ensures c.if-not-branch.false)
+    c.is_fixed-in-Expression-Expression-2.ensures
 
 pub is_fixed_absent-returns-in-Clear-Clear : goal.is_fixed_absent-returns-in-Clear-Clear
 is_fixed_absent-returns-in-Clear-Clear t c =

@@ -1,0 +1,141 @@
+//! What a configuration says of the patterns of a file.
+ghost use Rattle.std.specs.Prelude.{◌≡◌, IsTrue, IsNone};
+
+use crate::choices::RuleLevel;
+use crate::configs::FoundConfig;
+use crate::form::FileFormat;
+use crate::run::Job;
+use crate::values::keys::Keys;
+use fre_program::flag_word::flags_named;
+use patterns_config::glob::PathNames;
+use patterns_config::settings::Settings;
+use patterns_lint::chosen::{Chosen, Level};
+use std::alloc::{AllocError, Global};
+
+/// Gives a level to the rules of these names.
+fn set_rules(chosen: &mut Chosen, names: &[String], level: Level) {
+    for name in names {
+        RuleLevel {
+            name: name.as_str(),
+            level,
+        }
+        .set(chosen);
+    }
+}
+
+/// The settings of one file: what is said of all files, and then what is said of some, this one among them. Of several
+/// for one thing the last one counts.
+#[derive(Drop)]
+pub(crate) struct FileSettings<'a> {
+    found: Vec<&'a Settings>,
+}
+
+impl<'a> FileSettings<'a> {
+    /// None, of a file without a configuration.
+    pub(crate) fn none(alloc: Global) -> FileSettings<'a> {
+        FileSettings {
+            found: Vec::new(alloc),
+        }
+    }
+
+    /// Those that a configuration has for the path of a file; for patterns without a file those that are of all.
+    pub(crate) fn of(
+        alloc: Global,
+        found: &'a FoundConfig,
+        path: Option<&PathNames>,
+    ) -> Result<FileSettings<'a>, AllocError> {
+        let config = &found.config;
+        let mut settings = Vec::new(alloc);
+        settings.push(&config.settings)?;
+        for one in &config.overrides {
+            if path.is_some_and(|path| one.is_of(path)) {
+                settings.push(&one.settings)?;
+            }
+        }
+        Ok(FileSettings { found: settings })
+    }
+
+    /// The flags, if they are set.
+    fn flags(&self) -> Option<u32> {
+        let mut flags = None;
+        for settings in &self.found {
+            if let Some(letters) = &settings.flags {
+                flags = flags_named(letters.as_str());
+            }
+        }
+        flags
+    }
+
+    /// The keys under which texts of JSON are patterns, if some are set.
+    fn keys(&self) -> Option<Keys<'a>> {
+        let mut has_textmate = false;
+        let mut configured: &'a [String] = &[];
+        for settings in &self.found {
+            if let Some(is_set) = settings.textmate {
+                has_textmate = is_set;
+            }
+            if let Some(keys) = &settings.keys {
+                configured = keys;
+            }
+        }
+        if !has_textmate && configured.is_empty() {
+            return None;
+        }
+        Some(Keys {
+            has_textmate,
+            named: &[],
+            configured,
+        })
+    }
+
+    /// Whether the file is JSON.
+    pub(crate) fn is_json(&self) -> bool {
+        self.keys().is_some()
+    }
+
+    /// Gives the rules their levels.
+    fn set_levels(&self, chosen: &mut Chosen) {
+        for settings in &self.found {
+            set_rules(chosen, &settings.allow, Level::Allow);
+            set_rules(chosen, &settings.warn, Level::Warn);
+            set_rules(chosen, &settings.deny, Level::Deny);
+        }
+    }
+}
+
+/// The flags that the patterns of a file with these settings are parsed under.
+pub(crate) fn flags_with(job: Job<'_>, settings: &FileSettings<'_>) -> u32
+    ensures given { IsTrue job.entry.choices.has_flags → result ≡ job.entry.flags }
+{
+    if job.choices.has_flags {
+        return job.flags;
+    }
+    settings.flags().unwrap_or(job.flags)
+}
+
+/// The keys by which a file with these settings is JSON, if the arguments do not choose how files have patterns.
+pub(crate) fn keys_with<'s>(job: Job<'_>, settings: &FileSettings<'s>) -> Option<Keys<'s>>
+    ensures given { IsTrue job.entry.choices.has_form → IsNone result }
+{
+    if job.choices.has_form {
+        return None;
+    }
+    settings.keys()
+}
+
+/// The levels of rules for a file with these settings: the default ones, then those of the configuration, then those of
+/// the arguments.
+pub(crate) fn levels_with(job: Job<'_>, settings: &FileSettings<'_>) -> Chosen {
+    let is_json = matches!(job.form, FileFormat::Values(_)) || keys_with(job, settings).is_some();
+    let mut chosen = if is_json {
+        Chosen::for_values()
+    } else {
+        Chosen::new()
+    };
+    settings.set_levels(&mut chosen);
+    for one in job.choices.levels {
+        one.set(&mut chosen);
+    }
+    chosen.is_verbose = job.choices.is_verbose;
+    chosen
+}

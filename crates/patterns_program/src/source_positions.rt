@@ -1,0 +1,127 @@
+//! Where the characters of a pattern are in the source that it was extracted from.
+use patterns_text::position::{FilePosition, Location, Spot};
+use patterns_text::subject::Subject;
+use report_formats::annotation::FilePoint;
+use std::alloc::{AllocError, Global};
+
+/// The path that reports have for a pattern in its record.
+const RECORD_PATH: &str = "pattern";
+
+/// Where the characters of a pattern are in its source, as far as its record says.
+#[derive(Drop)]
+pub(crate) struct SourcePositions {
+    /// Where the pattern begins.
+    pub(crate) line: u64,
+    pub(crate) column: u64,
+    /// Whether the column is known.
+    pub(crate) has_column: bool,
+    /// The column of each character and of the end; nothing if they are not known.
+    pub(crate) columns: Vec<u64>,
+    /// Their lines; nothing if all are in the one where the pattern begins.
+    pub(crate) lines: Vec<u64>,
+}
+
+impl SourcePositions {
+    /// Those of a pattern of which no more is known than that its record is this line.
+    pub(crate) fn of_line(alloc: Global, line: u64) -> SourcePositions {
+        SourcePositions {
+            line,
+            column: 1,
+            has_column: false,
+            columns: Vec::new(alloc),
+            lines: Vec::new(alloc),
+        }
+    }
+
+    /// Those of the characters of a pattern that are kept, one of `kept` for each, and of its end.
+    pub(crate) fn kept(&self, alloc: Global, kept: &[bool]) -> Result<SourcePositions, AllocError> {
+        Ok(SourcePositions {
+            line: self.line,
+            column: self.column,
+            has_column: self.has_column,
+            columns: kept_numbers(alloc, &self.columns, kept)?,
+            lines: kept_numbers(alloc, &self.lines, kept)?,
+        })
+    }
+
+    /// Whether the position of each character of the pattern is known.
+    pub(crate) fn are_known(&self, pattern: &str) -> bool {
+        !self.columns.is_empty() || (self.has_column && !pattern.contains('\n'))
+    }
+
+    /// Where the pattern begins.
+    fn start(&self) -> FilePoint {
+        FilePoint {
+            line: self.line,
+            column: self.column,
+        }
+    }
+
+    /// Where the character of this index is, or the end.
+    fn of_character(&self, pattern: &str, index: usize) -> FilePoint {
+        if let Some(column) = self.columns.get(index) {
+            let line = self.lines.get(index).copied().unwrap_or(self.line);
+            return FilePoint {
+                line,
+                column: *column,
+            };
+        }
+        if !self.are_known(pattern) {
+            return self.start();
+        }
+        FilePoint {
+            line: self.line,
+            column: self.column.saturating_add(index as u64),
+        }
+    }
+
+    /// Where the character at a byte offset of the pattern is; of an offset past the end, where the pattern ends. If
+    /// that is not known, where the pattern begins.
+    pub(crate) fn point(&self, pattern: &str, offset: usize) -> FilePoint {
+        let (before, _) = pattern.split_at(pattern.floor_char_boundary(offset));
+        self.of_character(pattern, before.chars().count())
+    }
+
+    /// Where the pattern is for a report that begins at the byte offset.
+    pub(crate) fn spot<'s>(&self, pattern: &str, offset: usize) -> Spot<'s> {
+        let FilePoint { line, column } = self.point(pattern, offset);
+        Spot::Path {
+            position: FilePosition {
+                line,
+                column,
+                character: column,
+            },
+            path: RECORD_PATH,
+        }
+    }
+}
+
+/// The numbers of the characters that are kept, and the last number, which is that of the end.
+fn kept_numbers(alloc: Global, numbers: &[u64], kept: &[bool]) -> Result<Vec<u64>, AllocError> {
+    let mut left = Vec::new(alloc);
+    for (index, number) in numbers.iter().enumerate() {
+        if kept.get(index).copied().unwrap_or(true) {
+            left.push(*number)?;
+        }
+    }
+    Ok(left)
+}
+
+/// The pattern for a report that begins at the byte offset. One that was extracted is then where that character is in
+/// its source.
+pub(crate) fn subject_at<'a>(
+    subject: Subject<'a>,
+    source: Option<&SourcePositions>,
+    offset: usize,
+) -> Subject<'a> {
+    let Some(source) = source else {
+        return subject;
+    };
+    Subject {
+        at: Location {
+            spot: source.spot(subject.pattern, offset),
+            ..subject.at
+        },
+        ..subject
+    }
+}
