@@ -38,6 +38,10 @@ pub mod DelegateLemmas
 pub mod Verdict
 pub mod ParsedSpans
 pub mod ParsedTreeLaws
+-- ---- what no node has
+pub mod TriviaUnique
+pub mod TriviaLemmas
+pub mod TriviaLaws
 -- ---- the text of every tree
 pub mod PatternRows
 pub mod NeedsLemmas

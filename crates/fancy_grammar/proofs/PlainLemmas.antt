@@ -3,6 +3,7 @@ use Rattle.std.proofs.Common.{◌≡◌, if◌then◌else◌, zero, suc, ℕ, Bo
 use Rattle.std.proofs.Common.{subst, ◌∙◌, ap, arith, tests, rules}
 use Rattle.std.proofs.lemmas.Bool.Decides.{nat_tests}
 use Prim.Native.Char.{code}
+use Rattle.fancy_lex.specs.Comments.{comments, comments_from}
 use Rattle.fancy_lex.specs.Layout.{is_blank}
 use Rattle.fancy_lex.specs.LayoutSteps.{layout, layout_from, is_layout, rest}
 use Rattle.fancy_lex.specs.Characters.{hash, backslash}
@@ -38,6 +39,16 @@ pub no_layout : (c : ℕ) (x : Bool) (t : Text) → (c == code "(") ≡ false �
 unfolding layout_from
 no_layout c false t e h = rw e refl
 no_layout c true t e h = rw (e, not_hash c h, not_blank c h) refl
+
+pub no_comments : (c : ℕ) (x : Bool) (t : Text) → (c == code "(") ≡ false → is_layout x c ≡ false →
+    comments x (c ∷ t) ≡ []
+unfolding comments_from
+no_comments c false t e h = rw e refl
+no_comments c true t e h = rw (e, not_hash c h, not_blank c h) refl
+
+pub no_comments_at_end : (x : Bool) → comments x [] ≡ []
+unfolding comments_from
+no_comments_at_end x = refl
 
 pub no_end : (c : ℕ) (t : Text) → is_special c ≡ false → ends (c ∷ t) ≡ false
 no_end c t e = grind (arith, nat_tests)

@@ -24,6 +24,7 @@ pub mod Preorder
 pub mod ParsedTree
 -- ---- the spans of nodes
 pub mod Spans
+pub mod Trivia
 -- ---- printing, and how a printed text reads
 pub mod Printed
 pub mod HasDelegate

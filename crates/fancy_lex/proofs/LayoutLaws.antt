@@ -19,7 +19,7 @@ use Rattle.fancy_lex.proofs.LayoutLemmas.{between_opened, comment_step, comment_
 use Rattle.fancy_lex.proofs.LayoutLemmas.{escaped_end, line_step, between_line, between_blank, between_other}
 use Rattle.fancy_lex.proofs.LayoutLemmas.{between_plain, between_end, line_end}
 
-snoc : (i r : Text) (c : ℕ) → (i ++ c ∷ []) ++ r ≡ i ++ c ∷ r
+pub snoc : (i r : Text) (c : ℕ) → (i ++ c ∷ []) ++ r ≡ i ++ c ∷ r
 snoc i r c = append_assoc i (c ∷ []) r
 
 module _ (x : Bool) where
@@ -79,7 +79,7 @@ past_units x none = refl
 past_units x (more {v} u t e h hs) = rw (e, append_assoc) (past_unit x u (t ++ v) h ∙ past_units x hs)
 
 -- the text up to the line feed, or all of it
-split_line : (t : Text) → ((i : Text) × (r : Text) × InLine i × (t ≡ i ++ line_feed ∷ r)) ⊎ InLine t
+pub split_line : (t : Text) → ((i : Text) × (r : Text) × InLine i × (t ≡ i ++ line_feed ∷ r)) ⊎ InLine t
 split_line [] = inr end_line
 split_line (c ∷ t) =
     elim (cases_eq c line_feed) [
@@ -140,7 +140,7 @@ open_error x t p (after_backslash i e q h) =
     rw (e, q) (past_inside x h (backslash ∷ []) ∙ comment_step x _ backslash [] refl ∙ escaped_end x [] refl)
 
 -- a text with a text after its `(?#` is `(?#` and that text
-opened_is : (t i : Text) → after_comment_start t ≡ Some i → t ≡ comment_start ++ i
+pub opened_is : (t i : Text) → after_comment_start t ≡ Some i → t ≡ comment_start ++ i
 opened_is [] i e = cc
 opened_is (c ∷ []) i e = grind (arith, nat_tests)
 opened_is (c ∷ d ∷ []) i e = grind (arith, nat_tests)

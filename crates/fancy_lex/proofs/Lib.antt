@@ -5,7 +5,9 @@ pub mod TakeLaws
 pub mod ReadingLemmas
 -- ---- layout, numbers, names and references
 pub mod LayoutLemmas
+pub mod CommentLemmas
 pub mod LayoutLaws
+pub mod CommentLaws
 pub mod NumberLemmas
 pub mod IdLemmas
 pub mod AsciiLemmas

@@ -10,6 +10,7 @@ pub mod Reading
 -- ---- layout, numbers, names, and what the names refer to
 pub mod Layout
 pub mod LayoutSteps
+pub mod Comments
 pub mod Number
 pub mod NumberText
 pub mod Id
@@ -35,3 +36,4 @@ pub mod ErrorViews
 pub mod NameViews
 pub mod PropertyViews
 pub mod EscapeViews
+pub mod CommentViews

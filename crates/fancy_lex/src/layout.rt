@@ -1,7 +1,9 @@
 //! Layout: the comments and blanks between the parts of a pattern.
 ghost use Rattle.std.specs.Prelude.{◌≡◌, ℕ, ◌<◌, ◌≤◌, Bool, length, chars, MatchResult, IfOk, IfErr, IfSome};
-ghost use Rattle.std.specs.Prelude.{option_map, false};
+ghost use Rattle.std.specs.Prelude.{option_map, false, [], ◌∷◌, MatchOption};
 ghost use Rattle.fancy_lex.specs.Text.{Text, EndsWith};
+ghost use Rattle.fancy_lex.specs.CommentViews.{comment_of};
+ghost use Rattle.fancy_lex.specs.Comments.{closed_before, comments, comments_from, line_before};
 ghost use Rattle.fancy_lex.specs.Layout as relation;
 ghost use Rattle.fancy_lex.specs.LayoutSteps as spec;
 ghost use Rattle.fancy_lex.specs.LayoutSteps.{rest, failed};
@@ -12,12 +14,17 @@ use crate::error::{ParseError, ReadError};
 use crate::text::{AT_END, PAST_END, after, next};
 
 /// Reads a comment after its `(?#`: the text after it, or the reach of its error.
-#[tactic(auto, using(crate::proofs::LayoutLemmas::layout_steps))]
+#[tactic(auto, using(crate::proofs::LayoutLemmas::layout_steps, crate::proofs::CommentLemmas::comment_steps))]
 fn comment(text: &str) -> Result<&str, usize>
     ensures value { (x : Bool) →
         MatchResult result
         (λ r. spec.layout_from x spec.comment (chars text.now) ≡ spec.layout_from x spec.between (chars r.now))
         (λ p. spec.layout_from x spec.comment (chars text.now) ≡ failed p) }
+    ensures comments { (x : Bool) (start : ℕ) →
+        MatchResult result
+        (λ r. comments_from x spec.comment start (chars text.now) ≡
+        closed_before start (chars r.now) ∷ comments x (chars r.now))
+        (λ _. comments_from x spec.comment start (chars text.now) ≡ []) }
     ensures shorter { IfOk result (λ r. length r.now < length text.now) }
     ensures position { IfErr result (λ p. p ≤ 1) }
 {
@@ -38,10 +45,13 @@ fn comment(text: &str) -> Result<&str, usize>
 }
 
 /// Reads a line comment after its `#`: the text after it.
-#[tactic(auto, using(crate::proofs::LayoutLemmas::layout_steps))]
+#[tactic(auto, using(crate::proofs::LayoutLemmas::layout_steps, crate::proofs::CommentLemmas::comment_steps))]
 fn line(text: &str) -> &str
     ensures value { (x : Bool) →
         spec.layout_from x spec.line (chars text.now) ≡ spec.layout_from x spec.between (chars result.now) }
+    ensures comments { (x : Bool) (start : ℕ) →
+        comments_from x spec.line start (chars text.now) ≡
+        line_before start (chars result.now) ∷ comments x (chars result.now) }
     ensures within { length result.now ≤ length text.now }
 {
     let mut rest = text;
@@ -173,5 +183,55 @@ pub fn skip(text: &str, ignore_space: bool) -> Result<&str, ReadError>
     match layout(text, ignore_space) {
         Ok(rest) => Ok(rest),
         Err(reach) => Err(ReadError::At(reach, ParseError::UnclosedOpenParen)),
+    }
+}
+
+/// A comment in layout.
+#[derive(Clone, Copy)]
+pub struct LayoutComment<'a> {
+    /// The text from the comment on.
+    pub start: &'a str,
+    /// The text after the comment.
+    pub rest: &'a str,
+    /// Whether it begins with `#` and ends with its line.
+    pub is_line: bool,
+}
+
+/// The first comment in the layout at the front of `text`, if there is one and it is closed.
+#[tactic(auto, using(crate::proofs::CommentLemmas::comment_steps))]
+pub fn first_comment(text: &str, ignore_space: bool) -> Option<LayoutComment<'_>>
+    ensures value { MatchOption result (comments ignore_space (chars text.now) ≡ [])
+        (λ c. comments ignore_space (chars text.now) ≡ comment_of c ∷ comments ignore_space (chars c.rest.now)) }
+    ensures shorter { IfSome result (λ c. length c.rest.now < length text.now) }
+{
+    let mut rest = text;
+    loop {
+        if let Some(inside) = after_comment_start(rest) {
+            let Ok(past) = comment(inside) else {
+                return None;
+            };
+            return Some(LayoutComment {
+                start: rest,
+                rest: past,
+                is_line: false,
+            });
+        }
+        if !ignore_space {
+            return None;
+        }
+        let Some((c, after)) = next(rest) else {
+            return None;
+        };
+        if c == '#' {
+            return Some(LayoutComment {
+                start: rest,
+                rest: line(after),
+                is_line: true,
+            });
+        }
+        if !is_blank(c) {
+            return None;
+        }
+        rest = after;
     }
 }

@@ -4,6 +4,7 @@
 pub mod Quantifier
 pub mod FlagLetters
 pub mod LetterSteps
+pub mod NextLetter
 pub mod GroupName
 pub mod NameDelimiter
 pub mod GroupReference

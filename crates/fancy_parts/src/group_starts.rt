@@ -4,5 +4,5 @@ pub mod names;
 mod quantifier;
 pub mod references;
 
-pub use letters::{Letters, flag_letters};
+pub use letters::{FlagLetter, Letters, flag_letters, next_letter};
 pub use quantifier::counts;

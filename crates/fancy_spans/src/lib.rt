@@ -1,4 +1,4 @@
-//! A tree with the spans of its nodes.
+//! A tree with the spans of its nodes, and what no node has.
 #![tactic(auto)]
 
 ghost use Rattle.std.specs.Prelude.{◌≡◌, ◌++◌, chars, drop, length, map, take, IfErr, IfOk, OnOk};
@@ -11,33 +11,38 @@ ghost use Rattle.fancy_grammar.specs.ParsedTree.{IsParsedTreeWith, HasGroupsOf, 
 ghost use Rattle.fancy_grammar.specs.Grammar.{DerivesTree};
 ghost use Rattle.fancy_grammar.specs.Preorder.{preorder};
 ghost use Rattle.fancy_grammar.specs.Spans.{AreSpansOf, IsCutOut, Nests};
+ghost use Rattle.fancy_grammar.specs.Trivia.{IsTriviaOf, IsPartOf, AreInOrder};
 ghost use Rattle.fancy_grammar.specs.Tree.{children};
 ghost use Rattle.fancy_syntax.specs.InfoViews.{info_of};
 ghost use Rattle.fancy_syntax.specs.Children.{children_of};
 ghost use Rattle.fancy_spans.specs.Spanned as spec;
 ghost use Rattle.fancy_spans.specs.Spanned.{IsWhole, spanned_of, spanned_of_tree, remaining_spanned, side_by_side};
 ghost use Rattle.fancy_syntax.specs.SpanViews.{spans_of};
+ghost use Rattle.fancy_syntax.specs.TriviaViews.{trivia_of};
 ghost use Rattle.fancy_syntax.specs.View.{view, views};
 
 use fancy_lex::error::Result;
 use fancy_syntax::expr::{Expr, ExprChildrenIter};
 use fancy_syntax::span::Span;
 use fancy_syntax::tree::ExprTree;
+use fancy_syntax::trivium::Trivium;
 use std::alloc::{AllocError, Global};
 
-/// The tree of a pattern with its group information, and the span of each of its nodes.
+/// The tree of a pattern with its group information, the span of each of its nodes, and what no node has.
 #[derive(Debug, Drop)]
 pub struct SpannedTree {
     /// The tree with its group information.
     pub tree: ExprTree,
     /// The span of each node of the tree, in preorder.
     pub spans: Vec<Span>,
+    /// What no node has, in the order of the pattern: comments, inline flags, and the parentheses of flag groups.
+    pub trivia: Vec<Trivium>,
     /// How many nodes each node has, including itself, in preorder.
     sizes: Vec<usize>,
 }
 
 impl SpannedTree {
-    /// Parses the pattern as `Expr::parse_tree_with_spans` does: with the same tree, the same spans and the same errors.
+    /// Parses the pattern as `Expr::parse_tree_with_trivia` does: with the same tree, spans, trivia and errors.
     ///
     /// ```rust
     /// let parsed = SpannedTree::parse(alloc, "(a|b)c*", FLAG_UNICODE)?;
@@ -55,6 +60,12 @@ impl SpannedTree {
         ensures returned { IfOk result (λ t. IsParsedTreeWith (view t.tree.expr) (info_of t.tree)) }
         ensures groups { IfOk result (λ t. (r : _) → DerivesTree (flags_of flags) (chars re.now) r →
             HasGroupsOf (flags_of flags) (chars re.now) r (view t.tree.expr)) }
+        ensures trivia { IfOk result (λ t. IsTriviaOf (flags_of flags) (chars re.now) (trivia_of t.trivia)) }
+        ensures only_trivia { IfOk result (λ t. (l : _) → IsTriviaOf (flags_of flags) (chars re.now) l →
+            l ≡ trivia_of t.trivia) }
+        ensures parts { IfOk result (λ t. AllByRecursion (IsPartOf (chars re.now)) (trivia_of t.trivia)) }
+        ensures in_order { IfOk result (λ t. AreInOrder 0 (length re.now) (trivia_of t.trivia)) }
+        ensures cut_trivia { IfOk result (λ t. AllByRecursion (λ x. IsCutOut re.now x.span) (trivia_of t.trivia)) }
         ensures sized { IfOk result (λ t. (spanned_of_tree t).sizes ≡ spec.sizes (view t.tree.expr)) }
         ensures spans { IfOk result (λ t. AreSpansOf (flags_of flags) (chars re.now) (spans_of t.spans)) }
         ensures only_spans { IfOk result (λ t. (l : _) → AreSpansOf (flags_of flags) (chars re.now) l →
@@ -66,9 +77,14 @@ impl SpannedTree {
         ensures error { IfErr result (λ e. IsOnlyError e (flags_of flags) (chars re.now)) }
         ensures position { IfErr result (λ e. IsPositionedIn e re.now) }
     {
-        let (tree, spans) = Expr::parse_tree_with_spans(alloc, re, flags)?;
+        let (tree, spans, trivia) = Expr::parse_tree_with_trivia(alloc, re, flags)?;
         let sizes = all_sizes(alloc, &tree.expr, spans.len())?;
-        Ok(SpannedTree { tree, spans, sizes })
+        Ok(SpannedTree {
+            tree,
+            spans,
+            trivia,
+            sizes,
+        })
     }
 
     /// Returns the root of the tree. If `tree` was changed after parsing, the nodes are the changed ones. Each has the

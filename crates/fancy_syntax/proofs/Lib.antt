@@ -9,6 +9,8 @@ pub mod WriteLemmas
 mod TreesLemmas
 mod SolidLemmas
 mod StepLemmas
+mod PassedLemmas
+mod PassedLaws
 mod MachineLemmas
 mod PlainLaws
 mod StackLemmas

@@ -25,12 +25,12 @@ use Rattle.fancy_syntax.specs.Log.{Log, part_begun, branch_begun, branch_ended, 
 use Rattle.fancy_syntax.specs.Recording.{PieceTo, PiecesTo, BranchTo, BranchesTo, AlternationTo, piece_recorded}
 use Rattle.fancy_syntax.specs.Recording.{pieces_recorded}
 use Rattle.fancy_syntax.specs.Recording.{branches_recorded, atom_recorded, inside_recorded, quants_recorded}
-use Rattle.fancy_syntax.specs.Recording.{group_recorded}
+use Rattle.fancy_syntax.specs.Recording.{group_recorded, atom_read}
 use Rattle.fancy_syntax.specs.Recording.{conditional_recorded, stopper_recorded, choice_recorded, added}
 use Rattle.fancy_syntax.specs.View.{view}
 use Rattle.fancy_grammar.specs.AtomStart.{AtomStart, nothing, read, atom_start}
 use Rattle.fancy_grammar.specs.Grammar.{a_nothing, a_read}
-use Rattle.fancy_syntax.specs.Log.{leaf_recorded, left_out}
+use Rattle.fancy_syntax.specs.Log.{leaf_recorded, left_out, pass, layout_passed}
 use Rattle.fancy_syntax.specs.Machine.{IsPlainLeaf}
 use Rattle.fancy_syntax.specs.Recording.{start_recorded, skipped_recorded, step_recorded}
 use Rattle.fancy_syntax.specs.Machine.{part_recorded, close_recorded, taken_recorded}
@@ -56,6 +56,7 @@ use Rattle.fancy_grammar.proofs.OutcomeLemmas.{Holds, IsErrorAmong-map, before-n
 use Rattle.fancy_grammar.proofs.OutcomeLemmas.{trees_before, solid-append, piece_as}
 use Rattle.fancy_grammar.proofs.ReadLaws.{piece_read}
 use Rattle.fancy_grammar.proofs.Slices.{current, on, strip_slice}
+use Rattle.fancy_syntax.proofs.PassedLemmas.{nothing_passed}
 use Rattle.fancy_syntax.proofs.SolidLemmas.{IsSolid, quants_solid}
 
 -- ---- a step
@@ -66,62 +67,65 @@ AtomTo d s o l m = (a : Atom d s o) × (atom_recorded a l ≡ m)
 
 -- an atom after layout is a piece under its quantifiers
 pub piece_to : {d : ℕ} {s : State} {u : Text} {q o : Outcome Tree} {l m n : Log} → skipped s ≡ rest u →
-    AtomTo d (at s u) q l m → and_then q (quants d (bytes s.rest)) ≡ o → quants_recorded (bytes s.rest) q m ≡ n →
-    PieceTo d s o l n
+    AtomTo d (at s u) q (layout_passed s l) m → and_then q (quants d (bytes s.rest)) ≡ o →
+    quants_recorded (bytes s.rest) q m ≡ n → PieceTo d s o l n
 piece_to {d} {s} {q} {l} {n} i (a, h) e j =
     subst (λ o. PieceTo d s o l n) e (piece i a, ap (quants_recorded (bytes s.rest) q) h ∙ j)
 
-pub steps_piece : {d left : ℕ} (s : State) {t : State} {u : Text} {a : Tree} {l m : Log} (n : Log)
+pub steps_piece : {d left : ℕ} (s : State) {t : State} {u : Text} {a : Tree} {m : Log} (l n : Log)
     (r : Result Step ReadError) (v : State) → left ≡ bytes s.rest → skipped s ≡ rest u →
-    AtomTo d (at s u) (done a t) l m → GivesPiece r (quants d left a t) v → quants_recorded left (done a t) m ≡ n →
-    GivesStep r d s l v n
-steps_piece {d} {left} s {t} {u} {a} {l} {m} n (Ok (step.Piece tree)) v i k x h j =
-    piece_to k x (subst (λ z. quants d z a t ≡ done (view tree) v) i h)
+    AtomTo d (at s u) (done a t) (layout_passed s l) m → GivesPiece r (quants d left a t) v →
+    quants_recorded left (done a t) m ≡ n → GivesStep r d s l v n
+steps_piece {d} {left} s {t} {u} {a} {m} l n (Ok (step.Piece tree)) v i k x h j =
+    piece_to {l = l} k x (subst (λ z. quants d z a t ≡ done (view tree) v) i h)
     (subst (λ z. quants_recorded z (done a t) m ≡ n) i j)
-steps_piece s n (Ok (step.Open open_group)) v i k x h j = absurd h
-steps_piece {d} {left} s {t} {a = tree} n (Err e) v i k (x, y) h j =
+steps_piece s l n (Ok (step.Open open_group)) v i k x h j = absurd h
+steps_piece {d} {left} s {t} {a = tree} l n (Err e) v i k (x, y) h j =
     IsErrorAmong-map (λ o. quants d left tree t ≡ o) (Piece d s) e
     (λ c p g. piece_as k x (subst (λ z. quants d z tree t ≡ failed c p) i g)) h
 
 -- the start of the atom decides what a step records
 pub step_start : (d : ℕ) (s : State) {u : Text} {k : AtomStart} (l : Log) → skipped s ≡ rest u →
     atom_start d (at s u) ≡ k →
-    step_recorded d s l ≡ start_recorded (bytes s.rest) (at s u) k l
+    step_recorded d s l ≡ start_recorded (bytes s.rest) (at s u) k (layout_passed s l)
 step_start d s {u} l i e =
-    ap (λ z. skipped_recorded d s z l) i ∙ ap (λ k. start_recorded (bytes s.rest) (at s u) k l) e
+    ap (λ z. skipped_recorded d s z (layout_passed s l)) i
+    ∙ ap (λ k. start_recorded (bytes s.rest) (at s u) k (layout_passed s l)) e
 
 pub read_recorded : (d left : ℕ) (s : State) {t : State} {u : Text} {a : Tree} (l : Log) → left ≡ bytes s.rest →
     skipped s ≡ rest u → atom_start d (at s u) ≡ read (done a t) →
-    quants_recorded left (done a t) (leaf_recorded (reach_of u) (reach_of t.rest) l) ≡ step_recorded d s l
+    quants_recorded left (done a t) (atom_read (at s u) (done a t) (layout_passed s l)) ≡ step_recorded d s l
 read_recorded d left s {t} {u} {a} l i k e =
     sym (step_start d s l k e
-    ∙ ap (λ z. quants_recorded z (done a t) (leaf_recorded (reach_of u) (reach_of t.rest) l)) (sym i))
+    ∙ ap (λ z. quants_recorded z (done a t) (atom_read (at s u) (done a t) (layout_passed s l))) (sym i))
 
 pub nothing_recorded : (d left : ℕ) (s : State) {u : Text} (l : Log) → left ≡ bytes s.rest →
     skipped s ≡ rest u → atom_start d (at s u) ≡ nothing →
-    quants_recorded left (done empty (at s u)) (leaf_recorded (reach_of u) (reach_of u) l) ≡ step_recorded d s l
+    quants_recorded left (done empty (at s u)) (leaf_recorded (reach_of u) (reach_of u) (layout_passed s l))
+    ≡ step_recorded d s l
 nothing_recorded d left s {u} l i k e =
     sym (step_start d s l k e
-    ∙ ap (λ z. quants_recorded z (done empty (at s u)) (leaf_recorded (reach_of u) (reach_of u) l)) (sym i))
+    ∙ ap (λ z. quants_recorded z (done empty (at s u)) (leaf_recorded (reach_of u) (reach_of u) (layout_passed s l)))
+    (sym i))
 
 -- a step that reads a whole atom, or none
 pub steps_read : (d left : ℕ) (s : State) {t : State} {u : Text} {a : Tree} (l : Log) (r : Result Step ReadError)
     (v : State) → left ≡ bytes s.rest → skipped s ≡ rest u → atom_start d (at s u) ≡ read (done a t) →
     GivesPiece r (quants d left a t) v → GivesStep r d s l v (step_recorded d s l)
 steps_read d left s l r v i k e h =
-    steps_piece {d = d} {left = left} s (step_recorded d s l) r v i k (atom e a_read, refl) h
+    steps_piece {d = d} {left = left} s l (step_recorded d s l) r v i k (atom e a_read, refl) h
     (read_recorded d left s l i k e)
 
 pub steps_nothing : (d left : ℕ) (s : State) {u : Text} (l : Log) (r : Result Step ReadError)
     (v : State) → left ≡ bytes s.rest → skipped s ≡ rest u → atom_start d (at s u) ≡ nothing →
     GivesPiece r (quants d left empty (at s u)) v → GivesStep r d s l v (step_recorded d s l)
 steps_nothing d left s l r v i k e h =
-    steps_piece {d = d} {left = left} s (step_recorded d s l) r v i k (atom e a_nothing, refl) h
+    steps_piece {d = d} {left = left} s l (step_recorded d s l) r v i k (atom e a_nothing, refl) h
     (nothing_recorded d left s l i k e)
 
 -- a step that opens a part
 pub steps_open : {d : ℕ} {s t : State} {u : Text} {k : AtomStart} {p : OpenPart} {l : Log} → skipped s ≡ rest u →
-    atom_start d (at s u) ≡ k → OpensPart d s l p t (start_recorded (bytes s.rest) (at s u) k l) →
+    atom_start d (at s u) ≡ k → OpensPart d s l p t (start_recorded (bytes s.rest) (at s u) k (layout_passed s l)) →
     OpensPart d s l p t (step_recorded d s l)
 steps_open {d} {s} {t} {p} {l} i e h = subst (OpensPart d s l p t) (sym (step_start d s l i e)) h
 
@@ -178,12 +182,12 @@ closed_to {d} {s} f g r w h l a = subst (λ o. AtomTo d s (restored f o) l (h o)
 opens_ended : {d : ℕ} {s v : State} {p : OpenPart} {l m : Log} (n : Log) (r : Tree) (w : State) → OpensPart d s l p v m →
     Part p (d + 1) v (done r w) m n → has_body_next p ≡ false →
     MayEnd p w → (t : Text) × (skipped s ≡ rest t)
-    × AtomTo d (at s t) (restored s.flags (ended_part p r w)) l
+    × AtomTo d (at s t) (restored s.flags (ended_part p r w)) (layout_passed s l)
     (part_recorded p r (reach_of w.rest) (end_of (ended_part p r w)) n)
 opens_ended {d} {s} {l} n q w (a_group {u} {h} i e) (r, x) g f = (
   u,
   i,
-  closed_to s.flags (group_node h (reach_of u)) q w (λ o. group_recorded h (end_of o) n) l (
+  closed_to s.flags (group_node h (reach_of u)) q w (λ o. group_recorded h (end_of o) n) (layout_passed s l) (
     atom e (grammar.a_group (inside r)),
     ap (group_recorded h (end_of (mapped (group_node h (reach_of u)) (closed q w)))) x,
   ),
@@ -272,8 +276,8 @@ pub closes : {d left : ℕ} {s v t : State} {a : Tree} {p : OpenPart} {l m : Log
 closes {d} {left} {s} {t} {a} {p} {l} n flags r w q z x y g f h i j e =
     let (u, c, b) = opens_ended n r w x y g (λ _ _. f) in
     let m = part_recorded p r (reach_of w.rest) (reach_of t.rest) n in
-    steps_piece s (close_recorded left flags p r w n) q z i c (subst (λ o. AtomTo d (at s u) (restored s.flags o) l
-    (part_recorded p r (reach_of w.rest) (end_of o) n)) h b) e
+    steps_piece s l (close_recorded left flags p r w n) q z i c (subst (λ o. AtomTo d (at s u) (restored s.flags o)
+    (layout_passed s l) (part_recorded p r (reach_of w.rest) (end_of o) n)) h b) e
     (sym (close_ends left flags p r w n h g ∙ ap (λ f. quants_recorded left (done a (record t { flags = f })) m) j))
 
 -- if it continues, what comes next
@@ -580,6 +584,13 @@ running_piece {t} {v} {l} {m} {r} all h e a i = record {
   reading = reading_piece _ _ h.reading e (subst (λ d. PieceTo d t (done r v) l m) (sym h.is_depth) a) refl refl;
 }
 
+-- a leaf that a look ahead reads has no layout before it, and is no inline flags
+leaf_passed : {t u : State} {r : Tree} (l : Log) → IsPlainLeaf t r u →
+    atom_read t (done r u) (layout_passed t l) ≡ leaf_recorded (reach_of t.rest) (reach_of u.rest) l
+leaf_passed {t} {u} {r} l p =
+    let leaf : Log → Log = λ m. leaf_recorded (reach_of t.rest) (reach_of u.rest) m in
+    rw (p.solid, p.no_comments) (nothing_passed (leaf (pass [] l)) ∙ ap leaf (nothing_passed l))
+
 -- a leaf that a look ahead reads, under its quantifiers
 pub running_leaf : {start t u v : State} {none l : Log} {stack : List Frame} {f : Frame} {trees : List Tree}
     {r q : Tree} (all : List Tree) → Running start none stack f trees t l → IsPlainLeaf t r u →
@@ -590,7 +601,7 @@ running_leaf {start} {t} {u} {v} {none} {l} {stack} {f} {trees} {r} {q} all h p 
     let m = quants_recorded (bytes t.rest) (done r u) (leaf_recorded (reach_of t.rest) (reach_of u.rest) l) in
     let solid = subst (Holds IsSolid) e (quants_solid (length stack) (bytes t.rest) r u p.solid) in
     subst (Running start none stack f all v) (ap (λ b. if b then left_out m else m) solid)
-    (running_piece all h p.more (piece_to p.no_layout (atom (p.leaf (length stack)) a_read, refl) e refl)
+    (running_piece all h p.more (piece_to p.no_layout (atom (p.leaf (length stack)) a_read, leaf_passed l p) e refl)
     (i ∙ ap (λ b. trees ++ (if b then [] else q ∷ [])) (sym solid)))
 
 -- an error in its quantifiers is the error of the whole text

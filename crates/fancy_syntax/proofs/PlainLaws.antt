@@ -16,10 +16,11 @@ use Rattle.fancy_grammar.specs.State.{ends, State, at, done}
 use Rattle.fancy_grammar.specs.Tree.{Tree, literal}
 use Rattle.fancy_grammar.proofs.PlainLemmas.{unmoved, not_open, not_paren, no_layout, no_end, is_leaf, no_counts}
 use Rattle.fancy_grammar.proofs.PlainLemmas.{no_quant, no_layout_at_end, no_counts_at_end, no_quant_at_end}
-use Rattle.fancy_grammar.proofs.PlainLemmas.{backslash_no_layout, is_escape}
+use Rattle.fancy_grammar.proofs.PlainLemmas.{backslash_no_layout, is_escape, no_comments, no_comments_at_end}
 use Rattle.fancy_syntax.specs.Log.{Log}
 use Rattle.fancy_syntax.specs.Machine.{IsPlainLeaf}
 use Rattle.fancy_syntax.specs.Recording.{quant_recorded, adjacent_recorded, quants_recorded}
+use Rattle.fancy_syntax.proofs.PassedLemmas.{nothing_passed}
 use Rattle.fancy_syntax.proofs.RecordingLemmas.{recorded_ends}
 
 -- if no quantifier follows, none is recorded
@@ -42,20 +43,29 @@ pub unquantified_recorded_at_end : (s : State) (left : ℕ) (a : Tree) (l : Log)
 unquantified_recorded_at_end s left a l e =
     subst (λ t. quants_recorded left (done a (at s t)) l ≡ l) (sym e)
     (none_recorded left a (at s []) l (λ k. no_quant_at_end k a s)
-    (rw (no_layout_at_end s.flags.ignore_space, no_counts_at_end s.flags.ignore_space) refl))
+    (rw (
+      no_layout_at_end s.flags.ignore_space,
+      no_counts_at_end s.flags.ignore_space,
+      no_comments_at_end s.flags.ignore_space,
+    ) (nothing_passed l)))
 
 pub unquantified_recorded : (s : State) (c : ℕ) (t : Text) (left : ℕ) (a : Tree) (l : Log) → s.rest ≡ c ∷ t →
     is_layout s.flags.ignore_space c ≡ false → is_suffix c ≡ false → quants_recorded left (done a s) l ≡ l
 unquantified_recorded s c t left a l e x h =
     subst (λ u. quants_recorded left (done a (at s u)) l ≡ l) (sym e)
     (none_recorded left a (at s (c ∷ t)) l (λ k. no_quant k c a s t x h)
-    (rw (no_layout c s.flags.ignore_space t (not_paren c h) x, no_counts c s.flags.ignore_space t h) refl))
+    (rw (
+      no_layout c s.flags.ignore_space t (not_paren c h) x,
+      no_counts c s.flags.ignore_space t h,
+      no_comments c s.flags.ignore_space t (not_paren c h) x,
+    ) (nothing_passed l)))
 
 pub is_plain_literal : (s : State) (c : ℕ) (t : Text) → is_layout s.flags.ignore_space c ≡ false →
     s.rest ≡ c ∷ t → is_special c ≡ false → IsPlainLeaf s (literal (c ∷ []) s.flags.casei) (at s t)
 is_plain_literal s c t x e h = record {
   more = ap ends e ∙ no_end c t h;
   no_layout = rw e (no_layout c s.flags.ignore_space t (not_open c h) x);
+  no_comments = rw e (no_comments c s.flags.ignore_space t (not_open c h) x);
   leaf = λ d. subst (λ u. atom_start d (at s u) ≡ read (done (literal (c ∷ []) s.flags.casei) (at s t))) (sym e)
       (is_leaf d c s t h);
   solid = refl;
@@ -78,6 +88,7 @@ pub is_plain_escape : (s : State) (t u : Text) (e : Escape) → s.rest ≡ backs
 is_plain_escape s t u e i h = record {
   more = ap ends i;
   no_layout = rw i (no_layout backslash s.flags.ignore_space t refl (backslash_no_layout s.flags.ignore_space));
+  no_comments = rw i (no_comments backslash s.flags.ignore_space t refl (backslash_no_layout s.flags.ignore_space));
   leaf = λ d. subst (λ v. atom_start d (at s v) ≡ read (done (leaf_node e) (at s u))) (sym i) (is_escape d s t u e h);
   solid = leaf_is_solid e;
 }

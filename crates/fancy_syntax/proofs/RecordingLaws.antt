@@ -33,6 +33,7 @@ use Rattle.fancy_grammar.specs.Spans.{atom_spans, atom_of_spans, inside_spans, b
 use Rattle.fancy_grammar.specs.State.{State, at, Outcome, done, failed, and_then, mapped}
 use Rattle.fancy_grammar.specs.Tree.{Tree, leaf, over, row, Trees, trees_of, list_of, alt, concat, empty}
 use Rattle.fancy_grammar.specs.Tree.{expression, conditional}
+use Rattle.fancy_grammar.specs.Trivia.{comments_at, flags_of_atom, closing_of}
 use Rattle.fancy_grammar.proofs.AtomStartLaws.{IsLeaf, StartReads, start_reads}
 use Rattle.fancy_grammar.proofs.OutcomeLemmas.{Holds, then_holds, after_keeps}
 use Rattle.fancy_grammar.proofs.Slices.{Reads}
@@ -42,11 +43,11 @@ use Rattle.fancy_grammar.proofs.TreeLaws.{list_back}
 use Rattle.fancy_syntax.specs.Log.{Log, plain, put, reaches, shown, started, leaf_recorded, left_out, opened, part_begun}
 use Rattle.fancy_syntax.specs.Log.{body_opened, branch_begun, branch_ended, choice_ended, body_split, branch_lacked}
 use Rattle.fancy_syntax.specs.Log.{part_dropped, atom_closed, atom_ended, first_bar, alt_split, others_put}
-use Rattle.fancy_syntax.specs.Log.{atom_opened}
+use Rattle.fancy_syntax.specs.Log.{atom_opened, pass, layout_passed, group_opened}
 use Rattle.fancy_syntax.specs.Recording.{alternation_recorded, branches_recorded, branch_recorded, pieces_recorded}
 use Rattle.fancy_syntax.specs.Recording.{piece_recorded}
 use Rattle.fancy_syntax.specs.Recording.{atom_recorded, atom_of_recorded, inside_recorded, body_recorded}
-use Rattle.fancy_syntax.specs.Recording.{quants_recorded, group_recorded}
+use Rattle.fancy_syntax.specs.Recording.{quants_recorded, group_recorded, atom_read}
 use Rattle.fancy_syntax.specs.RecordedWhole.{ShowsWhole}
 use Rattle.fancy_syntax.specs.Recording.{AlternationTo}
 use Rattle.fancy_syntax.specs.Recording.{body_separated, conditional_recorded, stopper_recorded, choice_recorded, added}
@@ -55,6 +56,8 @@ use Rattle.fancy_syntax.specs.declared.grammar.recorded.RecordedNode.{RecordedNo
 use Rattle.fancy_syntax.specs.declared.grammar.recorded.Open.{Open}
 use Rattle.fancy_syntax.proofs.RecordingLemmas.{put_recorded, Beside, one_more, several_more, Barred, Fits, shown_one}
 use Rattle.fancy_syntax.proofs.RecordingLemmas.{shown_append, fits_shown, PieceRecorded, quants_recorded_as}
+use Rattle.fancy_syntax.proofs.RecordingLemmas.{passed_before, passed_after}
+use Rattle.fancy_syntax.proofs.PassedLaws.{alternation_passed}
 
 -- the open branch begins at the state, above all recorded nodes
 pub record BranchBegun (s : State) (l : Log) : Type 0 where
@@ -186,7 +189,9 @@ module _ (named : Bool) where
         by_kind (capture None) = closed_as m _ _ end true xs w e (λ n i j. unnamed_group named n xs p x shows i j)
         by_kind (capture (Some name)) =
             closed_as m _ _ end false xs w e (λ n i j. around_it n i j ∙ ap in_preorder (sym (named_group named name p x)))
-        by_kind flag_group = ended_as m r x xs w e f
+        by_kind flag_group =
+            ended_as (pass (closing_of flag_group end) m) r x xs
+            (record { around = w.around; start_is = w.start_is; height = w.height }) e f
         by_kind (look k) = closed_as m _ _ end false xs w e around_it
         by_kind atomic = closed_as m _ _ end false xs w e around_it
         by_kind define = closed_as m _ _ end false xs w e around_it
@@ -721,11 +726,10 @@ module _ (named : Bool) where
   branch_of s l m f (failed k p) g h = tt
 
   read_as : (s : State) (l : Log) (o : Outcome Tree) → Reads (IsLeaf s) s o →
-      Holds (λ r v. PieceRecorded named (reach_of s.rest) l (leaf_recorded (reach_of s.rest) (end_of o) l) r
-      (alone (between s o))) o
+      Holds (λ r v. PieceRecorded named (reach_of s.rest) l (atom_read s o l) r (alone (between s o))) o
   read_as s l (done a t) h =
-      leaf_as (reach_of s.rest) (reach_of t.rest) l a
-      (λ n i j. fits_alone a n (leaf_lies named a h.alone h.span.slice) i j)
+      passed_after named (flags_of_atom s (done a t)) (leaf_as (reach_of s.rest) (reach_of t.rest) l a
+      (λ n i j. fits_alone a n (leaf_lies named a h.alone h.span.slice) i j))
   read_as s l (failed k p) h = tt
 
   inside_of : (l m : Log) (x : Spans) (q : Outcome Tree) → Holds (λ r v. PartRecorded l m r x) q →
@@ -791,14 +795,14 @@ module _ (named : Bool) where
     piece_as_read : {d : ℕ} {s : State} {o : Outcome Tree} (a : Piece d s o) (l : Log) →
         Holds (λ r v. PieceAs l (piece_recorded a l) r (piece_spans named a)) o
     piece_as_read {d} {s} (piece {u} {q} i x) l =
-        some_piece (quants_recorded (bytes s.rest) q (atom_recorded x l))
+        some_piece (quants_recorded (bytes s.rest) q (atom_recorded x (layout_passed s l)))
         (quants_spans (bytes s.rest) (reach_of u) q (atom_spans named x)) (reach_of u) _
-        (quantified_as (reach_of u) l (atom_recorded x l) (atom_spans named x) d (bytes s.rest) q
-        (atom_as x l))
+        (quantified_as (reach_of u) (layout_passed s l) (atom_recorded x (layout_passed s l)) (atom_spans named x) d
+        (bytes s.rest) q (atom_as x (layout_passed s l)))
       where
         some_piece : (m : Log) (x : Spans) (start : ℕ) (o : Outcome Tree) →
-            Holds (λ r v. PieceRecorded named start l m r x) o → Holds (λ r v. PieceAs l m r x) o
-        some_piece m x start (done r v) h = (start, h)
+            Holds (λ r v. PieceRecorded named start (layout_passed s l) m r x) o → Holds (λ r v. PieceAs l m r x) o
+        some_piece m x start (done r v) h = (start, passed_before named (comments_at s) h)
         some_piece m x start (failed k p) h = tt
     piece_as_read (layout_error i) l = tt
 
@@ -816,11 +820,16 @@ module _ (named : Bool) where
     atom_of_as {s} a_nothing l h c =
         leaf_as (reach_of s.rest) (reach_of s.rest) l empty (λ n i j. shown_one named n [] i ∙ (λ z. j z ∷ []))
     atom_of_as {s} {o} a_read l h c = read_as s l o h
-    atom_of_as {s} (a_group {t} {h = alt_node} {q} i) l h c =
-        let n = opened (reach_of s.rest) (reach_of t.rest) l in
-        grouped_as s l n (inside_recorded i n) (inside_spans named i) alt_node (reach_of s.rest) q
-        (opened_within (reach_of s.rest) (reach_of t.rest) l) refl
-        (inside_as i n (part_begins t (atom_opened (reach_of s.rest) l)))
+    atom_of_as {s} (a_group {t} {h = kind} {q} i) l h c =
+        let n = group_opened kind s t l in
+        grouped_as s l n (inside_recorded i n) (inside_spans named i) kind (reach_of s.rest) q
+        (record { around = refl; start_is = refl; height = refl }) refl
+        (inside_as i n (record {
+          part = refl;
+          branches = refl;
+          bar = refl;
+          branch = record { branch = refl; pieces = refl };
+        }))
     atom_of_as {s} (a_condition {t} {v} {c} i b) l h z =
         let n = opened (reach_of s.rest) (reach_of t.rest) l in
         let f = inside_as i n (part_begins t (atom_opened (reach_of s.rest) l)) in
@@ -880,7 +889,8 @@ module _ (named : Bool) where
 
 pub whole_shown : {f : Flags} {text : Text} {r : Tree} {t : State} {m : Log} →
     AlternationTo 0 (start f text) (done r t) (started (reach_of text)) m → ShowsWhole f text (ended r t) m
-whole_shown (a, e) = (
+whole_shown {text} (a, e) = (
   whole a,
   λ named. ap (λ (m : Log). shown named m.recorded) (sym e) ∙ whole_recorded named a,
+  ap (λ (m : Log). m.passed) (sym e) ∙ alternation_passed a (started (reach_of text)),
 )

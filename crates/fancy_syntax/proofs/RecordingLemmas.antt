@@ -23,7 +23,8 @@ use Rattle.fancy_grammar.specs.Spans.{adjacent_spans, quants_spans}
 use Rattle.fancy_grammar.specs.State.{skipped, State, at, Outcome, done, failed, failed_with, and_then, mapped}
 use Rattle.fancy_grammar.specs.Tree.{Tree, leaf, over, row, Trees, trees_of, alt, repeat, atomic_group}
 use Rattle.fancy_grammar.proofs.OutcomeLemmas.{Holds}
-use Rattle.fancy_syntax.specs.Log.{Log, plain, put, reaches, shown, under_node, wrapped}
+use Rattle.fancy_grammar.specs.Trivia.{Trivium, comments_at}
+use Rattle.fancy_syntax.specs.Log.{Log, plain, put, reaches, shown, under_node, wrapped, pass, layout_passed}
 use Rattle.fancy_syntax.specs.Recording.{counted_recorded, quant_recorded, adjacent_recorded, quants_recorded}
 use Rattle.fancy_syntax.specs.declared.grammar.recorded.Last.{Last}
 use Rattle.fancy_syntax.specs.declared.grammar.recorded.RecordedNode.{RecordedNode}
@@ -113,6 +114,30 @@ module _ (named : Bool) where
     pub is_last : m.last ≡ record { start = start; height = length l.recorded }
     pub fits : Fits r x xs
 
+  -- what no node has is passed before it
+  pub passed_before : {start : ℕ} {l m : Log} {r : Tree} {x : Spans} (ps : List Trivium) →
+      PieceRecorded start (pass ps l) m r x → PieceRecorded start l m r x
+  passed_before ps h = record {
+    xs = h.xs;
+    is_recorded = h.is_recorded;
+    is_around = h.is_around;
+    is_open = h.is_open;
+    is_last = h.is_last;
+    fits = h.fits;
+  }
+
+  -- and after it
+  pub passed_after : {start : ℕ} {l m : Log} {r : Tree} {x : Spans} (ps : List Trivium) → PieceRecorded start l m r x →
+      PieceRecorded start l (pass ps m) r x
+  passed_after ps h = record {
+    xs = h.xs;
+    is_recorded = h.is_recorded;
+    is_around = h.is_around;
+    is_open = h.is_open;
+    is_last = h.is_last;
+    fits = h.fits;
+  }
+
   module _ (start : ℕ) (l : Log) where
     -- in a node
     once : {m : Log} {a : Tree} {x : Spans} (w : _) (end : ℕ) → PieceRecorded start l m a x →
@@ -163,38 +188,50 @@ module _ (named : Bool) where
     unfolding quant
     quant_recorded_as left a s m x h = by_layout (skipped s)
       where
+        n : Log
+        n = layout_passed s m
+
+        g : PieceRecorded start l n a x
+        g = passed_after (comments_at s) h
+
+        -- after the layout before the operators
+        after : Text → Log
+        after u = layout_passed (at s u) n
+
         by_operators : (c : Counts) (u : Text) (o : Outcome Suffix) →
             RecordedAs
-            (if_done o (λ k v. wrapped (quantifier_end u k v) (is_swapped s.flags c || k.possessive) m) m)
+            (if_done o (λ k v. wrapped (quantifier_end u k v) (is_swapped s.flags c || k.possessive) (after u)) (after u))
             (if_done o (λ k v. under s.flags c k (record { start = start; end = quantifier_end u k v }) x) x)
             (mapped (λ k. quantified s.flags c k a) o)
-        by_operators c u (done k v) = under_recorded s.flags c k (quantifier_end u k v) h
+        by_operators c u (done k v) =
+            under_recorded s.flags c k (quantifier_end u k v) (passed_after (comments_at (at s u)) g)
         by_operators c u (failed k p) = tt
 
-        by_dropped : (o : Outcome Suffix) → RecordedAs m x (mapped (λ k. a) o)
-        by_dropped (done k v) = h
-        by_dropped (failed k p) = tt
+        by_dropped : (u : Text) (o : Outcome Suffix) → RecordedAs (after u) x (mapped (λ k. a) o)
+        by_dropped u (done k v) = passed_after (comments_at (at s u)) g
+        by_dropped u (failed k p) = tt
 
         by_tests : (b d : Bool) (c : Counts) (u : Text) →
             RecordedAs
             (if b then if_done (suffix (at s u) c)
-            (λ k v. wrapped (quantifier_end u k v) (is_swapped s.flags c || k.possessive) m) m else m)
+            (λ k v. wrapped (quantifier_end u k v) (is_swapped s.flags c || k.possessive) (after u)) (after u)
+            else after u)
             (if b then if_done (suffix (at s u) c)
             (λ k v. under s.flags c k (record { start = start; end = quantifier_end u k v }) x) x else x)
             (if b then mapped (λ k. quantified s.flags c k a) (suffix (at s u) c)
             else if d then mapped (λ k. a) (suffix (at s u) c) else failed_with (not_repeatable u))
         by_tests true d c u = by_operators c u (suffix (at s u) c)
-        by_tests false true c u = by_dropped (suffix (at s u) c)
+        by_tests false true c u = by_dropped u (suffix (at s u) c)
         by_tests false false c u = tt
 
         by_counts : (v : Text) (o : Option (Counts × Text)) →
-            RecordedAs (choose o (counted_recorded a s m) m) (choose o (counted start a s x) x)
+            RecordedAs (choose o (counted_recorded a s n) n) (choose o (counted start a s x) x)
             (with_counts left a (at s v) o)
-        by_counts v None = h
+        by_counts v None = g
         by_counts v (Some (c, u)) = by_tests (is_repeatable s.flags a) (is_dropped s.flags left a u) c u
 
         by_layout : (j : Skipped) → RecordedAs
-            (choose (option_and_then (counts s.flags.ignore_space) (rest_of j)) (counted_recorded a s m) m)
+            (choose (option_and_then (counts s.flags.ignore_space) (rest_of j)) (counted_recorded a s n) n)
             (choose (option_and_then (counts s.flags.ignore_space) (rest_of j)) (counted start a s x) x)
             (quant_at left a s j)
         by_layout (rest v) = by_counts v (counts s.flags.ignore_space v)

@@ -26,6 +26,8 @@ pub use Rattle.fancy_grammar.specs.ParsedTree
 -- ---- the positions of the nodes
 pub use Rattle.fancy_grammar.specs.Spans
 pub mod SpanViews
+pub use Rattle.fancy_grammar.specs.Trivia
+pub mod TriviaViews
 -- ---- printing, and what a printed text is read as
 pub use Rattle.fancy_grammar.specs.Printed
 pub use Rattle.fancy_grammar.specs.HasDelegate

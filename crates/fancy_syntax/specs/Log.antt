@@ -1,22 +1,26 @@
--- What is recorded about the positions of nodes while a pattern is read, and how each thing that is read changes the
--- record.
+-- What is recorded about the positions of nodes, and of what no node has, while a pattern is read, and how each thing
+-- that is read changes the record.
 use Rattle.std.specs.Prelude.{ℕ, ◌+◌, ◌-◌, ◌==◌, nat_lt, min, Bool, false, ◌&&◌, if◌then◌else◌, List, [], ◌∷◌, ◌++◌}
 use Rattle.std.specs.Prelude.{length, take, insert, remove, Option, Some, None}
 use Rattle.std.specs.List.{slice_get, slice_index_or}
 use Rattle.fancy_lex.specs.Text.{reach_of}
 use Rattle.fancy_grammar.specs.Spans.{Span, condition_span}
+use Rattle.fancy_grammar.specs.GroupKind.{GroupKind}
 use Rattle.fancy_grammar.specs.State.{State}
+use Rattle.fancy_grammar.specs.Trivia.{Trivium, comments_at, opening_of}
 use Rattle.fancy_syntax.specs.declared.grammar.recorded.FirstBar.{FirstBar}
 use Rattle.fancy_syntax.specs.declared.grammar.recorded.Last.{Last}
 use Rattle.fancy_syntax.specs.declared.grammar.recorded.RecordedNode.{RecordedNode}
 use Rattle.fancy_syntax.specs.declared.grammar.recorded.Open.{Open}
 
--- the nodes that have been read, each tree in preorder; the open atoms, with the innermost one separate; the last piece
+-- the nodes that have been read, each tree in preorder; the open atoms, with the innermost one separate; the last piece;
+-- what was passed that no node has
 pub record Log : Type 0 where
   pub recorded : List RecordedNode
   pub around : List Open
   pub open_atom : Open
   pub last : Last
+  pub passed : List Trivium
 
 -- a node that is neither a group without a name nor an Alt that the grammar reads
 abbrev pub plain : ℕ → ℕ → RecordedNode
@@ -37,6 +41,7 @@ started start = record {
     pieces = 0;
   };
   last = record { start = start; height = 0 };
+  passed = [];
 }
 
 -- the span of the node, in reaches
@@ -51,6 +56,15 @@ shown named (x ∷ xs) = if named && x.unnamed then shown named xs else reaches 
 -- a node inserted after that many others, or after all if there are fewer
 abbrev pub put : ℕ → RecordedNode → Log → Log
 put height x l = record l { recorded = insert l.recorded (min height (length l.recorded)) x }
+
+-- ---- what no node has
+
+abbrev pub pass : List Trivium → Log → Log
+pass xs l = record l { passed = l.passed ++ xs }
+
+-- the comments in the layout at the state
+abbrev pub layout_passed : State → Log → Log
+layout_passed s l = pass (comments_at s) l
 
 -- ---- leaves and quantifiers
 
@@ -103,6 +117,10 @@ atom_opened start l = record l {
 abbrev pub opened : ℕ → ℕ → Log → Log
 opened start inside l = part_begun inside (atom_opened start l)
 
+-- a group of this kind that begins at s, and its contents at t
+abbrev pub group_opened : GroupKind → State → State → Log → Log
+group_opened h s t l = pass (opening_of h s t) (opened (reach_of s.rest) (reach_of t.rest) l)
+
 -- a conditional that begins at s; its body begins at t, after a condition that is no alternation
 abbrev pub body_opened : State → State → Log → Log
 body_opened s t l =
@@ -118,6 +136,7 @@ atom_ended l =
       around = take outer l.around;
       open_atom = slice_index_or l.around outer l.open_atom;
       last = record { start = l.open_atom.start; height = l.open_atom.height };
+      passed = l.passed;
     }
 
 abbrev pub atom_closed : ℕ → Bool → Log → Log

@@ -2,6 +2,7 @@
 use Rattle.std.specs.Prelude.{◌≡◌, ℕ, ◌+◌, ◌<◌, ◌==◌, ◌&&◌, not, if◌then◌else◌, Bool, true, false, List, []}
 use Rattle.std.specs.Prelude.{◌∷◌, ◌++◌, length, Some, Result, MatchResult, ⊤}
 use Rattle.fancy_lex.specs.Characters.{bar}
+use Rattle.fancy_lex.specs.Comments.{comments}
 use Rattle.fancy_lex.specs.ErrorTable.{bar_for_close_paren, body_missing}
 use Rattle.fancy_lex.specs.LayoutSteps.{rest}
 use Rattle.fancy_lex.specs.Text.{Text, bytes, reach_of, strip}
@@ -16,7 +17,8 @@ use Rattle.fancy_grammar.specs.GroupKind.{GroupKind, group_node}
 use Rattle.fancy_grammar.specs.Join.{solid, is_empty}
 use Rattle.fancy_grammar.specs.Slices.{Slice}
 use Rattle.fancy_grammar.specs.Spans.{if_done}
-use Rattle.fancy_syntax.specs.Log.{Log, opened, body_opened, part_begun, branch_begun, atom_closed}
+use Rattle.fancy_syntax.specs.Log.{Log, opened, group_opened, body_opened, part_begun, branch_begun, atom_closed}
+use Rattle.fancy_syntax.specs.Log.{layout_passed}
 use Rattle.fancy_syntax.specs.Recording.{PieceTo, PiecesTo, BranchTo, BranchesTo, AlternationTo, inside_recorded}
 use Rattle.fancy_syntax.specs.Recording.{branch_recorded}
 use Rattle.fancy_syntax.specs.Recording.{group_recorded, conditional_recorded, stopper_recorded, quants_recorded, added}
@@ -87,15 +89,15 @@ Part (body c left) d s o l m = AlternationTo d s o l m
 -- log after
 pub data OpensPart : ℕ → State → Log → OpenPart → State → Log → Type 0 where
   a_group : {d s l t u h : _} → skipped s ≡ rest u → atom_start d (at s u) ≡ seen.of_kind h t →
-      OpensPart d s l (group h (reach_of u)) t (opened (reach_of u) (reach_of t.rest) l)
+      OpensPart d s l (group h (reach_of u)) t (group_opened h (at s u) t (layout_passed s l))
   a_condition : {d s l t u : _} → skipped s ≡ rest u → atom_start d (at s u) ≡ seen.condition t →
-      OpensPart d s l condition t (opened (reach_of u) (reach_of t.rest) l)
+      OpensPart d s l condition t (opened (reach_of u) (reach_of t.rest) (layout_passed s l))
   a_body : {d s l t u c : _} → skipped s ≡ rest u → atom_start d (at s u) ≡ seen.body c t →
-      OpensPart d s l (body c (bytes t.rest)) t (body_opened (at s u) t l)
+      OpensPart d s l (body c (bytes t.rest)) t (body_opened (at s u) t (layout_passed s l))
   after_condition : {d s l t m v c : _} → OpensPart d s l condition t m → (i : Inside d t (done c v)) →
       OpensPart d s l (body c (bytes v.rest)) v (part_begun (reach_of v.rest) (inside_recorded i m))
   a_branch : {d s l t u : _} → skipped s ≡ rest u → atom_start d (at s u) ≡ seen.absent_branch t →
-      OpensPart d s l first t (opened (reach_of u) (reach_of t.rest) l)
+      OpensPart d s l first t (opened (reach_of u) (reach_of t.rest) (layout_passed s l))
   after_branch : {d s l t m v u a : _} → OpensPart d s l first t m → (b : Branch (d + 1) t (done a v)) →
       strip bar v.rest ≡ Some u →
       OpensPart d s l (second a) (at v u) (branch_begun (reach_of u) (branch_recorded b m))
@@ -244,5 +246,6 @@ TurnsLast r all below s o =
 pub record IsPlainLeaf (s : State) (r : Tree) (t : State) : Type 0 where
   pub more : ends s.rest ≡ false
   pub no_layout : skipped s ≡ rest s.rest
+  pub no_comments : comments s.flags.ignore_space s.rest ≡ []
   pub leaf : (d : ℕ) → atom_start d s ≡ seen.read (done r t)
   pub solid : is_empty r ≡ false

@@ -19,25 +19,28 @@ use Rattle.fancy_grammar.specs.Quantified.{quant, suffix, is_repeatable, is_swap
 use Rattle.fancy_grammar.specs.Spans.{end_of, if_done, quantifier_end}
 use Rattle.fancy_grammar.specs.State.{State, at, skipped, Outcome, done}
 use Rattle.fancy_grammar.specs.Tree.{Tree, alt, list_of, empty}
+use Rattle.fancy_grammar.specs.Trivia.{flags_of_atom, closing_of}
 use Rattle.fancy_syntax.specs.Log.{Log, leaf_recorded, left_out, wrapped, opened, body_opened, part_begun, branch_begun}
 use Rattle.fancy_syntax.specs.Log.{branch_ended, choice_ended, body_split, branch_lacked, part_dropped, atom_closed}
-use Rattle.fancy_syntax.specs.Log.{atom_ended}
+use Rattle.fancy_syntax.specs.Log.{atom_ended, pass, layout_passed, group_opened}
 
 -- ---- quantifiers
 
 -- after the atom a, with these counts
 abbrev pub counted_recorded : Tree → State → Log → Counts × Text → Log
 counted_recorded a s l (c, t) =
+    let k = layout_passed (at s t) l in
     if is_repeatable s.flags a
     then if_done (suffix (at s t) c)
-    (λ m v. wrapped (quantifier_end t m v) (is_swapped s.flags c || m.possessive) l) l
-    else l
+    (λ m v. wrapped (quantifier_end t m v) (is_swapped s.flags c || m.possessive) k) k
+    else k
 
 -- after the quantifier that follows layout, if one does
 abbrev pub quant_recorded : Tree → State → Log → Log
 quant_recorded a s l =
     let blanks = s.flags.ignore_space in
-    choose (option_and_then (counts blanks) (past_layout blanks s.rest)) (counted_recorded a s l) l
+    let m = layout_passed s l in
+    choose (option_and_then (counts blanks) (past_layout blanks s.rest)) (counted_recorded a s m) m
 
 -- after adjacent quantifiers, of which k more may follow
 abbrev pub adjacent_recorded : ℕ → Tree → State → Log → Log
@@ -56,7 +59,7 @@ quants_recorded left q l = if_done q (λ a s.
 
 -- a group, whose closing parenthesis ends at the reach
 abbrev pub group_recorded : GroupKind → ℕ → Log → Log
-group_recorded flag_group end l = atom_ended l
+group_recorded flag_group end l = atom_ended (pass (closing_of flag_group end) l)
 group_recorded (capture None) end l = atom_closed end true l
 group_recorded _ end l = atom_closed end false l
 
@@ -85,6 +88,10 @@ choice_recorded _ end l = l
 abbrev pub added : Tree → Log → Log
 added r l = if is_empty r then left_out l else l
 
+-- an atom that is read at once, at s: a leaf, or inline flags
+abbrev pub atom_read : State → Outcome Tree → Log → Log
+atom_read s q l = pass (flags_of_atom s q) (leaf_recorded (reach_of s.rest) (end_of q) l)
+
 -- ---- the productions
 
 abbrev mutual
@@ -107,7 +114,7 @@ abbrev mutual
   pieces_recorded (piece_error e a) l = piece_recorded a l
 
   pub piece_recorded : {d : ℕ} {s : State} {o : Outcome Tree} → Piece d s o → Log → Log
-  piece_recorded {s} (piece {q} i a) l = quants_recorded (bytes s.rest) q (atom_recorded a l)
+  piece_recorded {s} (piece {q} i a) l = quants_recorded (bytes s.rest) q (atom_recorded a (layout_passed s l))
   piece_recorded (layout_error i) l = l
 
   pub atom_recorded : {d : ℕ} {s : State} {o : Outcome Tree} → Atom d s o → Log → Log
@@ -115,9 +122,9 @@ abbrev mutual
 
   pub atom_of_recorded : {k : AtomStart} {d : ℕ} {s : State} {o : Outcome Tree} → AtomOf k d s o → Log → Log
   atom_of_recorded {s} a_nothing l = leaf_recorded (reach_of s.rest) (reach_of s.rest) l
-  atom_of_recorded {s} {o} a_read l = leaf_recorded (reach_of s.rest) (end_of o) l
+  atom_of_recorded {s} {o} a_read l = atom_read s o l
   atom_of_recorded {s} {o} (a_group {t} {h} i) l =
-      group_recorded h (end_of o) (inside_recorded i (opened (reach_of s.rest) (reach_of t.rest) l))
+      group_recorded h (end_of o) (inside_recorded i (group_opened h s t l))
   atom_of_recorded {s} (a_condition {t} {v} i b) l =
       body_recorded b (part_begun (reach_of v.rest) (inside_recorded i (opened (reach_of s.rest) (reach_of t.rest) l)))
   atom_of_recorded {s} (condition_error {t} i) l = inside_recorded i (opened (reach_of s.rest) (reach_of t.rest) l)
@@ -158,8 +165,8 @@ AlternationTo d s o l m = (a : Alternation d s o) × (alternation_recorded a l �
 -- after the start of an atom: a piece, or the opening of a part; that many bytes were left at the start of the piece
 abbrev pub start_recorded : ℕ → State → AtomStart → Log → Log
 start_recorded left s nothing l = quants_recorded left (done empty s) (leaf_recorded (reach_of s.rest) (reach_of s.rest) l)
-start_recorded left s (read o) l = quants_recorded left o (leaf_recorded (reach_of s.rest) (end_of o) l)
-start_recorded left s (of_kind h t) l = opened (reach_of s.rest) (reach_of t.rest) l
+start_recorded left s (read o) l = quants_recorded left o (atom_read s o l)
+start_recorded left s (of_kind h t) l = group_opened h s t l
 start_recorded left s (condition t) l = opened (reach_of s.rest) (reach_of t.rest) l
 start_recorded left s (body c t) l = body_opened s t l
 start_recorded left s (absent_branch t) l = opened (reach_of s.rest) (reach_of t.rest) l
@@ -170,4 +177,4 @@ skipped_recorded d s (rest u) l = start_recorded (bytes s.rest) (at s u) (atom_s
 skipped_recorded d s (open_comment p) l = l
 
 abbrev pub step_recorded : ℕ → State → Log → Log
-step_recorded d s l = skipped_recorded d s (skipped s) l
+step_recorded d s l = skipped_recorded d s (skipped s) (layout_passed s l)

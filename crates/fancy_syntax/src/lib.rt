@@ -20,6 +20,7 @@ pub mod print;
 mod resolve;
 pub mod span;
 pub mod tree;
+pub mod trivium;
 
 /// The error types, which the root re-exports.
 pub mod error {
@@ -46,3 +47,4 @@ pub use flags::{
 pub use print::{BRANCH, OPERAND, PIECE, WHOLE};
 pub use span::Span;
 pub use tree::ExprTree;
+pub use trivium::{Trivium, TriviumKind};

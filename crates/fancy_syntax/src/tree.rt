@@ -10,9 +10,11 @@ ghost use Rattle.fancy_grammar.specs.ParsedTree.{IsParsedTreeWith, HasGroupsOf, 
 ghost use Rattle.fancy_grammar.specs.Grammar.{DerivesTree};
 ghost use Rattle.fancy_grammar.specs.Preorder.{preorder};
 ghost use Rattle.fancy_grammar.specs.Spans.{AreSpansOf, IsCutOut, Nests};
+ghost use Rattle.fancy_grammar.specs.Trivia.{IsTriviaOf, IsPartOf, AreInOrder};
 ghost use Rattle.fancy_syntax.specs.Log.{Log, started};
-ghost use Rattle.fancy_syntax.specs.LogViews.{returned_spans};
+ghost use Rattle.fancy_syntax.specs.LogViews.{log_of, returned_spans, returned_trivia};
 ghost use Rattle.fancy_syntax.specs.SpanViews.{spans_of};
+ghost use Rattle.fancy_syntax.specs.TriviaViews.{trivia_of};
 ghost use Rattle.fancy_syntax.specs.View.{view};
 
 use crate::expr::Expr;
@@ -21,6 +23,7 @@ use crate::grammar::spanning::{NoSpans, Spanning};
 use crate::grammar::spans::Spans;
 use crate::resolve::resolve;
 use crate::span::Span;
+use crate::trivium::Trivium;
 use fancy_lex::error::{ReadError, Result};
 use fancy_lex::flags::{FLAG_UNICODE, Flags};
 use fancy_lex::text::reach;
@@ -143,6 +146,51 @@ impl Expr {
         }
     }
 
+    /// Parses the pattern as `parse_tree_with_spans` does, with the same tree, spans and errors, and also returns what no
+    /// node has, in the order of the pattern: comments, inline flags, and the parentheses of flag groups, such as `(?:` or
+    /// `(?i:`. A comment inside a token, such as one in the braces of a quantifier or after the parenthesis of a group, is
+    /// part of the token. Not in the list are the parentheses of a group that has no number, because only those with a name
+    /// have one; a quantifier that has no effect; and the parts of a conditional without branches.
+    ///
+    /// ```rust
+    /// let (tree, spans, trivia) = Expr::parse_tree_with_trivia(alloc, "a(?#b)", FLAG_UNICODE)?;
+    /// let comment = trivia[0].span; // Span { start: 1, end: 6 }
+    /// ```
+    pub fn parse_tree_with_trivia(
+        alloc: Global,
+        re: &str,
+        flags: u32,
+    ) -> Result<(ExprTree, Vec<Span>, Vec<Trivium>)>
+        ensures found { IfOk result (λ p. IsTreeOf (flags_of flags) (chars re.now) (view p.0.expr) (info_of p.0)) }
+        ensures only { IfOk result (λ p. (e : _) (m : _) → IsTreeOf (flags_of flags) (chars re.now) e m → (e ≡
+            view p.0.expr) × (m ≡ info_of p.0)) }
+        ensures exact { IfOk result (λ p. (k : _) (q : _) → IsErrorOf (flags_of flags) (chars re.now) k q → ⊥) }
+        ensures bounds { IfOk result (λ p. IsSmall (view p.0.expr) (length re.now)) }
+        ensures returned { IfOk result (λ p. IsParsedTreeWith (view p.0.expr) (info_of p.0)) }
+        ensures groups { IfOk result (λ p. (r : _) → DerivesTree (flags_of flags) (chars re.now) r →
+            HasGroupsOf (flags_of flags) (chars re.now) r (view p.0.expr)) }
+        ensures spans { IfOk result (λ p. AreSpansOf (flags_of flags) (chars re.now) (spans_of p.1)) }
+        ensures only_spans { IfOk result (λ p. (l : _) → AreSpansOf (flags_of flags) (chars re.now) l →
+            l ≡ spans_of p.1) }
+        ensures each { IfOk result (λ p. length p.1.items ≡ length (preorder (view p.0.expr))) }
+        ensures nested { IfOk result (λ p. Nests 0 (length re.now) (view p.0.expr) (spans_of p.1)) }
+        ensures cut { IfOk result (λ p. AllByRecursion (IsCutOut re.now) (spans_of p.1)) }
+        ensures trivia { IfOk result (λ p. IsTriviaOf (flags_of flags) (chars re.now) (trivia_of p.2)) }
+        ensures only_trivia { IfOk result (λ p. (l : _) → IsTriviaOf (flags_of flags) (chars re.now) l →
+            l ≡ trivia_of p.2) }
+        ensures parts { IfOk result (λ p. AllByRecursion (IsPartOf (chars re.now)) (trivia_of p.2)) }
+        ensures in_order { IfOk result (λ p. AreInOrder 0 (length re.now) (trivia_of p.2)) }
+        ensures cut_trivia { IfOk result (λ p. AllByRecursion (λ x. IsCutOut re.now x.span) (trivia_of p.2)) }
+        ensures error { IfErr result (λ e. IsOnlyError e (flags_of flags) (chars re.now)) }
+        ensures position { IfErr result (λ e. IsPositionedIn e re.now) }
+    {
+        let flags = Flags::from_bits(flags);
+        match read_with_trivia(alloc, re, flags) {
+            Ok(found) => Ok(found),
+            Err(error) => Err(error.in_pattern(re)),
+        }
+    }
+
     /// Parses the pattern under only `FLAG_UNICODE`, with the errors of `parse_tree_with_flags`.
     ///
     /// ```rust
@@ -178,7 +226,8 @@ fn read<S: Spanning>(
     ensures position { IfErr result (λ e. IsPositionedIn (error_in (chars re.now) e) re.now) }
     ensures spans { (l : Log) → l ≡ started (reach_of (chars re.now)) → S.records spans.old l →
         IfOk result (λ t. (m : Log) × S.records spans.new m × AreSpansOf flags (chars re.now)
-        (returned_spans (chars re.now) (info_of t).numbered_groups_ignored m)) }
+        (returned_spans (chars re.now) (info_of t).numbered_groups_ignored m)
+        × IsTriviaOf flags (chars re.now) (returned_trivia (chars re.now) m)) }
 {
     let raw = parse(alloc, re, flags, spans)?;
     resolve(alloc, raw, re, flags)
@@ -195,8 +244,43 @@ fn read_with_spans(
     ensures position { IfErr result (λ e. IsPositionedIn (error_in (chars re.now) e) re.now) }
     ensures spans { IfOk result (λ p. AreSpansOf flags (chars re.now) (spans_of p.1)) }
 {
-    let mut recorded = Spans::new(alloc, reach(re));
-    let tree = read(alloc, re, flags, &mut recorded)?;
+    let (tree, recorded) = read_recorded(alloc, re, flags)?;
     let spans = recorded.returned(alloc, re, tree.numbered_groups_ignored)?;
     Ok((tree, spans))
+}
+
+/// Reads the pattern: its tree with the spans of its nodes and what no node has, or its error with a reach.
+fn read_with_trivia(
+    alloc: Global,
+    re: &str,
+    flags: Flags,
+) -> std::result::Result<(ExprTree, Vec<Span>, Vec<Trivium>), ReadError>
+    ensures found { IfOk result (λ p. IsTreeOf flags (chars re.now) (view p.0.expr) (info_of p.0)) }
+    ensures error { IfErr result (λ e. IsOnlyError (error_in (chars re.now) e) flags (chars re.now)) }
+    ensures position { IfErr result (λ e. IsPositionedIn (error_in (chars re.now) e) re.now) }
+    ensures spans { IfOk result (λ p. AreSpansOf flags (chars re.now) (spans_of p.1)) }
+    ensures trivia { IfOk result (λ p. IsTriviaOf flags (chars re.now) (trivia_of p.2)) }
+{
+    let (tree, recorded) = read_recorded(alloc, re, flags)?;
+    let spans = recorded.returned(alloc, re, tree.numbered_groups_ignored)?;
+    let trivia = recorded.returned_trivia(alloc, re)?;
+    Ok((tree, spans, trivia))
+}
+
+/// Reads the pattern: its tree with what was recorded, or its error with a reach.
+fn read_recorded(
+    alloc: Global,
+    re: &str,
+    flags: Flags,
+) -> std::result::Result<(ExprTree, Spans), ReadError>
+    ensures found { IfOk result (λ p. IsTreeOf flags (chars re.now) (view p.0.expr) (info_of p.0)) }
+    ensures error { IfErr result (λ e. IsOnlyError (error_in (chars re.now) e) flags (chars re.now)) }
+    ensures position { IfErr result (λ e. IsPositionedIn (error_in (chars re.now) e) re.now) }
+    ensures spans { IfOk result (λ p. AreSpansOf flags (chars re.now)
+        (returned_spans (chars re.now) (info_of p.0).numbered_groups_ignored (log_of p.1))) }
+    ensures trivia { IfOk result (λ p. IsTriviaOf flags (chars re.now) (returned_trivia (chars re.now) (log_of p.1))) }
+{
+    let mut recorded = Spans::new(alloc, reach(re));
+    let tree = read(alloc, re, flags, &mut recorded)?;
+    Ok((tree, recorded))
 }

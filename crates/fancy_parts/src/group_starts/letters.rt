@@ -1,16 +1,18 @@
 //! The letters of inline flags and of flag groups.
 ghost use Rattle.std.specs.Prelude.{◌≡◌, ℕ, ◌+◌, ◌<◌, ◌++◌, ◌∷◌, length, chars, codes, ◌||◌, IfErr, IfOk};
+ghost use Rattle.std.specs.Prelude.{IfSome, option_map};
 ghost use Rattle.fancy_lex.specs.Reading.{Reading, Returns, Reports, Derives};
 ghost use Rattle.fancy_lex.specs.Text.{Text, EndsWith, text_of};
 ghost use Rattle.fancy_lex.specs.ErrorViews.{LiesWithin};
 ghost use Rattle.fancy_parts.specs.FlagLetters as spec;
 ghost use Rattle.fancy_parts.specs.LetterSteps as steps;
 ghost use Rattle.fancy_parts.specs.FlagReads.{letters_of, step_of};
+ghost use Rattle.fancy_parts.specs.NextLetter as parsed;
 
 use fancy_lex::error::{ParseError, ReadError};
 use fancy_lex::flags::Flags;
-use fancy_lex::layout::skip;
-use fancy_lex::text::{AT_END, front, next};
+use fancy_lex::layout::{past_layout, skip};
+use fancy_lex::text::{AT_END, after, front, next};
 use std::alloc::{AllocError, Global};
 
 /// Whether the letters are inline flags or those of a flag group, with the flags that they make.
@@ -195,4 +197,49 @@ pub fn flag_letters(alloc: Global, text: &str, flags: Flags) -> Result<(Letters,
     ensures shorter { IfOk result (λ p. length p.1.now < length text.now) }
 {
     read_letters(alloc, text, flags)
+}
+
+/// A letter of inline flags or of a flag group.
+#[derive(Clone, Copy)]
+pub struct FlagLetter<'a> {
+    /// The letter itself.
+    pub letter: char,
+    /// Whether it sets its flag. After a minus sign it clears it.
+    pub sets: bool,
+    /// The flags after it.
+    pub after: Flags,
+    /// The text after it.
+    pub rest: &'a str,
+}
+
+/// The letter at the front; None at the parenthesis or the colon.
+fn letter_at(text: &str, sets: bool, flags: Flags) -> Option<FlagLetter<'_>>
+    ensures value { parsed.letter_at sets flags (chars text.now) ≡
+        option_map (λ l. (l.letter, l.sets, l.after, chars l.rest.now)) result }
+    ensures shorter { IfSome result (λ l. length l.rest.now < length text.now) }
+{
+    let (letter, rest) = next(text)?;
+    if letter == ')' || letter == ':' {
+        return None;
+    }
+    Some(FlagLetter {
+        letter,
+        sets,
+        after: with_letter(flags, sets, letter).unwrap_or(flags),
+        rest,
+    })
+}
+
+/// The next letter of letters that were parsed: the one after layout, after a minus sign too. `flags` are those before it,
+/// and `clears` says that a minus sign was before the last one. None at the parenthesis or the colon that ends the letters.
+pub fn next_letter(text: &str, clears: bool, flags: Flags) -> Option<FlagLetter<'_>>
+    ensures value { parsed.next_letter clears flags (chars text.now) ≡
+        option_map (λ l. (l.letter, l.sets, l.after, chars l.rest.now)) result }
+    ensures shorter { IfSome result (λ l. length l.rest.now < length text.now) }
+{
+    let start = past_layout(text, flags.ignore_space)?;
+    let Some(rest) = after(start, '-') else {
+        return letter_at(start, !clears, flags);
+    };
+    letter_at(past_layout(rest, flags.ignore_space)?, false, flags)
 }

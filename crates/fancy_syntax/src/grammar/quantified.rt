@@ -5,7 +5,7 @@ ghost use Rattle.fancy_grammar.specs.Join.{is_empty};
 ghost use Rattle.fancy_grammar.specs.Quantified as spec;
 ghost use Rattle.fancy_grammar.specs.State.{done};
 ghost use Rattle.fancy_grammar.specs.Tree.{repeat, atomic_group};
-ghost use Rattle.fancy_syntax.specs.Log.{Log};
+ghost use Rattle.fancy_syntax.specs.Log.{Log, layout_passed};
 ghost use Rattle.fancy_syntax.specs.Recording.{adjacent_recorded, counted_recorded, quant_recorded, quants_recorded};
 ghost use Rattle.fancy_syntax.specs.Parsed.{state, suffix_of, Turns, GivesSuffix};
 ghost use Rattle.fancy_syntax.specs.View.{view};
@@ -129,6 +129,7 @@ fn quantify_once<S: Spanning>(
     ensures spans { (l : Log) → S.records spans.old l →
         OnOk result (S.records spans.new (quant_recorded (view tree.old) (state current.old) l)) }
 {
+    spans.pass_layout(*current)?;
     current.rest = skip_layout(*current)?;
     let Some((counts, rest)) = counts(current.rest, current.flags.ignore_space) else {
         return Ok(());
@@ -157,7 +158,7 @@ fn repeat<S: Spanning>(
 {
     if is_repeatable(current.flags, tree) {
         let after_counts = reach(current.rest);
-        let suffix = read_suffix(current, counts)?;
+        let suffix = read_suffix(current, counts, spans)?;
         put_under(alloc, tree, current.flags, counts, suffix)?;
         // Layout after the counts belongs to the quantifier only if an operator follows it.
         let end = if suffix.lazy || suffix.possessive {
@@ -169,7 +170,7 @@ fn repeat<S: Spanning>(
         return Ok(());
     }
     if is_dropped(current.flags, left, tree, current.rest) {
-        read_suffix(current, counts)?;
+        read_suffix(current, counts, spans)?;
         return Ok(());
     }
     let operator = reach_before(current.rest);
@@ -178,11 +179,18 @@ fn repeat<S: Spanning>(
 
 /// Reads layout and the operators after the counts of a quantifier: the lazy one, and directly the possessive one.
 #[inline(always)]
-fn read_suffix(current: &mut State, counts: Counts) -> Result<Suffix, ReadError>
+fn read_suffix<S: Spanning>(
+    current: &mut State,
+    counts: Counts,
+    spans: &mut S,
+) -> Result<Suffix, ReadError>
+    ensures spans { (l : Log) → S.records spans.old l →
+        OnOk result (S.records spans.new (layout_passed (state current.old) l)) }
     ensures value { GivesSuffix result (state current.new) (spec.suffix (state current.old) counts) }
     ensures flags { current.new.flags ≡ current.old.flags }
     ensures within { length current.new.rest.now ≤ length current.old.rest.now }
 {
+    spans.pass_layout(*current)?;
     current.rest = skip_layout(*current)?;
     let mut lazy = false;
     if let Some(rest) = after(current.rest, '?') {

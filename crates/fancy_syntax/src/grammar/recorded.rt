@@ -1,4 +1,6 @@
-//! What is recorded about the positions of nodes. A position is given as a reach.
+//! What is recorded about the positions of nodes, and of what no node has. A position is given as a reach.
+
+use crate::trivium::TriviumKind;
 
 /// A node of the raw tree.
 #[derive(Clone, Copy)]
@@ -40,4 +42,12 @@ pub(crate) struct Open {
 pub(crate) struct Last {
     pub(crate) start: usize,
     pub(crate) height: usize,
+}
+
+/// A part of the pattern that no node has.
+#[derive(Clone, Copy)]
+pub(crate) struct RecordedTrivium {
+    pub(crate) start: usize,
+    pub(crate) end: usize,
+    pub(crate) kind: TriviumKind,
 }

@@ -1,11 +1,13 @@
-//! The positions of the nodes of a raw tree, recorded while it is read.
-ghost use Rattle.std.specs.Prelude.{OnOk};
+//! The positions of the nodes of a raw tree, and of what no node has, recorded while it is read.
+ghost use Rattle.std.specs.Prelude.{OnOk, [], ◌∷◌};
 ghost use Rattle.fancy_syntax.specs.Log.{Log, leaf_recorded, left_out, wrapped, opened, body_opened, part_begun};
 ghost use Rattle.fancy_syntax.specs.Log.{branch_begun, branch_ended, choice_ended, body_split, branch_lacked};
-ghost use Rattle.fancy_syntax.specs.Log.{part_dropped, atom_closed, atom_ended};
+ghost use Rattle.fancy_syntax.specs.Log.{part_dropped, atom_closed, atom_ended, layout_passed, pass};
+ghost use Rattle.fancy_syntax.specs.TriviaViews.{trivium_at};
 ghost use Rattle.fancy_syntax.specs.Parsed.{state};
 
 use crate::grammar::state::State;
+use crate::trivium::TriviumKind;
 use std::alloc::AllocError;
 
 /// What is done with the reaches that the parser passes. If no spans are recorded, nothing is done, and calls are
@@ -13,6 +15,14 @@ use std::alloc::AllocError;
 pub(crate) trait Spanning: Drop {
     /// The log that is recorded, if anything is.
     ghost records: { Self → Log → Type 0 };
+
+    /// The layout at the front is passed.
+    fn pass_layout(&mut self, current: State) -> Result<(), AllocError>
+        ensures { (l : Log) → records self.old l → OnOk result (records self.new (layout_passed (state current.entry) l)) };
+
+    /// A part of the pattern that no node has is passed.
+    fn pass(&mut self, start: usize, end: usize, kind: TriviumKind) -> Result<(), AllocError>
+        ensures { (l : Log) → records self.old l → OnOk result (records self.new (pass (trivium_at start end kind ∷ []) l)) };
 
     /// A leaf is there, and becomes the last piece.
     fn record_leaf(&mut self, start: usize, end: usize) -> Result<(), AllocError>
@@ -80,6 +90,16 @@ pub(crate) struct NoSpans;
 
 impl Spanning for NoSpans {
     ghost records = { λ s l. Unit {0} };
+
+    #[inline(always)]
+    fn pass_layout(&mut self, _current: State) -> Result<(), AllocError> {
+        Ok(())
+    }
+
+    #[inline(always)]
+    fn pass(&mut self, _start: usize, _end: usize, _kind: TriviumKind) -> Result<(), AllocError> {
+        Ok(())
+    }
 
     #[inline(always)]
     fn record_leaf(&mut self, _start: usize, _end: usize) -> Result<(), AllocError> {

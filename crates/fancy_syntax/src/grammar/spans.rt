@@ -1,22 +1,27 @@
-//! The spans of the nodes of a raw tree, each tree in preorder.
+//! The spans of the nodes of a raw tree, each tree in preorder, and what no node has.
 ghost use Rattle.std.specs.Prelude.{◌≡◌, [], ◌∷◌, ◌++◌, chars, map, option_map, IfOk, OnOk};
 ghost use Rattle.fancy_lex.specs.Reading.{choose};
 ghost use Rattle.fancy_lex.specs.Text.{bytes, reach_of};
 ghost use Rattle.fancy_grammar.specs.Spans.{condition_text, positioned};
 ghost use Rattle.fancy_syntax.specs.Log as spec;
-ghost use Rattle.fancy_syntax.specs.Log.{reaches, shown};
-ghost use Rattle.fancy_syntax.specs.LogViews.{log_of};
+ghost use Rattle.fancy_syntax.specs.Log.{layout_passed, reaches, shown};
+ghost use Rattle.fancy_syntax.specs.LogViews.{log_of, returned_trivia};
 ghost use Rattle.fancy_syntax.specs.Parsed.{state};
 ghost use Rattle.fancy_syntax.specs.SpanViews.{span_of, spans_of};
+ghost use Rattle.fancy_syntax.specs.TriviaViews.{recorded_trivium, trivia_of, trivium_at, trivium_of};
+ghost use Rattle.fancy_grammar.specs.Trivia.{located, of_comment};
+ghost use Rattle.fancy_lex.specs.CommentViews.{comment_of};
 
-use crate::grammar::recorded::{FirstBar, Last, Open, RecordedNode};
+use crate::grammar::recorded::{FirstBar, Last, Open, RecordedNode, RecordedTrivium};
 use crate::grammar::spanning::Spanning;
 use crate::grammar::state::{State, skip_layout};
 use crate::span::Span;
+use crate::trivium::{Trivium, TriviumKind};
+use fancy_lex::layout::{LayoutComment, first_comment};
 use fancy_lex::text::{after, after_word, position_at, reach, reach_before};
 use std::alloc::{AllocError, Global};
 
-/// The nodes that have been read, and the open atoms.
+/// The nodes that have been read, the open atoms, and what was passed that no node has.
 #[derive(Drop)]
 pub(crate) struct Spans {
     pub(crate) recorded: Vec<RecordedNode>,
@@ -25,6 +30,8 @@ pub(crate) struct Spans {
     pub(crate) open: Open,
     /// The last piece.
     pub(crate) last: Last,
+    /// What no node has, in the order of the pattern.
+    pub(crate) passed: Vec<RecordedTrivium>,
 }
 
 impl Spans {
@@ -45,6 +52,7 @@ impl Spans {
                 pieces: 0,
             },
             last: Last { start, height: 0 },
+            passed: Vec::new(alloc),
         }
     }
 
@@ -63,6 +71,33 @@ impl Spans {
             push_shown(&mut spans, pattern, named, *recorded)?;
         }
         Ok(spans)
+    }
+
+    /// What the tree of the pattern does not hold.
+    pub(crate) fn returned_trivia(
+        &self,
+        alloc: Global,
+        pattern: &str,
+    ) -> Result<Vec<Trivium>, AllocError>
+        ensures { IfOk result (λ trivia. trivia_of trivia ≡ returned_trivia (chars pattern.now) (log_of self.now)) }
+    {
+        let mut trivia = Vec::with_capacity(alloc, self.passed.len())?;
+        for passed in &self.passed {
+            trivia.push(trivium_in(pattern, *passed))?;
+        }
+        Ok(trivia)
+    }
+
+    /// Records the comments in the layout at the front.
+    fn pass_comments(&mut self, current: State) -> Result<(), AllocError>
+        ensures { OnOk result (log_of self.new ≡ layout_passed (state current.entry) (log_of self.old)) }
+    {
+        let mut rest = current.rest;
+        while let Some(comment) = first_comment(rest, current.flags.ignore_space) {
+            self.passed.push(trivium_of_comment(comment))?;
+            rest = comment.rest;
+        }
+        Ok(())
     }
 
     /// Inserts a node after that many others.
@@ -99,6 +134,14 @@ impl Spans {
 
 impl Spanning for Spans {
     ghost records = { λ s l. log_of s ≡ l };
+
+    fn pass_layout(&mut self, current: State) -> Result<(), AllocError> {
+        self.pass_comments(current)
+    }
+
+    fn pass(&mut self, start: usize, end: usize, kind: TriviumKind) -> Result<(), AllocError> {
+        Ok(self.passed.push(RecordedTrivium { start, end, kind })?)
+    }
 
     fn record_leaf(&mut self, start: usize, end: usize) -> Result<(), AllocError> {
         let height = self.recorded.len();
@@ -233,6 +276,34 @@ fn span_in(pattern: &str, node: RecordedNode) -> Span
     Span {
         start: position_at(pattern, node.start),
         end: position_at(pattern, node.end),
+    }
+}
+
+/// A comment, as it is recorded.
+fn trivium_of_comment(comment: LayoutComment<'_>) -> RecordedTrivium
+    ensures { recorded_trivium result ≡ of_comment (comment_of comment.entry) }
+{
+    let kind = if comment.is_line {
+        TriviumKind::LineComment
+    } else {
+        TriviumKind::Comment
+    };
+    RecordedTrivium {
+        start: reach(comment.start),
+        end: reach(comment.rest),
+        kind,
+    }
+}
+
+/// The trivium with its span in the pattern.
+fn trivium_in(pattern: &str, recorded: RecordedTrivium) -> Trivium
+    ensures { trivium_of result ≡ located (bytes (chars pattern.now)) (recorded_trivium recorded) }
+{
+    let start = position_at(pattern, recorded.start);
+    let end = position_at(pattern, recorded.end);
+    Trivium {
+        span: Span { start, end },
+        kind: recorded.kind,
     }
 }
 

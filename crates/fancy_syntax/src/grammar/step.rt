@@ -6,11 +6,11 @@ ghost use Rattle.fancy_lex.specs.Text.{bytes, reach_of, strip};
 ghost use Rattle.fancy_grammar.specs.State.{ends};
 ghost use Rattle.fancy_grammar.specs.Depth.{max_depth};
 ghost use Rattle.fancy_grammar.specs.Grammar as spec;
-ghost use Rattle.fancy_syntax.specs.Log.{Log};
+ghost use Rattle.fancy_syntax.specs.Log.{Log, group_opened};
 ghost use Rattle.fancy_syntax.specs.Machine as machine;
 ghost use Rattle.fancy_syntax.specs.Machine.{OpensPart, OpensBelow, Part, GivesStep, GivesPiece, ended_part, part_of};
 ghost use Rattle.fancy_syntax.specs.Machine.{TurnsLast, close_recorded, part_recorded};
-ghost use Rattle.fancy_syntax.specs.Recording.{body_separated, group_recorded, quants_recorded, step_recorded};
+ghost use Rattle.fancy_syntax.specs.Recording.{atom_read, body_separated, group_recorded, quants_recorded, step_recorded};
 ghost use Rattle.fancy_syntax.specs.Parsed.{group_kind, state, GivesTree};
 ghost use Rattle.fancy_grammar.specs.Quantified.{quants};
 ghost use Rattle.fancy_grammar.specs.Errors.{IsErrorAmong};
@@ -29,8 +29,10 @@ use crate::grammar::plain::is_unquantified;
 use crate::grammar::quantified::quantify;
 use crate::grammar::spanning::Spanning;
 use crate::grammar::state::{State, skip_layout};
+use crate::grammar::trees::is_empty;
+use crate::trivium::TriviumKind;
 use fancy_lex::error::{ParseError, ReadError};
-use fancy_lex::text::{AT_END, byte_len, next, reach};
+use fancy_lex::text::{AT_END, byte_len, next, reach, reach_before};
 use std::alloc::{AllocError, Global};
 
 /// What a step reads.
@@ -65,6 +67,7 @@ pub(crate) fn read_step<'a, S: Spanning>(
     ensures below { IfOk result (λ p. OpensBelow p depth) }
 {
     let left = byte_len(current.rest);
+    spans.pass_layout(*current)?;
     current.rest = skip_layout(*current)?;
     let before = *current;
     match read_atom_start(alloc, current, depth)? {
@@ -73,7 +76,7 @@ pub(crate) fn read_step<'a, S: Spanning>(
             piece(alloc, Expr::Empty, current, left, depth, spans)
         }
         AtomStart::Read(atom) => {
-            spans.record_leaf(reach(before.rest), reach(current.rest))?;
+            record_atom(before, &atom, *current, spans)?;
             // Usually no quantifier follows: this saves a call for each leaf.
             if is_unquantified(*current) {
                 return Ok(Step::Piece(atom));
@@ -81,8 +84,8 @@ pub(crate) fn read_step<'a, S: Spanning>(
             piece(alloc, atom, current, left, depth, spans)
         }
         AtomStart::Group(kind) => {
+            open_group(kind, before, *current, spans)?;
             let paren = reach(before.rest);
-            spans.open(paren, reach(current.rest))?;
             Ok(Step::Open(OpenGroup::Group { kind, reach: paren }))
         }
         AtomStart::Condition => {
@@ -100,6 +103,56 @@ pub(crate) fn read_step<'a, S: Spanning>(
             spans.open(reach(before.rest), reach(current.rest))?;
             Ok(Step::Open(OpenGroup::First))
         }
+    }
+}
+
+/// Records an atom that is read at once: a leaf, or inline flags, whose tree is an Empty.
+#[inline(always)]
+fn record_atom<S: Spanning>(
+    start: State,
+    atom: &Expr,
+    end: State,
+    spans: &mut S,
+) -> Result<(), AllocError>
+    ensures { (l : Log) → S.records spans.old l → OnOk result (S.records spans.new
+        (atom_read (state start.entry) (states.done (view atom.now) (state end.entry)) l)) }
+{
+    spans.record_leaf(reach(start.rest), reach(end.rest))?;
+    if is_empty(atom) {
+        let kind = TriviumKind::InlineFlags {
+            before: start.flags,
+            after: end.flags,
+        };
+        spans.pass(reach(start.rest), reach(end.rest), kind)?;
+    }
+    Ok(())
+}
+
+/// Records the opening of a group of one alternation, whose contents begin at `inside`. A flag group has no node.
+#[inline(always)]
+fn open_group<S: Spanning>(
+    kind: GroupKind,
+    start: State,
+    inside: State,
+    spans: &mut S,
+) -> Result<(), AllocError>
+    ensures { (l : Log) → S.records spans.old l → OnOk result (S.records spans.new
+        (group_opened (group_kind kind.entry) (state start.entry) (state inside.entry) l)) }
+{
+    spans.open(reach(start.rest), reach(inside.rest))?;
+    match kind {
+        GroupKind::FlagGroup => {
+            let opening = TriviumKind::Opening {
+                around: start.flags,
+                inside: inside.flags,
+            };
+            spans.pass(reach(start.rest), reach(inside.rest), opening)
+        }
+        GroupKind::Capture(_)
+        | GroupKind::Look(_)
+        | GroupKind::Atomic
+        | GroupKind::Define
+        | GroupKind::Repeater => Ok(()),
     }
 }
 
@@ -222,7 +275,7 @@ fn end_part<S: Spanning>(
         drop(inner);
         return Err(error);
     }
-    Ok(node_of_part(alloc, open_group, inner, paren, reach(current.rest), spans)?)
+    Ok(node_of_part(alloc, open_group, inner, paren, current.rest, spans)?)
 }
 
 /// Reads the closing parenthesis of the open part, whatever its tree is. The errors are those of `end_part`.
@@ -252,24 +305,26 @@ fn lacks_body(open_group: &OpenGroup, text: &str) -> bool
     }
 }
 
-/// The tree of the part, made of the tree of its contents. Its closing parenthesis begins at the reach `paren` and ends
-/// at the reach `end`.
+/// The tree of the part, made of the tree of its contents. Its closing parenthesis begins at the reach `paren`, and `rest`
+/// follows it.
 fn node_of_part<S: Spanning>(
     alloc: Global,
     open_group: OpenGroup,
     inner: Expr,
     paren: usize,
-    end: usize,
+    rest: &str,
     spans: &mut S,
 ) -> Result<Expr, AllocError>
     ensures tree { IfOk result (λ e. view e ≡ machine.node_of_part (part_of open_group.entry) (view inner)) }
     ensures spans { (l : Log) → S.records spans.old l →
-        OnOk result (S.records spans.new (part_recorded (part_of open_group.entry) (view inner) paren end l)) }
+        OnOk result (S.records spans.new
+        (part_recorded (part_of open_group.entry) (view inner) paren (reach_of (chars rest.now)) l)) }
 {
+    let end = reach(rest);
     match open_group {
         OpenGroup::Top | OpenGroup::Condition => Ok(inner),
         OpenGroup::Group { kind, reach } => {
-            close_group(&kind, end, spans)?;
+            close_group(&kind, rest, spans)?;
             node(alloc, kind, reach, inner)
         }
         OpenGroup::Body { condition, .. } => {
@@ -285,13 +340,16 @@ fn node_of_part<S: Spanning>(
     }
 }
 
-/// Records the end, at the reach, of a group of one alternation. A flag group has no node.
+/// Records the end of a group of one alternation, which `rest` follows. A flag group has no node.
 #[inline(always)]
-fn close_group<S: Spanning>(kind: &GroupKind, end: usize, spans: &mut S) -> Result<(), AllocError>
-    ensures { (l : Log) → S.records spans.old l → OnOk result (S.records spans.new (group_recorded (group_kind kind.now) end l)) }
+fn close_group<S: Spanning>(kind: &GroupKind, rest: &str, spans: &mut S) -> Result<(), AllocError>
+    ensures { (l : Log) → S.records spans.old l → OnOk result (S.records spans.new
+        (group_recorded (group_kind kind.now) (reach_of (chars rest.now)) l)) }
 {
+    let end = reach(rest);
     match kind {
         GroupKind::FlagGroup => {
+            spans.pass(reach_before(rest), end, TriviumKind::Closing)?;
             spans.close_bare();
             Ok(())
         }

@@ -1,5 +1,6 @@
 use Rattle.std.proofs.Common.{rules, arith, ◌∙◌}
 use Rattle.fancy_lex.proofs.LayoutLemmas.{comment_escape, escaped_step, escaped_end}
+use Rattle.fancy_lex.proofs.CommentLemmas.{comment_pair, escaped_next, escaped_none}
 use Rattle.fancy_lex.proofs.layout.comment.Goals as goal
 
 pub returns-in_default-next-clause-value : goal.returns-in_default-next-clause-value
@@ -8,6 +9,12 @@ returns-in_default-next-clause-value c x =
     ∙ comment_escape _ _ _ _ c.in-Some.ensures.value c.if-c-eq92.true
     ∙ escaped_end _ _ c.in_default-next.ensures.value
 
+pub returns-in_default-next-clause-comments : goal.returns-in_default-next-clause-comments
+returns-in_default-next-clause-comments c x start =
+    c.loop-c.invariant.comments x start
+    ∙ comment_pair _ _ _ _ _ c.in-Some.ensures.value c.if-c-eq92.true
+    ∙ escaped_none _ _ _ c.in_default-next.ensures.value
+
 pub loop-c-preserved-then-c-eq92 : goal.loop-c-preserved-then-c-eq92
 loop-c-preserved-then-c-eq92 c = record {
   text = search rules;
@@ -15,5 +22,9 @@ loop-c-preserved-then-c-eq92 c = record {
       c.loop-c.invariant.same x
       ∙ comment_escape _ _ _ _ c.in-Some.ensures.value c.if-c-eq92.true
       ∙ escaped_step _ _ _ _ c.in-Some-next.ensures.value;
+  comments = λ x start.
+      c.loop-c.invariant.comments x start
+      ∙ comment_pair _ _ _ _ _ c.in-Some.ensures.value c.if-c-eq92.true
+      ∙ escaped_next _ _ _ _ _ c.in-Some-next.ensures.value;
   within = omega (arith, c.in-Some.ensures.shorter, c.in-Some-next.ensures.shorter);
 }

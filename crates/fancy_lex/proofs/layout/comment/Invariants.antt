@@ -1,6 +1,7 @@
-use Rattle.std.proofs.Common.{◌≡◌, ◌≤◌, Bool, length, chars}
+use Rattle.std.proofs.Common.{◌≡◌, ◌≤◌, ℕ, Bool, length, chars}
 use denote.Text.{Utf8}
 use denote.Shadow.{shadow}
+use Rattle.fancy_lex.specs.Comments.{comments_from}
 use Rattle.fancy_lex.specs.LayoutSteps as spec
 use Rattle.fancy_lex.proofs.layout.comment.Given as goal
 
@@ -9,6 +10,8 @@ invariant-loop-c l = record {
   text : shadow (Utf8 l.rest);
   same : (x : Bool) → spec.layout_from x spec.comment (chars l.text) ≡ spec.layout_from x spec.comment
       (chars l.rest);
+  comments : (x : Bool) (start : ℕ) → comments_from x spec.comment start (chars l.text)
+      ≡ comments_from x spec.comment start (chars l.rest);
   within : length l.rest ≤ length l.text;
 }
 

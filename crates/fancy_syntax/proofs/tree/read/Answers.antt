@@ -11,9 +11,10 @@ use Rattle.fancy_grammar.specs.GroupInfo.{GroupInfo, group_info}
 use Rattle.fancy_grammar.specs.Spans.{AreSpansOf, positioned}
 use Rattle.fancy_grammar.specs.Resolved.{resolved, error_of}
 use Rattle.fancy_grammar.specs.Tree.{Tree}
+use Rattle.fancy_grammar.specs.Trivia.{IsTriviaOf, located}
 use Rattle.fancy_syntax.specs.InfoViews.{info_of}
 use Rattle.fancy_syntax.specs.Log.{Log, shown}
-use Rattle.fancy_syntax.specs.LogViews.{returned_spans}
+use Rattle.fancy_syntax.specs.LogViews.{returned_spans, returned_trivia}
 use Rattle.fancy_syntax.specs.RecordedWhole.{IsRecordedWhole}
 use Rattle.fancy_syntax.specs.View.{view}
 use Rattle.fancy_syntax.specs.declared.tree.ExprTree.{ExprTree}
@@ -63,8 +64,9 @@ returns-clause-position g c =
 -- the spans of the text, if they are those of the nodes of this raw tree
 spans_of_tree : {f : Flags} {text : Text} {r : Tree} {N : Log → Type 0} (o : Result ExprTree ReadError) →
     (m : Log) × N m × IsRecordedWhole f text r m → IfOk o (λ t. info_of t ≡ group_info f text r) → IfOk o (λ t.
-    (m : Log) × N m × AreSpansOf f text (returned_spans text (info_of t).numbered_groups_ignored m))
-spans_of_tree {f} {text} {r} (Ok t) (m, n, (v, (a, shows))) same_info = (
+    (m : Log) × N m × AreSpansOf f text (returned_spans text (info_of t).numbered_groups_ignored m)
+    × IsTriviaOf f text (returned_trivia text m))
+spans_of_tree {f} {text} {r} (Ok t) (m, n, (v, (a, shows, passed))) same_info = (
   m,
   n,
   (
@@ -74,6 +76,7 @@ spans_of_tree {f} {text} {r} (Ok t) (m, n, (v, (a, shows))) same_info = (
     ap (map (positioned (bytes text)))
         (ap (λ (k : GroupInfo). shown k.numbered_groups_ignored m.recorded) same_info ∙ shows (only_named f (openings r))),
   ),
+  (r, v, a, ap (map (located (bytes text))) passed),
 )
 spans_of_tree (Err e) m same_info = tt
 

@@ -1,7 +1,7 @@
 use Rattle.std.proofs.Common.{suc, pred, length, chars, refl, ◌∙◌, ◌++◌, ◌∷◌, [], arith, sym, subst, rules}
 use Rattle.std.proofs.lemmas.Result.{err_from_is_err_and}
 use Rattle.fancy_lex.specs.ErrorTable.{boundary_start}
-use Rattle.fancy_lex.specs.Reading.{CarriesText, Reports}
+use Rattle.fancy_lex.specs.Reading.{Reports}
 use Rattle.fancy_lex.proofs.BoundaryLemmas.{name_error_from, name_error_close, name_error_step, step_length}
 use Rattle.fancy_lex.proofs.escape.boundary.find_closing_brace.Goals as goal
 

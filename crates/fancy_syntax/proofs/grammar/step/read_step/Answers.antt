@@ -1,20 +1,22 @@
-use Rattle.std.proofs.Common.{◌≡◌, Ok, chars}
+use Rattle.std.proofs.Common.{◌≡◌, Ok, chars, subst, sym, ◌∙◌}
 use Rattle.std.proofs.lemmas.Result.{err_from_is_err_and}
 use Rattle.fancy_grammar.specs.AtomStart.{atom_start, read}
 use Rattle.fancy_grammar.specs.Grammar.{Piece, piece, atom, a_read}
 use Rattle.fancy_grammar.specs.State.{at}
+use Rattle.fancy_syntax.specs.Log.{layout_passed}
 use Rattle.fancy_syntax.specs.Machine.{a_group, a_condition, a_body, a_branch}
 use Rattle.fancy_syntax.specs.Parsed.{state}
 use Rattle.fancy_syntax.specs.declared.grammar.step.Step.TheVariants as step
 use Rattle.fancy_syntax.proofs.StepLemmas.{nothing_shorter}
-use Rattle.fancy_syntax.proofs.MachineLemmas.{steps_read, steps_nothing, steps_open, steps_layout}
+use Rattle.fancy_syntax.proofs.MachineLemmas.{read_recorded, steps_read, steps_nothing, steps_open}
+use Rattle.fancy_syntax.proofs.MachineLemmas.{steps_layout}
 use Rattle.fancy_grammar.proofs.OutcomeLemmas.{IsErrorAmong-map}
 use Rattle.fancy_syntax.proofs.TreeLemmas.{view_Empty}
 use Rattle.fancy_syntax.proofs.grammar.step.read_step.Goals as goal
 
 pub returns-in_err-current-clause-value : goal.returns-in_err-current-clause-value
 returns-in_err-current-clause-value g c l =
-    let e = err_from_is_err_and c.from_residual.result c.from_residual.ensures.1 in
+    let e = err_from_is_err_and c.from_residual-in_err-current.result c.from_residual-in_err-current.ensures.1 in
     let (p, is, layout) = c.in_err-current.ensures.value in rw (e.1, e.2) (steps_layout _ _ _ is layout)
 
 pub returns-in_err-read_atom_start-clause-value : goal.returns-in_err-read_atom_start-clause-value
@@ -58,8 +60,8 @@ returns-in_ok-record_leaf-in-Nothing-clause-shorter g c =
     c.in_ok-current.ensures.unmoved
     (rw stays at c.piece.ensures.within)
 
-pub returns-in_ok-open-in-Group-clause-value : goal.returns-in_ok-open-in-Group-clause-value
-returns-in_ok-open-in-Group-clause-value g c l =
+pub returns-in_ok-open_group-in-Group-clause-value : goal.returns-in_ok-open_group-in-Group-clause-value
+returns-in_ok-open_group-in-Group-clause-value g c l =
     let seen = rw c.in-Group.is at c.in_ok-read_atom_start.ensures.value in
     rw c.reach-paren.ensures (steps_open c.in_ok-current.ensures.value seen (a_group c.in_ok-current.ensures.value seen))
 
@@ -77,3 +79,14 @@ pub returns-in_ok-open-in-AbsentBranch-clause-value : goal.returns-in_ok-open-in
 returns-in_ok-open-in-AbsentBranch-clause-value g c l =
     let seen = rw c.in-AbsentBranch.is at c.in_ok-read_atom_start.ensures.value in
     steps_open c.in_ok-current.ensures.value seen (a_branch c.in_ok-current.ensures.value seen)
+
+pub returns-then-is_unquantified-clause-spans : goal.returns-then-is_unquantified-clause-spans
+returns-then-is_unquantified-clause-spans g c l h =
+    let s = state c.args.current.now in
+    let left = c.byte_len-left.result in
+    let read = c.in_ok-record_atom-in-Read.ensures (layout_passed s l) (c.in_ok-pass_layout.ensures l h) in
+    subst (g.S.Spanning.records c.record_atom.new.spans)
+    (sym (c.is_unquantified.ensures.spans c.if-is_unquantified.true left _ _)
+    ∙ read_recorded c.args.depth left s l c.byte_len-left.ensures c.in_ok-current.ensures.value
+    (rw c.in-Read.is at c.in_ok-read_atom_start.ensures.value))
+    read

@@ -1,0 +1,340 @@
+-- What the tree of a text does not hold lies in the text, one part after another.
+use Rattle.std.proofs.Common.{◌≡◌, ℕ, zero, suc, ◌+◌, ◌==◌, nat_lt, Bool, true, false, if◌then◌else◌, List, [], ◌∷◌, ◌++◌}
+use Rattle.std.proofs.Common.{Option, Some, None, chars, refl, sym, ap, subst, arith, append-nil, ◌&&◌, not}
+use Rattle.std.specs.Option.{option_and_then}
+use Rattle.std.specs.List.{AllByRecursion}
+use Rattle.std.specs.Str.{IsUtf8}
+use Rattle.std.proofs.lemmas.Bool.{cond_both}
+use Rattle.std.proofs.lemmas.Bool.Decides.{nat_tests}
+use Prim.Native.Char.{code}
+use Rattle.fancy_lex.proofs.ReadingLemmas.{choose_both}
+use Rattle.fancy_lex.proofs.TakeLaws.{TakesSome}
+use Rattle.fancy_lex.specs.Characters.{bar, close_paren}
+use Rattle.fancy_lex.specs.ErrorTable.{quantifier_too_deep}
+use Rattle.fancy_lex.specs.LayoutSteps.{Skipped, rest, rest_of, failed as open_comment}
+use Rattle.fancy_lex.specs.Reading.{choose}
+use Rattle.fancy_lex.specs.Text.{Text, bytes, reach_of, strip}
+use Rattle.fancy_lex.specs.declared.flags.Flags.{Flags}
+use Rattle.fancy_parts.proofs.CountLaws.{takes_counts}
+use Rattle.fancy_parts.specs.Quantifier.{counts}
+use Rattle.fancy_parts.specs.declared.counts.Counts.{Counts}
+use Rattle.fancy_grammar.specs.AtomStart.{AtomStart}
+use Rattle.fancy_grammar.specs.Depth.{max_depth}
+use Rattle.fancy_grammar.specs.Grammar.{Alternation, alternation, Branches, last, more, branch_error, Branch, branch}
+use Rattle.fancy_grammar.specs.Grammar.{Pieces, stop, next, piece_error, Piece, piece, layout_error, Atom, atom, AtomOf}
+use Rattle.fancy_grammar.specs.Grammar.{a_nothing, a_read, a_group, a_condition, condition_error, a_body, two_branches}
+use Rattle.fancy_grammar.specs.Grammar.{one_branch, absent_error, Inside, inside, Body, the_body, Whole, whole}
+use Rattle.fancy_grammar.specs.Grammar.{closed, closed_at, ended_at, conditional_after, conditional_of, branches_of}
+use Rattle.fancy_grammar.specs.Grammar.{is_condition, clear_or_stopper}
+use Rattle.fancy_grammar.specs.GroupKind.{GroupKind, capture, flag_group, look, atomic, define, repeater, group_node}
+use Rattle.fancy_grammar.specs.Join.{is_empty, join, choice}
+use Rattle.fancy_grammar.specs.Quantified.{quants, adjacent, max_adjacent, is_unmoved, quant, quant_at, with_counts}
+use Rattle.fancy_grammar.specs.Quantified.{suffix, suffix_at, after_lazy, may_be_possessive, is_repeatable, is_dropped}
+use Rattle.fancy_grammar.specs.Quantified.{Suffix, quantified}
+use Rattle.fancy_grammar.specs.Slices.{Slice}
+use Rattle.fancy_grammar.specs.Spans.{IsCutOut, end_of, if_done}
+use Rattle.fancy_grammar.specs.State.{State, at, skipped, Outcome, done, failed, failed_with, and_then, mapped}
+use Rattle.fancy_grammar.specs.Tree.{Tree, expression}
+use Rattle.fancy_grammar.specs.Trivia.{Trivium, flags, opening, closing, IsTriviaOf, IsPartOf, AreInOrder, comments_at}
+use Rattle.fancy_grammar.specs.Trivia.{flags_of_atom, opening_of, closing_of, quant_trivia, adjacent_trivia}
+use Rattle.fancy_grammar.specs.Trivia.{quants_trivia, alternation_trivia, branches_trivia, branch_trivia, pieces_trivia}
+use Rattle.fancy_grammar.specs.Trivia.{piece_trivia, atom_trivia, atom_of_trivia, inside_trivia, body_trivia, whole_trivia}
+use Rattle.fancy_grammar.proofs.AtomStartLaws.{IsLeaf, StartReads, start_reads}
+use Rattle.fancy_grammar.proofs.OutcomeLemmas.{Holds, after_keeps}
+use Rattle.fancy_grammar.proofs.Slices.{Reads, current, one, strip_slice}
+use Rattle.fancy_grammar.proofs.TriviaLemmas.{Passes, nothing, one_more, extended, followed, PassesFrom}
+use Rattle.fancy_grammar.proofs.TriviaLemmas.{on_from, mapped_from, then_from, layout_passes, wider, in_order, are_parts, parts_cut}
+
+-- ---- quantifiers
+
+suffix_passes : (s : State) (c : Counts) (p : List Trivium) → PassesFrom s.rest p (p ++ comments_at s) (suffix s c)
+suffix_passes s c p = by_layout (skipped s) refl
+  where
+    W : Outcome Suffix → Type 0
+    W = PassesFrom s.rest p (p ++ comments_at s)
+
+    after_operator : (lazy : Bool) (t : Text) → Passes s.rest t p (p ++ comments_at s) → W (after_lazy s c lazy t)
+    after_operator lazy t h =
+        cond_both (may_be_possessive s.flags c) _ _ W
+        (λ _. choose_both W (strip (code "+") t) _ _ (λ u e. extended h (strip_slice (code "+") t u e)) h) (λ _. h)
+
+    by_layout : (j : Skipped) → skipped s ≡ j → W (suffix_at s c j)
+    by_layout (rest t) e =
+        let h = layout_passes s t e p in
+        choose_both W (strip (code "?") t) _ _
+        (λ u i. after_operator true u (extended h (strip_slice (code "?") t u i))) (after_operator false t h)
+    by_layout (open_comment q) e = tt
+
+quant_passes : (left : ℕ) (a : Tree) (s : State) (p : List Trivium) →
+    PassesFrom s.rest p (quant_trivia s p) (quant left a s)
+unfolding quant
+quant_passes left a s p = by_layout (skipped s) refl
+  where
+    q : List Trivium
+    q = p ++ comments_at s
+
+    by_counts : (v : Text) (o : Option (Counts × Text)) → Passes s.rest v p q → TakesSome 1 v o →
+        PassesFrom s.rest p (choose o (λ (c, t). q ++ comments_at (at s t)) q) (with_counts left a (at s v) o)
+    by_counts v None h i = h
+    by_counts v (Some (c, u)) h i =
+        let m = q ++ comments_at (at s u) in
+        let W : Outcome Tree → Type 0 = PassesFrom s.rest p m in
+        let operators = on_from m (extended h (record { word = i.word; cut = i.cut })) (suffix (at s u) c)
+        (suffix_passes (at s u) c q) in
+        cond_both (is_repeatable s.flags a) _ _ W
+        (λ _. mapped_from s.rest p m (λ x. quantified s.flags c x a) (suffix (at s u) c) operators)
+        (λ _. cond_both (is_dropped s.flags left a u) _ _ W
+        (λ _. mapped_from s.rest p m (λ x. a) (suffix (at s u) c) operators) (λ _. tt))
+
+    by_layout : (j : Skipped) → skipped s ≡ j →
+        PassesFrom s.rest p (choose (option_and_then (counts s.flags.ignore_space) (rest_of j))
+        (λ (c, t). q ++ comments_at (at s t)) q) (quant_at left a s j)
+    by_layout (rest v) e =
+        by_counts v (counts s.flags.ignore_space v) (layout_passes s v e p) (takes_counts s.flags.ignore_space v)
+    by_layout (open_comment r) e = tt
+
+adjacent_passes : (k d : ℕ) (a : Tree) (s : State) (p : List Trivium) →
+    PassesFrom s.rest p (adjacent_trivia k a s p) (adjacent k d a s)
+unfolding adjacent
+adjacent_passes zero d a s p =
+    let q = quant_trivia s p in
+    then_from s.rest p q q (quant (bytes s.rest) a s) _ (quant_passes (bytes s.rest) a s p)
+    (λ b v h. cond_both (is_unmoved s v) _ _ (PassesFrom s.rest p (quant_trivia s p)) (λ _. h) (λ _. tt))
+adjacent_passes (suc k) d a s p =
+    by_first (λ b v. adjacent_passes k (d + 1) b v (quant_trivia s p)) (quant (bytes s.rest) a s)
+    (quant_passes (bytes s.rest) a s p)
+  where
+    q : List Trivium
+    q = quant_trivia s p
+
+    GoesOn : Tree → State → Type 0
+    GoesOn b v = PassesFrom v.rest q (adjacent_trivia k b v q) (adjacent k (d + 1) b v)
+
+    by_tests : (c e : Bool) (b : Tree) (v : State) → Passes s.rest v.rest p q → GoesOn b v →
+        PassesFrom s.rest p (if c then q else adjacent_trivia k b v q)
+        (if c then done b v else if e then adjacent k (d + 1) b v else failed_with (quantifier_too_deep v.rest))
+    by_tests true e b v h i = h
+    by_tests false true b v h i = on_from (adjacent_trivia k b v q) h (adjacent k (d + 1) b v) i
+    by_tests false false b v h i = tt
+
+    by_first : ((b : Tree) (v : State) → GoesOn b v) → (o : Outcome Tree) → PassesFrom s.rest p q o →
+        PassesFrom s.rest p (if_done o (λ b v. if is_unmoved s v then q else adjacent_trivia k b v q) q)
+        (and_then o (λ b v. if is_unmoved s v then done b v
+        else if nat_lt (d + 1) max_depth then adjacent k (d + 1) b v else failed_with (quantifier_too_deep v.rest)))
+    by_first go_on (done b v) h = by_tests (is_unmoved s v) (nat_lt (d + 1) max_depth) b v h (go_on b v)
+    by_first go_on (failed j r) h = tt
+
+quants_passes : (d left : ℕ) (a : Tree) (s : State) (p : List Trivium) →
+    PassesFrom s.rest p (quants_trivia left (done a s) p) (quants d left a s)
+quants_passes d left a s p = by_first (quant left a s) (quant_passes left a s p)
+  where
+    q : List Trivium
+    q = quant_trivia s p
+
+    by_mode : (c : Bool) (b : Tree) (v : State) → Passes s.rest v.rest p q →
+        PassesFrom s.rest p (if c then adjacent_trivia max_adjacent b v q else q)
+        (if c then adjacent max_adjacent d b v else done b v)
+    by_mode true b v h =
+        on_from (adjacent_trivia max_adjacent b v q) h (adjacent max_adjacent d b v) (adjacent_passes max_adjacent d b v q)
+    by_mode false b v h = h
+
+    by_first : (o : Outcome Tree) → PassesFrom s.rest p q o →
+        PassesFrom s.rest p
+        (if_done o (λ b v. if v.flags.oniguruma_mode then adjacent_trivia max_adjacent b v q else q) q)
+        (and_then o (λ b v. if v.flags.oniguruma_mode then adjacent max_adjacent d b v else done b v))
+    by_first (done b v) h = by_mode v.flags.oniguruma_mode b v h
+    by_first (failed k r) h = tt
+
+-- ---- groups
+
+opening_passes : (h : GroupKind) (s t : State) (p : List Trivium) → Slice s.rest t.rest →
+    Passes s.rest t.rest p (p ++ opening_of h s t)
+opening_passes flag_group s t p k =
+    one_more (opening s.flags t.flags) k.word (nothing (current s.rest)) k.cut tt (current t.rest) refl
+opening_passes (capture name) s t p k = subst (Passes s.rest t.rest p) (sym (append-nil p)) (nothing k)
+opening_passes (look l) s t p k = subst (Passes s.rest t.rest p) (sym (append-nil p)) (nothing k)
+opening_passes atomic s t p k = subst (Passes s.rest t.rest p) (sym (append-nil p)) (nothing k)
+opening_passes define s t p k = subst (Passes s.rest t.rest p) (sym (append-nil p)) (nothing k)
+opening_passes repeater s t p k = subst (Passes s.rest t.rest p) (sym (append-nil p)) (nothing k)
+
+-- up to the closing parenthesis
+abbrev PassesInside : Text → List Trivium → List Trivium → Outcome Tree → Type 0
+PassesInside t p m o = Holds (λ _ (v : State). Passes t (close_paren ∷ v.rest) p m) o
+
+closed_passes : {t : Text} {p m : List Trivium} (r : Tree) (s : State) → Passes t s.rest p m →
+    PassesInside t p m (closed r s)
+closed_passes {t} {p} {m} r s h = by_text s.rest h
+  where
+    by_text : (u : Text) → Passes t u p m → PassesInside t p m (closed_at r s u)
+    by_text [] h = tt
+    by_text (c ∷ u) h =
+        cond_both (c == code ")") _ _ (PassesInside t p m)
+        (λ e. let is : c ≡ close_paren = grind (arith, nat_tests) in subst (λ d. Passes t (d ∷ u) p m) is h) (λ _. tt)
+
+on_inside : {t u : Text} {p q : List Trivium} (m : List Trivium) → Passes t u p q → (o : Outcome Tree) →
+    PassesInside u q m o → PassesInside t p m o
+on_inside m h (done a v) i = followed h i
+on_inside m h (failed k p) i = tt
+
+paren_bytes : (t : Text) → bytes (close_paren ∷ t) ≡ bytes t + 1
+unfolding bytes
+paren_bytes t = omega arith
+
+module _ (t : Text) (p m : List Trivium) where
+  no_closing : (r : Tree) (v : State) → PassesInside t p m (done r v) → Passes t v.rest p (m ++ [])
+  no_closing r v i = subst (Passes t v.rest p) (sym (append-nil m)) (extended i (one close_paren v.rest))
+
+  past_paren : (o : Outcome Tree) → PassesInside t p m o → PassesFrom t p m o
+  past_paren (done r v) h = extended h (one close_paren v.rest)
+  past_paren (failed k q) h = tt
+
+  closing_passes : (h : GroupKind) (reach : ℕ) (q : Outcome Tree) → PassesInside t p m q →
+      (let o = mapped (group_node h reach) q in PassesFrom t p (m ++ closing_of h (end_of o)) o)
+  closing_passes h reach (failed k q) i = tt
+  closing_passes flag_group reach (done r v) i =
+      let from_start : ℕ → List Trivium = λ n.
+      m ++ record { span = record { start = n; end = reach_of v.rest }; kind = closing } ∷ [] in
+      one_more closing (close_paren ∷ []) i refl refl (current v.rest)
+      (ap from_start (ap (λ n. n + 1) (sym (paren_bytes v.rest))))
+  closing_passes (capture name) reach (done r v) i = no_closing r v i
+  closing_passes (look l) reach (done r v) i = no_closing r v i
+  closing_passes atomic reach (done r v) i = no_closing r v i
+  closing_passes define reach (done r v) i = no_closing r v i
+  closing_passes repeater reach (done r v) i = no_closing r v i
+
+-- ---- the productions
+
+-- an atom that is read at once: a leaf, or inline flags
+read_passes : (s : State) (o : Outcome Tree) (p : List Trivium) → Reads (IsLeaf s) s o →
+    PassesFrom s.rest p (p ++ flags_of_atom s o) o
+read_passes s (failed k q) p h = tt
+read_passes s (done r t) p h =
+    cond_both (is_empty r) _ _ (λ l. Passes s.rest t.rest p (p ++ l))
+    (λ _. one_more (flags s.flags t.flags) h.span.slice.word (nothing (current s.rest)) h.span.slice.cut tt
+    (current t.rest) refl)
+    (λ _. subst (Passes s.rest t.rest p) (sym (append-nil p)) (nothing h.span.slice))
+
+mutual
+  alternation_passes : {d : ℕ} {s : State} {o : Outcome Tree} (a : Alternation d s o) (p : List Trivium) →
+      PassesFrom s.rest p (alternation_trivia a p) o
+  alternation_passes {s} (alternation {q} b) p =
+      mapped_from s.rest p (branches_trivia b p) choice q (branches_passes b p)
+
+  branches_passes : {d : ℕ} {s : State} {o : Outcome (List Tree)} (a : Branches d s o) (p : List Trivium) →
+      PassesFrom s.rest p (branches_trivia a p) o
+  branches_passes (last b e) p = branch_passes b p
+  branches_passes {s} (more {t} {u} {r} {q} b e m) p =
+      let others = branches_trivia m (branch_trivia b p) in
+      let first = extended (branch_passes b p) (strip_slice bar t.rest u e) in
+      mapped_from s.rest p others (r ∷◌) q (on_from others first q (branches_passes m (branch_trivia b p)))
+  branches_passes (branch_error b) p = tt
+
+  branch_passes : {d : ℕ} {s : State} {o : Outcome Tree} (a : Branch d s o) (p : List Trivium) →
+      PassesFrom s.rest p (branch_trivia a p) o
+  branch_passes {s} (branch {q} b) p = mapped_from s.rest p (pieces_trivia b p) join q (pieces_passes b p)
+
+  pieces_passes : {d : ℕ} {s : State} {o : Outcome (List Tree)} (a : Pieces d s o) (p : List Trivium) →
+      PassesFrom s.rest p (pieces_trivia a p) o
+  pieces_passes {s} (stop e) p = nothing (current s.rest)
+  pieces_passes {s} (next {r} {q} e a m) p =
+      let others = pieces_trivia m (piece_trivia a p) in
+      mapped_from s.rest p others (r ∷◌) q (on_from others (piece_passes a p) q (pieces_passes m (piece_trivia a p)))
+  pieces_passes (piece_error e a) p = tt
+
+  piece_passes : {d : ℕ} {s : State} {o : Outcome Tree} (a : Piece d s o) (p : List Trivium) →
+      PassesFrom s.rest p (piece_trivia a p) o
+  piece_passes {d} {s} (piece {u} {q} l a) p =
+      by_atom q (on_from m (layout_passes s u l p) q (atom_passes a (p ++ comments_at s)))
+    where
+      m : List Trivium
+      m = atom_trivia a (p ++ comments_at s)
+
+      by_atom : (q : Outcome Tree) → PassesFrom s.rest p m q →
+          PassesFrom s.rest p (quants_trivia (bytes s.rest) q m) (and_then q (quants d (bytes s.rest)))
+      by_atom (done r v) h =
+          on_from (quants_trivia (bytes s.rest) (done r v) m) h (quants d (bytes s.rest) r v)
+          (quants_passes d (bytes s.rest) r v m)
+      by_atom (failed k j) h = tt
+  piece_passes (layout_error l) p = tt
+
+  atom_passes : {d : ℕ} {s : State} {o : Outcome Tree} (a : Atom d s o) (p : List Trivium) →
+      PassesFrom s.rest p (atom_trivia a p) o
+  atom_passes {d} {s} (atom {e = k} {q} e a) p =
+      let read_start = subst (StartReads s) e (start_reads d s) in
+      after_keeps (PassesFrom s.rest p (atom_of_trivia a p)) (λ r t f i. i) k s.flags q (of_passes a p read_start)
+
+  of_passes : {k : AtomStart} {d : ℕ} {s : State} {o : Outcome Tree} (a : AtomOf k d s o) (p : List Trivium) →
+      StartReads s k → PassesFrom s.rest p (atom_of_trivia a p) o
+  of_passes {s} a_nothing p h = nothing (current s.rest)
+  of_passes {s} {o} a_read p h = read_passes s o p h
+  of_passes {s} (a_group {t} {h = kind} {q} i) p h =
+      let before = p ++ opening_of kind s t in
+      closing_passes s.rest p (inside_trivia i before) kind (reach_of s.rest) q
+      (on_inside (inside_trivia i before) (opening_passes kind s t p h.0) q (inside_passes i before))
+  of_passes {s} (a_condition {t} {v} {c} {o} i b) p h =
+      let condition = past_paren t.rest p (inside_trivia i p) (done c v) (inside_passes i p) in
+      on_from (body_trivia b (inside_trivia i p)) (followed (nothing h.0) condition) o (body_passes b (inside_trivia i p))
+  of_passes (condition_error i) p h = tt
+  of_passes {o} (a_body b) p h = on_from (body_trivia b p) (nothing h.0.slice) o (body_passes b p)
+  of_passes {s} (two_branches {v} {u} {a} {q} b e m) p h =
+      let all = branch_trivia m (branch_trivia b p) in
+      let first = extended (followed (nothing h.0) (branch_passes b p)) (strip_slice bar v.rest u e) in
+      then_from s.rest p all all q _ (on_from all first q (branch_passes m (branch_trivia b p)))
+      (λ x w i. past_paren s.rest p all (closed (expression a x) w) (closed_passes (expression a x) w i))
+  of_passes {s} (one_branch {v} {a} b e) p h =
+      past_paren s.rest p (branch_trivia b p) (closed (clear_or_stopper a) v)
+      (closed_passes (clear_or_stopper a) v (followed (nothing h.0) (branch_passes b p)))
+  of_passes (absent_error b) p h = tt
+
+  inside_passes : {d : ℕ} {s : State} {o : Outcome Tree} (a : Inside d s o) (p : List Trivium) →
+      PassesInside s.rest p (inside_trivia a p) o
+  inside_passes {s} (inside {q} a) p = by_contents q (alternation_passes a p)
+    where
+      by_contents : (q : Outcome Tree) → PassesFrom s.rest p (alternation_trivia a p) q →
+          PassesInside s.rest p (alternation_trivia a p) (and_then q closed)
+      by_contents (done r v) h = closed_passes r v h
+      by_contents (failed k j) h = tt
+
+  body_passes : {d : ℕ} {c : Tree} {s : State} {o : Outcome Tree} (a : Body d c s o) (p : List Trivium) →
+      PassesFrom s.rest p (body_trivia a p) o
+  body_passes {c} {s} (the_body {q} a) p =
+      let W : Outcome Tree → Type 0 = PassesFrom s.rest p (alternation_trivia a p) in
+      let m = alternation_trivia a p in
+      then_from s.rest p m m q (conditional_after c (bytes s.rest)) (alternation_passes a p)
+      (λ r v h. let b = branches_of r in
+      let whole = conditional_of c b.0 b.1 in
+      cond_both (bytes v.rest == bytes s.rest && not (is_condition c)) _ _ W (λ _. tt)
+      (λ _. past_paren s.rest p m (closed whole v) (closed_passes whole v h)))
+
+whole_passes : {f : Flags} {text : Text} {r : Tree} {t : State} (a : Whole f text (done r t)) →
+    Passes text t.rest [] (whole_trivia a)
+whole_passes a = by_whole a
+  where
+    by_rest : {text : Text} {m : List Trivium} (r : Tree) (t : State) → Passes text t.rest [] m → (u : Text) →
+        PassesFrom text [] m (ended_at r t u)
+    by_rest r t h [] = h
+    by_rest r t h (c ∷ u) = tt
+
+    by_whole : {f : Flags} {text : Text} {o : Outcome Tree} (a : Whole f text o) → PassesFrom text [] (whole_trivia a) o
+    by_whole {text} (whole {q} a) =
+        let m = alternation_trivia a [] in
+        then_from text [] m m q _ (alternation_passes a []) (λ r t h. by_rest r t h t.rest)
+
+-- ---- the trivia of a text
+
+-- they are in the text, one after another
+pub trivia_in_order : {f : Flags} {text : Text} (l : List Trivium) → IsTriviaOf f text l → AreInOrder 0 (bytes text) l
+trivia_in_order {text} l (r, t, a, e) =
+    subst (AreInOrder 0 (bytes text)) (sym e)
+    (wider 0 _ _ (bytes text) _ (omega arith) (omega arith) (in_order text (current text) (whole_passes a)))
+
+-- each is a part of it
+pub trivia_are_parts : {f : Flags} {text : Text} (l : List Trivium) → IsTriviaOf f text l →
+    AllByRecursion (IsPartOf text) l
+trivia_are_parts {text} l (r, t, a, e) =
+    subst (AllByRecursion (IsPartOf text)) (sym e) (are_parts text (current text) (whole_passes a))
+
+-- each begins and ends at a character boundary
+pub trivia_cut : {f : Flags} {re : List ℕ} (l : List Trivium) → IsUtf8 re → IsTriviaOf f (chars re) l →
+    AllByRecursion (λ x. IsCutOut re x.span) l
+trivia_cut l valid h = parts_cut l valid (trivia_are_parts l h)

@@ -1,0 +1,245 @@
+-- What is passed while a text is read is what the derivation says that no node has.
+use Rattle.std.proofs.Common.{◌≡◌, ℕ, zero, suc, Bool, true, false, ◌||◌, ◌&&◌, ◌==◌, if◌then◌else◌, List, [], ◌∷◌}
+use Rattle.std.proofs.Common.{◌++◌, length, Option, Some, None, refl, sym, ap, ◌∙◌, append-nil, nat_lt}
+use Rattle.std.specs.Option.{option_and_then}
+use Rattle.std.specs.List.{slice_get}
+use Rattle.fancy_lex.specs.LayoutSteps.{past_layout}
+use Rattle.fancy_lex.specs.Reading.{choose}
+use Rattle.fancy_lex.specs.Text.{Text, bytes, reach_of}
+use Rattle.fancy_parts.specs.Quantifier.{counts}
+use Rattle.fancy_parts.specs.declared.counts.Counts.{Counts}
+use Rattle.fancy_grammar.specs.AtomStart.{AtomStart}
+use Rattle.fancy_grammar.specs.Grammar.{Alternation, alternation, Branches, last, more, branch_error, Branch, branch}
+use Rattle.fancy_grammar.specs.Grammar.{Pieces, stop, next, piece_error, Piece, piece, layout_error, Atom, atom, AtomOf}
+use Rattle.fancy_grammar.specs.Grammar.{a_nothing, a_read, a_group, a_condition, condition_error, a_body, two_branches}
+use Rattle.fancy_grammar.specs.Grammar.{one_branch, absent_error, Inside, inside, Body, the_body, branches_of}
+use Rattle.fancy_grammar.specs.GroupKind.{GroupKind, capture, flag_group, look, atomic, define, repeater}
+use Rattle.fancy_grammar.specs.Join.{is_empty, solid}
+use Rattle.fancy_grammar.specs.Label as label
+use Rattle.fancy_grammar.specs.Quantified.{quant, suffix, Suffix, is_repeatable, is_swapped, is_unmoved, max_adjacent}
+use Rattle.fancy_grammar.specs.Spans.{end_of, if_done, quantifier_end}
+use Rattle.fancy_grammar.specs.State.{State, at, Outcome, done, failed}
+use Rattle.fancy_grammar.specs.Tree.{Tree, leaf, over, row, list_of}
+use Rattle.fancy_grammar.specs.Trivia.{Trivium, comments_at, opening_of, closing_of, quant_trivia, adjacent_trivia}
+use Rattle.fancy_grammar.specs.Trivia.{quants_trivia, alternation_trivia, branches_trivia, branch_trivia, pieces_trivia}
+use Rattle.fancy_grammar.specs.Trivia.{piece_trivia, atom_trivia, atom_of_trivia, inside_trivia, body_trivia}
+use Rattle.fancy_syntax.specs.Log.{Log, wrapped, put, layout_passed, opened, group_opened, body_opened, part_begun}
+use Rattle.fancy_syntax.specs.Log.{branch_begun, branch_ended, choice_ended, body_split, alt_split, others_put}
+use Rattle.fancy_syntax.specs.Log.{part_dropped, left_out}
+use Rattle.fancy_syntax.specs.Recording.{counted_recorded, quant_recorded, adjacent_recorded, quants_recorded}
+use Rattle.fancy_syntax.specs.Recording.{group_recorded, body_separated, conditional_recorded, stopper_recorded}
+use Rattle.fancy_syntax.specs.Recording.{choice_recorded, added, atom_read, alternation_recorded, branches_recorded}
+use Rattle.fancy_syntax.specs.Recording.{branch_recorded, pieces_recorded, piece_recorded, atom_recorded}
+use Rattle.fancy_syntax.specs.Recording.{atom_of_recorded, inside_recorded, body_recorded}
+use Rattle.fancy_syntax.specs.declared.grammar.recorded.FirstBar.{FirstBar}
+use Rattle.fancy_syntax.specs.declared.grammar.recorded.RecordedNode.{RecordedNode}
+
+-- ---- what adds nothing
+
+either : (b : Bool) (l m n : Log) → m.passed ≡ l.passed → n.passed ≡ l.passed → (if b then m else n).passed ≡ l.passed
+either true l m n h k = h
+either false l m n h k = k
+
+wrapped_passed : (end : ℕ) (atomic : Bool) (l : Log) → (wrapped end atomic l).passed ≡ l.passed
+wrapped_passed end true l = refl
+wrapped_passed end false l = refl
+
+added_passed : (r : Tree) (l : Log) → (added r l).passed ≡ l.passed
+added_passed r l = either (is_empty r) l (left_out l) l refl refl
+
+branch_ended_passed : (pieces end : ℕ) (l : Log) → (branch_ended pieces end l).passed ≡ l.passed
+branch_ended_passed pieces end l = either (pieces == 1) l l _ refl refl
+
+choice_passed : (rs : List Tree) (end : ℕ) (l : Log) → (choice_recorded rs end l).passed ≡ l.passed
+choice_passed [] end l = refl
+choice_passed (r ∷ []) end l = refl
+choice_passed (r ∷ q ∷ rs) end l = refl
+
+others_passed : (k : ℕ) (x : RecordedNode) (b : Option FirstBar) (l : Log) → (others_put k x b l).passed ≡ l.passed
+others_passed k x None l = refl
+others_passed k x (Some b) l = either (nat_lt k 3) l l _ refl refl
+
+split_passed : (k : ℕ) (x : Option RecordedNode) (l : Log) → (alt_split k x l).passed ≡ l.passed
+split_passed k None l = refl
+split_passed k (Some x) l = others_passed k x x.bar _
+
+separated_passed : (r : Tree) (end : ℕ) (l : Log) → (body_separated r end l).passed ≡ l.passed
+separated_passed (row label.alt ts) end l =
+    split_passed (length (list_of ts)) (slice_get l.recorded l.open_atom.branches) l
+separated_passed (leaf a) end l = refl
+separated_passed (over w r) end l = refl
+separated_passed (row label.concat ts) end l = refl
+separated_passed (row label.conditional ts) end l = refl
+separated_passed (row label.expression ts) end l = refl
+
+conditional_passed : (r : Tree) (paren end : ℕ) (l : Log) → (conditional_recorded r paren end l).passed ≡ l.passed
+conditional_passed r paren end l =
+    either (is_empty (branches_of r).0 && is_empty (branches_of r).1) (body_separated r paren l) _ _ refl refl
+    ∙ separated_passed r paren l
+
+stopper_passed : (a : Tree) (end : ℕ) (l : Log) → (stopper_recorded a end l).passed ≡ l.passed
+stopper_passed a end l = either (is_empty a) l (part_dropped l) l refl refl
+
+group_passed : (h : GroupKind) (end : ℕ) (l : Log) → (group_recorded h end l).passed ≡ l.passed ++ closing_of h end
+group_passed flag_group end l = refl
+group_passed (capture None) end l = sym (append-nil l.passed)
+group_passed (capture (Some name)) end l = sym (append-nil l.passed)
+group_passed (look k) end l = sym (append-nil l.passed)
+group_passed atomic end l = sym (append-nil l.passed)
+group_passed define end l = sym (append-nil l.passed)
+group_passed repeater end l = sym (append-nil l.passed)
+
+-- ---- quantifiers
+
+quant_passed : (a : Tree) (s : State) (l : Log) → (quant_recorded a s l).passed ≡ quant_trivia s l.passed
+quant_passed a s l =
+    by_counts (option_and_then (counts s.flags.ignore_space) (past_layout s.flags.ignore_space s.rest))
+  where
+    n : Log
+    n = layout_passed s l
+
+    by_operators : (c : Counts) (t : Text) (o : Outcome Suffix) →
+        (if_done o (λ m v. wrapped (quantifier_end t m v) (is_swapped s.flags c || m.possessive)
+        (layout_passed (at s t) n)) (layout_passed (at s t) n)).passed ≡ n.passed ++ comments_at (at s t)
+    by_operators c t (done m v) =
+        wrapped_passed (quantifier_end t m v) (is_swapped s.flags c || m.possessive) (layout_passed (at s t) n)
+    by_operators c t (failed k p) = refl
+
+    by_test : (b : Bool) (c : Counts) (t : Text) →
+        (if b then if_done (suffix (at s t) c) (λ m v. wrapped (quantifier_end t m v)
+        (is_swapped s.flags c || m.possessive) (layout_passed (at s t) n)) (layout_passed (at s t) n)
+        else layout_passed (at s t) n).passed ≡ n.passed ++ comments_at (at s t)
+    by_test true c t = by_operators c t (suffix (at s t) c)
+    by_test false c t = refl
+
+    by_counts : (o : Option (Counts × Text)) → (choose o (counted_recorded a s n) n).passed
+        ≡ choose o (λ (c, t). n.passed ++ comments_at (at s t)) n.passed
+    by_counts None = refl
+    by_counts (Some (c, t)) = by_test (is_repeatable s.flags a) c t
+
+adjacent_passed : (k : ℕ) (a : Tree) (s : State) (l : Log) →
+    (adjacent_recorded k a s l).passed ≡ adjacent_trivia k a s l.passed
+adjacent_passed zero a s l = quant_passed a s l
+adjacent_passed (suc k) a s l =
+    by_outcome (λ r t. adjacent_passed k r t (quant_recorded a s l)) (quant (bytes s.rest) a s)
+  where
+    m : Log
+    m = quant_recorded a s l
+
+    IsSame : Tree → State → Type 0
+    IsSame r t = (adjacent_recorded k r t m).passed ≡ adjacent_trivia k r t m.passed
+
+    by_test : (b : Bool) (r : Tree) (t : State) → IsSame r t → (if b then m else adjacent_recorded k r t m).passed
+        ≡ (if b then quant_trivia s l.passed else adjacent_trivia k r t (quant_trivia s l.passed))
+    by_test true r t h = quant_passed a s l
+    by_test false r t h = h ∙ ap (adjacent_trivia k r t) (quant_passed a s l)
+
+    by_outcome : ((r : Tree) (t : State) → IsSame r t) → (o : Outcome Tree) →
+        (if_done o (λ b t. if is_unmoved s t then m else adjacent_recorded k b t m) m).passed
+        ≡ if_done o (λ b t. if is_unmoved s t then quant_trivia s l.passed
+        else adjacent_trivia k b t (quant_trivia s l.passed)) (quant_trivia s l.passed)
+    by_outcome h (done r t) = by_test (is_unmoved s t) r t (h r t)
+    by_outcome h (failed j p) = quant_passed a s l
+
+quants_passed : (left : ℕ) (q : Outcome Tree) (l : Log) → (quants_recorded left q l).passed ≡ quants_trivia left q l.passed
+quants_passed left (failed j p) l = refl
+quants_passed left (done a s) l = by_outcome (quant left a s)
+  where
+    m : Log
+    m = quant_recorded a s l
+
+    by_mode : (b : Bool) (r : Tree) (t : State) → (if b then adjacent_recorded max_adjacent r t m else m).passed
+        ≡ (if b then adjacent_trivia max_adjacent r t (quant_trivia s l.passed) else quant_trivia s l.passed)
+    by_mode true r t = adjacent_passed max_adjacent r t m ∙ ap (adjacent_trivia max_adjacent r t) (quant_passed a s l)
+    by_mode false r t = quant_passed a s l
+
+    by_outcome : (o : Outcome Tree) →
+        (if_done o (λ b t. if t.flags.oniguruma_mode then adjacent_recorded max_adjacent b t m else m) m).passed
+        ≡ if_done o (λ b t. if t.flags.oniguruma_mode then adjacent_trivia max_adjacent b t (quant_trivia s l.passed)
+        else quant_trivia s l.passed) (quant_trivia s l.passed)
+    by_outcome (done r t) = by_mode t.flags.oniguruma_mode r t
+    by_outcome (failed j p) = quant_passed a s l
+
+-- ---- the productions
+
+mutual
+  pub alternation_passed : {d : ℕ} {s : State} {o : Outcome Tree} (a : Alternation d s o) (l : Log) →
+      (alternation_recorded a l).passed ≡ alternation_trivia a l.passed
+  alternation_passed (alternation {q} b) l = by_outcome q ∙ branches_passed b l
+    where
+      by_outcome : (q : Outcome (List Tree)) →
+          (if_done q (λ rs t. choice_recorded rs (reach_of t.rest) (branches_recorded b l)) (branches_recorded b l)).passed
+          ≡ (branches_recorded b l).passed
+      by_outcome (done rs t) = choice_passed rs (reach_of t.rest) (branches_recorded b l)
+      by_outcome (failed k p) = refl
+
+  branches_passed : {d : ℕ} {s : State} {o : Outcome (List Tree)} (a : Branches d s o) (l : Log) →
+      (branches_recorded a l).passed ≡ branches_trivia a l.passed
+  branches_passed (last b e) l = branch_passed b l
+  branches_passed (more {u} b e m) l =
+      branches_passed m (branch_begun (reach_of u) (branch_recorded b l)) ∙ ap (branches_trivia m) (branch_passed b l)
+  branches_passed (branch_error b) l = branch_passed b l
+
+  branch_passed : {d : ℕ} {s : State} {o : Outcome Tree} (a : Branch d s o) (l : Log) →
+      (branch_recorded a l).passed ≡ branch_trivia a l.passed
+  branch_passed (branch {q} p) l = by_outcome q ∙ pieces_passed p l
+    where
+      by_outcome : (q : Outcome (List Tree)) →
+          (if_done q (λ ps t. branch_ended (length (solid ps)) (reach_of t.rest) (pieces_recorded p l))
+          (pieces_recorded p l)).passed ≡ (pieces_recorded p l).passed
+      by_outcome (done ps t) = branch_ended_passed (length (solid ps)) (reach_of t.rest) (pieces_recorded p l)
+      by_outcome (failed k p) = refl
+
+  pieces_passed : {d : ℕ} {s : State} {o : Outcome (List Tree)} (a : Pieces d s o) (l : Log) →
+      (pieces_recorded a l).passed ≡ pieces_trivia a l.passed
+  pieces_passed (stop e) l = refl
+  pieces_passed (next {r} e a m) l =
+      pieces_passed m (added r (piece_recorded a l))
+      ∙ ap (pieces_trivia m) (added_passed r (piece_recorded a l) ∙ piece_passed a l)
+  pieces_passed (piece_error e a) l = piece_passed a l
+
+  piece_passed : {d : ℕ} {s : State} {o : Outcome Tree} (a : Piece d s o) (l : Log) →
+      (piece_recorded a l).passed ≡ piece_trivia a l.passed
+  piece_passed {s} (piece {q} i a) l =
+      quants_passed (bytes s.rest) q (atom_recorded a (layout_passed s l))
+      ∙ ap (quants_trivia (bytes s.rest) q) (atom_passed a (layout_passed s l))
+  piece_passed (layout_error i) l = refl
+
+  atom_passed : {d : ℕ} {s : State} {o : Outcome Tree} (a : Atom d s o) (l : Log) →
+      (atom_recorded a l).passed ≡ atom_trivia a l.passed
+  atom_passed (atom e a) l = atom_of_passed a l
+
+  atom_of_passed : {k : AtomStart} {d : ℕ} {s : State} {o : Outcome Tree} (a : AtomOf k d s o) (l : Log) →
+      (atom_of_recorded a l).passed ≡ atom_of_trivia a l.passed
+  atom_of_passed a_nothing l = refl
+  atom_of_passed a_read l = refl
+  atom_of_passed {s} {o} (a_group {t} {h} i) l =
+      group_passed h (end_of o) (inside_recorded i (group_opened h s t l))
+      ∙ ap (λ p. p ++ closing_of h (end_of o)) (inside_passed i (group_opened h s t l))
+  atom_of_passed {s} (a_condition {t} {v} i b) l =
+      let m = inside_recorded i (opened (reach_of s.rest) (reach_of t.rest) l) in
+      body_passed b (part_begun (reach_of v.rest) m)
+      ∙ ap (body_trivia b) (inside_passed i (opened (reach_of s.rest) (reach_of t.rest) l))
+  atom_of_passed {s} (condition_error {t} i) l = inside_passed i (opened (reach_of s.rest) (reach_of t.rest) l)
+  atom_of_passed {s} (a_body {t} b) l = body_passed b (body_opened s t l)
+  atom_of_passed {s} (two_branches {t} {u} b e m) l =
+      let n = opened (reach_of s.rest) (reach_of t.rest) l in
+      branch_passed m (branch_begun (reach_of u) (branch_recorded b n)) ∙ ap (branch_trivia m) (branch_passed b n)
+  atom_of_passed {s} {o} (one_branch {t} {a} b e) l =
+      let n = opened (reach_of s.rest) (reach_of t.rest) l in
+      stopper_passed a (end_of o) (branch_recorded b n) ∙ branch_passed b n
+  atom_of_passed {s} (absent_error {t} b) l = branch_passed b (opened (reach_of s.rest) (reach_of t.rest) l)
+
+  inside_passed : {d : ℕ} {s : State} {o : Outcome Tree} (a : Inside d s o) (l : Log) →
+      (inside_recorded a l).passed ≡ inside_trivia a l.passed
+  inside_passed (inside a) l = alternation_passed a l
+
+  body_passed : {d : ℕ} {c : Tree} {s : State} {o : Outcome Tree} (a : Body d c s o) (l : Log) →
+      (body_recorded a l).passed ≡ body_trivia a l.passed
+  body_passed {o} (the_body {q} a) l = by_outcome q ∙ alternation_passed a l
+    where
+      by_outcome : (q : Outcome Tree) →
+          (if_done q (λ r v. conditional_recorded r (reach_of v.rest) (end_of o) (alternation_recorded a l))
+          (alternation_recorded a l)).passed ≡ (alternation_recorded a l).passed
+      by_outcome (done r v) = conditional_passed r (reach_of v.rest) (end_of o) (alternation_recorded a l)
+      by_outcome (failed k p) = refl

@@ -1,0 +1,37 @@
+//! What the tree of a pattern does not hold.
+use crate::span::Span;
+use fancy_lex::flags::Flags;
+
+/// A part of a pattern that no node of its tree has.
+#[derive(Debug, Clone, Copy, PartialEq, Eq)]
+pub struct Trivium {
+    /// Where it is in the pattern.
+    pub span: Span,
+    /// What it is.
+    pub kind: TriviumKind,
+}
+
+/// What a part of a pattern is that no node of its tree has.
+#[derive(Debug, Clone, Copy, PartialEq, Eq)]
+pub enum TriviumKind {
+    /// A comment, `(?#..)`.
+    Comment,
+    /// A comment from `#` through the end of its line.
+    LineComment,
+    /// Inline flags, `(?i)`.
+    InlineFlags {
+        /// The flags that hold before them.
+        before: Flags,
+        /// The flags that hold after them.
+        after: Flags,
+    },
+    /// The opening of a flag group, such as `(?:` or `(?i:`.
+    Opening {
+        /// The flags that hold around the group.
+        around: Flags,
+        /// The flags that hold in the group.
+        inside: Flags,
+    },
+    /// The closing parenthesis of a flag group.
+    Closing,
+}
