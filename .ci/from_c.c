@@ -6,6 +6,7 @@
 // are passed over. The status is 1 where an answer is another. It is linked with --wrap for malloc, realloc and free.
 #include "records.h"
 #include "rows.h"
+#include "trivia.h"
 
 static size_t left_until_refusal; // 0: none is refused
 static bool was_refused;
@@ -153,12 +154,13 @@ static bool are_spans_right(const char *pattern, size_t length, uint32_t flags) 
     return is_right;
 }
 
-// Makes the call of a number, of those that take rows or write a tree at once.
+// Makes the call of a number, of those that take rows, write a tree at once, or write what no node has.
 static fancy_result call_with_rows(int which, const tree *t, const char *pattern, size_t length, uint32_t flags, char *text) {
     size_t capacity = CAPACITY(length);
     if (which == 0) return print_rows(t, 0, 0, text, capacity);
     if (which == 1) return write_rows(t, 0, flags, text, capacity);
-    return fancy_tree(pattern, length, flags, NULL, 0, text, capacity, NULL, 0, NULL, 0, NULL);
+    if (which == 2) return fancy_tree(pattern, length, flags, NULL, 0, text, capacity, NULL, 0, NULL, 0, NULL);
+    return fancy_trivia(pattern, length, flags, (fancy_trivium *)(void *)text, capacity / sizeof(fancy_trivium), NULL);
 }
 
 // Makes these calls with each request for memory refused in turn: then the status has to say so, and else to be the usual one.
@@ -167,7 +169,7 @@ static bool are_rows_refused_memory(const char *pattern, size_t length, uint32_t
     take(&t, pattern, length, flags);
     char *text = untouched(CAPACITY(length));
     bool is_right = true;
-    for (int which = t.nodes ? 0 : 2; which < 3; which++) {
+    for (int which = t.nodes ? 0 : 2; which < 4; which++) {
         fancy_result usual = call_with_rows(which, &t, pattern, length, flags, text);
         memset(text, 0xA5, CAPACITY(length));
         for (size_t n = 1; is_right; n++) {
@@ -195,6 +197,7 @@ static bool is_line_right(char **fields, bool refuses) {
     char *pattern = decode(fields[1], &length);
     bool is_right = is_answered(pattern, length, flags, fields) && is_short_said(pattern, length, flags) &&
                     are_spans_right(pattern, length, flags) && are_rows_right(pattern, length, flags) &&
+                    are_trivia_right(pattern, length, flags) &&
                     (!refuses || are_rows_refused_memory(pattern, length, flags));
     for (size_t n = 1; refuses && is_right; n++) {
         left_until_refusal = n;
@@ -270,7 +273,7 @@ static bool is_rest_right(void) {
                         FANCY_STATUS_BUFFER_TOO_SHORT &&
                     fancy_parse(NULL, 0, 0, &node, 1, NULL, 0, NULL, 0, NULL, 0, &info).status == FANCY_STATUS_OK &&
                     info.node_count == 1 && node.kind == FANCY_NODE_EMPTY && node.start == 0 && node.stop == 0 && node.end == 1;
-    is_right = is_right && are_rows_by_hand_right();
+    is_right = is_right && are_rows_by_hand_right() && are_trivia_by_hand_right();
     for (uint32_t kind = 0; kind < 300; kind++) {
         fancy_result got = fancy_error_text(kind, text, sizeof text);
         is_right = is_right && got.size == strlen(fancy_kind_message(kind)) && memcmp(text, fancy_kind_message(kind), got.size) == 0;

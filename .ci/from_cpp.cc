@@ -12,6 +12,10 @@ int main() {
     std::vector<fancy_name> names;
     std::vector<size_t> backrefs;
     fancy_info info;
+    std::vector<fancy_trivium> trivia;
+    size_t count = 1;
+    if (fancy_trivia(none.data(), none.size(), 0, trivia.data(), trivia.size(), &count).status != FANCY_STATUS_OK || count != 0)
+        return 1;
     if (fancy_check(none.data(), none.size(), FANCY_FLAG_UNICODE).status != FANCY_STATUS_OK) return 1;
     for (std::string_view pattern : {none, std::string_view("(?<n>a|b)\\k<n>")}) {
         for (int round = 0; round < 2; round++) {

@@ -202,6 +202,45 @@ def are_trees_right():
     )
 
 
+def letters_of(flags):
+    return None if flags is None else "".join(letter for bit, letter in enumerate(LETTERS) if flags & 1 << bit)
+
+
+def trivia(pattern, flags=fancy.UNICODE):
+    """The trivia of a pattern as tuples, in which flags are letters. Its tree has to have the same."""
+    found = fancy.trivia(pattern, flags)
+    assert fancy.parse(pattern, flags).trivia() == found
+    return [
+        (it.kind.name, it.span, it.byte_span, letters_of(it.flags_before), letters_of(it.flags_after)) for it in found
+    ]
+
+
+def is_refused_by_trivia(pattern):
+    try:
+        fancy.trivia(pattern)
+    except fancy.Error as error:
+        return (error.kind, error.position) == (fancy.check(pattern).kind, fancy.check(pattern).position)
+    return False
+
+
+def are_trivia_right():
+    none = (None, None)
+    return (
+        trivia("") == trivia(b"ab") == trivia("[(?#)]") == trivia("a{1(?#c),2}") == trivia("\\#", fancy.IGNORE_SPACE) == []
+        and trivia("é(?#é)*") == [("COMMENT", (1, 6), (2, 8), *none)]
+        and trivia("é(?#é)*".encode()) == [("COMMENT", (2, 8), (2, 8), *none)]
+        and trivia("a*(?#b)c") == [("COMMENT", (2, 7), (2, 7), *none)]
+        and trivia("(a(?i)b)c") == [("INLINE_FLAGS", (2, 6), (2, 6), "u", "iu")]
+        and trivia("(?i:a)b") == [("OPENING", (0, 4), (0, 4), "u", "iu"), ("CLOSING", (5, 6), (5, 6), *none)]
+        and trivia("(?x)a # é\nc #") == [
+            ("INLINE_FLAGS", (0, 4), (0, 4), "u", "xu"), ("LINE_COMMENT", (6, 10), (6, 11), *none),
+            ("LINE_COMMENT", (12, 13), (13, 14), *none),
+        ]
+        and is_refused_by_trivia("a(?#b)(")
+        and is_refused_by_trivia(b"\xff")
+    )  # fmt: skip
+
+
 def changed(pattern, kind):
     """What is written for the tree of a pattern whose first child is replaced."""
     tree = fancy.parse(pattern)
@@ -214,7 +253,7 @@ def are_numbers_right(header):
     """Whether the module's numbers are those of the header, each of them."""
     enums = {
         "FLAG": fancy.Flag, "ERROR": fancy.ErrorKind, "ASSERTION": fancy.AssertionKind, "LOOK": fancy.LookKind,
-        "VERB": fancy.VerbKind, "ABSENT": fancy.AbsentKind, "PRECEDENCE": fancy.Precedence,
+        "VERB": fancy.VerbKind, "ABSENT": fancy.AbsentKind, "PRECEDENCE": fancy.Precedence, "TRIVIUM": fancy.TriviumKind,
     }  # fmt: skip
     numbers = {f"{prefix}_{it.name}": int(it) for prefix, enum in enums.items() for it in enum}
     numbers["ERROR_NONE"] = numbers.pop("ERROR_NOT_UTF8")
@@ -233,9 +272,9 @@ def are_null_pointers_taken():
         call.fancy_print(*none, 0, 0, *none), call.fancy_pattern(*none, 0, *none),
         call.fancy_parse(*none, 0, *none, *none, *none, *none, None),
         call.fancy_tree(*none, 0, *none, *none, *none, *none, None), call.fancy_print_nodes(*none, *none, 0, 0, *none),
-        call.fancy_pattern_nodes(*none, *none, 0, *none, None, 0, *none),
+        call.fancy_pattern_nodes(*none, *none, 0, *none, None, 0, *none), call.fancy_trivia(*none, 0, *none, None),
     ]  # fmt: skip
-    return [it.status for it in got] == [0, 0, 0, 0, 4, 4, 7, 7]
+    return [it.status for it in got] == [0, 0, 0, 0, 4, 4, 7, 7, 0]
 
 
 def is_command_right():
@@ -262,6 +301,7 @@ def main():
         "the docstring": doctest.testmod(fancy).failed == 0,
         "errors": are_errors_right(),
         "trees": are_trees_right(),
+        "trivia": are_trivia_right(),
         "the command": is_command_right(),
         "null pointers": are_null_pointers_taken(),
         "the numbers": are_numbers_right(pathlib.Path(sys.argv[2]).read_text()),

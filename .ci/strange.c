@@ -96,6 +96,28 @@ fancy_result fancy_pattern_nodes_nonnull(const fancy_node *nodes, size_t node_co
     return text(below(8) ? FANCY_STATUS_OK : FANCY_STATUS_NO_PATTERN, node_count, buffer, capacity);
 }
 
+/* Any parts of the pattern, one of which may be none. */
+fancy_result fancy_trivia_nonnull(const char *pattern, size_t length, uint32_t flags, fancy_trivium *trivia, size_t capacity,
+                                  size_t *count) {
+    (void)pattern, (void)flags;
+    *count = below(8) ? below(capacity + 1) : number(capacity);
+    for (size_t i = 0; i < capacity; i++) {
+        size_t start = below(length + 1);
+        fancy_trivium it = {start, start + below(length + 1 - start), 1 + (uint32_t)below(5), (uint32_t)below(512), (uint32_t)below(512)};
+        trivia[i] = it;
+    }
+    switch (below(8)) {
+    case 0: trivia[0].kind = (uint32_t)number(5); break;
+    case 1: trivia[0].start = number(length); break;
+    case 2: trivia[0].stop = number(length); break;
+    case 3: trivia[0].flags_before = (uint32_t)draw(); break;
+    case 4: trivia[0].flags_after = (uint32_t)draw(); break;
+    case 5: write_noise(trivia, below(capacity + 1) * sizeof *trivia); break;
+    case 6: return any_result(length);
+    }
+    return result(FANCY_STATUS_OK, 0, 0, 0);
+}
+
 /* ---- trees */
 
 static const unsigned char leaves[] = {1, 2, 3, 4, 5, 6, 12, 13, 14, 16, 17, 18, 20, 21, 24};

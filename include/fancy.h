@@ -24,7 +24,7 @@
 /* The version of this header. fancy_version returns that of the library. CHANGELOG.md says what a change of each number
  * means. */
 #define FANCY_VERSION_MAJOR 1
-#define FANCY_VERSION_MINOR 1
+#define FANCY_VERSION_MINOR 2
 #define FANCY_VERSION_PATCH 0
 #define FANCY_VERSION (FANCY_VERSION_MAJOR * 1000000 + FANCY_VERSION_MINOR * 1000 + FANCY_VERSION_PATCH)
 
@@ -136,6 +136,15 @@ enum { FANCY_ABSENT_REPEATER = 1, FANCY_ABSENT_EXPRESSION = 2, FANCY_ABSENT_STOP
  * (level). */
 enum { FANCY_TARGET_BY_NUMBER = 1, FANCY_TARGET_BY_NAME = 2, FANCY_TARGET_RELATIVE = 3 };
 
+/* Kinds of what no node of a tree has. */
+enum {
+    FANCY_TRIVIUM_COMMENT = 1,      /* (?#..) */
+    FANCY_TRIVIUM_LINE_COMMENT = 2, /* from # through the end of its line */
+    FANCY_TRIVIUM_INLINE_FLAGS = 3, /* inline flags, as (?i): flags_before, flags_after */
+    FANCY_TRIVIUM_OPENING = 4,      /* of a flag group, as (?: or (?i: : flags_before, flags_after */
+    FANCY_TRIVIUM_CLOSING = 5       /* the closing parenthesis of such a group */
+};
+
 /* What a printed text is to be: a whole pattern or the inside of a group, a branch of an alternation, a part of a
  * concatenation, the operand of a quantifier. A number above 3 is as good as FANCY_PRECEDENCE_OPERAND. */
 enum {
@@ -200,13 +209,24 @@ typedef struct {
     bool numbered_groups_ignored;          /* groups without a name have no number */
 } fancy_info;
 
+/* A part of a pattern that no node of its tree has. What its kind does not use is 0. */
+typedef struct {
+    size_t start;          /* the offset of the first byte */
+    size_t stop;           /* one past the offset of the last byte: start < stop <= the length of the pattern */
+    uint32_t kind;         /* FANCY_TRIVIUM_.. */
+    uint32_t flags_before; /* the flags that hold before inline flags, or around a flag group */
+    uint32_t flags_after;  /* the flags that hold after inline flags, or in a flag group */
+} fancy_trivium;
+
 /* Capacities that suffice for a pattern of this length in bytes, so that one call of fancy_parse or fancy_tree is enough. This
  * is proved for trees, whose texts have at most 6 * length bytes, and whose names at most length rows. FANCY_MAX_TEXTS also
- * suffices for the message that fancy_tree writes, which is tested. */
+ * suffices for the message that fancy_tree writes, which is tested. That FANCY_MAX_TRIVIA suffices for fancy_trivia is tested
+ * too: each trivium has a byte of its own. */
 #define FANCY_MAX_NODES(length) (2 * (length) + 1)
 #define FANCY_MAX_TEXTS(length) (6 * (length) + 128)
 #define FANCY_MAX_NAMES(length) (2 * (length) + 1)
 #define FANCY_MAX_BACKREFS(length) (2 * (length) + 1)
+#define FANCY_MAX_TRIVIA(length) ((length) + 1)
 
 /* ---- The proved functions. They take no null pointer. The functions below them do, and are the ones to call. */
 
@@ -227,6 +247,8 @@ fancy_result fancy_print_nodes_nonnull(const fancy_node *nodes, size_t node_coun
 fancy_result fancy_pattern_nodes_nonnull(const fancy_node *nodes, size_t node_count, const char *texts, size_t texts_size,
                                          size_t index, const fancy_name *names, size_t name_count, const fancy_info *info,
                                          uint32_t flags, char *buffer, size_t capacity);
+fancy_result fancy_trivia_nonnull(const char *pattern, size_t length, uint32_t flags, fancy_trivium *trivia, size_t capacity,
+                                  size_t *count);
 
 /* ---- The functions to call. They are inline, and libfancy has them as symbols too, for callers without this header. */
 
@@ -347,6 +369,20 @@ FANCY_INLINE fancy_result fancy_pattern_nodes(const fancy_node *nodes, size_t no
     return fancy_pattern_nodes_nonnull(nodes ? nodes : &no_node, node_count, texts ? texts : "", texts_size, index,
                                        names ? names : &no_name, name_count, info ? info : &no_info, flags,
                                        buffer ? buffer : &none, capacity);
+}
+
+/* Parses a pattern, and sets *count to the number of its trivia, which are what no node of its tree has, if it returns OK
+ * or BUFFER_TOO_SHORT, unless count is null: comments, inline flags, and the parentheses of flag groups, (?:a) and (?i:a).
+ * A comment inside a token, such as one in the braces of a quantifier or after the parenthesis of a group, is part of the
+ * token. Ignored whitespace is not listed, nor are the parentheses of a group without a name that has no number. Returns OK
+ * if all of them fit: then they are in the buffer, in the order of the pattern. Returns BUFFER_TOO_SHORT if they do not.
+ * Otherwise it returns what fancy_check returns. Unless it returns OK, no trivium is written. */
+FANCY_INLINE fancy_result fancy_trivia(const char *pattern, size_t length, uint32_t flags, fancy_trivium *trivia,
+                                       size_t capacity, size_t *count) {
+    fancy_trivium no_trivium;
+    size_t no_count;
+    return fancy_trivia_nonnull(pattern ? pattern : "", length, flags, trivia ? trivia : &no_trivium, capacity,
+                                count ? count : &no_count);
 }
 
 /* Returns the message of a kind of error, ending with NUL, as a constant: what fancy_error_text writes. In the message of an

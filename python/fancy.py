@@ -147,6 +147,16 @@ class AbsentKind(enum.IntEnum):
     CLEAR = 4
 
 
+class TriviumKind(enum.IntEnum):
+    """What a `Trivium` is."""
+
+    COMMENT = 1  #: a comment, `(?#..)`
+    LINE_COMMENT = 2  #: a comment from `#` through the end of its line
+    INLINE_FLAGS = 3  #: inline flags, `(?i)`
+    OPENING = 4  #: the opening of a flag group, as `(?:` or `(?i:`
+    CLOSING = 5  #: the closing parenthesis of such a group
+
+
 class Precedence(enum.IntEnum):
     """What a printed text is to be: a whole pattern, a branch of an alternation, a part of a concatenation, or the
     operand of a quantifier."""
@@ -414,6 +424,17 @@ for _number, _kind in enumerate(_KINDS, 1):
 
 
 @dataclass(frozen=True)
+class Trivium:
+    """A part of a pattern that no node of its tree has."""
+
+    kind: TriviumKind
+    span: Span  #: the part of the pattern: `pattern[start:stop]`
+    byte_span: Span  #: the same in bytes of the UTF-8
+    flags_before: Optional[Flag]  #: the flags before `INLINE_FLAGS`, or around the group of an `OPENING`
+    flags_after: Optional[Flag]  #: the flags after `INLINE_FLAGS`, or in the group of an `OPENING`
+
+
+@dataclass(frozen=True)
 class Tree:
     """The tree of a pattern, with its group information."""
 
@@ -432,6 +453,11 @@ class Tree:
     def walk(self) -> Iterator[Node]:
         """All nodes in preorder."""
         return self.root.walk()
+
+    def trivia(self) -> Tuple[Trivium, ...]:
+        """What no node of the tree of `pattern` has, as the function `trivia` returns it. It parses the pattern anew, and does
+        not depend on changes of the tree."""
+        return trivia(self.pattern, self.flags)
 
     def format(self) -> Optional[str]:
         """Returns a pattern that is parsed, under the same flags, as this tree with these names; or None if no pattern is, which can
@@ -482,6 +508,13 @@ class _Name(ctypes.Structure):
     _fields_ = [("text", ctypes.c_size_t), ("text_size", ctypes.c_size_t), ("group", ctypes.c_size_t)]
 
 
+class _Trivium(ctypes.Structure):
+    _fields_ = [
+        ("start", ctypes.c_size_t), ("stop", ctypes.c_size_t), ("kind", ctypes.c_uint32), ("flags_before", ctypes.c_uint32),
+        ("flags_after", ctypes.c_uint32),
+    ]  # fmt: skip
+
+
 class _Info(ctypes.Structure):
     _fields_ = [
         ("node_count", ctypes.c_size_t), ("texts_size", ctypes.c_size_t), ("name_count", ctypes.c_size_t),
@@ -494,7 +527,7 @@ class _Info(ctypes.Structure):
 
 _OK, _REFUSED, _NOT_UTF8, _OUT_OF_MEMORY, _BUFFER_TOO_SHORT, _NOT_PRINTABLE, _NO_PATTERN, _NO_TREE = range(8)
 _UNBOUNDED = ctypes.c_size_t(-1).value
-_MAJOR, _MINOR = 1, 1
+_MAJOR, _MINOR = 1, 2
 
 
 def _load() -> ctypes.CDLL:
@@ -521,6 +554,7 @@ def _load() -> ctypes.CDLL:
         "fancy_pattern": pattern + buffer,
         "fancy_tree": pattern + 4 * buffer + [ctypes.POINTER(_Info)],
         "fancy_print_nodes": rows + [ctypes.c_uint8] + buffer,
+        "fancy_trivia": pattern + buffer + [ctypes.POINTER(ctypes.c_size_t)],
         "fancy_pattern_nodes": rows + buffer + [ctypes.POINTER(_Info), ctypes.c_uint32] + buffer,
     }.items():
         function = getattr(library, call)
@@ -585,8 +619,14 @@ class _Source:
         past = max(offset - len(self.bytes), 0)
         return bisect.bisect_left(self._starts, offset - past) + past
 
-    def span(self, node: _Node) -> Span:
+    def span(self, node: Union[_Node, _Trivium]) -> Span:
         return self.index(node.start), self.index(node.stop)
+
+    def trivium(self, row: _Trivium) -> Trivium:
+        kind = TriviumKind(row.kind)
+        has_flags = kind in (TriviumKind.INLINE_FLAGS, TriviumKind.OPENING)
+        before, after = (Flag(row.flags_before), Flag(row.flags_after)) if has_flags else (None, None)
+        return Trivium(kind, self.span(row), (row.start, row.stop), before, after)
 
     def error(self, got: _Result, message: str) -> Error:
         kind = ErrorKind(got.kind)
@@ -763,6 +803,25 @@ def parse(pattern: Pattern, flags: int = UNICODE) -> Tree:
         out_of_range_backref=info.out_of_range_backref if info.has_out_of_range_backref else None,
         numbered_groups_ignored=info.numbered_groups_ignored,
     )
+
+
+def trivia(pattern: Pattern, flags: int = UNICODE) -> Tuple[Trivium, ...]:
+    """Returns what no node of a pattern's tree has, in the order of the pattern: comments, inline flags, and the
+    parentheses of groups such as `(?:a)` and `(?i:a)`. A comment inside a token, as one in the braces of a quantifier, is part of
+    the token, and ignored whitespace is left out. Raises `Error` if the pattern is invalid.
+
+    >>> [(it.kind.name, it.span) for it in trivia("(?i)a(?# b)(?:c)")]
+    [('INLINE_FLAGS', (0, 4)), ('COMMENT', (5, 11)), ('OPENING', (11, 14)), ('CLOSING', (15, 16))]
+    """
+    source, count = _Source(pattern, flags), ctypes.c_size_t()
+    capacity = len(source.bytes) + 1
+    rows = (_Trivium * capacity)()
+    got = _library.fancy_trivia(*source.arguments, rows, capacity, ctypes.byref(count))
+    if got.status == _OUT_OF_MEMORY:
+        raise MemoryError
+    if got.status != _OK:
+        raise source.refusal() or AssertionError
+    return tuple(source.trivium(row) for row in rows[: count.value])
 
 
 def check(pattern: Pattern, flags: int = UNICODE) -> Optional[Error]:

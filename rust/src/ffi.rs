@@ -1,70 +1,11 @@
-//! The calls of `fancy.h`, version 1.1. This is the only file of the crate with `unsafe` code.
+//! The calls of `fancy.h`, version 1.2. This is the only file of the crate with `unsafe` code.
 //!
 //! What is called are the proved functions, whose names end in `_nonnull`: they take no null pointer, and a slice never
-//! has one. A bool of C is read as a `u8`, so that each byte is a valid one, whatever the library writes.
+//! has one.
 
 use crate::call::RowsIn;
+pub(crate) use crate::structs::{CallResult, Info, Name, Node, Trivium};
 use core::ffi::c_char;
-
-/// `fancy_result`
-#[repr(C)]
-#[derive(Debug, Clone, Copy)]
-pub(crate) struct CallResult {
-    pub status: u32,
-    pub kind: u32,
-    pub position: usize,
-    pub size: usize,
-}
-
-/// `fancy_node`
-#[repr(C)]
-#[derive(Debug, Clone, Copy, Default)]
-pub(crate) struct Node {
-    pub kind: u32,
-    pub which: u32,
-    pub end: usize,
-    pub text: usize,
-    pub text_size: usize,
-    pub lo: usize,
-    pub hi: usize,
-    pub group: usize,
-    pub level: isize,
-    pub position: usize,
-    pub start: usize,
-    pub stop: usize,
-    pub newline: u8,
-    pub crlf: u8,
-    pub unicode: u8,
-    pub casei: u8,
-    pub greedy: u8,
-    pub has_level: u8,
-}
-
-/// `fancy_name`
-#[repr(C)]
-#[derive(Debug, Clone, Copy, Default)]
-pub(crate) struct Name {
-    pub text: usize,
-    pub text_size: usize,
-    pub group: usize,
-}
-
-/// `fancy_info`
-#[repr(C)]
-#[derive(Debug, Clone, Copy, Default)]
-pub(crate) struct Info {
-    pub node_count: usize,
-    pub texts_size: usize,
-    pub name_count: usize,
-    pub backref_count: usize,
-    pub total_groups: usize,
-    pub out_of_range_backref: usize,
-    pub has_out_of_range_backref: u8,
-    pub numeric_capture_group_references: u8,
-    pub contains_subroutines: u8,
-    pub self_recursive: u8,
-    pub numbered_groups_ignored: u8,
-}
 
 #[rustfmt::skip]
 extern "C" {
@@ -81,6 +22,7 @@ extern "C" {
         precedence: u8, buffer: *mut c_char, capacity: usize) -> CallResult;
     fn fancy_pattern_nodes_nonnull(nodes: *const Node, node_count: usize, texts: *const c_char, texts_size: usize, index: usize,
         names: *const Name, name_count: usize, info: *const Info, flags: u32, buffer: *mut c_char, capacity: usize) -> CallResult;
+    fn fancy_trivia_nonnull(pattern: *const c_char, length: usize, flags: u32, trivia: *mut Trivium, capacity: usize, count: *mut usize) -> CallResult;
 }
 
 // All that `docs/c.md` asks of a caller about pointers is asked of each call below: none is null, each is aligned, each points
@@ -126,6 +68,12 @@ pub(crate) fn print(pattern: &str, flags: u32, precedence: u8, buffer: &mut [u8]
 pub(crate) fn pattern(pattern: &str, flags: u32, buffer: &mut [u8]) -> CallResult {
     // SAFETY: the pattern and the buffer are slices, the second a mutable borrow
     unsafe { fancy_pattern_nonnull(pattern.as_ptr().cast(), pattern.len(), flags, buffer.as_mut_ptr().cast(), buffer.len()) }
+}
+
+#[rustfmt::skip]
+pub(crate) fn trivia(pattern: &str, flags: u32, trivia: &mut [Trivium], count: &mut usize) -> CallResult {
+    // SAFETY: the pattern and the buffer are slices, the second a mutable borrow of integers, and `count` is another
+    unsafe { fancy_trivia_nonnull(pattern.as_ptr().cast(), pattern.len(), flags, trivia.as_mut_ptr(), trivia.len(), count) }
 }
 
 #[rustfmt::skip]

@@ -18,6 +18,7 @@
 //! - [`parse`] returns an owned [`Tree`], with the types and names of fancy-regex: [`Expr`] and what is in it.
 //! - [`Rows`] holds a tree as the library writes it, in buffers that later patterns use again. It is for programs that only look.
 //! - [`check`] says only whether a pattern is valid.
+//! - [`trivia()`] returns what no node has: comments, inline flags, and the parentheses of flag groups such as `(?:a)`.
 //! - [`to_pattern`] and [`print()`] write the tree of a pattern as a pattern again; [`Tree::to_pattern`] and [`Expr::print`] do this
 //!   for a tree that may have been changed, and [`NodeRef::print`] for a part of one.
 //!
@@ -37,7 +38,9 @@ mod node;
 mod numbers;
 mod owned;
 mod rows;
+mod structs;
 mod tree;
+mod trivia;
 mod written;
 
 pub use error::{Error, ParseError};
@@ -47,6 +50,7 @@ pub use flags::Flags;
 pub use node::{AbsentKind, CallTarget, Children, Kind, NodeRef};
 pub use rows::Rows;
 pub use tree::{GroupInfo, Span, Tree};
+pub use trivia::{trivia, Trivium, TriviumKind};
 
 use call::Text;
 use ffi::CallResult;

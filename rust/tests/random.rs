@@ -5,7 +5,7 @@ mod common;
 
 use common::*;
 use fancy_syntax::{
-    check, parse, parse_without_spans, print, to_pattern, AstNode, Error, Expr, Flags, Precedence, Rows, Tree,
+    check, parse, parse_without_spans, print, to_pattern, trivia, AstNode, Error, Expr, Flags, Precedence, Rows, Tree,
 };
 use std::fs::File;
 use std::io::{BufWriter, Write};
@@ -153,8 +153,18 @@ fn check_spans(pattern: &str, tree: &Tree) {
     assert!(tree.spans.iter().all(|span| pattern.get(span.clone()).is_some()));
 }
 
+/// Checks that what no node has follows one another.
+fn check_trivia(pattern: &str, flags: Flags) {
+    let mut end = 0;
+    for it in trivia(pattern, flags).unwrap() {
+        assert!(end <= it.span.start && it.span.start < it.span.end, "{pattern}");
+        end = it.span.end;
+    }
+}
+
 fn check_tree(pattern: &str, flags: Flags, tree: &Tree) {
     check_spans(pattern, tree);
+    check_trivia(pattern, flags);
     let text = to_pattern(pattern, flags).unwrap();
     assert_eq!(tree.to_pattern(flags).unwrap().as_ref(), Some(&text));
     let again = parse(&text, flags).unwrap();
@@ -215,6 +225,7 @@ fn check_error(pattern: &str, flags: Flags, error: &Error) {
     assert!(*position == pattern.len() + 1 || pattern.is_char_boundary(*position));
     assert_eq!(to_pattern(pattern, flags).as_ref(), Err(error));
     assert_eq!(print(pattern, flags, Precedence::Whole).as_ref(), Err(error));
+    assert_eq!(trivia(pattern, flags).as_ref(), Err(error));
 }
 
 #[test]

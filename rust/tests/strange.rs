@@ -1,7 +1,7 @@
 //! Everything is called and looked at, for whatever the library returns. With libfancy there is no error of the library; with
 //! `.ci/strange.c`, which is linked instead where `FANCY_STRANGE` is set, there are many. Nothing may panic.
 
-use fancy_syntax::{check, parse, print, to_pattern, Error, Expr, Flags, GroupInfo, Precedence, Rows};
+use fancy_syntax::{check, parse, print, to_pattern, trivia, Error, Expr, Flags, GroupInfo, Precedence, Rows};
 use std::collections::BTreeMap;
 
 fn kind_of<T>(outcome: &Result<T, Error>) -> &'static str {
@@ -41,6 +41,7 @@ fn nothing_panics() {
             kind_of(&outcome),
             kind_of(&parse(pattern, Flags::all())),
             kind_of(&check(pattern, Flags::empty())),
+            kind_of(&trivia(pattern, Flags::UNICODE)),
             kind_of(&to_pattern(pattern, Flags::UNICODE)),
             kind_of(&print(pattern, Flags::UNICODE, Precedence::Whole)),
             kind_of(&Expr::KeepOut.print(Precedence::Whole)),

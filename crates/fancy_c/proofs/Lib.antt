@@ -18,3 +18,6 @@ mod ParsedCosts
 mod NodesLemmas
 -- ---- a tree that is built from rows
 mod RowTreeLemmas
+-- ---- what no node of a tree has
+mod FlagLemmas
+mod TriviumLemmas

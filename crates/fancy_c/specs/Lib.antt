@@ -5,3 +5,5 @@ pub mod Node
 pub mod Numbered
 pub mod RowTree
 pub mod InfoRows
+pub mod FlagBits
+pub mod TriviumRows

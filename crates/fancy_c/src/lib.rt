@@ -7,6 +7,7 @@
 mod buffer;
 mod built;
 pub mod call_result;
+mod flag_bits;
 mod group_numbers;
 mod group_rows;
 pub mod info_rows;
@@ -21,4 +22,5 @@ pub mod read;
 mod row_leaf;
 mod rows;
 pub mod tree_or_message;
+pub mod trivia;
 pub mod version;

@@ -7,10 +7,12 @@ ghost use Rattle.fancy_lex.specs.declared.flags.Flags.{Flags};
 ghost use Rattle.fancy_grammar.specs.GroupInfo.{GroupInfo};
 ghost use Rattle.fancy_grammar.specs.Tree.{Tree};
 ghost use Rattle.fancy_syntax.specs.InfoViews.{info_of};
+ghost use Rattle.fancy_syntax.specs.TriviaViews.{trivia_of};
 ghost use Rattle.fancy_syntax.specs.View.{view};
 ghost use Rattle.fancy_c.specs.CallResult.{number_of_kind, IsTreeOfBytes, IsErrorOfBytes, IsNoUtf8, IsRefusalOf};
 ghost use Rattle.fancy_c.specs.CallResult.{result_of};
 ghost use Rattle.fancy_c.specs.InfoRows.{AreSpansOfBytes};
+ghost use Rattle.fancy_c.specs.TriviumRows.{AreTriviaOfBytes};
 
 use crate::call_result::{
     CallResult, ERROR_NONE, STATUS_NOT_UTF8, STATUS_OK, STATUS_OUT_OF_MEMORY, STATUS_REFUSED,
@@ -20,6 +22,7 @@ use fancy_syntax::error::Error;
 use fancy_syntax::expr::Expr;
 use fancy_syntax::span::Span;
 use fancy_syntax::tree::ExprTree;
+use fancy_syntax::trivium::Trivium;
 use std::alloc::Global;
 use std::str;
 
@@ -103,6 +106,22 @@ pub(crate) fn read_with_spans(
     let text = text_of(pattern)?;
     match Expr::parse_tree_with_spans(alloc, text, flags) {
         Ok((tree, spans)) => Ok(Parsed { tree, spans }),
+        Err(error) => Err(BytesRefusal::Parse(error)),
+    }
+}
+
+/// What no node of the tree has.
+pub(crate) fn read_trivia(
+    alloc: Global,
+    pattern: &[u8],
+    flags: u32,
+) -> Result<Vec<Trivium>, BytesRefusal>
+    ensures trivia { IfOk result (λ l. AreTriviaOfBytes (flags_of flags) pattern.now (trivia_of l)) }
+    ensures refusal { IfErr result (λ r. IsRefusalOf r (flags_of flags) pattern.now) }
+{
+    let text = text_of(pattern)?;
+    match Expr::parse_tree_with_trivia(alloc, text, flags) {
+        Ok((_, _, trivia)) => Ok(trivia),
         Err(error) => Err(BytesRefusal::Parse(error)),
     }
 }

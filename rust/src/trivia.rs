@@ -1,0 +1,89 @@
+//! What no node of a tree has.
+
+use crate::call::{grow, ready};
+use crate::ffi::{self, Trivium as Row};
+use crate::{error_of, numbers, Error, Flags, Span};
+
+/// A part of a pattern that no node of its tree has.
+#[derive(Debug, Clone, PartialEq, Eq)]
+pub struct Trivium {
+    /// Where it is in the pattern.
+    pub span: Span,
+    /// What it is.
+    pub kind: TriviumKind,
+}
+
+/// What a [`Trivium`] is.
+#[derive(Debug, Clone, Copy, PartialEq, Eq, Hash)]
+pub enum TriviumKind {
+    /// A comment: `(?#..)`.
+    Comment,
+    /// A comment from `#` through the end of its line.
+    LineComment,
+    /// Inline flags: `(?i)`.
+    InlineFlags {
+        /// The flags that hold before them.
+        before: Flags,
+        /// The flags that hold after them.
+        after: Flags,
+    },
+    /// The opening of a flag group: `(?:` or `(?i:`.
+    Opening {
+        /// The flags that hold around the group.
+        around: Flags,
+        /// The flags that hold in the group.
+        inside: Flags,
+    },
+    /// The closing parenthesis of such a group.
+    Closing,
+}
+
+/// Parses a pattern under flags, and returns what no node of its tree has, in the order of the pattern: comments, inline
+/// flags, and the parentheses of flag groups such as `(?:a)` and `(?i:a)`. A comment inside a token, such as one in the braces of a
+/// quantifier, is part of the token, and ignored whitespace is left out.
+///
+/// # Errors
+///
+/// Those of [`parse`](crate::parse).
+///
+/// ```
+/// use fancy_syntax::{trivia, Flags, TriviumKind};
+/// let found = trivia("a(?# b)(?i)c", Flags::UNICODE)?;
+/// assert_eq!((found[0].span.clone(), found[0].kind), (1..7, TriviumKind::Comment));
+/// let after = Flags::UNICODE | Flags::CASEI;
+/// assert_eq!((found[1].span.clone(), found[1].kind), (7..11, TriviumKind::InlineFlags { before: Flags::UNICODE, after }));
+/// # Ok::<(), fancy_syntax::Error>(())
+/// ```
+pub fn trivia(pattern: &str, flags: Flags) -> Result<Vec<Trivium>, Error> {
+    ready()?;
+    // each trivium has a byte of its own
+    let mut rows = Vec::new();
+    grow(&mut rows, pattern.len().saturating_add(1))?;
+    let mut count = 0;
+    let result = ffi::trivia(pattern, flags.bits(), &mut rows, &mut count);
+    if result.status != numbers::STATUS_OK {
+        return Err(error_of(result, pattern, flags));
+    }
+    let rows = rows.get(..count).ok_or(Error::Library("more trivia than their buffer holds"))?;
+    rows.iter().map(|row| checked_trivium(row, pattern)).collect()
+}
+
+/// The trivium of a row, if it is a part of the pattern, of some kind.
+fn checked_trivium(row: &Row, pattern: &str) -> Result<Trivium, Error> {
+    let span = row.start..row.stop;
+    if pattern.get(span.clone()).is_none() {
+        return Err(Error::Library("a trivium that is no part of the pattern"));
+    }
+    let (Some(before), Some(after)) = (Flags::from_bits(row.flags_before), Flags::from_bits(row.flags_after)) else {
+        return Err(Error::Library("a trivium with flags that there are not"));
+    };
+    let kind = match row.kind {
+        numbers::TRIVIUM_COMMENT => TriviumKind::Comment,
+        numbers::TRIVIUM_LINE_COMMENT => TriviumKind::LineComment,
+        numbers::TRIVIUM_INLINE_FLAGS => TriviumKind::InlineFlags { before, after },
+        numbers::TRIVIUM_OPENING => TriviumKind::Opening { around: before, inside: after },
+        numbers::TRIVIUM_CLOSING => TriviumKind::Closing,
+        _ => return Err(Error::Library("a trivium of no kind")),
+    };
+    Ok(Trivium { span, kind })
+}
