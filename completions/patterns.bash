@@ -13,7 +13,7 @@ _patterns() {
     esac
     case ${COMP_WORDS[1]} in
         check) options='--flags -e --regexp -z --null-data --quiet --color --config --no-config --textmate --keys --records --format --json -h --help' ;;
-        tree) options='--flags --ascii --spans --all --classes --json --file -h --help' ;;
+        tree) options='--flags --ascii --spans --trivia --all --classes --json --file -h --help' ;;
         picture) options='--flags --html --width --file -h --help' ;;
         lint) options='--flags -e --regexp -z --null-data --quiet --color --config --no-config --textmate --keys --records --allow --warn --deny --max-warnings --fix --diff --format --json --verbose --rules -h --help' ;;
         format) options='--flags -e --regexp -z --null-data --quiet --color --config --no-config --check --drop-comments -h --help' ;;

@@ -3,6 +3,7 @@
 
 mod changes;
 mod class_members;
+mod comments;
 mod errors;
 mod groups;
 mod positions;
@@ -14,6 +15,7 @@ mod walks;
 
 use crate::changes::{replace_child, with_child};
 use crate::class_members::members;
+use crate::comments::push_comments;
 use crate::errors::{INVALID, first_error};
 use crate::groups::{calls_nothing, group_named};
 use crate::positions::pointed;
@@ -24,7 +26,7 @@ use crate::summary::summary;
 use crate::walks::{push_literals, repeats_without_bound};
 use anyhow::Result;
 use fancy_spans::SpannedTree;
-use fancy_syntax::{Expr, ExprTree, FLAG_UNICODE};
+use fancy_syntax::{Expr, ExprTree, FLAG_IGNORE_SPACE, FLAG_UNICODE};
 
 fn show_summary(rt: &HostRuntime, pattern: &str) -> Result<()> {
     let (groups, text) = summary(rt.alloc(), pattern)?;
@@ -91,6 +93,15 @@ fn show_nested_repeats(rt: &HostRuntime, pattern: &str) -> Result<()> {
     Ok(())
 }
 
+fn show_comments(rt: &HostRuntime, pattern: &str) -> Result<()> {
+    let parsed = SpannedTree::parse(rt.alloc(), pattern, FLAG_UNICODE | FLAG_IGNORE_SPACE)?;
+    let mut lines = String::new(rt.alloc());
+    push_comments(rt.alloc(), &mut lines, pattern, &parsed.trivia)?;
+    println!(rt; "{pattern}")?;
+    print!(rt; "{lines}")?;
+    Ok(())
+}
+
 fn show_change(rt: &HostRuntime) -> Result<()> {
     let mut tree = Expr::parse_tree(rt.alloc(), "a|b")?.expr;
     if replace_child(&mut tree, 1, Expr::Empty) {
@@ -146,6 +157,7 @@ fn main(rt: HostRuntime) -> Result<()> {
         show_pattern(&rt, pattern)?;
     }
     show_nested_repeats(&rt, r"(?:\w+\s?)*(?:-\d+)+$")?;
+    show_comments(&rt, r"(?#a date)(\d{4})-(\d\d) # year and month")?;
     show_change(&rt)?;
     show_rewritten(&rt, DATE, 1)?;
     show_rewritten(&rt, DATE, 0)?;

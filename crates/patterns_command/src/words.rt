@@ -21,7 +21,7 @@ const ABOUT: &str =
     "Checks, shows and formats patterns in the syntax of fancy-regex. It does not match them.
 Flags that are set inside a group end with the group.";
 
-const VERSION: &str = "1.1.0";
+const VERSION: &str = "1.2.0";
 
 const STATUSES: &str =
     "The exit status is 0 if every pattern passes, 1 if one does not, 2 if the arguments are wrong
@@ -104,6 +104,9 @@ const TREE: &str = "Draws the tree of a pattern, and describes its groups and re
 
 const SPANS_HELP: &str = "Writes after each node its span, as START..END in byte offsets,
 and its text";
+
+const TRIVIA_HELP: &str = "Lists what no node has: comments, inline flags, and the
+parentheses of flag groups, each with its span and text";
 
 const ALL_HELP: &str = "Draws each node in its own line; otherwise adjacent letters are
 drawn as one literal";
@@ -375,6 +378,10 @@ fn tree_command<'a>(alloc: Global) -> Result<Command<'a>, AllocError> {
         .long("spans")
         .action(ArgAction::SetTrue)
         .help(SPANS_HELP);
+    let trivia = Arg::new(alloc, "trivia")
+        .long("trivia")
+        .action(ArgAction::SetTrue)
+        .help(TRIVIA_HELP);
     let all = Arg::new(alloc, "all")
         .long("all")
         .action(ArgAction::SetTrue)
@@ -386,6 +393,7 @@ fn tree_command<'a>(alloc: Global) -> Result<Command<'a>, AllocError> {
         .arg(flags_arg(alloc))?
         .arg(ascii)?
         .arg(spans)?
+        .arg(trivia)?
         .arg(all)?
         .arg(classes_arg(alloc, CLASSES_HELP)?)?
         .arg(json_arg(alloc))?;
@@ -661,6 +669,7 @@ pub(crate) fn look_chosen(matches: &ArgMatches<'_>) -> Look {
         has_spans: matches.get_flag("spans"),
         has_each_literal: matches.get_flag("all"),
         has_classes: matches.get_flag("classes"),
+        has_trivia: matches.get_flag("trivia"),
     }
 }
 

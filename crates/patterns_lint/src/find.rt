@@ -63,9 +63,9 @@ pub fn problems<'a>(
 ) -> Result<Vec<Found<'a>>, AllocError> {
     let Subject {
         alloc,
-        flags,
         at,
         pattern,
+        ..
     } = subject;
     let tree = &parsed.tree;
     let about = PatternInfo {
@@ -88,7 +88,7 @@ pub fn problems<'a>(
     for finding in class_findings(alloc, parsed.root(), pattern, known)? {
         found.push(Found::of_class(finding))?;
     }
-    found.extend_from_slice(&useless_flags(alloc, pattern, &walk.leaves, flags)?)?;
+    found.extend_from_slice(&useless_flags(alloc, pattern, &parsed.trivia)?)?;
     add_differences(
         &mut found,
         &spellings(alloc, pattern, &nodes_of(alloc, parsed)?)?,

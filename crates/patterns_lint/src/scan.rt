@@ -8,7 +8,7 @@ use crate::targets::{is_unresolved_call, missing_begin_group, missing_group};
 use crate::walk::Walk;
 use class_rules::known_classes::KnownClasses;
 use fancy_spans::SpannedNode;
-use fancy_syntax::expr::{Absent, Expr, LookAround};
+use fancy_syntax::expr::{Expr, LookAround};
 use fancy_syntax::span::Span;
 use patterns_text::excerpt::{Label, Related};
 use std::alloc::{AllocError, Global};
@@ -70,37 +70,6 @@ fn node_problem(
         return Some(problem);
     }
     quantifier_problem(tree, about.has_calls, has_count_twin)
-}
-
-/// Whether the node has no children and takes text.
-fn is_leaf_with_text(tree: &Expr) -> bool {
-    match tree {
-        Expr::Any { .. }
-        | Expr::Assertion(_)
-        | Expr::GeneralNewline { .. }
-        | Expr::Literal { .. }
-        | Expr::LiteralBytes { .. }
-        | Expr::Delegate { .. }
-        | Expr::Backref { .. }
-        | Expr::BackrefWithRelativeRecursionLevel { .. }
-        | Expr::KeepOut
-        | Expr::ContinueFromPreviousMatchEnd
-        | Expr::BackrefExistsCondition { .. }
-        | Expr::BacktrackingControlVerb(_)
-        | Expr::SubroutineCall(_)
-        | Expr::Absent(Absent::Clear)
-        | Expr::AstNode(..) => true,
-        Expr::Empty
-        | Expr::Concat(_)
-        | Expr::Alt(_)
-        | Expr::Group(_)
-        | Expr::LookAround(..)
-        | Expr::Repeat { .. }
-        | Expr::AtomicGroup(_)
-        | Expr::Conditional { .. }
-        | Expr::DefineGroup { .. }
-        | Expr::Absent(_) => false,
-    }
 }
 
 /// Whether nothing follows the child of this index in the pattern, or in a group that is left at its first match, where
@@ -225,9 +194,6 @@ fn look_at<'a>(
 ) -> Result<(), AllocError> {
     if let Some(problem) = node_problem(node.expr(), node.span(), about, has_count_twin) {
         walk.report(node.span(), problem)?;
-    }
-    if is_leaf_with_text(node.expr()) {
-        walk.leaves.push(node.span())?;
     }
     Ok(())
 }

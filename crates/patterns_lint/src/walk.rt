@@ -8,8 +8,6 @@ use std::alloc::{AllocError, Global};
 #[derive(Drop)]
 pub(crate) struct Walk<'a> {
     pub(crate) found: Vec<Found<'a>>,
-    /// The spans of the leaves that take text.
-    pub(crate) leaves: Vec<Span>,
 }
 
 impl<'a> Walk<'a> {
@@ -17,7 +15,6 @@ impl<'a> Walk<'a> {
     pub(crate) fn new(alloc: Global) -> Walk<'a> {
         Walk {
             found: Vec::new(alloc),
-            leaves: Vec::new(alloc),
         }
     }
 

@@ -1,5 +1,6 @@
 //! A pattern's tree, drawn with branches.
 use crate::class_words::ClassWords;
+use crate::trivia::write_trivia;
 use class_meaning::characters_of;
 use fancy_lex::flags::Flags;
 use fancy_spans::{SpannedNode, SpannedTree};
@@ -35,6 +36,8 @@ pub struct Look {
     pub has_each_literal: bool,
     /// Whether what a class contains is written after it.
     pub has_classes: bool,
+    /// Whether what no node has is listed after the tree.
+    pub has_trivia: bool,
 }
 
 /// What is before a node: for each level from the first whether the node that it runs through is the last there.
@@ -324,7 +327,7 @@ fn draw<O: Write>(
     drawing.end_run(out, true)
 }
 
-/// Draws the pattern's tree, and writes its group information.
+/// Draws the pattern's tree, writes its group information, and lists what no node has, if that is listed.
 pub fn write_tree<O: Write>(
     subject: Subject<'_>,
     look: Look,
@@ -350,6 +353,9 @@ pub fn write_tree<O: Write>(
     };
     draw(out, &mut drawing, "", parsed.root())?;
     write_group_info(out, &parsed.tree)?;
+    if look.has_trivia {
+        write_trivia(out, pattern, &parsed.trivia)?;
+    }
     out.flush()?;
     Ok(())
 }

@@ -1,6 +1,8 @@
-//! What is written of a valid pattern as text: its tree with branches, and its groups, references and classes in lines.
+//! What is written of a valid pattern as text: its tree with branches, and in lines what no node has,
+//! its groups, references and classes.
 #![tactic(auto)]
 
 pub mod class_words;
 pub mod drawing;
 pub mod listing;
+mod trivia;

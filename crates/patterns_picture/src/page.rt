@@ -101,6 +101,7 @@ fn write_drawn_tree<O: Write>(
         has_spans: false,
         has_each_literal: false,
         has_classes: false,
+        has_trivia: false,
     };
     let mut text = Vec::new(subject.alloc);
     write_tree(subject, look, parsed, &mut text)?;

@@ -5,10 +5,10 @@
 mod annotations;
 mod check;
 pub mod choices;
-mod comments;
 mod configs;
 pub mod draw;
 pub mod file_pattern;
+mod first_comment;
 pub mod fixes;
 pub mod form;
 mod groups;

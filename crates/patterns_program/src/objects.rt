@@ -5,6 +5,7 @@ mod line;
 mod node;
 mod positions;
 mod problem;
+mod trivia;
 
 use crate::fixes::pattern::fixes_of;
 use crate::objects::code::code;
@@ -13,6 +14,7 @@ use crate::objects::line::{begin, finish, write_related, write_span, write_text}
 use crate::objects::node::write_node;
 use crate::objects::positions::Positions;
 use crate::objects::problem::{write_not_searched, write_omitted, write_problem};
+use crate::objects::trivia::write_trivia;
 use crate::reporter::{MAX_REPORTS, Reporter, TreeReporter};
 use crate::source_positions::{SourcePositions, subject_at};
 use fancy_spans::SpannedTree;
@@ -112,6 +114,7 @@ impl<O: Write> TreeReporter for Json<'_, '_, O> {
         let mut writer = begin(subject, "tree")?;
         writer.key("tree")?;
         write_node(&mut writer, &positions, parsed.root())?;
+        write_trivia(&mut writer, &positions, subject, &parsed.trivia)?;
         write_groups(alloc, &mut writer, &positions, &nodes, &parsed.tree)?;
         write_group_info(&mut writer, &parsed.tree)?;
         finish(writer, self.out)

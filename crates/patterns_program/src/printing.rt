@@ -10,7 +10,7 @@ ghost use Rattle.patterns_program.specs.declared.outcome.Outcome.{Outcome};
 ghost use Rattle.patterns_program.specs.declared.printing.Comments.{Comments};
 ghost use Rattle.patterns_text.specs.Subject.{IsAccepted, IsRefused};
 
-use crate::comments::first_comment;
+use crate::first_comment::first_comment;
 use crate::outcome::Outcome;
 use crate::reporter::parse;
 use crate::tally::Tally;

@@ -53,6 +53,7 @@ impl<'a, 's, O: Write, E: Write> Text<'a, 's, O, E> {
                 has_spans: false,
                 has_each_literal: false,
                 has_classes: false,
+                has_trivia: false,
             },
             source: None,
         }

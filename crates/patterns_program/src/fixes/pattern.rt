@@ -1,5 +1,5 @@
 //! A pattern with its reports fixed.
-use crate::comments::first_comment;
+use crate::first_comment::first_comment;
 use class_rules::class_problem::ClassProblem;
 use fancy_spans::SpannedTree;
 use fancy_syntax::span::Span;
