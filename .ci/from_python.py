@@ -232,6 +232,9 @@ def are_trivia_right():
         and trivia("a*(?#b)c") == [("COMMENT", (2, 7), (2, 7), *none)]
         and trivia("(a(?i)b)c") == [("INLINE_FLAGS", (2, 6), (2, 6), "u", "iu")]
         and trivia("(?i:a)b") == [("OPENING", (0, 4), (0, 4), "u", "iu"), ("CLOSING", (5, 6), (5, 6), *none)]
+        and trivia("(a)(?<n>b)", fancy.UNICODE | fancy.IGNORE_NUMBERED_GROUPS_WHEN_NAMED_GROUPS_EXIST) == [
+            ("OPENING", (0, 1), (0, 1), "un", "un"), ("CLOSING", (2, 3), (2, 3), *none),
+        ]
         and trivia("(?x)a # é\nc #") == [
             ("INLINE_FLAGS", (0, 4), (0, 4), "u", "xu"), ("LINE_COMMENT", (6, 10), (6, 11), *none),
             ("LINE_COMMENT", (12, 13), (13, 14), *none),

@@ -7,7 +7,12 @@ typedef struct {
     fancy_trivium trivia[4];
 } trivia_by_hand;
 
-enum { U = FANCY_FLAG_UNICODE, UI = U | FANCY_FLAG_CASEI, UX = U | FANCY_FLAG_IGNORE_SPACE };
+enum {
+    U = FANCY_FLAG_UNICODE,
+    UI = U | FANCY_FLAG_CASEI,
+    UX = U | FANCY_FLAG_IGNORE_SPACE,
+    UN = U | FANCY_FLAG_IGNORE_NUMBERED_GROUPS_WHEN_NAMED_GROUPS_EXIST,
+};
 
 static const trivia_by_hand wanted_trivia[] = {
     {"", U, 0, {{0, 0, 0, 0, 0}}},
@@ -31,8 +36,8 @@ static const trivia_by_hand wanted_trivia[] = {
     // a character of two bytes, and a bit that is no flag
     {"\xc3\xa9(?#\xc3\xa9)", U, 1, {{2, 8, FANCY_TRIVIUM_COMMENT, 0, 0}}},
     {"(?s)", U | 512, 1, {{0, 4, FANCY_TRIVIUM_INLINE_FLAGS, U, U | FANCY_FLAG_DOTNL}}},
-    // a group without a name that has no number is no trivium
-    {"(a)(?<n>b)", U | FANCY_FLAG_IGNORE_NUMBERED_GROUPS_WHEN_NAMED_GROUPS_EXIST, 0, {{0, 0, 0, 0, 0}}},
+    // the parentheses of a group without a name that has no number
+    {"(a)(?<n>b)", UN, 2, {{0, 1, FANCY_TRIVIUM_OPENING, UN, UN}, {2, 3, FANCY_TRIVIUM_CLOSING, 0, 0}}},
 };
 
 static bool is_trivium(const fancy_trivium *a, const fancy_trivium *b) {
@@ -63,7 +68,8 @@ static bool is_text_of_kind(const fancy_trivium *it, const char *pattern, size_t
         return has_no_flags && it->stop - it->start >= 4 && memcmp(pattern + it->start, "(?#", 3) == 0 && last == ')';
     case FANCY_TRIVIUM_LINE_COMMENT: return has_no_flags && first == '#' && (last == '\n' || it->stop == length);
     case FANCY_TRIVIUM_INLINE_FLAGS: return are_flags && first == '(' && last == ')';
-    case FANCY_TRIVIUM_OPENING: return are_flags && first == '(' && last == ':';
+    // that of a group without a name is its parenthesis
+    case FANCY_TRIVIUM_OPENING: return are_flags && first == '(' && (last == ':' || it->stop - it->start == 1);
     case FANCY_TRIVIUM_CLOSING: return has_no_flags && it->stop - it->start == 1 && first == ')';
     default: return false;
     }

@@ -25,7 +25,7 @@
  * means. */
 #define FANCY_VERSION_MAJOR 1
 #define FANCY_VERSION_MINOR 2
-#define FANCY_VERSION_PATCH 0
+#define FANCY_VERSION_PATCH 1
 #define FANCY_VERSION (FANCY_VERSION_MAJOR * 1000000 + FANCY_VERSION_MINOR * 1000 + FANCY_VERSION_PATCH)
 
 #ifdef __cplusplus
@@ -374,9 +374,10 @@ FANCY_INLINE fancy_result fancy_pattern_nodes(const fancy_node *nodes, size_t no
 /* Parses a pattern, and sets *count to the number of its trivia, which are what no node of its tree has, if it returns OK
  * or BUFFER_TOO_SHORT, unless count is null: comments, inline flags, and the parentheses of flag groups, (?:a) and (?i:a).
  * A comment inside a token, such as one in the braces of a quantifier or after the parenthesis of a group, is part of the
- * token. Ignored whitespace is not listed, nor are the parentheses of a group without a name that has no number. Returns OK
- * if all of them fit: then they are in the buffer, in the order of the pattern. Returns BUFFER_TOO_SHORT if they do not.
- * Otherwise it returns what fancy_check returns. Unless it returns OK, no trivium is written. */
+ * token. Ignored whitespace is not listed. The parentheses of a group without a name are listed if it has no number, since
+ * only groups with a name have one. Returns OK if all of them fit: then they are in the buffer, in the order of the
+ * pattern. Returns BUFFER_TOO_SHORT if they do not. Otherwise it returns what fancy_check returns. Unless it returns OK, no
+ * trivium is written. */
 FANCY_INLINE fancy_result fancy_trivia(const char *pattern, size_t length, uint32_t flags, fancy_trivium *trivia,
                                        size_t capacity, size_t *count) {
     fancy_trivium no_trivium;

@@ -19,5 +19,4 @@ mod NodesLemmas
 -- ---- a tree that is built from rows
 mod RowTreeLemmas
 -- ---- what no node of a tree has
-mod FlagLemmas
 mod TriviumLemmas

@@ -5,5 +5,4 @@ pub mod Node
 pub mod Numbered
 pub mod RowTree
 pub mod InfoRows
-pub mod FlagBits
 pub mod TriviumRows

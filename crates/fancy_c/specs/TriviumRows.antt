@@ -6,7 +6,7 @@ use Rattle.fancy_grammar.specs.Tree.{Tree}
 use Rattle.fancy_grammar.specs.Trivia.{Trivium, TriviumKind, IsTriviaOf, comment, line_comment, flags, opening, closing}
 use Rattle.fancy_syntax.specs.declared.span.Span.{Span}
 use Rattle.fancy_c.specs.CallResult.{IsTreeOfBytes}
-use Rattle.fancy_c.specs.FlagBits.{bits_of}
+use Rattle.fancy_lex.specs.FlagBits.{bits_of}
 use Rattle.fancy_c.specs.declared.trivia.TheConstants as number
 use Rattle.fancy_c.specs.declared.trivia.TriviumRow.{TriviumRow}
 

@@ -7,7 +7,6 @@
 mod buffer;
 mod built;
 pub mod call_result;
-mod flag_bits;
 mod group_numbers;
 mod group_rows;
 pub mod info_rows;

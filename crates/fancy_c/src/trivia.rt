@@ -12,7 +12,6 @@ ghost use Rattle.fancy_c.specs.TriviumRows.{AreTriviaOfBytes};
 use crate::call_result::{
     CallResult, ERROR_NONE, STATUS_BUFFER_TOO_SHORT, STATUS_NOT_UTF8, STATUS_OK, STATUS_REFUSED,
 };
-use crate::flag_bits::flag_bits;
 use crate::read::read_trivia;
 use fancy_syntax::span::Span;
 use fancy_syntax::trivium::{Trivium, TriviumKind};
@@ -73,13 +72,13 @@ fn row(trivium: &Trivium) -> TriviumRow
         TriviumKind::Comment => bare_row(trivium.span, TRIVIUM_COMMENT),
         TriviumKind::LineComment => bare_row(trivium.span, TRIVIUM_LINE_COMMENT),
         TriviumKind::InlineFlags { before, after } => TriviumRow {
-            flags_before: flag_bits(before),
-            flags_after: flag_bits(after),
+            flags_before: before.to_bits(),
+            flags_after: after.to_bits(),
             ..bare_row(trivium.span, TRIVIUM_INLINE_FLAGS)
         },
         TriviumKind::Opening { around, inside } => TriviumRow {
-            flags_before: flag_bits(around),
-            flags_after: flag_bits(inside),
+            flags_before: around.to_bits(),
+            flags_after: inside.to_bits(),
             ..bare_row(trivium.span, TRIVIUM_OPENING)
         },
         TriviumKind::Closing => bare_row(trivium.span, TRIVIUM_CLOSING),

@@ -17,6 +17,7 @@ use Rattle.fancy_lex.specs.Text.{Text, bytes, reach_of, strip}
 use Rattle.fancy_lex.specs.declared.flags.Flags.{Flags}
 use Rattle.fancy_parts.proofs.CountLaws.{takes_counts}
 use Rattle.fancy_parts.specs.Quantifier.{counts}
+use Rattle.fancy_parts.specs.Ranks.{only_named}
 use Rattle.fancy_parts.specs.declared.counts.Counts.{Counts}
 use Rattle.fancy_grammar.specs.AtomStart.{AtomStart}
 use Rattle.fancy_grammar.specs.Depth.{max_depth}
@@ -27,6 +28,7 @@ use Rattle.fancy_grammar.specs.Grammar.{one_branch, absent_error, Inside, inside
 use Rattle.fancy_grammar.specs.Grammar.{closed, closed_at, ended_at, conditional_after, conditional_of, branches_of}
 use Rattle.fancy_grammar.specs.Grammar.{is_condition, clear_or_stopper}
 use Rattle.fancy_grammar.specs.GroupKind.{GroupKind, capture, flag_group, look, atomic, define, repeater, group_node}
+use Rattle.fancy_grammar.specs.Items.{openings}
 use Rattle.fancy_grammar.specs.Join.{is_empty, join, choice}
 use Rattle.fancy_grammar.specs.Quantified.{quants, adjacent, max_adjacent, is_unmoved, quant, quant_at, with_counts}
 use Rattle.fancy_grammar.specs.Quantified.{suffix, suffix_at, after_lazy, may_be_possessive, is_repeatable, is_dropped}
@@ -35,7 +37,7 @@ use Rattle.fancy_grammar.specs.Slices.{Slice}
 use Rattle.fancy_grammar.specs.Spans.{IsCutOut, end_of, if_done}
 use Rattle.fancy_grammar.specs.State.{State, at, skipped, Outcome, done, failed, failed_with, and_then, mapped}
 use Rattle.fancy_grammar.specs.Tree.{Tree, expression}
-use Rattle.fancy_grammar.specs.Trivia.{Trivium, flags, opening, closing, IsTriviaOf, IsPartOf, AreInOrder, comments_at}
+use Rattle.fancy_grammar.specs.Trivia.{Trivium, Passed, part, flags, opening, closing, IsTriviaOf, IsPartOf, AreInOrder, comments_at}
 use Rattle.fancy_grammar.specs.Trivia.{flags_of_atom, opening_of, closing_of, quant_trivia, adjacent_trivia}
 use Rattle.fancy_grammar.specs.Trivia.{quants_trivia, alternation_trivia, branches_trivia, branch_trivia, pieces_trivia}
 use Rattle.fancy_grammar.specs.Trivia.{piece_trivia, atom_trivia, atom_of_trivia, inside_trivia, body_trivia, whole_trivia}
@@ -43,11 +45,12 @@ use Rattle.fancy_grammar.proofs.AtomStartLaws.{IsLeaf, StartReads, start_reads}
 use Rattle.fancy_grammar.proofs.OutcomeLemmas.{Holds, after_keeps}
 use Rattle.fancy_grammar.proofs.Slices.{Reads, current, one, strip_slice}
 use Rattle.fancy_grammar.proofs.TriviaLemmas.{Passes, nothing, one_more, extended, followed, PassesFrom}
-use Rattle.fancy_grammar.proofs.TriviaLemmas.{on_from, mapped_from, then_from, layout_passes, wider, in_order, are_parts, parts_cut}
+use Rattle.fancy_grammar.proofs.TriviaLemmas.{on_from, mapped_from, then_from, layout_passes, returned_in_order}
+use Rattle.fancy_grammar.proofs.TriviaLemmas.{returned_are_parts, parts_cut}
 
 -- ---- quantifiers
 
-suffix_passes : (s : State) (c : Counts) (p : List Trivium) → PassesFrom s.rest p (p ++ comments_at s) (suffix s c)
+suffix_passes : (s : State) (c : Counts) (p : List Passed) → PassesFrom s.rest p (p ++ comments_at s) (suffix s c)
 suffix_passes s c p = by_layout (skipped s) refl
   where
     W : Outcome Suffix → Type 0
@@ -65,12 +68,12 @@ suffix_passes s c p = by_layout (skipped s) refl
         (λ u i. after_operator true u (extended h (strip_slice (code "?") t u i))) (after_operator false t h)
     by_layout (open_comment q) e = tt
 
-quant_passes : (left : ℕ) (a : Tree) (s : State) (p : List Trivium) →
+quant_passes : (left : ℕ) (a : Tree) (s : State) (p : List Passed) →
     PassesFrom s.rest p (quant_trivia s p) (quant left a s)
 unfolding quant
 quant_passes left a s p = by_layout (skipped s) refl
   where
-    q : List Trivium
+    q : List Passed
     q = p ++ comments_at s
 
     by_counts : (v : Text) (o : Option (Counts × Text)) → Passes s.rest v p q → TakesSome 1 v o →
@@ -93,7 +96,7 @@ quant_passes left a s p = by_layout (skipped s) refl
         by_counts v (counts s.flags.ignore_space v) (layout_passes s v e p) (takes_counts s.flags.ignore_space v)
     by_layout (open_comment r) e = tt
 
-adjacent_passes : (k d : ℕ) (a : Tree) (s : State) (p : List Trivium) →
+adjacent_passes : (k d : ℕ) (a : Tree) (s : State) (p : List Passed) →
     PassesFrom s.rest p (adjacent_trivia k a s p) (adjacent k d a s)
 unfolding adjacent
 adjacent_passes zero d a s p =
@@ -104,7 +107,7 @@ adjacent_passes (suc k) d a s p =
     by_first (λ b v. adjacent_passes k (d + 1) b v (quant_trivia s p)) (quant (bytes s.rest) a s)
     (quant_passes (bytes s.rest) a s p)
   where
-    q : List Trivium
+    q : List Passed
     q = quant_trivia s p
 
     GoesOn : Tree → State → Type 0
@@ -124,11 +127,11 @@ adjacent_passes (suc k) d a s p =
     by_first go_on (done b v) h = by_tests (is_unmoved s v) (nat_lt (d + 1) max_depth) b v h (go_on b v)
     by_first go_on (failed j r) h = tt
 
-quants_passes : (d left : ℕ) (a : Tree) (s : State) (p : List Trivium) →
+quants_passes : (d left : ℕ) (a : Tree) (s : State) (p : List Passed) →
     PassesFrom s.rest p (quants_trivia left (done a s) p) (quants d left a s)
 quants_passes d left a s p = by_first (quant left a s) (quant_passes left a s p)
   where
-    q : List Trivium
+    q : List Passed
     q = quant_trivia s p
 
     by_mode : (c : Bool) (b : Tree) (v : State) → Passes s.rest v.rest p q →
@@ -147,21 +150,23 @@ quants_passes d left a s p = by_first (quant left a s) (quant_passes left a s p)
 
 -- ---- groups
 
-opening_passes : (h : GroupKind) (s t : State) (p : List Trivium) → Slice s.rest t.rest →
+opening_passes : (h : GroupKind) (s t : State) (p : List Passed) → Slice s.rest t.rest →
     Passes s.rest t.rest p (p ++ opening_of h s t)
 opening_passes flag_group s t p k =
-    one_more (opening s.flags t.flags) k.word (nothing (current s.rest)) k.cut tt (current t.rest) refl
-opening_passes (capture name) s t p k = subst (Passes s.rest t.rest p) (sym (append-nil p)) (nothing k)
+    one_more (opening s.flags t.flags) false k.word (nothing (current s.rest)) k.cut tt (current t.rest) refl
+opening_passes (capture None) s t p k =
+    one_more (opening s.flags t.flags) true k.word (nothing (current s.rest)) k.cut tt (current t.rest) refl
+opening_passes (capture (Some name)) s t p k = subst (Passes s.rest t.rest p) (sym (append-nil p)) (nothing k)
 opening_passes (look l) s t p k = subst (Passes s.rest t.rest p) (sym (append-nil p)) (nothing k)
 opening_passes atomic s t p k = subst (Passes s.rest t.rest p) (sym (append-nil p)) (nothing k)
 opening_passes define s t p k = subst (Passes s.rest t.rest p) (sym (append-nil p)) (nothing k)
 opening_passes repeater s t p k = subst (Passes s.rest t.rest p) (sym (append-nil p)) (nothing k)
 
 -- up to the closing parenthesis
-abbrev PassesInside : Text → List Trivium → List Trivium → Outcome Tree → Type 0
+abbrev PassesInside : Text → List Passed → List Passed → Outcome Tree → Type 0
 PassesInside t p m o = Holds (λ _ (v : State). Passes t (close_paren ∷ v.rest) p m) o
 
-closed_passes : {t : Text} {p m : List Trivium} (r : Tree) (s : State) → Passes t s.rest p m →
+closed_passes : {t : Text} {p m : List Passed} (r : Tree) (s : State) → Passes t s.rest p m →
     PassesInside t p m (closed r s)
 closed_passes {t} {p} {m} r s h = by_text s.rest h
   where
@@ -171,7 +176,7 @@ closed_passes {t} {p} {m} r s h = by_text s.rest h
         cond_both (c == code ")") _ _ (PassesInside t p m)
         (λ e. let is : c ≡ close_paren = grind (arith, nat_tests) in subst (λ d. Passes t (d ∷ u) p m) is h) (λ _. tt)
 
-on_inside : {t u : Text} {p q : List Trivium} (m : List Trivium) → Passes t u p q → (o : Outcome Tree) →
+on_inside : {t u : Text} {p q : List Passed} (m : List Passed) → Passes t u p q → (o : Outcome Tree) →
     PassesInside u q m o → PassesInside t p m o
 on_inside m h (done a v) i = followed h i
 on_inside m h (failed k p) i = tt
@@ -180,9 +185,15 @@ paren_bytes : (t : Text) → bytes (close_paren ∷ t) ≡ bytes t + 1
 unfolding bytes
 paren_bytes t = omega arith
 
-module _ (t : Text) (p m : List Trivium) where
+module _ (t : Text) (p m : List Passed) where
   no_closing : (r : Tree) (v : State) → PassesInside t p m (done r v) → Passes t v.rest p (m ++ [])
   no_closing r v i = subst (Passes t v.rest p) (sym (append-nil m)) (extended i (one close_paren v.rest))
+
+  one_closing : (r : Tree) (v : State) (b : Bool) → PassesInside t p m (done r v) →
+      Passes t v.rest p (m ++ part (reach_of v.rest + 1) (reach_of v.rest) closing b ∷ [])
+  one_closing r v b i =
+      one_more closing b (close_paren ∷ []) i refl refl (current v.rest)
+      (ap (λ n. m ++ part n (reach_of v.rest) closing b ∷ []) (ap (λ n. n + 1) (sym (paren_bytes v.rest))))
 
   past_paren : (o : Outcome Tree) → PassesInside t p m o → PassesFrom t p m o
   past_paren (done r v) h = extended h (one close_paren v.rest)
@@ -191,12 +202,9 @@ module _ (t : Text) (p m : List Trivium) where
   closing_passes : (h : GroupKind) (reach : ℕ) (q : Outcome Tree) → PassesInside t p m q →
       (let o = mapped (group_node h reach) q in PassesFrom t p (m ++ closing_of h (end_of o)) o)
   closing_passes h reach (failed k q) i = tt
-  closing_passes flag_group reach (done r v) i =
-      let from_start : ℕ → List Trivium = λ n.
-      m ++ record { span = record { start = n; end = reach_of v.rest }; kind = closing } ∷ [] in
-      one_more closing (close_paren ∷ []) i refl refl (current v.rest)
-      (ap from_start (ap (λ n. n + 1) (sym (paren_bytes v.rest))))
-  closing_passes (capture name) reach (done r v) i = no_closing r v i
+  closing_passes flag_group reach (done r v) i = one_closing r v false i
+  closing_passes (capture None) reach (done r v) i = one_closing r v true i
+  closing_passes (capture (Some name)) reach (done r v) i = no_closing r v i
   closing_passes (look l) reach (done r v) i = no_closing r v i
   closing_passes atomic reach (done r v) i = no_closing r v i
   closing_passes define reach (done r v) i = no_closing r v i
@@ -205,22 +213,22 @@ module _ (t : Text) (p m : List Trivium) where
 -- ---- the productions
 
 -- an atom that is read at once: a leaf, or inline flags
-read_passes : (s : State) (o : Outcome Tree) (p : List Trivium) → Reads (IsLeaf s) s o →
+read_passes : (s : State) (o : Outcome Tree) (p : List Passed) → Reads (IsLeaf s) s o →
     PassesFrom s.rest p (p ++ flags_of_atom s o) o
 read_passes s (failed k q) p h = tt
 read_passes s (done r t) p h =
     cond_both (is_empty r) _ _ (λ l. Passes s.rest t.rest p (p ++ l))
-    (λ _. one_more (flags s.flags t.flags) h.span.slice.word (nothing (current s.rest)) h.span.slice.cut tt
+    (λ _. one_more (flags s.flags t.flags) false h.span.slice.word (nothing (current s.rest)) h.span.slice.cut tt
     (current t.rest) refl)
     (λ _. subst (Passes s.rest t.rest p) (sym (append-nil p)) (nothing h.span.slice))
 
 mutual
-  alternation_passes : {d : ℕ} {s : State} {o : Outcome Tree} (a : Alternation d s o) (p : List Trivium) →
+  alternation_passes : {d : ℕ} {s : State} {o : Outcome Tree} (a : Alternation d s o) (p : List Passed) →
       PassesFrom s.rest p (alternation_trivia a p) o
   alternation_passes {s} (alternation {q} b) p =
       mapped_from s.rest p (branches_trivia b p) choice q (branches_passes b p)
 
-  branches_passes : {d : ℕ} {s : State} {o : Outcome (List Tree)} (a : Branches d s o) (p : List Trivium) →
+  branches_passes : {d : ℕ} {s : State} {o : Outcome (List Tree)} (a : Branches d s o) (p : List Passed) →
       PassesFrom s.rest p (branches_trivia a p) o
   branches_passes (last b e) p = branch_passes b p
   branches_passes {s} (more {t} {u} {r} {q} b e m) p =
@@ -229,11 +237,11 @@ mutual
       mapped_from s.rest p others (r ∷◌) q (on_from others first q (branches_passes m (branch_trivia b p)))
   branches_passes (branch_error b) p = tt
 
-  branch_passes : {d : ℕ} {s : State} {o : Outcome Tree} (a : Branch d s o) (p : List Trivium) →
+  branch_passes : {d : ℕ} {s : State} {o : Outcome Tree} (a : Branch d s o) (p : List Passed) →
       PassesFrom s.rest p (branch_trivia a p) o
   branch_passes {s} (branch {q} b) p = mapped_from s.rest p (pieces_trivia b p) join q (pieces_passes b p)
 
-  pieces_passes : {d : ℕ} {s : State} {o : Outcome (List Tree)} (a : Pieces d s o) (p : List Trivium) →
+  pieces_passes : {d : ℕ} {s : State} {o : Outcome (List Tree)} (a : Pieces d s o) (p : List Passed) →
       PassesFrom s.rest p (pieces_trivia a p) o
   pieces_passes {s} (stop e) p = nothing (current s.rest)
   pieces_passes {s} (next {r} {q} e a m) p =
@@ -241,12 +249,12 @@ mutual
       mapped_from s.rest p others (r ∷◌) q (on_from others (piece_passes a p) q (pieces_passes m (piece_trivia a p)))
   pieces_passes (piece_error e a) p = tt
 
-  piece_passes : {d : ℕ} {s : State} {o : Outcome Tree} (a : Piece d s o) (p : List Trivium) →
+  piece_passes : {d : ℕ} {s : State} {o : Outcome Tree} (a : Piece d s o) (p : List Passed) →
       PassesFrom s.rest p (piece_trivia a p) o
   piece_passes {d} {s} (piece {u} {q} l a) p =
       by_atom q (on_from m (layout_passes s u l p) q (atom_passes a (p ++ comments_at s)))
     where
-      m : List Trivium
+      m : List Passed
       m = atom_trivia a (p ++ comments_at s)
 
       by_atom : (q : Outcome Tree) → PassesFrom s.rest p m q →
@@ -257,13 +265,13 @@ mutual
       by_atom (failed k j) h = tt
   piece_passes (layout_error l) p = tt
 
-  atom_passes : {d : ℕ} {s : State} {o : Outcome Tree} (a : Atom d s o) (p : List Trivium) →
+  atom_passes : {d : ℕ} {s : State} {o : Outcome Tree} (a : Atom d s o) (p : List Passed) →
       PassesFrom s.rest p (atom_trivia a p) o
   atom_passes {d} {s} (atom {e = k} {q} e a) p =
       let read_start = subst (StartReads s) e (start_reads d s) in
       after_keeps (PassesFrom s.rest p (atom_of_trivia a p)) (λ r t f i. i) k s.flags q (of_passes a p read_start)
 
-  of_passes : {k : AtomStart} {d : ℕ} {s : State} {o : Outcome Tree} (a : AtomOf k d s o) (p : List Trivium) →
+  of_passes : {k : AtomStart} {d : ℕ} {s : State} {o : Outcome Tree} (a : AtomOf k d s o) (p : List Passed) →
       StartReads s k → PassesFrom s.rest p (atom_of_trivia a p) o
   of_passes {s} a_nothing p h = nothing (current s.rest)
   of_passes {s} {o} a_read p h = read_passes s o p h
@@ -286,7 +294,7 @@ mutual
       (closed_passes (clear_or_stopper a) v (followed (nothing h.0) (branch_passes b p)))
   of_passes (absent_error b) p h = tt
 
-  inside_passes : {d : ℕ} {s : State} {o : Outcome Tree} (a : Inside d s o) (p : List Trivium) →
+  inside_passes : {d : ℕ} {s : State} {o : Outcome Tree} (a : Inside d s o) (p : List Passed) →
       PassesInside s.rest p (inside_trivia a p) o
   inside_passes {s} (inside {q} a) p = by_contents q (alternation_passes a p)
     where
@@ -295,7 +303,7 @@ mutual
       by_contents (done r v) h = closed_passes r v h
       by_contents (failed k j) h = tt
 
-  body_passes : {d : ℕ} {c : Tree} {s : State} {o : Outcome Tree} (a : Body d c s o) (p : List Trivium) →
+  body_passes : {d : ℕ} {c : Tree} {s : State} {o : Outcome Tree} (a : Body d c s o) (p : List Passed) →
       PassesFrom s.rest p (body_trivia a p) o
   body_passes {c} {s} (the_body {q} a) p =
       let W : Outcome Tree → Type 0 = PassesFrom s.rest p (alternation_trivia a p) in
@@ -310,7 +318,7 @@ whole_passes : {f : Flags} {text : Text} {r : Tree} {t : State} (a : Whole f tex
     Passes text t.rest [] (whole_trivia a)
 whole_passes a = by_whole a
   where
-    by_rest : {text : Text} {m : List Trivium} (r : Tree) (t : State) → Passes text t.rest [] m → (u : Text) →
+    by_rest : {text : Text} {m : List Passed} (r : Tree) (t : State) → Passes text t.rest [] m → (u : Text) →
         PassesFrom text [] m (ended_at r t u)
     by_rest r t h [] = h
     by_rest r t h (c ∷ u) = tt
@@ -324,15 +332,16 @@ whole_passes a = by_whole a
 
 -- they are in the text, one after another
 pub trivia_in_order : {f : Flags} {text : Text} (l : List Trivium) → IsTriviaOf f text l → AreInOrder 0 (bytes text) l
-trivia_in_order {text} l (r, t, a, e) =
+trivia_in_order {f} {text} l (r, t, a, e) =
     subst (AreInOrder 0 (bytes text)) (sym e)
-    (wider 0 _ _ (bytes text) _ (omega arith) (omega arith) (in_order text (current text) (whole_passes a)))
+    (returned_in_order text (only_named f (openings r)) (whole_trivia a) (whole_passes a))
 
 -- each is a part of it
 pub trivia_are_parts : {f : Flags} {text : Text} (l : List Trivium) → IsTriviaOf f text l →
     AllByRecursion (IsPartOf text) l
-trivia_are_parts {text} l (r, t, a, e) =
-    subst (AllByRecursion (IsPartOf text)) (sym e) (are_parts text (current text) (whole_passes a))
+trivia_are_parts {f} {text} l (r, t, a, e) =
+    subst (AllByRecursion (IsPartOf text)) (sym e)
+    (returned_are_parts text (only_named f (openings r)) (whole_trivia a) (whole_passes a))
 
 -- each begins and ends at a character boundary
 pub trivia_cut : {f : Flags} {re : List ℕ} (l : List Trivium) → IsUtf8 re → IsTriviaOf f (chars re) l →

@@ -1,6 +1,9 @@
 -- Trivia that are added to a list lie in the text, one after another.
-use Rattle.std.proofs.Common.{◌≡◌, ℕ, ◌+◌, ◌-◌, ◌≤◌, List, [], ◌∷◌, ◌++◌, map, chars}
+use Rattle.std.proofs.Common.{◌≡◌, ℕ, ◌+◌, ◌-◌, ◌≤◌, Bool, false, ◌&&◌, List, [], ◌∷◌, ◌++◌}
+use Rattle.std.proofs.Common.{map, chars}
+use Rattle.std.specs.Prelude.{not}
 use Rattle.std.proofs.Common.{refl, sym, ap, ◌∙◌, subst, arith, append_assoc, append-nil}
+use Rattle.std.proofs.lemmas.Bool.{cond_both}
 use Rattle.std.proofs.lemmas.List.{map-append}
 use Rattle.std.specs.List.{AllByRecursion}
 use Rattle.std.specs.Str.{IsUtf8, IsCharBoundary}
@@ -12,47 +15,47 @@ use Rattle.fancy_lex.specs.Text.{Text, bytes, reach_of, position_at}
 use Rattle.fancy_grammar.specs.Slices.{Slice}
 use Rattle.fancy_grammar.specs.Spans.{IsCutOut}
 use Rattle.fancy_grammar.specs.State.{State, skipped, Outcome, done, failed, and_then, mapped}
-use Rattle.fancy_grammar.specs.Trivia.{Trivium, TriviumKind, comment, line_comment, IsTextOf, IsPartOf, AreInOrder}
-use Rattle.fancy_grammar.specs.Trivia.{located, of_comment, comments_at}
+use Rattle.fancy_grammar.specs.Trivia.{Trivium, TriviumKind, comment, line_comment, Passed, part, kept, IsTextOf}
+use Rattle.fancy_grammar.specs.Trivia.{IsPartOf, AreInOrder, located, of_comment, comments_at}
 use Rattle.fancy_grammar.proofs.OutcomeLemmas.{Holds, each_append}
 use Rattle.fancy_grammar.proofs.Slices.{current, on, fits}
 use Rattle.fancy_grammar.proofs.Verdict.{cut_at}
 
 -- from the text a up to v, in reaches
-abbrev pub reached : TriviumKind → Text → Text → Trivium
-reached k a v = record { span = record { start = reach_of a; end = reach_of v }; kind = k }
+abbrev pub reached : TriviumKind → Bool → Text → Text → Passed
+reached k b a v = part (reach_of a) (reach_of v) k b
 
 -- m is p with trivia after it that lie between the start of t and the start of u, one after another
-pub data Passes : Text → Text → List Trivium → List Trivium → Type 0 where
-  nothing : {t u : Text} {p : List Trivium} → Slice t u → Passes t u p p
-  one_more : {t a v u : Text} {p q m : List Trivium} (k : TriviumKind) (w : Text) → Passes t a p q → a ≡ w ++ v →
-      IsTextOf k w v → Slice v u → m ≡ q ++ reached k a v ∷ [] → Passes t u p m
+pub data Passes : Text → Text → List Passed → List Passed → Type 0 where
+  nothing : {t u : Text} {p : List Passed} → Slice t u → Passes t u p p
+  one_more : {t a v u : Text} {p q m : List Passed} (k : TriviumKind) (b : Bool) (w : Text) → Passes t a p q →
+      a ≡ w ++ v → IsTextOf k w v → Slice v u → m ≡ q ++ reached k b a v ∷ [] → Passes t u p m
 
-pub extended : {t u v : Text} {p m : List Trivium} → Passes t u p m → Slice u v → Passes t v p m
+pub extended : {t u v : Text} {p m : List Passed} → Passes t u p m → Slice u v → Passes t v p m
 extended (nothing s) h = nothing (on s h)
-extended (one_more k w x e i s f) h = one_more k w x e i (on s h) f
+extended (one_more k b w x e i s f) h = one_more k b w x e i (on s h) f
 
-pub followed : {t u v : Text} {p q m : List Trivium} → Passes t u p q → Passes u v q m → Passes t v p m
+pub followed : {t u v : Text} {p q m : List Passed} → Passes t u p q → Passes u v q m → Passes t v p m
 followed h (nothing s) = extended h s
-followed h (one_more k w x e i s f) = one_more k w (followed h x) e i s f
+followed h (one_more k b w x e i s f) = one_more k b w (followed h x) e i s f
 
 -- ---- outcomes
 
 -- where what is read ends
-abbrev pub PassesFrom : {A : Type 0} → Text → List Trivium → List Trivium → Outcome A → Type 0
+abbrev pub PassesFrom : {A : Type 0} → Text → List Passed → List Passed → Outcome A → Type 0
 PassesFrom t p m o = Holds (λ _ (v : State). Passes t v.rest p m) o
 
-pub on_from : {A : Type 0} {t u : Text} {p q : List Trivium} (m : List Trivium) → Passes t u p q → (o : Outcome A) →
+pub on_from : {A : Type 0} {t u : Text} {p q : List Passed} (m : List Passed) → Passes t u p q → (o : Outcome A) →
     PassesFrom u q m o → PassesFrom t p m o
 on_from m h (done a v) i = followed h i
 on_from m h (failed k p) i = tt
 
-module _ (t : Text) (p m : List Trivium) where
+module _ (t : Text) (p m : List Passed) where
   pub mapped_from : {A B : Type 0} (f : A → B) (o : Outcome A) → PassesFrom t p m o → PassesFrom t p m (mapped f o)
   mapped_from f (done a v) h = h
   mapped_from f (failed k q) h = tt
 
-  pub then_from : {A B : Type 0} (q : List Trivium) (o : Outcome A) (f : A → State → Outcome B) →
+  pub then_from : {A B : Type 0} (q : List Passed) (o : Outcome A) (f : A → State → Outcome B) →
       PassesFrom t p q o → ((a : A) (v : State) → Passes t v.rest p q → PassesFrom t p m (f a v)) →
       PassesFrom t p m (and_then o f)
   then_from q (done a v) f h g = g a v h
@@ -63,71 +66,106 @@ module _ (t : Text) (p m : List Trivium) where
 cut_slice : {t v : Text} (w : Text) → t ≡ w ++ v → Slice t v
 cut_slice w e = record { word = w; cut = e }
 
-units_pass : {t v : Text} {l : List Comment} → AreUnits t v l → (p : List Trivium) →
+units_pass : {t v : Text} {l : List Comment} → AreUnits t v l → (p : List Passed) →
     Passes t v p (p ++ map of_comment l)
 units_pass {t} {v} (no_more w e) p = subst (Passes t v p) (sym (append-nil p)) (nothing (cut_slice w e))
 units_pass {t} {v} (a_comment {m} {l} w u e h k) p =
-    let x = reached comment (u ++ m) m in
-    let first : Passes t m p (p ++ x ∷ []) = one_more comment u (nothing (cut_slice w e)) refl h (current m) refl in
+    let x = reached comment false (u ++ m) m in
+    let first : Passes t m p (p ++ x ∷ []) = one_more comment false u (nothing (cut_slice w e)) refl h (current m) refl in
     subst (Passes t v p) (append_assoc p (x ∷ []) (map of_comment l)) (followed first (units_pass k (p ++ x ∷ [])))
 units_pass {t} {v} (a_line {m} {l} w u e h k) p =
-    let x = reached line_comment (u ++ m) m in
-    let first : Passes t m p (p ++ x ∷ []) = one_more line_comment u (nothing (cut_slice w e)) refl h (current m) refl in
+    let x = reached line_comment false (u ++ m) m in
+    let first : Passes t m p (p ++ x ∷ []) = one_more line_comment false u (nothing (cut_slice w e)) refl h (current m) refl in
     subst (Passes t v p) (append_assoc p (x ∷ []) (map of_comment l)) (followed first (units_pass k (p ++ x ∷ [])))
 
-pub layout_passes : (s : State) (u : Text) → skipped s ≡ rest u → (p : List Trivium) →
+pub layout_passes : (s : State) (u : Text) → skipped s ≡ rest u → (p : List Passed) →
     Passes s.rest u p (p ++ comments_at s)
 layout_passes s u e p = units_pass (comments_are_units s.flags.ignore_space s.rest u e) p
 
 -- ---- what passes is in order, and is a part of the text
 
 -- between positions that are further apart
-pub wider : (a low high b : ℕ) (l : List Trivium) → a ≤ low → high ≤ b → AreInOrder low high l → AreInOrder a b l
+wider : (a low high b : ℕ) (l : List Trivium) → a ≤ low → high ≤ b → AreInOrder low high l → AreInOrder a b l
 wider a low high b [] h i k = omega (arith, h, i, k)
-wider a low high b (x ∷ l) h i k = (omega (arith, h, k.0), k.1, wider x.span.end x.span.end high b l (omega arith) i k.2)
+wider a low high b (x ∷ l) h i k =
+    (omega (arith, h, k.0), k.1, wider x.span.end x.span.end high b l (omega arith) i k.2)
 
 module _ (text : Text) where
   abbrev position : Text → ℕ
   position t = position_at (bytes text) (reach_of t)
+
+  abbrev trivium_of : Passed → Trivium
+  trivium_of x = located (bytes text) x.trivium
 
   one_after : (low mid high : ℕ) (l : List Trivium) (x : Trivium) → AreInOrder low mid l → mid ≤ x.span.start →
       x.span.start ≤ x.span.end → x.span.end ≤ high → AreInOrder low high (l ++ x ∷ [])
   one_after low mid high [] x h i j k = (omega (arith, h, i), j, k)
   one_after low mid high (y ∷ l) x h i j k = (h.0, h.1, one_after y.span.end mid high l x h.2 i j k)
 
-  pub in_order : {t u : Text} {m : List Trivium} → Slice text t → Passes t u [] m →
-      AreInOrder (position t) (position u) (map (located (bytes text)) m)
+  in_order : {t u : Text} {m : List Passed} → Slice text t → Passes t u [] m →
+      AreInOrder (position t) (position u) (map trivium_of m)
   in_order {t} {u} s (nothing h) = omega (arith, fits h)
-  in_order {t} {u} s (one_more {a} {v} {q} k w h e i z f) =
-      let x = located (bytes text) (reached k a v) in
+  in_order {t} {u} s (one_more {a} {v} {q} k b w h e i z f) =
+      let x = trivium_of (reached k b a v) in
       let inner : bytes v ≤ bytes a = omega (arith, ap bytes e, bytes-append w v) in
       subst (λ l. AreInOrder (position t) (position u) l)
-      (sym (ap (map (located (bytes text))) f ∙ map-append (located (bytes text)) q (reached k a v ∷ [])))
-      (one_after (position t) (position a) (position u) (map (located (bytes text)) q) x (in_order s h)
+      (sym (ap (map trivium_of) f ∙ map-append trivium_of q (reached k b a v ∷ [])))
+      (one_after (position t) (position a) (position u) (map trivium_of q) x (in_order s h)
       (omega arith) (omega (arith, inner)) (omega (arith, fits z)))
 
   -- the slice of the text before what follows it
-  slice_of : {t u : Text} {m : List Trivium} → Slice text t → Passes t u [] m → Slice text u
+  slice_of : {t u : Text} {m : List Passed} → Slice text t → Passes t u [] m → Slice text u
   slice_of s (nothing h) = on s h
-  slice_of s (one_more k w h e i z f) = on (slice_of s h) (on (cut_slice w e) z)
+  slice_of s (one_more k b w h e i z f) = on (slice_of s h) (on (cut_slice w e) z)
 
-  part_at : (k : TriviumKind) (a v w : Text) → Slice text a → a ≡ w ++ v → IsTextOf k w v →
-      IsPartOf text (located (bytes text) (reached k a v))
-  part_at k a v w s e i =
+  part_at : (k : TriviumKind) (b : Bool) (a v w : Text) → Slice text a → a ≡ w ++ v → IsTextOf k w v →
+      IsPartOf text (trivium_of (reached k b a v))
+  part_at k b a v w s e i =
       let start : position_at (bytes text) (reach_of a) ≡ bytes s.word =
       omega (arith, ap bytes s.cut, bytes-append s.word a) in
       let end : position_at (bytes text) (reach_of v) ≡ bytes s.word + bytes w =
       omega (arith, ap bytes s.cut, bytes-append s.word a, ap bytes e, bytes-append w v) in
       (s.word, w, v, s.cut ∙ ap (λ z. s.word ++ z) e, i, λ j. record { start = start j; end = end j })
 
-  pub are_parts : {t u : Text} {m : List Trivium} → Slice text t → Passes t u [] m →
-      AllByRecursion (IsPartOf text) (map (located (bytes text)) m)
+  are_parts : {t u : Text} {m : List Passed} → Slice text t → Passes t u [] m →
+      AllByRecursion (IsPartOf text) (map trivium_of m)
   are_parts s (nothing h) = tt
-  are_parts s (one_more {a} {v} {q} k w h e i z f) =
-      subst (AllByRecursion (IsPartOf text))
-      (sym (ap (map (located (bytes text))) f ∙ map-append (located (bytes text)) q (reached k a v ∷ [])))
-      (each_append (IsPartOf text) (map (located (bytes text)) q) (located (bytes text) (reached k a v) ∷ [])
-      (are_parts s h) (part_at k a v w (slice_of s h) e i, tt))
+  are_parts s (one_more {a} {v} {q} k b w h e i z f) =
+      subst (AllByRecursion (IsPartOf text)) (sym (ap (map trivium_of) f ∙ map-append trivium_of q (reached k b a v ∷ [])))
+      (each_append (IsPartOf text) (map trivium_of q) (trivium_of (reached k b a v) ∷ [])
+      (are_parts s h) (part_at k b a v w (slice_of s h) e i, tt))
+
+  -- ---- what is left out changes neither
+
+  module _ (named : Bool) where
+    abbrev returned : List Passed → List Trivium
+    returned m = map (located (bytes text)) (kept named m)
+
+    kept_in_order : (low high : ℕ) (m : List Passed) → AreInOrder low high (map trivium_of m) →
+        AreInOrder low high (returned m)
+    kept_in_order low high [] h = h
+    kept_in_order low high (x ∷ m) h =
+        let later = kept_in_order (trivium_of x).span.end high m h.2 in
+        cond_both (x.unnamed && not named) _ _ (λ l. AreInOrder low high (map (located (bytes text)) l))
+        (λ _. wider low (trivium_of x).span.end high high (returned m) (omega (arith, h.0, h.1)) (omega arith) later)
+        (λ _. (h.0, h.1, later))
+
+    kept_parts : (m : List Passed) → AllByRecursion (IsPartOf text) (map trivium_of m) →
+        AllByRecursion (IsPartOf text) (returned m)
+    kept_parts [] h = tt
+    kept_parts (x ∷ m) h =
+        cond_both (x.unnamed && not named) _ _
+        (λ l. AllByRecursion (IsPartOf text) (map (located (bytes text)) l))
+        (λ _. kept_parts m h.1) (λ _. (h.0, kept_parts m h.1))
+
+    pub returned_in_order : {u : Text} (m : List Passed) → Passes text u [] m → AreInOrder 0 (bytes text) (returned m)
+    returned_in_order {u} m h =
+        wider 0 (position text) (position u) (bytes text) (returned m) (omega arith) (omega arith)
+        (kept_in_order (position text) (position u) m (in_order (current text) h))
+
+    pub returned_are_parts : {u : Text} (m : List Passed) → Passes text u [] m →
+        AllByRecursion (IsPartOf text) (returned m)
+    returned_are_parts m h = kept_parts m (are_parts (current text) h)
 
 -- a part of a pattern begins and ends at character boundaries
 part_cut : {re : List ℕ} (x : Trivium) → IsUtf8 re → IsPartOf (chars re) x → IsCutOut re x.span

@@ -3,22 +3,26 @@ use Rattle.std.proofs.Common.{◌≡◌, ℕ, List, [], ◌++◌, refl, sym, sub
 use mathlib.Core.Path.{path_j, subst_refl}
 use Rattle.fancy_lex.specs.Text.{Text, bytes}
 use Rattle.fancy_lex.specs.declared.flags.Flags.{Flags}
+use Rattle.fancy_parts.specs.Ranks.{only_named}
 use Rattle.fancy_grammar.specs.AtomStart.{AtomStart}
 use Rattle.fancy_grammar.specs.Grammar.{Alternation, alternation, Branches, last, more, branch_error, Branch, branch}
 use Rattle.fancy_grammar.specs.Grammar.{Pieces, stop, next, piece_error, Piece, piece, layout_error, Atom, atom, AtomOf}
 use Rattle.fancy_grammar.specs.Grammar.{a_nothing, a_read, a_group, a_condition, condition_error, a_body, two_branches}
 use Rattle.fancy_grammar.specs.Grammar.{one_branch, absent_error, Inside, inside, Body, the_body, Whole, whole}
+use Rattle.fancy_grammar.specs.Items.{openings}
 use Rattle.fancy_grammar.specs.Spans.{end_of}
 use Rattle.fancy_grammar.specs.State.{State, Outcome}
 use Rattle.fancy_grammar.specs.Tree.{Tree}
-use Rattle.fancy_grammar.specs.Trivia.{Trivium, IsTriviaOf, located, comments_at, flags_of_atom, opening_of, closing_of}
+use Rattle.fancy_grammar.specs.Trivia.{Trivium, Passed, IsTriviaOf, located, kept, comments_at, flags_of_atom}
+use Rattle.fancy_grammar.specs.Trivia.{opening_of, closing_of}
 use Rattle.fancy_grammar.specs.Trivia.{quants_trivia, alternation_trivia, branches_trivia, branch_trivia, pieces_trivia}
 use Rattle.fancy_grammar.specs.Trivia.{piece_trivia, atom_trivia, atom_of_trivia, inside_trivia, body_trivia, whole_trivia}
-use Rattle.fancy_grammar.proofs.Unique.{state_of, done_or_failed, same_layout, layout_or_failed, ap_at}
+use Rattle.fancy_grammar.proofs.Unique.{value_of, state_of, done_or_failed, same_layout, layout_or_failed, ap_at}
 use Rattle.fancy_grammar.proofs.Unique.{branch_unique, piece_unique, atom_unique, of_unique, inside_unique}
+use Rattle.fancy_grammar.proofs.Unique.{whole_unique}
 
 -- the start of an atom, under two equal descriptions
-equal_start : {k l : AtomStart} {d : ℕ} {s : State} {o : Outcome Tree} (p : List Trivium) (i : l ≡ k)
+equal_start : {k l : AtomStart} {d : ℕ} {s : State} {o : Outcome Tree} (p : List Passed) (i : l ≡ k)
     (b : AtomOf l d s o) → atom_of_trivia (subst (λ (x : AtomStart). AtomOf x d s o) i b) p ≡ atom_of_trivia b p
 equal_start {l} {d} {s} {o} p i b =
     path_j (λ (x : AtomStart) (j : l ≡ x).
@@ -28,11 +32,11 @@ equal_start {l} {d} {s} {o} p i b =
 -- as in `Unique`: an earlier part has one outcome, which decides the rule that reads on
 mutual
   alternation_same : {d : ℕ} {s z : State} {o q : Outcome Tree} (a : Alternation d s o) (b : Alternation d z q)
-      (p : List Trivium) → s ≡ z → alternation_trivia a p ≡ alternation_trivia b p
+      (p : List Passed) → s ≡ z → alternation_trivia a p ≡ alternation_trivia b p
   alternation_same (alternation a) (alternation b) p e = branches_same a b p e
 
   branches_same : {d : ℕ} {s z : State} {o q : Outcome (List Tree)} (a : Branches d s o) (b : Branches d z q)
-      (p : List Trivium) → s ≡ z → branches_trivia a p ≡ branches_trivia b p
+      (p : List Passed) → s ≡ z → branches_trivia a p ≡ branches_trivia b p
   branches_same (last a f) (last b g) p e = branch_same a b p e
   branches_same (last a f) (more b g m) p e = let h = branch_unique a b e in absurd cc
   branches_same (last a f) (branch_error b) p e = absurd (done_or_failed (branch_unique a b e))
@@ -46,12 +50,12 @@ mutual
   branches_same (branch_error a) (more b g m) p e = absurd (done_or_failed (sym (branch_unique a b e)))
   branches_same (branch_error a) (branch_error b) p e = branch_same a b p e
 
-  branch_same : {d : ℕ} {s z : State} {o q : Outcome Tree} (a : Branch d s o) (b : Branch d z q) (p : List Trivium) →
+  branch_same : {d : ℕ} {s z : State} {o q : Outcome Tree} (a : Branch d s o) (b : Branch d z q) (p : List Passed) →
       s ≡ z → branch_trivia a p ≡ branch_trivia b p
   branch_same (branch a) (branch b) p e = pieces_same a b p e
 
   pieces_same : {d : ℕ} {s z : State} {o q : Outcome (List Tree)} (a : Pieces d s o) (b : Pieces d z q)
-      (p : List Trivium) → s ≡ z → pieces_trivia a p ≡ pieces_trivia b p
+      (p : List Passed) → s ≡ z → pieces_trivia a p ≡ pieces_trivia b p
   pieces_same (stop f) (stop g) p e = refl
   pieces_same (stop f) (next g b m) p e = absurd cc
   pieces_same (stop f) (piece_error g b) p e = absurd cc
@@ -63,7 +67,7 @@ mutual
   pieces_same (piece_error f a) (next g b m) p e = absurd (done_or_failed (sym (piece_unique a b e)))
   pieces_same (piece_error f a) (piece_error g b) p e = piece_same a b p e
 
-  piece_same : {d : ℕ} {s z : State} {o q : Outcome Tree} (a : Piece d s o) (b : Piece d z q) (p : List Trivium) →
+  piece_same : {d : ℕ} {s z : State} {o q : Outcome Tree} (a : Piece d s o) (b : Piece d z q) (p : List Passed) →
       s ≡ z → piece_trivia a p ≡ piece_trivia b p
   piece_same {s} (piece l a) (piece m b) p e =
       let u = same_layout l m e in
@@ -74,13 +78,13 @@ mutual
   piece_same (layout_error l) (piece m b) p e = absurd (layout_or_failed m l (sym e))
   piece_same (layout_error l) (layout_error m) p e = refl
 
-  atom_same : {d : ℕ} {s z : State} {o q : Outcome Tree} (a : Atom d s o) (b : Atom d z q) (p : List Trivium) →
+  atom_same : {d : ℕ} {s z : State} {o q : Outcome Tree} (a : Atom d s o) (b : Atom d z q) (p : List Passed) →
       s ≡ z → atom_trivia a p ≡ atom_trivia b p
   atom_same (atom {d} {e = k} f a) (atom {s = z} {e = l} {q} g b) p e =
       let i : l ≡ k = cc in of_same a (subst (λ (x : AtomStart). AtomOf x d z q) i b) p e ∙ equal_start p i b
 
   of_same : {k : AtomStart} {d : ℕ} {s z : State} {o q : Outcome Tree} (a : AtomOf k d s o) (b : AtomOf k d z q)
-      (p : List Trivium) → s ≡ z → atom_of_trivia a p ≡ atom_of_trivia b p
+      (p : List Passed) → s ≡ z → atom_of_trivia a p ≡ atom_of_trivia b p
   of_same a_nothing a_nothing p e = refl
   of_same {o} a_read a_read p e = λ i. p ++ flags_of_atom (e i) o
   of_same {s} (a_group {t} {h} a) (a_group b) p e =
@@ -106,12 +110,12 @@ mutual
   of_same (absent_error a) (one_branch b g) p e = absurd (done_or_failed (sym (branch_unique a b refl)))
   of_same (absent_error a) (absent_error b) p e = branch_same a b p refl
 
-  inside_same : {d : ℕ} {s z : State} {o q : Outcome Tree} (a : Inside d s o) (b : Inside d z q) (p : List Trivium) →
+  inside_same : {d : ℕ} {s z : State} {o q : Outcome Tree} (a : Inside d s o) (b : Inside d z q) (p : List Passed) →
       s ≡ z → inside_trivia a p ≡ inside_trivia b p
   inside_same (inside a) (inside b) p e = alternation_same a b p e
 
   body_same : {d : ℕ} {c x : Tree} {s z : State} {o q : Outcome Tree} (a : Body d c s o) (b : Body d x z q)
-      (p : List Trivium) → s ≡ z → body_trivia a p ≡ body_trivia b p
+      (p : List Passed) → s ≡ z → body_trivia a p ≡ body_trivia b p
   body_same (the_body a) (the_body b) p e = alternation_same a b p e
 
 whole_same : {f : Flags} {text : Text} {o q : Outcome Tree} (a : Whole f text o) (b : Whole f text q) →
@@ -120,5 +124,9 @@ whole_same (whole a) (whole b) = alternation_same a b [] refl
 
 -- a text has one list of trivia
 pub only_trivia : {f : Flags} {text : Text} (l m : List Trivium) → IsTriviaOf f text l → IsTriviaOf f text m → m ≡ l
-only_trivia {text} l m (r, t, a, e) (q, v, b, h) =
-    h ∙ ap (map (located (bytes text))) (sym (whole_same a b)) ∙ sym e
+only_trivia {f} {text} l m (r, t, a, e) (q, v, b, h) =
+    let same : r ≡ q = value_of (whole_unique a b) in
+    let returned : List Trivium → List Trivium = map (located (bytes text)) in
+    h ∙ ap returned (ap (λ x. kept (only_named f (openings x)) (whole_trivia b)) (sym same)
+    ∙ ap (kept (only_named f (openings r))) (sym (whole_same a b)))
+    ∙ sym e

@@ -125,3 +125,7 @@ pub comments_are_units : (x : Bool) (t v : Text) → layout x t ≡ rest v → A
 comments_are_units x t v e =
     let b = layout_sound x t v e in
     subst (λ z. AreUnits z v (comments x z)) (sym b.cut) (of_units x b.layout.units b.layout.stops)
+
+-- no comment is at the front of the text after the layout
+pub none_after_layout : (x : Bool) (t v : Text) → layout x t ≡ rest v → comments x v ≡ []
+none_after_layout x t v e = none_stopped x v (layout_sound x t v e).layout.stops

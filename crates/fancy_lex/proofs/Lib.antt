@@ -3,6 +3,8 @@ pub mod TextLemmas
 pub mod LeaveLaws
 pub mod TakeLaws
 pub mod ReadingLemmas
+-- ---- flags as bits
+mod FlagLemmas
 -- ---- layout, numbers, names and references
 pub mod LayoutLemmas
 pub mod CommentLemmas

@@ -4,6 +4,8 @@
 pub mod Characters
 pub mod Text
 pub mod Flags
+pub mod FlagBits
+pub mod Flag
 pub mod Located
 pub mod ErrorTable
 pub mod Reading

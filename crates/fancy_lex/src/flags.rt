@@ -1,7 +1,9 @@
 //! The flags under which a pattern is parsed, as bits of a `u32`: combine them with `|`. 0 is no flag, and other bits
 //! are ignored. The letters are those of flag groups, such as `(?i)`.
-ghost use Rattle.std.specs.Prelude.{◌≡◌};
+ghost use Rattle.std.specs.Prelude.{◌≡◌, ◌≢◌, if◌then◌else◌, MatchOption};
 ghost use Rattle.fancy_lex.specs.Bits.{has_bit};
+ghost use Rattle.fancy_lex.specs.FlagBits.{bits_of};
+ghost use Rattle.fancy_lex.specs.Flag as spec;
 
 /// Case-insensitive (`i`): literals that are not escaped, hexadecimal escapes that are characters, classes, properties,
 /// `\d`, `\D`, `\s`, `\S`, `\w`, `\W` and back references have `casei`.
@@ -60,6 +62,81 @@ pub struct Flags {
     pub ignore_numbered_groups: bool,
 }
 
+/// One of the flags.
+#[derive(Clone, Copy, PartialEq, Eq, Debug)]
+pub enum Flag {
+    /// `FLAG_CASEI`
+    Casei,
+    /// `FLAG_MULTI`
+    Multi,
+    /// `FLAG_DOTNL`
+    Dotnl,
+    /// `FLAG_SWAP_GREED`
+    SwapGreed,
+    /// `FLAG_IGNORE_SPACE`
+    IgnoreSpace,
+    /// `FLAG_UNICODE`
+    Unicode,
+    /// `FLAG_CRLF`
+    Crlf,
+    /// `FLAG_ONIGURUMA_MODE`
+    OnigurumaMode,
+    /// `FLAG_IGNORE_NUMBERED_GROUPS_WHEN_NAMED_GROUPS_EXIST`
+    IgnoreNumberedGroups,
+}
+
+impl Flag {
+    /// The flags in the order of their bits.
+    pub const ALL: [Flag; 9] = [
+        Flag::Casei,
+        Flag::Multi,
+        Flag::Dotnl,
+        Flag::SwapGreed,
+        Flag::IgnoreSpace,
+        Flag::Unicode,
+        Flag::Crlf,
+        Flag::OnigurumaMode,
+        Flag::IgnoreNumberedGroups,
+    ];
+
+    /// The flag's letter. A pattern can set and clear the flags of `i`, `m`, `s`, `U`, `x` and `R` by their letters.
+    #[inline]
+    pub fn letter(self) -> char
+        ensures { result ≡ spec.letter self }
+    {
+        match self {
+            Flag::Casei => 'i',
+            Flag::Multi => 'm',
+            Flag::Dotnl => 's',
+            Flag::SwapGreed => 'U',
+            Flag::IgnoreSpace => 'x',
+            Flag::Unicode => 'u',
+            Flag::Crlf => 'R',
+            Flag::OnigurumaMode => 'o',
+            Flag::IgnoreNumberedGroups => 'n',
+        }
+    }
+
+    /// The flag whose letter it is.
+    #[inline]
+    pub fn from_letter(letter: char) -> Option<Flag>
+        ensures { MatchOption result ((flag : Flag) → spec.letter flag ≢ letter) (λ flag. spec.letter flag ≡ letter) }
+    {
+        match letter {
+            'i' => Some(Flag::Casei),
+            'm' => Some(Flag::Multi),
+            's' => Some(Flag::Dotnl),
+            'U' => Some(Flag::SwapGreed),
+            'x' => Some(Flag::IgnoreSpace),
+            'u' => Some(Flag::Unicode),
+            'R' => Some(Flag::Crlf),
+            'o' => Some(Flag::OnigurumaMode),
+            'n' => Some(Flag::IgnoreNumberedGroups),
+            _ => None,
+        }
+    }
+}
+
 impl Flags {
     ghost use Rattle.fancy_lex.specs.Flags.{flags_of};
 
@@ -79,6 +156,68 @@ impl Flags {
             ignore_numbered_groups: has(bits, FLAG_IGNORE_NUMBERED_GROUPS_WHEN_NAMED_GROUPS_EXIST),
         }
     }
+
+    /// The bits of the flags, from which `from_bits` makes the same flags.
+    pub fn to_bits(self) -> u32
+        ensures sum { result ≡ bits_of self }
+        ensures back { flags_of result ≡ self }
+    {
+        let numbered = FLAG_IGNORE_NUMBERED_GROUPS_WHEN_NAMED_GROUPS_EXIST;
+        bit(self.casei, FLAG_CASEI)
+            | bit(self.multi, FLAG_MULTI)
+            | bit(self.dotnl, FLAG_DOTNL)
+            | bit(self.swap_greed, FLAG_SWAP_GREED)
+            | bit(self.ignore_space, FLAG_IGNORE_SPACE)
+            | bit(self.unicode, FLAG_UNICODE)
+            | bit(self.crlf, FLAG_CRLF)
+            | bit(self.oniguruma_mode, FLAG_ONIGURUMA_MODE)
+            | bit(self.ignore_numbered_groups, numbered)
+    }
+
+    /// Whether the flag is set.
+    #[inline]
+    pub fn get(self, flag: Flag) -> bool
+        ensures { result ≡ spec.is_set self flag }
+    {
+        match flag {
+            Flag::Casei => self.casei,
+            Flag::Multi => self.multi,
+            Flag::Dotnl => self.dotnl,
+            Flag::SwapGreed => self.swap_greed,
+            Flag::IgnoreSpace => self.ignore_space,
+            Flag::Unicode => self.unicode,
+            Flag::Crlf => self.crlf,
+            Flag::OnigurumaMode => self.oniguruma_mode,
+            Flag::IgnoreNumberedGroups => self.ignore_numbered_groups,
+        }
+    }
+
+    /// The flags with this one set or cleared.
+    #[inline]
+    pub fn with(self, flag: Flag, on: bool) -> Flags
+        ensures { result ≡ spec.with_flag self flag on }
+    {
+        let mut flags = self;
+        match flag {
+            Flag::Casei => flags.casei = on,
+            Flag::Multi => flags.multi = on,
+            Flag::Dotnl => flags.dotnl = on,
+            Flag::SwapGreed => flags.swap_greed = on,
+            Flag::IgnoreSpace => flags.ignore_space = on,
+            Flag::Unicode => flags.unicode = on,
+            Flag::Crlf => flags.crlf = on,
+            Flag::OnigurumaMode => flags.oniguruma_mode = on,
+            Flag::IgnoreNumberedGroups => flags.ignore_numbered_groups = on,
+        }
+        flags
+    }
+}
+
+/// The flag's bit if it is set, else 0.
+fn bit(set: bool, flag: u32) -> u32
+    ensures { result ≡ (if set then flag else 0) }
+{
+    if set { flag } else { 0 }
 }
 
 /// Whether the flag's bit is set.

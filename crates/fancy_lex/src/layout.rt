@@ -81,7 +81,7 @@ pub fn is_layout(ignore_space: bool, c: char) -> bool
 }
 
 /// The text after `(?#`, if the text begins with it.
-#[inline]
+#[inline(always)]
 fn after_comment_start(text: &str) -> Option<&str>
     ensures value { spec.after_comment_start (chars text.now) ≡ option_map (λ r. chars r.now) result }
     ensures shorter { IfSome result (λ r. length r.now < length text.now) }
@@ -122,7 +122,7 @@ fn read_units(text: &str, ignore_space: bool) -> Result<&str, usize>
 }
 
 /// Whether layout may begin here, judging by the first character.
-#[inline]
+#[inline(always)]
 pub(crate) fn begins_layout(text: &str, ignore_space: bool) -> bool
     ensures { result ≡ false → spec.layout ignore_space (chars text.now) ≡ rest (chars text.now) }
 {
@@ -133,7 +133,7 @@ pub(crate) fn begins_layout(text: &str, ignore_space: bool) -> bool
 }
 
 /// Reads the layout at the front, if any begins there.
-#[inline]
+#[inline(always)]
 fn read_layout(text: &str, ignore_space: bool) -> Result<&str, usize>
     ensures value { spec.layout ignore_space (chars text.now) ≡ skipped_of result }
     ensures within { IfOk result (λ r. length r.now ≤ length text.now) }
@@ -149,7 +149,7 @@ fn read_layout(text: &str, ignore_space: bool) -> Result<&str, usize>
 /// Skips the whitespace and the comments, called layout, at the front of `text`, a suffix of the pattern, and returns
 /// the text after them. If a comment is not closed, the error is the reach of that error: `AT_END`, or `PAST_END` if
 /// the pattern ends with a backslash that escapes nothing.
-#[inline]
+#[inline(always)]
 pub fn layout(text: &str, ignore_space: bool) -> Result<&str, usize>
     ensures value { spec.layout ignore_space (chars text.now) ≡ skipped_of result }
     ensures derives { MatchResult result
@@ -173,7 +173,7 @@ pub fn past_layout(text: &str, ignore_space: bool) -> Option<&str>
 }
 
 /// Skips the layout at the front, as `layout` does, with its error as a `ReadError`: UnclosedOpenParen at its reach.
-#[inline]
+#[inline(always)]
 pub fn skip(text: &str, ignore_space: bool) -> Result<&str, ReadError>
     ensures value { ReadsRest result (layout_reading (spec.layout ignore_space (chars text.now))) }
     ensures skips { Skips result (spec.layout ignore_space (chars text.now)) }

@@ -1,6 +1,7 @@
 -- The letters of a flag group, one step after another.
-use Rattle.std.proofs.Common.{◌≡◌, ℕ, suc, ◌-◌, ◌<◌, [], ◌∷◌, ◌++◌, length, length-append, take, chars, Bool, false}
-use Rattle.std.proofs.Common.{refl, sym, ap, ◌∙◌, arith, append_assoc}
+use Rattle.std.proofs.Common.{◌≡◌, ◌≢◌, ◌==◌, ℕ, suc, ◌-◌, ◌<◌, [], ◌∷◌, ◌++◌, length, length-append, take, chars}
+use Rattle.std.proofs.Common.{Bool, false, None, refl, sym, ap, ◌∙◌, arith, append_assoc}
+use Rattle.std.proofs.lemmas.Bool.{ne_eqb}
 use Rattle.std.proofs.Math.Seq.{take-append_seam}
 use Rattle.std.specs.Str.{chars as the_chars}
 use Rattle.std.proofs.Common.{zero}
@@ -9,10 +10,13 @@ use Prim.Native.Char.{code}
 use Rattle.fancy_lex.specs.LayoutSteps.{layout}
 use Rattle.fancy_lex.specs.Reading.{Reading, gives, layout_reading, Says, Reports}
 use Rattle.fancy_lex.specs.Text.{Text, bytes}
+use Rattle.fancy_lex.specs.Flag.{letter}
+use Rattle.fancy_lex.specs.declared.flags.Flag.{Flag}
+use Rattle.fancy_lex.specs.declared.flags.Flag.TheVariants.{Casei, Multi, Dotnl, SwapGreed, IgnoreSpace, Crlf}
 use Rattle.fancy_lex.specs.declared.flags.Flags.{Flags}
 use Rattle.fancy_lex.specs.declared.error.ReadError.{ReadError}
 use Rattle.fancy_lex.specs.declared.error.ReadError.TheVariants.{At, OutOfMemory}
-use Rattle.fancy_parts.specs.FlagLetters.{Letters, flags_end, flags_go_on}
+use Rattle.fancy_parts.specs.FlagLetters.{Letters, with_letter, flags_end, flags_go_on}
 use Rattle.fancy_parts.specs.LetterSteps.{step, letters_in, letters}
 
 -- the text that was read is the front of the whole text
@@ -32,6 +36,12 @@ after_more t h v u (w, e) f = (w ++ v, e ∙ ap (λ x. w ++ x) f ∙ sym (append
 pub two_chars : chars (code "(" ∷ code "?" ∷ []) ≡ code "(" ∷ code "?" ∷ []
 unfolding the_chars
 two_chars = refl
+
+-- the letter of none of the flags changes none
+pub letter_of_none : (f : Flags) (on : Bool) (c : ℕ) → ((flag : Flag) → letter flag ≢ c) → with_letter f on c ≡ None
+letter_of_none f on c none =
+    let other : (flag : Flag) → (c == letter flag) ≡ false = λ flag. ne_eqb c (letter flag) (λ e. none flag (sym e)) in
+    rw (other Casei, other Multi, other Crlf, other Dotnl, other SwapGreed, other IgnoreSpace) refl
 
 -- ---- the letters, from one layout and letter to the next
 

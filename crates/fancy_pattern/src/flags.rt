@@ -10,17 +10,17 @@ use crate::context::Context;
 use crate::needs::are_met;
 use crate::output::{TextOutput, put_ascii, put_if};
 use fancy_grammar::needs::Needs;
-use fancy_lex::flags::Flags;
+use fancy_lex::flags::{Flag, Flags};
 use std::alloc::AllocError;
 
 /// Writes the letters of the flags that are set in `to` and not in `from`.
 fn put_letters_on(out: &mut TextOutput, from: Flags, to: Flags) -> Result<(), AllocError>
     ensures { OnOk result (Added out.old out.new (spec.letters_on from to)) }
 {
-    put_if(out, to.casei && !from.casei, 'i')?;
-    put_if(out, to.multi && !from.multi, 'm')?;
-    put_if(out, to.dotnl && !from.dotnl, 's')?;
-    put_if(out, to.crlf && !from.crlf, 'R')
+    put_if(out, to.casei && !from.casei, Flag::Casei.letter())?;
+    put_if(out, to.multi && !from.multi, Flag::Multi.letter())?;
+    put_if(out, to.dotnl && !from.dotnl, Flag::Dotnl.letter())?;
+    put_if(out, to.crlf && !from.crlf, Flag::Crlf.letter())
 }
 
 /// Whether a flag is set in `to` and not in `from`.

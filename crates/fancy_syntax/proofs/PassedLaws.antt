@@ -82,7 +82,7 @@ stopper_passed a end l = either (is_empty a) l (part_dropped l) l refl refl
 
 group_passed : (h : GroupKind) (end : ℕ) (l : Log) → (group_recorded h end l).passed ≡ l.passed ++ closing_of h end
 group_passed flag_group end l = refl
-group_passed (capture None) end l = sym (append-nil l.passed)
+group_passed (capture None) end l = refl
 group_passed (capture (Some name)) end l = sym (append-nil l.passed)
 group_passed (look k) end l = sym (append-nil l.passed)
 group_passed atomic end l = sym (append-nil l.passed)

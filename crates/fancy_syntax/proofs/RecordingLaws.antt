@@ -184,14 +184,18 @@ module _ (named : Bool) where
         around_it n i j =
             shown_one named n xs j ∙ (λ k. i k ∷ (shows ∙ sym (append-nil (in_preorder x))) k)
 
+        passed_as : (k : GroupKind) → Within start l (pass (closing_of k end) m)
+        passed_as k = record { around = w.around; start_is = w.start_is; height = w.height }
+
         by_kind : (h : GroupKind) → PieceRecorded named start l (group_recorded h end m)
             (group_node h position r) (group_spans named h p x)
-        by_kind (capture None) = closed_as m _ _ end true xs w e (λ n i j. unnamed_group named n xs p x shows i j)
+        by_kind (capture None) =
+            closed_as (pass (closing_of (capture None) end) m) _ _ end true xs (passed_as (capture None)) e
+            (λ n i j. unnamed_group named n xs p x shows i j)
         by_kind (capture (Some name)) =
             closed_as m _ _ end false xs w e (λ n i j. around_it n i j ∙ ap in_preorder (sym (named_group named name p x)))
         by_kind flag_group =
-            ended_as (pass (closing_of flag_group end) m) r x xs
-            (record { around = w.around; start_is = w.start_is; height = w.height }) e f
+            ended_as (pass (closing_of flag_group end) m) r x xs (passed_as flag_group) e f
         by_kind (look k) = closed_as m _ _ end false xs w e around_it
         by_kind atomic = closed_as m _ _ end false xs w e around_it
         by_kind define = closed_as m _ _ end false xs w e around_it

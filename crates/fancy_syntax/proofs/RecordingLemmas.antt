@@ -23,7 +23,7 @@ use Rattle.fancy_grammar.specs.Spans.{adjacent_spans, quants_spans}
 use Rattle.fancy_grammar.specs.State.{skipped, State, at, Outcome, done, failed, failed_with, and_then, mapped}
 use Rattle.fancy_grammar.specs.Tree.{Tree, leaf, over, row, Trees, trees_of, alt, repeat, atomic_group}
 use Rattle.fancy_grammar.proofs.OutcomeLemmas.{Holds}
-use Rattle.fancy_grammar.specs.Trivia.{Trivium, comments_at}
+use Rattle.fancy_grammar.specs.Trivia.{Passed, comments_at}
 use Rattle.fancy_syntax.specs.Log.{Log, plain, put, reaches, shown, under_node, wrapped, pass, layout_passed}
 use Rattle.fancy_syntax.specs.Recording.{counted_recorded, quant_recorded, adjacent_recorded, quants_recorded}
 use Rattle.fancy_syntax.specs.declared.grammar.recorded.Last.{Last}
@@ -115,7 +115,7 @@ module _ (named : Bool) where
     pub fits : Fits r x xs
 
   -- what no node has is passed before it
-  pub passed_before : {start : ℕ} {l m : Log} {r : Tree} {x : Spans} (ps : List Trivium) →
+  pub passed_before : {start : ℕ} {l m : Log} {r : Tree} {x : Spans} (ps : List Passed) →
       PieceRecorded start (pass ps l) m r x → PieceRecorded start l m r x
   passed_before ps h = record {
     xs = h.xs;
@@ -127,7 +127,7 @@ module _ (named : Bool) where
   }
 
   -- and after it
-  pub passed_after : {start : ℕ} {l m : Log} {r : Tree} {x : Spans} (ps : List Trivium) → PieceRecorded start l m r x →
+  pub passed_after : {start : ℕ} {l m : Log} {r : Tree} {x : Spans} (ps : List Passed) → PieceRecorded start l m r x →
       PieceRecorded start l (pass ps m) r x
   passed_after ps h = record {
     xs = h.xs;

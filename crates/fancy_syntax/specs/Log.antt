@@ -7,20 +7,20 @@ use Rattle.fancy_lex.specs.Text.{reach_of}
 use Rattle.fancy_grammar.specs.Spans.{Span, condition_span}
 use Rattle.fancy_grammar.specs.GroupKind.{GroupKind}
 use Rattle.fancy_grammar.specs.State.{State}
-use Rattle.fancy_grammar.specs.Trivia.{Trivium, comments_at, opening_of}
+use Rattle.fancy_grammar.specs.Trivia.{Passed, comments_at, opening_of}
 use Rattle.fancy_syntax.specs.declared.grammar.recorded.FirstBar.{FirstBar}
 use Rattle.fancy_syntax.specs.declared.grammar.recorded.Last.{Last}
 use Rattle.fancy_syntax.specs.declared.grammar.recorded.RecordedNode.{RecordedNode}
 use Rattle.fancy_syntax.specs.declared.grammar.recorded.Open.{Open}
 
 -- the nodes that have been read, each tree in preorder; the open atoms, with the innermost one separate; the last piece;
--- what was passed that no node has
+-- what was passed that may have no node
 pub record Log : Type 0 where
   pub recorded : List RecordedNode
   pub around : List Open
   pub open_atom : Open
   pub last : Last
-  pub passed : List Trivium
+  pub passed : List Passed
 
 -- a node that is neither a group without a name nor an Alt that the grammar reads
 abbrev pub plain : ℕ → ℕ → RecordedNode
@@ -59,7 +59,7 @@ put height x l = record l { recorded = insert l.recorded (min height (length l.r
 
 -- ---- what no node has
 
-abbrev pub pass : List Trivium → Log → Log
+abbrev pub pass : List Passed → Log → Log
 pass xs l = record l { passed = l.passed ++ xs }
 
 -- the comments in the layout at the state

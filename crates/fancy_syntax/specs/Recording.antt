@@ -60,7 +60,7 @@ quants_recorded left q l = if_done q (λ a s.
 -- a group, whose closing parenthesis ends at the reach
 abbrev pub group_recorded : GroupKind → ℕ → Log → Log
 group_recorded flag_group end l = atom_ended (pass (closing_of flag_group end) l)
-group_recorded (capture None) end l = atom_closed end true l
+group_recorded (capture None) end l = atom_closed end true (pass (closing_of (capture None) end) l)
 group_recorded _ end l = atom_closed end false l
 
 -- the branches of a conditional's body, which ends at the reach

@@ -1,5 +1,5 @@
 -- What a tree does not hold, as the definitions have it.
-use Rattle.std.specs.Prelude.{ℕ, List, map}
+use Rattle.std.specs.Prelude.{List, map}
 use Rattle.std.specs.Global.{Vec}
 use Rattle.fancy_grammar.specs.Trivia as spec
 use Rattle.fancy_syntax.specs.declared.grammar.recorded.RecordedTrivium.{RecordedTrivium}
@@ -15,12 +15,8 @@ kind_of (kind.InlineFlags before after) = spec.flags before after
 kind_of (kind.Opening around inside) = spec.opening around inside
 kind_of kind.Closing = spec.closing
 
--- with these reaches
-abbrev pub trivium_at : ℕ → ℕ → TriviumKind → spec.Trivium
-trivium_at start end k = record { span = record { start = start; end = end }; kind = kind_of k }
-
-abbrev pub recorded_trivium : RecordedTrivium → spec.Trivium
-recorded_trivium x = trivium_at x.start x.end x.kind
+abbrev pub recorded_part : RecordedTrivium → spec.Passed
+recorded_part x = spec.part x.start x.end (kind_of x.kind) x.unnamed
 
 abbrev pub trivium_of : Trivium → spec.Trivium
 trivium_of x = record { span = span_of x.span; kind = kind_of x.kind }

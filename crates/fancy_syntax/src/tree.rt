@@ -147,10 +147,10 @@ impl Expr {
     }
 
     /// Parses the pattern as `parse_tree_with_spans` does, with the same tree, spans and errors, and also returns what no
-    /// node has, in the order of the pattern: comments, inline flags, and the parentheses of flag groups, such as `(?:` or
-    /// `(?i:`. A comment inside a token, such as one in the braces of a quantifier or after the parenthesis of a group, is
-    /// part of the token. Not in the list are the parentheses of a group that has no number, because only those with a name
-    /// have one; a quantifier that has no effect; and the parts of a conditional without branches.
+    /// node has, in the order of the pattern: comments, inline flags, and the parentheses of groups that make no node: flag
+    /// groups, such as `(?:` or `(?i:`, and groups that have no number because only those with a name have one. A comment
+    /// inside a token, such as one in the braces of a quantifier or after the parenthesis of a group, is part of the token.
+    /// Not in the list are a quantifier that has no effect, and the parts of a conditional without branches.
     ///
     /// ```rust
     /// let (tree, spans, trivia) = Expr::parse_tree_with_trivia(alloc, "a(?#b)", FLAG_UNICODE)?;
@@ -227,7 +227,7 @@ fn read<S: Spanning>(
     ensures spans { (l : Log) → l ≡ started (reach_of (chars re.now)) → S.records spans.old l →
         IfOk result (λ t. (m : Log) × S.records spans.new m × AreSpansOf flags (chars re.now)
         (returned_spans (chars re.now) (info_of t).numbered_groups_ignored m)
-        × IsTriviaOf flags (chars re.now) (returned_trivia (chars re.now) m)) }
+        × IsTriviaOf flags (chars re.now) (returned_trivia (chars re.now) (info_of t).numbered_groups_ignored m)) }
 {
     let raw = parse(alloc, re, flags, spans)?;
     resolve(alloc, raw, re, flags)
@@ -263,7 +263,7 @@ fn read_with_trivia(
 {
     let (tree, recorded) = read_recorded(alloc, re, flags)?;
     let spans = recorded.returned(alloc, re, tree.numbered_groups_ignored)?;
-    let trivia = recorded.returned_trivia(alloc, re)?;
+    let trivia = recorded.returned_trivia(alloc, re, tree.numbered_groups_ignored)?;
     Ok((tree, spans, trivia))
 }
 
@@ -278,7 +278,8 @@ fn read_recorded(
     ensures position { IfErr result (λ e. IsPositionedIn (error_in (chars re.now) e) re.now) }
     ensures spans { IfOk result (λ p. AreSpansOf flags (chars re.now)
         (returned_spans (chars re.now) (info_of p.0).numbered_groups_ignored (log_of p.1))) }
-    ensures trivia { IfOk result (λ p. IsTriviaOf flags (chars re.now) (returned_trivia (chars re.now) (log_of p.1))) }
+    ensures trivia { IfOk result (λ p. IsTriviaOf flags (chars re.now)
+        (returned_trivia (chars re.now) (info_of p.0).numbered_groups_ignored (log_of p.1))) }
 {
     let mut recorded = Spans::new(alloc, reach(re));
     let tree = read(alloc, re, flags, &mut recorded)?;

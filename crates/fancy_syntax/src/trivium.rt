@@ -25,13 +25,13 @@ pub enum TriviumKind {
         /// The flags that hold after them.
         after: Flags,
     },
-    /// The opening of a flag group, such as `(?:` or `(?i:`.
+    /// The opening of a group that makes no node, such as `(?:` or `(?i:`.
     Opening {
         /// The flags that hold around the group.
         around: Flags,
         /// The flags that hold in the group.
         inside: Flags,
     },
-    /// The closing parenthesis of a flag group.
+    /// The closing parenthesis of such a group.
     Closing,
 }

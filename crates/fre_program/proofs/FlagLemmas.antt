@@ -1,157 +1,58 @@
 -- What each letter adds to the flags of a word.
-use Rattle.std.proofs.Common.{◌≡◌, ℕ, Bool, true, false, ◌||◌, [], ◌∷◌, ◌≢◌, codes, refl, sym, ap, subst, ◌∙◌, inl, inr}
-use Rattle.std.proofs.Common.{⊎_elim, true≢false}
-use Prim.Native.Char.{code}
+use Rattle.std.proofs.Common.{◌≡◌, ℕ, Bool, true, false, ◌||◌, ◌==◌, [], ◌∷◌, ◌≢◌, codes, refl, sym, ap, subst, ◌∙◌}
+use Rattle.std.proofs.Common.{inl, inr, ⊎_elim, true≢false}
 use Rattle.std.specs.List.{list_all}
-use Rattle.std.specs.Int.Bits.{bit_or}
 use Rattle.std.proofs.Math.Bool.{or-true, or-false}
-use Rattle.std.proofs.lemmas.Nat.{and_or_self, and_or_apart}
+use Rattle.std.proofs.lemmas.Bool.{ne_eqb}
 use Rattle.fancy_lex.specs.Flags.{flags_of}
 use Rattle.fancy_lex.specs.Text.{Text}
+use Rattle.fancy_lex.specs.Flag.{letter, with_flag}
+use Rattle.fancy_lex.specs.declared.flags.Flag.{Flag}
+use Rattle.fancy_lex.specs.declared.flags.Flag.TheVariants.{Casei, Multi, Dotnl, SwapGreed, IgnoreSpace, Unicode, Crlf}
+use Rattle.fancy_lex.specs.declared.flags.Flag.TheVariants.{OnigurumaMode, IgnoreNumberedGroups}
 use Rattle.fancy_lex.specs.declared.flags.Flags.{Flags}
 use Rattle.fre_program.specs.FlagWord.{named_flags, is_letter, NamesFlags, either}
 
-pub sets_casei : (c bits : ℕ) → c ≡ code "i" → flags_of (bit_or bits 1) ≡ either (flags_of bits) (named_flags (c ∷ []))
-sets_casei c bits h =
-    rw (
-      h,
-      and_or_self 1 bits,
-      and_or_apart 2 bits 1 refl,
-      and_or_apart 4 bits 1 refl,
-      and_or_apart 8 bits 1 refl,
-      and_or_apart 16 bits 1 refl,
-      and_or_apart 32 bits 1 refl,
-      and_or_apart 64 bits 1 refl,
-      and_or_apart 128 bits 1 refl,
-      and_or_apart 256 bits 1 refl,
-    ) (simp (or-true, or-false) refl)
+-- ---- the flag of a letter
 
-pub sets_multi : (c bits : ℕ) → c ≡ code "m" → flags_of (bit_or bits 2) ≡ either (flags_of bits) (named_flags (c ∷ []))
-sets_multi c bits h =
-    rw (
-      h,
-      and_or_self 2 bits,
-      and_or_apart 1 bits 2 refl,
-      and_or_apart 4 bits 2 refl,
-      and_or_apart 8 bits 2 refl,
-      and_or_apart 16 bits 2 refl,
-      and_or_apart 32 bits 2 refl,
-      and_or_apart 64 bits 2 refl,
-      and_or_apart 128 bits 2 refl,
-      and_or_apart 256 bits 2 refl,
-    ) (simp (or-true, or-false) refl)
+letter_named : (flag : Flag) → is_letter (letter flag) ≡ true
+letter_named Casei = refl
+letter_named Multi = refl
+letter_named Dotnl = refl
+letter_named SwapGreed = refl
+letter_named IgnoreSpace = refl
+letter_named Unicode = refl
+letter_named Crlf = refl
+letter_named OnigurumaMode = refl
+letter_named IgnoreNumberedGroups = refl
 
-pub sets_dotnl : (c bits : ℕ) → c ≡ code "s" → flags_of (bit_or bits 4) ≡ either (flags_of bits) (named_flags (c ∷ []))
-sets_dotnl c bits h =
+letter_of_none : (c : ℕ) → ((flag : Flag) → letter flag ≢ c) → is_letter c ≡ false
+letter_of_none c none =
+    let other : (flag : Flag) → (letter flag == c) ≡ false = λ flag. ne_eqb (letter flag) c (none flag) in
     rw (
-      h,
-      and_or_self 4 bits,
-      and_or_apart 1 bits 4 refl,
-      and_or_apart 2 bits 4 refl,
-      and_or_apart 8 bits 4 refl,
-      and_or_apart 16 bits 4 refl,
-      and_or_apart 32 bits 4 refl,
-      and_or_apart 64 bits 4 refl,
-      and_or_apart 128 bits 4 refl,
-      and_or_apart 256 bits 4 refl,
-    ) (simp (or-true, or-false) refl)
+      other Casei,
+      other Multi,
+      other Dotnl,
+      other SwapGreed,
+      other IgnoreSpace,
+      other Unicode,
+      other Crlf,
+      other OnigurumaMode,
+      other IgnoreNumberedGroups,
+    ) refl
 
-pub sets_swap_greed : (c bits : ℕ) → c ≡ code "U" →
-    flags_of (bit_or bits 8) ≡ either (flags_of bits) (named_flags (c ∷ []))
-sets_swap_greed c bits h =
-    rw (
-      h,
-      and_or_self 8 bits,
-      and_or_apart 1 bits 8 refl,
-      and_or_apart 2 bits 8 refl,
-      and_or_apart 4 bits 8 refl,
-      and_or_apart 16 bits 8 refl,
-      and_or_apart 32 bits 8 refl,
-      and_or_apart 64 bits 8 refl,
-      and_or_apart 128 bits 8 refl,
-      and_or_apart 256 bits 8 refl,
-    ) (simp (or-true, or-false) refl)
+flag_set : (f : Flags) (flag : Flag) → with_flag f flag true ≡ either f (named_flags (letter flag ∷ []))
+flag_set f Casei = simp (or-true, or-false) refl
+flag_set f Multi = simp (or-true, or-false) refl
+flag_set f Dotnl = simp (or-true, or-false) refl
+flag_set f SwapGreed = simp (or-true, or-false) refl
+flag_set f IgnoreSpace = simp (or-true, or-false) refl
+flag_set f Unicode = simp (or-true, or-false) refl
+flag_set f Crlf = simp (or-true, or-false) refl
+flag_set f OnigurumaMode = simp (or-true, or-false) refl
+flag_set f IgnoreNumberedGroups = simp (or-true, or-false) refl
 
-pub sets_ignore_space : (c bits : ℕ) → c ≡ code "x" →
-    flags_of (bit_or bits 16) ≡ either (flags_of bits) (named_flags (c ∷ []))
-sets_ignore_space c bits h =
-    rw (
-      h,
-      and_or_self 16 bits,
-      and_or_apart 1 bits 16 refl,
-      and_or_apart 2 bits 16 refl,
-      and_or_apart 4 bits 16 refl,
-      and_or_apart 8 bits 16 refl,
-      and_or_apart 32 bits 16 refl,
-      and_or_apart 64 bits 16 refl,
-      and_or_apart 128 bits 16 refl,
-      and_or_apart 256 bits 16 refl,
-    ) (simp (or-true, or-false) refl)
-
-pub sets_unicode : (c bits : ℕ) → c ≡ code "u" →
-    flags_of (bit_or bits 32) ≡ either (flags_of bits) (named_flags (c ∷ []))
-sets_unicode c bits h =
-    rw (
-      h,
-      and_or_self 32 bits,
-      and_or_apart 1 bits 32 refl,
-      and_or_apart 2 bits 32 refl,
-      and_or_apart 4 bits 32 refl,
-      and_or_apart 8 bits 32 refl,
-      and_or_apart 16 bits 32 refl,
-      and_or_apart 64 bits 32 refl,
-      and_or_apart 128 bits 32 refl,
-      and_or_apart 256 bits 32 refl,
-    ) (simp (or-true, or-false) refl)
-
-pub sets_crlf : (c bits : ℕ) → c ≡ code "R" → flags_of (bit_or bits 64) ≡ either (flags_of bits) (named_flags (c ∷ []))
-sets_crlf c bits h =
-    rw (
-      h,
-      and_or_self 64 bits,
-      and_or_apart 1 bits 64 refl,
-      and_or_apart 2 bits 64 refl,
-      and_or_apart 4 bits 64 refl,
-      and_or_apart 8 bits 64 refl,
-      and_or_apart 16 bits 64 refl,
-      and_or_apart 32 bits 64 refl,
-      and_or_apart 128 bits 64 refl,
-      and_or_apart 256 bits 64 refl,
-    ) (simp (or-true, or-false) refl)
-
-pub sets_oniguruma_mode : (c bits : ℕ) → c ≡ code "o" →
-    flags_of (bit_or bits 128) ≡ either (flags_of bits) (named_flags (c ∷ []))
-sets_oniguruma_mode c bits h =
-    rw (
-      h,
-      and_or_self 128 bits,
-      and_or_apart 1 bits 128 refl,
-      and_or_apart 2 bits 128 refl,
-      and_or_apart 4 bits 128 refl,
-      and_or_apart 8 bits 128 refl,
-      and_or_apart 16 bits 128 refl,
-      and_or_apart 32 bits 128 refl,
-      and_or_apart 64 bits 128 refl,
-      and_or_apart 256 bits 128 refl,
-    )
-    (simp (or-true, or-false) refl)
-
-pub sets_ignore_numbered_groups : (c bits : ℕ) → c ≡ code "n" →
-    flags_of (bit_or bits 256) ≡ either (flags_of bits) (named_flags (c ∷ []))
-sets_ignore_numbered_groups c bits h =
-    rw (
-      h,
-      and_or_self 256 bits,
-      and_or_apart 1 bits 256 refl,
-      and_or_apart 2 bits 256 refl,
-      and_or_apart 4 bits 256 refl,
-      and_or_apart 8 bits 256 refl,
-      and_or_apart 16 bits 256 refl,
-      and_or_apart 32 bits 256 refl,
-      and_or_apart 64 bits 256 refl,
-      and_or_apart 128 bits 256 refl,
-    )
-    (simp (or-true, or-false) refl)
+-- ---- the letters of a word
 
 or_assoc : (a b c : Bool) → ((a || b) || c) ≡ (a || (b || c))
 or_assoc true b c = refl
@@ -160,42 +61,42 @@ or_assoc false b c = refl
 either_assoc : (f g h : Flags) → either (either f g) h ≡ either f (either g h)
 either_assoc f g h = simp or_assoc refl
 
-pub named_first : (c : ℕ) (t : Text) → either (named_flags (c ∷ [])) (named_flags t) ≡ named_flags (c ∷ t)
+named_first : (c : ℕ) (t : Text) → either (named_flags (c ∷ [])) (named_flags t) ≡ named_flags (c ∷ t)
 named_first c t = simp or-false refl
 
-pub either_none : (f : Flags) → either f (named_flags []) ≡ f
+either_none : (f : Flags) → either f (named_flags []) ≡ f
 either_none f = simp or-false refl
 
--- the letters before the rest are flags, and the bits contain them
-pub record ReadsLetters (word rest : Text) (bits : ℕ) : Type 0 where
+-- the letters before the rest name the flags
+pub record ReadsLetters (word rest : Text) (f : Flags) : Type 0 where
   pub checked : list_all is_letter word ≡ list_all is_letter rest
-  pub named : named_flags word ≡ either (flags_of bits) (named_flags rest)
+  pub named : named_flags word ≡ either f (named_flags rest)
 
-pub letters_start : (word : Text) → ReadsLetters word word 0
+pub letters_start : (word : Text) → ReadsLetters word word (flags_of 0)
 letters_start word = record { checked = refl; named = refl }
 
-pub letters_next : (word rest t : Text) (c bits flag : ℕ) → ReadsLetters word rest bits → rest ≡ c ∷ t →
-    is_letter c ≡ true
-    → ((b : ℕ) → flags_of (bit_or b flag) ≡ either (flags_of b) (named_flags (c ∷ []))) →
-    ReadsLetters word t (bit_or bits flag)
-letters_next word rest t c bits flag r is letter adds = record {
-  checked = r.checked ∙ ap (list_all is_letter) is ∙ rw letter refl;
-  named = r.named ∙ ap (λ u. either (flags_of bits) (named_flags u)) is
-      ∙ ap (either (flags_of bits)) (sym (named_first c t))
-      ∙ sym (either_assoc (flags_of bits) (named_flags (c ∷ [])) (named_flags t))
-      ∙ ap (λ f. either f (named_flags t)) (sym (adds bits));
-}
+pub letters_next : (word rest t : Text) (c : ℕ) (f : Flags) (flag : Flag) → ReadsLetters word rest f → rest ≡ c ∷ t →
+    letter flag ≡ c → ReadsLetters word t (with_flag f flag true)
+letters_next word rest t c f flag r is named =
+    let is_one : is_letter c ≡ true = ap is_letter (sym named) ∙ letter_named flag in record {
+      checked = r.checked ∙ ap (list_all is_letter) is ∙ rw is_one refl;
+      named = r.named ∙ ap (λ u. either f (named_flags u)) is ∙ ap (either f) (sym (named_first c t))
+          ∙ sym (either_assoc f (named_flags (c ∷ [])) (named_flags t))
+          ∙ ap (λ d. either (either f (named_flags (d ∷ []))) (named_flags t)) (sym named)
+          ∙ ap (λ g. either g (named_flags t)) (sym (flag_set f flag));
+    }
 
-pub letters_end : (word rest : Text) (bits : ℕ) → ReadsLetters word rest bits → rest ≡ []
-    → (list_all is_letter word ≡ true) × (flags_of bits ≡ named_flags word)
-letters_end word rest bits r is = (
+pub letters_end : (word rest : Text) (f : Flags) → ReadsLetters word rest f → rest ≡ []
+    → (list_all is_letter word ≡ true) × (f ≡ named_flags word)
+letters_end word rest f r is = (
   r.checked ∙ ap (list_all is_letter) is,
-  sym (r.named ∙ ap (λ u. either (flags_of bits) (named_flags u)) is ∙ either_none _),
+  sym (r.named ∙ ap (λ u. either f (named_flags u)) is ∙ either_none _),
 )
 
-pub letters_fail : (word rest t : Text) (c bits : ℕ) → ReadsLetters word rest bits → rest ≡ c ∷ t →
-    is_letter c ≡ false → list_all is_letter word ≡ false
-letters_fail word rest t c bits r is letter = r.checked ∙ ap (list_all is_letter) is ∙ rw letter refl
+pub letters_fail : (word rest t : Text) (c : ℕ) (f : Flags) → ReadsLetters word rest f → rest ≡ c ∷ t →
+    ((flag : Flag) → letter flag ≢ c) → list_all is_letter word ≡ false
+letters_fail word rest t c f r is none =
+    r.checked ∙ ap (list_all is_letter) is ∙ rw (letter_of_none c none) refl
 
 pub names_none : (w : Text) → w ≡ [] → NamesFlags w → ⊥
 names_none w is h = subst NamesFlags is h

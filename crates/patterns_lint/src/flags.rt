@@ -2,7 +2,7 @@
 //! among the trivia of the tree.
 use crate::problem::{Found, Problem};
 use dialects::spelling::of_flag;
-use fancy_lex::flags::Flags;
+use fancy_lex::flags::{Flag, Flags};
 use fancy_lex::layout::past_layout;
 use fancy_parts::group_starts::{FlagLetter, next_letter};
 use fancy_syntax::span::Span;
@@ -45,7 +45,7 @@ fn letter_problems(
         ..
     } = letter;
     // The Unicode flag can only be repeated, which does not count.
-    let is_useless = letter != 'u' && after == before;
+    let is_useless = letter != Flag::Unicode.letter() && after == before;
     let difference = of_flag(letter, rest, is_first, before.oniguruma_mode);
     [
         is_useless.then_some(Problem::UselessFlag { letter }),

@@ -10,7 +10,7 @@ ghost use Rattle.fancy_parts.specs.FlagReads.{letters_of, step_of};
 ghost use Rattle.fancy_parts.specs.NextLetter as parsed;
 
 use fancy_lex::error::{ParseError, ReadError};
-use fancy_lex::flags::Flags;
+use fancy_lex::flags::{Flag, Flags};
 use fancy_lex::layout::{past_layout, skip};
 use fancy_lex::text::{AT_END, after, front, next};
 use std::alloc::{AllocError, Global};
@@ -33,29 +33,20 @@ enum LetterStep {
 }
 
 /// The flags with the letter's flag set or cleared; None if the letter is no flag.
+#[tactic(auto, using(crate::proofs::FlagLemmas::letter_of_none))]
 fn with_letter(flags: Flags, on: bool, letter: char) -> Option<Flags>
     ensures { spec.with_letter flags on letter ≡ result }
 {
-    if letter == 'i' {
-        Some(Flags { casei: on, ..flags })
-    } else if letter == 'm' {
-        Some(Flags { multi: on, ..flags })
-    } else if letter == 'R' {
-        Some(Flags { crlf: on, ..flags })
-    } else if letter == 's' {
-        Some(Flags { dotnl: on, ..flags })
-    } else if letter == 'U' {
-        Some(Flags {
-            swap_greed: on,
-            ..flags
-        })
-    } else if letter == 'x' {
-        Some(Flags {
-            ignore_space: on,
-            ..flags
-        })
-    } else {
-        None
+    match Flag::from_letter(letter) {
+        Some(
+            flag @ (Flag::Casei
+            | Flag::Multi
+            | Flag::Dotnl
+            | Flag::SwapGreed
+            | Flag::IgnoreSpace
+            | Flag::Crlf),
+        ) => Some(flags.with(flag, on)),
+        Some(Flag::Unicode | Flag::OnigurumaMode | Flag::IgnoreNumberedGroups) | None => None,
     }
 }
 

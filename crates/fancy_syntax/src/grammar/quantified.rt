@@ -129,8 +129,9 @@ fn quantify_once<S: Spanning>(
     ensures spans { (l : Log) → S.records spans.old l →
         OnOk result (S.records spans.new (quant_recorded (view tree.old) (state current.old) l)) }
 {
-    spans.pass_layout(*current)?;
-    current.rest = skip_layout(*current)?;
+    let rest = skip_layout(*current)?;
+    spans.pass_layout(*current, rest)?;
+    current.rest = rest;
     let Some((counts, rest)) = counts(current.rest, current.flags.ignore_space) else {
         return Ok(());
     };
@@ -190,8 +191,9 @@ fn read_suffix<S: Spanning>(
     ensures flags { current.new.flags ≡ current.old.flags }
     ensures within { length current.new.rest.now ≤ length current.old.rest.now }
 {
-    spans.pass_layout(*current)?;
-    current.rest = skip_layout(*current)?;
+    let rest = skip_layout(*current)?;
+    spans.pass_layout(*current, rest)?;
+    current.rest = rest;
     let mut lazy = false;
     if let Some(rest) = after(current.rest, '?') {
         lazy = true;
@@ -220,7 +222,7 @@ fn may_be_possessive(flags: Flags, counts: Counts) -> bool
 }
 
 /// Puts the tree under a quantifier with these counts and operators.
-#[inline(always)]
+#[inline(never)]
 fn put_under(
     alloc: Global,
     tree: &mut Expr,

@@ -1,13 +1,18 @@
 //! The positions of the nodes of a raw tree, and of what no node has, recorded while it is read.
-ghost use Rattle.std.specs.Prelude.{OnOk, [], ◌∷◌};
+ghost use Rattle.std.specs.Prelude.{◌≡◌, chars, OnOk, [], ◌∷◌};
 ghost use Rattle.fancy_syntax.specs.Log.{Log, leaf_recorded, left_out, wrapped, opened, body_opened, part_begun};
 ghost use Rattle.fancy_syntax.specs.Log.{branch_begun, branch_ended, choice_ended, body_split, branch_lacked};
 ghost use Rattle.fancy_syntax.specs.Log.{part_dropped, atom_closed, atom_ended, layout_passed, pass};
-ghost use Rattle.fancy_syntax.specs.TriviaViews.{trivium_at};
+ghost use Rattle.fancy_syntax.specs.TriviaViews.{recorded_part};
 ghost use Rattle.fancy_syntax.specs.Parsed.{state};
+ghost use Rattle.fancy_syntax.specs.Recording.{atom_read};
+ghost use Rattle.fancy_syntax.specs.View.{view};
+ghost use Rattle.fancy_grammar.specs.State.{done, skipped};
+ghost use Rattle.fancy_lex.specs.LayoutSteps.{rest};
 
+use crate::expr::Expr;
+use crate::grammar::recorded::RecordedTrivium;
 use crate::grammar::state::State;
-use crate::trivium::TriviumKind;
 use std::alloc::AllocError;
 
 /// What is done with the reaches that the parser passes. If no spans are recorded, nothing is done, and calls are
@@ -16,13 +21,19 @@ pub(crate) trait Spanning: Drop {
     /// The log that is recorded, if anything is.
     ghost records: { Self → Log → Type 0 };
 
-    /// The layout at the front is passed.
-    fn pass_layout(&mut self, current: State) -> Result<(), AllocError>
+    /// The layout at the front, which `after` follows, is passed.
+    fn pass_layout(&mut self, current: State, after: &str) -> Result<(), AllocError>
+        requires { skipped (state current) ≡ rest (chars after.now) }
         ensures { (l : Log) → records self.old l → OnOk result (records self.new (layout_passed (state current.entry) l)) };
 
-    /// A part of the pattern that no node has is passed.
-    fn pass(&mut self, start: usize, end: usize, kind: TriviumKind) -> Result<(), AllocError>
-        ensures { (l : Log) → records self.old l → OnOk result (records self.new (pass (trivium_at start end kind ∷ []) l)) };
+    /// A part of the pattern that no node has, or may have, is passed.
+    fn pass(&mut self, part: RecordedTrivium) -> Result<(), AllocError>
+        ensures { (l : Log) → records self.old l → OnOk result (records self.new (pass (recorded_part part ∷ []) l)) };
+
+    /// An atom that is read at once is there, and becomes the last piece: a leaf, or inline flags, whose tree is an Empty.
+    fn record_atom(&mut self, start: State, atom: &Expr, end: State) -> Result<(), AllocError>
+        ensures { (l : Log) → records self.old l → OnOk result (records self.new
+            (atom_read (state start.entry) (done (view atom.now) (state end.entry)) l)) };
 
     /// A leaf is there, and becomes the last piece.
     fn record_leaf(&mut self, start: usize, end: usize) -> Result<(), AllocError>
@@ -92,12 +103,17 @@ impl Spanning for NoSpans {
     ghost records = { λ s l. Unit {0} };
 
     #[inline(always)]
-    fn pass_layout(&mut self, _current: State) -> Result<(), AllocError> {
+    fn pass_layout(&mut self, _current: State, _after: &str) -> Result<(), AllocError> {
         Ok(())
     }
 
     #[inline(always)]
-    fn pass(&mut self, _start: usize, _end: usize, _kind: TriviumKind) -> Result<(), AllocError> {
+    fn pass(&mut self, _part: RecordedTrivium) -> Result<(), AllocError> {
+        Ok(())
+    }
+
+    #[inline(always)]
+    fn record_atom(&mut self, _start: State, _atom: &Expr, _end: State) -> Result<(), AllocError> {
         Ok(())
     }
 

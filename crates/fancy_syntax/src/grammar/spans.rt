@@ -8,13 +8,15 @@ ghost use Rattle.fancy_syntax.specs.Log.{layout_passed, reaches, shown};
 ghost use Rattle.fancy_syntax.specs.LogViews.{log_of, returned_trivia};
 ghost use Rattle.fancy_syntax.specs.Parsed.{state};
 ghost use Rattle.fancy_syntax.specs.SpanViews.{span_of, spans_of};
-ghost use Rattle.fancy_syntax.specs.TriviaViews.{recorded_trivium, trivia_of, trivium_at, trivium_of};
-ghost use Rattle.fancy_grammar.specs.Trivia.{located, of_comment};
+ghost use Rattle.fancy_syntax.specs.TriviaViews.{recorded_part, trivia_of, trivium_of};
+ghost use Rattle.fancy_grammar.specs.Trivia.{kept, located, of_comment};
 ghost use Rattle.fancy_lex.specs.CommentViews.{comment_of};
 
-use crate::grammar::recorded::{FirstBar, Last, Open, RecordedNode, RecordedTrivium};
+use crate::expr::Expr;
+use crate::grammar::recorded::{FirstBar, Last, Open, RecordedNode, RecordedTrivium, part_between};
 use crate::grammar::spanning::Spanning;
 use crate::grammar::state::{State, skip_layout};
+use crate::grammar::trees::is_empty;
 use crate::span::Span;
 use crate::trivium::{Trivium, TriviumKind};
 use fancy_lex::layout::{LayoutComment, first_comment};
@@ -73,22 +75,25 @@ impl Spans {
         Ok(spans)
     }
 
-    /// What the tree of the pattern does not hold.
+    /// What the tree of the pattern does not hold; with `named`, only named groups have a number, and the others have no
+    /// node.
     pub(crate) fn returned_trivia(
         &self,
         alloc: Global,
         pattern: &str,
+        named: bool,
     ) -> Result<Vec<Trivium>, AllocError>
-        ensures { IfOk result (λ trivia. trivia_of trivia ≡ returned_trivia (chars pattern.now) (log_of self.now)) }
+        ensures { IfOk result (λ trivia. trivia_of trivia ≡ returned_trivia (chars pattern.now) named (log_of self.now)) }
     {
         let mut trivia = Vec::with_capacity(alloc, self.passed.len())?;
         for passed in &self.passed {
-            trivia.push(trivium_in(pattern, *passed))?;
+            push_kept(&mut trivia, pattern, named, *passed)?;
         }
         Ok(trivia)
     }
 
     /// Records the comments in the layout at the front.
+    #[inline(never)]
     fn pass_comments(&mut self, current: State) -> Result<(), AllocError>
         ensures { OnOk result (log_of self.new ≡ layout_passed (state current.entry) (log_of self.old)) }
     {
@@ -135,12 +140,29 @@ impl Spans {
 impl Spanning for Spans {
     ghost records = { λ s l. log_of s ≡ l };
 
-    fn pass_layout(&mut self, current: State) -> Result<(), AllocError> {
+    #[inline(always)]
+    fn pass_layout(&mut self, current: State, after: &str) -> Result<(), AllocError> {
+        // Usually there is no layout, and so no comment.
+        if after.len() == current.rest.len() {
+            return Ok(());
+        }
         self.pass_comments(current)
     }
 
-    fn pass(&mut self, start: usize, end: usize, kind: TriviumKind) -> Result<(), AllocError> {
-        Ok(self.passed.push(RecordedTrivium { start, end, kind })?)
+    fn pass(&mut self, part: RecordedTrivium) -> Result<(), AllocError> {
+        Ok(self.passed.push(part)?)
+    }
+
+    fn record_atom(&mut self, start: State, atom: &Expr, end: State) -> Result<(), AllocError> {
+        self.record_leaf(reach(start.rest), reach(end.rest))?;
+        if is_empty(atom) {
+            let kind = TriviumKind::InlineFlags {
+                before: start.flags,
+                after: end.flags,
+            };
+            self.pass(part_between(start, end, kind, false))?;
+        }
+        Ok(())
     }
 
     fn record_leaf(&mut self, start: usize, end: usize) -> Result<(), AllocError> {
@@ -281,7 +303,7 @@ fn span_in(pattern: &str, node: RecordedNode) -> Span
 
 /// A comment, as it is recorded.
 fn trivium_of_comment(comment: LayoutComment<'_>) -> RecordedTrivium
-    ensures { recorded_trivium result ≡ of_comment (comment_of comment.entry) }
+    ensures { recorded_part result ≡ of_comment (comment_of comment.entry) }
 {
     let kind = if comment.is_line {
         TriviumKind::LineComment
@@ -292,12 +314,29 @@ fn trivium_of_comment(comment: LayoutComment<'_>) -> RecordedTrivium
         start: reach(comment.start),
         end: reach(comment.rest),
         kind,
+        unnamed: false,
     }
+}
+
+/// Adds the part with its span in the pattern, unless it has a node.
+fn push_kept(
+    trivia: &mut Vec<Trivium>,
+    pattern: &str,
+    named: bool,
+    part: RecordedTrivium,
+) -> Result<(), AllocError>
+    ensures { OnOk result (trivia_of trivia.new ≡ trivia_of trivia.old
+        ++ map (located (bytes (chars pattern.now))) (kept named (recorded_part part ∷ []))) }
+{
+    if part.unnamed && !named {
+        return Ok(());
+    }
+    Ok(trivia.push(trivium_in(pattern, part))?)
 }
 
 /// The trivium with its span in the pattern.
 fn trivium_in(pattern: &str, recorded: RecordedTrivium) -> Trivium
-    ensures { trivium_of result ≡ located (bytes (chars pattern.now)) (recorded_trivium recorded) }
+    ensures { trivium_of result ≡ located (bytes (chars pattern.now)) (recorded_part recorded).trivium }
 {
     let start = position_at(pattern, recorded.start);
     let end = position_at(pattern, recorded.end);

@@ -27,7 +27,7 @@ pub(crate) fn is_end(text: &str) -> bool
 }
 
 /// Reads the layout at the front: the text after it.
-#[inline]
+#[inline(always)]
 pub(crate) fn skip_layout<'a>(current: State<'a>) -> Result<&'a str, ReadError>
     ensures value { Skips result (skipped (state current.entry)) }
     ensures within { IfOk result (λ r. length r.now ≤ length current.entry.rest.now) }

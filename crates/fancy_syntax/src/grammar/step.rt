@@ -12,6 +12,8 @@ ghost use Rattle.fancy_syntax.specs.Machine.{OpensPart, OpensBelow, Part, GivesS
 ghost use Rattle.fancy_syntax.specs.Machine.{TurnsLast, close_recorded, part_recorded};
 ghost use Rattle.fancy_syntax.specs.Recording.{atom_read, body_separated, group_recorded, quants_recorded, step_recorded};
 ghost use Rattle.fancy_syntax.specs.Parsed.{group_kind, state, GivesTree};
+ghost use Rattle.fancy_grammar.specs.Trivia.{part, closing};
+ghost use Rattle.fancy_syntax.specs.TriviaViews.{recorded_part};
 ghost use Rattle.fancy_grammar.specs.Quantified.{quants};
 ghost use Rattle.fancy_grammar.specs.Errors.{IsErrorAmong};
 ghost use Rattle.fancy_grammar.specs.State as states;
@@ -27,9 +29,9 @@ use crate::grammar::frame::{OpenGroup, PieceStart};
 use crate::grammar::group::kind::{GroupKind, node};
 use crate::grammar::plain::is_unquantified;
 use crate::grammar::quantified::quantify;
+use crate::grammar::recorded::{RecordedTrivium, part_between};
 use crate::grammar::spanning::Spanning;
 use crate::grammar::state::{State, skip_layout};
-use crate::grammar::trees::is_empty;
 use crate::trivium::TriviumKind;
 use fancy_lex::error::{ParseError, ReadError};
 use fancy_lex::text::{AT_END, byte_len, next, reach, reach_before};
@@ -67,8 +69,9 @@ pub(crate) fn read_step<'a, S: Spanning>(
     ensures below { IfOk result (λ p. OpensBelow p depth) }
 {
     let left = byte_len(current.rest);
-    spans.pass_layout(*current)?;
-    current.rest = skip_layout(*current)?;
+    let rest = skip_layout(*current)?;
+    spans.pass_layout(*current, rest)?;
+    current.rest = rest;
     let before = *current;
     match read_atom_start(alloc, current, depth)? {
         AtomStart::Nothing => {
@@ -76,7 +79,7 @@ pub(crate) fn read_step<'a, S: Spanning>(
             piece(alloc, Expr::Empty, current, left, depth, spans)
         }
         AtomStart::Read(atom) => {
-            record_atom(before, &atom, *current, spans)?;
+            spans.record_atom(before, &atom, *current)?;
             // Usually no quantifier follows: this saves a call for each leaf.
             if is_unquantified(*current) {
                 return Ok(Step::Piece(atom));
@@ -106,28 +109,6 @@ pub(crate) fn read_step<'a, S: Spanning>(
     }
 }
 
-/// Records an atom that is read at once: a leaf, or inline flags, whose tree is an Empty.
-#[inline(always)]
-fn record_atom<S: Spanning>(
-    start: State,
-    atom: &Expr,
-    end: State,
-    spans: &mut S,
-) -> Result<(), AllocError>
-    ensures { (l : Log) → S.records spans.old l → OnOk result (S.records spans.new
-        (atom_read (state start.entry) (states.done (view atom.now) (state end.entry)) l)) }
-{
-    spans.record_leaf(reach(start.rest), reach(end.rest))?;
-    if is_empty(atom) {
-        let kind = TriviumKind::InlineFlags {
-            before: start.flags,
-            after: end.flags,
-        };
-        spans.pass(reach(start.rest), reach(end.rest), kind)?;
-    }
-    Ok(())
-}
-
 /// Records the opening of a group of one alternation, whose contents begin at `inside`. A flag group has no node.
 #[inline(always)]
 fn open_group<S: Spanning>(
@@ -140,15 +121,14 @@ fn open_group<S: Spanning>(
         (group_opened (group_kind kind.entry) (state start.entry) (state inside.entry) l)) }
 {
     spans.open(reach(start.rest), reach(inside.rest))?;
+    let opening = TriviumKind::Opening {
+        around: start.flags,
+        inside: inside.flags,
+    };
     match kind {
-        GroupKind::FlagGroup => {
-            let opening = TriviumKind::Opening {
-                around: start.flags,
-                inside: inside.flags,
-            };
-            spans.pass(reach(start.rest), reach(inside.rest), opening)
-        }
-        GroupKind::Capture(_)
+        GroupKind::FlagGroup => spans.pass(part_between(start, inside, opening, false)),
+        GroupKind::Capture(None) => spans.pass(part_between(start, inside, opening, true)),
+        GroupKind::Capture(Some(_))
         | GroupKind::Look(_)
         | GroupKind::Atomic
         | GroupKind::Define
@@ -340,6 +320,19 @@ fn node_of_part<S: Spanning>(
     }
 }
 
+/// The closing parenthesis that `rest` follows.
+fn closing_before(rest: &str, unnamed: bool) -> RecordedTrivium
+    ensures { let end = reach_of (chars rest.now) in
+        recorded_part result ≡ part (end + 1) end closing unnamed }
+{
+    RecordedTrivium {
+        start: reach_before(rest),
+        end: reach(rest),
+        kind: TriviumKind::Closing,
+        unnamed,
+    }
+}
+
 /// Records the end of a group of one alternation, which `rest` follows. A flag group has no node.
 #[inline(always)]
 fn close_group<S: Spanning>(kind: &GroupKind, rest: &str, spans: &mut S) -> Result<(), AllocError>
@@ -349,11 +342,14 @@ fn close_group<S: Spanning>(kind: &GroupKind, rest: &str, spans: &mut S) -> Resu
     let end = reach(rest);
     match kind {
         GroupKind::FlagGroup => {
-            spans.pass(reach_before(rest), end, TriviumKind::Closing)?;
+            spans.pass(closing_before(rest, false))?;
             spans.close_bare();
             Ok(())
         }
-        GroupKind::Capture(None) => spans.close(end, true),
+        GroupKind::Capture(None) => {
+            spans.pass(closing_before(rest, true))?;
+            spans.close(end, true)
+        }
         _ => spans.close(end, false),
     }
 }

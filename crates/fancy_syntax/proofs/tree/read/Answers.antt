@@ -11,7 +11,7 @@ use Rattle.fancy_grammar.specs.GroupInfo.{GroupInfo, group_info}
 use Rattle.fancy_grammar.specs.Spans.{AreSpansOf, positioned}
 use Rattle.fancy_grammar.specs.Resolved.{resolved, error_of}
 use Rattle.fancy_grammar.specs.Tree.{Tree}
-use Rattle.fancy_grammar.specs.Trivia.{IsTriviaOf, located}
+use Rattle.fancy_grammar.specs.Trivia.{IsTriviaOf, located, kept}
 use Rattle.fancy_syntax.specs.InfoViews.{info_of}
 use Rattle.fancy_syntax.specs.Log.{Log, shown}
 use Rattle.fancy_syntax.specs.LogViews.{returned_spans, returned_trivia}
@@ -65,7 +65,7 @@ returns-clause-position g c =
 spans_of_tree : {f : Flags} {text : Text} {r : Tree} {N : Log → Type 0} (o : Result ExprTree ReadError) →
     (m : Log) × N m × IsRecordedWhole f text r m → IfOk o (λ t. info_of t ≡ group_info f text r) → IfOk o (λ t.
     (m : Log) × N m × AreSpansOf f text (returned_spans text (info_of t).numbered_groups_ignored m)
-    × IsTriviaOf f text (returned_trivia text m))
+    × IsTriviaOf f text (returned_trivia text (info_of t).numbered_groups_ignored m))
 spans_of_tree {f} {text} {r} (Ok t) (m, n, (v, (a, shows, passed))) same_info = (
   m,
   n,
@@ -76,7 +76,14 @@ spans_of_tree {f} {text} {r} (Ok t) (m, n, (v, (a, shows, passed))) same_info = 
     ap (map (positioned (bytes text)))
         (ap (λ (k : GroupInfo). shown k.numbered_groups_ignored m.recorded) same_info ∙ shows (only_named f (openings r))),
   ),
-  (r, v, a, ap (map (located (bytes text))) passed),
+  (
+    r,
+    v,
+    a,
+    ap (map (located (bytes text)))
+        (ap (λ (k : GroupInfo). kept k.numbered_groups_ignored m.passed) same_info
+        ∙ ap (kept (only_named f (openings r))) passed),
+  ),
 )
 spans_of_tree (Err e) m same_info = tt
 

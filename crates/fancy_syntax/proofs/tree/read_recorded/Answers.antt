@@ -19,4 +19,5 @@ returns-clause-trivia c =
     let text = chars c.args.re.now in
     let (m, n, a, b) =
     c.in_ok-tree.ensures.spans (started (reach_of text)) refl (c.new-recorded.ensures ∙ ap started c.reach.ensures) in
-    subst (IsTriviaOf c.args.flags text) (sym (ap (returned_trivia text) n)) b
+    subst (IsTriviaOf c.args.flags text)
+    (sym (ap (returned_trivia text c.in_ok-tree.tree.numbered_groups_ignored) n)) b

@@ -9,7 +9,7 @@ use Rattle.std.specs.Prelude.{not, ◌==◌}
 use Rattle.fancy_lex.specs.Bits.{has_bit}
 use Rattle.fancy_lex.specs.Flags.{flags_of}
 use Rattle.fancy_lex.specs.declared.flags.Flags.{Flags}
-use Rattle.fancy_c.specs.FlagBits.{bit_of, bits_of}
+use Rattle.fancy_lex.specs.FlagBits.{bit_of, bits_of}
 
 -- ---- the bits joined are the sum
 
