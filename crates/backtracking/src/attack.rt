@@ -1,4 +1,5 @@
 //! Texts on which an engine tries all ways through a repeat.
+use crate::known_sets::KnownSets;
 use crate::sample::Sample;
 use crate::trial::{Trial, add_positions, is_any};
 use fancy_syntax::expr::Expr;
@@ -78,6 +79,8 @@ pub(crate) struct Surroundings<'a> {
     pub(crate) trials: usize,
     /// How many pairs of repeats were searched.
     pub(crate) searches: usize,
+    /// The characters of nodes.
+    pub(crate) sets: KnownSets<'a>,
     /// What there was too much of to look at.
     pub(crate) too_large: Vec<Span>,
 }
@@ -123,7 +126,7 @@ impl<'a> Target<'a> {
     }
 
     /// The positions that it may lead to from these.
-    fn ends(self, trial: &mut Trial<'_>, starts: &[bool]) -> Result<Vec<bool>, AllocError> {
+    fn ends(self, trial: &mut Trial<'_, 'a>, starts: &[bool]) -> Result<Vec<bool>, AllocError> {
         match self {
             Target::Repeat(tree) => trial.ends(tree, starts),
             Target::Sequence { trees, first, last } => {
@@ -136,11 +139,12 @@ impl<'a> Target<'a> {
 
 impl<'a> Surroundings<'a> {
     /// Those of the root.
-    pub(crate) fn new(alloc: Global) -> Surroundings<'a> {
+    pub(crate) fn new(alloc: Global, unicode: bool) -> Surroundings<'a> {
         Surroundings {
             around: Vec::new(alloc),
             trials: 0,
             searches: 0,
+            sets: KnownSets::new(alloc, unicode),
             too_large: Vec::new(alloc),
         }
     }
@@ -184,7 +188,10 @@ struct Lead {
 }
 
 /// Adds a text that leads to the node that all this is around, from the outermost on, and says whether one was found.
-fn add_text_before(sample: &mut Sample, around: &[Enclosing<'_>]) -> Result<bool, AllocError> {
+fn add_text_before<'a>(
+    sample: &mut Sample<'_, 'a>,
+    around: &[Enclosing<'a>],
+) -> Result<bool, AllocError> {
     for one in around {
         let is_found = match one {
             Enclosing::Group | Enclosing::Atomic => true,
@@ -201,14 +208,13 @@ fn add_text_before(sample: &mut Sample, around: &[Enclosing<'_>]) -> Result<bool
 }
 
 /// A text that leads to the target, if one was found.
-fn lead_to(
+fn lead_to<'a>(
     alloc: Global,
-    unicode: bool,
-    target: Target<'_>,
-    around: &[Enclosing<'_>],
+    target: Target<'a>,
+    surroundings: &mut Surroundings<'a>,
 ) -> Result<Option<Lead>, AllocError> {
-    let mut sample = Sample::new(alloc, unicode);
-    if !add_text_before(&mut sample, around)? {
+    let mut sample = Sample::new(alloc, &mut surroundings.sets);
+    if !add_text_before(&mut sample, &surroundings.around)? {
         return Ok(None);
     }
     let start = sample.text.len();
@@ -238,11 +244,11 @@ fn is_followed(around: &[Enclosing<'_>]) -> bool {
 }
 
 /// Whether what follows the target fails after each position that the target leads to from the start.
-fn fails_after(
-    trial: &mut Trial<'_>,
-    target: Target<'_>,
+fn fails_after<'a>(
+    trial: &mut Trial<'_, 'a>,
+    target: Target<'a>,
     start: usize,
-    around: &[Enclosing<'_>],
+    around: &[Enclosing<'a>],
 ) -> Result<bool, AllocError> {
     let mut now = trial.only(start)?;
     now = target.ends(trial, &now)?;
@@ -265,13 +271,12 @@ fn fails_after(
 }
 
 /// What to put after the text, so that what follows the target fails; `None` if nothing was found.
-fn find_ending(
+fn find_ending<'a>(
     alloc: Global,
-    unicode: bool,
-    target: Target<'_>,
+    target: Target<'a>,
     start: usize,
     text: &mut Vec<char>,
-    surroundings: &mut Surroundings<'_>,
+    surroundings: &mut Surroundings<'a>,
 ) -> Result<Option<Vec<char>>, AllocError> {
     let end = text.len();
     for ending in ENDINGS.iter() {
@@ -279,9 +284,10 @@ fn find_ending(
         for c in ending.chars() {
             text.push(c)?;
         }
-        let mut trial = Trial::new(alloc, unicode, text);
+        let mut trial = Trial::new(alloc, text, &mut surroundings.sets);
         let fails = fails_after(&mut trial, target, start, &surroundings.around)?;
-        surroundings.trials = surroundings.trials.saturating_add(trial.count());
+        let trials = trial.count();
+        surroundings.trials = surroundings.trials.saturating_add(trials);
         if fails {
             let mut after = Vec::new(alloc);
             after.extend_from_slice(text.get(end..).unwrap_or(&[]))?;
@@ -296,17 +302,16 @@ fn find_ending(
 
 /// What to put around the word, so that an engine tries all ways through the target; `None` if nothing was found that
 /// lets what follows the target fail.
-pub(crate) fn find_attack(
+pub(crate) fn find_attack<'a>(
     alloc: Global,
-    unicode: bool,
-    target: Target<'_>,
+    target: Target<'a>,
     word: &[char],
-    surroundings: &mut Surroundings<'_>,
+    surroundings: &mut Surroundings<'a>,
 ) -> Result<Option<Attack>, AllocError> {
     if target.after().is_empty() && !is_followed(&surroundings.around) {
         return Ok(None);
     }
-    let lead = lead_to(alloc, unicode, target, &surroundings.around)?;
+    let lead = lead_to(alloc, target, surroundings)?;
     let mut text = Vec::new(alloc);
     let mut tried = target;
     let mut start = 0usize;
@@ -318,7 +323,7 @@ pub(crate) fn find_attack(
     for _ in 0..REPETITIONS {
         text.extend_from_slice(word)?;
     }
-    let Some(after) = find_ending(alloc, unicode, tried, start, &mut text, surroundings)? else {
+    let Some(after) = find_ending(alloc, tried, start, &mut text, surroundings)? else {
         return Ok(None);
     };
     let before = match lead {

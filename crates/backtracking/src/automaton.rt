@@ -1,7 +1,8 @@
 //! The steps that an engine takes through turns of a part of a pattern.
 use crate::cut::Cut;
 use crate::decision::Decision;
-use class_meaning::{CharacterSet, ClassMeaning, characters_of};
+use crate::known_sets::KnownSets;
+use class_meaning::CharacterSet;
 use fancy_syntax::expr::Expr;
 use std::alloc::{AllocError, Global};
 use thiserror::Error;
@@ -57,7 +58,6 @@ pub(crate) struct Position {
 #[derive(Drop)]
 pub(crate) struct Automaton {
     alloc: Global,
-    unicode: bool,
     pub(crate) steps: Vec<Action>,
     pub(crate) positions: Vec<Position>,
     /// The different sets of characters.
@@ -77,10 +77,9 @@ pub(crate) struct AcrossAutomaton {
 
 impl Automaton {
     /// An automaton without steps.
-    fn new(alloc: Global, unicode: bool) -> Automaton {
+    fn new(alloc: Global) -> Automaton {
         Automaton {
             alloc,
-            unicode,
             steps: Vec::new(alloc),
             positions: Vec::new(alloc),
             sets: Vec::new(alloc),
@@ -89,28 +88,32 @@ impl Automaton {
     }
 
     /// The automaton of turns of the tree. It begins and ends at the first step, before a turn.
-    pub(crate) fn of(alloc: Global, tree: &Expr, unicode: bool) -> Result<Automaton, NotBuilt> {
-        let mut automaton = Automaton::new(alloc, unicode);
+    pub(crate) fn of<'a>(
+        alloc: Global,
+        tree: &'a Expr,
+        sets: &mut KnownSets<'a>,
+    ) -> Result<Automaton, NotBuilt> {
+        let mut automaton = Automaton::new(alloc);
         let at = automaton.add_start()?;
-        let turn = automaton.add_turn(tree, at, at)?;
+        let turn = automaton.add_turn(sets, tree, at, at)?;
         automaton.set_exits(at, turn, None)?;
         Ok(automaton)
     }
 
     /// The automaton across the cut. It begins before a turn of the first repeat, and ends before a turn of the last
     /// one.
-    pub(crate) fn across(
+    pub(crate) fn across<'a>(
         alloc: Global,
-        cut: Cut<'_>,
-        unicode: bool,
+        cut: Cut<'a>,
+        sets: &mut KnownSets<'a>,
     ) -> Result<AcrossAutomaton, NotBuilt> {
-        let mut automaton = Automaton::new(alloc, unicode);
+        let mut automaton = Automaton::new(alloc);
         let first = automaton.add_start()?;
         let last = automaton.add_start()?;
-        let first_turn = automaton.add_turn(cut.first, first, first)?;
-        let last_turn = automaton.add_turn(cut.last, last, last)?;
+        let first_turn = automaton.add_turn(sets, cut.first, first, first)?;
+        let last_turn = automaton.add_turn(sets, cut.last, last, last)?;
         let last_end = automaton.positions.len();
-        let between = automaton.add_all(cut.between, last)?;
+        let between = automaton.add_all(sets, cut.between, last)?;
         automaton.set_exits(first, first_turn, Some(between))?;
         automaton.set_exits(last, last_turn, None)?;
         Ok(AcrossAutomaton {
@@ -165,15 +168,20 @@ impl Automaton {
 
     /// Adds the steps of the tree, after which `next` follows. Returns the first of them.
     #[cycle(add_tree)]
-    fn add_tree(&mut self, tree: &Expr, next: usize) -> Result<usize, NotBuilt> {
+    fn add_tree<'a>(
+        &mut self,
+        sets: &mut KnownSets<'a>,
+        tree: &'a Expr,
+        next: usize,
+    ) -> Result<usize, NotBuilt> {
         match tree {
             Expr::Empty => Ok(next),
-            Expr::Group(child) => self.add_tree(child, next),
-            Expr::Concat(trees) => self.add_all(trees, next),
-            Expr::Alt(branches) => self.add_branches(branches, next),
-            Expr::Repeat { child, lo, hi, .. } => self.add_repeat(child, *lo, *hi, next),
+            Expr::Group(child) => self.add_tree(sets, child, next),
+            Expr::Concat(trees) => self.add_all(sets, trees, next),
+            Expr::Alt(branches) => self.add_branches(sets, branches, next),
+            Expr::Repeat { child, lo, hi, .. } => self.add_repeat(sets, child, *lo, *hi, next),
             Expr::Any { .. } | Expr::Literal { .. } | Expr::Delegate { .. } => {
-                self.add_position(tree, next)
+                self.add_position(sets, tree, next)
             }
             Expr::Assertion(_)
             | Expr::GeneralNewline { .. }
@@ -196,11 +204,16 @@ impl Automaton {
 
     /// Adds the steps of the trees, one after another.
     #[cycle(add_tree)]
-    fn add_all(&mut self, trees: &[Expr], next: usize) -> Result<usize, NotBuilt> {
+    fn add_all<'a>(
+        &mut self,
+        sets: &mut KnownSets<'a>,
+        trees: &'a [Expr],
+        next: usize,
+    ) -> Result<usize, NotBuilt> {
         let mut at = next;
         for i in (0..trees.len()).rev() {
             if let Some(tree) = trees.get(i) {
-                at = self.add_tree(tree, at)?;
+                at = self.add_tree(sets, tree, at)?;
             }
         }
         Ok(at)
@@ -208,10 +221,15 @@ impl Automaton {
 
     /// Adds the steps of the branches, and a decision for one of them.
     #[cycle(add_tree)]
-    fn add_branches(&mut self, branches: &[Expr], next: usize) -> Result<usize, NotBuilt> {
+    fn add_branches<'a>(
+        &mut self,
+        sets: &mut KnownSets<'a>,
+        branches: &'a [Expr],
+        next: usize,
+    ) -> Result<usize, NotBuilt> {
         let mut exits = Vec::new(self.alloc);
         for (i, branch) in branches.iter().enumerate() {
-            let at = self.add_tree(branch, next)?;
+            let at = self.add_tree(sets, branch, next)?;
             exits.push(Exit {
                 decision: Decision::Branch(i),
                 next: at,
@@ -222,16 +240,23 @@ impl Automaton {
 
     /// Adds a turn of the tree, which began with a decision at `start`.
     #[cycle(add_tree)]
-    fn add_turn(&mut self, tree: &Expr, start: usize, next: usize) -> Result<usize, NotBuilt> {
+    fn add_turn<'a>(
+        &mut self,
+        sets: &mut KnownSets<'a>,
+        tree: &'a Expr,
+        start: usize,
+        next: usize,
+    ) -> Result<usize, NotBuilt> {
         let end = self.add(Action::EndTurn { start, next })?;
-        self.add_tree(tree, end)
+        self.add_tree(sets, tree, end)
     }
 
     /// Adds a repeat of the tree: a loop if it has no limit, and a copy of the tree for each other turn.
     #[cycle(add_tree)]
-    fn add_repeat(
+    fn add_repeat<'a>(
         &mut self,
-        tree: &Expr,
+        sets: &mut KnownSets<'a>,
+        tree: &'a Expr,
         lo: usize,
         hi: usize,
         next: usize,
@@ -239,7 +264,7 @@ impl Automaton {
         let mut after = self.add(Action::Decide(Vec::new(self.alloc)))?;
         let mut copies = hi;
         if hi == usize::MAX {
-            let turn = self.add_turn(tree, after, after)?;
+            let turn = self.add_turn(sets, tree, after, after)?;
             self.set_exits(after, turn, Some(next))?;
             copies = lo;
         } else {
@@ -248,7 +273,7 @@ impl Automaton {
         for i in (0..copies).rev() {
             let done = if i < lo { None } else { Some(next) };
             let at = self.add(Action::Decide(Vec::new(self.alloc)))?;
-            let turn = self.add_turn(tree, at, after)?;
+            let turn = self.add_turn(sets, tree, at, after)?;
             self.set_exits(at, turn, done)?;
             after = at;
             if self.steps.len() > MOST_STEPS {
@@ -272,11 +297,16 @@ impl Automaton {
     }
 
     /// Adds a node that matches one character.
-    fn add_position(&mut self, tree: &Expr, next: usize) -> Result<usize, NotBuilt> {
+    fn add_position<'a>(
+        &mut self,
+        sets: &mut KnownSets<'a>,
+        tree: &'a Expr,
+        next: usize,
+    ) -> Result<usize, NotBuilt> {
         if self.positions.len() > MOST_POSITIONS {
             return Err(NotBuilt::TooLarge);
         }
-        let ClassMeaning::Characters(set) = characters_of(self.alloc, tree, self.unicode)? else {
+        let Some(set) = sets.of(tree)? else {
             return Err(NotBuilt::Irregular);
         };
         let set = self.add_set(set)?;
@@ -285,15 +315,15 @@ impl Automaton {
         Ok(self.add(Action::Match { position })?)
     }
 
-    /// The index of the set, which is added if there is no equal one.
-    fn add_set(&mut self, set: CharacterSet) -> Result<usize, AllocError> {
+    /// The index of the set, a copy of which is added if there is no equal one.
+    fn add_set(&mut self, set: &CharacterSet) -> Result<usize, AllocError> {
         for (i, other) in self.sets.iter().enumerate() {
             if set.ranges() == other.ranges() {
                 return Ok(i);
             }
         }
         let at = self.sets.len();
-        self.sets.push(set)?;
+        self.sets.push(set.clone()?)?;
         Ok(at)
     }
 }

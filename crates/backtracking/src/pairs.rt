@@ -1,9 +1,9 @@
 //! The search for two routes through an automaton that match the same text.
 use crate::automaton::Automaton;
+use crate::common::some_common;
 use crate::decision::Decision;
 use crate::routes::Route;
 use crate::witness::Witness;
-use class_meaning::CharacterSet;
 use std::alloc::{AllocError, Global};
 
 /// The most pairs that are looked at.
@@ -11,10 +11,6 @@ const MOST_PAIRS: usize = 20_000;
 
 /// The most pairs of routes that are tried.
 const MOST_TRIES: usize = 250_000;
-
-/// The characters that are taken first for a word.
-const FIRST_CHARACTERS: &str =
-    "abcdefghijklmnopqrstuvwxyz0123456789 .,;:-_/ABCDEFGHIJKLMNOPQRSTUVWXYZ";
 
 /// Two positions that are reached over the same text.
 #[derive(Clone, Copy)]
@@ -51,17 +47,6 @@ pub(crate) struct Pairs<'a> {
     /// Of each two sets a character that both have, once it was looked for.
     common: Vec<Option<Option<char>>>,
     tries: usize,
-}
-
-/// A character of the set.
-pub(crate) fn some_character(set: &CharacterSet) -> Option<char> {
-    for c in FIRST_CHARACTERS.chars() {
-        if set.contains(c) {
-            return Some(c);
-        }
-    }
-    let (first, _) = set.ranges().first()?;
-    char::from_u32(*first)
 }
 
 impl<'a> Pairs<'a> {
@@ -164,7 +149,7 @@ impl<'a> Pairs<'a> {
         let Some(false) = self.seen.get(at).copied() else {
             return Ok(false);
         };
-        if self.common_character(next)?.is_none() {
+        if self.common_character(next).is_none() {
             return Ok(false);
         }
         if let Some(is_seen) = self.seen.get_mut(at) {
@@ -187,11 +172,11 @@ impl<'a> Pairs<'a> {
     }
 
     /// A character that both positions match.
-    fn common_character(&mut self, pair: Pair) -> Result<Option<char>, AllocError> {
+    fn common_character(&mut self, pair: Pair) -> Option<char> {
         let positions = &self.automaton.positions;
         let (Some(first), Some(second)) = (positions.get(pair.first), positions.get(pair.second))
         else {
-            return Ok(None);
+            return None;
         };
         let sets = &self.automaton.sets;
         let at = first
@@ -199,17 +184,16 @@ impl<'a> Pairs<'a> {
             .saturating_mul(sets.len())
             .saturating_add(second.set);
         if let Some(Some(found)) = self.common.get(at) {
-            return Ok(*found);
+            return *found;
         }
         let (Some(one), Some(other)) = (sets.get(first.set), sets.get(second.set)) else {
-            return Ok(None);
+            return None;
         };
-        let both = CharacterSet::new(one.class.intersection(&other.class)?)?;
-        let found = some_character(&both);
+        let found = some_common(&[one, other]);
         if let Some(entry) = self.common.get_mut(at) {
             *entry = Some(found);
         }
-        Ok(found)
+        found
     }
 
     /// The pairs from the first one to the last one, by their indices.
@@ -257,7 +241,7 @@ impl<'a> Pairs<'a> {
             witness.first.extend_from_slice(first)?;
             let second = self.decisions(from.second, pair.second_route);
             witness.second.extend_from_slice(second)?;
-            if let Some(c) = self.common_character(pair)?
+            if let Some(c) = self.common_character(pair)
                 && pair.first != 0
             {
                 witness.word.push(c)?;

@@ -1,7 +1,9 @@
 //! Which trees of a concatenation a text can go across.
+use crate::common::have_common;
+use crate::known_sets::KnownSets;
 use crate::sequences::repeated_part;
 use crate::shape::{PartKind, kind_of};
-use class_meaning::{CharacterSet, ClassMeaning, characters_of};
+use class_meaning::CharacterSet;
 use fancy_syntax::expr::Expr;
 use std::alloc::{AllocError, Global};
 
@@ -40,16 +42,15 @@ pub(crate) enum Reach {
 
 /// A set of characters that grows.
 #[derive(Drop)]
-struct Alphabet {
-    alloc: Global,
-    unicode: bool,
+struct Alphabet<'s, 'a> {
+    sets: &'s mut KnownSets<'a>,
     set: Option<CharacterSet>,
 }
 
-impl Alphabet {
+impl<'s, 'a> Alphabet<'s, 'a> {
     /// Adds the characters of the tree.
     #[cycle(add)]
-    fn add(&mut self, tree: &Expr) -> Result<(), AllocError> {
+    fn add(&mut self, tree: &'a Expr) -> Result<(), AllocError> {
         match tree {
             Expr::Group(child) | Expr::Repeat { child, .. } => self.add(child),
             Expr::Concat(trees) | Expr::Alt(trees) => self.add_all(trees),
@@ -76,7 +77,7 @@ impl Alphabet {
 
     /// Adds the characters of the trees.
     #[cycle(add)]
-    fn add_all(&mut self, trees: &[Expr]) -> Result<(), AllocError> {
+    fn add_all(&mut self, trees: &'a [Expr]) -> Result<(), AllocError> {
         for tree in trees {
             self.add(tree)?;
         }
@@ -84,11 +85,11 @@ impl Alphabet {
     }
 
     /// Adds the characters of a node that matches one.
-    fn add_node(&mut self, tree: &Expr) -> Result<(), AllocError> {
-        if let ClassMeaning::Characters(set) = characters_of(self.alloc, tree, self.unicode)? {
+    fn add_node(&mut self, tree: &'a Expr) -> Result<(), AllocError> {
+        if let Some(set) = self.sets.of(tree)? {
             self.set = Some(match &self.set {
-                Some(old) => old.union(&set)?,
-                None => set,
+                Some(old) => old.union(set)?,
+                None => set.clone()?,
             });
         }
         Ok(())
@@ -149,17 +150,13 @@ fn can_any_be_empty(trees: &[Expr]) -> bool {
 }
 
 /// The tree as a piece.
-fn piece_of(alloc: Global, tree: &Expr, unicode: bool) -> Result<Piece, AllocError> {
+fn piece_of<'a>(tree: &'a Expr, sets: &mut KnownSets<'a>) -> Result<Piece, AllocError> {
     match kind_of(tree) {
         PartKind::Irregular => return Ok(Piece::Irregular),
         PartKind::TooLarge => return Ok(Piece::TooLarge),
         PartKind::Choices | PartKind::OneWay => {}
     }
-    let mut alphabet = Alphabet {
-        alloc,
-        unicode,
-        set: None,
-    };
+    let mut alphabet = Alphabet { sets, set: None };
     alphabet.add(tree)?;
     Ok(Piece::Regular(RegularPiece {
         alphabet: alphabet.set,
@@ -169,24 +166,24 @@ fn piece_of(alloc: Global, tree: &Expr, unicode: bool) -> Result<Piece, AllocErr
 }
 
 /// The trees of a concatenation as pieces.
-pub(crate) fn pieces_of(
+pub(crate) fn pieces_of<'a>(
     alloc: Global,
-    trees: &[Expr],
-    unicode: bool,
+    trees: &'a [Expr],
+    sets: &mut KnownSets<'a>,
 ) -> Result<Vec<Piece>, AllocError> {
     let mut pieces = Vec::with_capacity(alloc, trees.len())?;
     for tree in trees {
-        pieces.push(piece_of(alloc, tree, unicode)?)?;
+        pieces.push(piece_of(tree, sets)?)?;
     }
     Ok(pieces)
 }
 
 impl RegularPiece {
     /// Whether both may match some character.
-    fn meets(&self, other: &RegularPiece) -> Result<bool, AllocError> {
+    fn meets(&self, other: &RegularPiece) -> bool {
         match (&self.alphabet, &other.alphabet) {
-            (Some(one), Some(other)) => one.intersects(other),
-            (None, _) | (_, None) => Ok(false),
+            (Some(one), Some(other)) => have_common(&[one, other]),
+            (None, _) | (_, None) => false,
         }
     }
 }
@@ -201,19 +198,19 @@ impl Piece {
     }
 
     /// What the characters of an earlier repeat say of it.
-    pub(crate) fn reach(&self, repeat: &RegularPiece) -> Result<Reach, AllocError> {
+    pub(crate) fn reach(&self, repeat: &RegularPiece) -> Reach {
         let piece = match self {
             Piece::Regular(piece) => piece,
-            Piece::Irregular => return Ok(Reach::Blocked),
-            Piece::TooLarge => return Ok(Reach::TooLarge),
+            Piece::Irregular => return Reach::Blocked,
+            Piece::TooLarge => return Reach::TooLarge,
         };
-        let meets = repeat.meets(piece)?;
+        let meets = repeat.meets(piece);
         if meets && piece.is_repeat {
-            Ok(Reach::Repeat)
+            Reach::Repeat
         } else if meets || piece.can_be_empty {
-            Ok(Reach::Across)
+            Reach::Across
         } else {
-            Ok(Reach::Blocked)
+            Reach::Blocked
         }
     }
 }

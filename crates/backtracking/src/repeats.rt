@@ -86,7 +86,6 @@ fn look_at<'a>(
     };
     match find_attack(
         alloc,
-        unicode,
         Target::Repeat(node.expr()),
         &witness.word,
         surroundings,
@@ -153,7 +152,7 @@ pub fn slow_repeats(
 ) -> Result<SlowRepeats, AllocError>
     ensures witnessed { IfOk result (λ r. AllByRecursion (IsSlowIn unicode (spanned_of_tree parsed.now)) r.slow.items) }
 {
-    let mut surroundings = Surroundings::new(alloc);
+    let mut surroundings = Surroundings::new(alloc, unicode);
     let mut found = Vec::new(alloc);
     look(
         parsed.root(),

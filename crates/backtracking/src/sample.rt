@@ -1,6 +1,6 @@
 //! A text that leads through a part of a pattern.
-use crate::pairs::some_character;
-use class_meaning::{ClassMeaning, characters_of};
+use crate::common::some_character;
+use crate::known_sets::KnownSets;
 use fancy_syntax::expr::Expr;
 use std::alloc::{AllocError, Global};
 
@@ -9,25 +9,23 @@ const MOST_CHARACTERS: usize = 1000;
 
 /// A text that grows.
 #[derive(Drop)]
-pub(crate) struct Sample {
-    alloc: Global,
-    unicode: bool,
+pub(crate) struct Sample<'s, 'a> {
+    sets: &'s mut KnownSets<'a>,
     pub(crate) text: Vec<char>,
 }
 
-impl Sample {
+impl<'s, 'a> Sample<'s, 'a> {
     /// The empty text.
-    pub(crate) fn new(alloc: Global, unicode: bool) -> Sample {
+    pub(crate) fn new(alloc: Global, sets: &'s mut KnownSets<'a>) -> Sample<'s, 'a> {
         Sample {
-            alloc,
-            unicode,
+            sets,
             text: Vec::new(alloc),
         }
     }
 
     /// Adds a text that the tree matches, and says whether one was found. Assertions and look-around are taken to hold.
     #[cycle(add_text)]
-    pub(crate) fn add_text(&mut self, tree: &Expr) -> Result<bool, AllocError> {
+    pub(crate) fn add_text(&mut self, tree: &'a Expr) -> Result<bool, AllocError> {
         if self.text.len() > MOST_CHARACTERS {
             return Ok(false);
         }
@@ -63,7 +61,7 @@ impl Sample {
 
     /// Adds a text for each of the trees.
     #[cycle(add_text)]
-    pub(crate) fn add_texts(&mut self, trees: &[Expr]) -> Result<bool, AllocError> {
+    pub(crate) fn add_texts(&mut self, trees: &'a [Expr]) -> Result<bool, AllocError> {
         for tree in trees {
             if !self.add_text(tree)? {
                 return Ok(false);
@@ -74,7 +72,7 @@ impl Sample {
 
     /// Adds a text for the first branch that has one.
     #[cycle(add_text)]
-    fn add_branch(&mut self, branches: &[Expr]) -> Result<bool, AllocError> {
+    fn add_branch(&mut self, branches: &'a [Expr]) -> Result<bool, AllocError> {
         for branch in branches {
             let length = self.text.len();
             if self.add_text(branch)? {
@@ -87,7 +85,7 @@ impl Sample {
 
     /// Adds a text for each of so many turns.
     #[cycle(add_text)]
-    pub(crate) fn add_turns(&mut self, tree: &Expr, count: usize) -> Result<bool, AllocError> {
+    pub(crate) fn add_turns(&mut self, tree: &'a Expr, count: usize) -> Result<bool, AllocError> {
         for _ in 0..count.min(MOST_CHARACTERS) {
             if !self.add_text(tree)? {
                 return Ok(false);
@@ -97,11 +95,11 @@ impl Sample {
     }
 
     /// Adds a character that the node matches.
-    fn add_character(&mut self, tree: &Expr) -> Result<bool, AllocError> {
-        let ClassMeaning::Characters(set) = characters_of(self.alloc, tree, self.unicode)? else {
+    fn add_character(&mut self, tree: &'a Expr) -> Result<bool, AllocError> {
+        let Some(set) = self.sets.of(tree)? else {
             return Ok(false);
         };
-        let Some(c) = some_character(&set) else {
+        let Some(c) = some_character(set) else {
             return Ok(false);
         };
         self.text.push(c)?;

@@ -6,13 +6,18 @@ ghost use Rattle.backtracking.specs.Across.{IsAcross, IsPolynomial};
 use crate::automaton::{Automaton, NotBuilt};
 use crate::crossing::are_three_ways;
 use crate::cut::{Cut, SequenceWays};
+use crate::known_sets::KnownSets;
 use crate::routes::all_routes;
 use crate::triples::{Crossed, Triples};
 use std::alloc::{AllocError, Global};
 
 /// Searches for a word with three ways. What it finds is still to be checked.
-fn search(alloc: Global, cut: Cut<'_>, unicode: bool) -> Result<Crossed, AllocError> {
-    let across = match Automaton::across(alloc, cut, unicode) {
+fn search<'a>(
+    alloc: Global,
+    cut: Cut<'a>,
+    sets: &mut KnownSets<'a>,
+) -> Result<Crossed, AllocError> {
+    let across = match Automaton::across(alloc, cut, sets) {
         Ok(across) => across,
         Err(NotBuilt::Memory(error)) => return Err(error),
         Err(NotBuilt::Irregular) => return Ok(Crossed::Irregular),
@@ -24,6 +29,31 @@ fn search(alloc: Global, cut: Cut<'_>, unicode: bool) -> Result<Crossed, AllocEr
     match Triples::new(alloc, &across, &routes)? {
         Some(triples) => triples.search(),
         None => Ok(Crossed::TooLarge),
+    }
+}
+
+/// Searches for a word with three ways, as `ways_of_sequence` does, with what is known of the nodes of the pattern.
+pub(crate) fn ways_of_cut<'a>(
+    alloc: Global,
+    cut: Cut<'a>,
+    unicode: bool,
+    sets: &mut KnownSets<'a>,
+) -> Result<SequenceWays, AllocError>
+    ensures witnessed { IfOk result (IsAcross unicode (view cut.entry.first.now) (views cut.entry.between.now)
+        (view cut.entry.last.now)) }
+    ensures polynomial { IfOk result (IsPolynomial unicode (view cut.entry.first.now) (views cut.entry.between.now)
+        (view cut.entry.last.now)) }
+{
+    let witness = match search(alloc, cut, sets)? {
+        Crossed::Found(witness) => witness,
+        Crossed::Nothing => return Ok(SequenceWays::NoneFound),
+        Crossed::Irregular => return Ok(SequenceWays::Irregular),
+        Crossed::TooLarge => return Ok(SequenceWays::TooLarge),
+    };
+    if are_three_ways(alloc, cut, unicode, &witness)? {
+        Ok(SequenceWays::Polynomial(witness))
+    } else {
+        Ok(SequenceWays::NoneFound)
     }
 }
 
@@ -42,15 +72,6 @@ pub fn ways_of_sequence(
     ensures polynomial { IfOk result (IsPolynomial unicode (view cut.entry.first.now) (views cut.entry.between.now)
         (view cut.entry.last.now)) }
 {
-    let witness = match search(alloc, cut, unicode)? {
-        Crossed::Found(witness) => witness,
-        Crossed::Nothing => return Ok(SequenceWays::NoneFound),
-        Crossed::Irregular => return Ok(SequenceWays::Irregular),
-        Crossed::TooLarge => return Ok(SequenceWays::TooLarge),
-    };
-    if are_three_ways(alloc, cut, unicode, &witness)? {
-        Ok(SequenceWays::Polynomial(witness))
-    } else {
-        Ok(SequenceWays::NoneFound)
-    }
+    let mut sets = KnownSets::new(alloc, unicode);
+    ways_of_cut(alloc, cut, unicode, &mut sets)
 }

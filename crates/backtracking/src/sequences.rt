@@ -12,7 +12,7 @@ use crate::attack::{Attack, Surroundings, Target, enclosing_of, find_attack};
 use crate::cut::{Cut, SequenceWays, SequenceWitness};
 use crate::pieces::{Piece, Reach, pieces_of};
 use crate::repeats::{SMALL_LIMIT, SearchOptions, is_left_alone};
-use crate::sequence::ways_of_sequence;
+use crate::sequence::ways_of_cut;
 use fancy_spans::{SpannedNode, SpannedTree};
 use fancy_syntax::expr::Expr;
 use fancy_syntax::span::Span;
@@ -45,9 +45,9 @@ pub struct SlowSequences {
 
 /// A concatenation: its trees, and their spans.
 #[derive(Clone, Copy)]
-struct Row<'a> {
+struct Row<'a, 's> {
     trees: &'a [Expr],
-    spans: &'a [Span],
+    spans: &'s [Span],
 }
 
 /// What the tree repeats more than 20 times more than it must, if it is such a repeat, or a group of one.
@@ -105,12 +105,12 @@ fn span_across(spans: &[Span], first: usize, last: usize) -> Option<Span>
 }
 
 /// Searches for three ways from one repeat of the concatenation to another, and for what to put around the word.
-fn look_at_cut(
-    row: Row<'_>,
+fn look_at_cut<'a>(
+    row: Row<'a, '_>,
     first: usize,
     last: usize,
     options: SearchOptions,
-    surroundings: &mut Surroundings<'_>,
+    surroundings: &mut Surroundings<'a>,
 ) -> Result<Option<SlowSequence>, AllocError>
     ensures { IfOk result (λ o. IfSome o (IsSlowAcross options.unicode (views row.entry.trees.now) row.entry.spans.now)) }
 {
@@ -126,7 +126,7 @@ fn look_at_cut(
         return Ok(None);
     }
     surroundings.searches = surroundings.searches.saturating_add(1);
-    let witness = match ways_of_sequence(alloc, cut, unicode)? {
+    let witness = match ways_of_cut(alloc, cut, unicode, &mut surroundings.sets)? {
         SequenceWays::Polynomial(witness) => witness,
         SequenceWays::NoneFound | SequenceWays::Irregular => return Ok(None),
         SequenceWays::TooLarge => {
@@ -139,7 +139,7 @@ fn look_at_cut(
         first,
         last,
     };
-    match find_attack(alloc, unicode, target, &witness.word, surroundings)? {
+    match find_attack(alloc, target, &witness.word, surroundings)? {
         Some(attack) => Ok(Some(SlowSequence {
             span,
             witness,
@@ -150,22 +150,22 @@ fn look_at_cut(
 }
 
 /// What the characters of a repeat say of a later tree, by their indices. No tree that is not a repeat reaches another.
-fn reach_at(pieces: &[Piece], first: usize, last: usize) -> Result<Reach, AllocError> {
+fn reach_at(pieces: &[Piece], first: usize, last: usize) -> Reach {
     let Some(repeat) = pieces.get(first).and_then(|piece| piece.as_repeat()) else {
-        return Ok(Reach::Blocked);
+        return Reach::Blocked;
     };
     let Some(piece) = pieces.get(last) else {
-        return Ok(Reach::Blocked);
+        return Reach::Blocked;
     };
     if last.saturating_sub(first) > MOST_LATER {
-        return Ok(Reach::TooLarge);
+        return Reach::TooLarge;
     }
     piece.reach(repeat)
 }
 
 /// Adds that there is too much to look at from one tree to another.
 fn add_too_large(
-    row: Row<'_>,
+    row: Row<'_, '_>,
     first: usize,
     last: usize,
     surroundings: &mut Surroundings<'_>,
@@ -177,17 +177,17 @@ fn add_too_large(
 }
 
 /// Searches for a slow pair: the tree at the index, and the nearest later one.
-fn look_from(
-    row: Row<'_>,
+fn look_from<'a>(
+    row: Row<'a, '_>,
     pieces: &[Piece],
     first: usize,
     options: SearchOptions,
-    surroundings: &mut Surroundings<'_>,
+    surroundings: &mut Surroundings<'a>,
 ) -> Result<Option<SlowSequence>, AllocError>
     ensures { IfOk result (λ o. IfSome o (IsSlowAcross options.unicode (views row.entry.trees.now) row.entry.spans.now)) }
 {
     for last in first.saturating_add(1)..row.trees.len() {
-        match reach_at(pieces, first, last)? {
+        match reach_at(pieces, first, last) {
             Reach::Across => {}
             Reach::Blocked => break,
             Reach::TooLarge => {
@@ -247,7 +247,7 @@ fn add_slow<'a>(
         AllByRecursion (IsSlowSequenceIn options.unicode root) found.new.items) }
 {
     let spans = child_spans(options.alloc, node)?;
-    let pieces = pieces_of(options.alloc, trees, options.unicode)?;
+    let pieces = pieces_of(options.alloc, trees, &mut surroundings.sets)?;
     let row = Row {
         trees,
         spans: &spans,
@@ -316,7 +316,7 @@ pub fn slow_sequences(
 ) -> Result<SlowSequences, AllocError>
     ensures witnessed { IfOk result (λ r. AllByRecursion (IsSlowSequenceIn unicode (spanned_of_tree parsed.now)) r.slow.items) }
 {
-    let mut surroundings = Surroundings::new(alloc);
+    let mut surroundings = Surroundings::new(alloc, unicode);
     let mut found = Vec::new(alloc);
     look(
         parsed.root(),

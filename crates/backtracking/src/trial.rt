@@ -1,5 +1,5 @@
 //! Which positions of a text a part of a pattern may lead to.
-use class_meaning::{ClassMeaning, characters_of};
+use crate::known_sets::KnownSets;
 use fancy_syntax::expr::{Assertion, BacktrackingControlVerb, Expr, LookAround};
 use std::alloc::{AllocError, Global};
 
@@ -11,10 +11,10 @@ const MOST_TURNS: usize = 100;
 
 /// A trial of parts of a pattern on a text. Sets of positions have a bool for each position.
 #[derive(Drop)]
-pub(crate) struct Trial<'t> {
+pub(crate) struct Trial<'t, 'a> {
     alloc: Global,
-    unicode: bool,
     text: &'t [char],
+    sets: &'t mut KnownSets<'a>,
     trials: usize,
 }
 
@@ -40,13 +40,17 @@ fn is_word(c: Option<char>) -> bool {
     c.is_some_and(|c| c.is_alphanumeric() || c == '_')
 }
 
-impl<'t> Trial<'t> {
+impl<'t, 'a> Trial<'t, 'a> {
     /// A trial on the text.
-    pub(crate) fn new(alloc: Global, unicode: bool, text: &'t [char]) -> Trial<'t> {
+    pub(crate) fn new(
+        alloc: Global,
+        text: &'t [char],
+        sets: &'t mut KnownSets<'a>,
+    ) -> Trial<'t, 'a> {
         Trial {
             alloc,
-            unicode,
             text,
+            sets,
             trials: 0,
         }
     }
@@ -80,7 +84,11 @@ impl<'t> Trial<'t> {
     /// The positions that the tree may lead to from these. It leads to none where it fails; a back reference is taken to fail. What
     /// is not known is taken to lead to each.
     #[cycle(ends)]
-    pub(crate) fn ends(&mut self, tree: &Expr, starts: &[bool]) -> Result<Vec<bool>, AllocError> {
+    pub(crate) fn ends(
+        &mut self,
+        tree: &'a Expr,
+        starts: &[bool],
+    ) -> Result<Vec<bool>, AllocError> {
         self.trials = self.trials.saturating_add(1);
         if self.trials > MOST_TRIALS {
             return self.all(true);
@@ -117,7 +125,7 @@ impl<'t> Trial<'t> {
     #[cycle(ends)]
     pub(crate) fn after_each(
         &mut self,
-        trees: &[Expr],
+        trees: &'a [Expr],
         starts: &[bool],
     ) -> Result<Vec<bool>, AllocError> {
         let mut now = self.copy(starts)?;
@@ -132,7 +140,11 @@ impl<'t> Trial<'t> {
 
     /// The positions after any of the branches.
     #[cycle(ends)]
-    fn after_any(&mut self, branches: &[Expr], starts: &[bool]) -> Result<Vec<bool>, AllocError> {
+    fn after_any(
+        &mut self,
+        branches: &'a [Expr],
+        starts: &[bool],
+    ) -> Result<Vec<bool>, AllocError> {
         let mut set = self.all(false)?;
         for branch in branches {
             let ends = self.ends(branch, starts)?;
@@ -145,7 +157,7 @@ impl<'t> Trial<'t> {
     #[cycle(ends)]
     pub(crate) fn after_turns(
         &mut self,
-        tree: &Expr,
+        tree: &'a Expr,
         lo: usize,
         hi: usize,
         starts: &[bool],
@@ -172,7 +184,7 @@ impl<'t> Trial<'t> {
     #[cycle(ends)]
     fn where_seen(
         &mut self,
-        tree: &Expr,
+        tree: &'a Expr,
         kind: LookAround,
         starts: &[bool],
     ) -> Result<Vec<bool>, AllocError> {
@@ -195,10 +207,13 @@ impl<'t> Trial<'t> {
     }
 
     /// The positions after a character that the node matches.
-    fn after_character(&self, tree: &Expr, starts: &[bool]) -> Result<Vec<bool>, AllocError> {
+    fn after_character(
+        &mut self,
+        tree: &'a Expr,
+        starts: &[bool],
+    ) -> Result<Vec<bool>, AllocError> {
         let mut set = self.all(false)?;
-        let ClassMeaning::Characters(characters) = characters_of(self.alloc, tree, self.unicode)?
-        else {
+        let Some(characters) = self.sets.of(tree)? else {
             return Ok(set);
         };
         for (at, c) in self.text.iter().enumerate() {

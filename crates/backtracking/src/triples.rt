@@ -1,9 +1,9 @@
 //! The search for a text that goes from one repeat of a concatenation to another in many ways.
 use crate::automaton::AcrossAutomaton;
 use crate::checker::do_part;
+use crate::common::some_common;
 use crate::cut::SequenceWitness;
 use crate::decision::Decision;
-use crate::pairs::some_character;
 use crate::routes::Route;
 use class_meaning::CharacterSet;
 use std::alloc::{AllocError, Global};
@@ -210,7 +210,7 @@ impl<'a> Triples<'a> {
             return Ok(false);
         }
         *is_seen = true;
-        let character = self.common_character(next)?;
+        let character = self.common_character(next);
         if character.is_some() {
             self.triples.push(Triple { character, ..next })?;
         }
@@ -240,17 +240,11 @@ impl<'a> Triples<'a> {
     }
 
     /// A character that all three positions match.
-    fn common_character(&self, triple: Triple) -> Result<Option<char>, AllocError> {
-        let (Some(first), Some(across), Some(last)) = (
-            self.characters(triple.by_first),
-            self.characters(triple.across),
-            self.characters(triple.by_last),
-        ) else {
-            return Ok(None);
-        };
-        let two = first.class.intersection(&across.class)?;
-        let all = CharacterSet::new(two.intersection(&last.class)?)?;
-        Ok(some_character(&all))
+    fn common_character(&self, triple: Triple) -> Option<char> {
+        let first = self.characters(triple.by_first)?;
+        let across = self.characters(triple.across)?;
+        let last = self.characters(triple.by_last)?;
+        some_common(&[first, across, last])
     }
 
     /// The triples from the first one to the last one, by their indices.

@@ -6,6 +6,7 @@ ghost use Rattle.backtracking.specs.Witnessed.{IsWitnessed, IsExponential};
 use crate::automaton::{Automaton, NotBuilt};
 use crate::checker::are_two_ways;
 use crate::decision::Decision;
+use crate::known_sets::KnownSets;
 use crate::pairs::{Pairs, Searched};
 use crate::routes::all_routes;
 use fancy_syntax::expr::Expr;
@@ -37,7 +38,8 @@ pub enum RepeatWays {
 
 /// Searches for a word that turns of the tree can match in two ways. What it finds is still to be checked.
 fn search(alloc: Global, tree: &Expr, unicode: bool) -> Result<Searched, AllocError> {
-    let automaton = match Automaton::of(alloc, tree, unicode) {
+    let mut sets = KnownSets::new(alloc, unicode);
+    let automaton = match Automaton::of(alloc, tree, &mut sets) {
         Ok(automaton) => automaton,
         Err(NotBuilt::Memory(error)) => return Err(error),
         Err(NotBuilt::Irregular) => return Ok(Searched::Irregular),
