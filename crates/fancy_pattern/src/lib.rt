@@ -29,7 +29,7 @@ mod needs;
 mod output;
 mod quantifier;
 mod reference;
-mod same;
+pub mod same;
 mod separator;
 mod source;
 mod write;

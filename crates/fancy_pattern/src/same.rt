@@ -70,8 +70,8 @@ fn have_same_info(a: &ExprTree, b: &ExprTree) -> bool
     have_same_numbers(a, b)
 }
 
-/// Whether the trees are equal except for positions, with the same group information.
-fn is_same_result(a: &ExprTree, b: &ExprTree) -> bool
+/// Returns whether the trees are equal except for positions, with the same group information.
+pub fn is_same_result(a: &ExprTree, b: &ExprTree) -> bool
     ensures { Decides result
         ((unpositioned (view a.now.expr) ≡ unpositioned (view b.now.expr)) × (info_of a.now ≡ info_of b.now)) }
 {

@@ -1,6 +1,6 @@
-//! Tests of `fancy_lex`, `fancy_parts` and `fancy_syntax`: the readers on worked patterns, and each public call on trees
-//! once. Each test passes a refusal on: a run of each with its first request for memory refused, its second and so on
-//! comes from outside, by a script of the gate.
+//! Tests of `fancy_lex`, `fancy_parts`, `fancy_syntax` and `pattern_format`: the readers on worked patterns, and each
+//! public call on trees once. Each test passes a refusal on: a run of each with its first request for memory refused, its
+//! second and so on comes from outside, by a script of the gate.
 #![tactic(auto)]
 
 #[cfg(test)]
@@ -11,6 +11,8 @@ mod children_and_clones;
 mod classes;
 #[cfg(test)]
 mod escapes;
+#[cfg(test)]
+mod formatted;
 #[cfg(test)]
 mod nodes;
 #[cfg(test)]

@@ -6,6 +6,7 @@ use crate::words::{
 };
 use clap::error::ErrorKind;
 use clap::{ArgMatches, Error};
+use pattern_format::style::Style;
 use patterns_lint::chosen::Chosen;
 use patterns_lint::rule::write_rules;
 use patterns_picture::picture::draw_picture;
@@ -13,6 +14,9 @@ use patterns_program::choices::{RuleLevel, rule_names};
 use patterns_program::draw::{draw_tree, write_tree};
 use patterns_program::file_pattern::read_pattern;
 use patterns_program::fixes::FixMode;
+use patterns_program::form::FileFormat;
+use patterns_program::formatted::PatternForm;
+use patterns_program::lines::Ending;
 use patterns_program::run::{Job, STANDARD_INPUT, Verb, run};
 use patterns_program::sources::System;
 use patterns_text::error::{RunError, give_up};
@@ -50,7 +54,9 @@ fn explain_flags<E: Write>(err: &mut E) -> Result<u8, RunError> {
 /// Whether standard output has either reports or patterns that are fixed: where it has patterns, reports are text.
 fn can_report(verb: Verb, fixing: Option<FixMode>) -> bool {
     match fixing {
-        Some(FixMode::Write { has_output: true }) => matches!(verb, Verb::Lint(_)),
+        Some(FixMode::Write { has_output: true }) => {
+            matches!(verb, Verb::Lint(_) | Verb::IsFormatted(_))
+        }
         Some(FixMode::Write { has_output: false } | FixMode::Show) | None => true,
     }
 }
@@ -61,6 +67,27 @@ fn explain_fix<E: Write>(err: &mut E) -> Result<u8, RunError> {
         err,
         "patterns: with --json or --format, --fix takes files: it writes other patterns to standard output"
     )?;
+    Ok(MISUSED)
+}
+
+/// What `format` cannot do with the arguments, if there is something.
+fn format_misuse(verb: Verb, form: FileFormat<'_>, has_files: bool) -> Option<&'static str> {
+    match (verb, form) {
+        (Verb::Format(_), FileFormat::Values(_) | FileFormat::Extracted) => {
+            Some("with --textmate, --keys or --records, format takes --write, --check or --diff")
+        }
+        (
+            Verb::Format(PatternForm::Written(Style::Verbose { .. }))
+            | Verb::IsFormatted(PatternForm::Written(Style::Verbose { .. })),
+            FileFormat::Records(Ending::Line),
+        ) if has_files => Some("with --verbose, format takes -e, -z, --textmate or --keys"),
+        _ => None,
+    }
+}
+
+/// Says what is wrong with the arguments.
+fn explain_misuse<E: Write>(misuse: &str, err: &mut E) -> Result<u8, RunError> {
+    writeln!(err, "patterns: {misuse}")?;
     Ok(MISUSED)
 }
 
@@ -128,10 +155,14 @@ impl<S: System, O: Write, E: Write> ProgramCall<'_, S, O, E> {
         if !can_report(verb, fixing) {
             return explain_fix(self.err);
         }
+        let form = form_chosen(matches);
+        if let Some(misuse) = format_misuse(verb, form, !files.is_empty()) {
+            return explain_misuse(misuse, self.err);
+        }
         let job = Job {
             verb,
             flags,
-            form: form_chosen(matches),
+            form,
             fixing,
             patterns,
             is_quiet: matches.get_flag("quiet"),

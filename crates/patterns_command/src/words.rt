@@ -3,11 +3,13 @@ use clap::builder::{ArgPredicate, ValueParser};
 use clap::parser::ValueSource;
 use clap::{Arg, ArgAction, ArgMatches, Command, value_parser};
 use fre_program::flag_word::flags_named;
-use patterns_listing::drawing::{Look, Style};
+use pattern_format::style::Style;
+use patterns_listing::drawing::{Look, Style as LineStyle};
 use patterns_picture::picture::{Canvas, WIDTH};
 use patterns_program::choices::{Choices, ConfigChoice, RuleLevel};
 use patterns_program::fixes::FixMode;
 use patterns_program::form::FileFormat;
+use patterns_program::formatted::PatternForm;
 use patterns_program::lines::Ending;
 use patterns_program::objects::Report;
 use patterns_program::printing::Comments;
@@ -21,7 +23,7 @@ const ABOUT: &str =
     "Checks, shows and formats patterns in the syntax of fancy-regex. It does not match them.
 Flags that are set inside a group end with the group.";
 
-const VERSION: &str = "1.2.0";
+const VERSION: &str = "1.2.1";
 
 const STATUSES: &str =
     "The exit status is 0 if every pattern passes, 1 if one does not, 2 if the arguments are wrong
@@ -135,12 +137,30 @@ and references";
 const WIDTH_HELP: &str = "Breaks rows of the diagram into lines that fit in so many pixels; a
 box that is wider by itself stays so";
 
-const FORMAT: &str =
-    "Writes each pattern in one form, which parses to the same tree under the same flags";
+const FORMAT: &str = "Formats each pattern, and keeps how it is written, with its comments";
 
-const IS_CHECK_HELP: &str = "Writes no pattern, and reports each line that would change, with
-the line now and the line then; the exit status is 1 if a line
-would change or a pattern is invalid";
+const IS_CHECK_HELP: &str = "Writes no pattern, and reports each that would change, as it is and
+as it would be; the exit status is 1 if one would change, is
+invalid, or cannot be formatted";
+
+const WRITE_HELP: &str = "Formats the patterns in the files, or in the sources with --records;
+standard input and patterns of -e are written to standard output";
+
+const FORMAT_DIFF_HELP: &str = "Writes no file, and shows each pattern that --write would change, as
+it is and as it would be";
+
+const LINES_HELP: &str = "Lays each pattern out over several lines, under (?x) if the flags do
+not have x: what does not fit in a line is broken into its branches
+and groups. In a file of lines a pattern has one line: use -e, -z,
+--textmate or --keys";
+
+const LINE_WIDTH_HELP: &str = "With --verbose, how many characters a line may have; otherwise 80";
+
+const CANONICAL_HELP: &str = "Writes the canonical text of each pattern's tree: without ignored
+whitespace, and in one spelling";
+
+const DROP_COMMENTS_HELP: &str = "With --canonical, writes patterns that have comments too, without
+the comments";
 
 const LINT_EXAMPLE: &str = "Example: patterns lint words.txt
 
@@ -191,21 +211,25 @@ const GROUPS_EXAMPLE: &str = r#"Example: patterns groups dates.txt
 
 const FORMAT_EXAMPLE: &str = r"Example: patterns format --flags ux words.txt
 
-  writes for the line  (?<y> \d{4} ) - (?P=y)
-  the line             (?<y>\d{4})-\k<y>";
+  writes for the line  (?:\d{1,})   {2,2} # twice
+  the line             \d+ {2} # twice";
 
 const FORMAT_MORE: &str =
-    "Writes each pattern in one form: drops ignored whitespace, and normalises spelling. Drops comments
-only with --drop-comments.
+    "Formats each pattern, and keeps how it is written, with its comments. What changes nothing goes:
+groups without a number that the tree does not need, empty comments, and settings of flags.
+{0,1}, {0,} and {1,} become ?, * and +, and {2,2} becomes {2}. Of ignored whitespace within a line
+one space is left. docs/format.md has the rules.
 
 The text that is written for a pattern parses, under the same flags, to the same tree with the
-same groups and names. Each line ends as it did.
+same groups, names and comments; with --canonical, a pattern that has a comment is written
+unchanged, unless --drop-comments is given. Each line ends as it did.
 
-A pattern that is invalid, or that has a comment, is written unchanged; standard error has the
-position and the reason.
+A pattern that is invalid, or that stays for a comment, is written unchanged; standard error has
+the position and the reason.
 
-The output must not be a file that is read: for patterns format FILE > FILE the shell empties the
-file before it is read.";
+Without --write the output must not be a file that is read: for patterns format FILE > FILE the
+shell empties the file before it is read. Texts of JSON and patterns in sources are not written to
+standard output: with --textmate, --keys and --records, use --write, --check or --diff.";
 
 fn flags_arg<'a>(alloc: Global) -> Arg<'a> {
     Arg::new(alloc, "flags")
@@ -421,18 +445,56 @@ fn picture_command<'a>(alloc: Global) -> Result<Command<'a>, AllocError> {
     with_pattern(alloc, command)
 }
 
-fn format_command<'a>(alloc: Global) -> Result<Command<'a>, AllocError> {
-    let is_check = Arg::new(alloc, "check")
+/// The options of `format` on what is written.
+fn with_outputs<'a>(alloc: Global, command: Command<'a>) -> Result<Command<'a>, AllocError> {
+    let write = Arg::new(alloc, "write")
+        .long("write")
+        .action(ArgAction::SetTrue)
+        .help(WRITE_HELP);
+    let check = Arg::new(alloc, "check")
         .long("check")
         .action(ArgAction::SetTrue)
-        .help(IS_CHECK_HELP);
+        .help(IS_CHECK_HELP)
+        .conflicts_with("write")?;
+    let diff = Arg::new(alloc, "diff")
+        .long("diff")
+        .action(ArgAction::SetTrue)
+        .help(FORMAT_DIFF_HELP)
+        .conflicts_with("write")?
+        .conflicts_with("check")?;
+    command.arg(write)?.arg(check)?.arg(diff)
+}
+
+/// The options of `format` on patterns that are laid out over several lines.
+fn with_lines<'a>(alloc: Global, command: Command<'a>) -> Result<Command<'a>, AllocError> {
+    let verbose = Arg::new(alloc, "verbose")
+        .long("verbose")
+        .action(ArgAction::SetTrue)
+        .help(LINES_HELP)
+        .conflicts_with("canonical")?
+        .conflicts_with("records")?;
+    let width = Arg::new(alloc, "width")
+        .long("width")
+        .value_name("CHARACTERS")
+        .value_parser(ValueParser::unsigned(1, u32::MAX as u64))
+        .help(LINE_WIDTH_HELP)
+        .requires_arg("verbose")?;
+    command.arg(verbose)?.arg(width)
+}
+
+fn format_command<'a>(alloc: Global) -> Result<Command<'a>, AllocError> {
+    let canonical = Arg::new(alloc, "canonical")
+        .long("canonical")
+        .action(ArgAction::SetTrue)
+        .help(CANONICAL_HELP);
     let drop_comments = Arg::new(alloc, "drop-comments")
         .long("drop-comments")
         .action(ArgAction::SetTrue)
-        .help("Writes patterns that have comments too, without the comments");
-    over_files(alloc, "format", FORMAT, FORMAT_EXAMPLE)?
-        .long_about(FORMAT_MORE)
-        .arg(is_check)?
+        .help(DROP_COMMENTS_HELP)
+        .requires_arg("canonical")?;
+    let command = with_values(alloc, over_files(alloc, "format", FORMAT, FORMAT_EXAMPLE)?)?;
+    with_lines(alloc, with_outputs(alloc, command.long_about(FORMAT_MORE))?)?
+        .arg(canonical)?
         .arg(drop_comments)
 }
 
@@ -533,12 +595,38 @@ pub(crate) fn paints_chosen(matches: &ArgMatches<'_>, auto: Paints) -> Paints {
     }
 }
 
-/// What the arguments choose to become of comments.
-fn comments_chosen(matches: &ArgMatches<'_>) -> Comments {
-    if matches.get_flag("drop-comments") {
+/// How many characters a line of a pattern may have that is laid out, where the arguments leave it open.
+const LINE_WIDTH: usize = 80;
+
+/// The style that the arguments choose for patterns that are formatted.
+fn style_chosen(matches: &ArgMatches<'_>) -> Style {
+    if !matches.get_flag("verbose") {
+        return Style::Kept;
+    }
+    Style::Verbose {
+        width: matches.get_one("width").unwrap_or(LINE_WIDTH),
+    }
+}
+
+/// The form that the arguments choose for patterns that are formatted.
+fn pattern_form_chosen(matches: &ArgMatches<'_>) -> PatternForm {
+    if !matches.get_flag("canonical") {
+        return PatternForm::Written(style_chosen(matches));
+    }
+    PatternForm::Canonical(if matches.get_flag("drop-comments") {
         Comments::Drop
     } else {
         Comments::Keep
+    })
+}
+
+/// What `format` does, as the arguments choose. Patterns that it writes to files have their form then.
+fn format_verb_chosen(matches: &ArgMatches<'_>) -> Verb {
+    let form = pattern_form_chosen(matches);
+    if matches.get_flag("check") || matches.get_flag("write") || matches.get_flag("diff") {
+        Verb::IsFormatted(form)
+    } else {
+        Verb::Format(form)
     }
 }
 
@@ -572,8 +660,7 @@ pub(crate) fn verb_chosen(name: &str, matches: &ArgMatches<'_>) -> Option<Verb> 
             ReportFormat::Json => Verb::Json(Report::Check),
             ReportFormat::Annotations(format) => Verb::Annotate(format),
         }),
-        "format" if matches.get_flag("check") => Some(Verb::IsFormatted(comments_chosen(matches))),
-        "format" => Some(Verb::Format(comments_chosen(matches))),
+        "format" => Some(format_verb_chosen(matches)),
         "groups" if matches.get_flag("json") => Some(Verb::Json(Report::Groups)),
         "groups" => Some(Verb::Groups {
             has_classes: matches.get_flag("classes"),
@@ -608,9 +695,10 @@ pub(crate) fn form_chosen<'m>(matches: &'m ArgMatches<'_>) -> FileFormat<'m> {
     })
 }
 
-/// Whether the arguments choose that reports are fixed. `has_output` says that patterns are read that are in no file.
+/// Whether the arguments choose that reports are fixed, or patterns formatted in their files. `has_output` says that patterns
+/// are read that are in no file.
 pub(crate) fn fixing_chosen(matches: &ArgMatches<'_>, has_output: bool) -> Option<FixMode> {
-    if matches.get_flag("fix") {
+    if matches.get_flag("fix") || matches.get_flag("write") {
         Some(FixMode::Write { has_output })
     } else if matches.get_flag("diff") {
         Some(FixMode::Show)
@@ -660,9 +748,9 @@ pub(crate) fn max_warnings_chosen(matches: &ArgMatches<'_>) -> Option<u64> {
 /// How the arguments choose a tree to be drawn.
 pub(crate) fn look_chosen(matches: &ArgMatches<'_>) -> Look {
     let style = if matches.get_flag("ascii") {
-        Style::Ascii
+        LineStyle::Ascii
     } else {
-        Style::Lines
+        LineStyle::Lines
     };
     Look {
         style,

@@ -1,7 +1,7 @@
 //! The configuration that a file `patterns.toml` has.
 use crate::config_error::{ConfigError, Problem, Refusal, TableError};
 use crate::glob::{Glob, PathNames};
-use crate::settings::{Known, Settings};
+use crate::settings::Settings;
 use crate::tables::{check_keys, tables_at, texts_at};
 use std::alloc::{AllocError, Global};
 use toml::{Table, table_from_str};
@@ -54,10 +54,10 @@ impl Override {
         alloc: Global,
         table: &Table,
         number: usize,
-        known: Known<'_>,
+        rules: &[&str],
     ) -> Result<Override, TableError> {
         check_keys(alloc, table, &OVERRIDE_KEYS)?;
-        let settings = Settings::read(alloc, table, known)?;
+        let settings = Settings::read(alloc, table, rules)?;
         let Some(files) = globs_at(alloc, table)? else {
             return Err(TableError::Refused(Problem::MissingFiles(number)));
         };
@@ -83,13 +83,13 @@ fn globs_at(alloc: Global, table: &Table) -> Result<Option<Vec<Glob>>, TableErro
 }
 
 /// The configuration that a table has.
-fn config_of(alloc: Global, table: &Table, known: Known<'_>) -> Result<Config, TableError> {
+fn config_of(alloc: Global, table: &Table, rules: &[&str]) -> Result<Config, TableError> {
     check_keys(alloc, table, &KEYS)?;
-    let settings = Settings::read(alloc, table, known)?;
+    let settings = Settings::read(alloc, table, rules)?;
     let files = globs_at(alloc, table)?;
     let mut overrides = Vec::new(alloc);
     for (number, inner) in tables_at(alloc, table, "overrides")?.iter().enumerate() {
-        overrides.push(Override::read(alloc, inner, number, known)?)?;
+        overrides.push(Override::read(alloc, inner, number, rules)?)?;
     }
     Ok(Config {
         settings,
@@ -109,12 +109,8 @@ enum Beginning {
 }
 
 /// The problem of a table, if it has one.
-fn problem_of(
-    alloc: Global,
-    table: &Table,
-    known: Known<'_>,
-) -> Result<Option<Problem>, AllocError> {
-    let Err(error) = config_of(alloc, table, known) else {
+fn problem_of(alloc: Global, table: &Table, rules: &[&str]) -> Result<Option<Problem>, AllocError> {
+    let Err(error) = config_of(alloc, table, rules) else {
         return Ok(None);
     };
     match error {
@@ -127,7 +123,7 @@ fn problem_of(
 fn beginning_of(
     alloc: Global,
     text: &str,
-    known: Known<'_>,
+    rules: &[&str],
     problem: &Problem,
 ) -> Result<Beginning, AllocError> {
     let table = match table_from_str(alloc, text) {
@@ -140,7 +136,7 @@ fn beginning_of(
             };
         }
     };
-    if problem_of(alloc, &table, known)?.as_ref() == Some(problem) {
+    if problem_of(alloc, &table, rules)?.as_ref() == Some(problem) {
         return Ok(Beginning::HasProblem);
     }
     Ok(Beginning::Complete)
@@ -151,7 +147,7 @@ fn beginning_of(
 fn line_of(
     alloc: Global,
     text: &str,
-    known: Known<'_>,
+    rules: &[&str],
     problem: &Problem,
 ) -> Result<usize, AllocError> {
     let mut begins = 1usize;
@@ -160,7 +156,7 @@ fn line_of(
     for line in text.split_inclusive('\n') {
         number = number.saturating_add(1);
         end = end.saturating_add(line.len());
-        match beginning_of(alloc, text.get(..end).unwrap_or(text), known, problem)? {
+        match beginning_of(alloc, text.get(..end).unwrap_or(text), rules, problem)? {
             Beginning::Incomplete => {}
             Beginning::Complete => begins = number,
             Beginning::HasProblem => break,
@@ -201,10 +197,10 @@ fn refused_text(text: &str, error: toml::de::Error) -> ConfigError {
 fn refused_table(
     alloc: Global,
     text: &str,
-    known: Known<'_>,
+    rules: &[&str],
     problem: Problem,
 ) -> Result<Config, ConfigError> {
-    let line = line_of(alloc, text, known, &problem)?;
+    let line = line_of(alloc, text, rules, &problem)?;
     Err(ConfigError::Refused(Refusal {
         line,
         column: None,
@@ -215,19 +211,19 @@ fn refused_table(
 impl Config {
     /// Reads the text of a configuration. It is refused if it is not TOML of version 1.1; if a table has a key that no
     /// setting has, or a value of another type than the setting; if a rule or a letter of the flags is unknown; and if an
-    /// override has no files.
-    pub fn read(alloc: Global, text: &str, known: Known<'_>) -> Result<Config, ConfigError> {
+    /// override has no files. `rules` are the names of all rules.
+    pub fn read(alloc: Global, text: &str, rules: &[&str]) -> Result<Config, ConfigError> {
         let table = match table_from_str(alloc, text) {
             Ok(table) => table,
             Err(error) => return Err(refused_text(text, error)),
         };
-        let error = match config_of(alloc, &table, known) {
+        let error = match config_of(alloc, &table, rules) {
             Ok(config) => return Ok(config),
             Err(error) => error,
         };
         match error {
             TableError::Memory(error) => Err(ConfigError::Memory(error)),
-            TableError::Refused(problem) => refused_table(alloc, text, known, problem),
+            TableError::Refused(problem) => refused_table(alloc, text, rules, problem),
         }
     }
 }

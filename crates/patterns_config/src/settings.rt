@@ -1,17 +1,9 @@
 //! What a configuration says of files.
 use crate::config_error::{Problem, TableError};
 use crate::tables::{flag_at, text_at, texts_at};
+use fancy_lex::flags::Flag;
 use std::alloc::Global;
 use toml::Table;
-
-/// The names that a configuration may have.
-#[derive(Clone, Copy)]
-pub struct Known<'a> {
-    /// Those of the rules.
-    pub rules: &'a [&'a str],
-    /// The letters of the flags.
-    pub letters: &'a str,
-}
 
 /// What is said of some files. What is `None` or empty is left as it is without.
 #[derive(Debug, Drop)]
@@ -29,25 +21,17 @@ pub struct Settings {
 }
 
 /// Whether the word names flags: `-` for none, or letters.
-fn is_flags(word: &str, letters: &str) -> bool {
-    if word == "-" {
-        return true;
-    }
-    for c in word.chars() {
-        if !letters.contains(c) {
-            return false;
-        }
-    }
-    !word.is_empty()
+fn is_flags(word: &str) -> bool {
+    word == "-" || !word.is_empty() && word.chars().all(|c| Flag::from_letter(c).is_some())
 }
 
 /// The flags of a table, as letters.
-fn flags_of(alloc: Global, table: &Table, known: Known<'_>) -> Result<Option<String>, TableError> {
+fn flags_of(alloc: Global, table: &Table) -> Result<Option<String>, TableError> {
     let Some(text) = text_at(table, "flags")? else {
         return Ok(None);
     };
     let word = String::from_str(alloc, text)?;
-    if is_flags(text, known.letters) {
+    if is_flags(text) {
         Ok(Some(word))
     } else {
         Err(TableError::Refused(Problem::UnknownFlags(word)))
@@ -55,8 +39,8 @@ fn flags_of(alloc: Global, table: &Table, known: Known<'_>) -> Result<Option<Str
 }
 
 /// Whether the rule is known.
-fn is_rule(name: &str, known: Known<'_>) -> bool {
-    known.rules.iter().any(|rule| *rule == name)
+fn is_rule(name: &str, rules: &[&str]) -> bool {
+    rules.iter().any(|rule| *rule == name)
 }
 
 /// The rules of a list; none if there is no list at the key.
@@ -64,13 +48,13 @@ fn rules_of(
     alloc: Global,
     table: &Table,
     key: &'static str,
-    known: Known<'_>,
+    rules: &[&str],
 ) -> Result<Vec<String>, TableError> {
     let Some(names) = texts_at(alloc, table, key)? else {
         return Ok(Vec::new(alloc));
     };
     for name in &names {
-        if !is_rule(name.as_str(), known) {
+        if !is_rule(name.as_str(), rules) {
             let name = String::from_str(alloc, name.as_str())?;
             return Err(TableError::Refused(Problem::UnknownRule(name)));
         }
@@ -79,19 +63,19 @@ fn rules_of(
 }
 
 impl Settings {
-    /// Those of a table, whose other keys are not looked at.
+    /// Those of a table, whose other keys are not looked at. `rules` are the names of all rules.
     pub(crate) fn read(
         alloc: Global,
         table: &Table,
-        known: Known<'_>,
+        rules: &[&str],
     ) -> Result<Settings, TableError> {
         Ok(Settings {
-            flags: flags_of(alloc, table, known)?,
+            flags: flags_of(alloc, table)?,
             textmate: flag_at(table, "textmate")?,
             keys: texts_at(alloc, table, "keys")?,
-            allow: rules_of(alloc, table, "allow", known)?,
-            warn: rules_of(alloc, table, "warn", known)?,
-            deny: rules_of(alloc, table, "deny", known)?,
+            allow: rules_of(alloc, table, "allow", rules)?,
+            warn: rules_of(alloc, table, "warn", rules)?,
+            deny: rules_of(alloc, table, "deny", rules)?,
         })
     }
 }

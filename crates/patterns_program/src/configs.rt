@@ -6,7 +6,6 @@ use crate::values::refusal::write_not_text;
 use patterns_config::config::{CONFIG_NAME, Config};
 use patterns_config::config_error::ConfigError;
 use patterns_config::glob::PathNames;
-use patterns_config::settings::Known;
 use patterns_text::error::RunError;
 use patterns_text::shown::Shown;
 use std::alloc::{AllocError, Global};
@@ -14,9 +13,6 @@ use std::collections::BTreeMap;
 use std::io::{ErrorKind, Read, Write};
 use std::path::Path;
 use std::{io, str};
-
-/// The letters of the flags.
-const LETTERS: &str = "imsUxuRon";
 
 /// The name of the current folder.
 pub(crate) const HERE: &str = ".";
@@ -163,11 +159,7 @@ impl<'a, S: System, E: Write> ConfigFinder<'a, S, E> {
     /// Adds the configuration that a text is, whose globs are relative to the folder.
     fn add(&mut self, file: &str, folder: &str, text: &str) -> Result<FolderConfig, RunError> {
         let rules = rule_names(self.alloc)?;
-        let known = Known {
-            rules: &rules,
-            letters: LETTERS,
-        };
-        let config = match Config::read(self.alloc, text, known) {
+        let config = match Config::read(self.alloc, text, &rules) {
             Ok(config) => config,
             Err(ConfigError::Memory(error)) => return Err(RunError::Memory(error)),
             Err(ConfigError::Refused(refusal)) => {

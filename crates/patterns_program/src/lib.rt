@@ -11,6 +11,7 @@ pub mod file_pattern;
 mod first_comment;
 pub mod fixes;
 pub mod form;
+pub mod formatted;
 mod groups;
 pub mod lines;
 mod lint;

@@ -313,7 +313,7 @@ impl Plan {
     ) -> Result<Plan, RunError> {
         let mut planner = Planner {
             alloc,
-            has_no_json: job.formats_lines(),
+            has_no_json: job.writes_lines(),
             finder: ConfigFinder::new(alloc, sources, err),
             files: Vec::new(alloc),
             has_match: false,

@@ -1,6 +1,6 @@
-//! The subcommand `format`: each pattern as the text of its tree.
+//! The subcommand `format --canonical`: each pattern as the text of its tree.
 ghost use Rattle.std.specs.Bool.{OnTrue};
-ghost use Rattle.std.specs.Prelude.{◌≡◌, ◌⊎◌, chars, string_bytes, Ok, IfOk, IfSome, IfNone};
+ghost use Rattle.std.specs.Prelude.{◌≡◌, ◌⊎◌, chars, string_bytes, Ok, IfOk, IfSome, IfNone, OnSome};
 ghost use Rattle.fancy_lex.specs.Flags.{flags_of};
 ghost use Rattle.fancy_syntax.specs.InfoViews.{IsTreeOf, info_of};
 ghost use Rattle.fancy_syntax.specs.View.{view};
@@ -81,9 +81,26 @@ fn text_of(
 }
 
 /// Writes the text, and what it ends with.
-fn write_ended<O: Write>(out: &mut O, text: &str, end: &[u8]) -> io::Result<()> {
+pub(crate) fn write_ended<O: Write>(out: &mut O, text: &str, end: &[u8]) -> io::Result<()> {
     out.write_all(text.as_bytes())?;
     out.write_all(end)
+}
+
+/// The position of the first comment of the pattern, if comments are to be kept.
+fn kept_comment(
+    subject: Subject<'_>,
+    parsed: &SpannedTree,
+    comments: Comments,
+) -> Result<Option<usize>, RunError>
+    ensures { IfOk result (λ kept. OnSome kept (MayKeep comments subject.entry.pattern.now)) }
+{
+    if comments == Comments::Drop || !subject.pattern.as_bytes().contains(&b'#') {
+        return Ok(None);
+    }
+    let Some(position) = first_comment(subject, parsed)? else {
+        return Ok(None);
+    };
+    Ok(Some(position))
 }
 
 /// Whether the pattern has a comment that is to be kept. The position is reported on `err` then.
@@ -95,14 +112,26 @@ fn keeps_comment<E: Write>(
 ) -> Result<bool, RunError>
     ensures { IfOk result (λ keeps. OnTrue keeps (MayKeep comments subject.entry.pattern.now)) }
 {
-    if comments == Comments::Drop || !subject.pattern.as_bytes().contains(&b'#') {
-        return Ok(false);
-    }
-    let Some(position) = first_comment(subject, parsed)? else {
+    let Some(position) = kept_comment(subject, parsed, comments)? else {
         return Ok(false);
     };
     write_refusal(err, subject.at, subject.pattern, position, LOST, None)?;
     Ok(true)
+}
+
+/// The text of the pattern's tree, for the pattern's line; none if the pattern stays as it is: it is invalid, its comments
+/// are kept, or the text would break the line.
+pub(crate) fn canonical_text(
+    subject: Subject<'_>,
+    comments: Comments,
+) -> Result<Option<String>, RunError> {
+    let Ok(parsed) = subject.parse()? else {
+        return Ok(None);
+    };
+    if kept_comment(subject, &parsed, comments)?.is_some() {
+        return Ok(None);
+    }
+    text_of(subject.alloc, subject.flags, subject.pattern, &parsed.tree)
 }
 
 /// Writes the text of the pattern's tree, and the end of the pattern's line or record. A pattern that is invalid, or whose

@@ -10,13 +10,14 @@ use crate::check::check;
 use crate::choices::Choices;
 use crate::fixes::FixMode;
 use crate::form::FileFormat;
+use crate::formatted::{PatternForm, stays_formatted, write_formatted};
 use crate::groups::list_groups;
 use crate::lines::{BOM, LineRecord, Start, lines_in, next_record};
 use crate::lint::lint;
 use crate::objects::{Json, Report};
 use crate::outcome::Outcome;
 use crate::plan::{Plan, PlannedFile};
-use crate::printing::{Comments, format_pattern, is_formatted};
+use crate::printing::{format_pattern, is_formatted};
 use crate::progress::{STEP, Screen};
 use crate::settings::{flags_with, keys_with, levels_with};
 use crate::source_positions::SourcePositions;
@@ -44,18 +45,18 @@ use std::{io, str};
 /// The file name that stands for standard input.
 pub const STANDARD_INPUT: &str = "-";
 
-/// Why `format` does not read a file that a configuration says is JSON.
-const NO_VALUES: &str = "patterns.toml says that it is JSON, which format does not write";
+/// Why `format` does not read a file that a configuration says is JSON, if it is to write patterns to standard output.
+const NO_VALUES: &str = "patterns.toml says that it is JSON, which format writes only with --write";
 
 /// What is done with each pattern.
 #[derive(Clone, Copy)]
 pub enum Verb {
     /// Check it; if it is invalid, the position and the reason are written to the output.
     Check,
-    /// Write it in one form.
-    Format(Comments),
+    /// Write it in this form.
+    Format(PatternForm),
     /// Check whether `Format` would write it unchanged.
-    IsFormatted(Comments),
+    IsFormatted(PatternForm),
     /// List its groups, and what its references and calls refer to; and its classes, if so.
     Groups { has_classes: bool },
     /// Report likely mistakes in it.
@@ -77,7 +78,7 @@ pub struct Job<'a> {
     pub verb: Verb,
     pub flags: u32,
     pub form: FileFormat<'a>,
-    /// Whether reports of `lint` are fixed.
+    /// Whether reports of `lint` are fixed, or patterns are formatted in their files.
     pub fixing: Option<FixMode>,
     /// Patterns that are arguments. They come before those of the files.
     pub patterns: &'a [&'a str],
@@ -154,20 +155,6 @@ impl Verb {
         }
     }
 
-    /// Whether patterns are formatted, or would be.
-    fn is_format(self) -> bool {
-        match self {
-            Verb::Format(_) | Verb::IsFormatted(_) => true,
-            Verb::Check
-            | Verb::Groups { .. }
-            | Verb::Lint(_)
-            | Verb::Json(_)
-            | Verb::LintJson(_)
-            | Verb::Annotate(_)
-            | Verb::LintAnnotate(..) => false,
-        }
-    }
-
     /// The format of reports for another tool.
     fn annotations(self) -> Option<AnnotationFormat> {
         match self {
@@ -197,9 +184,9 @@ impl Job<'_> {
         self.verb.is_lint() && keys.has_textmate
     }
 
-    /// Whether it formats lines unless a configuration says that files are JSON, which nothing formats.
-    pub(crate) fn formats_lines(self) -> bool {
-        self.verb.is_format() && !self.choices.has_form
+    /// Whether it writes lines that are formatted, so that it cannot read a file that a configuration says is JSON.
+    pub(crate) fn writes_lines(self) -> bool {
+        self.verb.writes_patterns() && !self.choices.has_form
     }
 }
 
@@ -264,11 +251,19 @@ fn process<O: Write, E: Write>(
     } = entry;
     match verb {
         Verb::Check => check(subject, &mut Text::of(out, err, errors, source)),
-        Verb::Format(kept) => {
-            format_pattern(subject, end, kept, &mut Text::new(out, err, errors))
+        Verb::Format(form) => {
+            let mut text = Text::of(out, err, errors, source);
+            match form {
+                PatternForm::Written(style) => write_formatted(subject, style, end, &mut text),
+                PatternForm::Canonical(kept) => format_pattern(subject, end, kept, &mut text),
+            }
         }
-        Verb::IsFormatted(kept) => {
-            is_formatted(subject, kept, &mut Text::new(out, err, errors), tally)
+        Verb::IsFormatted(form) => {
+            let mut text = Text::of(out, err, errors, source);
+            match form {
+                PatternForm::Written(style) => stays_formatted(subject, style, &mut text, tally),
+                PatternForm::Canonical(kept) => is_formatted(subject, kept, &mut text, tally),
+            }
         }
         Verb::Groups { has_classes } => {
             let mut text = Text::of(out, err, errors, source);
@@ -618,7 +613,7 @@ impl<'a, S: System, O: Write, E: Write> FileRun<'a, '_, S, O, E> {
     fn process_planned(&mut self, file: &PlannedFile) -> Result<Outcome, RunError> {
         self.begin(self.base, file)?;
         let name = file.name.as_str();
-        if self.job.formats_lines() && self.configured.is_some() {
+        if self.job.writes_lines() && self.configured.is_some() {
             writeln!(self.screen.err, "patterns: {}: {NO_VALUES}", Shown(name))?;
             return Ok(Outcome::Unread);
         }

@@ -1,4 +1,5 @@
 //! Where the characters of a pattern are in the source that it was extracted from.
+use crate::fixes::spelling::CharacterChange;
 use patterns_text::position::{FilePosition, Location, Spot};
 use patterns_text::subject::Subject;
 use report_formats::annotation::FilePoint;
@@ -33,14 +34,18 @@ impl SourcePositions {
         }
     }
 
-    /// Those of the characters of a pattern that are kept, one of `kept` for each, and of its end.
-    pub(crate) fn kept(&self, alloc: Global, kept: &[bool]) -> Result<SourcePositions, AllocError> {
+    /// Those of the characters that a pattern has after the changes of each of its characters, and of its end.
+    pub(crate) fn changed(
+        &self,
+        alloc: Global,
+        changes: &[CharacterChange],
+    ) -> Result<SourcePositions, AllocError> {
         Ok(SourcePositions {
             line: self.line,
             column: self.column,
             has_column: self.has_column,
-            columns: kept_numbers(alloc, &self.columns, kept)?,
-            lines: kept_numbers(alloc, &self.lines, kept)?,
+            columns: changed_numbers(alloc, &self.columns, changes)?,
+            lines: changed_numbers(alloc, &self.lines, changes)?,
         })
     }
 
@@ -96,11 +101,20 @@ impl SourcePositions {
     }
 }
 
-/// The numbers of the characters that are kept, and the last number, which is that of the end.
-fn kept_numbers(alloc: Global, numbers: &[u64], kept: &[bool]) -> Result<Vec<u64>, AllocError> {
+/// The numbers of the characters after the changes, and the last number, which is that of the end. A character that is added
+/// has the number of the one after it.
+fn changed_numbers(
+    alloc: Global,
+    numbers: &[u64],
+    changes: &[CharacterChange],
+) -> Result<Vec<u64>, AllocError> {
     let mut left = Vec::new(alloc);
     for (index, number) in numbers.iter().enumerate() {
-        if kept.get(index).copied().unwrap_or(true) {
+        let change = changes.get(index);
+        if change.is_some_and(|change| change.added.is_some()) {
+            left.push(*number)?;
+        }
+        if change.is_none_or(|change| change.is_kept) {
             left.push(*number)?;
         }
     }

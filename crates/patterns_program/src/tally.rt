@@ -14,8 +14,10 @@ pub(crate) struct Tally {
     failed: u64,
     /// Those among them that are accepted, and would be written otherwise.
     pub(crate) changed: u64,
-    /// Those whose reports are fixed, and those for which that is only shown. They count as what they have become.
+    /// Those whose reports are fixed, those that are formatted, and those for which either is only shown. They count as what
+    /// they have become.
     pub(crate) fixed: u64,
+    pub(crate) formatted: u64,
     pub(crate) fixable: u64,
     /// Those that are not as the verb asks, are accepted, and in which a denied rule reports.
     pub(crate) denied: u64,
@@ -33,6 +35,7 @@ impl Tally {
             failed: 0,
             changed: 0,
             fixed: 0,
+            formatted: 0,
             fixable: 0,
             denied: 0,
             errors: 0,
@@ -116,6 +119,9 @@ impl fmt::Display for Tally {
         write!(f, "{patterns}, {} refused", Thousands(self.refused()))?;
         if self.fixed > 0 {
             write!(f, ", {} fixed", Thousands(self.fixed))?;
+        }
+        if self.formatted > 0 {
+            write!(f, ", {} formatted", Thousands(self.formatted))?;
         }
         let changed = self.changed.saturating_add(self.fixable);
         if changed > 0 {

@@ -1,4 +1,5 @@
-//! Patterns that are fixed in the sources that they were extracted from.
+//! Patterns that are fixed or formatted in the sources that they were extracted from.
+use crate::fixes::spelling::CharacterChange;
 use std::alloc::{AllocError, Global};
 use std::str;
 
@@ -9,7 +10,7 @@ struct SourceCharacter {
     start: usize,
     end: usize,
     character: char,
-    is_kept: bool,
+    change: CharacterChange,
 }
 
 impl SourceCharacter {
@@ -38,8 +39,8 @@ pub(crate) struct SourceFix {
     pub(crate) line: u64,
     /// The pattern as it becomes.
     pub(crate) text: String,
-    /// For each character of the pattern as it was whether it is one of the text.
-    pub(crate) kept: Vec<bool>,
+    /// What becomes of each character of the pattern as it was.
+    pub(crate) changes: Vec<CharacterChange>,
     characters: Vec<SourceCharacter>,
     /// Whether the source has it.
     pub(crate) is_made: bool,
@@ -55,10 +56,10 @@ impl SourceFix {
         pattern: &str,
         offsets: &[u64],
         text: String,
-        kept: Vec<bool>,
+        changes: Vec<CharacterChange>,
     ) -> Result<SourceFix, AllocError> {
-        let mut characters = Vec::with_capacity(alloc, kept.len())?;
-        for (index, (character, is_kept)) in pattern.chars().zip(&kept).enumerate() {
+        let mut characters = Vec::with_capacity(alloc, changes.len())?;
+        for (index, (character, change)) in pattern.chars().zip(&changes).enumerate() {
             let next = index.saturating_add(1);
             let (Some(start), Some(end)) = (offsets.get(index), offsets.get(next)) else {
                 break;
@@ -67,14 +68,14 @@ impl SourceFix {
                 start: *start as usize,
                 end: *end as usize,
                 character,
-                is_kept: *is_kept,
+                change: *change,
             })?;
         }
         Ok(SourceFix {
             file: String::from_str(alloc, file)?,
             line,
             text,
-            kept,
+            changes,
             characters,
             is_made: false,
         })
@@ -106,10 +107,15 @@ pub(crate) fn fixed_source(
             return Ok(None);
         }
         end = one.end;
-        if !one.is_kept {
-            fixed.extend_from_slice(source.get(done..one.start).unwrap_or(b""))?;
-            done = one.end;
+        fixed.extend_from_slice(source.get(done..one.start).unwrap_or(b""))?;
+        if let Some(byte) = one.change.added {
+            fixed.push(byte)?;
         }
+        done = if one.change.is_kept {
+            one.start
+        } else {
+            one.end
+        };
     }
     fixed.extend_from_slice(source.get(done..).unwrap_or(b""))?;
     Ok(Some(fixed))

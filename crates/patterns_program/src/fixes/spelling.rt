@@ -1,12 +1,16 @@
-//! What a pattern that is fixed is written as in its file.
+//! What a pattern that is fixed or formatted is written as in its file.
 use crate::lines::BOM;
 use crate::printing::breaks_line;
 use std::alloc::{AllocError, Global};
 
+/// Whether the text begins with a byte order mark, and the pattern does not.
+pub(crate) fn begins_with_bom(text: &str, pattern: &str) -> bool {
+    text.as_bytes().starts_with(BOM) && !pattern.as_bytes().starts_with(BOM)
+}
+
 /// Whether the text is one record in the place of the pattern, which is one.
 pub(crate) fn is_record(text: &str, pattern: &str) -> bool {
-    let begins_with_bom = text.as_bytes().starts_with(BOM) && !pattern.as_bytes().starts_with(BOM);
-    !begins_with_bom && !breaks_line(text, pattern)
+    !begins_with_bom(text, pattern) && !breaks_line(text, pattern)
 }
 
 /// What is between the quotes of the string of JSON that begins with the quote at the offset.
@@ -33,47 +37,191 @@ fn spelled_len(contents: &str, c: char) -> usize {
     }
 }
 
-/// For each character of the pattern whether it is one of the text. None if the text has others, or in another order.
-pub(crate) fn kept_characters(
+/// Whether a text that goes on with the character has it instead of what the rest of the pattern begins with: an
+/// operator for counts, or a space for another blank.
+fn is_new(rest: &str, c: char) -> bool {
+    match c {
+        '?' | '*' | '+' => rest.starts_with('{'),
+        ' ' => rest.starts_with(|first: char| matches!(first, '\t' | '\n' | '\r')),
+        _ => false,
+    }
+}
+
+/// How many bytes of a pattern are searched for a character that its text goes on with.
+const MAX_SKIPPED: usize = 1 << 12;
+
+/// How many bytes of the rest of the pattern are before the character that its text goes on with; none if that is new. A
+/// blank is new if it is not the next one of the pattern.
+fn skipped(rest: &str, c: char) -> Option<usize> {
+    if is_new(rest, c) {
+        return None;
+    }
+    let near = rest.get(..rest.floor_char_boundary(MAX_SKIPPED))?;
+    let bytes = near.find(c)?;
+    let is_blank = matches!(c, ' ' | '\n');
+    if is_blank && near.get(..bytes)?.contains(|c: char| c.is_alphanumeric()) {
+        return None;
+    }
+    Some(bytes)
+}
+
+/// The byte of a character that a text may have and its pattern not, which every source spells as itself.
+fn plain(c: char) -> Option<u8> {
+    match c {
+        '?' => Some(b'?'),
+        '*' => Some(b'*'),
+        '+' => Some(b'+'),
+        ' ' => Some(b' '),
+        _ => None,
+    }
+}
+
+/// What becomes of a character of a pattern.
+#[derive(Debug, Clone, Copy, PartialEq, Eq)]
+pub(crate) struct CharacterChange {
+    pub(crate) is_kept: bool,
+    /// The byte that the text has before it, or instead of it.
+    pub(crate) added: Option<u8>,
+}
+
+/// The changes of the characters of a pattern up to those of its rest.
+#[derive(Drop)]
+struct Changes<'p> {
+    changes: Vec<CharacterChange>,
+    rest: &'p str,
+    /// The byte that the text has before the rest, and the pattern not.
+    added: Option<u8>,
+}
+
+impl Changes<'_> {
+    /// Passes over so many bytes of the rest, which go.
+    fn skip(&mut self, bytes: usize) -> Result<(), AllocError> {
+        let (gone, rest) = self.rest.split_at_checked(bytes).unwrap_or(("", self.rest));
+        for _ in gone.chars() {
+            let added = self.added;
+            self.added = None;
+            self.changes.push(CharacterChange {
+                is_kept: false,
+                added,
+            })?;
+        }
+        self.rest = rest;
+        Ok(())
+    }
+
+    /// Passes over the first character of the rest, which stays.
+    fn keep(&mut self) -> Result<(), AllocError> {
+        let mut left = self.rest.chars();
+        left.next();
+        self.rest = left.as_str();
+        let added = self.added;
+        self.added = None;
+        self.changes.push(CharacterChange {
+            is_kept: true,
+            added,
+        })?;
+        Ok(())
+    }
+
+    /// Goes on to the next character of the text. Returns false if the text has one there that cannot be added.
+    fn go_on(&mut self, c: char) -> Result<bool, AllocError> {
+        if let Some(bytes) = skipped(self.rest, c) {
+            self.skip(bytes)?;
+            self.keep()?;
+            return Ok(true);
+        }
+        let can_add = self.added.is_none() && !self.rest.is_empty();
+        self.added = plain(c);
+        Ok(can_add && self.added.is_some())
+    }
+}
+
+/// What becomes of each character of the pattern, which becomes the text. None if the text has characters that not every
+/// source spells as themselves, or several at one position.
+pub(crate) fn changes_of(
     alloc: Global,
     pattern: &str,
     text: &str,
-) -> Result<Option<Vec<bool>>, AllocError> {
-    let mut kept = Vec::with_capacity(alloc, pattern.len())?;
-    let mut left = text.chars();
-    let mut next = left.next();
-    for c in pattern.chars() {
-        let is_kept = next == Some(c);
-        kept.push(is_kept)?;
-        if is_kept {
-            next = left.next();
+) -> Result<Option<Vec<CharacterChange>>, AllocError> {
+    let mut found = Changes {
+        changes: Vec::with_capacity(alloc, pattern.len())?,
+        rest: pattern,
+        added: None,
+    };
+    for c in text.chars() {
+        if !found.go_on(c)? {
+            return Ok(None);
         }
     }
-    if next.is_some() {
-        return Ok(None);
-    }
-    Ok(Some(kept))
+    let rest = found.rest;
+    found.skip(rest.len())?;
+    Ok(Some(found.changes))
 }
 
-/// The text as the contents of a string of JSON. Each of its characters is spelled as in the contents of the pattern's
-/// string. None if it has others, or in another order.
+/// A part of a pattern, and what spells it in a string of JSON.
+#[derive(Clone, Copy)]
+struct SpelledPart<'a> {
+    pattern: &'a str,
+    contents: &'a str,
+}
+
+impl<'a> SpelledPart<'a> {
+    /// Passes over the first character, and returns its spelling.
+    fn pass(&mut self) -> &'a str {
+        let mut left = self.pattern.chars();
+        let Some(c) = left.next() else {
+            return "";
+        };
+        self.pattern = left.as_str();
+        let contents = self.contents;
+        let (spelling, rest) = contents
+            .split_at_checked(spelled_len(contents, c))
+            .unwrap_or((contents, ""));
+        self.contents = rest;
+        spelling
+    }
+
+    /// Passes over the characters up to the one that its text goes on with, and over that one, and returns its spelling.
+    /// None if it is new.
+    fn take(&mut self, c: char) -> Option<&'a str> {
+        let bytes = skipped(self.pattern, c)?;
+        let (gone, _) = self.pattern.split_at_checked(bytes)?;
+        for _ in gone.chars() {
+            self.pass();
+        }
+        Some(self.pass())
+    }
+}
+
+/// Writes a character of a string of JSON.
+fn push_spelled(alloc: Global, spelled: &mut String, c: char) -> Result<(), AllocError> {
+    match c {
+        '"' => spelled.push_str("\\\"")?,
+        '\\' => spelled.push_str("\\\\")?,
+        '\n' => spelled.push_str("\\n")?,
+        '\r' => spelled.push_str("\\r")?,
+        '\t' => spelled.push_str("\\t")?,
+        c if c < ' ' => spelled.push_str(format!(in alloc; "\\u{:04x}", c as u32)?.as_str())?,
+        c => spelled.push(c)?,
+    }
+    Ok(())
+}
+
+/// The text as the contents of a string of JSON. Each of its characters that the pattern has is spelled as in the contents of
+/// the pattern's string.
 pub(crate) fn respelled(
     alloc: Global,
     contents: &str,
     pattern: &str,
     text: &str,
-) -> Result<Option<String>, AllocError> {
-    let Some(kept) = kept_characters(alloc, pattern, text)? else {
-        return Ok(None);
-    };
+) -> Result<String, AllocError> {
     let mut spelled = String::with_capacity(alloc, contents.len())?;
-    let mut done = 0usize;
-    for (c, is_kept) in pattern.chars().zip(&kept) {
-        let start = done;
-        done = start.saturating_add(spelled_len(contents.get(start..).unwrap_or(""), c));
-        if *is_kept {
-            spelled.push_str(contents.get(start..done).unwrap_or(""))?;
+    let mut part = SpelledPart { pattern, contents };
+    for c in text.chars() {
+        match part.take(c) {
+            Some(spelling) => spelled.push_str(spelling)?,
+            None => push_spelled(alloc, &mut spelled, c)?,
         }
     }
-    Ok(Some(spelled))
+    Ok(spelled)
 }

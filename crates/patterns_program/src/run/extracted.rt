@@ -33,7 +33,7 @@ impl<S: System, O: Write, E: Write> FileRun<'_, '_, S, O, E> {
         record: &Record<'r>,
         fix: &'r SourceFix,
     ) -> Result<Outcome, RunError> {
-        let positions = record.positions.kept(self.alloc, &fix.kept)?;
+        let positions = record.positions.changed(self.alloc, &fix.changes)?;
         self.process_at(file, record, fix.text.as_str(), &positions)
     }
 

@@ -1,13 +1,15 @@
-//! Files whose patterns are fixed. A file is read whole and fixed; then the verb's work is done on what it has become.
+//! Files whose patterns are fixed or formatted. A file is read whole and fixed; then the verb's work is done on what it has
+//! become.
 use super::{FileRun, located, unread};
 use crate::fixes::FixMode;
 use crate::fixes::pattern::fixed_pattern;
 use crate::fixes::spelling::{is_record, respelled, string_contents};
 use crate::form::FileFormat;
+use crate::formatted::changed_pattern;
 use crate::lines::{BOM, Ending, lines_in, next_record};
 use crate::outcome::Outcome;
 use crate::printing::write_change;
-use crate::run::STANDARD_INPUT;
+use crate::run::{STANDARD_INPUT, Verb};
 use crate::sources::System;
 use crate::values::keys::Keys;
 use crate::values::trail::{Tokens, Trail};
@@ -29,7 +31,7 @@ struct FixedFile {
 }
 
 impl<S: System, O: Write, E: Write> FileRun<'_, '_, S, O, E> {
-    /// The pattern with its reports fixed; none if it stays as it is.
+    /// The pattern with its reports fixed, or formatted; none if it stays as it is.
     fn fixed(&mut self, pattern: &str, at: Location<'_>) -> Result<Option<String>, RunError> {
         self.fixed_subject(Subject {
             alloc: self.alloc,
@@ -44,6 +46,9 @@ impl<S: System, O: Write, E: Write> FileRun<'_, '_, S, O, E> {
         &mut self,
         subject: Subject<'_>,
     ) -> Result<Option<String>, RunError> {
+        if let Verb::IsFormatted(form) = self.job.verb {
+            return changed_pattern(subject, form);
+        }
         match self.job.verb.chosen() {
             Some(chosen) => fixed_pattern(subject, &chosen, &mut self.known),
             None => Ok(None),
@@ -66,10 +71,13 @@ impl<S: System, O: Write, E: Write> FileRun<'_, '_, S, O, E> {
 
     /// Counts patterns that are fixed, or would be.
     pub(super) fn count_fixed(&mut self, mode: FixMode, changed: u64) {
-        match mode {
-            FixMode::Write { .. } => self.tally.fixed = self.tally.fixed.saturating_add(changed),
-            FixMode::Show => self.tally.fixable = self.tally.fixable.saturating_add(changed),
-        }
+        let tally = &mut self.tally;
+        let counted = match (mode, self.job.verb) {
+            (FixMode::Show, _) => &mut tally.fixable,
+            (FixMode::Write { .. }, Verb::IsFormatted(_)) => &mut tally.formatted,
+            (FixMode::Write { .. }, _) => &mut tally.fixed,
+        };
+        *counted = counted.saturating_add(changed);
     }
 
     /// The pattern of a record with its reports fixed; none if it stays as it is.
@@ -81,7 +89,8 @@ impl<S: System, O: Write, E: Write> FileRun<'_, '_, S, O, E> {
         let Some(text) = self.fixed(pattern, at)? else {
             return Ok(None);
         };
-        if !is_record(text.as_str(), pattern) {
+        let is_format = matches!(self.job.verb, Verb::IsFormatted(_));
+        if !is_format && !is_record(text.as_str(), pattern) {
             return Ok(None);
         }
         self.show_fix(pattern, at, text.as_str())?;
@@ -164,10 +173,8 @@ impl<S: System, O: Write, E: Write> FileRun<'_, '_, S, O, E> {
         let Some(text) = self.fixed(pattern, at)? else {
             return Ok(None);
         };
-        let Some(new) = respelled(self.alloc, contents, pattern, text.as_str())? else {
-            return Ok(None);
-        };
         self.show_fix(pattern, at, text.as_str())?;
+        let new = respelled(self.alloc, contents, pattern, text.as_str())?;
         Ok(Some(new))
     }
 

@@ -2,7 +2,7 @@
 use super::{FileRun, located, unread};
 use crate::fixes::FixMode;
 use crate::fixes::source::{SourceFix, fixed_source};
-use crate::fixes::spelling::kept_characters;
+use crate::fixes::spelling::changes_of;
 use crate::lines::{BOM, Ending, next_record};
 use crate::outcome::Outcome;
 use crate::printing::write_change;
@@ -37,14 +37,14 @@ impl<S: System, O: Write, E: Write> FileRun<'_, '_, S, O, E> {
         let Some(text) = self.fixed_subject(subject)? else {
             return Ok(None);
         };
-        let Some(kept) = kept_characters(self.alloc, pattern, text.as_str())? else {
+        let Some(changes) = changes_of(self.alloc, pattern, text.as_str())? else {
             return Ok(None);
         };
         if self.job.fixing == Some(FixMode::Show) {
             write_change(&mut self.screen.out, subject, text.as_str())?;
         }
         let offsets = &record.offsets;
-        let fix = SourceFix::new(self.alloc, file, line, pattern, offsets, text, kept)?;
+        let fix = SourceFix::new(self.alloc, file, line, pattern, offsets, text, changes)?;
         Ok(Some(fix))
     }
 

@@ -1,0 +1,2 @@
+mod CommentLemmas
+mod ReadBackLemmas

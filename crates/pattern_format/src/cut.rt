@@ -1,0 +1,231 @@
+//! A pattern cut into its tokens.
+use crate::comments::is_empty;
+use crate::flag_groups::FlagGroups;
+use crate::nodes::{Node, nodes_of};
+use crate::token::{Token, TokenKind, is_blank};
+use fancy_lex::flags::Flags;
+use fancy_spans::SpannedTree;
+use fancy_syntax::trivium::{Trivium, TriviumKind};
+use std::alloc::{AllocError, Global};
+
+/// Whether a quantifier may begin with the character.
+fn is_quantifier_start(c: char) -> bool {
+    matches!(c, '*' | '+' | '?' | '{')
+}
+
+/// The text before the rest of it.
+fn before<'a>(text: &'a str, rest: &str) -> &'a str {
+    text.strip_suffix(rest).unwrap_or(text)
+}
+
+/// The first token of a text that has no leaf, and what it is. The opening of a group goes on to the end of the text.
+fn first_token(text: &str) -> (&str, TokenKind) {
+    if text.starts_with(is_blank) {
+        let rest = text.trim_start_matches(is_blank);
+        return (before(text, rest), TokenKind::Blank);
+    }
+    if text.starts_with(is_quantifier_start) {
+        let rest = text.trim_start_matches(|c: char| !matches!(c, '(' | ')' | '|'));
+        let quantifier = before(text, rest).trim_end_matches(is_blank);
+        return (quantifier, TokenKind::Quantifier);
+    }
+    let rest = text.trim_start_matches(|c: char| matches!(c, ')' | '|'));
+    if rest.len() < text.len() {
+        return (before(text, rest), TokenKind::Other);
+    }
+    (text.trim_end_matches(is_blank), TokenKind::Other)
+}
+
+/// What inline flags are, with the flags before and after.
+fn kind_of_flags(before: Flags, after: Flags) -> TokenKind {
+    if before == after {
+        TokenKind::Other
+    } else {
+        TokenKind::Flags { before, after }
+    }
+}
+
+/// The tokens of a pattern up to a position.
+#[derive(Drop)]
+struct Cutter<'p> {
+    pattern: &'p str,
+    position: usize,
+    tokens: Vec<Token<'p>>,
+    groups: FlagGroups,
+    /// The last token of a node that is not blank.
+    last: &'p str,
+}
+
+impl<'p> Cutter<'p> {
+    /// The text from the position on.
+    fn after(&self) -> &'p str {
+        self.pattern.get(self.position..).unwrap_or("")
+    }
+
+    /// The text up to the end, which is passed.
+    fn pass(&mut self, end: usize) -> &'p str {
+        let Some(text) = self.pattern.get(self.position..end) else {
+            return "";
+        };
+        self.position = end;
+        text
+    }
+
+    /// Adds a token of a node, unless its text is empty.
+    fn push(&mut self, text: &'p str, kind: TokenKind) -> Result<(), AllocError> {
+        if text.is_empty() {
+            return Ok(());
+        }
+        if !matches!(kind, TokenKind::Blank) {
+            self.last = text;
+        }
+        self.tokens.push(Token {
+            text,
+            kind,
+            is_needless: false,
+        })?;
+        Ok(())
+    }
+
+    /// Adds the tokens up to the end, where neither leaves nor trivia are. With a comment they stay one.
+    fn push_up_to(&mut self, end: usize) -> Result<(), AllocError> {
+        let mut rest = self.pass(end);
+        if rest.contains('#') {
+            return self.push(rest, TokenKind::Other);
+        }
+        for _ in 0..rest.len() {
+            let (token, kind) = first_token(rest);
+            self.push(token, kind)?;
+            rest = rest.get(token.len()..).unwrap_or("");
+        }
+        Ok(())
+    }
+
+    /// Adds the tokens up to the node, and its own if it is a leaf.
+    fn push_node(&mut self, node: Node) -> Result<(), AllocError> {
+        self.push_up_to(node.span.start)?;
+        if node.is_leaf {
+            let text = self.pass(node.span.end);
+            self.push(text, TokenKind::Leaf)?;
+        }
+        Ok(())
+    }
+
+    /// Adds the tokens up to the position, at which some of the nodes begin, and returns the others.
+    fn push_nodes<'a>(&mut self, nodes: &'a [Node], end: usize) -> Result<&'a [Node], AllocError> {
+        let mut passed = 0usize;
+        for node in nodes {
+            if node.span.start > end {
+                break;
+            }
+            self.push_node(*node)?;
+            passed = passed.saturating_add(1);
+        }
+        self.push_up_to(end)?;
+        Ok(nodes.get(passed..).unwrap_or(&[]))
+    }
+
+    /// Whether what was passed keeps the last token apart from the text after it, as in `\1(?#)2`, `((?:(?#c)a))` and
+    /// `(?((?:1))a)`.
+    fn separates(&self) -> bool {
+        let after = self.after();
+        let has_digits = self.last.starts_with('\\')
+            && self.last.ends_with(|c: char| c.is_ascii_digit())
+            && after.starts_with(|c: char| c.is_ascii_digit());
+        let next = after.trim_start_matches(is_blank);
+        let has_comment = next.starts_with('#')
+            || next.starts_with("(?#") && !next.starts_with("(?#)");
+        has_digits || self.last.ends_with("?(") || self.last.ends_with('(') && has_comment
+    }
+
+    /// Whether a comment or inline flags that were passed can be left out if they change nothing. Before a quantifier
+    /// they may be what is quantified.
+    fn can_go(&self) -> bool {
+        let next = self.after().trim_start_matches(is_blank);
+        !next.starts_with(is_quantifier_start) && !self.separates()
+    }
+
+    /// Adds inline flags to the groups around them, unless they can be left out. Returns whether they can.
+    fn add_flags(&mut self, text: &str, is_change: bool) -> bool {
+        let is_needless = !is_change && !text.contains('#') && self.can_go();
+        if !is_needless {
+            self.groups.fix_all();
+        }
+        is_needless
+    }
+
+    /// Closes a group, before these nodes. Returns whether it can be left out.
+    fn close(&mut self, nodes: &[Node]) -> bool {
+        let separates = self.separates();
+        let Some(index) = self.groups.close(nodes.len(), separates) else {
+            return false;
+        };
+        if let Some(opening) = self.tokens.get_mut(index) {
+            opening.is_needless = true;
+        }
+        true
+    }
+
+    /// Opens a group, before these nodes.
+    fn open(&mut self, text: &str, sets_flags: bool, nodes: &[Node]) -> Result<(), AllocError> {
+        let is_fixed = sets_flags || text.contains('#') || self.separates();
+        self.groups.open(self.tokens.len(), is_fixed, nodes)
+    }
+
+    /// Adds a trivium, before these nodes.
+    fn push_trivium(&mut self, trivium: Trivium, nodes: &[Node]) -> Result<(), AllocError> {
+        let text = self.pass(trivium.span.end);
+        let (kind, is_needless) = match trivium.kind {
+            TriviumKind::Comment => (TokenKind::Comment, is_empty(text) && self.can_go()),
+            TriviumKind::LineComment => (TokenKind::LineComment, false),
+            TriviumKind::InlineFlags { before, after } => {
+                let is_needless = self.add_flags(text, before != after);
+                (kind_of_flags(before, after), is_needless)
+            }
+            TriviumKind::Opening { around, inside } => {
+                self.open(text, around != inside, nodes)?;
+                let kind = TokenKind::Flags {
+                    before: around,
+                    after: inside,
+                };
+                (kind, false)
+            }
+            TriviumKind::Closing => (TokenKind::Other, self.close(nodes)),
+        };
+        self.tokens.push(Token {
+            text,
+            kind,
+            is_needless,
+        })?;
+        Ok(())
+    }
+
+    /// Adds the tokens of a tree with these nodes and trivia.
+    fn push_tree(&mut self, nodes: &[Node], trivia: &[Trivium]) -> Result<(), AllocError> {
+        let mut rest = nodes;
+        for trivium in trivia {
+            rest = self.push_nodes(rest, trivium.span.start)?;
+            self.push_trivium(*trivium, rest)?;
+        }
+        self.push_nodes(rest, self.pattern.len())?;
+        Ok(())
+    }
+}
+
+/// The tokens of a pattern, in the order of the text.
+pub(crate) fn tokens_of<'p>(
+    alloc: Global,
+    pattern: &'p str,
+    parsed: &SpannedTree,
+) -> Result<Vec<Token<'p>>, AllocError> {
+    let nodes = nodes_of(alloc, parsed)?;
+    let mut cutter = Cutter {
+        pattern,
+        position: 0,
+        tokens: Vec::new(alloc),
+        groups: FlagGroups::new(alloc),
+        last: "",
+    };
+    cutter.push_tree(&nodes, &parsed.trivia)?;
+    Ok(cutter.tokens)
+}

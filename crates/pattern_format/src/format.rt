@@ -1,0 +1,160 @@
+//! Patterns formatted, and read again.
+ghost use Rattle.std.specs.Prelude.{◌≡◌, chars, string_bytes, IfErr, IfOk, IfSome, IsTrue};
+ghost use Rattle.fancy_lex.specs.Flags.{flags_of};
+ghost use Rattle.fancy_grammar.specs.ParseResult.{IsOnlyError};
+ghost use Rattle.fancy_syntax.specs.InfoViews.{info_of};
+ghost use Rattle.fancy_syntax.specs.TriviaViews.{trivia_of};
+ghost use Rattle.fancy_syntax.specs.View.{view};
+ghost use Rattle.pattern_format.specs.Formatted.{IsFormatted, ReadsBack, comments};
+
+use crate::comments::has_same_comments;
+use crate::cut::tokens_of;
+use crate::extent::Extent;
+use crate::style::Style;
+use crate::verbose::laid_out;
+use crate::written::text_of;
+use fancy_lex::error::{Error, Result};
+use fancy_lex::flags::Flags;
+use fancy_pattern::same::is_same_result;
+use fancy_spans::SpannedTree;
+use std::alloc::{AllocError, Global};
+
+/// The text of a formatted pattern.
+#[derive(Debug, Drop)]
+pub struct Formatted {
+    /// The text.
+    pub text: String,
+    /// How much of the pattern is formatted.
+    pub extent: Extent,
+}
+
+/// Whether the text is parsed as the pattern is, but for positions, and has its comments.
+fn reads_back(
+    alloc: Global,
+    pattern: &str,
+    parsed: &SpannedTree,
+    text: &str,
+    flags: u32,
+) -> std::result::Result<bool, AllocError>
+    ensures { IfOk result (λ b. IsTrue b → ReadsBack (flags_of flags) text.now (view parsed.now.tree.expr)
+        (info_of parsed.now.tree) (comments pattern.now (trivia_of parsed.now.trivia))) }
+{
+    let new = match SpannedTree::parse(alloc, text, flags) {
+        Ok(new) => new,
+        Err(Error::ParseError(..)) => return Ok(false),
+        Err(Error::OutOfMemory) => return Err(AllocError),
+    };
+    if !is_same_result(&parsed.tree, &new.tree) {
+        return Ok(false);
+    }
+    let is_same = has_same_comments(alloc, pattern, &parsed.trivia, text, &new.trivia)?;
+    Ok(is_same)
+}
+
+/// The pattern formatted to the greatest extent with which it reads back, its lines kept; None if there is no such extent.
+fn most_formatted(
+    alloc: Global,
+    pattern: &str,
+    parsed: &SpannedTree,
+    flags: u32,
+) -> std::result::Result<Option<Formatted>, AllocError>
+    ensures { IfOk result (λ o. IfSome o (λ formatted. ReadsBack (flags_of flags) (string_bytes formatted.text)
+        (view parsed.now.tree.expr) (info_of parsed.now.tree)
+        (comments pattern.now (trivia_of parsed.now.trivia)))) }
+{
+    let tokens = tokens_of(alloc, pattern, parsed)?;
+    let oniguruma_mode = Flags::from_bits(flags).oniguruma_mode;
+    for extent in &[Extent::Whole, Extent::Spelling, Extent::Blanks] {
+        let extent = *extent;
+        let text = text_of(alloc, &tokens, extent, oniguruma_mode)?;
+        if reads_back(alloc, pattern, parsed, text.as_str(), flags)? {
+            return Ok(Some(Formatted { text, extent }));
+        }
+    }
+    Ok(None)
+}
+
+/// A text laid out in the style, if that changes its lines, and if it reads back as the pattern.
+fn styled(
+    alloc: Global,
+    pattern: &str,
+    parsed: &SpannedTree,
+    text: &str,
+    flags: u32,
+    style: Style,
+) -> std::result::Result<Option<Formatted>, AllocError>
+    ensures { IfOk result (λ o. IfSome o (λ formatted. ReadsBack (flags_of flags) (string_bytes formatted.text)
+        (view parsed.now.tree.expr) (info_of parsed.now.tree)
+        (comments pattern.now (trivia_of parsed.now.trivia)))) }
+{
+    let Style::Verbose { width } = style else {
+        return Ok(None);
+    };
+    let Some(text) = laid_out(alloc, text, flags, width)? else {
+        return Ok(None);
+    };
+    if !reads_back(alloc, pattern, parsed, text.as_str(), flags)? {
+        return Ok(None);
+    }
+    Ok(Some(Formatted {
+        text,
+        extent: Extent::Lines,
+    }))
+}
+
+/// The pattern formatted in the style to the greatest extent with which it reads back; None if there is no such extent. If it
+/// cannot be laid out, that is tried again when its lines are kept, so that a second formatting changes nothing.
+fn most_styled(
+    alloc: Global,
+    pattern: &str,
+    parsed: &SpannedTree,
+    flags: u32,
+    style: Style,
+) -> std::result::Result<Option<Formatted>, AllocError>
+    ensures { IfOk result (λ o. IfSome o (λ formatted. ReadsBack (flags_of flags) (string_bytes formatted.text)
+        (view parsed.now.tree.expr) (info_of parsed.now.tree)
+        (comments pattern.now (trivia_of parsed.now.trivia)))) }
+{
+    if let Some(formatted) = styled(alloc, pattern, parsed, pattern, flags, style)? {
+        return Ok(Some(formatted));
+    }
+    let Some(kept) = most_formatted(alloc, pattern, parsed, flags)? else {
+        return Ok(None);
+    };
+    if let Some(formatted) = styled(alloc, pattern, parsed, kept.text.as_str(), flags, style)? {
+        return Ok(Some(formatted));
+    }
+    Ok(Some(kept))
+}
+
+/// Formats the pattern, and keeps how it is written: the text of each leaf, comments, groups that set flags, and lines
+/// with their indentation. `(?:..)`, `(?#)` and letters of flags go if they change nothing. `{0,1}`, `{0,}` and `{1,}`
+/// become `?`, `*` and `+`, and `{n,n}` becomes `{n}`. Ignored whitespace goes at the end of a line, and becomes one space
+/// within a line, except before a comment through the end of the line.
+///
+/// In the style `Verbose` the pattern is laid out over several lines, and all that is in it stays too. A pattern that cannot be
+/// laid out has its own lines: one with a part where whitespace is not ignored, or where the text would read otherwise.
+///
+/// The text parses, under the same flags, as the same tree with the same group information, up to the positions of calls
+/// that cannot be resolved, and with the same comments except `(?#)`. If it does not with all of these changes, fewer are
+/// made, as `extent` says.
+///
+/// Returns the error of the pattern if it is invalid, and `OutOfMemory` if out of memory.
+///
+/// ```rust
+/// let formatted = format_pattern(alloc, "(?:a)\\x41{0,1}", FLAG_UNICODE, Style::Kept)?;
+/// println!(rt; "{}", formatted.text)?; // a\x41?
+/// ```
+pub fn format_pattern(alloc: Global, pattern: &str, flags: u32, style: Style) -> Result<Formatted>
+    ensures formatted { IfOk result (λ r. IsFormatted (flags_of flags) pattern.now (string_bytes r.text)) }
+    ensures error { IfErr result (λ e. IsOnlyError e (flags_of flags) (chars pattern.now)) }
+{
+    let parsed = SpannedTree::parse(alloc, pattern, flags)?;
+    if let Some(formatted) = most_styled(alloc, pattern, &parsed, flags, style)? {
+        return Ok(formatted);
+    }
+    Ok(Formatted {
+        text: String::from_str(alloc, pattern)?,
+        extent: Extent::Nothing,
+    })
+}

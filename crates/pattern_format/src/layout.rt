@@ -1,0 +1,231 @@
+//! Pieces of a pattern written over several lines.
+use crate::items::Item;
+use crate::pieces::{Piece, PieceKind};
+use std::alloc::{AllocError, Global};
+
+/// How many spaces the contents of a group are indented by, and the first of several branches, whose bars are before the
+/// others.
+const INDENTATION: usize = 2;
+
+/// What is written before the next piece.
+#[derive(Clone, Copy, PartialEq, Eq, Debug)]
+enum Gap {
+    Nothing,
+    Space,
+    Line,
+}
+
+/// A group around a position, or the pattern.
+#[derive(Clone, Copy)]
+struct Level {
+    /// How many spaces its lines begin with.
+    indent: usize,
+    /// Whether it is in one line.
+    is_flat: bool,
+}
+
+/// The lines of a pattern.
+#[derive(Drop)]
+pub(crate) struct Lines {
+    written: String,
+    /// How many characters the last line has.
+    column: usize,
+    gap: Gap,
+    /// Whether the last piece is the end of a line.
+    is_ended: bool,
+    /// How many characters a line may have.
+    width: usize,
+    levels: Vec<Level>,
+    level: Level,
+}
+
+/// The indentation of what holds branches, if there are several, or one sequence.
+fn indent_in(indent: usize, has_branches: bool) -> usize {
+    if has_branches {
+        indent.saturating_add(INDENTATION)
+    } else {
+        indent
+    }
+}
+
+impl Lines {
+    /// Those of a pattern, with several branches or not, that begins with these flags, or with none.
+    pub(crate) fn new(
+        alloc: Global,
+        flags: &str,
+        has_branches: bool,
+        width: usize,
+    ) -> Result<Lines, AllocError> {
+        Ok(Lines {
+            written: String::from_str(alloc, flags)?,
+            column: 0,
+            gap: Gap::Line,
+            is_ended: false,
+            width,
+            levels: Vec::new(alloc),
+            level: Level {
+                indent: indent_in(0, has_branches),
+                is_flat: false,
+            },
+        })
+    }
+
+    /// Begins a line with so many spaces. A space that ends the line before it is written otherwise, since it is lost easily.
+    fn begin_line(&mut self, indent: usize) -> Result<(), AllocError> {
+        if self.written.ends_with("\\ ") {
+            self.written.pop();
+            self.written.push_str("x20")?;
+        }
+        if !self.written.is_empty() && !self.written.ends_with('\n') {
+            self.written.push('\n')?;
+        }
+        for _ in 0..indent {
+            self.written.push(' ')?;
+        }
+        self.column = indent;
+        Ok(())
+    }
+
+    /// Writes what comes before the next piece.
+    fn write_gap(&mut self) -> Result<(), AllocError> {
+        let gap = self.gap;
+        self.gap = Gap::Nothing;
+        match gap {
+            Gap::Nothing => {}
+            Gap::Space => {
+                self.written.push(' ')?;
+                self.column = self.column.saturating_add(1);
+            }
+            Gap::Line => self.begin_line(self.level.indent)?,
+        }
+        Ok(())
+    }
+
+    /// Writes a text without what comes before it.
+    fn write(&mut self, text: &str) -> Result<(), AllocError> {
+        self.written.push_str(text)?;
+        self.column = self.column.saturating_add(text.chars().count());
+        Ok(())
+    }
+
+    /// Whether so many characters fit in the line after the first ones.
+    fn fits(&self, column: usize, width: usize) -> bool {
+        column.saturating_add(width) <= self.width
+    }
+
+    /// Begins a line if the item does not fit in this one.
+    fn break_before(&mut self, item: Item) {
+        let is_open = !self.level.is_flat && self.gap == Gap::Nothing;
+        let is_inside = self.column > self.level.indent;
+        if is_open && is_inside && !self.fits(self.column, item.width) {
+            self.gap = Gap::Line;
+        }
+    }
+
+    /// Writes a piece that nothing is in.
+    fn push_atom(&mut self, text: &str, item: Item) -> Result<(), AllocError> {
+        self.break_before(item);
+        self.write_gap()?;
+        self.write(text)
+    }
+
+    /// Writes a comment through the end of its line.
+    fn push_line_comment(&mut self, text: &str, is_alone: bool) -> Result<(), AllocError> {
+        if is_alone {
+            self.write_gap()?;
+        }
+        self.write(text)?;
+        self.gap = Gap::Line;
+        Ok(())
+    }
+
+    /// Ends a line, if something is in it.
+    fn end_line(&mut self) {
+        if self.gap == Gap::Nothing && self.column > self.level.indent {
+            self.gap = Gap::Line;
+        }
+    }
+
+    /// Writes the opening of a group, which stays in one line if it fits there. Returns false if it can be in no line.
+    fn push_opening(
+        &mut self,
+        piece: &Piece,
+        item: Item,
+        can_break: bool,
+    ) -> Result<bool, AllocError> {
+        self.break_before(item);
+        self.write_gap()?;
+        let is_short = self.fits(self.column, item.width) || !can_break;
+        let is_flat = self.level.is_flat || is_short && !item.has_line_end;
+        self.write(piece.text.as_str())?;
+        let inside = self.level.indent.saturating_add(INDENTATION);
+        self.levels.push(self.level)?;
+        self.level = Level {
+            indent: indent_in(inside, item.has_branches),
+            is_flat,
+        };
+        if !is_flat {
+            self.gap = Gap::Line;
+        }
+        Ok(can_break || !item.has_line_end)
+    }
+
+    /// Writes the parenthesis that closes a group.
+    fn push_closing(&mut self) -> Result<(), AllocError> {
+        let is_flat = self.level.is_flat;
+        if let Some(level) = self.levels.pop() {
+            self.level = level;
+        }
+        if is_flat {
+            return self.write(")");
+        }
+        self.gap = Gap::Line;
+        self.write_gap()?;
+        self.write(")")?;
+        self.gap = Gap::Line;
+        Ok(())
+    }
+
+    /// Writes the bar between two branches.
+    fn push_bar(&mut self) -> Result<(), AllocError> {
+        if self.level.is_flat {
+            return self.write("|");
+        }
+        self.begin_line(self.level.indent.saturating_sub(INDENTATION))?;
+        self.write("|")?;
+        self.gap = Gap::Space;
+        Ok(())
+    }
+
+    /// Writes a quantifier. It follows what it repeats, also after a comment.
+    fn push_quantifier(&mut self, text: &str) -> Result<(), AllocError> {
+        if self.written.ends_with('\n') {
+            self.write_gap()?;
+        }
+        self.write(text)
+    }
+
+    /// Writes a piece, with which the item begins. Returns false if the pattern cannot be written.
+    pub(crate) fn push(&mut self, piece: &Piece, item: Item) -> Result<bool, AllocError> {
+        let text = piece.text.as_str();
+        self.is_ended = piece.kind == PieceKind::LineEnd;
+        match piece.kind {
+            PieceKind::Atom | PieceKind::Comment => self.push_atom(text, item)?,
+            PieceKind::Opening { can_break } => return self.push_opening(piece, item, can_break),
+            PieceKind::Closing => self.push_closing()?,
+            PieceKind::Bar => self.push_bar()?,
+            PieceKind::Quantifier => self.push_quantifier(text)?,
+            PieceKind::LineComment { is_alone } => self.push_line_comment(text, is_alone)?,
+            PieceKind::LineEnd => self.end_line(),
+        }
+        Ok(true)
+    }
+
+    /// The whole text. It ends with a line if the pattern does.
+    pub(crate) fn end(mut self) -> Result<String, AllocError> {
+        if self.is_ended && !self.written.is_empty() {
+            self.begin_line(0)?;
+        }
+        Ok(self.written)
+    }
+}

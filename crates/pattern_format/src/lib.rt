@@ -1,0 +1,18 @@
+//! Formatting of patterns that keeps what their authors wrote, and the proof that it changes nothing else.
+#![tactic(auto)]
+
+mod blanks;
+mod comments;
+mod cut;
+pub mod extent;
+mod flag_groups;
+pub mod format;
+mod items;
+mod layout;
+mod nodes;
+mod pieces;
+mod spelling;
+pub mod style;
+mod token;
+mod verbose;
+mod written;

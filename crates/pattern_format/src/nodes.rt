@@ -1,0 +1,77 @@
+//! The nodes of a tree, as far as formatting needs them.
+use fancy_spans::{SpannedNode, SpannedTree};
+use fancy_syntax::expr::Expr;
+use fancy_syntax::span::Span;
+use std::alloc::{AllocError, Global};
+
+/// A node of a tree.
+#[derive(Clone, Copy)]
+pub(crate) struct Node {
+    pub(crate) span: Span,
+    pub(crate) is_leaf: bool,
+    /// Whether a flag group around it, and around nothing else, cannot be left out.
+    pub(crate) needs_group: bool,
+}
+
+/// Whether a group around the child of the node cannot be left out. In a conditional or an absent form it always stays.
+fn needs_group(node: &Expr, child: &Expr) -> bool {
+    match node {
+        Expr::Group(..) | Expr::LookAround(..) | Expr::AtomicGroup(..) | Expr::DefineGroup { .. } =>
+            false,
+        Expr::Alt(..) => matches!(child, Expr::Alt(..)),
+        Expr::Concat(..) => matches!(child, Expr::Alt(..) | Expr::Concat(..)),
+        // An atomic group may be made by a quantifier. In the grammars of editors, a back reference may be replaced by
+        // a text of several characters.
+        Expr::Repeat { .. } => matches!(
+            child,
+            Expr::Alt(..)
+                | Expr::Concat(..)
+                | Expr::Repeat { .. }
+                | Expr::AtomicGroup(..)
+                | Expr::Backref { .. }
+        ),
+        Expr::Conditional { .. }
+        | Expr::Absent(..)
+        | Expr::Empty
+        | Expr::Any { .. }
+        | Expr::Assertion(..)
+        | Expr::GeneralNewline { .. }
+        | Expr::Literal { .. }
+        | Expr::LiteralBytes { .. }
+        | Expr::Delegate { .. }
+        | Expr::Backref { .. }
+        | Expr::BackrefWithRelativeRecursionLevel { .. }
+        | Expr::KeepOut
+        | Expr::ContinueFromPreviousMatchEnd
+        | Expr::BackrefExistsCondition { .. }
+        | Expr::SubroutineCall(..)
+        | Expr::BacktrackingControlVerb(..)
+        | Expr::AstNode(..) => true,
+    }
+}
+
+/// Adds the node and those below it.
+fn push_nodes(
+    nodes: &mut Vec<Node>,
+    node: SpannedNode<'_>,
+    needs_group_here: bool,
+) -> Result<(), AllocError> {
+    let expr = node.expr();
+    let is_empty = matches!(expr, Expr::Empty);
+    nodes.push(Node {
+        span: node.span(),
+        is_leaf: expr.is_leaf_node() && !is_empty,
+        needs_group: needs_group_here || is_empty,
+    })?;
+    for child in node.children() {
+        push_nodes(nodes, child, needs_group(expr, child.expr()))?;
+    }
+    Ok(())
+}
+
+/// The nodes of the tree in preorder.
+pub(crate) fn nodes_of(alloc: Global, parsed: &SpannedTree) -> Result<Vec<Node>, AllocError> {
+    let mut nodes = Vec::with_capacity(alloc, parsed.spans.len())?;
+    push_nodes(&mut nodes, parsed.root(), false)?;
+    Ok(nodes)
+}

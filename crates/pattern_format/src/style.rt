@@ -1,0 +1,11 @@
+//! The styles that patterns are formatted in.
+
+/// How a formatted pattern is laid out.
+#[derive(Clone, Copy, PartialEq, Eq, Debug)]
+pub enum Style {
+    /// As it is: its lines stay, with their indentation.
+    Kept,
+    /// Over several lines, under `FLAG_IGNORE_SPACE`: what does not fit in so many characters is broken into its branches
+    /// and groups. The pattern begins with `(?x)` unless the flags ignore whitespace.
+    Verbose { width: usize },
+}

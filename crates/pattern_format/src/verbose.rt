@@ -1,0 +1,95 @@
+//! Patterns laid out over several lines.
+use crate::cut::tokens_of;
+use crate::items::items_of;
+use crate::layout::Lines;
+use crate::pieces::pieces_of;
+use crate::token::{Token, TokenKind};
+use fancy_lex::error::Error;
+use fancy_lex::flags::Flags;
+use fancy_spans::SpannedTree;
+use std::alloc::{AllocError, Global};
+
+/// How often a pattern is laid out, until that changes nothing.
+const MAX_ROUNDS: usize = 4;
+
+/// Whether the token is inline flags after which whitespace is ignored.
+fn sets_ignore_space(token: Token<'_>) -> bool {
+    match token.kind {
+        TokenKind::Flags { after, .. } => after.ignore_space && token.text.ends_with(')'),
+        TokenKind::Blank
+        | TokenKind::LineComment
+        | TokenKind::Comment
+        | TokenKind::Leaf
+        | TokenKind::Quantifier
+        | TokenKind::Other => false,
+    }
+}
+
+/// The tokens, over lines of up to so many characters. None if they cannot be laid out.
+fn text_of(
+    alloc: Global,
+    tokens: &[Token<'_>],
+    flags: Flags,
+    width: usize,
+) -> Result<Option<String>, AllocError> {
+    let Some(pieces) = pieces_of(alloc, tokens, flags.oniguruma_mode)? else {
+        return Ok(None);
+    };
+    let Some((items, whole)) = items_of(alloc, &pieces)? else {
+        return Ok(None);
+    };
+    let begins_verbose = tokens
+        .first()
+        .is_some_and(|first| sets_ignore_space(*first));
+    let set = match pieces.first() {
+        _ if flags.ignore_space => "",
+        Some(first) if begins_verbose => first.text.as_str(),
+        _ => "(?x)",
+    };
+    let mut lines = Lines::new(alloc, set, whole.has_branches, width)?;
+    let passed = (begins_verbose && !flags.ignore_space) as usize;
+    for (piece, item) in pieces.iter().zip(&items).skip(passed) {
+        if !lines.push(piece, *item)? {
+            return Ok(None);
+        }
+    }
+    Ok(Some(lines.end()?))
+}
+
+/// The pattern, over lines of up to so many characters. None if it is invalid, or cannot be laid out.
+fn laid_out_once(
+    alloc: Global,
+    pattern: &str,
+    flags: u32,
+    width: usize,
+) -> Result<Option<String>, AllocError> {
+    let parsed = match SpannedTree::parse(alloc, pattern, flags) {
+        Ok(parsed) => parsed,
+        Err(Error::ParseError(..)) => return Ok(None),
+        Err(Error::OutOfMemory) => return Err(AllocError),
+    };
+    let tokens = tokens_of(alloc, pattern, &parsed)?;
+    text_of(alloc, &tokens, Flags::from_bits(flags), width)
+}
+
+/// The pattern, over lines of up to so many characters. None if it cannot be laid out so that it stays so.
+pub(crate) fn laid_out(
+    alloc: Global,
+    pattern: &str,
+    flags: u32,
+    width: usize,
+) -> Result<Option<String>, AllocError> {
+    let Some(mut text) = laid_out_once(alloc, pattern, flags, width)? else {
+        return Ok(None);
+    };
+    for _ in 0..MAX_ROUNDS {
+        let Some(again) = laid_out_once(alloc, text.as_str(), flags, width)? else {
+            return Ok(None);
+        };
+        if again.as_str() == text.as_str() {
+            return Ok(Some(text));
+        }
+        text = again;
+    }
+    Ok(None)
+}

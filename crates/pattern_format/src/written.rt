@@ -1,0 +1,53 @@
+//! The formatted text of a pattern's tokens.
+use crate::blanks::Writer;
+use crate::extent::Extent;
+use crate::spelling::{push_flags, push_quantifier};
+use crate::token::{Token, TokenKind};
+use std::alloc::{AllocError, Global};
+
+/// Writes the token, which is not blank.
+fn push_token(
+    alloc: Global,
+    written: &mut String,
+    token: Token<'_>,
+    extent: Extent,
+    oniguruma_mode: bool,
+) -> Result<(), AllocError> {
+    if extent == Extent::Blanks || token.text.contains('#') {
+        return Ok(written.push_str(token.text)?);
+    }
+    match token.kind {
+        // In Oniguruma mode `{0,1}+` repeats twice, and `?+` is possessive.
+        TokenKind::Quantifier => push_quantifier(alloc, written, token.text, !oniguruma_mode),
+        TokenKind::Flags { before, after } => {
+            push_flags(alloc, written, token.text, before, after)
+        }
+        TokenKind::Blank
+        | TokenKind::LineComment
+        | TokenKind::Comment
+        | TokenKind::Leaf
+        | TokenKind::Other => Ok(written.push_str(token.text)?),
+    }
+}
+
+/// The text of the tokens, formatted to this extent. Tokens may be parsed in Oniguruma mode.
+pub(crate) fn text_of(
+    alloc: Global,
+    tokens: &[Token<'_>],
+    extent: Extent,
+    oniguruma_mode: bool,
+) -> Result<String, AllocError> {
+    let mut writer = Writer::new(alloc);
+    for token in tokens {
+        if token.is_needless && extent == Extent::Whole {
+            continue;
+        }
+        if let TokenKind::Blank = token.kind {
+            writer.push_blanks(token.text);
+        } else {
+            let written = writer.before(token.kind)?;
+            push_token(alloc, written, *token, extent, oniguruma_mode)?;
+        }
+    }
+    writer.end()
+}
