@@ -1,10 +1,9 @@
 -- Repeats of a concatenation, by the expressions that hold them, and lists of slow pairs.
-use Rattle.std.proofs.Common.{◌≡◌, ℕ, ◌-◌, ◌<◌, Bool, List, [], ◌∷◌, ◌++◌, map, Option, Some, None, Box, Vec, Global, IfSome, refl}
-use Rattle.std.proofs.Common.{sym, ap, ◌∙◌, subst, ◌+◌, length, get_or, take, drop}
-use Rattle.std.proofs.lemmas.List.{append-nil, drop-map, take-map}
+use Rattle.std.proofs.Common.{◌≡◌, ℕ, ◌-◌, ◌<◌, Bool, List, [], ◌∷◌, map, Box, Vec, Global, refl}
+use Rattle.std.proofs.Common.{zero, suc, arith, sym, ap, ◌∙◌, subst, ◌+◌, length, get_or, take, drop}
+use Rattle.std.proofs.lemmas.List.{drop-map, take-map}
 use Rattle.std.proofs.lemmas.Option.{slice_get-map, slice_get_read}
 use Rattle.std.specs.List.{AllByRecursion, slice_range}
-use Rattle.std.specs.Option.{option_to_list}
 use Rattle.std.specs.Prelude.{IsSomeAnd, slice_get, option_map}
 use Rattle.fancy_grammar.specs.Tree.{Tree, concat, trees_of}
 use Rattle.fancy_spans.specs.Spanned.{Spanned, first_span}
@@ -55,17 +54,17 @@ slow_in unicode tree node trees spans r k is h slow = record {
   slow = subst (λ ss. IsSlowAcross unicode trees ss r) h slow;
 }
 
-one_more : (P : SlowSequence → Type 0) (rs : List SlowSequence) (r : SlowSequence) → P r → AllByRecursion P rs →
-    AllByRecursion P (rs ++ (r ∷ []))
-one_more P [] r k all = (k, tt)
-one_more P (x ∷ xs) r k all = (all.0, one_more P xs r k all.1)
+-- and so are several
+pub pairs_in : (unicode : Bool) (tree node : Spanned) (trees : List Tree) (spans : List Span) (rs : List SlowSequence) → IsNodeOf node tree →
+    view node.expr ≡ concat (trees_of trees) → spans ≡ map (λ c. first_span c.spans) (spanned_children node) →
+    AllByRecursion (IsSlowAcross unicode trees spans) rs → AllByRecursion (IsSlowSequenceIn unicode tree) rs
+pairs_in unicode tree node trees spans [] k is h all = tt
+pairs_in unicode tree node trees spans (r ∷ rs) k is h all =
+    (slow_in unicode tree node trees spans r k is h all.0, pairs_in unicode tree node trees spans rs k is h all.1)
 
--- one more that is slow, if there is one
-pub found_more : (unicode : Bool) (tree node : Spanned) (trees : List Tree) (spans : List Span) (o : Option SlowSequence)
-    (rs : List SlowSequence) → IsNodeOf node tree → view node.expr ≡ concat (trees_of trees) →
-    spans ≡ map (λ c. first_span c.spans) (spanned_children node) → IfSome o (IsSlowAcross unicode trees spans) →
-    AllByRecursion (IsSlowSequenceIn unicode tree) rs → AllByRecursion (IsSlowSequenceIn unicode tree) (rs ++ option_to_list o)
-found_more unicode tree node trees spans None rs k is h slow all =
-    subst (AllByRecursion (IsSlowSequenceIn unicode tree)) (sym (append-nil rs)) all
-found_more unicode tree node trees spans (Some r) rs k is h slow all =
-    one_more (IsSlowSequenceIn unicode tree) rs r (slow_in unicode tree node trees spans r k is h slow) all
+-- the pair at an index of a list
+pub pair_at : (P : SlowSequence → Type 0) (rs : List SlowSequence) (i : ℕ) (r : SlowSequence) → i < length rs → r ≡ get_or rs i r →
+    AllByRecursion P rs → P r
+pair_at P (x ∷ xs) zero r h is all = subst P (sym is) all.0
+pair_at P (x ∷ xs) (suc i) r h is all = pair_at P xs i r (omega (arith, h)) is all.1
+pair_at P [] i r h is all = absurd (omega (arith, h))

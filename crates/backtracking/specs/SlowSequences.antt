@@ -1,5 +1,5 @@
 -- What a report on two repeats of a concatenation of a pattern rests on.
-use Rattle.std.specs.Prelude.{◌≡◌, ℕ, ◌+◌, ◌-◌, ◌<◌, Bool, List, map, slice_get, IsSomeAnd}
+use Rattle.std.specs.Prelude.{◌≡◌, ℕ, suc, ◌+◌, ◌-◌, ◌<◌, Bool, List, map, slice_get, IsSomeAnd}
 use Rattle.std.specs.List.{slice_range}
 use Rattle.fancy_grammar.specs.Tree.{Tree, trees_of, concat, group, repeat}
 use Rattle.fancy_spans.specs.Spanned.{Spanned, first_span}
@@ -8,6 +8,7 @@ use Rattle.fancy_syntax.specs.declared.span.Span.{Span}
 use Rattle.backtracking.specs.ManySplits.{HasManySplits}
 use Rattle.backtracking.specs.SlowRepeats.{IsNodeOf, spanned_children}
 use Rattle.backtracking.specs.ThreeWays.{AreThreeWays}
+use Rattle.backtracking.specs.declared.decision.Decision.{Decision}
 use Rattle.backtracking.specs.declared.sequences.SlowSequence.{SlowSequence}
 
 -- the tree repeats the part without a limit, or with one more than 20 above the least number, or is a group of such
@@ -28,16 +29,32 @@ pub record IsSpanAcross (spans : List Span) (i j : ℕ) (span : Span) : Type 0 w
   pub start : IsSomeAnd (slice_get spans i) (λ s. span.start ≡ s.start)
   pub end : IsSomeAnd (slice_get spans j) (λ s. span.end ≡ s.end)
 
--- the report has the span of two repeats of the trees, and a word with three ways, so that there are n ways over the
--- word n times
-pub record IsSlowAcross (unicode : Bool) (trees : List Tree) (spans : List Span) (r : SlowSequence) : Type 0 where
-  pub i : ℕ
-  pub j : ℕ
+-- two repeats of the trees have three ways over the word
+pub record IsPair (unicode : Bool) (trees : List Tree) (w : List ℕ) (i j : ℕ) : Type 0 where
   pub x : Tree
   pub ts : List Tree
   pub y : Tree
   pub cut : IsCut trees i j x ts y
-  pub span : IsSpanAcross spans i j r.span
+  pub ds : List Decision
+  pub es : List Decision
+  pub fs : List Decision
+  pub three : AreThreeWays unicode x ts y w ds es fs
+
+-- a chain of so many repeats of the trees ends at an index: each and the next one have three ways over the word
+pub data IsChain (unicode : Bool) (trees : List Tree) (w : List ℕ) : ℕ → ℕ → Type 0 where
+  one : {i : ℕ} → IsChain unicode trees w i 1
+  more : {i j d : ℕ} → IsChain unicode trees w i d → IsPair unicode trees w i j → IsChain unicode trees w j (suc d)
+
+-- the report has the span of two repeats of the trees, a word with three ways, so that there are n ways over the word n
+-- times, and the degree of a chain over the word that ends with the two
+pub record IsSlowAcross (unicode : Bool) (trees : List Tree) (spans : List Span) (r : SlowSequence) : Type 0 where
+  pub i : ℕ
+  pub x : Tree
+  pub ts : List Tree
+  pub y : Tree
+  pub cut : IsCut trees i r.last x ts y
+  pub span : IsSpanAcross spans i r.last r.span
+  pub chain : IsChain unicode trees r.witness.word.items r.last r.degree
   pub three : AreThreeWays unicode x ts y r.witness.word.items r.witness.first.items r.witness.across.items r.witness.last.items
   pub many : HasManySplits unicode x ts y r.witness.word.items r.witness.first.items r.witness.across.items r.witness.last.items
 

@@ -1,5 +1,5 @@
 //! Texts on which an engine tries all ways through a repeat.
-use crate::known_sets::KnownSets;
+use crate::known_sets::{ClassSets, KnownSets};
 use crate::sample::Sample;
 use crate::trial::{Trial, add_positions, is_any};
 use fancy_syntax::expr::Expr;
@@ -73,14 +73,14 @@ pub(crate) enum Target<'a> {
 
 /// What is around a node, from the outermost on, and what a walk over the pattern has come to so far.
 #[derive(Drop)]
-pub(crate) struct Surroundings<'a> {
+pub(crate) struct Surroundings<'a, 'k> {
     pub(crate) around: Vec<Enclosing<'a>>,
     /// How many nodes were tried.
     pub(crate) trials: usize,
     /// How many pairs of repeats were searched.
     pub(crate) searches: usize,
     /// The characters of nodes.
-    pub(crate) sets: KnownSets<'a>,
+    pub(crate) sets: KnownSets<'a, 'k>,
     /// What there was too much of to look at.
     pub(crate) too_large: Vec<Span>,
 }
@@ -126,7 +126,7 @@ impl<'a> Target<'a> {
     }
 
     /// The positions that it may lead to from these.
-    fn ends(self, trial: &mut Trial<'_, 'a>, starts: &[bool]) -> Result<Vec<bool>, AllocError> {
+    fn ends(self, trial: &mut Trial<'_, 'a, '_>, starts: &[bool]) -> Result<Vec<bool>, AllocError> {
         match self {
             Target::Repeat(tree) => trial.ends(tree, starts),
             Target::Sequence { trees, first, last } => {
@@ -137,14 +137,14 @@ impl<'a> Target<'a> {
     }
 }
 
-impl<'a> Surroundings<'a> {
+impl<'a, 'k> Surroundings<'a, 'k> {
     /// Those of the root.
-    pub(crate) fn new(alloc: Global, unicode: bool) -> Surroundings<'a> {
+    pub(crate) fn new(alloc: Global, classes: &'k mut ClassSets) -> Surroundings<'a, 'k> {
         Surroundings {
             around: Vec::new(alloc),
             trials: 0,
             searches: 0,
-            sets: KnownSets::new(alloc, unicode),
+            sets: KnownSets::new(alloc, classes),
             too_large: Vec::new(alloc),
         }
     }
@@ -189,7 +189,7 @@ struct Lead {
 
 /// Adds a text that leads to the node that all this is around, from the outermost on, and says whether one was found.
 fn add_text_before<'a>(
-    sample: &mut Sample<'_, 'a>,
+    sample: &mut Sample<'_, 'a, '_>,
     around: &[Enclosing<'a>],
 ) -> Result<bool, AllocError> {
     for one in around {
@@ -211,7 +211,7 @@ fn add_text_before<'a>(
 fn lead_to<'a>(
     alloc: Global,
     target: Target<'a>,
-    surroundings: &mut Surroundings<'a>,
+    surroundings: &mut Surroundings<'a, '_>,
 ) -> Result<Option<Lead>, AllocError> {
     let mut sample = Sample::new(alloc, &mut surroundings.sets);
     if !add_text_before(&mut sample, &surroundings.around)? {
@@ -245,7 +245,7 @@ fn is_followed(around: &[Enclosing<'_>]) -> bool {
 
 /// Whether what follows the target fails after each position that the target leads to from the start.
 fn fails_after<'a>(
-    trial: &mut Trial<'_, 'a>,
+    trial: &mut Trial<'_, 'a, '_>,
     target: Target<'a>,
     start: usize,
     around: &[Enclosing<'a>],
@@ -276,7 +276,7 @@ fn find_ending<'a>(
     target: Target<'a>,
     start: usize,
     text: &mut Vec<char>,
-    surroundings: &mut Surroundings<'a>,
+    surroundings: &mut Surroundings<'a, '_>,
 ) -> Result<Option<Vec<char>>, AllocError> {
     let end = text.len();
     for ending in ENDINGS.iter() {
@@ -306,7 +306,7 @@ pub(crate) fn find_attack<'a>(
     alloc: Global,
     target: Target<'a>,
     word: &[char],
-    surroundings: &mut Surroundings<'a>,
+    surroundings: &mut Surroundings<'a, '_>,
 ) -> Result<Option<Attack>, AllocError> {
     if target.after().is_empty() && !is_followed(&surroundings.around) {
         return Ok(None);

@@ -91,7 +91,7 @@ impl Automaton {
     pub(crate) fn of<'a>(
         alloc: Global,
         tree: &'a Expr,
-        sets: &mut KnownSets<'a>,
+        sets: &mut KnownSets<'a, '_>,
     ) -> Result<Automaton, NotBuilt> {
         let mut automaton = Automaton::new(alloc);
         let at = automaton.add_start()?;
@@ -105,7 +105,7 @@ impl Automaton {
     pub(crate) fn across<'a>(
         alloc: Global,
         cut: Cut<'a>,
-        sets: &mut KnownSets<'a>,
+        sets: &mut KnownSets<'a, '_>,
     ) -> Result<AcrossAutomaton, NotBuilt> {
         let mut automaton = Automaton::new(alloc);
         let first = automaton.add_start()?;
@@ -170,7 +170,7 @@ impl Automaton {
     #[cycle(add_tree)]
     fn add_tree<'a>(
         &mut self,
-        sets: &mut KnownSets<'a>,
+        sets: &mut KnownSets<'a, '_>,
         tree: &'a Expr,
         next: usize,
     ) -> Result<usize, NotBuilt> {
@@ -206,7 +206,7 @@ impl Automaton {
     #[cycle(add_tree)]
     fn add_all<'a>(
         &mut self,
-        sets: &mut KnownSets<'a>,
+        sets: &mut KnownSets<'a, '_>,
         trees: &'a [Expr],
         next: usize,
     ) -> Result<usize, NotBuilt> {
@@ -223,7 +223,7 @@ impl Automaton {
     #[cycle(add_tree)]
     fn add_branches<'a>(
         &mut self,
-        sets: &mut KnownSets<'a>,
+        sets: &mut KnownSets<'a, '_>,
         branches: &'a [Expr],
         next: usize,
     ) -> Result<usize, NotBuilt> {
@@ -242,7 +242,7 @@ impl Automaton {
     #[cycle(add_tree)]
     fn add_turn<'a>(
         &mut self,
-        sets: &mut KnownSets<'a>,
+        sets: &mut KnownSets<'a, '_>,
         tree: &'a Expr,
         start: usize,
         next: usize,
@@ -255,7 +255,7 @@ impl Automaton {
     #[cycle(add_tree)]
     fn add_repeat<'a>(
         &mut self,
-        sets: &mut KnownSets<'a>,
+        sets: &mut KnownSets<'a, '_>,
         tree: &'a Expr,
         lo: usize,
         hi: usize,
@@ -299,7 +299,7 @@ impl Automaton {
     /// Adds a node that matches one character.
     fn add_position<'a>(
         &mut self,
-        sets: &mut KnownSets<'a>,
+        sets: &mut KnownSets<'a, '_>,
         tree: &'a Expr,
         next: usize,
     ) -> Result<usize, NotBuilt> {

@@ -10,7 +10,7 @@ mod common;
 mod crossing;
 pub mod cut;
 pub mod decision;
-mod known_sets;
+pub mod known_sets;
 mod pairs;
 mod pieces;
 pub mod repeats;

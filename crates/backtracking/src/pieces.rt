@@ -42,12 +42,12 @@ pub(crate) enum Reach {
 
 /// A set of characters that grows.
 #[derive(Drop)]
-struct Alphabet<'s, 'a> {
-    sets: &'s mut KnownSets<'a>,
+struct Alphabet<'s, 'a, 'k> {
+    sets: &'s mut KnownSets<'a, 'k>,
     set: Option<CharacterSet>,
 }
 
-impl<'s, 'a> Alphabet<'s, 'a> {
+impl<'s, 'a, 'k> Alphabet<'s, 'a, 'k> {
     /// Adds the characters of the tree.
     #[cycle(add)]
     fn add(&mut self, tree: &'a Expr) -> Result<(), AllocError> {
@@ -150,7 +150,7 @@ fn can_any_be_empty(trees: &[Expr]) -> bool {
 }
 
 /// The tree as a piece.
-fn piece_of<'a>(tree: &'a Expr, sets: &mut KnownSets<'a>) -> Result<Piece, AllocError> {
+fn piece_of<'a>(tree: &'a Expr, sets: &mut KnownSets<'a, '_>) -> Result<Piece, AllocError> {
     match kind_of(tree) {
         PartKind::Irregular => return Ok(Piece::Irregular),
         PartKind::TooLarge => return Ok(Piece::TooLarge),
@@ -169,7 +169,7 @@ fn piece_of<'a>(tree: &'a Expr, sets: &mut KnownSets<'a>) -> Result<Piece, Alloc
 pub(crate) fn pieces_of<'a>(
     alloc: Global,
     trees: &'a [Expr],
-    sets: &mut KnownSets<'a>,
+    sets: &mut KnownSets<'a, '_>,
 ) -> Result<Vec<Piece>, AllocError> {
     let mut pieces = Vec::with_capacity(alloc, trees.len())?;
     for tree in trees {

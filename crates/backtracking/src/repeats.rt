@@ -5,8 +5,9 @@ ghost use Rattle.fancy_spans.specs.Spanned.{Spanned, spanned_of, spanned_of_tree
 ghost use Rattle.backtracking.specs.SlowRepeats.{IsNodeOf, IsSlowIn, IsLooked};
 
 use crate::attack::{Attack, Surroundings, Target, enclosing_of, find_attack};
+use crate::known_sets::ClassSets;
 use crate::shape::{PartKind, kind_of};
-use crate::witness::{RepeatWays, Witness, ways_of_repeat};
+use crate::witness::{RepeatWays, Witness, ways_of_turns};
 use fancy_spans::{SpannedNode, SpannedTree};
 use fancy_syntax::expr::{Expr, LookAround};
 use fancy_syntax::span::Span;
@@ -55,7 +56,7 @@ enum Looked {
 fn look_at<'a>(
     node: SpannedNode<'a>,
     options: SearchOptions,
-    surroundings: &mut Surroundings<'a>,
+    surroundings: &mut Surroundings<'a, '_>,
 ) -> Result<Looked, AllocError>
     ensures { IfOk result (IsLooked options.unicode (spanned_of node.entry)) }
 {
@@ -75,7 +76,7 @@ fn look_at<'a>(
         }
         PartKind::Choices => {}
     }
-    let witness = match ways_of_repeat(alloc, child, unicode)? {
+    let witness = match ways_of_turns(alloc, child, unicode, &mut surroundings.sets)? {
         RepeatWays::Exponential(witness) => witness,
         RepeatWays::NoneFound => return Ok(Looked::Fast),
         RepeatWays::Irregular => return Ok(Looked::Unknown),
@@ -114,7 +115,7 @@ pub(crate) fn is_left_alone(tree: &Expr) -> bool {
 fn look<'a>(
     node: SpannedNode<'a>,
     options: SearchOptions,
-    surroundings: &mut Surroundings<'a>,
+    surroundings: &mut Surroundings<'a, '_>,
     found: &mut Vec<SlowRepeat>,
 ) -> Result<(), AllocError>
     ensures { OnOk result ((root : Spanned) → IsNodeOf (spanned_of node.entry) root →
@@ -143,16 +144,18 @@ fn look<'a>(
     Ok(())
 }
 
-/// The repeats of the pattern that can match a text in exponentially many ways, where what follows can fail. `unicode`
-/// says whether the pattern is one for text with Unicode, as under `FLAG_UNICODE`.
+/// The repeats of the pattern that can match a text in exponentially many ways, where what follows can fail. `classes` has
+/// the characters of classes of the run's patterns.
 pub fn slow_repeats(
     alloc: Global,
     parsed: &SpannedTree,
-    unicode: bool,
+    classes: &mut ClassSets,
 ) -> Result<SlowRepeats, AllocError>
-    ensures witnessed { IfOk result (λ r. AllByRecursion (IsSlowIn unicode (spanned_of_tree parsed.now)) r.slow.items) }
+    ensures witnessed { IfOk result (λ r.
+        AllByRecursion (IsSlowIn classes.old.unicode (spanned_of_tree parsed.now)) r.slow.items) }
 {
-    let mut surroundings = Surroundings::new(alloc, unicode);
+    let unicode = classes.unicode;
+    let mut surroundings = Surroundings::new(alloc, classes);
     let mut found = Vec::new(alloc);
     look(
         parsed.root(),

@@ -9,14 +9,14 @@ const MOST_CHARACTERS: usize = 1000;
 
 /// A text that grows.
 #[derive(Drop)]
-pub(crate) struct Sample<'s, 'a> {
-    sets: &'s mut KnownSets<'a>,
+pub(crate) struct Sample<'s, 'a, 'k> {
+    sets: &'s mut KnownSets<'a, 'k>,
     pub(crate) text: Vec<char>,
 }
 
-impl<'s, 'a> Sample<'s, 'a> {
+impl<'s, 'a, 'k> Sample<'s, 'a, 'k> {
     /// The empty text.
-    pub(crate) fn new(alloc: Global, sets: &'s mut KnownSets<'a>) -> Sample<'s, 'a> {
+    pub(crate) fn new(alloc: Global, sets: &'s mut KnownSets<'a, 'k>) -> Sample<'s, 'a, 'k> {
         Sample {
             sets,
             text: Vec::new(alloc),

@@ -6,7 +6,7 @@ ghost use Rattle.backtracking.specs.Across.{IsAcross, IsPolynomial};
 use crate::automaton::{Automaton, NotBuilt};
 use crate::crossing::are_three_ways;
 use crate::cut::{Cut, SequenceWays};
-use crate::known_sets::KnownSets;
+use crate::known_sets::{ClassSets, KnownSets};
 use crate::routes::all_routes;
 use crate::triples::{Crossed, Triples};
 use std::alloc::{AllocError, Global};
@@ -15,7 +15,7 @@ use std::alloc::{AllocError, Global};
 fn search<'a>(
     alloc: Global,
     cut: Cut<'a>,
-    sets: &mut KnownSets<'a>,
+    sets: &mut KnownSets<'a, '_>,
 ) -> Result<Crossed, AllocError> {
     let across = match Automaton::across(alloc, cut, sets) {
         Ok(across) => across,
@@ -37,7 +37,7 @@ pub(crate) fn ways_of_cut<'a>(
     alloc: Global,
     cut: Cut<'a>,
     unicode: bool,
-    sets: &mut KnownSets<'a>,
+    sets: &mut KnownSets<'a, '_>,
 ) -> Result<SequenceWays, AllocError>
     ensures witnessed { IfOk result (IsAcross unicode (view cut.entry.first.now) (views cut.entry.between.now)
         (view cut.entry.last.now)) }
@@ -72,6 +72,7 @@ pub fn ways_of_sequence(
     ensures polynomial { IfOk result (IsPolynomial unicode (view cut.entry.first.now) (views cut.entry.between.now)
         (view cut.entry.last.now)) }
 {
-    let mut sets = KnownSets::new(alloc, unicode);
+    let mut classes = ClassSets::new(alloc, unicode);
+    let mut sets = KnownSets::new(alloc, &mut classes);
     ways_of_cut(alloc, cut, unicode, &mut sets)
 }

@@ -1,15 +1,16 @@
 //! The concatenations of a pattern that can match a text in polynomially many ways.
-ghost use Rattle.std.specs.Prelude.{◌≡◌, ◌++◌, map, IfOk, IfSome, OnOk};
-ghost use Rattle.std.specs.Option.{option_to_list};
+ghost use Rattle.std.specs.Prelude.{◌≡◌, ◌++◌, map, Bool, List, IfOk, IfSome, OnOk};
 ghost use Rattle.std.specs.List.{AllByRecursion};
 ghost use Rattle.fancy_spans.specs.Spanned.{Spanned, spanned_of, spanned_of_tree, first_span};
-ghost use Rattle.fancy_grammar.specs.Tree.{concat, trees_of};
+ghost use Rattle.fancy_grammar.specs.Tree.{Tree, concat, trees_of};
 ghost use Rattle.fancy_syntax.specs.View.{view, views};
+ghost use Rattle.fancy_syntax.specs.declared.span.Span.{Span};
 ghost use Rattle.backtracking.specs.SlowRepeats.{IsNodeOf, spanned_children};
-ghost use Rattle.backtracking.specs.SlowSequences.{IsRepeatOf, IsCut, IsSpanAcross, IsSlowAcross, IsSlowSequenceIn};
+ghost use Rattle.backtracking.specs.SlowSequences.{IsRepeatOf, IsCut, IsSpanAcross, IsChain, IsSlowAcross, IsSlowSequenceIn};
 
 use crate::attack::{Attack, Surroundings, Target, enclosing_of, find_attack};
 use crate::cut::{Cut, SequenceWays, SequenceWitness};
+use crate::known_sets::ClassSets;
 use crate::pieces::{Piece, Reach, pieces_of};
 use crate::repeats::{SMALL_LIMIT, SearchOptions, is_left_alone};
 use crate::sequence::ways_of_cut;
@@ -33,6 +34,11 @@ pub struct SlowSequence {
     pub witness: SequenceWitness,
     /// What to put around the repeated word.
     pub attack: Attack,
+    /// The degree of the polynomial, as far as it is known: how many repeats a chain has that ends with these two, where each
+    /// and the next one can share the word.
+    pub degree: usize,
+    /// The index of the last repeat in the concatenation.
+    pub(crate) last: usize,
 }
 
 /// The pairs of repeats of a pattern that are slow, and those that are not known to be slow or not.
@@ -104,15 +110,32 @@ fn span_across(spans: &[Span], first: usize, last: usize) -> Option<Span>
     Some(Span { start, end })
 }
 
-/// Searches for three ways from one repeat of the concatenation to another, and for what to put around the word.
+/// How many repeats a chain over the word has that ends at the index; 1 if no pair ends there.
+fn chain_to(pairs: &[SlowSequence], index: usize, word: &[char]) -> usize
+    ensures { (unicode : Bool) → (trees : List Tree) → (spans : List Span) →
+        AllByRecursion (IsSlowAcross unicode trees spans) pairs.now → IsChain unicode trees word.now index result }
+{
+    let mut longest = 1;
+    for pair in pairs {
+        if pair.last == index && pair.degree > longest && *pair.witness.word == *word {
+            longest = pair.degree;
+        }
+    }
+    longest
+}
+
+/// Searches for three ways from one repeat of the concatenation to another, and for what to put around the word. `pairs` are
+/// those that are slow from earlier repeats on.
 fn look_at_cut<'a>(
     row: Row<'a, '_>,
     first: usize,
     last: usize,
+    pairs: &[SlowSequence],
     options: SearchOptions,
-    surroundings: &mut Surroundings<'a>,
+    surroundings: &mut Surroundings<'a, '_>,
 ) -> Result<Option<SlowSequence>, AllocError>
-    ensures { IfOk result (λ o. IfSome o (IsSlowAcross options.unicode (views row.entry.trees.now) row.entry.spans.now)) }
+    ensures { AllByRecursion (IsSlowAcross options.unicode (views row.entry.trees.now) row.entry.spans.now) pairs.entry.now →
+        IfOk result (λ o. IfSome o (IsSlowAcross options.unicode (views row.entry.trees.now) row.entry.spans.now)) }
 {
     let SearchOptions { alloc, unicode } = options;
     let Some(cut) = cut_at(row.trees, first, last) else {
@@ -139,14 +162,19 @@ fn look_at_cut<'a>(
         first,
         last,
     };
-    match find_attack(alloc, target, &witness.word, surroundings)? {
-        Some(attack) => Ok(Some(SlowSequence {
-            span,
-            witness,
-            attack,
-        })),
-        None => Ok(None),
-    }
+    let Some(attack) = find_attack(alloc, target, &witness.word, surroundings)? else {
+        return Ok(None);
+    };
+    let Some(degree) = chain_to(pairs, first, &witness.word).checked_add(1) else {
+        return Ok(None);
+    };
+    Ok(Some(SlowSequence {
+        span,
+        witness,
+        attack,
+        degree,
+        last,
+    }))
 }
 
 /// What the characters of a repeat say of a later tree, by their indices. No tree that is not a repeat reaches another.
@@ -168,7 +196,7 @@ fn add_too_large(
     row: Row<'_, '_>,
     first: usize,
     last: usize,
-    surroundings: &mut Surroundings<'_>,
+    surroundings: &mut Surroundings<'_, '_>,
 ) -> Result<(), AllocError> {
     if let Some(span) = span_across(row.spans, first, last) {
         surroundings.too_large.push(span)?;
@@ -176,15 +204,17 @@ fn add_too_large(
     Ok(())
 }
 
-/// Searches for a slow pair: the tree at the index, and the nearest later one.
+/// Searches for a slow pair: the tree at the index, and the nearest later one. `pairs` are those from earlier trees on.
 fn look_from<'a>(
     row: Row<'a, '_>,
     pieces: &[Piece],
     first: usize,
+    pairs: &[SlowSequence],
     options: SearchOptions,
-    surroundings: &mut Surroundings<'a>,
+    surroundings: &mut Surroundings<'a, '_>,
 ) -> Result<Option<SlowSequence>, AllocError>
-    ensures { IfOk result (λ o. IfSome o (IsSlowAcross options.unicode (views row.entry.trees.now) row.entry.spans.now)) }
+    ensures { AllByRecursion (IsSlowAcross options.unicode (views row.entry.trees.now) row.entry.spans.now) pairs.entry.now →
+        IfOk result (λ o. IfSome o (IsSlowAcross options.unicode (views row.entry.trees.now) row.entry.spans.now)) }
 {
     for last in first.saturating_add(1)..row.trees.len() {
         match reach_at(pieces, first, last) {
@@ -195,7 +225,7 @@ fn look_from<'a>(
                 break;
             }
             Reach::Repeat => {
-                if let Some(slow) = look_at_cut(row, first, last, options, surroundings)? {
+                if let Some(slow) = look_at_cut(row, first, last, pairs, options, surroundings)? {
                     return Ok(Some(slow));
                 }
             }
@@ -223,12 +253,31 @@ fn count_repeats(trees: &[Expr]) -> usize {
         .count()
 }
 
-/// Adds the slow pair, if there is one.
-fn add_found(slow: Option<SlowSequence>, found: &mut Vec<SlowSequence>) -> Result<(), AllocError>
-    ensures { OnOk result (found.new.items ≡ found.old.items ++ option_to_list slow) }
+/// The slow pairs of repeats of a concatenation.
+fn pairs_of<'a>(
+    row: Row<'a, '_>,
+    options: SearchOptions,
+    surroundings: &mut Surroundings<'a, '_>,
+) -> Result<Vec<SlowSequence>, AllocError>
+    ensures { IfOk result (λ pairs.
+        AllByRecursion (IsSlowAcross options.unicode (views row.entry.trees.now) row.entry.spans.now) pairs.items) }
 {
-    if let Some(slow) = slow {
-        found.push(slow)?;
+    let pieces = pieces_of(options.alloc, row.trees, &mut surroundings.sets)?;
+    let mut pairs = Vec::new(options.alloc);
+    for first in 0..row.trees.len() {
+        if let Some(pair) = look_from(row, &pieces, first, &pairs, options, surroundings)? {
+            pairs.push(pair)?;
+        }
+    }
+    Ok(pairs)
+}
+
+/// Adds the pairs.
+fn add_pairs(pairs: Vec<SlowSequence>, found: &mut Vec<SlowSequence>) -> Result<(), AllocError>
+    ensures { OnOk result (found.new.items ≡ found.old.items ++ pairs.items) }
+{
+    for pair in pairs {
+        found.push(pair)?;
     }
     Ok(())
 }
@@ -238,7 +287,7 @@ fn add_slow<'a>(
     node: SpannedNode<'a>,
     trees: &'a [Expr],
     options: SearchOptions,
-    surroundings: &mut Surroundings<'a>,
+    surroundings: &mut Surroundings<'a, '_>,
     found: &mut Vec<SlowSequence>,
 ) -> Result<(), AllocError>
     ensures { OnOk result ((root : Spanned) → IsNodeOf (spanned_of node.entry) root →
@@ -247,15 +296,12 @@ fn add_slow<'a>(
         AllByRecursion (IsSlowSequenceIn options.unicode root) found.new.items) }
 {
     let spans = child_spans(options.alloc, node)?;
-    let pieces = pieces_of(options.alloc, trees, &mut surroundings.sets)?;
     let row = Row {
         trees,
         spans: &spans,
     };
-    for first in 0..trees.len() {
-        let slow = look_from(row, &pieces, first, options, surroundings)?;
-        add_found(slow, found)?;
-    }
+    let pairs = pairs_of(row, options, surroundings)?;
+    add_pairs(pairs, found)?;
     Ok(())
 }
 
@@ -263,7 +309,7 @@ fn add_slow<'a>(
 fn look_at<'a>(
     node: SpannedNode<'a>,
     options: SearchOptions,
-    surroundings: &mut Surroundings<'a>,
+    surroundings: &mut Surroundings<'a, '_>,
     found: &mut Vec<SlowSequence>,
 ) -> Result<(), AllocError>
     ensures { OnOk result ((root : Spanned) → IsNodeOf (spanned_of node.entry) root →
@@ -284,7 +330,7 @@ fn look_at<'a>(
 fn look<'a>(
     node: SpannedNode<'a>,
     options: SearchOptions,
-    surroundings: &mut Surroundings<'a>,
+    surroundings: &mut Surroundings<'a, '_>,
     found: &mut Vec<SlowSequence>,
 ) -> Result<(), AllocError>
     ensures { OnOk result ((root : Spanned) → IsNodeOf (spanned_of node.entry) root →
@@ -307,16 +353,18 @@ fn look<'a>(
 }
 
 /// The pairs of repeats of a concatenation of the pattern that can match a text in polynomially many ways, where what
-/// follows can fail. For each first repeat there is at most one: the one with the nearest last repeat. `unicode` says
-/// whether the pattern is one for text with Unicode, as under `FLAG_UNICODE`.
+/// follows can fail. For each first repeat there is at most one: the one with the nearest last repeat. `classes` has the
+/// characters of classes of the run's patterns.
 pub fn slow_sequences(
     alloc: Global,
     parsed: &SpannedTree,
-    unicode: bool,
+    classes: &mut ClassSets,
 ) -> Result<SlowSequences, AllocError>
-    ensures witnessed { IfOk result (λ r. AllByRecursion (IsSlowSequenceIn unicode (spanned_of_tree parsed.now)) r.slow.items) }
+    ensures witnessed { IfOk result (λ r.
+        AllByRecursion (IsSlowSequenceIn classes.old.unicode (spanned_of_tree parsed.now)) r.slow.items) }
 {
-    let mut surroundings = Surroundings::new(alloc, unicode);
+    let unicode = classes.unicode;
+    let mut surroundings = Surroundings::new(alloc, classes);
     let mut found = Vec::new(alloc);
     look(
         parsed.root(),

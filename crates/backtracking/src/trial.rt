@@ -11,10 +11,10 @@ const MOST_TURNS: usize = 100;
 
 /// A trial of parts of a pattern on a text. Sets of positions have a bool for each position.
 #[derive(Drop)]
-pub(crate) struct Trial<'t, 'a> {
+pub(crate) struct Trial<'t, 'a, 'k> {
     alloc: Global,
     text: &'t [char],
-    sets: &'t mut KnownSets<'a>,
+    sets: &'t mut KnownSets<'a, 'k>,
     trials: usize,
 }
 
@@ -40,13 +40,13 @@ fn is_word(c: Option<char>) -> bool {
     c.is_some_and(|c| c.is_alphanumeric() || c == '_')
 }
 
-impl<'t, 'a> Trial<'t, 'a> {
+impl<'t, 'a, 'k> Trial<'t, 'a, 'k> {
     /// A trial on the text.
     pub(crate) fn new(
         alloc: Global,
         text: &'t [char],
-        sets: &'t mut KnownSets<'a>,
-    ) -> Trial<'t, 'a> {
+        sets: &'t mut KnownSets<'a, 'k>,
+    ) -> Trial<'t, 'a, 'k> {
         Trial {
             alloc,
             text,

@@ -6,7 +6,7 @@ ghost use Rattle.backtracking.specs.Witnessed.{IsWitnessed, IsExponential};
 use crate::automaton::{Automaton, NotBuilt};
 use crate::checker::are_two_ways;
 use crate::decision::Decision;
-use crate::known_sets::KnownSets;
+use crate::known_sets::{ClassSets, KnownSets};
 use crate::pairs::{Pairs, Searched};
 use crate::routes::all_routes;
 use fancy_syntax::expr::Expr;
@@ -37,9 +37,12 @@ pub enum RepeatWays {
 }
 
 /// Searches for a word that turns of the tree can match in two ways. What it finds is still to be checked.
-fn search(alloc: Global, tree: &Expr, unicode: bool) -> Result<Searched, AllocError> {
-    let mut sets = KnownSets::new(alloc, unicode);
-    let automaton = match Automaton::of(alloc, tree, &mut sets) {
+fn search<'a>(
+    alloc: Global,
+    tree: &'a Expr,
+    sets: &mut KnownSets<'a, '_>,
+) -> Result<Searched, AllocError> {
+    let automaton = match Automaton::of(alloc, tree, sets) {
         Ok(automaton) => automaton,
         Err(NotBuilt::Memory(error)) => return Err(error),
         Err(NotBuilt::Irregular) => return Ok(Searched::Irregular),
@@ -51,15 +54,18 @@ fn search(alloc: Global, tree: &Expr, unicode: bool) -> Result<Searched, AllocEr
     Pairs::new(alloc, &automaton, &routes)?.search()
 }
 
-/// Searches for a word that turns of the tree, the part that a quantifier repeats, can match in two ways. `unicode` says
-/// whether the pattern is one for text with Unicode, as under `FLAG_UNICODE`.
-///
-/// A witness is returned only if the two ways were checked.
-pub fn ways_of_repeat(alloc: Global, tree: &Expr, unicode: bool) -> Result<RepeatWays, AllocError>
-    ensures witnessed { IfOk result (IsWitnessed unicode (view tree.now)) }
-    ensures exponential { IfOk result (IsExponential unicode (view tree.now)) }
+/// Searches for a word that turns of the tree can match in two ways, as `ways_of_repeat` does, with what is known of the
+/// nodes of the pattern.
+pub(crate) fn ways_of_turns<'a>(
+    alloc: Global,
+    tree: &'a Expr,
+    unicode: bool,
+    sets: &mut KnownSets<'a, '_>,
+) -> Result<RepeatWays, AllocError>
+    ensures witnessed { IfOk result (IsWitnessed unicode (view tree.entry.now)) }
+    ensures exponential { IfOk result (IsExponential unicode (view tree.entry.now)) }
 {
-    let witness = match search(alloc, tree, unicode)? {
+    let witness = match search(alloc, tree, sets)? {
         Searched::Found(witness) => witness,
         Searched::Nothing => return Ok(RepeatWays::NoneFound),
         Searched::Irregular => return Ok(RepeatWays::Irregular),
@@ -77,4 +83,17 @@ pub fn ways_of_repeat(alloc: Global, tree: &Expr, unicode: bool) -> Result<Repea
     } else {
         Ok(RepeatWays::NoneFound)
     }
+}
+
+/// Searches for a word that turns of the tree, the part that a quantifier repeats, can match in two ways. `unicode` says
+/// whether the pattern is one for text with Unicode, as under `FLAG_UNICODE`.
+///
+/// A witness is returned only if the two ways were checked.
+pub fn ways_of_repeat(alloc: Global, tree: &Expr, unicode: bool) -> Result<RepeatWays, AllocError>
+    ensures witnessed { IfOk result (IsWitnessed unicode (view tree.now)) }
+    ensures exponential { IfOk result (IsExponential unicode (view tree.now)) }
+{
+    let mut classes = ClassSets::new(alloc, unicode);
+    let mut sets = KnownSets::new(alloc, &mut classes);
+    ways_of_turns(alloc, tree, unicode, &mut sets)
 }

@@ -2,13 +2,13 @@
 use crate::attack_text::AttackText;
 use crate::flags::useless_flags;
 use crate::grammar_rule::{GrammarRule, missing_captures};
+use crate::known::Known;
 use crate::problem::{Found, Problem};
 use crate::references::{Ways, follow};
 use crate::scan::{Around, PatternInfo, scan};
 use crate::slow::SlowParts;
 use crate::walk::Walk;
 use class_rules::class_walk::class_findings;
-pub use class_rules::known_classes::KnownClasses;
 use dialects::spelling::{DifferentSpelling, spellings};
 use fancy_spans::SpannedTree;
 use patterns_text::nodes::nodes_of;
@@ -46,7 +46,11 @@ fn report_slow<'a>(slow: &'a SlowParts, walk: &mut Walk<'a>) -> Result<(), Alloc
     }
     for sequence in &slow.sequences {
         let text = AttackText::of_sequence(sequence);
-        walk.report(sequence.span, Problem::PolynomialBacktracking { text })?;
+        let degree = sequence.degree;
+        walk.report(
+            sequence.span,
+            Problem::PolynomialBacktracking { degree, text },
+        )?;
     }
     Ok(())
 }
@@ -58,7 +62,7 @@ pub fn problems<'a>(
     subject: Subject<'_>,
     parsed: &'a SpannedTree,
     grammar: Option<&GrammarRule>,
-    known: &mut KnownClasses,
+    known: &mut Known,
     slow: &'a SlowParts,
 ) -> Result<Vec<Found<'a>>, AllocError> {
     let Subject {
@@ -77,7 +81,7 @@ pub fn problems<'a>(
         begin_groups: grammar.and_then(|rule| rule.begin_groups),
     };
     let mut walk = Walk::new(alloc);
-    scan(parsed.root(), &mut walk, about, ROOT, known)?;
+    scan(parsed.root(), &mut walk, about, ROOT, &mut known.classes)?;
     report_slow(slow, &mut walk)?;
     let mut ways = Ways::new(alloc, tree)?;
     follow(parsed.root(), &mut ways)?;
@@ -85,7 +89,7 @@ pub fn problems<'a>(
     ways.report_unused()?;
     let mut found = walk.found;
     found.extend_from_slice(&ways.walk.found)?;
-    for finding in class_findings(alloc, parsed.root(), pattern, known)? {
+    for finding in class_findings(alloc, parsed.root(), pattern, &mut known.classes)? {
         found.push(Found::of_class(finding))?;
     }
     found.extend_from_slice(&useless_flags(alloc, pattern, &parsed.trivia)?)?;

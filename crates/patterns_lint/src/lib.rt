@@ -10,6 +10,7 @@ pub mod find;
 mod fingerprint;
 mod flags;
 pub mod grammar_rule;
+pub mod known;
 pub mod problem;
 mod quantifiers;
 mod references;

@@ -61,8 +61,9 @@ pub enum Problem<'a> {
     ExponentialBacktracking {
         text: AttackText<'a>,
     },
-    /// Two repeats of a concatenation that can match a text in polynomially many ways.
+    /// Repeats of a concatenation that can match a text in polynomially many ways; the degree is how many are known to.
     PolynomialBacktracking {
+        degree: usize,
         text: AttackText<'a>,
     },
     /// A flag that is set already.
@@ -295,8 +296,8 @@ impl fmt::Display for Problem<'_> {
             Problem::ExponentialBacktracking { text } => {
                 write!(f, "exponential backtracking on {text}")
             }
-            Problem::PolynomialBacktracking { text } => {
-                write!(f, "polynomial backtracking on {text}")
+            Problem::PolynomialBacktracking { degree, text } => {
+                write!(f, "polynomial backtracking of degree {degree} on {text}")
             }
             Problem::UselessFlag { letter } => write!(f, "flag {letter} is set already"),
             Problem::SingleCharacterClass => f.write_str("class of one character"),

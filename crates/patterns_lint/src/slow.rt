@@ -1,12 +1,11 @@
 //! The parts of a pattern that can match a text in many ways.
 use crate::chosen::{Chosen, Level};
+use crate::known::Known;
 use crate::rule::Rule;
 use backtracking::repeats::{SlowRepeat, SlowRepeats, slow_repeats};
 use backtracking::sequences::{SlowSequence, SlowSequences, slow_sequences};
 use fancy_spans::SpannedTree;
-use fancy_syntax::FLAG_UNICODE;
 use fancy_syntax::span::Span;
-use patterns_text::subject::Subject;
 use std::alloc::{AllocError, Global};
 
 /// What is said of a part that was not looked at.
@@ -33,22 +32,22 @@ impl SlowParts {
         }
     }
 
-    /// What is slow in the pattern, as far as the rules are not silent. Of a silent rule nothing is looked for.
+    /// What is slow in the pattern, as far as the rules are not silent. Of a silent rule nothing is looked for. `known` has the
+    /// classes of the run's patterns.
     pub fn of(
-        subject: Subject<'_>,
+        alloc: Global,
         parsed: &SpannedTree,
         chosen: &Chosen,
+        known: &mut Known,
     ) -> Result<SlowParts, AllocError> {
-        let Subject { alloc, flags, .. } = subject;
-        let unicode = flags & FLAG_UNICODE != 0;
         let mut parts = SlowParts::new(alloc);
         if chosen.level(Rule::ExponentialBacktracking) != Level::Allow {
-            let SlowRepeats { slow, too_large } = slow_repeats(alloc, parsed, unicode)?;
+            let SlowRepeats { slow, too_large } = slow_repeats(alloc, parsed, &mut known.sets)?;
             parts.repeats = slow;
             parts.too_large = too_large;
         }
         if chosen.level(Rule::PolynomialBacktracking) != Level::Allow {
-            let SlowSequences { slow, too_large } = slow_sequences(alloc, parsed, unicode)?;
+            let SlowSequences { slow, too_large } = slow_sequences(alloc, parsed, &mut known.sets)?;
             parts.sequences = slow;
             parts.too_large.extend_from_slice(&too_large)?;
         }

@@ -9,8 +9,9 @@ use crate::outcome::Outcome;
 use crate::reporter::{Reporter, parse};
 use crate::tally::Tally;
 use patterns_lint::chosen::{Chosen, Level};
-use patterns_lint::find::{KnownClasses, problems};
+use patterns_lint::find::problems;
 use patterns_lint::grammar_rule::GrammarRule;
+use patterns_lint::known::Known;
 use patterns_lint::problem::Found;
 use patterns_lint::slow::SlowParts;
 use patterns_text::error::RunError;
@@ -36,7 +37,7 @@ pub(crate) fn lint<R: Reporter>(
     grammar: Option<&GrammarRule>,
     chosen: &Chosen,
     reporter: &mut R,
-    known: &mut KnownClasses,
+    known: &mut Known,
     tally: &mut Tally,
 ) -> Result<Outcome, RunError>
     ensures good { result ≡ Ok Outcome.Good → IsAccepted subject.entry }
@@ -46,7 +47,7 @@ pub(crate) fn lint<R: Reporter>(
     let Some(parsed) = parse(subject, reporter)? else {
         return Ok(Outcome::Refused);
     };
-    let slow = SlowParts::of(subject, &parsed, chosen)?;
+    let slow = SlowParts::of(subject.alloc, &parsed, chosen, known)?;
     let mut found = problems(subject, &parsed, grammar, known, &slow)?;
     found.retain(|one| chosen.level(one.problem.rule()) != Level::Allow);
     reporter.problems(subject, &parsed, chosen, &found)?;

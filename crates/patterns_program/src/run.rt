@@ -30,8 +30,8 @@ use crate::values::text_of;
 use crate::values::trail::{Tokens, Trail};
 use json::Scratch;
 use patterns_lint::chosen::Chosen;
-use patterns_lint::find::KnownClasses;
 use patterns_lint::grammar_rule::GrammarRule;
+use patterns_lint::known::Known;
 use patterns_text::error::{RunError, give_up};
 use patterns_text::paint::Paints;
 use patterns_text::position::{Location, Spot};
@@ -238,7 +238,7 @@ fn process<O: Write, E: Write>(
     out: &mut O,
     err: &mut E,
     log: &mut AnnotationLog,
-    known: &mut KnownClasses,
+    known: &mut Known,
     tally: &mut Tally,
 ) -> Result<Outcome, RunError> {
     let PatternEntry {
@@ -310,7 +310,7 @@ fn process_on<S: System, O: Write, E: Write>(
     entry: PatternEntry<'_, '_>,
     screen: &mut Screen<'_, S, O, E>,
     log: &mut AnnotationLog,
-    known: &mut KnownClasses,
+    known: &mut Known,
     tally: &mut Tally,
 ) -> Result<Outcome, RunError> {
     let Screen { out, err, .. } = screen;
@@ -342,7 +342,7 @@ struct FileRun<'a, 'p, S, O, E> {
     screen: Screen<'a, S, O, E>,
     log: AnnotationLog,
     /// The classes of the patterns that are parsed under the same flags, where they are looked at.
-    known: KnownClasses,
+    known: Known,
     /// These flags.
     known_flags: u32,
     tally: Tally,
@@ -592,7 +592,7 @@ impl<'a, S: System, O: Write, E: Write> FileRun<'a, '_, S, O, E> {
     /// Forgets the classes of other patterns, if those were parsed under other flags.
     fn see_flags(&mut self, flags: u32) {
         if flags != self.known_flags {
-            self.known = KnownClasses::new(self.alloc, flags);
+            self.known = Known::new(self.alloc, flags);
             self.known_flags = flags;
         }
     }
@@ -704,7 +704,7 @@ fn run_plan<S: System, O: Write, E: Write>(
         sources,
         screen: Screen::new(sources, job.is_quiet, out, err),
         log: AnnotationLog::new(job.verb.annotations()),
-        known: KnownClasses::new(alloc, job.flags),
+        known: Known::new(alloc, job.flags),
         known_flags: job.flags,
         tally: Tally::new(plan.files.len()),
         written: Written::Nothing,

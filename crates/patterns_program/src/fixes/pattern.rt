@@ -6,7 +6,8 @@ use fancy_syntax::span::Span;
 use pattern_fixes::edit::{Edit, FixKind, FixableReport};
 use pattern_fixes::fixed::ParsedPattern;
 use patterns_lint::chosen::{Chosen, Level};
-use patterns_lint::find::{KnownClasses, problems};
+use patterns_lint::find::problems;
+use patterns_lint::known::Known;
 use patterns_lint::problem::{Found, Problem};
 use patterns_lint::slow::SlowParts;
 use patterns_text::error::RunError;
@@ -123,7 +124,7 @@ pub(crate) fn fixes_of<'p>(
 fn fixed_once(
     subject: Subject<'_>,
     chosen: &Chosen,
-    known: &mut KnownClasses,
+    known: &mut Known,
 ) -> Result<Option<String>, RunError> {
     let Ok(parsed) = subject.parse()? else {
         return Ok(None);
@@ -139,7 +140,7 @@ fn fixed_once(
 pub(crate) fn fixed_pattern(
     subject: Subject<'_>,
     chosen: &Chosen,
-    known: &mut KnownClasses,
+    known: &mut Known,
 ) -> Result<Option<String>, RunError> {
     let mut fixed = fixed_once(subject, chosen, known)?;
     for _ in 1..MAX_ROUNDS {

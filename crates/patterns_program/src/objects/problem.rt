@@ -41,7 +41,7 @@ fn write_attack(
     writer: &mut Writer,
     problem: Problem<'_>,
 ) -> Result<(), AllocError> {
-    let (Problem::ExponentialBacktracking { text } | Problem::PolynomialBacktracking { text }) =
+    let (Problem::ExponentialBacktracking { text } | Problem::PolynomialBacktracking { text, .. }) =
         problem
     else {
         return Ok(());
@@ -53,6 +53,9 @@ fn write_attack(
     }
     write_characters(alloc, writer, "repeat", text.word)?;
     write_characters(alloc, writer, "after", &text.attack.after)?;
+    if let Problem::PolynomialBacktracking { degree, .. } = problem {
+        write_number(writer, "degree", degree as u64)?;
+    }
     writer.end_object()
 }
 

@@ -9,5 +9,5 @@ returns c =
     let tree = spanned_of_tree c.args.parsed.now in
     record {
       witnessed = c.in_ok-look.ensures tree (subst (λ p. IsNodeOf p tree) (sym c.root.ensures) root)
-          (subst (AllByRecursion (IsSlowIn c.args.unicode tree)) (sym c.new-found.ensures.items) tt);
+          (subst (AllByRecursion (IsSlowIn c.args.classes.now.unicode tree)) (sym c.new-found.ensures.items) tt);
     }

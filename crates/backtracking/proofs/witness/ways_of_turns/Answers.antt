@@ -1,6 +1,6 @@
 use Rattle.fancy_syntax.specs.View.{view}
 use Rattle.backtracking.proofs.ManyLemmas.{many_ways_of}
-use Rattle.backtracking.proofs.witness.ways_of_repeat.Goals as goal
+use Rattle.backtracking.proofs.witness.ways_of_turns.Goals as goal
 
 pub returns-then-branch-clause-exponential : goal.returns-then-branch-clause-exponential
 returns-then-branch-clause-exponential c =
