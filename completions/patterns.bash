@@ -16,7 +16,7 @@ _patterns() {
         tree) options='--flags --ascii --spans --trivia --all --classes --json --file -h --help' ;;
         picture) options='--flags --html --width --file -h --help' ;;
         lint) options='--flags -e --regexp -z --null-data --quiet --color --config --no-config --textmate --keys --records --allow --warn --deny --max-warnings --fix --diff --format --json --verbose --rules -h --help' ;;
-        format) options='--flags -e --regexp -z --null-data --quiet --color --config --no-config --textmate --keys --records --write --check --diff --verbose --width --canonical --drop-comments -h --help' ;;
+        format) options='--flags -e --regexp -z --null-data --quiet --color --config --no-config --textmate --keys --records --write --check --diff --verbose --width --compact --canonical --drop-comments -h --help' ;;
         groups) options='--flags -e --regexp -z --null-data --quiet --color --config --no-config --textmate --keys --records --classes --json -h --help' ;;
         help) options='check tree picture lint format groups' ;;
     esac

@@ -81,6 +81,23 @@ static LAID_OUT: [(u32, usize, &str, &str); 10] = [
     (SPACED, 80, "a  (?-x: b)", "a (?-x: b)"),
 ];
 
+/// Flags, a pattern, and its text in one line.
+static IN_LINE: [(u32, &str, &str); 9] = [
+    (FLAG_UNICODE, "(?x) a b # c\n d", "ab(?# c)d"),
+    (
+        FLAG_UNICODE,
+        "(?xi)\n( # d\n \\d \\# )",
+        "(?i)((?# d)\\d\\#)",
+    ),
+    (FLAG_UNICODE, "(?x) a # (b)\n c", "(?x)a# (b)\nc"),
+    (FLAG_UNICODE, "(?x)\none\\x20\n\\ \\x20", "one  \\x20"),
+    (FLAG_UNICODE, r"(?x) (a) \1 2 \ ", r"(?x)(a)\1 2\ "),
+    (FLAG_UNICODE, r"a  \#", r"a  \#"),
+    (SPACED, "a #\n {1,}  # b \r\n# c\\", "a+(?# b)# c\\"),
+    (SPACED, r"\b {2, 3} | [ #] \ \x20", r"\b {2,3}|[ #]\ \x20"),
+    (ONIGURUMA | FLAG_IGNORE_SPACE, "a ? \n +  b", "a?+b"),
+];
+
 /// Whether the pattern is formatted as this text in the style, and this text as itself.
 fn is_formatted_as(
     alloc: Global,
@@ -116,6 +133,16 @@ fn first_other_lines(alloc: Global) -> Result<Option<usize>, Error> {
     Ok(None)
 }
 
+/// The number of the first row of `IN_LINE` whose text is another.
+fn first_other_line(alloc: Global) -> Result<Option<usize>, Error> {
+    for (i, (flags, pattern, text)) in IN_LINE.iter().enumerate() {
+        if !is_formatted_as(alloc, *flags, Style::Compact, pattern, text)? {
+            return Ok(Some(i));
+        }
+    }
+    Ok(None)
+}
+
 #[test]
 fn format_pattern_keeps_the_spelling(rt: HostRuntime) -> Result<(), Error> {
     assert_eq!(rt; first_other(rt.alloc())?, None);
@@ -125,6 +152,12 @@ fn format_pattern_keeps_the_spelling(rt: HostRuntime) -> Result<(), Error> {
 #[test]
 fn format_pattern_breaks_lines(rt: HostRuntime) -> Result<(), Error> {
     assert_eq!(rt; first_other_lines(rt.alloc())?, None);
+    Ok(())
+}
+
+#[test]
+fn format_pattern_joins_lines(rt: HostRuntime) -> Result<(), Error> {
+    assert_eq!(rt; first_other_line(rt.alloc())?, None);
     Ok(())
 }
 

@@ -1,8 +1,11 @@
 //! The comments of a pattern.
 ghost use Rattle.std.specs.Prelude.{◌≡◌, [], ◌∷◌, ◌++◌, map, IfOk, IfSome, IsTrue};
+ghost use Rattle.fancy_syntax.specs.SpanViews.{span_of};
 ghost use Rattle.fancy_syntax.specs.TriviaViews.{trivium_of};
 ghost use Rattle.pattern_format.specs.Formatted as spec;
 
+use crate::style::Style;
+use fancy_syntax::span::Span;
 use fancy_syntax::trivium::{Trivium, TriviumKind};
 use std::alloc::{AllocError, Global};
 
@@ -17,46 +20,82 @@ fn is_comment(trivium: Trivium) -> bool
     }
 }
 
-/// Whether it is the comment `(?#)`.
-pub(crate) fn is_empty(text: &str) -> bool
-    ensures { result ≡ spec.is_empty text.now }
+/// Whether what the style keeps of a comment may go.
+pub(crate) fn is_empty(text: &str, style: Style) -> bool
+    ensures { result ≡ spec.is_empty style text.now }
 {
-    text == "(?#)"
+    match style {
+        Style::Compact => text.is_empty(),
+        Style::Kept | Style::Verbose { .. } => text == "(?#)",
+    }
 }
 
-/// Adds the text of what no node has, if it is a comment that is not empty. Returns false if it is not in the pattern.
+/// Where the comment is without its delimiters.
+fn inside(comment: Trivium) -> Option<Span>
+    ensures { IfSome result (λ span. span_of span ≡ spec.inside (trivium_of comment).kind (trivium_of comment).span) }
+{
+    let span = comment.span;
+    Some(match comment.kind {
+        TriviumKind::Comment => Span {
+            start: span.start.checked_add(3)?,
+            end: span.end.saturating_sub(1),
+        },
+        TriviumKind::LineComment
+        | TriviumKind::InlineFlags { .. }
+        | TriviumKind::Opening { .. }
+        | TriviumKind::Closing => Span {
+            start: span.start.checked_add(1)?,
+            end: span.end,
+        },
+    })
+}
+
+/// What the style keeps of a comment; None if it is not in the pattern.
+fn kept_text<'p>(pattern: &'p str, comment: Trivium, style: Style) -> Option<&'p str>
+    ensures { IfSome result (λ text. text.now ≡ spec.kept_text style pattern.now (trivium_of comment)) }
+{
+    match style {
+        Style::Compact => Some(inside(comment)?.text(pattern)?.trim_end()),
+        Style::Kept | Style::Verbose { .. } => comment.span.text(pattern),
+    }
+}
+
+/// Adds what the style keeps of what no node has, if it is a comment that is not empty. Returns false if it is not in the
+/// pattern.
 fn push_comment<'p>(
     texts: &mut Vec<&'p str>,
     pattern: &'p str,
     trivium: Trivium,
+    style: Style,
 ) -> Result<bool, AllocError>
     ensures { IfOk result (λ b. IsTrue b → map (λ t. t.now) texts.new.items ≡ map (λ t. t.now) texts.old.items
-        ++ spec.comments pattern.now (trivium_of trivium ∷ [])) }
+        ++ spec.comments style pattern.now (trivium_of trivium ∷ [])) }
 {
     if !is_comment(trivium) {
         return Ok(true);
     }
-    let Some(text) = trivium.span.text(pattern) else {
+    let Some(text) = kept_text(pattern, trivium, style) else {
         return Ok(false);
     };
-    if !is_empty(text) {
+    if !is_empty(text, style) {
         texts.push(text)?;
     }
     Ok(true)
 }
 
-/// The texts of the comments of a pattern that are not empty, in order; None if one is not in the pattern.
+/// What the style keeps of the comments of a pattern that are not empty, in order; None if one is not in the pattern.
 fn comments_of<'p>(
     alloc: Global,
     pattern: &'p str,
     trivia: &[Trivium],
+    style: Style,
 ) -> Result<Option<Vec<&'p str>>, AllocError>
     ensures { IfOk result (λ o. IfSome o (λ texts.
-        map (λ t. t.now) texts.items ≡ spec.comments pattern.now (map trivium_of trivia.now))) }
+        map (λ t. t.now) texts.items ≡ spec.comments style pattern.now (map trivium_of trivia.now))) }
 {
     let mut texts = Vec::new(alloc);
     for trivium in trivia {
-        if !push_comment(&mut texts, pattern, *trivium)? {
+        if !push_comment(&mut texts, pattern, *trivium, style)? {
             return Ok(None);
         }
     }
@@ -70,21 +109,22 @@ fn are_same(texts: &[&str], others: &[&str]) -> bool
     texts == others
 }
 
-/// Whether the comments of two patterns that are not empty are the same, in the same order.
+/// Whether the comments of two patterns that are not empty are the same, in the same order, as the style keeps them.
 pub(crate) fn has_same_comments(
     alloc: Global,
     pattern: &str,
     trivia: &[Trivium],
     other_pattern: &str,
     other_trivia: &[Trivium],
+    style: Style,
 ) -> Result<bool, AllocError>
-    ensures { IfOk result (λ b. IsTrue b → spec.comments pattern.now (map trivium_of trivia.now) ≡
-        spec.comments other_pattern.now (map trivium_of other_trivia.now)) }
+    ensures { IfOk result (λ b. IsTrue b → spec.comments style pattern.now (map trivium_of trivia.now) ≡
+        spec.comments style other_pattern.now (map trivium_of other_trivia.now)) }
 {
-    let Some(texts) = comments_of(alloc, pattern, trivia)? else {
+    let Some(texts) = comments_of(alloc, pattern, trivia, style)? else {
         return Ok(false);
     };
-    let Some(other_texts) = comments_of(alloc, other_pattern, other_trivia)? else {
+    let Some(other_texts) = comments_of(alloc, other_pattern, other_trivia, style)? else {
         return Ok(false);
     };
     Ok(are_same(&texts, &other_texts))

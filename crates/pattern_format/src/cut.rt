@@ -1,5 +1,4 @@
 //! A pattern cut into its tokens.
-use crate::comments::is_empty;
 use crate::flag_groups::FlagGroups;
 use crate::nodes::{Node, nodes_of};
 use crate::token::{Token, TokenKind, is_blank};
@@ -176,7 +175,7 @@ impl<'p> Cutter<'p> {
     fn push_trivium(&mut self, trivium: Trivium, nodes: &[Node]) -> Result<(), AllocError> {
         let text = self.pass(trivium.span.end);
         let (kind, is_needless) = match trivium.kind {
-            TriviumKind::Comment => (TokenKind::Comment, is_empty(text) && self.can_go()),
+            TriviumKind::Comment => { (TokenKind::Comment, text == "(?#)" && self.can_go()) },
             TriviumKind::LineComment => (TokenKind::LineComment, false),
             TriviumKind::InlineFlags { before, after } => {
                 let is_needless = self.add_flags(text, before != after);

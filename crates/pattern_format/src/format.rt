@@ -1,21 +1,21 @@
 //! Patterns formatted, and read again.
-ghost use Rattle.std.specs.Prelude.{◌≡◌, chars, string_bytes, IfErr, IfOk, IfSome, IsTrue};
+ghost use Rattle.std.specs.Prelude.{◌≡◌, chars, string_bytes, IfErr, IfOk, IfSome};
 ghost use Rattle.fancy_lex.specs.Flags.{flags_of};
-ghost use Rattle.fancy_grammar.specs.ParseResult.{IsOnlyError};
+ghost use Rattle.fancy_grammar.specs.ParseResult.{IsOnlyError, IsPositionedIn};
 ghost use Rattle.fancy_syntax.specs.InfoViews.{info_of};
 ghost use Rattle.fancy_syntax.specs.TriviaViews.{trivia_of};
 ghost use Rattle.fancy_syntax.specs.View.{view};
 ghost use Rattle.pattern_format.specs.Formatted.{IsFormatted, ReadsBack, comments};
 
-use crate::comments::has_same_comments;
+use crate::compact::in_line;
 use crate::cut::tokens_of;
 use crate::extent::Extent;
+use crate::read_back::reads_back;
 use crate::style::Style;
 use crate::verbose::laid_out;
 use crate::written::text_of;
 use fancy_lex::error::{Error, Result};
 use fancy_lex::flags::Flags;
-use fancy_pattern::same::is_same_result;
 use fancy_spans::SpannedTree;
 use std::alloc::{AllocError, Global};
 
@@ -28,50 +28,42 @@ pub struct Formatted {
     pub extent: Extent,
 }
 
-/// Whether the text is parsed as the pattern is, but for positions, and has its comments.
-fn reads_back(
-    alloc: Global,
-    pattern: &str,
-    parsed: &SpannedTree,
-    text: &str,
-    flags: u32,
-) -> std::result::Result<bool, AllocError>
-    ensures { IfOk result (λ b. IsTrue b → ReadsBack (flags_of flags) text.now (view parsed.now.tree.expr)
-        (info_of parsed.now.tree) (comments pattern.now (trivia_of parsed.now.trivia))) }
-{
-    let new = match SpannedTree::parse(alloc, text, flags) {
-        Ok(new) => new,
-        Err(Error::ParseError(..)) => return Ok(false),
-        Err(Error::OutOfMemory) => return Err(AllocError),
-    };
-    if !is_same_result(&parsed.tree, &new.tree) {
-        return Ok(false);
-    }
-    let is_same = has_same_comments(alloc, pattern, &parsed.trivia, text, &new.trivia)?;
-    Ok(is_same)
-}
-
 /// The pattern formatted to the greatest extent with which it reads back, its lines kept; None if there is no such extent.
 fn most_formatted(
     alloc: Global,
     pattern: &str,
     parsed: &SpannedTree,
     flags: u32,
+    style: Style,
 ) -> std::result::Result<Option<Formatted>, AllocError>
-    ensures { IfOk result (λ o. IfSome o (λ formatted. ReadsBack (flags_of flags) (string_bytes formatted.text)
+    ensures { IfOk result (λ o. IfSome o (λ formatted. ReadsBack style (flags_of flags) (string_bytes formatted.text)
         (view parsed.now.tree.expr) (info_of parsed.now.tree)
-        (comments pattern.now (trivia_of parsed.now.trivia)))) }
+        (comments style pattern.now (trivia_of parsed.now.trivia)))) }
 {
     let tokens = tokens_of(alloc, pattern, parsed)?;
     let oniguruma_mode = Flags::from_bits(flags).oniguruma_mode;
     for extent in &[Extent::Whole, Extent::Spelling, Extent::Blanks] {
         let extent = *extent;
         let text = text_of(alloc, &tokens, extent, oniguruma_mode)?;
-        if reads_back(alloc, pattern, parsed, text.as_str(), flags)? {
+        if reads_back(alloc, pattern, parsed, text.as_str(), flags, style)? {
             return Ok(Some(Formatted { text, extent }));
         }
     }
     Ok(None)
+}
+
+/// The text in the lines of the style; None if the style keeps those that it has, or if there is no such text.
+fn in_lines_of(
+    alloc: Global,
+    text: &str,
+    flags: u32,
+    style: Style,
+) -> std::result::Result<Option<String>, AllocError> {
+    match style {
+        Style::Kept => Ok(None),
+        Style::Verbose { width } => laid_out(alloc, text, flags, width),
+        Style::Compact => in_line(alloc, text, flags),
+    }
 }
 
 /// A text laid out in the style, if that changes its lines, and if it reads back as the pattern.
@@ -83,17 +75,14 @@ fn styled(
     flags: u32,
     style: Style,
 ) -> std::result::Result<Option<Formatted>, AllocError>
-    ensures { IfOk result (λ o. IfSome o (λ formatted. ReadsBack (flags_of flags) (string_bytes formatted.text)
+    ensures { IfOk result (λ o. IfSome o (λ formatted. ReadsBack style (flags_of flags) (string_bytes formatted.text)
         (view parsed.now.tree.expr) (info_of parsed.now.tree)
-        (comments pattern.now (trivia_of parsed.now.trivia)))) }
+        (comments style pattern.now (trivia_of parsed.now.trivia)))) }
 {
-    let Style::Verbose { width } = style else {
+    let Some(text) = in_lines_of(alloc, text, flags, style)? else {
         return Ok(None);
     };
-    let Some(text) = laid_out(alloc, text, flags, width)? else {
-        return Ok(None);
-    };
-    if !reads_back(alloc, pattern, parsed, text.as_str(), flags)? {
+    if !reads_back(alloc, pattern, parsed, text.as_str(), flags, style)? {
         return Ok(None);
     }
     Ok(Some(Formatted {
@@ -111,14 +100,14 @@ fn most_styled(
     flags: u32,
     style: Style,
 ) -> std::result::Result<Option<Formatted>, AllocError>
-    ensures { IfOk result (λ o. IfSome o (λ formatted. ReadsBack (flags_of flags) (string_bytes formatted.text)
+    ensures { IfOk result (λ o. IfSome o (λ formatted. ReadsBack style (flags_of flags) (string_bytes formatted.text)
         (view parsed.now.tree.expr) (info_of parsed.now.tree)
-        (comments pattern.now (trivia_of parsed.now.trivia)))) }
+        (comments style pattern.now (trivia_of parsed.now.trivia)))) }
 {
     if let Some(formatted) = styled(alloc, pattern, parsed, pattern, flags, style)? {
         return Ok(Some(formatted));
     }
-    let Some(kept) = most_formatted(alloc, pattern, parsed, flags)? else {
+    let Some(kept) = most_formatted(alloc, pattern, parsed, flags, style)? else {
         return Ok(None);
     };
     if let Some(formatted) = styled(alloc, pattern, parsed, kept.text.as_str(), flags, style)? {
@@ -146,8 +135,9 @@ fn most_styled(
 /// println!(rt; "{}", formatted.text)?; // a\x41?
 /// ```
 pub fn format_pattern(alloc: Global, pattern: &str, flags: u32, style: Style) -> Result<Formatted>
-    ensures formatted { IfOk result (λ r. IsFormatted (flags_of flags) pattern.now (string_bytes r.text)) }
+    ensures formatted { IfOk result (λ r. IsFormatted style (flags_of flags) pattern.now (string_bytes r.text)) }
     ensures error { IfErr result (λ e. IsOnlyError e (flags_of flags) (chars pattern.now)) }
+    ensures position { IfErr result (λ e. IsPositionedIn e pattern.now) }
 {
     let parsed = SpannedTree::parse(alloc, pattern, flags)?;
     if let Some(formatted) = most_styled(alloc, pattern, &parsed, flags, style)? {

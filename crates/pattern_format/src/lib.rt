@@ -3,6 +3,7 @@
 
 mod blanks;
 mod comments;
+mod compact;
 mod cut;
 pub mod extent;
 mod flag_groups;
@@ -11,6 +12,7 @@ mod items;
 mod layout;
 mod nodes;
 mod pieces;
+mod read_back;
 mod spelling;
 pub mod style;
 mod token;

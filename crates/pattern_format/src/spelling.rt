@@ -4,7 +4,7 @@ use fancy_lex::flags::Flags;
 use std::alloc::{AllocError, Global};
 
 /// The text without its blanks.
-fn without_blanks(alloc: Global, text: &str) -> Result<String, AllocError> {
+pub(crate) fn without_blanks(alloc: Global, text: &str) -> Result<String, AllocError> {
     let mut kept = String::with_capacity(alloc, text.len())?;
     for c in text.chars() {
         if !is_blank(c) {

@@ -8,4 +8,7 @@ pub enum Style {
     /// Over several lines, under `FLAG_IGNORE_SPACE`: what does not fit in so many characters is broken into its branches
     /// and groups. The pattern begins with `(?x)` unless the flags ignore whitespace.
     Verbose { width: usize },
+    /// In one line, without ignored whitespace: a comment through the end of its line becomes `(?#..)`, and `(?x)` at the
+    /// beginning goes.
+    Compact,
 }

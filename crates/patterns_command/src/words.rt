@@ -23,7 +23,7 @@ const ABOUT: &str =
     "Checks, shows and formats patterns in the syntax of fancy-regex. It does not match them.
 Flags that are set inside a group end with the group.";
 
-const VERSION: &str = "1.2.1";
+const VERSION: &str = "1.3.0";
 
 const STATUSES: &str =
     "The exit status is 0 if every pattern passes, 1 if one does not, 2 if the arguments are wrong
@@ -155,6 +155,9 @@ and groups. In a file of lines a pattern has one line: use -e, -z,
 --textmate or --keys";
 
 const LINE_WIDTH_HELP: &str = "With --verbose, how many characters a line may have; otherwise 80";
+
+const COMPACT_HELP: &str = "Writes each pattern in one line without ignored whitespace: a comment
+after # becomes (?#..), and (?x) at the beginning goes";
 
 const CANONICAL_HELP: &str = "Writes the canonical text of each pattern's tree: without ignored
 whitespace, and in one spelling";
@@ -465,7 +468,7 @@ fn with_outputs<'a>(alloc: Global, command: Command<'a>) -> Result<Command<'a>, 
     command.arg(write)?.arg(check)?.arg(diff)
 }
 
-/// The options of `format` on patterns that are laid out over several lines.
+/// The options of `format` on the lines of patterns.
 fn with_lines<'a>(alloc: Global, command: Command<'a>) -> Result<Command<'a>, AllocError> {
     let verbose = Arg::new(alloc, "verbose")
         .long("verbose")
@@ -478,8 +481,15 @@ fn with_lines<'a>(alloc: Global, command: Command<'a>) -> Result<Command<'a>, Al
         .value_name("CHARACTERS")
         .value_parser(ValueParser::unsigned(1, u32::MAX as u64))
         .help(LINE_WIDTH_HELP)
-        .requires_arg("verbose")?;
-    command.arg(verbose)?.arg(width)
+        .requires_arg("verbose")?
+        .conflicts_with("compact")?;
+    let compact = Arg::new(alloc, "compact")
+        .long("compact")
+        .action(ArgAction::SetTrue)
+        .help(COMPACT_HELP)
+        .conflicts_with("verbose")?
+        .conflicts_with("canonical")?;
+    command.arg(verbose)?.arg(width)?.arg(compact)
 }
 
 fn format_command<'a>(alloc: Global) -> Result<Command<'a>, AllocError> {
@@ -600,11 +610,15 @@ const LINE_WIDTH: usize = 80;
 
 /// The style that the arguments choose for patterns that are formatted.
 fn style_chosen(matches: &ArgMatches<'_>) -> Style {
-    if !matches.get_flag("verbose") {
-        return Style::Kept;
+    if matches.get_flag("verbose") {
+        return Style::Verbose {
+            width: matches.get_one("width").unwrap_or(LINE_WIDTH),
+        };
     }
-    Style::Verbose {
-        width: matches.get_one("width").unwrap_or(LINE_WIDTH),
+    if matches.get_flag("compact") {
+        Style::Compact
+    } else {
+        Style::Kept
     }
 }
 

@@ -49,7 +49,7 @@ fn formatted_text(subject: Subject<'_>, style: Style) -> Result<Option<String>, 
 /// lines.
 fn fits(text: &str, pattern: &str, style: Style) -> bool {
     match style {
-        Style::Kept => is_record(text, pattern),
+        Style::Kept | Style::Compact => is_record(text, pattern),
         Style::Verbose { .. } => !begins_with_bom(text, pattern),
     }
 }

@@ -5,4 +5,4 @@ use Rattle.pattern_format.proofs.comments.comments_of.Given as goal
 
 abbrev pub invariant-loop-trivium : goal.invariant-loop-trivium
 invariant-loop-trivium l =
-    map (λ t. t.now) l.texts.items ≡ comments l.pattern (map trivium_of (take l.trivium-index l.fn.trivia))
+    map (λ t. t.now) l.texts.items ≡ comments l.style l.pattern (map trivium_of (take l.trivium-index l.fn.trivia))

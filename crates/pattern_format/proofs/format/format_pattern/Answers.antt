@@ -9,13 +9,13 @@ use Rattle.pattern_format.proofs.format.format_pattern.Goals as goal
 pub returns-in-Some-clause-formatted : goal.returns-in-Some-clause-formatted
 returns-in-Some-clause-formatted c =
     let parsed = c.in_ok-parsed.parsed in
-    formatted (flags_of c.args.flags) c.args.pattern.now (string_bytes c.in-Some.formatted.text) (view parsed.tree.expr)
+    formatted c.args.style (flags_of c.args.flags) c.args.pattern.now (string_bytes c.in-Some.formatted.text) (view parsed.tree.expr)
     (info_of parsed.tree) (trivia_of parsed.trivia) c.in_ok-parsed.ensures.found c.in_ok-parsed.ensures.trivia
     (rw c.in-Some.is at c.in_ok-formatted.ensures)
 
 pub returns-clause-formatted : goal.returns-clause-formatted
 returns-clause-formatted c =
     let parsed = c.in_ok-parsed.parsed in
-    unchanged (flags_of c.args.flags) c.args.pattern.now (string_bytes c.in_ok-from_str.field-0) (view parsed.tree.expr)
+    unchanged c.args.style (flags_of c.args.flags) c.args.pattern.now (string_bytes c.in_ok-from_str.field-0) (view parsed.tree.expr)
     (info_of parsed.tree) (trivia_of parsed.trivia) c.in_ok-from_str.ensures.ok c.in_ok-parsed.ensures.found
     c.in_ok-parsed.ensures.trivia

@@ -5,7 +5,7 @@ use Rattle.fancy_syntax.specs.TriviaViews.{trivia_of, trivium_of}
 use Rattle.fancy_syntax.specs.View.{view}
 use Rattle.pattern_format.specs.Formatted.{comments}
 use Rattle.pattern_format.proofs.ReadBackLemmas.{read_back}
-use Rattle.pattern_format.proofs.format.reads_back.Goals as goal
+use Rattle.pattern_format.proofs.read_back.reads_back.Goals as goal
 
 pub returns : goal.returns
 returns c same =
@@ -13,9 +13,9 @@ returns c same =
     let text = c.args.text.now in
     let old = c.args.parsed.now in
     let new = c.in-Ok.new in
-    let old_trivia = ap (λ l. comments pattern (map trivium_of l)) c.deref.ensures.value in
-    let new_trivia = ap (λ l. comments text (map trivium_of l)) c.deref-2.ensures.value in
-    read_back (flags_of c.args.flags) pattern text (view old.tree.expr) (view new.tree.expr) (info_of old.tree)
+    let old_trivia = ap (λ l. comments c.args.style pattern (map trivium_of l)) c.deref.ensures.value in
+    let new_trivia = ap (λ l. comments c.args.style text (map trivium_of l)) c.deref-2.ensures.value in
+    read_back c.args.style (flags_of c.args.flags) pattern text (view old.tree.expr) (view new.tree.expr) (info_of old.tree)
     (info_of new.tree) (trivia_of old.trivia) (trivia_of new.trivia) (rw c.in-Ok.is at c.parse.ensures.found)
     (rw c.in-Ok.is at c.parse.ensures.trivia) (c.is_same_result.ensures.0 c.if-not-is_same_result.false)
     (sym old_trivia ∙ c.in_ok-is_same.ensures same ∙ new_trivia)

@@ -1,0 +1,321 @@
+//! Patterns in one line, without the layout that they have.
+use crate::cut::tokens_of;
+use crate::read_back::reads_back;
+use crate::spelling::{push_flags, push_quantifier, without_blanks};
+use crate::style::Style;
+use crate::token::{Token, TokenKind, is_blank};
+use fancy_lex::error::Error;
+use fancy_lex::flags::Flags;
+use fancy_spans::SpannedTree;
+use std::alloc::{AllocError, Global};
+
+/// How often a pattern is written in one line, until that changes nothing.
+const MAX_ROUNDS: usize = 4;
+
+/// A space as it is escaped at the end of a line.
+const SPACE_AT_END: &str = "\\x20";
+
+/// How much of its layout a pattern loses. If the text does not read back as the pattern, less is tried.
+#[derive(Clone, Copy, PartialEq, Eq, Debug)]
+enum Loss {
+    /// Blanks, `(?x)` at the beginning, and the escapes that are needed only after it.
+    Escapes,
+    /// Blanks, and `(?x)` at the beginning.
+    Flag,
+    /// Blanks.
+    Blanks,
+    /// Blanks, of which one stays. Nothing else is left out, and quantifiers and flags are as they were.
+    MoreBlanks,
+}
+
+/// The text of a token that is one character without the escape that it needs where whitespace is ignored.
+fn unescaped(text: &str) -> &str {
+    match text {
+        "\\ " => " ",
+        "\\#" => "#",
+        _ => text,
+    }
+}
+
+/// What is in a comment through the end of its line, if that can be in parentheses.
+fn contents(comment: &str) -> Option<&str> {
+    let text = comment.strip_prefix('#')?.trim_end();
+    let backslashes = text.len().saturating_sub(text.trim_end_matches('\\').len());
+    let is_closed = !text.contains(')') && backslashes.is_multiple_of(2);
+    is_closed.then_some(text)
+}
+
+/// Whether the texts would be read as one token, as those of `\1 2` and `\b {start}`.
+fn are_one(text: &str, next: &str) -> bool {
+    let has_digits = text.starts_with('\\')
+        && text.ends_with(|c: char| c.is_ascii_digit())
+        && next.starts_with(|c: char| c.is_ascii_digit());
+    has_digits || text == "\\b" && next.starts_with('{')
+}
+
+/// A pattern that is written in one line.
+#[derive(Drop)]
+struct Line<'p> {
+    alloc: Global,
+    written: String,
+    /// The last token, if it is one of a node.
+    last: &'p str,
+    /// Whether blanks are after it.
+    has_gap: bool,
+    loss: Loss,
+    oniguruma_mode: bool,
+}
+
+impl<'p> Line<'p> {
+    /// Passes blanks. A space before the end of a line needs no other escape than any space.
+    fn pass_blanks(&mut self, blanks: &str) -> Result<(), AllocError> {
+        self.has_gap = true;
+        if self.loss == Loss::Escapes && self.last == SPACE_AT_END && blanks.contains('\n') {
+            for _ in 0..SPACE_AT_END.len() {
+                self.written.pop();
+            }
+            self.written.push(' ')?;
+            self.last = "";
+        }
+        Ok(())
+    }
+
+    /// Writes the blank that stays between the last token and the next one.
+    fn push_gap(&mut self, next: &str) -> Result<(), AllocError> {
+        let has_gap = self.has_gap && !self.written.is_empty() && !self.written.ends_with('\n');
+        self.has_gap = false;
+        if has_gap && (self.loss == Loss::MoreBlanks || are_one(self.last, next)) {
+            self.written.push(' ')?;
+        }
+        Ok(())
+    }
+
+    /// Writes a comment through the end of its line in parentheses if it can be. Otherwise it stays with its line.
+    fn push_line_comment(&mut self, comment: &str) -> Result<(), AllocError> {
+        let Some(text) = contents(comment) else {
+            return Ok(self.written.push_str(comment)?);
+        };
+        if !text.is_empty() {
+            self.written.push_str("(?#")?;
+            self.written.push_str(text)?;
+            self.written.push(')')?;
+        }
+        Ok(())
+    }
+
+    /// Writes the opening of a group that comments through the ends of their lines follow.
+    fn push_commented(&mut self, text: &str) -> Result<(), AllocError> {
+        let Some(comments) = text.strip_prefix('(') else {
+            return Ok(self.written.push_str(text)?);
+        };
+        self.written.push('(')?;
+        for line in comments.split_inclusive('\n') {
+            let comment = line.trim_start_matches(is_blank);
+            if comment.starts_with('#') {
+                self.push_line_comment(comment)?;
+            } else {
+                self.written.push_str(comment)?;
+            }
+        }
+        Ok(())
+    }
+
+    /// Writes inline flags that are the first token. From them on whitespace is ignored no more if that is a loss.
+    fn push_first_flags(
+        &mut self,
+        text: &str,
+        before: Flags,
+        after: Flags,
+    ) -> Result<(), AllocError> {
+        let after = match self.loss {
+            Loss::Escapes | Loss::Flag => Flags {
+                ignore_space: before.ignore_space,
+                ..after
+            },
+            Loss::Blanks | Loss::MoreBlanks => after,
+        };
+        if before != after {
+            push_flags(self.alloc, &mut self.written, text, before, after)?;
+        }
+        Ok(())
+    }
+
+    /// Writes a text with one space for blanks.
+    fn push_spaced(&mut self, text: &str) -> Result<(), AllocError> {
+        for part in text.split_inclusive(is_blank) {
+            let word = part.trim_end_matches(is_blank);
+            self.written.push_str(word)?;
+            if word.len() < part.len() && !self.written.ends_with(' ') {
+                self.written.push(' ')?;
+            }
+        }
+        Ok(())
+    }
+
+    /// Writes what is neither a leaf nor a comment, and has no comment in it.
+    fn push_other(&mut self, token: Token<'p>, is_first: bool) -> Result<(), AllocError> {
+        let text = token.text;
+        if self.loss == Loss::MoreBlanks {
+            return self.push_spaced(text);
+        }
+        let written = &mut self.written;
+        match token.kind {
+            TokenKind::Flags { before, after } if is_first && text.ends_with(')') => {
+                self.push_first_flags(text, before, after)
+            }
+            TokenKind::Flags { before, after } => {
+                push_flags(self.alloc, written, text, before, after)
+            }
+            TokenKind::Quantifier => {
+                push_quantifier(self.alloc, written, text, !self.oniguruma_mode)
+            }
+            TokenKind::Blank
+            | TokenKind::LineComment
+            | TokenKind::Leaf
+            | TokenKind::Comment
+            | TokenKind::Other => {
+                let text = without_blanks(self.alloc, text)?;
+                Ok(written.push_str(text.as_str())?)
+            }
+        }
+    }
+
+    /// Writes a token that is neither blank nor an empty comment, and may be the first one.
+    fn push_text(&mut self, token: Token<'p>, is_first: bool) -> Result<(), AllocError> {
+        let text = token.text;
+        match token.kind {
+            TokenKind::LineComment => self.push_line_comment(text),
+            TokenKind::Leaf if self.loss == Loss::Escapes => {
+                Ok(self.written.push_str(unescaped(text))?)
+            }
+            TokenKind::Leaf | TokenKind::Comment => Ok(self.written.push_str(text)?),
+            TokenKind::Blank | TokenKind::Flags { .. } | TokenKind::Quantifier | TokenKind::Other =>
+                {
+                    if text.contains('#') {
+                        self.push_commented(text)
+                    } else {
+                        self.push_other(token, is_first)
+                    }
+                }
+        }
+    }
+
+    /// Writes a token, which may be the first one.
+    fn push(&mut self, token: Token<'p>, is_first: bool) -> Result<(), AllocError> {
+        let text = token.text;
+        match token.kind {
+            TokenKind::Blank => self.pass_blanks(text),
+            TokenKind::LineComment if contents(text) == Some("") => {
+                self.has_gap = true;
+                Ok(())
+            }
+            TokenKind::LineComment
+            | TokenKind::Comment
+            | TokenKind::Leaf
+            | TokenKind::Flags { .. }
+            | TokenKind::Quantifier
+            | TokenKind::Other => {
+                self.push_gap(text)?;
+                self.last = text;
+                self.push_text(token, is_first)
+            }
+        }
+    }
+}
+
+/// The tokens in one line, without those that are needless.
+fn text_of(
+    alloc: Global,
+    tokens: &[Token<'_>],
+    loss: Loss,
+    oniguruma_mode: bool,
+) -> Result<String, AllocError> {
+    let mut line = Line {
+        alloc,
+        written: String::new(alloc),
+        last: "",
+        has_gap: false,
+        loss,
+        oniguruma_mode,
+    };
+    for (i, token) in tokens.iter().enumerate() {
+        if !token.is_needless || loss == Loss::MoreBlanks {
+            line.push(*token, i == 0)?;
+        }
+    }
+    Ok(line.written)
+}
+
+/// Whether the token is inline flags from which on whitespace is ignored.
+fn sets_ignore_space(token: Token<'_>) -> bool {
+    match token.kind {
+        TokenKind::Flags { before, after } => after.ignore_space
+            && !before.ignore_space
+            && token.text.ends_with(')'),
+        TokenKind::Blank
+        | TokenKind::LineComment
+        | TokenKind::Comment
+        | TokenKind::Leaf
+        | TokenKind::Quantifier
+        | TokenKind::Other => false,
+    }
+}
+
+/// The losses that are tried.
+fn losses(tokens: &[Token<'_>]) -> &'static [Loss] {
+    match tokens.first() {
+        Some(first) if sets_ignore_space(*first) => &[
+            Loss::Escapes,
+            Loss::Flag,
+            Loss::Blanks,
+            Loss::MoreBlanks,
+        ],
+        _ => &[Loss::Blanks, Loss::MoreBlanks],
+    }
+}
+
+/// The pattern with the least layout with which it reads back. None if it is invalid, or there is no such text.
+fn in_line_once(alloc: Global, pattern: &str, flags: u32) -> Result<Option<String>, AllocError> {
+    let parsed = match SpannedTree::parse(alloc, pattern, flags) {
+        Ok(parsed) => parsed,
+        Err(Error::ParseError(..)) => return Ok(None),
+        Err(Error::OutOfMemory) => return Err(AllocError),
+    };
+    let tokens = tokens_of(alloc, pattern, &parsed)?;
+    let oniguruma_mode = Flags::from_bits(flags).oniguruma_mode;
+    for loss in losses(&tokens) {
+        let text = text_of(alloc, &tokens, *loss, oniguruma_mode)?;
+        if reads_back(
+            alloc,
+            pattern,
+            &parsed,
+            text.as_str(),
+            flags,
+            Style::Compact,
+        )? {
+            return Ok(Some(text));
+        }
+    }
+    Ok(None)
+}
+
+/// The pattern in one line, but for comments that need their lines. None if it cannot be so that it stays so.
+pub(crate) fn in_line(
+    alloc: Global,
+    pattern: &str,
+    flags: u32,
+) -> Result<Option<String>, AllocError> {
+    let Some(mut text) = in_line_once(alloc, pattern, flags)? else {
+        return Ok(None);
+    };
+    for _ in 0..MAX_ROUNDS {
+        let Some(again) = in_line_once(alloc, text.as_str(), flags)? else {
+            return Ok(None);
+        };
+        if again.as_str() == text.as_str() {
+            return Ok(Some(text));
+        }
+        text = again;
+    }
+    Ok(None)
+}
