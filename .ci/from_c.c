@@ -7,6 +7,7 @@
 #include "records.h"
 #include "rows.h"
 #include "trivia.h"
+#include "format.h"
 
 static size_t left_until_refusal; // 0: none is refused
 static bool was_refused;
@@ -154,13 +155,14 @@ static bool are_spans_right(const char *pattern, size_t length, uint32_t flags) 
     return is_right;
 }
 
-// Makes the call of a number, of those that take rows, write a tree at once, or write what no node has.
+// Makes the call of a number, of those that take rows, write a tree at once, write what no node has, or format.
 static fancy_result call_with_rows(int which, const tree *t, const char *pattern, size_t length, uint32_t flags, char *text) {
     size_t capacity = CAPACITY(length);
     if (which == 0) return print_rows(t, 0, 0, text, capacity);
     if (which == 1) return write_rows(t, 0, flags, text, capacity);
     if (which == 2) return fancy_tree(pattern, length, flags, NULL, 0, text, capacity, NULL, 0, NULL, 0, NULL);
-    return fancy_trivia(pattern, length, flags, (fancy_trivium *)(void *)text, capacity / sizeof(fancy_trivium), NULL);
+    if (which == 3) return fancy_trivia(pattern, length, flags, (fancy_trivium *)(void *)text, capacity / sizeof(fancy_trivium), NULL);
+    return fancy_format(pattern, length, flags, which == 4 ? FANCY_STYLE_KEPT : FANCY_STYLE_VERBOSE, 80, text, capacity);
 }
 
 // Makes these calls with each request for memory refused in turn: then the status has to say so, and else to be the usual one.
@@ -169,7 +171,7 @@ static bool are_rows_refused_memory(const char *pattern, size_t length, uint32_t
     take(&t, pattern, length, flags);
     char *text = untouched(CAPACITY(length));
     bool is_right = true;
-    for (int which = t.nodes ? 0 : 2; which < 4; which++) {
+    for (int which = t.nodes ? 0 : 2; which < 6; which++) {
         fancy_result usual = call_with_rows(which, &t, pattern, length, flags, text);
         memset(text, 0xA5, CAPACITY(length));
         for (size_t n = 1; is_right; n++) {
@@ -197,7 +199,7 @@ static bool is_line_right(char **fields, bool refuses) {
     char *pattern = decode(fields[1], &length);
     bool is_right = is_answered(pattern, length, flags, fields) && is_short_said(pattern, length, flags) &&
                     are_spans_right(pattern, length, flags) && are_rows_right(pattern, length, flags) &&
-                    are_trivia_right(pattern, length, flags) &&
+                    are_trivia_right(pattern, length, flags) && are_formatted_right(pattern, length, flags) &&
                     (!refuses || are_rows_refused_memory(pattern, length, flags));
     for (size_t n = 1; refuses && is_right; n++) {
         left_until_refusal = n;
@@ -211,7 +213,7 @@ static bool is_line_right(char **fields, bool refuses) {
     return is_right;
 }
 
-// Whether the text that is written for the tree of a pattern is the recorded one.
+// Whether the text that is written for the tree of a pattern is the recorded one, and what it is formatted to is right.
 static bool is_written(char **fields) {
     uint32_t flags = 0;
     size_t length, wanted_size;
@@ -219,7 +221,8 @@ static bool is_written(char **fields) {
     char *pattern = decode(fields[2], &length), *wanted = decode(fields[3], &wanted_size);
     char *text = malloc(wanted_size + 1);
     fancy_result got = fancy_pattern(pattern, length, flags, text, wanted_size);
-    bool is_right = got.status == FANCY_STATUS_OK && got.size == wanted_size && memcmp(text, wanted, wanted_size) == 0;
+    bool is_right = got.status == FANCY_STATUS_OK && got.size == wanted_size && memcmp(text, wanted, wanted_size) == 0 &&
+                    are_formatted_right(pattern, length, flags);
     free(pattern);
     free(wanted);
     free(text);
@@ -273,7 +276,7 @@ static bool is_rest_right(void) {
                         FANCY_STATUS_BUFFER_TOO_SHORT &&
                     fancy_parse(NULL, 0, 0, &node, 1, NULL, 0, NULL, 0, NULL, 0, &info).status == FANCY_STATUS_OK &&
                     info.node_count == 1 && node.kind == FANCY_NODE_EMPTY && node.start == 0 && node.stop == 0 && node.end == 1;
-    is_right = is_right && are_rows_by_hand_right() && are_trivia_by_hand_right();
+    is_right = is_right && are_rows_by_hand_right() && are_trivia_by_hand_right() && are_formatted_by_hand_right();
     for (uint32_t kind = 0; kind < 300; kind++) {
         fancy_result got = fancy_error_text(kind, text, sizeof text);
         is_right = is_right && got.size == strlen(fancy_kind_message(kind)) && memcmp(text, fancy_kind_message(kind), got.size) == 0;

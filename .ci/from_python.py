@@ -128,14 +128,20 @@ def are_trees_written(pattern, flags):
 
 def is_recorded(row):
     if row[0] == "text":
-        return fancy.format(unhexed(row[2]).decode(), flags_named(row[1])).encode() == unhexed(row[3])
+        pattern, flags = unhexed(row[2]).decode(), flags_named(row[1])
+        return fancy.format(pattern, flags).encode() == unhexed(row[3]) and is_kept_by_a_style(pattern, flags)
     if not (row[0] == "-" or (row[0] and set(row[0]) <= set(LETTERS))):
         return row[2] == "2"
     status, out, err = int(row[2]), *(unhexed(field).decode() for field in row[3:5])
     flags, given = flags_named(row[0]), unhexed(row[1])
     pattern = given.decode()
     is_same = answer(pattern, flags) == answer(given, flags) == (status, out, err)
-    return is_same and are_spans_in_characters(pattern, flags) and are_trees_written(pattern, flags)
+    return (
+        is_same
+        and are_spans_in_characters(pattern, flags)
+        and are_trees_written(pattern, flags)
+        and is_kept_by_a_style(pattern, flags)
+    )
 
 
 def replay(file):
@@ -244,6 +250,55 @@ def are_trivia_right():
     )  # fmt: skip
 
 
+def is_kept_by_a_style(pattern, flags):
+    """Whether what a pattern is formatted to in each style has its tree and its comments, and is formatted already."""
+    if fancy.check(pattern, flags) is not None:
+        return True
+    for style in fancy.Style:
+        text = fancy.format(pattern, flags, style, width=30)
+        tree, comments = fancy.parse(pattern, flags), comments_of(pattern, flags, style)
+        if (text, comments) != (fancy.format(text, flags, style, width=30), comments_of(text, flags, style)):
+            return False
+        if tree.format() != fancy.parse(text, flags).format() or tree.named_groups != fancy.parse(text, flags).named_groups:
+            return False
+    return True
+
+
+def comments_of(pattern, flags, style):
+    """The comments that are not empty, for the style `COMPACT` without their delimiters and whitespace at their ends."""
+    kinds = fancy.TriviumKind.COMMENT, fancy.TriviumKind.LINE_COMMENT
+    texts = [pattern[slice(*it.span)] for it in fancy.trivia(pattern, flags) if it.kind in kinds]
+    if style == fancy.Style.COMPACT:
+        return [it for it in ((text[3:-1] if text[0] == "(" else text[1:]).rstrip() for text in texts) if it]
+    return [text for text in texts if text != "(?#)"]
+
+
+def raises(kind, call):
+    try:
+        call()
+    except kind:
+        return True
+    return False
+
+
+def are_formatted_right():
+    style, verbose = fancy.Style, fancy.UNICODE | fancy.IGNORE_SPACE
+    return (
+        fancy.format("(?:\\x41){0,1}(?# é)", style=style.KEPT) == "\\x41?(?# é)"
+        and fancy.format("(?:\\x41){0,1}(?# é)".encode(), style=style.KEPT) == "\\x41?(?# é)"
+        and fancy.format("a  b \n (?:c){1,}   # one", verbose, style.KEPT) == "a b\n c+   # one"
+        and fancy.format("(abcd|ef)g", style=style.VERBOSE) == "(?x)\n(abcd|ef)g"
+        and fancy.format("(abcd|ef)g", style=style.VERBOSE, width=8) == "(?x)\n(\n    abcd\n  | ef\n)\ng"
+        and fancy.format("(abcd|ef)g", style=style.VERBOSE, width=2**64) == "(?x)\n(abcd|ef)g"
+        and fancy.format("(?x)\n  a{0,1} # é\n| b", style=style.COMPACT) == "a?(?# é)|b"
+        and fancy.format("(?:\\x41){0,1}(?# é)") == "A?"
+        and raises(ValueError, lambda: fancy.format("a", style=len(style)))
+        and raises(ValueError, lambda: fancy.format("a", style=style.VERBOSE, width=-1))
+        and raises(fancy.Error, lambda: fancy.format("(", style=style.KEPT))
+        and raises(fancy.Error, lambda: fancy.format(b"\xff", style=style.KEPT))
+    )
+
+
 def changed(pattern, kind):
     """What is written for the tree of a pattern whose first child is replaced."""
     tree = fancy.parse(pattern)
@@ -257,6 +312,7 @@ def are_numbers_right(header):
     enums = {
         "FLAG": fancy.Flag, "ERROR": fancy.ErrorKind, "ASSERTION": fancy.AssertionKind, "LOOK": fancy.LookKind,
         "VERB": fancy.VerbKind, "ABSENT": fancy.AbsentKind, "PRECEDENCE": fancy.Precedence, "TRIVIUM": fancy.TriviumKind,
+        "STYLE": fancy.Style,
     }  # fmt: skip
     numbers = {f"{prefix}_{it.name}": int(it) for prefix, enum in enums.items() for it in enum}
     numbers["ERROR_NONE"] = numbers.pop("ERROR_NOT_UTF8")
@@ -276,8 +332,9 @@ def are_null_pointers_taken():
         call.fancy_parse(*none, 0, *none, *none, *none, *none, None),
         call.fancy_tree(*none, 0, *none, *none, *none, *none, None), call.fancy_print_nodes(*none, *none, 0, 0, *none),
         call.fancy_pattern_nodes(*none, *none, 0, *none, None, 0, *none), call.fancy_trivia(*none, 0, *none, None),
+        call.fancy_format(*none, 0, fancy.Style.KEPT, 0, *none),
     ]  # fmt: skip
-    return [it.status for it in got] == [0, 0, 0, 0, 4, 4, 7, 7, 0]
+    return [it.status for it in got] == [0, 0, 0, 0, 4, 4, 7, 7, 0, 0]
 
 
 def is_command_right():
@@ -305,6 +362,7 @@ def main():
         "errors": are_errors_right(),
         "trees": are_trees_right(),
         "trivia": are_trivia_right(),
+        "formatted patterns": are_formatted_right(),
         "the command": is_command_right(),
         "null pointers": are_null_pointers_taken(),
         "the numbers": are_numbers_right(pathlib.Path(sys.argv[2]).read_text()),

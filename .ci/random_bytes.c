@@ -5,6 +5,7 @@
 #include "records.h"
 #include "rows.h"
 #include "trivia.h"
+#include "format.h"
 
 static uint64_t state;
 
@@ -79,6 +80,7 @@ static bool is_refused_by_all(const char *pattern, size_t length, uint32_t flags
            is_not_utf8(fancy_parse(pattern, length, flags, NULL, 0, NULL, 0, NULL, 0, NULL, 0, &info), position) &&
            is_not_utf8(fancy_tree(pattern, length, flags, NULL, 0, NULL, 0, NULL, 0, NULL, 0, &info), position) &&
            is_not_utf8(fancy_trivia(pattern, length, flags, NULL, 0, NULL), position) &&
+           is_not_utf8(fancy_format(pattern, length, flags, FANCY_STYLE_KEPT, 0, NULL, 0), position) &&
            is_not_utf8(fancy_print(pattern, length, flags, 0, NULL, 0), position) &&
            is_not_utf8(fancy_pattern(pattern, length, flags, NULL, 0), position);
 }
@@ -140,7 +142,8 @@ int main(int argument_count, char **arguments) {
         else is_right = is_written(pattern, length, flags), write_record(file, pattern, length, flags);
         // of one of 16 strings, since a tree has many parts
         if (i % 16 == 0 && prefix == length)
-            is_right = is_right && are_rows_right(pattern, length, flags) && are_trivia_right(pattern, length, flags);
+            is_right = is_right && are_rows_right(pattern, length, flags) && are_trivia_right(pattern, length, flags) &&
+                       are_formatted_right(pattern, length, flags);
         free(pattern);
         if (is_right) continue;
         wrong++;

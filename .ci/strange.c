@@ -83,6 +83,12 @@ fancy_result fancy_pattern_nonnull(const char *pattern, size_t length, uint32_t 
     return text(FANCY_STATUS_OK, length, buffer, capacity);
 }
 
+fancy_result fancy_format_nonnull(const char *pattern, size_t length, uint32_t flags, uint32_t style, size_t width,
+                                  char *buffer, size_t capacity) {
+    (void)pattern, (void)flags, (void)style, (void)width;
+    return text(below(8) ? FANCY_STATUS_OK : FANCY_STATUS_UNKNOWN_STYLE, length, buffer, capacity);
+}
+
 fancy_result fancy_print_nodes_nonnull(const fancy_node *nodes, size_t node_count, const char *texts, size_t texts_size,
                                        size_t index, uint8_t precedence, char *buffer, size_t capacity) {
     (void)nodes, (void)texts, (void)texts_size, (void)index, (void)precedence;

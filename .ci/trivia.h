@@ -68,8 +68,9 @@ static bool is_text_of_kind(const fancy_trivium *it, const char *pattern, size_t
         return has_no_flags && it->stop - it->start >= 4 && memcmp(pattern + it->start, "(?#", 3) == 0 && last == ')';
     case FANCY_TRIVIUM_LINE_COMMENT: return has_no_flags && first == '#' && (last == '\n' || it->stop == length);
     case FANCY_TRIVIUM_INLINE_FLAGS: return are_flags && first == '(' && last == ')';
-    // that of a group without a name is its parenthesis
-    case FANCY_TRIVIUM_OPENING: return are_flags && first == '(' && (last == ':' || it->stop - it->start == 1);
+    // that of a group without a name is its parenthesis, with the comments and the ignored whitespace after it
+    case FANCY_TRIVIUM_OPENING:
+        return are_flags && first == '(' && (last == ':' || it->stop - it->start == 1 || pattern[it->start + 1] != '?');
     case FANCY_TRIVIUM_CLOSING: return has_no_flags && it->stop - it->start == 1 && first == ')';
     default: return false;
     }

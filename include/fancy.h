@@ -24,8 +24,8 @@
 /* The version of this header. fancy_version returns that of the library. CHANGELOG.md says what a change of each number
  * means. */
 #define FANCY_VERSION_MAJOR 1
-#define FANCY_VERSION_MINOR 2
-#define FANCY_VERSION_PATCH 1
+#define FANCY_VERSION_MINOR 3
+#define FANCY_VERSION_PATCH 0
 #define FANCY_VERSION (FANCY_VERSION_MAJOR * 1000000 + FANCY_VERSION_MINOR * 1000 + FANCY_VERSION_PATCH)
 
 #ifdef __cplusplus
@@ -58,7 +58,8 @@ enum {
     FANCY_STATUS_BUFFER_TOO_SHORT = 4, /* no buffer was written; the size that is needed is set */
     FANCY_STATUS_NOT_PRINTABLE = 5,    /* of fancy_print and fancy_print_nodes: there is a tree, and it is not printable */
     FANCY_STATUS_NO_PATTERN = 6,       /* of fancy_pattern_nodes: what is written for the tree does not parse back as it */
-    FANCY_STATUS_NO_TREE = 7           /* of fancy_print_nodes and fancy_pattern_nodes: the rows are no tree */
+    FANCY_STATUS_NO_TREE = 7,          /* of fancy_print_nodes and fancy_pattern_nodes: the rows are no tree */
+    FANCY_STATUS_UNKNOWN_STYLE = 8     /* of fancy_format: no style has this number */
 };
 
 /* Kinds of errors. */
@@ -154,6 +155,13 @@ enum {
     FANCY_PRECEDENCE_OPERAND = 3
 };
 
+/* How fancy_format lays out a pattern. */
+enum {
+    FANCY_STYLE_KEPT = 0,    /* its lines stay, with their indentation */
+    FANCY_STYLE_VERBOSE = 1, /* over several lines; the pattern begins with (?x) unless FANCY_FLAG_IGNORE_SPACE is set */
+    FANCY_STYLE_COMPACT = 2  /* in one line: ignored whitespace goes, (?x) at the beginning, and # one becomes (?# one) */
+};
+
 /* What a call returns. */
 typedef struct {
     uint32_t status; /* FANCY_STATUS_.. */
@@ -239,6 +247,8 @@ fancy_result fancy_parse_nonnull(const char *pattern, size_t length, uint32_t fl
 fancy_result fancy_print_nonnull(const char *pattern, size_t length, uint32_t flags, uint8_t precedence, char *buffer,
                                  size_t capacity);
 fancy_result fancy_pattern_nonnull(const char *pattern, size_t length, uint32_t flags, char *buffer, size_t capacity);
+fancy_result fancy_format_nonnull(const char *pattern, size_t length, uint32_t flags, uint32_t style, size_t width,
+                                  char *buffer, size_t capacity);
 fancy_result fancy_tree_nonnull(const char *pattern, size_t length, uint32_t flags, fancy_node *nodes, size_t node_capacity,
                                 char *texts, size_t texts_capacity, fancy_name *names, size_t name_capacity, size_t *backrefs,
                                 size_t backref_capacity, fancy_info *info);
@@ -319,6 +329,19 @@ FANCY_INLINE fancy_result fancy_print(const char *pattern, size_t length, uint32
 FANCY_INLINE fancy_result fancy_pattern(const char *pattern, size_t length, uint32_t flags, char *buffer, size_t capacity) {
     char none;
     return fancy_pattern_nonnull(pattern ? pattern : "", length, flags, buffer ? buffer : &none, capacity);
+}
+
+/* Formats a pattern, and keeps how it is written: escapes, classes, names, comments, and the flags that it sets. What
+ * changes is what has a simpler form: quantifiers such as {0,1}, groups and flags that are not needed, and ignored
+ * whitespace. The text is parsed, under the same flags, as the same tree with the same groups and names, and has the same
+ * comments except (?#). A pattern that cannot be formatted so is written as it is. The style is FANCY_STYLE_..; width says
+ * how many characters a line may have under FANCY_STYLE_VERBOSE, and is not read under another style. Returns OK or
+ * BUFFER_TOO_SHORT, each with the size of the text; or UNKNOWN_STYLE if no style has the number, whatever the pattern is.
+ * Otherwise it returns what fancy_check returns. Unless it returns OK, nothing is written. */
+FANCY_INLINE fancy_result fancy_format(const char *pattern, size_t length, uint32_t flags, uint32_t style, size_t width,
+                                       char *buffer, size_t capacity) {
+    char none;
+    return fancy_format_nonnull(pattern ? pattern : "", length, flags, style, width, buffer ? buffer : &none, capacity);
 }
 
 /* Parses a pattern as fancy_parse does, with two differences. The flag FANCY_WITHOUT_SPANS leaves the spans out, which is

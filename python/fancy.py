@@ -167,6 +167,14 @@ class Precedence(enum.IntEnum):
     OPERAND = 3
 
 
+class Style(enum.IntEnum):
+    """How `format` lays out a pattern that it keeps as it is written."""
+
+    KEPT = 0  #: its lines stay, with their indentation
+    VERBOSE = 1  #: over several lines; the pattern begins with `(?x)` unless the flags have `IGNORE_SPACE`
+    COMPACT = 2  #: in one line; ignored whitespace goes, `(?x)` at the beginning, and `# one` becomes `(?# one)`
+
+
 # ---- errors
 
 
@@ -527,7 +535,7 @@ class _Info(ctypes.Structure):
 
 _OK, _REFUSED, _NOT_UTF8, _OUT_OF_MEMORY, _BUFFER_TOO_SHORT, _NOT_PRINTABLE, _NO_PATTERN, _NO_TREE = range(8)
 _UNBOUNDED = ctypes.c_size_t(-1).value
-_MAJOR, _MINOR = 1, 2
+_MAJOR, _MINOR = 1, 3
 
 
 def _load() -> ctypes.CDLL:
@@ -552,6 +560,7 @@ def _load() -> ctypes.CDLL:
         "fancy_parse": pattern + 4 * buffer + [ctypes.POINTER(_Info)],
         "fancy_print": pattern + [ctypes.c_uint8] + buffer,
         "fancy_pattern": pattern + buffer,
+        "fancy_format": pattern + [ctypes.c_uint32, ctypes.c_size_t] + buffer,
         "fancy_tree": pattern + 4 * buffer + [ctypes.POINTER(_Info)],
         "fancy_print_nodes": rows + [ctypes.c_uint8] + buffer,
         "fancy_trivia": pattern + buffer + [ctypes.POINTER(ctypes.c_size_t)],
@@ -829,12 +838,32 @@ def check(pattern: Pattern, flags: int = UNICODE) -> Optional[Error]:
     return _Source(pattern, flags).refusal()
 
 
-def format(pattern: Pattern, flags: int = UNICODE) -> str:
-    """Returns a pattern that is parsed, under the same flags, as the same tree with the same groups and names. Comments,
-    ignored whitespace, and the choice among several ways to write the same node are lost. Raises `Error` if the pattern
-    is invalid, and `RuntimeError` if the text for the tree does not parse back as it; by what is proved of the library,
-    this does not happen."""
+def format(pattern: Pattern, flags: int = UNICODE, style: Optional[Style] = None, width: int = 80) -> str:
+    """Returns a pattern that is parsed, under the same flags, as the same tree with the same groups and names. Raises `Error`
+    if the pattern is invalid.
+
+    With a style, it is written as its author wrote it: escapes, classes, names and comments stay. Simpler forms of quantifiers
+    are used, and groups, flags and ignored whitespace that are not needed go. `width` is how many characters a line may have
+    in the style `VERBOSE`.
+
+    >>> format("(?:a){0,1}|\\\\x41", style=Style.KEPT)
+    'a?|\\\\x41'
+    >>> print(format("(?:a){0,1}|\\\\x41", style=Style.VERBOSE))
+    (?x)
+      a?
+    | \\x41
+
+    Without a style, the pattern has one form for each tree: comments, ignored whitespace, and the choice among several ways to
+    write the same node are lost. Then it raises `RuntimeError` if the text for the tree does not parse back as it; by what is
+    proved of the library, this does not happen."""
     source = _Source(pattern, flags)
+    if style is not None:
+        style, width = Style(style), min(width, _UNBOUNDED)
+        if width < 0:
+            raise ValueError("a width is not negative")
+        return source.text(
+            lambda buffer, capacity: _library.fancy_format(*source.arguments, style, width, buffer, capacity)
+        )[1]
     status, text = source.text(
         lambda buffer, capacity: _library.fancy_pattern(*source.arguments, buffer, capacity)
     )

@@ -20,7 +20,7 @@ pub(crate) struct RowsIn<'a> {
 /// No text for a pattern of this length is nearly as long. It is only there so that a size that cannot be right is never
 /// allocated.
 fn bound(length: usize) -> usize {
-    length.saturating_mul(64).saturating_add(1024)
+    length.saturating_mul(512).saturating_add(1024)
 }
 
 /// Returns an error if the library has another major version, since then its structs may be laid out in another way, or is
@@ -31,7 +31,7 @@ pub(crate) fn ready() -> Result<(), Error> {
     if major == numbers::VERSION_MAJOR && minor >= numbers::VERSION_MINOR {
         Ok(())
     } else {
-        Err(Error::Library("its version is neither 1.2 nor a later 1"))
+        Err(Error::Library("its version is neither 1.3 nor a later 1"))
     }
 }
 

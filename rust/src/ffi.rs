@@ -1,4 +1,4 @@
-//! The calls of `fancy.h`, version 1.2. This is the only file of the crate with `unsafe` code.
+//! The calls of `fancy.h`, version 1.3. This is the only file of the crate with `unsafe` code.
 //!
 //! What is called are the proved functions, whose names end in `_nonnull`: they take no null pointer, and a slice never
 //! has one.
@@ -18,6 +18,7 @@ extern "C" {
         backrefs: *mut usize, backref_capacity: usize, info: *mut Info) -> CallResult;
     fn fancy_print_nonnull(pattern: *const c_char, length: usize, flags: u32, precedence: u8, buffer: *mut c_char, capacity: usize) -> CallResult;
     fn fancy_pattern_nonnull(pattern: *const c_char, length: usize, flags: u32, buffer: *mut c_char, capacity: usize) -> CallResult;
+    fn fancy_format_nonnull(pattern: *const c_char, length: usize, flags: u32, style: u32, width: usize, buffer: *mut c_char, capacity: usize) -> CallResult;
     fn fancy_print_nodes_nonnull(nodes: *const Node, node_count: usize, texts: *const c_char, texts_size: usize, index: usize,
         precedence: u8, buffer: *mut c_char, capacity: usize) -> CallResult;
     fn fancy_pattern_nodes_nonnull(nodes: *const Node, node_count: usize, texts: *const c_char, texts_size: usize, index: usize,
@@ -68,6 +69,14 @@ pub(crate) fn print(pattern: &str, flags: u32, precedence: u8, buffer: &mut [u8]
 pub(crate) fn pattern(pattern: &str, flags: u32, buffer: &mut [u8]) -> CallResult {
     // SAFETY: the pattern and the buffer are slices, the second a mutable borrow
     unsafe { fancy_pattern_nonnull(pattern.as_ptr().cast(), pattern.len(), flags, buffer.as_mut_ptr().cast(), buffer.len()) }
+}
+
+#[rustfmt::skip]
+pub(crate) fn format(pattern: &str, flags: u32, style: u32, width: usize, buffer: &mut [u8]) -> CallResult {
+    // SAFETY: the pattern and the buffer are slices, the second a mutable borrow
+    unsafe {
+        fancy_format_nonnull(pattern.as_ptr().cast(), pattern.len(), flags, style, width, buffer.as_mut_ptr().cast(), buffer.len())
+    }
 }
 
 #[rustfmt::skip]

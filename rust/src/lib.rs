@@ -19,6 +19,7 @@
 //! - [`Rows`] holds a tree as the library writes it, in buffers that later patterns use again. It is for programs that only look.
 //! - [`check`] says only whether a pattern is valid.
 //! - [`trivia()`] returns what no node has: comments, inline flags, and the parentheses of flag groups such as `(?:a)`.
+//! - [`format_pattern`] formats a pattern, and keeps its spelling and its comments.
 //! - [`to_pattern`] and [`print()`] write the tree of a pattern as a pattern again; [`Tree::to_pattern`] and [`Expr::print`] do this
 //!   for a tree that may have been changed, and [`NodeRef::print`] for a part of one.
 //!
@@ -34,6 +35,7 @@ mod expr;
 #[allow(unsafe_code)]
 mod ffi;
 mod flags;
+mod format;
 mod node;
 mod numbers;
 mod owned;
@@ -47,6 +49,7 @@ pub use error::{Error, ParseError};
 pub use expr::{Absent, Assertion, AstNode, BacktrackingControlVerb, CaptureGroupTarget, Expr, LookAround};
 pub use expr::{ExprChildrenIter, ExprChildrenIterMut, Walk};
 pub use flags::Flags;
+pub use format::{format_pattern, Style};
 pub use node::{AbsentKind, CallTarget, Children, Kind, NodeRef};
 pub use rows::Rows;
 pub use tree::{GroupInfo, Span, Tree};
@@ -148,7 +151,8 @@ fn error_of(result: CallResult, pattern: &str, flags: Flags) -> Error {
 /// Writes the tree of a pattern as a pattern again: one that is parsed, under the same flags, as the same tree with the same
 /// groups and names. Comments, ignored whitespace, and the choice among several ways to write the same node are lost.
 ///
-/// [`Tree::to_pattern`] and [`Rows::to_pattern`] do this for a tree that is there already.
+/// [`Tree::to_pattern`] and [`Rows::to_pattern`] do this for a tree that is there already. [`format_pattern`] keeps what is lost
+/// here.
 ///
 /// # Errors
 ///

@@ -108,6 +108,10 @@ numbers! {
     PRECEDENCE_PIECE = 2,
     PRECEDENCE_OPERAND = 3,
 
+    STYLE_KEPT = 0,
+    STYLE_VERBOSE = 1,
+    STYLE_COMPACT = 2,
+
     TRIVIUM_COMMENT = 1,
     TRIVIUM_LINE_COMMENT = 2,
     TRIVIUM_INLINE_FLAGS = 3,
@@ -117,7 +121,7 @@ numbers! {
     WITHOUT_SPANS = 65536,
 
     VERSION_MAJOR = 1,
-    VERSION_MINOR = 2,
+    VERSION_MINOR = 3,
 }
 
 #[cfg(test)]
@@ -125,9 +129,9 @@ mod tests {
     use super::ALL;
     use std::collections::BTreeMap;
 
-    /// Constants of the header that this crate does not use: a status that is never returned for a `str`, that a result has no
-    /// error, and the rest of the version.
-    const UNUSED: [&str; 3] = ["STATUS_NOT_UTF8", "ERROR_NONE", "VERSION_PATCH"];
+    /// Constants of the header that this crate does not use: a status that is never returned for a `str`, one that is never
+    /// returned for a `Style`, that a result has no error, and the rest of the version.
+    const UNUSED: [&str; 4] = ["STATUS_NOT_UTF8", "STATUS_UNKNOWN_STYLE", "ERROR_NONE", "VERSION_PATCH"];
 
     /// `FANCY_NAME = 1` and `#define FANCY_NAME 1`, as a name without `FANCY_`, and a number.
     fn constants(header: &str) -> BTreeMap<String, u32> {

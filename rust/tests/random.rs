@@ -5,7 +5,8 @@ mod common;
 
 use common::*;
 use fancy_syntax::{
-    check, parse, parse_without_spans, print, to_pattern, trivia, AstNode, Error, Expr, Flags, Precedence, Rows, Tree,
+    check, format_pattern, parse, parse_without_spans, print, to_pattern, trivia, AstNode, Error, Expr, Flags,
+    Precedence, Rows, Style, Tree,
 };
 use std::fs::File;
 use std::io::{BufWriter, Write};
@@ -162,9 +163,21 @@ fn check_trivia(pattern: &str, flags: Flags) {
     }
 }
 
+/// Checks that what a pattern is formatted to is parsed as its tree, and is formatted already.
+fn check_formatted(pattern: &str, flags: Flags, tree: &Tree) {
+    for style in [Style::Kept, Style::Verbose { width: 30 }, Style::Compact] {
+        let text = format_pattern(pattern, flags, style).unwrap();
+        let again = parse(&text, flags).unwrap();
+        assert_eq!(without_positions(again.expr), without_positions(tree.expr.clone()), "{pattern} {text}");
+        assert_eq!(again.groups, tree.groups, "{pattern} {text}");
+        assert_eq!(format_pattern(&text, flags, style).unwrap(), text, "{pattern}");
+    }
+}
+
 fn check_tree(pattern: &str, flags: Flags, tree: &Tree) {
     check_spans(pattern, tree);
     check_trivia(pattern, flags);
+    check_formatted(pattern, flags, tree);
     let text = to_pattern(pattern, flags).unwrap();
     assert_eq!(tree.to_pattern(flags).unwrap().as_ref(), Some(&text));
     let again = parse(&text, flags).unwrap();
@@ -226,6 +239,7 @@ fn check_error(pattern: &str, flags: Flags, error: &Error) {
     assert_eq!(to_pattern(pattern, flags).as_ref(), Err(error));
     assert_eq!(print(pattern, flags, Precedence::Whole).as_ref(), Err(error));
     assert_eq!(trivia(pattern, flags).as_ref(), Err(error));
+    assert_eq!(format_pattern(pattern, flags, Style::Kept).as_ref(), Err(error));
 }
 
 #[test]

@@ -1,7 +1,8 @@
 //! Everything is called and looked at, for whatever the library returns. With libfancy there is no error of the library; with
 //! `.ci/strange.c`, which is linked instead where `FANCY_STRANGE` is set, there are many. Nothing may panic.
 
-use fancy_syntax::{check, parse, print, to_pattern, trivia, Error, Expr, Flags, GroupInfo, Precedence, Rows};
+use fancy_syntax::{check, format_pattern, parse, print, to_pattern, trivia};
+use fancy_syntax::{Error, Expr, Flags, GroupInfo, Precedence, Rows, Style};
 use std::collections::BTreeMap;
 
 fn kind_of<T>(outcome: &Result<T, Error>) -> &'static str {
@@ -43,6 +44,7 @@ fn nothing_panics() {
             kind_of(&check(pattern, Flags::empty())),
             kind_of(&trivia(pattern, Flags::UNICODE)),
             kind_of(&to_pattern(pattern, Flags::UNICODE)),
+            kind_of(&format_pattern(pattern, Flags::UNICODE, Style::Kept)),
             kind_of(&print(pattern, Flags::UNICODE, Precedence::Whole)),
             kind_of(&Expr::KeepOut.print(Precedence::Whole)),
             kind_of(&Expr::KeepOut.to_pattern(&GroupInfo::default(), Flags::UNICODE)),

@@ -20,3 +20,5 @@ mod NodesLemmas
 mod RowTreeLemmas
 -- ---- what no node of a tree has
 mod TriviumLemmas
+-- ---- formatted patterns
+mod FormatLemmas

@@ -1,6 +1,7 @@
 pub mod CallResult
 pub mod Buffer
 pub mod WrittenText
+pub mod FormattedText
 pub mod Node
 pub mod Numbered
 pub mod RowTree

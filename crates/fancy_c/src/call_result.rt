@@ -21,6 +21,8 @@ pub const STATUS_NOT_PRINTABLE: u32 = 5;
 pub const STATUS_NO_PATTERN: u32 = 6;
 /// The rows are no tree.
 pub const STATUS_NO_TREE: u32 = 7;
+/// No style of formatting has this number.
+pub const STATUS_UNKNOWN_STYLE: u32 = 8;
 
 // Callers in C compare with these numbers.
 const _: () = prove!(STATUS_OK == 0 && STATUS_REFUSED == 1 && STATUS_NOT_UTF8 == 2);
@@ -28,6 +30,8 @@ const _: () = prove!(STATUS_OK == 0 && STATUS_REFUSED == 1 && STATUS_NOT_UTF8 ==
 const _: () = prove!(STATUS_OUT_OF_MEMORY == 3 && STATUS_BUFFER_TOO_SHORT == 4);
 
 const _: () = prove!(STATUS_NOT_PRINTABLE == 5 && STATUS_NO_PATTERN == 6 && STATUS_NO_TREE == 7);
+
+const _: () = prove!(STATUS_UNKNOWN_STYLE == 8);
 
 /// No error.
 pub const ERROR_NONE: u32 = 0;
@@ -90,7 +94,7 @@ const _: () = prove!(ERROR_INVALID_GROUP_NAME_BACKREF == 16);
 #[repr(C)]
 #[derive(Clone, Copy)]
 pub struct CallResult {
-    /// `STATUS_OK` to `STATUS_NO_TREE`.
+    /// `STATUS_OK` to `STATUS_UNKNOWN_STYLE`.
     pub status: u32,
     /// The kind of the error, `ERROR_NONE` if none is reported.
     pub kind: u32,

@@ -7,6 +7,7 @@
 mod buffer;
 mod built;
 pub mod call_result;
+pub mod format;
 mod group_numbers;
 mod group_rows;
 pub mod info_rows;

@@ -64,7 +64,7 @@ impl BytesRefusal {
 }
 
 /// The text that the bytes encode in UTF-8.
-fn text_of(pattern: &[u8]) -> Result<&str, BytesRefusal>
+pub(crate) fn text_of(pattern: &[u8]) -> Result<&str, BytesRefusal>
     ensures text { IfOk result (λ text. (text.now ≡ pattern.now) × IsUtf8 pattern.now) }
     ensures refusal { IfErr result (λ r. (f : Flags) → IsRefusalOf r f pattern.now) }
 {

@@ -5,10 +5,10 @@ ghost use Rattle.std.specs.Prelude.{◌≡◌, ◌+◌, ◌*◌};
 pub const VERSION_MAJOR: u32 = 1;
 
 /// Counts additions: a new call, status, kind or flag. It starts again at 0 after each change of the major number.
-pub const VERSION_MINOR: u32 = 2;
+pub const VERSION_MINOR: u32 = 3;
 
 /// Counts corrections. It starts again at 0 after each change of the minor number.
-pub const VERSION_PATCH: u32 = 1;
+pub const VERSION_PATCH: u32 = 0;
 
 /// Returns the version of the library as one number: the major number times 1,000,000, plus the minor number times
 /// 1,000, plus the patch number.
