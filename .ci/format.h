@@ -24,12 +24,14 @@ static const formatted_by_hand wanted_texts[] = {
     {"a  b \n (?:c){1,}   # one", UX, KEPT, 0, "a b\n c+   # one"},
     {"a|b", U, VERBOSE, 80, "(?x)\n  a\n| b"},
     {"a #", U, VERBOSE, 80, "(?x)\na\\ \\#"},
+    {"a #", UI, VERBOSE, 80, "(?x)\na\\x20\\x23"},
     {"a b", UX, VERBOSE, 80, "ab"},
     {"(abcd|ef)g", U, VERBOSE, 80, "(?x)\n(abcd|ef)g"},
     {"(abcd|ef)g", U, VERBOSE, 8, "(?x)\n(\n    abcd\n  | ef\n)\ng"},
     {"\xc3\xa9\xc3\xa9|\xc3\xa9", U, VERBOSE, SIZE_MAX, "(?x)\n  \xc3\xa9\xc3\xa9\n| \xc3\xa9"},
     {"(?x)\n  \xc3\xa9{0,1}\n| b", U, COMPACT, 0, "\xc3\xa9?|b"},
     {"a # one\n b", UX, COMPACT, 0, "a(?# one)b"},
+    {"(?x)\na\\x20\\x23", UI, COMPACT, 0, "a #"},
 };
 
 // Whether each is written, and whether a number that no style has is said to be one, for any pattern.

@@ -23,12 +23,14 @@ fn texts_by_hand() {
         ("a  b \n (?:c){1,}   # one", verbose, Style::Kept, "a b\n c+   # one"),
         ("a|b", U, WIDE, "(?x)\n  a\n| b"),
         ("a #", U, WIDE, "(?x)\na\\ \\#"),
+        ("a #", U | Flags::CASEI, WIDE, "(?x)\na\\x20\\x23"),
         ("a b", verbose, WIDE, "ab"),
         ("(abcd|ef)g", U, WIDE, "(?x)\n(abcd|ef)g"),
         ("(abcd|ef)g", U, NARROW, "(?x)\n(\n    abcd\n  | ef\n)\ng"),
         ("éé|é", U, Style::Verbose { width: usize::MAX }, "(?x)\n  éé\n| é"),
         ("(?x)\n  é{0,1}\n| b", U, Style::Compact, "é?|b"),
         ("a # one\n b", verbose, Style::Compact, "a(?# one)b"),
+        ("(?x)\na\\x20\\x23", U | Flags::CASEI, Style::Compact, "a #"),
     ];
     for (pattern, flags, style, text) in patterns {
         assert_eq!(format_pattern(pattern, flags, style).as_deref(), Ok(text), "{pattern}");

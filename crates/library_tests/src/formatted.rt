@@ -1,6 +1,6 @@
 //! Formatted patterns.
 use fancy_syntax::error::{Error, ParseError};
-use fancy_syntax::flags::{FLAG_IGNORE_SPACE, FLAG_ONIGURUMA_MODE, FLAG_UNICODE};
+use fancy_syntax::flags::{FLAG_CASEI, FLAG_IGNORE_SPACE, FLAG_ONIGURUMA_MODE, FLAG_UNICODE};
 use pattern_format::extent::Extent;
 use pattern_format::format::format_pattern;
 use pattern_format::style::Style;
@@ -9,6 +9,8 @@ use std::alloc::Global;
 const ONIGURUMA: u32 = FLAG_UNICODE | FLAG_ONIGURUMA_MODE;
 
 const SPACED: u32 = FLAG_UNICODE | FLAG_IGNORE_SPACE;
+
+const CASELESS: u32 = FLAG_UNICODE | FLAG_CASEI;
 
 /// Flags, a pattern, and its text when all of it is formatted.
 static FORMATTED: [(u32, &str, &str); 29] = [
@@ -48,7 +50,7 @@ static FORMATTED: [(u32, &str, &str); 29] = [
 ];
 
 /// Flags, a width, a pattern, and its text when it is laid out over lines of that width.
-static LAID_OUT: [(u32, usize, &str, &str); 10] = [
+static LAID_OUT: [(u32, usize, &str, &str); 13] = [
     (FLAG_UNICODE, 80, "a|b c", "(?x)\n  a\n| b\\ c"),
     (SPACED, 80, " a  | b ", "  a\n| b"),
     (FLAG_UNICODE, 80, "(?xi) a (?# b ) c+", "(?xi)\na(?# b )c+"),
@@ -79,10 +81,18 @@ static LAID_OUT: [(u32, usize, &str, &str); 10] = [
     ),
     (SPACED, 80, r"(a)\1 2", r"(a)\1 2"),
     (SPACED, 80, "a  (?-x: b)", "a (?-x: b)"),
+    (
+        CASELESS,
+        80,
+        "a # \t\r\n|(?-i) #",
+        "(?x)\n  a\\x20\\x23\\x20\\x09\\x0D\\x0A\n| (?-i)\\ \\#",
+    ),
+    (FLAG_UNICODE, 7, "(?i)one two", "(?x)\n(?i)one\n\\x20two"),
+    (CASELESS, 80, r"a\ \#", "(?x)\na\\ \\#"),
 ];
 
 /// Flags, a pattern, and its text in one line.
-static IN_LINE: [(u32, &str, &str); 9] = [
+static IN_LINE: [(u32, &str, &str); 13] = [
     (FLAG_UNICODE, "(?x) a b # c\n d", "ab(?# c)d"),
     (
         FLAG_UNICODE,
@@ -96,6 +106,10 @@ static IN_LINE: [(u32, &str, &str); 9] = [
     (SPACED, "a #\n {1,}  # b \r\n# c\\", "a+(?# b)# c\\"),
     (SPACED, r"\b {2, 3} | [ #] \ \x20", r"\b {2,3}|[ #]\ \x20"),
     (ONIGURUMA | FLAG_IGNORE_SPACE, "a ? \n +  b", "a?+b"),
+    (CASELESS, "(?x)\n  a\\x20\\x23\n| b", "a #|b"),
+    (FLAG_UNICODE, "(?x)\n(?i)one\n\\x20two", "(?i)one two"),
+    (FLAG_UNICODE, "(?xi)\none\\x20\n2", "(?i)one 2"),
+    (CASELESS, "(?x)\na\\ \\x23", "a\\ \\x23"),
 ];
 
 /// Whether the pattern is formatted as this text in the style, and this text as itself.

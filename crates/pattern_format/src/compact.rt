@@ -29,10 +29,12 @@ enum Loss {
 }
 
 /// The text of a token that is one character without the escape that it needs where whitespace is ignored.
-fn unescaped(text: &str) -> &str {
+fn unescaped(text: &str, ignores_case: bool) -> &str {
     match text {
         "\\ " => " ",
         "\\#" => "#",
+        "\\x20" if ignores_case => " ",
+        "\\x23" if ignores_case => "#",
         _ => text,
     }
 }
@@ -58,7 +60,7 @@ fn are_one(text: &str, next: &str) -> bool {
 struct Line<'p> {
     alloc: Global,
     written: String,
-    /// The last token, if it is one of a node.
+    /// The last token as it is written, if it is one of a node.
     last: &'p str,
     /// Whether blanks are after it.
     has_gap: bool,
@@ -171,7 +173,7 @@ impl<'p> Line<'p> {
             }
             TokenKind::Blank
             | TokenKind::LineComment
-            | TokenKind::Leaf
+            | TokenKind::Leaf { .. }
             | TokenKind::Comment
             | TokenKind::Other => {
                 let text = without_blanks(self.alloc, text)?;
@@ -185,10 +187,11 @@ impl<'p> Line<'p> {
         let text = token.text;
         match token.kind {
             TokenKind::LineComment => self.push_line_comment(text),
-            TokenKind::Leaf if self.loss == Loss::Escapes => {
-                Ok(self.written.push_str(unescaped(text))?)
+            TokenKind::Leaf { ignores_case } if self.loss == Loss::Escapes => {
+                self.last = unescaped(text, ignores_case);
+                Ok(self.written.push_str(self.last)?)
             }
-            TokenKind::Leaf | TokenKind::Comment => Ok(self.written.push_str(text)?),
+            TokenKind::Leaf { .. } | TokenKind::Comment => Ok(self.written.push_str(text)?),
             TokenKind::Blank | TokenKind::Flags { .. } | TokenKind::Quantifier | TokenKind::Other =>
                 {
                     if text.contains('#') {
@@ -211,7 +214,7 @@ impl<'p> Line<'p> {
             }
             TokenKind::LineComment
             | TokenKind::Comment
-            | TokenKind::Leaf
+            | TokenKind::Leaf { .. }
             | TokenKind::Flags { .. }
             | TokenKind::Quantifier
             | TokenKind::Other => {
@@ -255,7 +258,7 @@ fn sets_ignore_space(token: Token<'_>) -> bool {
         TokenKind::Blank
         | TokenKind::LineComment
         | TokenKind::Comment
-        | TokenKind::Leaf
+        | TokenKind::Leaf { .. }
         | TokenKind::Quantifier
         | TokenKind::Other => false,
     }

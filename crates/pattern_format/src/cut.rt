@@ -105,7 +105,8 @@ impl<'p> Cutter<'p> {
         self.push_up_to(node.span.start)?;
         if node.is_leaf {
             let text = self.pass(node.span.end);
-            self.push(text, TokenKind::Leaf)?;
+            let ignores_case = node.ignores_case;
+            self.push(text, TokenKind::Leaf { ignores_case })?;
         }
         Ok(())
     }

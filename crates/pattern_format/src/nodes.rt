@@ -9,6 +9,8 @@ use std::alloc::{AllocError, Global};
 pub(crate) struct Node {
     pub(crate) span: Span,
     pub(crate) is_leaf: bool,
+    /// Whether it is a literal that ignores case.
+    pub(crate) ignores_case: bool,
     /// Whether a flag group around it, and around nothing else, cannot be left out.
     pub(crate) needs_group: bool,
 }
@@ -61,6 +63,7 @@ fn push_nodes(
     nodes.push(Node {
         span: node.span(),
         is_leaf: expr.is_leaf_node() && !is_empty,
+        ignores_case: matches!(expr, Expr::Literal { casei: true, .. }),
         needs_group: needs_group_here || is_empty,
     })?;
     for child in node.children() {

@@ -30,16 +30,18 @@ pub(crate) struct Piece {
     pub(crate) kind: PieceKind,
 }
 
-/// The text of a token that is one character, as it is written where whitespace is ignored.
-fn escaped(text: &str) -> Option<&'static str> {
-    match text {
-        " " => Some("\\ "),
-        "\n" => Some("\\n"),
-        "\r" => Some("\\r"),
-        "\t" => Some("\\t"),
-        "#" => Some("\\#"),
-        _ => None,
-    }
+/// The text of a token that is one character, as it is written where whitespace is ignored. An escape of its letter does not
+/// ignore case, and its code does.
+fn escaped(text: &str, ignores_case: bool) -> Option<&'static str> {
+    let (letter, code) = match text {
+        " " => ("\\ ", "\\x20"),
+        "\n" => ("\\n", "\\x0A"),
+        "\r" => ("\\r", "\\x0D"),
+        "\t" => ("\\t", "\\x09"),
+        "#" => ("\\#", "\\x23"),
+        _ => return None,
+    };
+    Some(if ignores_case { code } else { letter })
 }
 
 /// How many more parentheses the text opens than it closes.
@@ -192,7 +194,10 @@ impl<'p> Pieces<'p> {
         match token.kind {
             TokenKind::Blank | TokenKind::LineComment => {}
             TokenKind::Comment => self.push(text, PieceKind::Comment)?,
-            TokenKind::Leaf => self.push(escaped(text).unwrap_or(text), PieceKind::Atom)?,
+            TokenKind::Leaf { ignores_case } => {
+                let text = escaped(text, ignores_case).unwrap_or(text);
+                self.push(text, PieceKind::Atom)?;
+            }
             TokenKind::Quantifier => return self.push_quantifier(token),
             TokenKind::Flags { .. } => return self.push_flags(token),
             TokenKind::Other => return self.push_between(text),

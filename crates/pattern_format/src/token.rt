@@ -12,8 +12,8 @@ pub(crate) enum TokenKind {
     Quantifier,
     /// Inline flags that change flags, or the opening of a flag group, with the flags before it and after it.
     Flags { before: Flags, after: Flags },
-    /// A leaf of the tree.
-    Leaf,
+    /// A leaf of the tree, which is a literal that ignores case or not.
+    Leaf { ignores_case: bool },
     /// A comment in parentheses.
     Comment,
     /// Anything else.

@@ -19,7 +19,7 @@ fn sets_ignore_space(token: Token<'_>) -> bool {
         TokenKind::Blank
         | TokenKind::LineComment
         | TokenKind::Comment
-        | TokenKind::Leaf
+        | TokenKind::Leaf { .. }
         | TokenKind::Quantifier
         | TokenKind::Other => false,
     }

@@ -25,7 +25,7 @@ fn push_token(
         TokenKind::Blank
         | TokenKind::LineComment
         | TokenKind::Comment
-        | TokenKind::Leaf
+        | TokenKind::Leaf { .. }
         | TokenKind::Other => Ok(written.push_str(token.text)?),
     }
 }
