@@ -2,10 +2,7 @@
 blank: `each_character.py FILE.. [--random N]`. Each line of a file has letters of flags, a tab and a pattern in hexadecimal; lines that
 are no such pattern, and patterns with an error, are left out. Then come so many random patterns. The leaves and the parts that no node
 has must not overlap. The other characters belong to the innermost node around them: of a Concat or an Empty they are blanks, of an Alt
-also bars, and of another node its parentheses, its operator or its condition.
-
-Two things are in no node and not listed: a conditional without branches, except for its condition, and a quantifier that has no effect in
-Oniguruma mode. So of a pattern with a conditional, and of one in that mode, only the overlap is checked."""
+also bars, and of another node its parentheses, its operator or its condition."""
 
 import pathlib
 import random
@@ -21,6 +18,7 @@ PARTS = [
     "a", "b", "é", " ", "#", "\n", "|", "|", "(", "(", "(?:", "(?i:", "(?<n>", "(?=", "(?>", "(?~", "(?(1)", "(?(", ")", ")", ")",
     "(?i)", "(?x)", "(?-x)", "(?#c)", "(?#\\))", "# c\n", "*", "+?", "{1,2}", "{ 1 (?#d) }", "??", "\\d", "\\#", "\\x{ 41 }", "\\1", "\\g<n>",
     "[a-z]", "[^#)]", "[a&&[b]]", ".", "^", "$", "\\b{start}", "\\K", "(?!)", "(*FAIL)", "(?P>n)", "( ?<m>",
+    "(?:)", "(?(1)|)", "(?((?#c)",
 ]  # fmt: skip
 
 
@@ -47,15 +45,9 @@ def is_own(character, kind):
     return kind != "Alt" or character in BLANKS + "|"
 
 
-def is_excepted(pattern, flags):
-    return "?(" in pattern or bool(flags & fancy.Flag.ONIGURUMA_MODE)
-
-
 def is_covered(pattern, flags):
     rest = left(pattern, flags)
-    if rest is None:
-        return False
-    return is_excepted(pattern, flags) or all(is_own(pattern[at], kind) for at, kind in rest)
+    return rest is not None and all(is_own(pattern[at], kind) for at, kind in rest)
 
 
 def recorded(file):
@@ -71,7 +63,7 @@ def recorded(file):
 def made(count):
     choice = random.Random(1)
     for _ in range(count):
-        flags = fancy.Flag(choice.choice([32, 32, 48, 288, 96, 304, choice.randrange(512)]))
+        flags = fancy.Flag(choice.choice([32, 32, 48, 160, 176, 288, 96, 304, choice.randrange(512)]))
         yield "".join(choice.choices(PARTS, k=choice.randrange(1, 12))), flags
 
 
@@ -80,17 +72,16 @@ def main():
     if "--random" in files:
         count = int(files.pop())
         files.pop()
-    seen = excepted = wrong = 0
+    seen = wrong = 0
     for patterns in [*map(recorded, files), made(count)]:
         for pattern, flags in patterns:
             if fancy.check(pattern, flags) is not None:
                 continue
             seen += 1
-            excepted += is_excepted(pattern, flags)
             if not is_covered(pattern, flags):
                 wrong += 1
                 print("not covered:", int(flags), repr(pattern), left(pattern, flags))
-    print(f"each character: {seen} patterns, of {excepted} only the overlap; {wrong} wrong")
+    print(f"each character: {seen} patterns; {wrong} wrong")
     return bool(wrong) or not seen
 
 

@@ -7,7 +7,7 @@ typedef struct {
     const char *text;
 } formatted_by_hand;
 
-enum { UO = U | FANCY_FLAG_ONIGURUMA_MODE, KEPT = FANCY_STYLE_KEPT, VERBOSE = FANCY_STYLE_VERBOSE, COMPACT = FANCY_STYLE_COMPACT };
+enum { KEPT = FANCY_STYLE_KEPT, VERBOSE = FANCY_STYLE_VERBOSE, COMPACT = FANCY_STYLE_COMPACT };
 
 static const formatted_by_hand wanted_texts[] = {
     {"", U, KEPT, 0, ""},

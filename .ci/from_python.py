@@ -241,6 +241,13 @@ def are_trivia_right():
         and trivia("(a)(?<n>b)", fancy.UNICODE | fancy.IGNORE_NUMBERED_GROUPS_WHEN_NAMED_GROUPS_EXIST) == [
             ("OPENING", (0, 1), (0, 1), "un", "un"), ("CLOSING", (2, 3), (2, 3), *none),
         ]
+        and trivia("(é)(?(1)(?#c)|)") == [
+            ("DROPPED", (3, 6), (4, 7), *none), ("DROPPED", (7, 8), (8, 9), *none), ("COMMENT", (8, 13), (9, 14), *none),
+            ("DROPPED", (13, 15), (14, 16), *none),
+        ]
+        and trivia("a(?:)*b", fancy.UNICODE | fancy.ONIGURUMA_MODE) == [
+            ("OPENING", (1, 4), (1, 4), "uo", "uo"), ("CLOSING", (4, 5), (4, 5), *none), ("DROPPED", (5, 6), (5, 6), *none),
+        ]
         and trivia("(?x)a # é\nc #") == [
             ("INLINE_FLAGS", (0, 4), (0, 4), "u", "xu"), ("LINE_COMMENT", (6, 10), (6, 11), *none),
             ("LINE_COMMENT", (12, 13), (13, 14), *none),

@@ -109,11 +109,11 @@ fancy_result fancy_trivia_nonnull(const char *pattern, size_t length, uint32_t f
     *count = below(8) ? below(capacity + 1) : number(capacity);
     for (size_t i = 0; i < capacity; i++) {
         size_t start = below(length + 1);
-        fancy_trivium it = {start, start + below(length + 1 - start), 1 + (uint32_t)below(5), (uint32_t)below(512), (uint32_t)below(512)};
+        fancy_trivium it = {start, start + below(length + 1 - start), 1 + (uint32_t)below(6), (uint32_t)below(512), (uint32_t)below(512)};
         trivia[i] = it;
     }
     switch (below(8)) {
-    case 0: trivia[0].kind = (uint32_t)number(5); break;
+    case 0: trivia[0].kind = (uint32_t)number(6); break;
     case 1: trivia[0].start = number(length); break;
     case 2: trivia[0].stop = number(length); break;
     case 3: trivia[0].flags_before = (uint32_t)draw(); break;

@@ -12,6 +12,8 @@ enum {
     UI = U | FANCY_FLAG_CASEI,
     UX = U | FANCY_FLAG_IGNORE_SPACE,
     UN = U | FANCY_FLAG_IGNORE_NUMBERED_GROUPS_WHEN_NAMED_GROUPS_EXIST,
+    UO = U | FANCY_FLAG_ONIGURUMA_MODE,
+    UOI = UO | FANCY_FLAG_CASEI,
 };
 
 static const trivia_by_hand wanted_trivia[] = {
@@ -38,6 +40,21 @@ static const trivia_by_hand wanted_trivia[] = {
     {"(?s)", U | 512, 1, {{0, 4, FANCY_TRIVIUM_INLINE_FLAGS, U, U | FANCY_FLAG_DOTNL}}},
     // the parentheses of a group without a name that has no number
     {"(a)(?<n>b)", UN, 2, {{0, 1, FANCY_TRIVIUM_OPENING, UN, UN}, {2, 3, FANCY_TRIVIUM_CLOSING, 0, 0}}},
+    // all but the condition of a conditional without branches; comments are apart, and blanks are not
+    {"(a)(?(1)|)", U, 2, {{3, 6, FANCY_TRIVIUM_DROPPED, 0, 0}, {7, 10, FANCY_TRIVIUM_DROPPED, 0, 0}}},
+    {"(a)(?(1))", U, 2, {{3, 6, FANCY_TRIVIUM_DROPPED, 0, 0}, {7, 9, FANCY_TRIVIUM_DROPPED, 0, 0}}},
+    {"(a)(?(1) (?#c)| )", UX, 4, {{3, 6, FANCY_TRIVIUM_DROPPED, 0, 0}, {7, 9, FANCY_TRIVIUM_DROPPED, 0, 0},
+                                  {9, 14, FANCY_TRIVIUM_COMMENT, 0, 0}, {14, 17, FANCY_TRIVIUM_DROPPED, 0, 0}}},
+    {"(?(a(?#c))|)", U, 3, {{0, 3, FANCY_TRIVIUM_DROPPED, 0, 0}, {4, 9, FANCY_TRIVIUM_COMMENT, 0, 0},
+                            {9, 12, FANCY_TRIVIUM_DROPPED, 0, 0}}},
+    {"(a)(?(1)b|)", U, 0, {{0, 0, 0, 0, 0}}},
+    // a quantifier that an Empty ignores
+    {"(?i)a(?:)*b", UO, 4, {{0, 4, FANCY_TRIVIUM_INLINE_FLAGS, UO, UOI}, {5, 8, FANCY_TRIVIUM_OPENING, UOI, UOI},
+                            {8, 9, FANCY_TRIVIUM_CLOSING, 0, 0}, {9, 10, FANCY_TRIVIUM_DROPPED, 0, 0}}},
+    {"a(?:)*+", UO, 4, {{1, 4, FANCY_TRIVIUM_OPENING, UO, UO}, {4, 5, FANCY_TRIVIUM_CLOSING, 0, 0},
+                        {5, 6, FANCY_TRIVIUM_DROPPED, 0, 0}, {6, 7, FANCY_TRIVIUM_DROPPED, 0, 0}}},
+    {"(?i){1}(?#c)?", UO, 4, {{0, 4, FANCY_TRIVIUM_INLINE_FLAGS, UO, UOI}, {4, 7, FANCY_TRIVIUM_DROPPED, 0, 0},
+                              {7, 12, FANCY_TRIVIUM_COMMENT, 0, 0}, {12, 13, FANCY_TRIVIUM_DROPPED, 0, 0}}},
 };
 
 static bool is_trivium(const fancy_trivium *a, const fancy_trivium *b) {
@@ -72,6 +89,7 @@ static bool is_text_of_kind(const fancy_trivium *it, const char *pattern, size_t
     case FANCY_TRIVIUM_OPENING:
         return are_flags && first == '(' && (last == ':' || it->stop - it->start == 1 || pattern[it->start + 1] != '?');
     case FANCY_TRIVIUM_CLOSING: return has_no_flags && it->stop - it->start == 1 && first == ')';
+    case FANCY_TRIVIUM_DROPPED: return has_no_flags && memchr("()|*+?{ \t\n\r", first, 11) != NULL;
     default: return false;
     }
 }

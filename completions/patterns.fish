@@ -22,7 +22,7 @@ complete -c patterns -n '__fish_seen_subcommand_from check' -s h -l help -d 'Pri
 complete -c patterns -n '__fish_seen_subcommand_from tree' -l flags -x -d 'The flags to parse under, as letters, or - for none [default: u]'
 complete -c patterns -n '__fish_seen_subcommand_from tree' -l ascii -d 'Draws with ASCII characters'
 complete -c patterns -n '__fish_seen_subcommand_from tree' -l spans -d 'Writes after each node its span, as START..END in byte offsets, and its text'
-complete -c patterns -n '__fish_seen_subcommand_from tree' -l trivia -d 'Lists what no node has: comments, inline flags, and the parentheses of flag groups, each with its span and text'
+complete -c patterns -n '__fish_seen_subcommand_from tree' -l trivia -d 'Lists what no node has: comments, inline flags, the parentheses of flag groups, and what leaves nothing in the tree, each with its span and text'
 complete -c patterns -n '__fish_seen_subcommand_from tree' -l all -d 'Draws each node in its own line; otherwise adjacent letters are drawn as one literal'
 complete -c patterns -n '__fish_seen_subcommand_from tree' -l classes -d 'Writes after each class the characters that it contains, as ranges, of which only the first are written'
 complete -c patterns -n '__fish_seen_subcommand_from tree' -l json -d 'Writes JSON, one object per line, to standard output'

@@ -24,7 +24,7 @@
 /* The version of this header. fancy_version returns that of the library. CHANGELOG.md says what a change of each number
  * means. */
 #define FANCY_VERSION_MAJOR 1
-#define FANCY_VERSION_MINOR 3
+#define FANCY_VERSION_MINOR 4
 #define FANCY_VERSION_PATCH 0
 #define FANCY_VERSION (FANCY_VERSION_MAJOR * 1000000 + FANCY_VERSION_MINOR * 1000 + FANCY_VERSION_PATCH)
 
@@ -143,7 +143,9 @@ enum {
     FANCY_TRIVIUM_LINE_COMMENT = 2, /* from # through the end of its line */
     FANCY_TRIVIUM_INLINE_FLAGS = 3, /* inline flags, as (?i): flags_before, flags_after */
     FANCY_TRIVIUM_OPENING = 4,      /* of a flag group, as (?: or (?i: : flags_before, flags_after */
-    FANCY_TRIVIUM_CLOSING = 5       /* the closing parenthesis of such a group */
+    FANCY_TRIVIUM_CLOSING = 5,      /* the closing parenthesis of such a group */
+    FANCY_TRIVIUM_DROPPED = 6       /* what leaves nothing in the tree: counts or operators of a quantifier without effect in
+                                       Oniguruma mode; of a conditional without branches, as (?(1)|), all but the condition */
 };
 
 /* What a printed text is to be: a whole pattern or the inside of a group, a branch of an alternation, a part of a
@@ -395,12 +397,12 @@ FANCY_INLINE fancy_result fancy_pattern_nodes(const fancy_node *nodes, size_t no
 }
 
 /* Parses a pattern, and sets *count to the number of its trivia, which are what no node of its tree has, if it returns OK
- * or BUFFER_TOO_SHORT, unless count is null: comments, inline flags, and the parentheses of flag groups, (?:a) and (?i:a).
- * A comment inside a token, such as one in the braces of a quantifier or after the parenthesis of a group, is part of the
- * token. Ignored whitespace is not listed. The parentheses of a group without a name are listed if it has no number, since
- * only groups with a name have one. Returns OK if all of them fit: then they are in the buffer, in the order of the
- * pattern. Returns BUFFER_TOO_SHORT if they do not. Otherwise it returns what fancy_check returns. Unless it returns OK, no
- * trivium is written. */
+ * or BUFFER_TOO_SHORT, unless count is null: comments, inline flags, the parentheses of flag groups, (?:a) and (?i:a), and
+ * what leaves nothing in the tree. A comment inside a token, such as one in the braces of a quantifier or after the
+ * parenthesis of a group, is part of the token. Ignored whitespace is not listed. The parentheses of a group without a name
+ * are listed if it has no number, since only groups with a name have one. Returns OK if all of them fit: then they are in
+ * the buffer, in the order of the pattern. Returns BUFFER_TOO_SHORT if they do not. Otherwise it returns what fancy_check
+ * returns. Unless it returns OK, no trivium is written. */
 FANCY_INLINE fancy_result fancy_trivia(const char *pattern, size_t length, uint32_t flags, fancy_trivium *trivia,
                                        size_t capacity, size_t *count) {
     fancy_trivium no_trivium;

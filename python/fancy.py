@@ -155,6 +155,7 @@ class TriviumKind(enum.IntEnum):
     INLINE_FLAGS = 3  #: inline flags, `(?i)`
     OPENING = 4  #: the opening of a flag group, as `(?:` or `(?i:`
     CLOSING = 5  #: the closing parenthesis of such a group
+    DROPPED = 6  #: what leaves nothing in the tree, as `(?(` and `)|)` in `(?(1)|)`
 
 
 class Precedence(enum.IntEnum):
@@ -535,7 +536,7 @@ class _Info(ctypes.Structure):
 
 _OK, _REFUSED, _NOT_UTF8, _OUT_OF_MEMORY, _BUFFER_TOO_SHORT, _NOT_PRINTABLE, _NO_PATTERN, _NO_TREE = range(8)
 _UNBOUNDED = ctypes.c_size_t(-1).value
-_MAJOR, _MINOR = 1, 3
+_MAJOR, _MINOR = 1, 4
 
 
 def _load() -> ctypes.CDLL:
@@ -815,9 +816,9 @@ def parse(pattern: Pattern, flags: int = UNICODE) -> Tree:
 
 
 def trivia(pattern: Pattern, flags: int = UNICODE) -> Tuple[Trivium, ...]:
-    """Returns what no node of a pattern's tree has, in the order of the pattern: comments, inline flags, and the
-    parentheses of groups such as `(?:a)` and `(?i:a)`. A comment inside a token, as one in the braces of a quantifier, is part of
-    the token, and ignored whitespace is left out. Raises `Error` if the pattern is invalid.
+    """Returns what no node of a pattern's tree has, in the order of the pattern: comments, inline flags, the parentheses of
+    groups such as `(?:a)` and `(?i:a)`, and what leaves nothing in the tree. A comment inside a token, as one in the braces of a
+    quantifier, is part of the token, and ignored whitespace is left out. Raises `Error` if the pattern is invalid.
 
     >>> [(it.kind.name, it.span) for it in trivia("(?i)a(?# b)(?:c)")]
     [('INLINE_FLAGS', (0, 4)), ('COMMENT', (5, 11)), ('OPENING', (11, 14)), ('CLOSING', (15, 16))]

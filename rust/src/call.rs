@@ -31,7 +31,7 @@ pub(crate) fn ready() -> Result<(), Error> {
     if major == numbers::VERSION_MAJOR && minor >= numbers::VERSION_MINOR {
         Ok(())
     } else {
-        Err(Error::Library("its version is neither 1.3 nor a later 1"))
+        Err(Error::Library("its version is neither 1.4 nor a later 1"))
     }
 }
 

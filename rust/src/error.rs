@@ -18,7 +18,7 @@ pub enum Error {
     /// While an owned tree is built, Rust's own allocations abort the process if they fail, as elsewhere in Rust.
     OutOfMemory,
     /// The library returned what `fancy.h` rules out, which the text says. libfancy never does: what is linked is something
-    /// else, or has another major version, or is older than 1.3.
+    /// else, or has another major version, or is older than 1.4.
     Library(&'static str),
 }
 

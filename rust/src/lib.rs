@@ -18,7 +18,8 @@
 //! - [`parse`] returns an owned [`Tree`], with the types and names of fancy-regex: [`Expr`] and what is in it.
 //! - [`Rows`] holds a tree as the library writes it, in buffers that later patterns use again. It is for programs that only look.
 //! - [`check`] says only whether a pattern is valid.
-//! - [`trivia()`] returns what no node has: comments, inline flags, and the parentheses of flag groups such as `(?:a)`.
+//! - [`trivia()`] returns what no node has: comments, inline flags, the parentheses of flag groups such as `(?:a)`, and what leaves
+//!   nothing in the tree.
 //! - [`format_pattern`] formats a pattern, and keeps its spelling and its comments.
 //! - [`to_pattern`] and [`print()`] write the tree of a pattern as a pattern again; [`Tree::to_pattern`] and [`Expr::print`] do this
 //!   for a tree that may have been changed, and [`NodeRef::print`] for a part of one.

@@ -117,11 +117,12 @@ numbers! {
     TRIVIUM_INLINE_FLAGS = 3,
     TRIVIUM_OPENING = 4,
     TRIVIUM_CLOSING = 5,
+    TRIVIUM_DROPPED = 6,
 
     WITHOUT_SPANS = 65536,
 
     VERSION_MAJOR = 1,
-    VERSION_MINOR = 3,
+    VERSION_MINOR = 4,
 }
 
 #[cfg(test)]

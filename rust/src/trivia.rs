@@ -36,11 +36,15 @@ pub enum TriviumKind {
     },
     /// The closing parenthesis of such a group.
     Closing,
+    /// A part that leaves nothing in the tree: the counts or the operators of a quantifier that has no effect in Oniguruma
+    /// mode, or a part of a conditional without branches, such as `(?(` and `)|)` in `(?(1)|)`, where only the condition is
+    /// left.
+    Dropped,
 }
 
 /// Parses a pattern under flags, and returns what no node of its tree has, in the order of the pattern: comments, inline
-/// flags, and the parentheses of flag groups such as `(?:a)` and `(?i:a)`. A comment inside a token, such as one in the braces of a
-/// quantifier, is part of the token, and ignored whitespace is left out.
+/// flags, the parentheses of flag groups such as `(?:a)` and `(?i:a)`, and what leaves nothing in the tree. A comment inside a
+/// token, such as one in the braces of a quantifier, is part of the token, and ignored whitespace is left out.
 ///
 /// # Errors
 ///
@@ -83,6 +87,7 @@ fn checked_trivium(row: &Row, pattern: &str) -> Result<Trivium, Error> {
         numbers::TRIVIUM_INLINE_FLAGS => TriviumKind::InlineFlags { before, after },
         numbers::TRIVIUM_OPENING => TriviumKind::Opening { around: before, inside: after },
         numbers::TRIVIUM_CLOSING => TriviumKind::Closing,
+        numbers::TRIVIUM_DROPPED => TriviumKind::Dropped,
         _ => return Err(Error::Library("a trivium of no kind")),
     };
     Ok(Trivium { span, kind })

@@ -12,10 +12,11 @@ fn wanted(parts: &[Part]) -> Vec<Trivium> {
 
 #[test]
 fn trivia_by_hand() {
-    use TriviumKind::{Closing, Comment, InlineFlags, LineComment, Opening};
+    use TriviumKind::{Closing, Comment, Dropped, InlineFlags, LineComment, Opening};
     let casei = U | Flags::CASEI;
     let verbose = U | Flags::IGNORE_SPACE;
-    let patterns: [(&str, Flags, &[Part]); 12] = [
+    let oniguruma = U | Flags::ONIGURUMA_MODE;
+    let patterns: [(&str, Flags, &[Part]); 15] = [
         ("", U, &[]),
         (
             "a(?#b)c(?i)d(?:e)",
@@ -45,6 +46,14 @@ fn trivia_by_hand() {
         // characters of two bytes
         ("é(?#é)", U, &[(2..8, Comment)]),
         ("(?s)", Flags::empty(), &[(0..4, InlineFlags { before: Flags::empty(), after: Flags::DOTNL })]),
+        // what leaves nothing in the tree
+        ("(a)(?(1)|)", U, &[(3..6, Dropped), (7..10, Dropped)]),
+        ("(a)(?(1) (?#c)| )", verbose, &[(3..6, Dropped), (7..9, Dropped), (9..14, Comment), (14..17, Dropped)]),
+        (
+            "a(?:)*b",
+            oniguruma,
+            &[(1..4, Opening { around: oniguruma, inside: oniguruma }), (4..5, Closing), (5..6, Dropped)],
+        ),
     ];
     for (pattern, flags, parts) in patterns {
         assert_eq!(trivia(pattern, flags).unwrap(), wanted(parts), "{pattern}");

@@ -4,6 +4,7 @@ use Rattle.fancy_lex.specs.declared.flags.Flags.{Flags}
 use Rattle.fancy_grammar.specs.GroupInfo.{GroupInfo}
 use Rattle.fancy_grammar.specs.Tree.{Tree}
 use Rattle.fancy_grammar.specs.Trivia.{Trivium, TriviumKind, IsTriviaOf, comment, line_comment, flags, opening, closing}
+use Rattle.fancy_grammar.specs.Trivia.{dropped}
 use Rattle.fancy_syntax.specs.declared.span.Span.{Span}
 use Rattle.fancy_c.specs.CallResult.{IsTreeOfBytes}
 use Rattle.fancy_lex.specs.FlagBits.{bits_of}
@@ -17,6 +18,7 @@ kind_number line_comment = number.TRIVIUM_LINE_COMMENT
 kind_number (flags before after) = number.TRIVIUM_INLINE_FLAGS
 kind_number (opening around inside) = number.TRIVIUM_OPENING
 kind_number closing = number.TRIVIUM_CLOSING
+kind_number dropped = number.TRIVIUM_DROPPED
 
 -- the bits of the flags before inline flags or around a flag group
 abbrev pub flags_before : TriviumKind → ℕ
@@ -25,6 +27,7 @@ flags_before (opening around inside) = bits_of around
 flags_before comment = 0
 flags_before line_comment = 0
 flags_before closing = 0
+flags_before dropped = 0
 
 -- the bits of the flags after inline flags or in a flag group
 abbrev pub flags_after : TriviumKind → ℕ
@@ -33,6 +36,7 @@ flags_after (opening around inside) = bits_of inside
 flags_after comment = 0
 flags_after line_comment = 0
 flags_after closing = 0
+flags_after dropped = 0
 
 abbrev pub row : Trivium → TriviumRow
 row x = record {

@@ -27,13 +27,15 @@ pub const TRIVIUM_INLINE_FLAGS: u32 = 3;
 pub const TRIVIUM_OPENING: u32 = 4;
 /// The closing parenthesis of such a group.
 pub const TRIVIUM_CLOSING: u32 = 5;
+/// A part that leaves nothing in the tree, such as a quantifier that an Empty ignores.
+pub const TRIVIUM_DROPPED: u32 = 6;
 
 // Callers in C compare with these numbers.
 const _: () = prove!(
     TRIVIUM_COMMENT == 1 && TRIVIUM_LINE_COMMENT == 2 && TRIVIUM_INLINE_FLAGS == 3
 );
 
-const _: () = prove!(TRIVIUM_OPENING == 4 && TRIVIUM_CLOSING == 5);
+const _: () = prove!(TRIVIUM_OPENING == 4 && TRIVIUM_CLOSING == 5 && TRIVIUM_DROPPED == 6);
 
 /// A part of a pattern that no node of its tree has.
 #[repr(C)]
@@ -43,7 +45,7 @@ pub struct TriviumRow {
     pub start: usize,
     /// One past the offset of its last byte.
     pub stop: usize,
-    /// `TRIVIUM_COMMENT` to `TRIVIUM_CLOSING`.
+    /// `TRIVIUM_COMMENT` to `TRIVIUM_DROPPED`.
     pub kind: u32,
     /// The bits of the flags that hold before inline flags, or around a flag group; else 0.
     pub flags_before: u32,
@@ -82,6 +84,7 @@ fn row(trivium: &Trivium) -> TriviumRow
             ..bare_row(trivium.span, TRIVIUM_OPENING)
         },
         TriviumKind::Closing => bare_row(trivium.span, TRIVIUM_CLOSING),
+        TriviumKind::Dropped => bare_row(trivium.span, TRIVIUM_DROPPED),
     }
 }
 
@@ -122,8 +125,8 @@ fn write_rows(rows: &mut [TriviumRow], count: &mut usize, trivia: &[Trivium]) ->
 }
 
 /// Parses a pattern as `fancy_check_nonnull` does, and sets `count` to the number of its parts that no node of its tree
-/// has: comments, inline flags, and the parentheses of flag groups. If all of them fit, returns
-/// `STATUS_OK`, and their rows are at the front of `trivia`, in the order of the pattern. If they do not fit, returns
+/// has: comments, inline flags, the parentheses of flag groups, and what leaves nothing in the tree. If all of them fit,
+/// returns `STATUS_OK`, and their rows are at the front of `trivia`, in the order of the pattern. If they do not fit, returns
 /// `STATUS_BUFFER_TOO_SHORT`, and `trivia` is not written. For a pattern without a tree it returns what
 /// `fancy_check_nonnull` returns, and nothing is written.
 #[unsafe(no_mangle)]

@@ -40,6 +40,7 @@ pub mod ParsedSpans
 pub mod ParsedTreeLaws
 -- ---- what no node has
 pub mod TriviaUnique
+pub mod TriviaAppend
 pub mod TriviaLemmas
 pub mod TriviaLaws
 -- ---- the text of every tree

@@ -10,7 +10,7 @@ use Prim.Native.Char.{code}
 use Rattle.fancy_lex.proofs.ReadingLemmas.{choose_both}
 use Rattle.fancy_lex.proofs.TakeLaws.{TakesSome}
 use Rattle.fancy_lex.specs.Characters.{bar, close_paren}
-use Rattle.fancy_lex.specs.ErrorTable.{quantifier_too_deep}
+use Rattle.fancy_lex.specs.ErrorTable.{quantifier_too_deep, not_repeatable}
 use Rattle.fancy_lex.specs.LayoutSteps.{Skipped, rest, rest_of, failed as open_comment}
 use Rattle.fancy_lex.specs.Reading.{choose}
 use Rattle.fancy_lex.specs.Text.{Text, bytes, reach_of, strip}
@@ -34,42 +34,76 @@ use Rattle.fancy_grammar.specs.Quantified.{quants, adjacent, max_adjacent, is_un
 use Rattle.fancy_grammar.specs.Quantified.{suffix, suffix_at, after_lazy, may_be_possessive, is_repeatable, is_dropped}
 use Rattle.fancy_grammar.specs.Quantified.{Suffix, quantified}
 use Rattle.fancy_grammar.specs.Slices.{Slice}
-use Rattle.fancy_grammar.specs.Spans.{IsCutOut, end_of, if_done}
+use Rattle.fancy_grammar.specs.Spans.{IsCutOut, condition_span, end_of, if_done}
 use Rattle.fancy_grammar.specs.State.{State, at, skipped, Outcome, done, failed, failed_with, and_then, mapped}
 use Rattle.fancy_grammar.specs.Tree.{Tree, expression}
-use Rattle.fancy_grammar.specs.Trivia.{Trivium, Passed, part, flags, opening, closing, IsTriviaOf, IsPartOf, AreInOrder, comments_at}
-use Rattle.fancy_grammar.specs.Trivia.{flags_of_atom, opening_of, closing_of, quant_trivia, adjacent_trivia}
+use Rattle.fancy_grammar.specs.Trivia.{Trivium, Passed, part, flags, opening, closing, IsTriviaOf, IsPartOf, AreInOrder}
+use Rattle.fancy_grammar.specs.Trivia.{comments_at, flags_of_atom, opening_of, closing_of, quant_trivia, adjacent_trivia}
 use Rattle.fancy_grammar.specs.Trivia.{quants_trivia, alternation_trivia, branches_trivia, branch_trivia, pieces_trivia}
 use Rattle.fancy_grammar.specs.Trivia.{piece_trivia, atom_trivia, atom_of_trivia, inside_trivia, body_trivia, whole_trivia}
+use Rattle.fancy_grammar.specs.Trivia.{with_dropped, filled, layout_end, counted_trivia, leaves_condition}
 use Rattle.fancy_grammar.proofs.AtomStartLaws.{IsLeaf, StartReads, start_reads}
 use Rattle.fancy_grammar.proofs.OutcomeLemmas.{Holds, after_keeps}
-use Rattle.fancy_grammar.proofs.Slices.{Reads, current, one, strip_slice}
+use Rattle.fancy_grammar.proofs.Slices.{Reads, current, on, one, strip_slice}
+use Rattle.fancy_grammar.proofs.SpansCondition.{ConditionLies, condition_lies}
 use Rattle.fancy_grammar.proofs.TriviaLemmas.{Passes, nothing, one_more, extended, followed, PassesFrom}
-use Rattle.fancy_grammar.proofs.TriviaLemmas.{on_from, mapped_from, then_from, layout_passes, returned_in_order}
+use Rattle.fancy_grammar.proofs.TriviaLemmas.{on_from, mapped_from, then_from, layout_passes, dropped_passes}
+use Rattle.fancy_grammar.proofs.TriviaLemmas.{filled_from, alone_lies, returned_in_order}
 use Rattle.fancy_grammar.proofs.TriviaLemmas.{returned_are_parts, parts_cut}
 
 -- ---- quantifiers
 
-suffix_passes : (s : State) (c : Counts) (p : List Passed) → PassesFrom s.rest p (p ++ comments_at s) (suffix s c)
-suffix_passes s c p = by_layout (skipped s) refl
+-- what is read from the state begins with layout, and ends where the layout ends or later
+abbrev EndsPastLayout : State → Outcome Suffix → Type 0
+EndsPastLayout s o = Holds (λ _ (v : State). (t : Text) × (skipped s ≡ rest t) × Slice t v.rest) o
+
+-- the operators follow the layout
+suffix_ends : (s : State) (c : Counts) → EndsPastLayout s (suffix s c)
+suffix_ends s c = by_layout (skipped s) refl
   where
     W : Outcome Suffix → Type 0
-    W = PassesFrom s.rest p (p ++ comments_at s)
+    W = EndsPastLayout s
 
-    after_operator : (lazy : Bool) (t : Text) → Passes s.rest t p (p ++ comments_at s) → W (after_lazy s c lazy t)
-    after_operator lazy t h =
+    after_operator : (lazy : Bool) (t u : Text) → skipped s ≡ rest t → Slice t u → W (after_lazy s c lazy u)
+    after_operator lazy t u e h =
         cond_both (may_be_possessive s.flags c) _ _ W
-        (λ _. choose_both W (strip (code "+") t) _ _ (λ u e. extended h (strip_slice (code "+") t u e)) h) (λ _. h)
+        (λ _. choose_both W (strip (code "+") u) _ _ (λ v i. (t, e, on h (strip_slice (code "+") u v i))) (t, e, h))
+        (λ _. (t, e, h))
 
     by_layout : (j : Skipped) → skipped s ≡ j → W (suffix_at s c j)
     by_layout (rest t) e =
-        let h = layout_passes s t e p in
-        choose_both W (strip (code "?") t) _ _
-        (λ u i. after_operator true u (extended h (strip_slice (code "?") t u i))) (after_operator false t h)
+        choose_both W (strip (code "?") t) _ _ (λ u i. after_operator true t u e (strip_slice (code "?") t u i))
+        (after_operator false t t e (current t))
     by_layout (open_comment q) e = tt
 
+-- the operators of a quantifier that the tree holds: only comments before them are added
+suffix_passes : (s : State) (c : Counts) (p : List Passed) → PassesFrom s.rest p (p ++ comments_at s) (suffix s c)
+suffix_passes s c p = by_outcome (suffix s c) (suffix_ends s c)
+  where
+    by_outcome : (o : Outcome Suffix) → EndsPastLayout s o → PassesFrom s.rest p (p ++ comments_at s) o
+    by_outcome (done m v) (t, e, h) = extended (layout_passes s t e p) h
+    by_outcome (failed k j) h = tt
+
+-- the operators of a quantifier that is ignored: the comments before them are added, and they are dropped
+ignored_passes : (s : State) (c : Counts) (p : List Passed) →
+    (let q = p ++ comments_at s in
+    PassesFrom s.rest p (if_done (suffix s c) (λ m v. with_dropped (layout_end s) (reach_of v.rest) q) q) (suffix s c))
+ignored_passes s c p = by_outcome (suffix s c) (suffix_ends s c)
+  where
+    q : List Passed
+    q = p ++ comments_at s
+
+    by_outcome : (o : Outcome Suffix) → EndsPastLayout s o →
+        PassesFrom s.rest p (if_done o (λ m v. with_dropped (layout_end s) (reach_of v.rest) q) q) o
+    by_outcome (done m v) (t, e, h) =
+        let ends : layout_end s ≡ reach_of t = ap (λ j. choose (rest_of j) reach_of (reach_of s.rest)) e in
+        subst (λ n. Passes s.rest v.rest p (with_dropped n (reach_of v.rest) q)) (sym ends)
+        (dropped_passes (layout_passes s t e p) h)
+    by_outcome (failed k j) h = tt
+
+-- a quantifier, if one follows the layout
 quant_passes : (left : ℕ) (a : Tree) (s : State) (p : List Passed) →
-    PassesFrom s.rest p (quant_trivia s p) (quant left a s)
+    PassesFrom s.rest p (quant_trivia a s p) (quant left a s)
 unfolding quant
 quant_passes left a s p = by_layout (skipped s) refl
   where
@@ -77,21 +111,45 @@ quant_passes left a s p = by_layout (skipped s) refl
     q = p ++ comments_at s
 
     by_counts : (v : Text) (o : Option (Counts × Text)) → Passes s.rest v p q → TakesSome 1 v o →
-        PassesFrom s.rest p (choose o (λ (c, t). q ++ comments_at (at s t)) q) (with_counts left a (at s v) o)
+        PassesFrom s.rest p (choose o (counted_trivia (reach_of v) a s q) q) (with_counts left a (at s v) o)
     by_counts v None h i = h
-    by_counts v (Some (c, u)) h i =
-        let m = q ++ comments_at (at s u) in
-        let W : Outcome Tree → Type 0 = PassesFrom s.rest p m in
-        let operators = on_from m (extended h (record { word = i.word; cut = i.cut })) (suffix (at s u) c)
-        (suffix_passes (at s u) c q) in
-        cond_both (is_repeatable s.flags a) _ _ W
-        (λ _. mapped_from s.rest p m (λ x. quantified s.flags c x a) (suffix (at s u) c) operators)
-        (λ _. cond_both (is_dropped s.flags left a u) _ _ W
-        (λ _. mapped_from s.rest p m (λ x. a) (suffix (at s u) c) operators) (λ _. tt))
+    by_counts v (Some (c, u)) h i = by_repeatable (is_repeatable s.flags a)
+      where
+        o : Outcome Suffix
+        o = suffix (at s u) c
+
+        read : Slice v u
+        read = record { word = i.word; cut = i.cut }
+
+        -- if the tree holds the quantifier
+        m : List Passed
+        m = q ++ comments_at (at s u)
+
+        -- if it is ignored: up to the end of the counts
+        before : List Passed
+        before = with_dropped (reach_of v) (reach_of u) q
+
+        -- and up to the end of the operators
+        ignored : List Passed
+        ignored =
+            let k = before ++ comments_at (at s u) in
+            if_done o (λ _ w. with_dropped (layout_end (at s u)) (reach_of w.rest) k) k
+
+        by_repeatable : (b : Bool) →
+            PassesFrom s.rest p (if b then m else ignored)
+            (if b then mapped (λ x. quantified s.flags c x a) o
+            else if is_dropped s.flags left a u then mapped (λ x. a) o else failed_with (not_repeatable u))
+        by_repeatable true =
+            mapped_from s.rest p m (λ x. quantified s.flags c x a) o
+            (on_from m (extended h read) o (suffix_passes (at s u) c q))
+        by_repeatable false =
+            cond_both (is_dropped s.flags left a u) _ _ (PassesFrom s.rest p ignored)
+            (λ _. mapped_from s.rest p ignored (λ x. a) o
+            (on_from ignored (dropped_passes h read) o (ignored_passes (at s u) c before))) (λ _. tt)
 
     by_layout : (j : Skipped) → skipped s ≡ j →
         PassesFrom s.rest p (choose (option_and_then (counts s.flags.ignore_space) (rest_of j))
-        (λ (c, t). q ++ comments_at (at s t)) q) (quant_at left a s j)
+        (counted_trivia (choose (rest_of j) reach_of (reach_of s.rest)) a s q) q) (quant_at left a s j)
     by_layout (rest v) e =
         by_counts v (counts s.flags.ignore_space v) (layout_passes s v e p) (takes_counts s.flags.ignore_space v)
     by_layout (open_comment r) e = tt
@@ -100,15 +158,15 @@ adjacent_passes : (k d : ℕ) (a : Tree) (s : State) (p : List Passed) →
     PassesFrom s.rest p (adjacent_trivia k a s p) (adjacent k d a s)
 unfolding adjacent
 adjacent_passes zero d a s p =
-    let q = quant_trivia s p in
+    let q = quant_trivia a s p in
     then_from s.rest p q q (quant (bytes s.rest) a s) _ (quant_passes (bytes s.rest) a s p)
-    (λ b v h. cond_both (is_unmoved s v) _ _ (PassesFrom s.rest p (quant_trivia s p)) (λ _. h) (λ _. tt))
+    (λ b v h. cond_both (is_unmoved s v) _ _ (PassesFrom s.rest p (quant_trivia a s p)) (λ _. h) (λ _. tt))
 adjacent_passes (suc k) d a s p =
-    by_first (λ b v. adjacent_passes k (d + 1) b v (quant_trivia s p)) (quant (bytes s.rest) a s)
+    by_first (λ b v. adjacent_passes k (d + 1) b v (quant_trivia a s p)) (quant (bytes s.rest) a s)
     (quant_passes (bytes s.rest) a s p)
   where
     q : List Passed
-    q = quant_trivia s p
+    q = quant_trivia a s p
 
     GoesOn : Tree → State → Type 0
     GoesOn b v = PassesFrom v.rest q (adjacent_trivia k b v q) (adjacent k (d + 1) b v)
@@ -132,7 +190,7 @@ quants_passes : (d left : ℕ) (a : Tree) (s : State) (p : List Passed) →
 quants_passes d left a s p = by_first (quant left a s) (quant_passes left a s p)
   where
     q : List Passed
-    q = quant_trivia s p
+    q = quant_trivia a s p
 
     by_mode : (c : Bool) (b : Tree) (v : State) → Passes s.rest v.rest p q →
         PassesFrom s.rest p (if c then adjacent_trivia max_adjacent b v q else q)
@@ -269,30 +327,46 @@ mutual
       PassesFrom s.rest p (atom_trivia a p) o
   atom_passes {d} {s} (atom {e = k} {q} e a) p =
       let read_start = subst (StartReads s) e (start_reads d s) in
-      after_keeps (PassesFrom s.rest p (atom_of_trivia a p)) (λ r t f i. i) k s.flags q (of_passes a p read_start)
+      let lies = subst (ConditionLies false s) e (condition_lies false d s) in
+      after_keeps (PassesFrom s.rest p (atom_of_trivia a p)) (λ r t f i. i) k s.flags q (of_passes a p read_start lies)
 
   of_passes : {k : AtomStart} {d : ℕ} {s : State} {o : Outcome Tree} (a : AtomOf k d s o) (p : List Passed) →
-      StartReads s k → PassesFrom s.rest p (atom_of_trivia a p) o
-  of_passes {s} a_nothing p h = nothing (current s.rest)
-  of_passes {s} {o} a_read p h = read_passes s o p h
-  of_passes {s} (a_group {t} {h = kind} {q} i) p h =
+      StartReads s k → ConditionLies false s k → PassesFrom s.rest p (atom_of_trivia a p) o
+  of_passes {s} a_nothing p h y = nothing (current s.rest)
+  of_passes {s} {o} a_read p h y = read_passes s o p h
+  of_passes {s} (a_group {t} {h = kind} {q} i) p h y =
       let before = p ++ opening_of kind s t in
       closing_passes s.rest p (inside_trivia i before) kind (reach_of s.rest) q
       (on_inside (inside_trivia i before) (opening_passes kind s t p h.0) q (inside_passes i before))
-  of_passes {s} (a_condition {t} {v} {c} {o} i b) p h =
+  of_passes {s} (a_condition {t} {v} {c} {o} i b) p h y =
       let condition = past_paren t.rest p (inside_trivia i p) (done c v) (inside_passes i p) in
-      on_from (body_trivia b (inside_trivia i p)) (followed (nothing h.0) condition) o (body_passes b (inside_trivia i p))
-  of_passes (condition_error i) p h = tt
-  of_passes {o} (a_body b) p h = on_from (body_trivia b p) (nothing h.0.slice) o (body_passes b p)
-  of_passes {s} (two_branches {v} {u} {a} {q} b e m) p h =
+      let q = with_dropped (reach_of s.rest) (reach_of t.rest) p in
+      let first = followed (dropped_passes (nothing (current s.rest)) h.0) (inside_passes i q) in
+      cond_both (leaves_condition b) _ _ (λ m. PassesFrom s.rest p m o) (λ _.
+      subst (λ n. PassesFrom s.rest p (filled n (end_of o) (body_trivia b []) (inside_trivia i q)) o)
+      (ap (λ n. n + 1) (paren_bytes v.rest))
+      (filled_from (body_trivia b []) first (one close_paren v.rest) o (body_passes b []))) (λ _.
+      on_from (body_trivia b (inside_trivia i p)) (followed (nothing h.0) condition) o (body_passes b (inside_trivia i p)))
+  of_passes (condition_error i) p h y = tt
+  of_passes {s} {o} (a_body {t} b) p h y =
+      let (w, u, before, condition, after, starts, ends) = alone_lies y in
+      let first = extended (dropped_passes (nothing (current s.rest)) before) condition in
+      cond_both (leaves_condition b) _ _ (λ m. PassesFrom s.rest p m o) (λ _.
+      subst (λ n. PassesFrom s.rest p
+      (filled n (end_of o) (body_trivia b []) (with_dropped (reach_of s.rest) (condition_span s t).start p)) o) (sym ends)
+      (subst (λ n. PassesFrom s.rest p
+      (filled (reach_of u) (end_of o) (body_trivia b []) (with_dropped (reach_of s.rest) n p)) o) (sym starts)
+      (filled_from (body_trivia b []) first after o (body_passes b []))))
+      (λ _. on_from (body_trivia b p) (nothing h.0.slice) o (body_passes b p))
+  of_passes {s} (two_branches {v} {u} {a} {q} b e m) p h y =
       let all = branch_trivia m (branch_trivia b p) in
       let first = extended (followed (nothing h.0) (branch_passes b p)) (strip_slice bar v.rest u e) in
       then_from s.rest p all all q _ (on_from all first q (branch_passes m (branch_trivia b p)))
       (λ x w i. past_paren s.rest p all (closed (expression a x) w) (closed_passes (expression a x) w i))
-  of_passes {s} (one_branch {v} {a} b e) p h =
+  of_passes {s} (one_branch {v} {a} b e) p h y =
       past_paren s.rest p (branch_trivia b p) (closed (clear_or_stopper a) v)
       (closed_passes (clear_or_stopper a) v (followed (nothing h.0) (branch_passes b p)))
-  of_passes (absent_error b) p h = tt
+  of_passes (absent_error b) p h y = tt
 
   inside_passes : {d : ℕ} {s : State} {o : Outcome Tree} (a : Inside d s o) (p : List Passed) →
       PassesInside s.rest p (inside_trivia a p) o

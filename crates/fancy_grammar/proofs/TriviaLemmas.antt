@@ -1,5 +1,5 @@
 -- Trivia that are added to a list lie in the text, one after another.
-use Rattle.std.proofs.Common.{◌≡◌, ℕ, ◌+◌, ◌-◌, ◌≤◌, Bool, false, ◌&&◌, List, [], ◌∷◌, ◌++◌}
+use Rattle.std.proofs.Common.{◌≡◌, ℕ, ◌+◌, ◌-◌, ◌≤◌, ◌==◌, Bool, false, ◌&&◌, List, [], ◌∷◌, ◌++◌}
 use Rattle.std.proofs.Common.{map, chars}
 use Rattle.std.specs.Prelude.{not}
 use Rattle.std.proofs.Common.{refl, sym, ap, ◌∙◌, subst, arith, append_assoc, append-nil}
@@ -13,12 +13,14 @@ use Rattle.fancy_lex.specs.Comments.{Comment}
 use Rattle.fancy_lex.specs.LayoutSteps.{rest}
 use Rattle.fancy_lex.specs.Text.{Text, bytes, reach_of, position_at}
 use Rattle.fancy_grammar.specs.Slices.{Slice}
-use Rattle.fancy_grammar.specs.Spans.{IsCutOut}
+use Rattle.fancy_grammar.specs.Spans.{Span, IsCutOut, alone, end_of}
 use Rattle.fancy_grammar.specs.State.{State, skipped, Outcome, done, failed, and_then, mapped}
-use Rattle.fancy_grammar.specs.Trivia.{Trivium, TriviumKind, comment, line_comment, Passed, part, kept, IsTextOf}
-use Rattle.fancy_grammar.specs.Trivia.{IsPartOf, AreInOrder, located, of_comment, comments_at}
+use Rattle.fancy_grammar.specs.Tree.{Tree}
+use Rattle.fancy_grammar.specs.Trivia.{Trivium, TriviumKind, comment, line_comment, dropped, Passed, part, kept, IsTextOf}
+use Rattle.fancy_grammar.specs.Trivia.{IsPartOf, AreInOrder, located, of_comment, comments_at, with_dropped, filled}
 use Rattle.fancy_grammar.proofs.OutcomeLemmas.{Holds, each_append}
 use Rattle.fancy_grammar.proofs.Slices.{current, on, fits}
+use Rattle.fancy_grammar.proofs.SpansLemmas.{Lies, leaf_at, inside_at, row_at, row_slice}
 use Rattle.fancy_grammar.proofs.Verdict.{cut_at}
 
 -- from the text a up to v, in reaches
@@ -60,6 +62,82 @@ module _ (t : Text) (p m : List Passed) where
       PassesFrom t p m (and_then o f)
   then_from q (done a v) f h g = g a v h
   then_from q (failed k j) f h g = tt
+
+-- ---- what leaves nothing in the tree
+
+-- the text between two reaches is added as a part, if there is any
+pub dropped_passes : {t a v : Text} {p q : List Passed} → Passes t a p q → Slice a v →
+    Passes t v p (with_dropped (reach_of a) (reach_of v) q)
+dropped_passes {t} {a} {v} {p} h s =
+    cond_both (reach_of a == reach_of v) _ _ (Passes t v p) (λ _. extended h s)
+    (λ _. one_more dropped false s.word h s.cut tt (current v) refl)
+
+-- where the last of these parts ends
+abbrev last_end : ℕ → List Passed → ℕ
+last_end start [] = start
+last_end start (x ∷ l) = last_end x.trivium.span.end l
+
+-- these parts are added to p, and what lies before and between them
+abbrev filled_up_to : ℕ → List Passed → List Passed → List Passed
+filled_up_to start [] p = p
+filled_up_to start (x ∷ l) p =
+    filled_up_to x.trivium.span.end l (with_dropped start x.trivium.span.start p ++ x ∷ [])
+
+-- what comes after the last part is added last
+filled_is : (start end : ℕ) (l p : List Passed) →
+    filled start end l p ≡ with_dropped (last_end start l) end (filled_up_to start l p)
+filled_is start end [] p = refl
+filled_is start end (x ∷ l) p =
+    filled_is x.trivium.span.end end l (with_dropped start x.trivium.span.start p ++ x ∷ [])
+
+-- one more part ends where it ends
+last_end_push : (start : ℕ) (l : List Passed) (x : Passed) → last_end start (l ++ x ∷ []) ≡ x.trivium.span.end
+last_end_push start [] x = refl
+last_end_push start (y ∷ l) x = last_end_push y.trivium.span.end l x
+
+-- one more part is added after what lies before it
+filled_push : (start : ℕ) (l p : List Passed) (x : Passed) →
+    filled_up_to start (l ++ x ∷ []) p
+    ≡ with_dropped (last_end start l) x.trivium.span.start (filled_up_to start l p) ++ x ∷ []
+filled_push start [] p x = refl
+filled_push start (y ∷ l) p x =
+    filled_push y.trivium.span.end l (with_dropped start y.trivium.span.start p ++ y ∷ []) x
+
+-- up to where the last part ends, at e
+parts_pass : {t a u : Text} {p q l : List Passed} → Passes t a p q → Passes a u [] l →
+    (e : Text) × Passes t e p (filled_up_to (reach_of a) l q) × Slice e u × (last_end (reach_of a) l ≡ reach_of e)
+parts_pass {a} h (nothing s) = (a, h, s, refl)
+parts_pass {t} {a} {p} {q} h (one_more {a = c} {v} {q = m} k b w g i x s f) =
+    let (e, before, between, ends) = parts_pass h g in
+    let up_to : Passes t c p (with_dropped (last_end (reach_of a) m) (reach_of c) (filled_up_to (reach_of a) m q)) =
+    subst (λ n. Passes t c p (with_dropped n (reach_of c) (filled_up_to (reach_of a) m q))) (sym ends)
+    (dropped_passes before between) in
+    let y = reached k b c v in
+    let all = ap (λ l. filled_up_to (reach_of a) l q) f ∙ filled_push (reach_of a) m q y in
+    let last = ap (last_end (reach_of a)) f ∙ last_end_push (reach_of a) m y in
+    (v, one_more k b w up_to i x (current v) all, s, last)
+
+-- all text from a to v is added, with the parts in it
+filled_passes : {t a u v : Text} {p q l : List Passed} → Passes t a p q → Passes a u [] l → Slice u v →
+    Passes t v p (filled (reach_of a) (reach_of v) l q)
+filled_passes {t} {a} {v} {p} {q} {l} h g s =
+    let (e, before, between, ends) = parts_pass h g in
+    subst (Passes t v p) (sym (filled_is (reach_of a) (reach_of v) l q))
+    (subst (λ n. Passes t v p (with_dropped n (reach_of v) (filled_up_to (reach_of a) l q))) (sym ends)
+    (dropped_passes before (on between s)))
+
+-- all text from a to the end of what is read from z
+pub filled_from : {A : Type 0} {t a z : Text} {p q : List Passed} (l : List Passed) → Passes t a p q → Slice a z →
+    (o : Outcome A) → PassesFrom z [] l o → PassesFrom t p (filled (reach_of a) (end_of o) l q) o
+filled_from l h s (done r v) i = filled_passes h (followed (nothing s) i) (current v.rest)
+filled_from l h s (failed k j) i = tt
+
+-- a node without others in it spans a slice of the text
+pub alone_lies : {named : Bool} {t u : Text} {r : Tree} {y : Span} → Lies named t u r (alone y) →
+    (a : Text) × (b : Text) × Slice t a × Slice a b × Slice b u × (y.start ≡ reach_of a) × (y.end ≡ reach_of b)
+alone_lies (leaf_at {a} {b} s k g) = (a, b, s, k, g, refl, refl)
+alone_lies (inside_at k h) = alone_lies h
+alone_lies {named} (row_at {a} {b} l k s h g) = (a, b, s, row_slice named h, g, refl, refl)
 
 -- ---- layout
 

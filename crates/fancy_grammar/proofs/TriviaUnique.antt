@@ -1,7 +1,7 @@
 -- What the tree of a text does not hold does not depend on its derivation.
-use Rattle.std.proofs.Common.{◌≡◌, ℕ, List, [], ◌++◌, refl, sym, subst, ap, ◌∙◌, map}
+use Rattle.std.proofs.Common.{◌≡◌, ℕ, ◌+◌, false, ◌&&◌, if◌then◌else◌, List, [], ◌++◌, refl, sym, subst, ap, ◌∙◌, map}
 use mathlib.Core.Path.{path_j, subst_refl}
-use Rattle.fancy_lex.specs.Text.{Text, bytes}
+use Rattle.fancy_lex.specs.Text.{Text, bytes, reach_of}
 use Rattle.fancy_lex.specs.declared.flags.Flags.{Flags}
 use Rattle.fancy_parts.specs.Ranks.{only_named}
 use Rattle.fancy_grammar.specs.AtomStart.{AtomStart}
@@ -9,17 +9,19 @@ use Rattle.fancy_grammar.specs.Grammar.{Alternation, alternation, Branches, last
 use Rattle.fancy_grammar.specs.Grammar.{Pieces, stop, next, piece_error, Piece, piece, layout_error, Atom, atom, AtomOf}
 use Rattle.fancy_grammar.specs.Grammar.{a_nothing, a_read, a_group, a_condition, condition_error, a_body, two_branches}
 use Rattle.fancy_grammar.specs.Grammar.{one_branch, absent_error, Inside, inside, Body, the_body, Whole, whole}
+use Rattle.fancy_grammar.specs.Grammar.{branches_of}
 use Rattle.fancy_grammar.specs.Items.{openings}
-use Rattle.fancy_grammar.specs.Spans.{end_of}
+use Rattle.fancy_grammar.specs.Join.{is_empty}
+use Rattle.fancy_grammar.specs.Spans.{condition_span, end_of, if_done}
 use Rattle.fancy_grammar.specs.State.{State, Outcome}
 use Rattle.fancy_grammar.specs.Tree.{Tree}
 use Rattle.fancy_grammar.specs.Trivia.{Trivium, Passed, IsTriviaOf, located, kept, comments_at, flags_of_atom}
-use Rattle.fancy_grammar.specs.Trivia.{opening_of, closing_of}
+use Rattle.fancy_grammar.specs.Trivia.{opening_of, closing_of, with_dropped, filled, leaves_condition}
 use Rattle.fancy_grammar.specs.Trivia.{quants_trivia, alternation_trivia, branches_trivia, branch_trivia, pieces_trivia}
 use Rattle.fancy_grammar.specs.Trivia.{piece_trivia, atom_trivia, atom_of_trivia, inside_trivia, body_trivia, whole_trivia}
 use Rattle.fancy_grammar.proofs.Unique.{value_of, state_of, done_or_failed, same_layout, layout_or_failed, ap_at}
-use Rattle.fancy_grammar.proofs.Unique.{branch_unique, piece_unique, atom_unique, of_unique, inside_unique}
-use Rattle.fancy_grammar.proofs.Unique.{whole_unique}
+use Rattle.fancy_grammar.proofs.Unique.{alternation_unique, branch_unique, piece_unique, atom_unique, of_unique}
+use Rattle.fancy_grammar.proofs.Unique.{inside_unique, whole_unique}
 
 -- the start of an atom, under two equal descriptions
 equal_start : {k l : AtomStart} {d : ℕ} {s : State} {o : Outcome Tree} (p : List Passed) (i : l ≡ k)
@@ -28,6 +30,12 @@ equal_start {l} {d} {s} {o} p i b =
     path_j (λ (x : AtomStart) (j : l ≡ x).
     atom_of_trivia (subst (λ (y : AtomStart). AtomOf y d s o) j b) p ≡ atom_of_trivia b p)
     (ap (λ (c : AtomOf l d s o). atom_of_trivia c p) (subst_refl (λ (y : AtomStart). AtomOf y d s o) b)) i
+
+-- whether a conditional leaves only its condition depends on where its body begins
+leaves_same : {d : ℕ} {c x : Tree} {s z : State} {o q : Outcome Tree} (a : Body d c s o) (b : Body d x z q) → s ≡ z →
+    leaves_condition a ≡ leaves_condition b
+leaves_same (the_body a) (the_body b) e =
+    ap (λ o. if_done o (λ r v. is_empty (branches_of r).0 && is_empty (branches_of r).1) false) (alternation_unique a b e)
 
 -- as in `Unique`: an earlier part has one outcome, which decides the rule that reads on
 mutual
@@ -91,13 +99,26 @@ mutual
       let q = of_unique (a_group a) (a_group b) e in
       let x = inside_same a b (p ++ opening_of h s t) refl ∙ ap (λ w. inside_trivia b (p ++ opening_of h w t)) e in
       λ i. x i ++ closing_of h (end_of (q i))
-  of_same (a_condition i a) (a_condition j b) p e =
-      let h = inside_unique i j refl in
-      body_same a b (inside_trivia i p) (state_of h) ∙ ap (body_trivia b) (inside_same i j p refl)
+  of_same {s} (a_condition {t} i a) (a_condition j b) p e =
+      let h = state_of (inside_unique i j refl) in
+      let q = of_unique (a_condition i a) (a_condition j b) e in
+      let only = leaves_same a b h in
+      let around : State → List Passed = λ w. with_dropped (reach_of w.rest) (reach_of t.rest) p in
+      let before = inside_same i j (around s) refl ∙ ap (λ w. inside_trivia j (around w)) e in
+      let alone = body_same a b [] h in
+      let both = body_same a b (inside_trivia i p) h ∙ ap (body_trivia b) (inside_same i j p refl) in
+      λ k. if only k then filled (reach_of (h k).rest + 1) (end_of (q k)) (alone k) (before k) else both k
   of_same (a_condition i a) (condition_error j) p e = absurd (done_or_failed (inside_unique i j refl))
   of_same (condition_error i) (a_condition j b) p e = absurd (done_or_failed (sym (inside_unique i j refl)))
   of_same (condition_error i) (condition_error j) p e = inside_same i j p refl
-  of_same (a_body a) (a_body b) p e = body_same a b p refl
+  of_same (a_body {t} a) (a_body b) p e =
+      let q = of_unique (a_body a) (a_body b) e in
+      let only = leaves_same a b refl in
+      let alone = body_same a b [] refl in
+      let both = body_same a b p refl in
+      λ k.
+      let before = with_dropped (reach_of (e k).rest) (condition_span (e k) t).start p in
+      if only k then filled (reach_of t.rest + 1) (end_of (q k)) (alone k) before else both k
   of_same (two_branches a f m) (two_branches b g l) p e =
       let h = branch_unique a b refl in
       let x = branch_same m l (branch_trivia a p) cc in x ∙ ap (branch_trivia l) (branch_same a b p refl)

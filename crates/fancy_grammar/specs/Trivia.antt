@@ -1,7 +1,8 @@
 -- What a tree does not hold, given by the derivation that reads it: comments between the parts of a pattern, inline
--- flags, and the parentheses of groups that make no node, in the order of the pattern. A comment inside a token, such as
--- one between the digits of a quantifier or after the parenthesis of a group, belongs to the token.
-use Rattle.std.specs.Prelude.{◌≡◌, ◌≤◌, ℕ, zero, suc, ◌+◌, Bool, true, false, not, ◌&&◌, List, [], ◌∷◌, ◌++◌}
+-- flags, the parentheses of groups that make no node, quantifiers that an Empty ignores, and all but the condition of a
+-- conditional whose branches are both Empty, in the order of the pattern. A comment inside a token, such as one between
+-- the digits of a quantifier or after the parenthesis of a group, belongs to the token.
+use Rattle.std.specs.Prelude.{◌≡◌, ◌≤◌, ℕ, zero, suc, ◌+◌, ◌==◌, Bool, true, false, not, ◌&&◌, List, [], ◌∷◌, ◌++◌}
 use Rattle.std.specs.Prelude.{None, map, if◌then◌else◌, ⊤}
 use Rattle.std.specs.Option.{option_and_then}
 use Rattle.fancy_lex.specs.Characters.{close_paren}
@@ -13,16 +14,18 @@ use Rattle.fancy_lex.specs.Text.{Text, bytes, reach_of}
 use Rattle.fancy_lex.specs.declared.flags.Flags.{Flags}
 use Rattle.fancy_parts.specs.Quantifier.{counts}
 use Rattle.fancy_parts.specs.Ranks.{only_named}
+use Rattle.fancy_parts.specs.declared.counts.Counts.{Counts}
 use Rattle.fancy_grammar.specs.AtomStart.{AtomStart}
 use Rattle.fancy_grammar.specs.Grammar.{Alternation, alternation, Branches, last, more, branch_error, Branch, branch}
 use Rattle.fancy_grammar.specs.Grammar.{Pieces, stop, next, piece_error, Piece, piece, layout_error, Atom, atom, AtomOf}
 use Rattle.fancy_grammar.specs.Grammar.{a_nothing, a_read, a_group, a_condition, condition_error, a_body, two_branches}
-use Rattle.fancy_grammar.specs.Grammar.{one_branch, absent_error, Inside, inside, Body, the_body, Whole, whole}
+use Rattle.fancy_grammar.specs.Grammar.{one_branch, absent_error, Inside, inside, Body, the_body, branches_of}
+use Rattle.fancy_grammar.specs.Grammar.{Whole, whole}
 use Rattle.fancy_grammar.specs.GroupKind.{GroupKind, capture, flag_group}
 use Rattle.fancy_grammar.specs.Items.{openings}
 use Rattle.fancy_grammar.specs.Join.{is_empty}
-use Rattle.fancy_grammar.specs.Quantified.{quant, is_unmoved, max_adjacent}
-use Rattle.fancy_grammar.specs.Spans.{Span, positioned, end_of, if_done}
+use Rattle.fancy_grammar.specs.Quantified.{quant, suffix, is_repeatable, is_unmoved, max_adjacent}
+use Rattle.fancy_grammar.specs.Spans.{Span, positioned, condition_span, end_of, if_done}
 use Rattle.fancy_grammar.specs.State.{State, at, Outcome, done}
 use Rattle.fancy_grammar.specs.Tree.{Tree}
 
@@ -33,6 +36,7 @@ pub data TriviumKind : Type 0 where
   flags : Flags → Flags → TriviumKind  -- inline flags, with the flags that hold before them and after them
   opening : Flags → Flags → TriviumKind  -- the opening of a group without a node, with the flags around it and in it
   closing : TriviumKind  -- its closing parenthesis
+  dropped : TriviumKind  -- a part of a quantifier or of a conditional that leaves nothing in the tree
 
 pub record Trivium : Type 0 where
   pub span : Span
@@ -82,29 +86,58 @@ closing_of flag_group end = part (end + 1) end closing false ∷ []
 closing_of (capture None) end = part (end + 1) end closing true ∷ []
 closing_of _ end = []
 
+-- ---- what leaves nothing in the tree: each function adds to the list p
+
+-- the text between two reaches, unless it is empty
+abbrev pub with_dropped : ℕ → ℕ → List Passed → List Passed
+with_dropped start end p = if start == end then p else p ++ part start end dropped false ∷ []
+
+-- all text between two reaches: these parts, and what lies before, between and after them
+abbrev pub filled : ℕ → ℕ → List Passed → List Passed → List Passed
+filled start end [] p = with_dropped start end p
+filled start end (x ∷ l) p = filled x.trivium.span.end end l (with_dropped start x.trivium.span.start p ++ x ∷ [])
+
 -- ---- quantifiers: each function adds to the list p
 
--- a quantifier that follows layout, if one does, and the layout before its operators
-abbrev pub quant_trivia : State → List Passed → List Passed
-quant_trivia s p =
+-- where the layout at the state ends
+abbrev pub layout_end : State → ℕ
+layout_end s = choose (past_layout s.flags.ignore_space s.rest) reach_of (reach_of s.rest)
+
+-- a quantifier of the atom a, whose counts begin at the reach and end before t: the comments before its operators, and
+-- if a ignores it the counts and the operators
+abbrev pub counted_trivia : ℕ → Tree → State → List Passed → Counts × Text → List Passed
+counted_trivia start a s p (c, t) =
+    let u = at s t in
+    if is_repeatable s.flags a then p ++ comments_at u
+    else let q = with_dropped start (reach_of t) p ++ comments_at u in
+    if_done (suffix u c) (λ m v. with_dropped (layout_end u) (reach_of v.rest) q) q
+
+-- a quantifier that follows layout, if one does
+abbrev pub quant_trivia : Tree → State → List Passed → List Passed
+quant_trivia a s p =
     let blanks = s.flags.ignore_space in
     let q = p ++ comments_at s in
-    choose (option_and_then (counts blanks) (past_layout blanks s.rest)) (λ (c, t). q ++ comments_at (at s t)) q
+    choose (option_and_then (counts blanks) (past_layout blanks s.rest)) (counted_trivia (layout_end s) a s q) q
 
 -- adjacent quantifiers, of which k more may follow
 abbrev pub adjacent_trivia : ℕ → Tree → State → List Passed → List Passed
-adjacent_trivia zero a s p = quant_trivia s p
+adjacent_trivia zero a s p = quant_trivia a s p
 adjacent_trivia (suc k) a s p =
-    let q = quant_trivia s p in
+    let q = quant_trivia a s p in
     if_done (quant (bytes s.rest) a s) (λ b t. if is_unmoved s t then q else adjacent_trivia k b t q) q
 
 -- all quantifiers of a piece before which this many bytes were left
 abbrev pub quants_trivia : ℕ → Outcome Tree → List Passed → List Passed
 quants_trivia left o p = if_done o (λ a s.
-    let q = quant_trivia s p in
+    let q = quant_trivia a s p in
     if_done (quant left a s) (λ b t. if t.flags.oniguruma_mode then adjacent_trivia max_adjacent b t q else q) q) p
 
 -- ---- the productions
+
+-- whether a conditional with this body leaves only its condition in the tree
+abbrev pub leaves_condition : {d : ℕ} {c : Tree} {s : State} {o : Outcome Tree} → Body d c s o → Bool
+leaves_condition (the_body {q} a) =
+    if_done q (λ r v. is_empty (branches_of r).0 && is_empty (branches_of r).1) false
 
 abbrev mutual
   pub alternation_trivia : {d : ℕ} {s : State} {o : Outcome Tree} → Alternation d s o → List Passed → List Passed
@@ -135,9 +168,17 @@ abbrev mutual
   atom_of_trivia a_nothing p = p
   atom_of_trivia {s} {o} a_read p = p ++ flags_of_atom s o
   atom_of_trivia {s} {o} (a_group {t} {h} i) p = inside_trivia i (p ++ opening_of h s t) ++ closing_of h (end_of o)
-  atom_of_trivia (a_condition i b) p = body_trivia b (inside_trivia i p)
+  atom_of_trivia {s} {o} (a_condition {t} {v} i b) p =
+      if leaves_condition b
+      then filled (reach_of v.rest + 1) (end_of o) (body_trivia b [])
+      (inside_trivia i (with_dropped (reach_of s.rest) (reach_of t.rest) p))
+      else body_trivia b (inside_trivia i p)
   atom_of_trivia (condition_error i) p = inside_trivia i p
-  atom_of_trivia (a_body b) p = body_trivia b p
+  atom_of_trivia {s} {o} (a_body {t} b) p =
+      if leaves_condition b
+      then filled (reach_of t.rest + 1) (end_of o) (body_trivia b [])
+      (with_dropped (reach_of s.rest) (condition_span s t).start p)
+      else body_trivia b p
   atom_of_trivia (two_branches b e m) p = branch_trivia m (branch_trivia b p)
   atom_of_trivia (one_branch b e) p = branch_trivia b p
   atom_of_trivia (absent_error b) p = branch_trivia b p

@@ -35,7 +35,8 @@ pub struct SpannedTree {
     pub tree: ExprTree,
     /// The span of each node of the tree, in preorder.
     pub spans: Vec<Span>,
-    /// What no node has, in the order of the pattern: comments, inline flags, and the parentheses of groups that make no node.
+    /// What no node has, in the order of the pattern: comments, inline flags, the parentheses of groups that make no node, and
+    /// what leaves nothing in the tree.
     pub trivia: Vec<Trivium>,
     /// How many nodes each node has, including itself, in preorder.
     sizes: Vec<usize>,

@@ -18,6 +18,7 @@ mod ShownLemmas
 mod TreeLemmas
 mod RecordingLemmas
 mod RecordingLaws
+mod WholeLaws
 -- ---- the resolver
 pub mod WalkLemmas
 pub mod NoItems

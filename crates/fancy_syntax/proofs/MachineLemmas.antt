@@ -21,7 +21,7 @@ use Rattle.fancy_grammar.specs.Grammar.{more, next, restored, conditional_after,
 use Rattle.fancy_grammar.specs.Grammar as grammar
 use Rattle.fancy_grammar.specs.Join.{solid, one_or, choice}
 use Rattle.fancy_grammar.specs.Spans.{end_of}
-use Rattle.fancy_syntax.specs.Log.{Log, part_begun, branch_begun, branch_ended, atom_closed}
+use Rattle.fancy_syntax.specs.Log.{Log, body_begun, branch_begun, branch_ended, atom_closed}
 use Rattle.fancy_syntax.specs.Recording.{PieceTo, PiecesTo, BranchTo, BranchesTo, AlternationTo, piece_recorded}
 use Rattle.fancy_syntax.specs.Recording.{pieces_recorded}
 use Rattle.fancy_syntax.specs.Recording.{branches_recorded, atom_recorded, inside_recorded, quants_recorded}
@@ -223,10 +223,10 @@ opens_ended n q w (after_branch {a} (a_branch {u} i e) b j) (r, x) g f = (
 -- if the atom continues, the body of the conditional comes next
 pub condition_ended : {d : ℕ} {s v t : State} {p : OpenPart} {c : Tree} {l m : Log} (n : Log) (r : Tree) (w : State) →
     OpensPart d s l p v m → Part p (d + 1) v (done r w) m n → has_body_next p ≡ true →
-    ended_part p r w ≡ done c t → OpensPart d s l (body c (bytes t.rest)) t (part_begun (reach_of t.rest) n)
+    ended_part p r w ≡ done c t → OpensPart d s l (body c (bytes t.rest)) t (body_begun (reach_of t.rest) n)
 condition_ended {d} {s} {v} {t} {c} {l} {m} n r w (a_condition i e) (x, y) g h =
     let (z, k) = subst (λ o. (a : Inside d v o) × (inside_recorded a m ≡ n)) h (inside x, y) in
-    subst (λ n. OpensPart d s l (body c (bytes t.rest)) t (part_begun (reach_of t.rest) n)) k
+    subst (λ n. OpensPart d s l (body c (bytes t.rest)) t (body_begun (reach_of t.rest) n)) k
     (after_condition (a_condition i e) z)
 condition_ended n r w (a_group l e) x g h = absurd (true≢false (sym g))
 condition_ended n r w (a_body l e) x g h = absurd (true≢false (sym g))
@@ -263,7 +263,7 @@ close_ends left flags p r w n e g = rw (e, g) refl
 
 pub close_has_body : (left : ℕ) (flags : Flags) (p : OpenPart) (r : Tree) (w : State) (n : Log) {a : Tree}
     {t : State} → ended_part p r w ≡ done a t → has_body_next p ≡ true → close_recorded left flags p r w n
-    ≡ part_begun (reach_of t.rest) (part_recorded p r (reach_of w.rest) (reach_of t.rest) n)
+    ≡ body_begun (reach_of t.rest) (part_recorded p r (reach_of w.rest) (reach_of t.rest) n)
 close_has_body left flags p r w n e g = rw (e, g) refl
 
 -- the atom that ends with a part, under its quantifiers
@@ -287,7 +287,7 @@ pub closes_condition : {d : ℕ} {s v t : State} {c : Tree} {p : OpenPart} {l m 
     OpensPart d s l (body c (bytes t.rest)) t (close_recorded left flags p r w n)
 closes_condition {d} {s} {t} {c} {p} {l} left n flags r w x y g h =
     subst (OpensPart d s l (body c (bytes t.rest)) t)
-    (sym (close_has_body left flags p r w n h g ∙ ap (part_begun (reach_of t.rest)) (of_condition p g)))
+    (sym (close_has_body left flags p r w n h g ∙ ap (body_begun (reach_of t.rest)) (of_condition p g)))
     (condition_ended n r w x y g h)
   where
     of_condition : (p : OpenPart) → has_body_next p ≡ true → part_recorded p r (reach_of w.rest) (reach_of t.rest) n ≡ n

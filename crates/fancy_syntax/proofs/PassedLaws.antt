@@ -1,6 +1,10 @@
 -- What is passed while a text is read is what the derivation says that no node has.
 use Rattle.std.proofs.Common.{◌≡◌, ℕ, zero, suc, Bool, true, false, ◌||◌, ◌&&◌, ◌==◌, if◌then◌else◌, List, [], ◌∷◌}
-use Rattle.std.proofs.Common.{◌++◌, length, Option, Some, None, refl, sym, ap, ◌∙◌, append-nil, nat_lt}
+use Rattle.std.proofs.Common.{◌++◌, length, Option, Some, None, refl, sym, ap, ◌∙◌, append-nil, append_assoc, nat_lt}
+use Rattle.std.proofs.Common.{◌+◌, min, take, drop, arith, length-append}
+use Rattle.std.specs.Prelude.{insert}
+use Rattle.std.proofs.Math.Seq.{take-append_seam, drop-append_seam}
+use Rattle.std.proofs.lemmas.Bool.{cond_both}
 use Rattle.std.specs.Option.{option_and_then}
 use Rattle.std.specs.List.{slice_get}
 use Rattle.fancy_lex.specs.LayoutSteps.{past_layout}
@@ -17,22 +21,32 @@ use Rattle.fancy_grammar.specs.GroupKind.{GroupKind, capture, flag_group, look, 
 use Rattle.fancy_grammar.specs.Join.{is_empty, solid}
 use Rattle.fancy_grammar.specs.Label as label
 use Rattle.fancy_grammar.specs.Quantified.{quant, suffix, Suffix, is_repeatable, is_swapped, is_unmoved, max_adjacent}
-use Rattle.fancy_grammar.specs.Spans.{end_of, if_done, quantifier_end}
+use Rattle.fancy_grammar.specs.Spans.{condition_span, end_of, if_done, quantifier_end, alternation_spans}
 use Rattle.fancy_grammar.specs.State.{State, at, Outcome, done, failed}
 use Rattle.fancy_grammar.specs.Tree.{Tree, leaf, over, row, list_of}
-use Rattle.fancy_grammar.specs.Trivia.{Trivium, comments_at, opening_of, closing_of, quant_trivia, adjacent_trivia}
+use Rattle.fancy_grammar.specs.Trivia.{Passed, part, dropped, with_dropped, filled, layout_end, comments_at}
+use Rattle.fancy_grammar.specs.Trivia.{closing_of, counted_trivia, quant_trivia, adjacent_trivia, leaves_condition}
 use Rattle.fancy_grammar.specs.Trivia.{quants_trivia, alternation_trivia, branches_trivia, branch_trivia, pieces_trivia}
 use Rattle.fancy_grammar.specs.Trivia.{piece_trivia, atom_trivia, atom_of_trivia, inside_trivia, body_trivia}
-use Rattle.fancy_syntax.specs.Log.{Log, wrapped, put, layout_passed, opened, group_opened, body_opened, part_begun}
-use Rattle.fancy_syntax.specs.Log.{branch_begun, branch_ended, choice_ended, body_split, alt_split, others_put}
-use Rattle.fancy_syntax.specs.Log.{part_dropped, left_out}
-use Rattle.fancy_syntax.specs.Recording.{counted_recorded, quant_recorded, adjacent_recorded, quants_recorded}
+use Rattle.fancy_grammar.proofs.OutcomeLemmas.{Holds}
+use Rattle.fancy_grammar.proofs.TriviaAppend.{inside_alone, alternation_alone}
+use Rattle.fancy_syntax.specs.Log.{Log, wrapped, layout_passed, opened, group_opened, body_opened, body_begun}
+use Rattle.fancy_syntax.specs.Log.{branch_begun, branch_ended, alt_split, others_put}
+use Rattle.fancy_syntax.specs.Log.{part_dropped, left_out, atom_opened, atom_ended, atom_closed, leaf_recorded}
+use Rattle.fancy_syntax.specs.Log.{text_dropped, inserted, body_dropped, conditional_dropped}
+use Rattle.fancy_syntax.specs.Recording.{counted_recorded, quantifier_dropped, quant_recorded, adjacent_recorded}
+use Rattle.fancy_syntax.specs.Recording.{quants_recorded}
 use Rattle.fancy_syntax.specs.Recording.{group_recorded, body_separated, conditional_recorded, stopper_recorded}
-use Rattle.fancy_syntax.specs.Recording.{choice_recorded, added, atom_read, alternation_recorded, branches_recorded}
+use Rattle.fancy_syntax.specs.Recording.{choice_recorded, added, alternation_recorded, branches_recorded}
 use Rattle.fancy_syntax.specs.Recording.{branch_recorded, pieces_recorded, piece_recorded, atom_recorded}
 use Rattle.fancy_syntax.specs.Recording.{atom_of_recorded, inside_recorded, body_recorded}
+use Rattle.fancy_syntax.specs.declared.grammar.recorded.ConditionPart.{ConditionPart}
 use Rattle.fancy_syntax.specs.declared.grammar.recorded.FirstBar.{FirstBar}
+use Rattle.fancy_syntax.specs.declared.grammar.recorded.Open.{Open}
 use Rattle.fancy_syntax.specs.declared.grammar.recorded.RecordedNode.{RecordedNode}
+use Rattle.fancy_syntax.proofs.RecordingLemmas.{put_seam}
+use Rattle.fancy_syntax.proofs.RecordingLaws.{PartBegun, part_begins, body_begins, Kept, PartRecorded, alternation_as}
+use Rattle.fancy_syntax.proofs.RecordingLaws.{inside_as}
 
 -- ---- what adds nothing
 
@@ -72,11 +86,6 @@ separated_passed (row label.concat ts) end l = refl
 separated_passed (row label.conditional ts) end l = refl
 separated_passed (row label.expression ts) end l = refl
 
-conditional_passed : (r : Tree) (paren end : ℕ) (l : Log) → (conditional_recorded r paren end l).passed ≡ l.passed
-conditional_passed r paren end l =
-    either (is_empty (branches_of r).0 && is_empty (branches_of r).1) (body_separated r paren l) _ _ refl refl
-    ∙ separated_passed r paren l
-
 stopper_passed : (a : Tree) (end : ℕ) (l : Log) → (stopper_recorded a end l).passed ≡ l.passed
 stopper_passed a end l = either (is_empty a) l (part_dropped l) l refl refl
 
@@ -91,7 +100,7 @@ group_passed repeater end l = sym (append-nil l.passed)
 
 -- ---- quantifiers
 
-quant_passed : (a : Tree) (s : State) (l : Log) → (quant_recorded a s l).passed ≡ quant_trivia s l.passed
+quant_passed : (a : Tree) (s : State) (l : Log) → (quant_recorded a s l).passed ≡ quant_trivia a s l.passed
 quant_passed a s l =
     by_counts (option_and_then (counts s.flags.ignore_space) (past_layout s.flags.ignore_space s.rest))
   where
@@ -105,15 +114,26 @@ quant_passed a s l =
         wrapped_passed (quantifier_end t m v) (is_swapped s.flags c || m.possessive) (layout_passed (at s t) n)
     by_operators c t (failed k p) = refl
 
+    by_ignored : (c : Counts) (t : Text) (o : Outcome Suffix) →
+        (let k = layout_passed (at s t) (text_dropped (layout_end s) (reach_of t) n) in
+        if_done o (λ m v. text_dropped (layout_end (at s t)) (reach_of v.rest) k) k).passed
+        ≡ (let q = with_dropped (layout_end s) (reach_of t) n.passed ++ comments_at (at s t) in
+        if_done o (λ m v. with_dropped (layout_end (at s t)) (reach_of v.rest) q) q)
+    by_ignored c t (done m v) = refl
+    by_ignored c t (failed k p) = refl
+
     by_test : (b : Bool) (c : Counts) (t : Text) →
         (if b then if_done (suffix (at s t) c) (λ m v. wrapped (quantifier_end t m v)
         (is_swapped s.flags c || m.possessive) (layout_passed (at s t) n)) (layout_passed (at s t) n)
-        else layout_passed (at s t) n).passed ≡ n.passed ++ comments_at (at s t)
+        else quantifier_dropped (layout_end s) (at s t) c n).passed
+        ≡ (if b then n.passed ++ comments_at (at s t)
+        else let q = with_dropped (layout_end s) (reach_of t) n.passed ++ comments_at (at s t) in
+        if_done (suffix (at s t) c) (λ m v. with_dropped (layout_end (at s t)) (reach_of v.rest) q) q)
     by_test true c t = by_operators c t (suffix (at s t) c)
-    by_test false c t = refl
+    by_test false c t = by_ignored c t (suffix (at s t) c)
 
-    by_counts : (o : Option (Counts × Text)) → (choose o (counted_recorded a s n) n).passed
-        ≡ choose o (λ (c, t). n.passed ++ comments_at (at s t)) n.passed
+    by_counts : (o : Option (Counts × Text)) → (choose o (counted_recorded (layout_end s) a s n) n).passed
+        ≡ choose o (counted_trivia (layout_end s) a s n.passed) n.passed
     by_counts None = refl
     by_counts (Some (c, t)) = by_test (is_repeatable s.flags a) c t
 
@@ -130,14 +150,14 @@ adjacent_passed (suc k) a s l =
     IsSame r t = (adjacent_recorded k r t m).passed ≡ adjacent_trivia k r t m.passed
 
     by_test : (b : Bool) (r : Tree) (t : State) → IsSame r t → (if b then m else adjacent_recorded k r t m).passed
-        ≡ (if b then quant_trivia s l.passed else adjacent_trivia k r t (quant_trivia s l.passed))
+        ≡ (if b then quant_trivia a s l.passed else adjacent_trivia k r t (quant_trivia a s l.passed))
     by_test true r t h = quant_passed a s l
     by_test false r t h = h ∙ ap (adjacent_trivia k r t) (quant_passed a s l)
 
     by_outcome : ((r : Tree) (t : State) → IsSame r t) → (o : Outcome Tree) →
         (if_done o (λ b t. if is_unmoved s t then m else adjacent_recorded k b t m) m).passed
-        ≡ if_done o (λ b t. if is_unmoved s t then quant_trivia s l.passed
-        else adjacent_trivia k b t (quant_trivia s l.passed)) (quant_trivia s l.passed)
+        ≡ if_done o (λ b t. if is_unmoved s t then quant_trivia a s l.passed
+        else adjacent_trivia k b t (quant_trivia a s l.passed)) (quant_trivia a s l.passed)
     by_outcome h (done r t) = by_test (is_unmoved s t) r t (h r t)
     by_outcome h (failed j p) = quant_passed a s l
 
@@ -149,16 +169,61 @@ quants_passed left (done a s) l = by_outcome (quant left a s)
     m = quant_recorded a s l
 
     by_mode : (b : Bool) (r : Tree) (t : State) → (if b then adjacent_recorded max_adjacent r t m else m).passed
-        ≡ (if b then adjacent_trivia max_adjacent r t (quant_trivia s l.passed) else quant_trivia s l.passed)
+        ≡ (if b then adjacent_trivia max_adjacent r t (quant_trivia a s l.passed) else quant_trivia a s l.passed)
     by_mode true r t = adjacent_passed max_adjacent r t m ∙ ap (adjacent_trivia max_adjacent r t) (quant_passed a s l)
     by_mode false r t = quant_passed a s l
 
     by_outcome : (o : Outcome Tree) →
         (if_done o (λ b t. if t.flags.oniguruma_mode then adjacent_recorded max_adjacent b t m else m) m).passed
-        ≡ if_done o (λ b t. if t.flags.oniguruma_mode then adjacent_trivia max_adjacent b t (quant_trivia s l.passed)
-        else quant_trivia s l.passed) (quant_trivia s l.passed)
+        ≡ if_done o (λ b t. if t.flags.oniguruma_mode then adjacent_trivia max_adjacent b t (quant_trivia a s l.passed)
+        else quant_trivia a s l.passed) (quant_trivia a s l.passed)
     by_outcome (done r t) = by_mode t.flags.oniguruma_mode r t
     by_outcome (failed j p) = quant_passed a s l
+
+-- ---- conditionals
+
+separated_open : (r : Tree) (end : ℕ) (l : Log) → (body_separated r end l).open_atom ≡ l.open_atom
+separated_open (row label.alt ts) end l =
+    by_node (slice_get l.recorded l.open_atom.branches)
+  where
+    by_bar : (x : RecordedNode) (b : Option FirstBar) (m : Log) → (others_put (length (list_of ts)) x b m).open_atom ≡ m.open_atom
+    by_bar x None m = refl
+    by_bar x (Some b) m =
+        cond_both (nat_lt (length (list_of ts)) 3) _ _ (λ (n : Log). n.open_atom ≡ m.open_atom) (λ _. refl) (λ _. refl)
+
+    by_node : (x : Option RecordedNode) → (alt_split (length (list_of ts)) x l).open_atom ≡ l.open_atom
+    by_node None = refl
+    by_node (Some x) = by_bar x x.bar _
+separated_open (leaf a) end l = refl
+separated_open (over w r) end l = refl
+separated_open (row label.concat ts) end l = refl
+separated_open (row label.conditional ts) end l = refl
+separated_open (row label.expression ts) end l = refl
+
+-- the opening comes after what was passed before the conditional
+inserted_passed : (height start end : ℕ) (p r : List Passed) → height ≡ length p →
+    inserted height start end (p ++ r) ≡ with_dropped start end p ++ r
+inserted_passed height start end p r e = by_test (start == end)
+  where
+    x : Passed
+    x = part start end dropped false
+
+    by_test : (b : Bool) → (if b then p ++ r else insert (p ++ r) (min height (length (p ++ r))) x)
+        ≡ (if b then p else p ++ x ∷ []) ++ r
+    by_test true = refl
+    by_test false = rw e (put_seam p r x) ∙ sym (append_assoc p (x ∷ []) r)
+
+-- after a conditional whose condition passed r, and whose body passed q
+dropped_passed : (o : Open) (end : ℕ) (c : Option ConditionPart) (first closing : ℕ) (p r q : List Passed) →
+    o.passed ≡ length p → c ≡ Some (record { start = first; closing = closing; passed = length (p ++ r) }) →
+    body_dropped o end c ((p ++ r) ++ q) ≡ filled closing end q (with_dropped o.start first p ++ r)
+dropped_passed o end c first closing p r q e f =
+    let n : min (length (p ++ r)) (length ((p ++ r) ++ q)) ≡ length (p ++ r) =
+    omega (arith, length-append (p ++ r) q) in
+    ap (λ c. body_dropped o end c ((p ++ r) ++ q)) f
+    ∙ (λ i. filled closing end (drop (n i) ((p ++ r) ++ q)) (inserted o.passed o.start first (take (n i) ((p ++ r) ++ q))))
+    ∙ (λ i. filled closing end (drop-append_seam (p ++ r) q i) (inserted o.passed o.start first (take-append_seam (p ++ r) q i)))
+    ∙ ap (filled closing end q) (inserted_passed o.passed o.start first p r e)
 
 -- ---- the productions
 
@@ -216,12 +281,30 @@ mutual
   atom_of_passed {s} {o} (a_group {t} {h} i) l =
       group_passed h (end_of o) (inside_recorded i (group_opened h s t l))
       ∙ ap (λ p. p ++ closing_of h (end_of o)) (inside_passed i (group_opened h s t l))
-  atom_of_passed {s} (a_condition {t} {v} i b) l =
-      let m = inside_recorded i (opened (reach_of s.rest) (reach_of t.rest) l) in
-      body_passed b (part_begun (reach_of v.rest) m)
-      ∙ ap (body_trivia b) (inside_passed i (opened (reach_of s.rest) (reach_of t.rest) l))
+  atom_of_passed {s} {o} (a_condition {t} {v} i b) l =
+      let n = opened (reach_of s.rest) (reach_of t.rest) l in
+      let m = inside_recorded i n in
+      let k = (inside_as true i n (part_begins t (atom_opened (reach_of s.rest) l))).is_kept in
+      let r = inside_trivia i [] in
+      let e : m.passed ≡ l.passed ++ r = inside_passed i n ∙ inside_alone i l.passed in
+      body_passed b (body_begun (reach_of v.rest) m) (reach_of s.rest) (reach_of t.rest) l.passed r
+      (body_begins v m) e k.passed k.start
+      (λ i. Some (record { start = k.part i; closing = reach_of v.rest + 1; passed = length (e i) }))
+      ∙ (λ j. if leaves_condition b
+      then filled (reach_of v.rest + 1) (end_of o) (body_trivia b [])
+      (sym (inside_alone i (with_dropped (reach_of s.rest) (reach_of t.rest) l.passed)) j)
+      else body_trivia b (sym (inside_alone i l.passed) j))
   atom_of_passed {s} (condition_error {t} i) l = inside_passed i (opened (reach_of s.rest) (reach_of t.rest) l)
-  atom_of_passed {s} (a_body {t} b) l = body_passed b (body_opened s t l)
+  atom_of_passed {s} {o} (a_body {t} b) l =
+      let p = condition_span s t in
+      let e = sym (append-nil l.passed) in
+      body_passed b (body_opened s t l) (reach_of s.rest) p.start l.passed []
+      (body_begins t (leaf_recorded p.start p.end (opened (reach_of s.rest) p.start l))) e refl refl
+      (λ i. Some (record { start = p.start; closing = reach_of t.rest + 1; passed = length (e i) }))
+      ∙ (λ j. if leaves_condition b
+      then filled (reach_of t.rest + 1) (end_of o) (body_trivia b [])
+      (append-nil (with_dropped (reach_of s.rest) p.start l.passed) j)
+      else body_trivia b (append-nil l.passed j))
   atom_of_passed {s} (two_branches {t} {u} b e m) l =
       let n = opened (reach_of s.rest) (reach_of t.rest) l in
       branch_passed m (branch_begun (reach_of u) (branch_recorded b n)) ∙ ap (branch_trivia m) (branch_passed b n)
@@ -234,12 +317,45 @@ mutual
       (inside_recorded a l).passed ≡ inside_trivia a l.passed
   inside_passed (inside a) l = alternation_passed a l
 
-  body_passed : {d : ℕ} {c : Tree} {s : State} {o : Outcome Tree} (a : Body d c s o) (l : Log) →
-      (body_recorded a l).passed ≡ body_trivia a l.passed
-  body_passed {o} (the_body {q} a) l = by_outcome q ∙ alternation_passed a l
+  -- after the body of a conditional, before which p was passed, and whose condition passed r
+  body_passed : {d : ℕ} {c : Tree} {t : State} {o : Outcome Tree} (b : Body d c t o) (n : Log) (start first : ℕ)
+      (p r : List Passed) → PartBegun t n → n.passed ≡ p ++ r → n.open_atom.passed ≡ length p →
+      n.open_atom.start ≡ start →
+      n.open_atom.condition ≡ Some (record { start = first; closing = reach_of t.rest + 1; passed = length (p ++ r) }) →
+      (body_recorded b n).passed ≡ (if leaves_condition b
+      then filled (reach_of t.rest + 1) (end_of o) (body_trivia b []) (with_dropped start first p ++ r)
+      else body_trivia b (p ++ r))
+  body_passed {t} {o} (the_body {q} a) n start first p r g e h i j =
+      by_outcome (alternation_passed a n ∙ ap (alternation_trivia a) e) q (alternation_as true a n g)
     where
-      by_outcome : (q : Outcome Tree) →
-          (if_done q (λ r v. conditional_recorded r (reach_of v.rest) (end_of o) (alternation_recorded a l))
-          (alternation_recorded a l)).passed ≡ (alternation_recorded a l).passed
-      by_outcome (done r v) = conditional_passed r (reach_of v.rest) (end_of o) (alternation_recorded a l)
-      by_outcome (failed k p) = refl
+      m : Log
+      m = alternation_recorded a n
+
+      body : List Passed
+      body = alternation_trivia a []
+
+      conditional : m.passed ≡ alternation_trivia a (p ++ r) → (u : Tree) (v : State) → Kept n m → (x : Bool) →
+          (if x then atom_ended (conditional_dropped (end_of o) (body_separated u (reach_of v.rest) m))
+          else atom_closed (end_of o) false (body_separated u (reach_of v.rest) m)).passed
+          ≡ (if x then filled (reach_of t.rest + 1) (end_of o) body (with_dropped start first p ++ r)
+          else alternation_trivia a (p ++ r))
+      conditional whole u v k false = separated_passed u (reach_of v.rest) m ∙ whole
+      conditional whole u v k true =
+          let w = body_separated u (reach_of v.rest) m in
+          let same : w.open_atom ≡ m.open_atom = separated_open u (reach_of v.rest) m in
+          let all : w.passed ≡ (p ++ r) ++ body =
+          separated_passed u (reach_of v.rest) m ∙ whole ∙ alternation_alone a (p ++ r) in
+          (λ z. body_dropped (same z) (end_of o) ((same z).condition) (all z))
+          ∙ dropped_passed m.open_atom (end_of o) m.open_atom.condition first (reach_of t.rest + 1) p r body
+          (k.passed ∙ h) (k.condition ∙ j)
+          ∙ ap (λ s. filled (reach_of t.rest + 1) (end_of o) body (with_dropped s first p ++ r)) (k.start ∙ i)
+
+      by_outcome : m.passed ≡ alternation_trivia a (p ++ r) → (q : Outcome Tree) →
+          Holds (λ u v. PartRecorded true n m u (alternation_spans true a)) q →
+          (if_done q (λ u v. conditional_recorded u (reach_of v.rest) (end_of o) m) m).passed
+          ≡ (if if_done q (λ u v. is_empty (branches_of u).0 && is_empty (branches_of u).1) false
+          then filled (reach_of t.rest + 1) (end_of o) body (with_dropped start first p ++ r)
+          else alternation_trivia a (p ++ r))
+      by_outcome whole (done u v) k =
+          conditional whole u v k.is_kept (is_empty (branches_of u).0 && is_empty (branches_of u).1)
+      by_outcome whole (failed k z) f = whole

@@ -12,7 +12,6 @@ use Rattle.std.proofs.Math.Seq.{take-append_seam, get_or-append_seam}
 use Prim.Native.Char.{code}
 use Rattle.fancy_lex.specs.Located.{Kind}
 use Rattle.fancy_lex.specs.Text.{Text, bytes, reach_of}
-use Rattle.fancy_lex.specs.declared.flags.Flags.{Flags}
 use Rattle.fancy_parts.specs.Ranks.{is_counted}
 use Rattle.fancy_grammar.specs.AtomStart.{AtomStart}
 use Rattle.fancy_grammar.specs.Grammar.{Alternation, alternation, Branches, last, more, branch_error, Branch, branch}
@@ -20,7 +19,7 @@ use Rattle.fancy_grammar.specs.Grammar.{Pieces, stop, next, piece_error, Piece, 
 use Rattle.fancy_grammar.specs.Grammar.{a_nothing, a_read, a_group, a_condition, condition_error, a_body, two_branches}
 use Rattle.fancy_grammar.specs.Grammar.{one_branch, absent_error, Inside, inside, Body, the_body}
 use Rattle.fancy_grammar.specs.Grammar.{closed, closed_at, branches_of, conditional_of, conditional_after}
-use Rattle.fancy_grammar.specs.Grammar.{is_condition, clear_or_stopper, whole, start, ended}
+use Rattle.fancy_grammar.specs.Grammar.{is_condition, clear_or_stopper, start}
 use Rattle.fancy_grammar.specs.GroupKind.{GroupKind, capture, flag_group, look, atomic, define, repeater, group_node}
 use Rattle.fancy_grammar.specs.Join.{solid, is_empty, one_or, choice}
 use Rattle.fancy_grammar.specs.Label as label
@@ -33,7 +32,7 @@ use Rattle.fancy_grammar.specs.Spans.{atom_spans, atom_of_spans, inside_spans, b
 use Rattle.fancy_grammar.specs.State.{State, at, Outcome, done, failed, and_then, mapped}
 use Rattle.fancy_grammar.specs.Tree.{Tree, leaf, over, row, Trees, trees_of, list_of, alt, concat, empty}
 use Rattle.fancy_grammar.specs.Tree.{expression, conditional}
-use Rattle.fancy_grammar.specs.Trivia.{comments_at, flags_of_atom, closing_of}
+use Rattle.fancy_grammar.specs.Trivia.{closing_of}
 use Rattle.fancy_grammar.proofs.AtomStartLaws.{IsLeaf, StartReads, start_reads}
 use Rattle.fancy_grammar.proofs.OutcomeLemmas.{Holds, then_holds, after_keeps}
 use Rattle.fancy_grammar.proofs.Slices.{Reads}
@@ -43,13 +42,11 @@ use Rattle.fancy_grammar.proofs.TreeLaws.{list_back}
 use Rattle.fancy_syntax.specs.Log.{Log, plain, put, reaches, shown, started, leaf_recorded, left_out, opened, part_begun}
 use Rattle.fancy_syntax.specs.Log.{body_opened, branch_begun, branch_ended, choice_ended, body_split, branch_lacked}
 use Rattle.fancy_syntax.specs.Log.{part_dropped, atom_closed, atom_ended, first_bar, alt_split, others_put}
-use Rattle.fancy_syntax.specs.Log.{atom_opened, pass, layout_passed, group_opened}
+use Rattle.fancy_syntax.specs.Log.{atom_opened, pass, layout_passed, group_opened, body_begun, conditional_dropped}
 use Rattle.fancy_syntax.specs.Recording.{alternation_recorded, branches_recorded, branch_recorded, pieces_recorded}
 use Rattle.fancy_syntax.specs.Recording.{piece_recorded}
 use Rattle.fancy_syntax.specs.Recording.{atom_recorded, atom_of_recorded, inside_recorded, body_recorded}
 use Rattle.fancy_syntax.specs.Recording.{quants_recorded, group_recorded, atom_read}
-use Rattle.fancy_syntax.specs.RecordedWhole.{ShowsWhole}
-use Rattle.fancy_syntax.specs.Recording.{AlternationTo}
 use Rattle.fancy_syntax.specs.Recording.{body_separated, conditional_recorded, stopper_recorded, choice_recorded, added}
 use Rattle.fancy_syntax.specs.declared.grammar.recorded.FirstBar.{FirstBar}
 use Rattle.fancy_syntax.specs.declared.grammar.recorded.RecordedNode.{RecordedNode}
@@ -57,7 +54,6 @@ use Rattle.fancy_syntax.specs.declared.grammar.recorded.Open.{Open}
 use Rattle.fancy_syntax.proofs.RecordingLemmas.{put_recorded, Beside, one_more, several_more, Barred, Fits, shown_one}
 use Rattle.fancy_syntax.proofs.RecordingLemmas.{shown_append, fits_shown, PieceRecorded, quants_recorded_as}
 use Rattle.fancy_syntax.proofs.RecordingLemmas.{passed_before, passed_after}
-use Rattle.fancy_syntax.proofs.PassedLaws.{alternation_passed}
 
 -- the open branch begins at the state, above all recorded nodes
 pub record BranchBegun (s : State) (l : Log) : Type 0 where
@@ -79,12 +75,23 @@ part_begins s l = record {
   branch = record { branch = refl; pieces = refl };
 }
 
+-- the body of a conditional too
+pub body_begins : (s : State) (l : Log) → PartBegun s (body_begun (reach_of s.rest) l)
+body_begins s l = record {
+  part = refl;
+  branches = refl;
+  bar = refl;
+  branch = record { branch = refl; pieces = refl };
+}
+
 -- the open atom and the open part stay the same
 pub record Kept (l m : Log) : Type 0 where
   around : m.around ≡ l.around
-  start : m.open_atom.start ≡ l.open_atom.start
+  pub start : m.open_atom.start ≡ l.open_atom.start
   height : m.open_atom.height ≡ l.open_atom.height
-  part : m.open_atom.part ≡ l.open_atom.part
+  pub passed : m.open_atom.passed ≡ l.open_atom.passed
+  pub condition : m.open_atom.condition ≡ l.open_atom.condition
+  pub part : m.open_atom.part ≡ l.open_atom.part
   branches : m.open_atom.branches ≡ l.open_atom.branches
 
 kept : {l m : Log} → m.around ≡ l.around → m.open_atom ≡ l.open_atom → Kept l m
@@ -92,6 +99,8 @@ kept a o = record {
   around = a;
   start = ap (λ (x : Open). x.start) o;
   height = ap (λ (x : Open). x.height) o;
+  passed = ap (λ (x : Open). x.passed) o;
+  condition = ap (λ (x : Open). x.condition) o;
   part = ap (λ (x : Open). x.part) o;
   branches = ap (λ (x : Open). x.branches) o;
 }
@@ -101,6 +110,8 @@ kept_on h k = record {
   around = k.around ∙ h.around;
   start = k.start ∙ h.start;
   height = k.height ∙ h.height;
+  passed = k.passed ∙ h.passed;
+  condition = k.condition ∙ h.condition;
   part = k.part ∙ h.part;
   branches = k.branches ∙ h.branches;
 }
@@ -342,11 +353,11 @@ module _ (named : Bool) where
       parts = body_parts r v x
 
       by_test : (t : Bool) → PieceRecorded named start l
-          (if t then atom_ended (part_dropped q) else atom_closed end false q)
+          (if t then atom_ended (conditional_dropped end q) else atom_closed end false q)
           (if t then c else conditional c (branches_of r).0 (branches_of r).1)
           (if t then y else node p (more_spans y (more_spans parts.0 (more_spans parts.1 no_spans))))
       by_test true =
-          ended_as named start l (part_dropped q) c y ys
+          ended_as named start l (conditional_dropped end q) c y ys
           (record { around = within.around; start_is = within.start_is; height = within.height })
           (rw (b.is_recorded, b.is_kept.branches ∙ branches) (take-append_seam n.recorded b.bs) ∙ e) f
       by_test false =
@@ -523,6 +534,8 @@ module _ (named : Bool) where
       around = k.is_kept.around;
       start = k.is_kept.start;
       height = k.is_kept.height;
+      passed = k.is_kept.passed;
+      condition = k.is_kept.condition;
       part = k.is_kept.part;
       branches = k.is_kept.branches;
     });
@@ -578,6 +591,8 @@ module _ (named : Bool) where
           around = k.is_kept.around;
           start = k.is_kept.start;
           height = k.is_kept.height;
+          passed = k.is_kept.passed;
+          condition = k.is_kept.condition;
           part = k.is_kept.part;
           branches = k.is_kept.branches;
         });
@@ -671,6 +686,8 @@ module _ (named : Bool) where
         around = g.is_around;
         start = ap (λ (o : Open). o.start) g.is_open;
         height = ap (λ (o : Open). o.height) g.is_open;
+        passed = ap (λ (o : Open). o.passed) g.is_open;
+        condition = ap (λ (o : Open). o.condition) g.is_open;
         part = ap (λ (o : Open). o.part) g.is_open;
         branches = ap (λ (o : Open). o.branches) g.is_open;
       })))
@@ -732,7 +749,7 @@ module _ (named : Bool) where
   read_as : (s : State) (l : Log) (o : Outcome Tree) → Reads (IsLeaf s) s o →
       Holds (λ r v. PieceRecorded named (reach_of s.rest) l (atom_read s o l) r (alone (between s o))) o
   read_as s l (done a t) h =
-      passed_after named (flags_of_atom s (done a t)) (leaf_as (reach_of s.rest) (reach_of t.rest) l a
+      passed_after named _ (leaf_as (reach_of s.rest) (reach_of t.rest) l a
       (λ n i j. fits_alone a n (leaf_lies named a h.alone h.span.slice) i j))
   read_as s l (failed k p) h = tt
 
@@ -743,7 +760,7 @@ module _ (named : Bool) where
       (λ r v k. closed_holds (Holds (λ r v. PartRecorded l m r x)) r v (λ u. k) (λ _ _. tt))
 
   mutual
-    alternation_as : {d : ℕ} {s : State} {o : Outcome Tree} (a : Alternation d s o) (l : Log) → PartBegun s l →
+    pub alternation_as : {d : ℕ} {s : State} {o : Outcome Tree} (a : Alternation d s o) (l : Log) → PartBegun s l →
         Holds (λ r v. PartRecorded l (alternation_recorded a l) r (alternation_spans named a)) o
     alternation_as {s} (alternation {q} b) l g =
         alternation_of s l (branches_recorded b l) (branches_spans named b) q (choice_as b l g)
@@ -806,7 +823,7 @@ module _ (named : Bool) where
       where
         some_piece : (m : Log) (x : Spans) (start : ℕ) (o : Outcome Tree) →
             Holds (λ r v. PieceRecorded named start (layout_passed s l) m r x) o → Holds (λ r v. PieceAs l m r x) o
-        some_piece m x start (done r v) h = (start, passed_before named (comments_at s) h)
+        some_piece m x start (done r v) h = (start, passed_before named _ h)
         some_piece m x start (failed k p) h = tt
     piece_as_read (layout_error i) l = tt
 
@@ -837,19 +854,19 @@ module _ (named : Bool) where
     atom_of_as {s} (a_condition {t} {v} {c} i b) l h z =
         let n = opened (reach_of s.rest) (reach_of t.rest) l in
         let f = inside_as i n (part_begins t (atom_opened (reach_of s.rest) l)) in
-        let m = part_begun (reach_of v.rest) (inside_recorded i n) in
+        let m = body_begun (reach_of v.rest) (inside_recorded i n) in
         let w = within_on (opened_within (reach_of s.rest) (reach_of t.rest) l) f.is_kept in
         body_as_read s b l m (inside_spans named i) f.xs
         (record { around = w.around; start_is = w.start_is; height = w.height }) f.is_recorded f.fits
-        (part_begins v (inside_recorded i n))
+        (body_begins v (inside_recorded i n))
     atom_of_as {s} (condition_error i) l h c = tt
     atom_of_as {s} (a_body {t} {c} b) l h z =
         let p = condition_span s t in
-        let w = opened_within (reach_of s.rest) (reach_of t.rest) l in
+        let w = opened_within (reach_of s.rest) p.start l in
         body_as_read s b l (body_opened s t l) (alone p) (plain p.start p.end ∷ [])
         (record { around = w.around; start_is = w.start_is; height = w.height }) refl
         (fits_alone c (plain p.start p.end) z refl refl)
-        (part_begins t (leaf_recorded p.start p.end (opened (reach_of s.rest) (reach_of t.rest) l)))
+        (body_begins t (leaf_recorded p.start p.end (opened (reach_of s.rest) p.start l)))
     atom_of_as {s} (two_branches {t} {v} {u} {a} {q} b e m) l h c =
         let n = opened (reach_of s.rest) (reach_of t.rest) l in
         let k = branch_recorded b n in
@@ -864,7 +881,7 @@ module _ (named : Bool) where
         (branch_as_read b n (part_begins t (atom_opened (reach_of s.rest) l)).branch)
     atom_of_as {s} (absent_error b) l h c = tt
 
-    inside_as : {d : ℕ} {s : State} {o : Outcome Tree} (a : Inside d s o) (l : Log) → PartBegun s l →
+    pub inside_as : {d : ℕ} {s : State} {o : Outcome Tree} (a : Inside d s o) (l : Log) → PartBegun s l →
         Holds (λ r v. PartRecorded l (inside_recorded a l) r (inside_spans named a)) o
     inside_as (inside {q} a) l g =
         inside_of l (alternation_recorded a l) (alternation_spans named a) q (alternation_as a l g)
@@ -890,11 +907,3 @@ module _ (named : Bool) where
         branch = record { branch = refl; pieces = refl };
       }) in
       ap (shown named) h.is_recorded ∙ fits_shown named r (alternation_spans named a) h.xs h.fits
-
-pub whole_shown : {f : Flags} {text : Text} {r : Tree} {t : State} {m : Log} →
-    AlternationTo 0 (start f text) (done r t) (started (reach_of text)) m → ShowsWhole f text (ended r t) m
-whole_shown {text} (a, e) = (
-  whole a,
-  λ named. ap (λ (m : Log). shown named m.recorded) (sym e) ∙ whole_recorded named a,
-  ap (λ (m : Log). m.passed) (sym e) ∙ alternation_passed a (started (reach_of text)),
-)

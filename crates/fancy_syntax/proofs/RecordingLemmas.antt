@@ -8,7 +8,7 @@ use Rattle.std.proofs.lemmas.Bool.{cond_both}
 use Rattle.std.proofs.lemmas.List.Edits.{insert-append_right}
 use Rattle.fancy_lex.specs.LayoutSteps.{Skipped, rest, rest_of, failed as open_comment}
 use Rattle.fancy_lex.specs.Reading.{choose}
-use Rattle.fancy_lex.specs.Text.{Text, bytes}
+use Rattle.fancy_lex.specs.Text.{Text, bytes, reach_of}
 use Rattle.fancy_lex.specs.ErrorTable.{not_repeatable, quantifier_too_deep}
 use Rattle.fancy_lex.specs.declared.flags.Flags.{Flags}
 use Rattle.fancy_parts.specs.Quantifier.{counts}
@@ -23,15 +23,16 @@ use Rattle.fancy_grammar.specs.Spans.{adjacent_spans, quants_spans}
 use Rattle.fancy_grammar.specs.State.{skipped, State, at, Outcome, done, failed, failed_with, and_then, mapped}
 use Rattle.fancy_grammar.specs.Tree.{Tree, leaf, over, row, Trees, trees_of, alt, repeat, atomic_group}
 use Rattle.fancy_grammar.proofs.OutcomeLemmas.{Holds}
-use Rattle.fancy_grammar.specs.Trivia.{Passed, comments_at}
-use Rattle.fancy_syntax.specs.Log.{Log, plain, put, reaches, shown, under_node, wrapped, pass, layout_passed}
-use Rattle.fancy_syntax.specs.Recording.{counted_recorded, quant_recorded, adjacent_recorded, quants_recorded}
+use Rattle.fancy_grammar.specs.Trivia.{Passed, layout_end, with_dropped}
+use Rattle.fancy_syntax.specs.Log.{Log, plain, put, reaches, shown, under_node, wrapped, layout_passed, text_dropped}
+use Rattle.fancy_syntax.specs.Recording.{counted_recorded, quantifier_dropped, quant_recorded, adjacent_recorded}
+use Rattle.fancy_syntax.specs.Recording.{quants_recorded}
 use Rattle.fancy_syntax.specs.declared.grammar.recorded.Last.{Last}
 use Rattle.fancy_syntax.specs.declared.grammar.recorded.RecordedNode.{RecordedNode}
 
--- a node inserted after those of the first list
-put_seam : (A xs : List RecordedNode) (x : RecordedNode) → insert (A ++ xs) (min (length A) (length (A ++ xs))) x ≡ A ++
-    x ∷ xs
+-- an element inserted after those of the first list
+pub put_seam : {E : Type 0} (A xs : List E) (x : E) →
+    insert (A ++ xs) (min (length A) (length (A ++ xs))) x ≡ A ++ x ∷ xs
 put_seam A xs x =
     let n : min (length A) (length (A ++ xs)) ≡ length A = omega (arith, length-append A xs) in
     let z : length A - length A ≡ 0 = omega arith in
@@ -116,7 +117,7 @@ module _ (named : Bool) where
 
   -- what no node has is passed before it
   pub passed_before : {start : ℕ} {l m : Log} {r : Tree} {x : Spans} (ps : List Passed) →
-      PieceRecorded start (pass ps l) m r x → PieceRecorded start l m r x
+      PieceRecorded start (record l { passed = ps }) m r x → PieceRecorded start l m r x
   passed_before ps h = record {
     xs = h.xs;
     is_recorded = h.is_recorded;
@@ -128,7 +129,7 @@ module _ (named : Bool) where
 
   -- and after it
   pub passed_after : {start : ℕ} {l m : Log} {r : Tree} {x : Spans} (ps : List Passed) → PieceRecorded start l m r x →
-      PieceRecorded start l (pass ps m) r x
+      PieceRecorded start l (record m { passed = ps }) r x
   passed_after ps h = record {
     xs = h.xs;
     is_recorded = h.is_recorded;
@@ -192,7 +193,7 @@ module _ (named : Bool) where
         n = layout_passed s m
 
         g : PieceRecorded start l n a x
-        g = passed_after (comments_at s) h
+        g = passed_after _ h
 
         -- after the layout before the operators
         after : Text → Log
@@ -204,18 +205,25 @@ module _ (named : Bool) where
             (if_done o (λ k v. under s.flags c k (record { start = start; end = quantifier_end u k v }) x) x)
             (mapped (λ k. quantified s.flags c k a) o)
         by_operators c u (done k v) =
-            under_recorded s.flags c k (quantifier_end u k v) (passed_after (comments_at (at s u)) g)
+            under_recorded s.flags c k (quantifier_end u k v) (passed_after _ g)
         by_operators c u (failed k p) = tt
 
-        by_dropped : (u : Text) (o : Outcome Suffix) → RecordedAs (after u) x (mapped (λ k. a) o)
-        by_dropped u (done k v) = passed_after (comments_at (at s u)) g
+        -- after the counts, which are left out, and the layout after them
+        left_out : Text → Log
+        left_out u = layout_passed (at s u) (text_dropped (layout_end s) (reach_of u) n)
+
+        by_dropped : (u : Text) (o : Outcome Suffix) → RecordedAs
+            (if_done o (λ k v. text_dropped (layout_end (at s u)) (reach_of v.rest) (left_out u)) (left_out u)) x
+            (mapped (λ k. a) o)
+        by_dropped u (done k v) =
+            passed_after (with_dropped (layout_end (at s u)) (reach_of v.rest) (left_out u).passed) g
         by_dropped u (failed k p) = tt
 
         by_tests : (b d : Bool) (c : Counts) (u : Text) →
             RecordedAs
             (if b then if_done (suffix (at s u) c)
             (λ k v. wrapped (quantifier_end u k v) (is_swapped s.flags c || k.possessive) (after u)) (after u)
-            else after u)
+            else quantifier_dropped (layout_end s) (at s u) c n)
             (if b then if_done (suffix (at s u) c)
             (λ k v. under s.flags c k (record { start = start; end = quantifier_end u k v }) x) x else x)
             (if b then mapped (λ k. quantified s.flags c k a) (suffix (at s u) c)
@@ -225,13 +233,13 @@ module _ (named : Bool) where
         by_tests false false c u = tt
 
         by_counts : (v : Text) (o : Option (Counts × Text)) →
-            RecordedAs (choose o (counted_recorded a s n) n) (choose o (counted start a s x) x)
+            RecordedAs (choose o (counted_recorded (layout_end s) a s n) n) (choose o (counted start a s x) x)
             (with_counts left a (at s v) o)
         by_counts v None = g
         by_counts v (Some (c, u)) = by_tests (is_repeatable s.flags a) (is_dropped s.flags left a u) c u
 
         by_layout : (j : Skipped) → RecordedAs
-            (choose (option_and_then (counts s.flags.ignore_space) (rest_of j)) (counted_recorded a s n) n)
+            (choose (option_and_then (counts s.flags.ignore_space) (rest_of j)) (counted_recorded (layout_end s) a s n) n)
             (choose (option_and_then (counts s.flags.ignore_space) (rest_of j)) (counted start a s x) x)
             (quant_at left a s j)
         by_layout (rest v) = by_counts v (counts s.flags.ignore_space v)

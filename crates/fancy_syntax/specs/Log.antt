@@ -1,14 +1,15 @@
 -- What is recorded about the positions of nodes, and of what no node has, while a pattern is read, and how each thing
 -- that is read changes the record.
 use Rattle.std.specs.Prelude.{ℕ, ◌+◌, ◌-◌, ◌==◌, nat_lt, min, Bool, false, ◌&&◌, if◌then◌else◌, List, [], ◌∷◌, ◌++◌}
-use Rattle.std.specs.Prelude.{length, take, insert, remove, Option, Some, None}
+use Rattle.std.specs.Prelude.{length, take, drop, insert, remove, Option, Some, None}
 use Rattle.std.specs.List.{slice_get, slice_index_or}
 use Rattle.fancy_lex.specs.Text.{reach_of}
 use Rattle.fancy_grammar.specs.Spans.{Span, condition_span}
 use Rattle.fancy_grammar.specs.GroupKind.{GroupKind}
 use Rattle.fancy_grammar.specs.State.{State}
-use Rattle.fancy_grammar.specs.Trivia.{Passed, comments_at, opening_of}
+use Rattle.fancy_grammar.specs.Trivia.{Passed, part, dropped, comments_at, opening_of, with_dropped, filled}
 use Rattle.fancy_syntax.specs.declared.grammar.recorded.FirstBar.{FirstBar}
+use Rattle.fancy_syntax.specs.declared.grammar.recorded.ConditionPart.{ConditionPart}
 use Rattle.fancy_syntax.specs.declared.grammar.recorded.Last.{Last}
 use Rattle.fancy_syntax.specs.declared.grammar.recorded.RecordedNode.{RecordedNode}
 use Rattle.fancy_syntax.specs.declared.grammar.recorded.Open.{Open}
@@ -34,6 +35,8 @@ started start = record {
   open_atom = record {
     start = start;
     height = 0;
+    passed = 0;
+    condition = None;
     part = start;
     branches = 0;
     bar = None;
@@ -66,6 +69,10 @@ pass xs l = record l { passed = l.passed ++ xs }
 abbrev pub layout_passed : State → Log → Log
 layout_passed s l = pass (comments_at s) l
 
+-- the text between two reaches, unless it is empty, leaves nothing in the tree
+abbrev pub text_dropped : ℕ → ℕ → Log → Log
+text_dropped start end l = record l { passed = with_dropped start end l.passed }
+
 -- ---- leaves and quantifiers
 
 abbrev pub leaf_recorded : ℕ → ℕ → Log → Log
@@ -91,6 +98,8 @@ part_begun start l = record l {
   open_atom = record {
     start = l.open_atom.start;
     height = l.open_atom.height;
+    passed = l.open_atom.passed;
+    condition = l.open_atom.condition;
     part = start;
     branches = length l.recorded;
     bar = None;
@@ -105,6 +114,8 @@ atom_opened start l = record l {
   open_atom = record {
     start = start;
     height = length l.recorded;
+    passed = length l.passed;
+    condition = l.open_atom.condition;
     part = l.open_atom.part;
     branches = l.open_atom.branches;
     bar = l.open_atom.bar;
@@ -121,11 +132,27 @@ opened start inside l = part_begun inside (atom_opened start l)
 abbrev pub group_opened : GroupKind → State → State → Log → Log
 group_opened h s t l = pass (opening_of h s t) (opened (reach_of s.rest) (reach_of t.rest) l)
 
+-- the open part, a condition, has ended, and after its closing parenthesis the body begins at the reach
+abbrev pub body_begun : ℕ → Log → Log
+body_begun start l = record l {
+  open_atom = record {
+    start = l.open_atom.start;
+    height = l.open_atom.height;
+    passed = l.open_atom.passed;
+    condition = Some (record { start = l.open_atom.part; closing = start + 1; passed = length l.passed });
+    part = start;
+    branches = length l.recorded;
+    bar = None;
+    branch = start;
+    pieces = length l.recorded;
+  };
+}
+
 -- a conditional that begins at s; its body begins at t, after a condition that is no alternation
 abbrev pub body_opened : State → State → Log → Log
 body_opened s t l =
     let p = condition_span s t in
-    part_begun (reach_of t.rest) (leaf_recorded p.start p.end (opened (reach_of s.rest) (reach_of t.rest) l))
+    body_begun (reach_of t.rest) (leaf_recorded p.start p.end (opened (reach_of s.rest) p.start l))
 
 -- the open atom becomes the last piece, and the atom around it is the open one
 abbrev pub atom_ended : Log → Log
@@ -156,6 +183,8 @@ branch_begun start l = record l {
   open_atom = record {
     start = l.open_atom.start;
     height = l.open_atom.height;
+    passed = l.open_atom.passed;
+    condition = l.open_atom.condition;
     part = l.open_atom.part;
     branches = l.open_atom.branches;
     bar = Some (first_bar l.open_atom.bar start (length l.recorded - l.open_atom.branches));
@@ -193,3 +222,28 @@ branch_lacked end l = record l { recorded = l.recorded ++ plain end end ∷ [] }
 
 abbrev pub part_dropped : Log → Log
 part_dropped l = record l { recorded = take l.open_atom.branches l.recorded }
+
+-- the text between two reaches, unless it is empty, inserted after that many parts, or after all if there are fewer
+abbrev pub inserted : ℕ → ℕ → ℕ → List Passed → List Passed
+inserted height start end p =
+    if start == end then p else insert p (min height (length p)) (part start end dropped false)
+
+abbrev pub text_inserted : ℕ → ℕ → ℕ → Log → Log
+text_inserted height start end l = record l { passed = inserted height start end l.passed }
+
+abbrev pub text_filled : ℕ → ℕ → List Passed → Log → Log
+text_filled start end parts l = record l { passed = filled start end parts l.passed }
+
+-- the parts in an atom that ends at the reach, with its opening and the text after its condition, if it has one
+abbrev pub body_dropped : Open → ℕ → Option ConditionPart → List Passed → List Passed
+body_dropped o end None p = p
+body_dropped o end (Some c) p =
+    let n = min c.passed (length p) in
+    filled c.closing end (drop n p) (inserted o.passed o.start c.start (take n p))
+
+-- the open atom is a conditional that ends at the reach, of which only the condition leaves nodes
+abbrev pub conditional_dropped : ℕ → Log → Log
+conditional_dropped end l = record l {
+  recorded = take l.open_atom.branches l.recorded;
+  passed = body_dropped l.open_atom end l.open_atom.condition l.passed;
+}

@@ -17,7 +17,7 @@ use Rattle.fancy_grammar.specs.GroupKind.{GroupKind, group_node}
 use Rattle.fancy_grammar.specs.Join.{solid, is_empty}
 use Rattle.fancy_grammar.specs.Slices.{Slice}
 use Rattle.fancy_grammar.specs.Spans.{if_done}
-use Rattle.fancy_syntax.specs.Log.{Log, opened, group_opened, body_opened, part_begun, branch_begun, atom_closed}
+use Rattle.fancy_syntax.specs.Log.{Log, opened, group_opened, body_opened, body_begun, branch_begun, atom_closed}
 use Rattle.fancy_syntax.specs.Log.{layout_passed}
 use Rattle.fancy_syntax.specs.Recording.{PieceTo, PiecesTo, BranchTo, BranchesTo, AlternationTo, inside_recorded}
 use Rattle.fancy_syntax.specs.Recording.{branch_recorded}
@@ -95,7 +95,7 @@ pub data OpensPart : ℕ → State → Log → OpenPart → State → Log → Ty
   a_body : {d s l t u c : _} → skipped s ≡ rest u → atom_start d (at s u) ≡ seen.body c t →
       OpensPart d s l (body c (bytes t.rest)) t (body_opened (at s u) t (layout_passed s l))
   after_condition : {d s l t m v c : _} → OpensPart d s l condition t m → (i : Inside d t (done c v)) →
-      OpensPart d s l (body c (bytes v.rest)) v (part_begun (reach_of v.rest) (inside_recorded i m))
+      OpensPart d s l (body c (bytes v.rest)) v (body_begun (reach_of v.rest) (inside_recorded i m))
   a_branch : {d s l t u : _} → skipped s ≡ rest u → atom_start d (at s u) ≡ seen.absent_branch t →
       OpensPart d s l first t (opened (reach_of u) (reach_of t.rest) (layout_passed s l))
   after_branch : {d s l t m v u a : _} → OpensPart d s l first t m → (b : Branch (d + 1) t (done a v)) →
@@ -141,7 +141,7 @@ part_recorded (second a) r paren end l = atom_closed end false l
 abbrev pub close_recorded : ℕ → Flags → OpenPart → Tree → State → Log → Log
 close_recorded left flags p r s l = if_done (ended_part p r s) (λ a t.
     let m = part_recorded p r (reach_of s.rest) (reach_of t.rest) l in
-    if has_body_next p then part_begun (reach_of t.rest) m
+    if has_body_next p then body_begun (reach_of t.rest) m
     else quants_recorded left (done a (record t { flags = flags })) m) l
 
 -- a group is opened only if one may open inside d groups

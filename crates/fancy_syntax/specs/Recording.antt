@@ -19,28 +19,34 @@ use Rattle.fancy_grammar.specs.Quantified.{quant, suffix, is_repeatable, is_swap
 use Rattle.fancy_grammar.specs.Spans.{end_of, if_done, quantifier_end}
 use Rattle.fancy_grammar.specs.State.{State, at, skipped, Outcome, done}
 use Rattle.fancy_grammar.specs.Tree.{Tree, alt, list_of, empty}
-use Rattle.fancy_grammar.specs.Trivia.{flags_of_atom, closing_of}
-use Rattle.fancy_syntax.specs.Log.{Log, leaf_recorded, left_out, wrapped, opened, body_opened, part_begun, branch_begun}
+use Rattle.fancy_grammar.specs.Trivia.{flags_of_atom, closing_of, layout_end}
+use Rattle.fancy_syntax.specs.Log.{Log, leaf_recorded, left_out, wrapped, opened, body_opened, body_begun, branch_begun}
 use Rattle.fancy_syntax.specs.Log.{branch_ended, choice_ended, body_split, branch_lacked, part_dropped, atom_closed}
-use Rattle.fancy_syntax.specs.Log.{atom_ended, pass, layout_passed, group_opened}
+use Rattle.fancy_syntax.specs.Log.{atom_ended, pass, layout_passed, group_opened, text_dropped, conditional_dropped}
 
 -- ---- quantifiers
 
--- after the atom a, with these counts
-abbrev pub counted_recorded : Tree → State → Log → Counts × Text → Log
-counted_recorded a s l (c, t) =
-    let k = layout_passed (at s t) l in
+-- after an atom that ignores a quantifier with these counts, which begin at the reach and end at u
+abbrev pub quantifier_dropped : ℕ → State → Counts → Log → Log
+quantifier_dropped start u c l =
+    let k = layout_passed u (text_dropped start (reach_of u.rest) l) in
+    if_done (suffix u c) (λ m v. text_dropped (layout_end u) (reach_of v.rest) k) k
+
+-- after the atom a, with these counts, which begin at the reach
+abbrev pub counted_recorded : ℕ → Tree → State → Log → Counts × Text → Log
+counted_recorded start a s l (c, t) =
+    let u = at s t in
+    let k = layout_passed u l in
     if is_repeatable s.flags a
-    then if_done (suffix (at s t) c)
-    (λ m v. wrapped (quantifier_end t m v) (is_swapped s.flags c || m.possessive) k) k
-    else k
+    then if_done (suffix u c) (λ m v. wrapped (quantifier_end t m v) (is_swapped s.flags c || m.possessive) k) k
+    else quantifier_dropped start u c l
 
 -- after the quantifier that follows layout, if one does
 abbrev pub quant_recorded : Tree → State → Log → Log
 quant_recorded a s l =
     let blanks = s.flags.ignore_space in
     let m = layout_passed s l in
-    choose (option_and_then (counts blanks) (past_layout blanks s.rest)) (counted_recorded a s m) m
+    choose (option_and_then (counts blanks) (past_layout blanks s.rest)) (counted_recorded (layout_end s) a s m) m
 
 -- after adjacent quantifiers, of which k more may follow
 abbrev pub adjacent_recorded : ℕ → Tree → State → Log → Log
@@ -73,7 +79,7 @@ abbrev pub conditional_recorded : Tree → ℕ → ℕ → Log → Log
 conditional_recorded r paren end l =
     let b = branches_of r in
     let m = body_separated r paren l in
-    if is_empty b.0 && is_empty b.1 then atom_ended (part_dropped m) else atom_closed end false m
+    if is_empty b.0 && is_empty b.1 then atom_ended (conditional_dropped end m) else atom_closed end false m
 
 -- a branch after `(?~|` that no other branch follows
 abbrev pub stopper_recorded : Tree → ℕ → Log → Log
@@ -126,7 +132,8 @@ abbrev mutual
   atom_of_recorded {s} {o} (a_group {t} {h} i) l =
       group_recorded h (end_of o) (inside_recorded i (group_opened h s t l))
   atom_of_recorded {s} (a_condition {t} {v} i b) l =
-      body_recorded b (part_begun (reach_of v.rest) (inside_recorded i (opened (reach_of s.rest) (reach_of t.rest) l)))
+      body_recorded b
+      (body_begun (reach_of v.rest) (inside_recorded i (opened (reach_of s.rest) (reach_of t.rest) l)))
   atom_of_recorded {s} (condition_error {t} i) l = inside_recorded i (opened (reach_of s.rest) (reach_of t.rest) l)
   atom_of_recorded {s} (a_body {t} b) l = body_recorded b (body_opened s t l)
   atom_of_recorded {s} {o} (two_branches {t} {u} b e m) l =

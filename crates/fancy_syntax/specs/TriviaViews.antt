@@ -14,6 +14,7 @@ kind_of kind.LineComment = spec.line_comment
 kind_of (kind.InlineFlags before after) = spec.flags before after
 kind_of (kind.Opening around inside) = spec.opening around inside
 kind_of kind.Closing = spec.closing
+kind_of kind.Dropped = spec.dropped
 
 abbrev pub recorded_part : RecordedTrivium → spec.Passed
 recorded_part x = spec.part x.start x.end (kind_of x.kind) x.unnamed

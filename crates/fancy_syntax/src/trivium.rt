@@ -34,4 +34,8 @@ pub enum TriviumKind {
     },
     /// The closing parenthesis of such a group.
     Closing,
+    /// A part that leaves nothing in the tree: the counts or the operators of a quantifier that has no effect in Oniguruma
+    /// mode, or a part of a conditional without branches, such as `(?(` and `)|)` in `(?(1)|)`, where only the condition is
+    /// left.
+    Dropped,
 }

@@ -13,7 +13,7 @@ const SPACED: u32 = FLAG_UNICODE | FLAG_IGNORE_SPACE;
 const CASELESS: u32 = FLAG_UNICODE | FLAG_CASEI;
 
 /// Flags, a pattern, and its text when all of it is formatted.
-static FORMATTED: [(u32, &str, &str); 29] = [
+static FORMATTED: [(u32, &str, &str); 31] = [
     (FLAG_UNICODE, "", ""),
     (FLAG_UNICODE, "(?:a)b", "ab"),
     (FLAG_UNICODE, "(?:a|b)c", "(?:a|b)c"),
@@ -31,6 +31,7 @@ static FORMATTED: [(u32, &str, &str); 29] = [
     (FLAG_UNICODE, "(?i)(?-s)(?i:a)", "(?i)a"),
     (FLAG_UNICODE, "a(?#)b(?#c)", "ab(?#c)"),
     (ONIGURUMA, "a{0,1}{2,2}", "a{0,1}{2,2}"),
+    (ONIGURUMA, "a(?:){2,2}b", "a(?:){2}b"),
     (FLAG_UNICODE, "(a)(?(1)b|(?:c))", "(a)(?(1)b|(?:c))"),
     (FLAG_UNICODE, "(?((?:1))|)", "(?((?:1))|)"),
     (FLAG_UNICODE, "((?:(?#c)a))", "((?:(?#c)a))"),
@@ -47,10 +48,11 @@ static FORMATTED: [(u32, &str, &str); 29] = [
     (SPACED, "a\n(?:\n  b\n)\nc", "a\n  b\nc"),
     (SPACED, r"\ (?: a ) [ ]", r"\  a [ ]"),
     (SPACED, "(?-x:  a)  b", "(?-x:  a) b"),
+    (SPACED, "(a) (?(1)  |  )", "(a) (?(1) | )"),
 ];
 
 /// Flags, a width, a pattern, and its text when it is laid out over lines of that width.
-static LAID_OUT: [(u32, usize, &str, &str); 13] = [
+static LAID_OUT: [(u32, usize, &str, &str); 14] = [
     (FLAG_UNICODE, 80, "a|b c", "(?x)\n  a\n| b\\ c"),
     (SPACED, 80, " a  | b ", "  a\n| b"),
     (FLAG_UNICODE, 80, "(?xi) a (?# b ) c+", "(?xi)\na(?# b )c+"),
@@ -79,6 +81,7 @@ static LAID_OUT: [(u32, usize, &str, &str); 13] = [
         "(a)(?(1)b|c)#",
         "(?x)\n(a)\n(?(1)b|c)\n\\#",
     ),
+    (FLAG_UNICODE, 80, "(a)(?(1)|)b", "(?x)\n(a)(?(1)|)b"),
     (SPACED, 80, r"(a)\1 2", r"(a)\1 2"),
     (SPACED, 80, "a  (?-x: b)", "a (?-x: b)"),
     (
@@ -92,7 +95,7 @@ static LAID_OUT: [(u32, usize, &str, &str); 13] = [
 ];
 
 /// Flags, a pattern, and its text in one line.
-static IN_LINE: [(u32, &str, &str); 13] = [
+static IN_LINE: [(u32, &str, &str); 14] = [
     (FLAG_UNICODE, "(?x) a b # c\n d", "ab(?# c)d"),
     (
         FLAG_UNICODE,
@@ -106,6 +109,7 @@ static IN_LINE: [(u32, &str, &str); 13] = [
     (SPACED, "a #\n {1,}  # b \r\n# c\\", "a+(?# b)# c\\"),
     (SPACED, r"\b {2, 3} | [ #] \ \x20", r"\b {2,3}|[ #]\ \x20"),
     (ONIGURUMA | FLAG_IGNORE_SPACE, "a ? \n +  b", "a?+b"),
+    (SPACED, "(a) (?(1) | ) b", "(a)(?(1)|)b"),
     (CASELESS, "(?x)\n  a\\x20\\x23\n| b", "a #|b"),
     (FLAG_UNICODE, "(?x)\n(?i)one\n\\x20two", "(?i)one two"),
     (FLAG_UNICODE, "(?xi)\none\\x20\n2", "(?i)one 2"),

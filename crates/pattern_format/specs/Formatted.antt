@@ -9,7 +9,8 @@ use Rattle.fancy_grammar.specs.ParseResult.{IsTreeOf}
 use Rattle.fancy_grammar.specs.ReadAs.{unpositioned}
 use Rattle.fancy_grammar.specs.Spans.{Span}
 use Rattle.fancy_grammar.specs.Tree.{Tree}
-use Rattle.fancy_grammar.specs.Trivia.{Trivium, TriviumKind, comment, line_comment, flags, opening, closing, IsTriviaOf}
+use Rattle.fancy_grammar.specs.Trivia.{Trivium, TriviumKind, comment, line_comment, flags, opening, closing, dropped}
+use Rattle.fancy_grammar.specs.Trivia.{IsTriviaOf}
 use Rattle.pattern_format.specs.declared.style.Style.{Style}
 use Rattle.pattern_format.specs.declared.style.Style.TheVariants as style
 
@@ -23,6 +24,7 @@ is_comment line_comment = true
 is_comment (flags before after) = false
 is_comment (opening around inside) = false
 is_comment closing = false
+is_comment dropped = false
 
 -- the comment without `(?#` and `)`, or without `#`
 abbrev pub inside : TriviumKind → Span → Span

@@ -15,8 +15,10 @@ fn is_comment(trivium: Trivium) -> bool
 {
     match trivium.kind {
         TriviumKind::Comment | TriviumKind::LineComment => true,
-        TriviumKind::InlineFlags { .. } | TriviumKind::Opening { .. } | TriviumKind::Closing =>
-            false,
+        TriviumKind::InlineFlags { .. }
+        | TriviumKind::Opening { .. }
+        | TriviumKind::Closing
+        | TriviumKind::Dropped => false,
     }
 }
 
@@ -43,7 +45,8 @@ fn inside(comment: Trivium) -> Option<Span>
         TriviumKind::LineComment
         | TriviumKind::InlineFlags { .. }
         | TriviumKind::Opening { .. }
-        | TriviumKind::Closing => Span {
+        | TriviumKind::Closing
+        | TriviumKind::Dropped => Span {
             start: span.start.checked_add(1)?,
             end: span.end,
         },

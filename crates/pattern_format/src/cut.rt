@@ -86,18 +86,24 @@ impl<'p> Cutter<'p> {
         Ok(())
     }
 
-    /// Adds the tokens up to the end, where neither leaves nor trivia are. With a comment they stay one.
-    fn push_up_to(&mut self, end: usize) -> Result<(), AllocError> {
-        let mut rest = self.pass(end);
-        if rest.contains('#') {
-            return self.push(rest, TokenKind::Other);
+    /// Adds the tokens of a text that was passed, in which neither leaves nor other trivia are. With a comment they stay one.
+    fn push_between(&mut self, text: &'p str) -> Result<(), AllocError> {
+        if text.contains('#') {
+            return self.push(text, TokenKind::Other);
         }
-        for _ in 0..rest.len() {
+        let mut rest = text;
+        for _ in 0..text.len() {
             let (token, kind) = first_token(rest);
             self.push(token, kind)?;
             rest = rest.get(token.len()..).unwrap_or("");
         }
         Ok(())
+    }
+
+    /// Adds the tokens up to the end, where neither leaves nor trivia are.
+    fn push_up_to(&mut self, end: usize) -> Result<(), AllocError> {
+        let text = self.pass(end);
+        self.push_between(text)
     }
 
     /// Adds the tokens up to the node, and its own if it is a leaf.
@@ -172,7 +178,7 @@ impl<'p> Cutter<'p> {
         self.groups.open(self.tokens.len(), is_fixed, nodes)
     }
 
-    /// Adds a trivium, before these nodes.
+    /// Adds a trivium, before these nodes. What leaves nothing in the tree has the tokens that it would have otherwise.
     fn push_trivium(&mut self, trivium: Trivium, nodes: &[Node]) -> Result<(), AllocError> {
         let text = self.pass(trivium.span.end);
         let (kind, is_needless) = match trivium.kind {
@@ -191,6 +197,7 @@ impl<'p> Cutter<'p> {
                 (kind, false)
             }
             TriviumKind::Closing => (TokenKind::Other, self.close(nodes)),
+            TriviumKind::Dropped => return self.push_between(text),
         };
         self.tokens.push(Token {
             text,

@@ -23,7 +23,7 @@ const ABOUT: &str =
     "Checks, shows and formats patterns in the syntax of fancy-regex. It does not match them.
 Flags that are set inside a group end with the group.";
 
-const VERSION: &str = "1.3.0";
+const VERSION: &str = "1.4.0";
 
 const STATUSES: &str =
     "The exit status is 0 if every pattern passes, 1 if one does not, 2 if the arguments are wrong
@@ -107,8 +107,9 @@ const TREE: &str = "Draws the tree of a pattern, and describes its groups and re
 const SPANS_HELP: &str = "Writes after each node its span, as START..END in byte offsets,
 and its text";
 
-const TRIVIA_HELP: &str = "Lists what no node has: comments, inline flags, and the
-parentheses of flag groups, each with its span and text";
+const TRIVIA_HELP: &str = "Lists what no node has: comments, inline flags, the parentheses
+of flag groups, and what leaves nothing in the tree, each with
+its span and text";
 
 const ALL_HELP: &str = "Draws each node in its own line; otherwise adjacent letters are
 drawn as one literal";

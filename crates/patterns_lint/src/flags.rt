@@ -14,7 +14,10 @@ fn flags_before(kind: TriviumKind) -> Option<Flags> {
     match kind {
         TriviumKind::InlineFlags { before, .. } => Some(before),
         TriviumKind::Opening { around, .. } => Some(around),
-        TriviumKind::Comment | TriviumKind::LineComment | TriviumKind::Closing => None,
+        TriviumKind::Comment
+        | TriviumKind::LineComment
+        | TriviumKind::Closing
+        | TriviumKind::Dropped => None,
     }
 }
 

@@ -15,6 +15,7 @@ impl fmt::Display for KindWords {
             TriviumKind::Comment => return f.write_str("comment"),
             TriviumKind::LineComment => return f.write_str("comment to the end of the line"),
             TriviumKind::Closing => return f.write_str("closing parenthesis"),
+            TriviumKind::Dropped => return f.write_str("without effect"),
             TriviumKind::InlineFlags { before, after } => ("flags", "flags", before, after),
             TriviumKind::Opening { around, inside } => {
                 ("opening", "opening, flags", around, inside)

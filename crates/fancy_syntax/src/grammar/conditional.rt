@@ -3,7 +3,7 @@ ghost use Rattle.std.specs.Prelude.{◌≡◌, ◌&&◌, true, false, if◌then�
 ghost use Rattle.fancy_grammar.specs.Grammar as spec;
 ghost use Rattle.fancy_grammar.specs.Join as join;
 ghost use Rattle.fancy_grammar.specs.Tree.{alt, trees_of, conditional as conditional_node};
-ghost use Rattle.fancy_syntax.specs.Log.{Log, atom_closed, atom_ended, part_dropped};
+ghost use Rattle.fancy_syntax.specs.Log.{Log, atom_closed, atom_ended, conditional_dropped};
 ghost use Rattle.fancy_syntax.specs.Recording.{stopper_recorded};
 ghost use Rattle.fancy_syntax.specs.View.{view, view_ast, views};
 
@@ -84,11 +84,11 @@ pub(crate) fn conditional<S: Spanning>(
         spec.conditional_of (view condition.value) (view branches.0) (view branches.1)) }
     ensures spans { (l : Log) → S.records spans.old l → OnOk result (S.records spans.new
         (if join.is_empty (view branches.0) && join.is_empty (view branches.1)
-        then atom_ended (part_dropped l) else atom_closed end false l)) }
+        then atom_ended (conditional_dropped end l) else atom_closed end false l)) }
 {
     if is_empty(&branches.0) && is_empty(&branches.1) {
         drop(branches);
-        spans.drop_part();
+        spans.drop_conditional(end)?;
         spans.close_bare();
         return Ok(Box::into_inner(condition));
     }

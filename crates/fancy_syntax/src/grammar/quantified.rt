@@ -6,7 +6,8 @@ ghost use Rattle.fancy_grammar.specs.Quantified as spec;
 ghost use Rattle.fancy_grammar.specs.State.{done};
 ghost use Rattle.fancy_grammar.specs.Tree.{repeat, atomic_group};
 ghost use Rattle.fancy_syntax.specs.Log.{Log, layout_passed};
-ghost use Rattle.fancy_syntax.specs.Recording.{adjacent_recorded, counted_recorded, quant_recorded, quants_recorded};
+ghost use Rattle.fancy_syntax.specs.Recording.{adjacent_recorded, counted_recorded, quant_recorded, quantifier_dropped};
+ghost use Rattle.fancy_syntax.specs.Recording.{quants_recorded};
 ghost use Rattle.fancy_syntax.specs.Parsed.{state, suffix_of, Turns, GivesSuffix};
 ghost use Rattle.fancy_syntax.specs.View.{view};
 
@@ -18,7 +19,7 @@ use crate::grammar::trees::is_empty;
 use fancy_grammar::depth::MAX_DEPTH;
 use fancy_lex::error::{ParseError, ReadError};
 use fancy_lex::flags::Flags;
-use fancy_lex::text::{after, byte_len, reach, reach_before};
+use fancy_lex::text::{Reach, after, byte_len, reach, reach_before};
 use fancy_parts::counts::Counts;
 use fancy_parts::group_starts::counts;
 use std::alloc::{AllocError, Global};
@@ -132,14 +133,15 @@ fn quantify_once<S: Spanning>(
     let rest = skip_layout(*current)?;
     spans.pass_layout(*current, rest)?;
     current.rest = rest;
+    let start = reach(rest);
     let Some((counts, rest)) = counts(current.rest, current.flags.ignore_space) else {
         return Ok(());
     };
     current.rest = rest;
-    repeat(alloc, tree, counts, current, left, spans)
+    repeat(alloc, tree, counts, start, current, left, spans)
 }
 
-/// Puts the tree under a quantifier with these counts, and reads what follows them.
+/// Puts the tree under a quantifier with these counts, which begin at the reach, and reads what follows them.
 ///
 /// TargetNotRepeatable at the operator or the closing brace, if the tree takes no quantifier.
 #[inline(always)]
@@ -147,6 +149,7 @@ fn repeat<S: Spanning>(
     alloc: Global,
     tree: &mut Expr,
     counts: Counts,
+    start: Reach,
     current: &mut State,
     left: usize,
     spans: &mut S,
@@ -155,7 +158,7 @@ fn repeat<S: Spanning>(
         (spec.with_counts left (view tree.old) (state current.old) (Some (counts, chars current.old.rest.now))) }
     ensures within { length current.new.rest.now ≤ length current.old.rest.now }
     ensures spans { (l : Log) → S.records spans.old l → OnOk result (S.records spans.new
-        (counted_recorded (view tree.old) (state current.old) l (counts, chars current.old.rest.now))) }
+        (counted_recorded start (view tree.old) (state current.old) l (counts, chars current.old.rest.now))) }
 {
     if is_repeatable(current.flags, tree) {
         let after_counts = reach(current.rest);
@@ -171,11 +174,30 @@ fn repeat<S: Spanning>(
         return Ok(());
     }
     if is_dropped(current.flags, left, tree, current.rest) {
-        read_suffix(current, counts, spans)?;
+        drop_quantifier(counts, start, current, spans)?;
         return Ok(());
     }
     let operator = reach_before(current.rest);
     Err(ReadError::At(operator, ParseError::TargetNotRepeatable))
+}
+
+/// Reads what follows the counts of a quantifier that leaves nothing in the tree. The counts begin at the reach.
+fn drop_quantifier<S: Spanning>(
+    counts: Counts,
+    start: Reach,
+    current: &mut State,
+    spans: &mut S,
+) -> Result<Suffix, ReadError>
+    ensures value { GivesSuffix result (state current.new) (spec.suffix (state current.old) counts) }
+    ensures within { length current.new.rest.now ≤ length current.old.rest.now }
+    ensures spans { (l : Log) → S.records spans.old l →
+        OnOk result (S.records spans.new (quantifier_dropped start (state current.old) counts l)) }
+{
+    spans.drop_text(start, reach(current.rest))?;
+    let operators = reach(skip_layout(*current)?);
+    let suffix = read_suffix(current, counts, spans)?;
+    spans.drop_text(operators, reach(current.rest))?;
+    Ok(suffix)
 }
 
 /// Reads layout and the operators after the counts of a quantifier: the lazy one, and directly the possessive one.

@@ -29,13 +29,26 @@ pub(crate) struct FirstBar {
     pub(crate) nodes: usize,
 }
 
+/// The condition of a conditional.
+#[derive(Clone, Copy)]
+pub(crate) struct ConditionPart {
+    pub(crate) start: usize,
+    /// Where its closing parenthesis begins.
+    pub(crate) closing: usize,
+    /// How many parts without a node are before the body.
+    pub(crate) passed: usize,
+}
+
 /// An open atom, its open part, and the open branch of that part.
 #[derive(Clone, Copy)]
 pub(crate) struct Open {
-    /// Where the atom begins, and how many nodes are before its own.
+    /// Where the atom begins, how many nodes are before its own, and how many parts without a node.
     pub(crate) start: usize,
     pub(crate) height: usize,
-    /// The same for the part.
+    pub(crate) passed: usize,
+    /// Its condition, if it is a conditional and its body is open.
+    pub(crate) condition: Option<ConditionPart>,
+    /// Where the part begins, and how many nodes are before its own.
     pub(crate) part: usize,
     pub(crate) branches: usize,
     pub(crate) bar: Option<FirstBar>,

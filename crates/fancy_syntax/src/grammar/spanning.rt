@@ -1,8 +1,10 @@
 //! The positions of the nodes of a raw tree, and of what no node has, recorded while it is read.
 ghost use Rattle.std.specs.Prelude.{◌≡◌, chars, OnOk, [], ◌∷◌};
-ghost use Rattle.fancy_syntax.specs.Log.{Log, leaf_recorded, left_out, wrapped, opened, body_opened, part_begun};
+ghost use Rattle.fancy_lex.specs.Text.{reach_of};
+ghost use Rattle.fancy_syntax.specs.Log.{Log, leaf_recorded, left_out, wrapped, opened, body_opened};
 ghost use Rattle.fancy_syntax.specs.Log.{branch_begun, branch_ended, choice_ended, body_split, branch_lacked};
-ghost use Rattle.fancy_syntax.specs.Log.{part_dropped, atom_closed, atom_ended, layout_passed, pass};
+ghost use Rattle.fancy_syntax.specs.Log.{part_dropped, atom_closed, atom_ended, layout_passed, pass, text_dropped};
+ghost use Rattle.fancy_syntax.specs.Log.{body_begun, conditional_dropped};
 ghost use Rattle.fancy_syntax.specs.TriviaViews.{recorded_part};
 ghost use Rattle.fancy_syntax.specs.Parsed.{state};
 ghost use Rattle.fancy_syntax.specs.Recording.{atom_read};
@@ -30,6 +32,10 @@ pub(crate) trait Spanning: Drop {
     fn pass(&mut self, part: RecordedTrivium) -> Result<(), AllocError>
         ensures { (l : Log) → records self.old l → OnOk result (records self.new (pass (recorded_part part ∷ []) l)) };
 
+    /// The text between the reaches leaves nothing in the tree, unless it is empty.
+    fn drop_text(&mut self, start: usize, end: usize) -> Result<(), AllocError>
+        ensures { (l : Log) → records self.old l → OnOk result (records self.new (text_dropped start end l)) };
+
     /// An atom that is read at once is there, and becomes the last piece: a leaf, or inline flags, whose tree is an Empty.
     fn record_atom(&mut self, start: State, atom: &Expr, end: State) -> Result<(), AllocError>
         ensures { (l : Log) → records self.old l → OnOk result (records self.new
@@ -56,9 +62,9 @@ pub(crate) trait Spanning: Drop {
     fn open_body(&mut self, start: State, inside: State) -> Result<(), AllocError>
         ensures { (l : Log) → records self.old l → OnOk result (records self.new (body_opened (state start.entry) (state inside.entry) l)) };
 
-    /// The next part of the open atom begins there.
-    fn begin(&mut self, start: usize)
-        ensures { (l : Log) → records self.old l → records self.new (part_begun start l) };
+    /// The open part is a condition whose closing parenthesis was read. The body begins at `rest`.
+    fn begin_body(&mut self, rest: &str)
+        ensures { (l : Log) → records self.old l → records self.new (body_begun (reach_of (chars rest.now)) l) };
 
     /// The next branch begins there, after a bar.
     fn next_branch(&mut self, start: usize)
@@ -85,6 +91,10 @@ pub(crate) trait Spanning: Drop {
     fn drop_part(&mut self)
         ensures { (l : Log) → records self.old l → records self.new (part_dropped l) };
 
+    /// The open atom is a conditional that ends there, of which only the condition leaves nodes.
+    fn drop_conditional(&mut self, end: usize) -> Result<(), AllocError>
+        ensures { (l : Log) → records self.old l → OnOk result (records self.new (conditional_dropped end l)) };
+
     /// The open atom ends there with a node of its own, and becomes the last piece. An unnamed group may have no
     /// number.
     fn close(&mut self, end: usize, unnamed: bool) -> Result<(), AllocError>
@@ -109,6 +119,11 @@ impl Spanning for NoSpans {
 
     #[inline(always)]
     fn pass(&mut self, _part: RecordedTrivium) -> Result<(), AllocError> {
+        Ok(())
+    }
+
+    #[inline(always)]
+    fn drop_text(&mut self, _start: usize, _end: usize) -> Result<(), AllocError> {
         Ok(())
     }
 
@@ -141,7 +156,7 @@ impl Spanning for NoSpans {
     }
 
     #[inline(always)]
-    fn begin(&mut self, _start: usize) {}
+    fn begin_body(&mut self, _rest: &str) {}
 
     #[inline(always)]
     fn next_branch(&mut self, _start: usize) {}
@@ -168,6 +183,11 @@ impl Spanning for NoSpans {
 
     #[inline(always)]
     fn drop_part(&mut self) {}
+
+    #[inline(always)]
+    fn drop_conditional(&mut self, _end: usize) -> Result<(), AllocError> {
+        Ok(())
+    }
 
     #[inline(always)]
     fn close(&mut self, _end: usize, _unnamed: bool) -> Result<(), AllocError> {

@@ -1,5 +1,5 @@
 //! The spans of the nodes of a raw tree, each tree in preorder, and what no node has.
-ghost use Rattle.std.specs.Prelude.{◌≡◌, [], ◌∷◌, ◌++◌, chars, map, option_map, IfOk, OnOk};
+ghost use Rattle.std.specs.Prelude.{◌≡◌, [], ◌∷◌, ◌++◌, false, chars, map, option_map, IfOk, OnOk};
 ghost use Rattle.fancy_lex.specs.Reading.{choose};
 ghost use Rattle.fancy_lex.specs.Text.{bytes, reach_of};
 ghost use Rattle.fancy_grammar.specs.Spans.{condition_text, positioned};
@@ -9,11 +9,13 @@ ghost use Rattle.fancy_syntax.specs.LogViews.{log_of, returned_trivia};
 ghost use Rattle.fancy_syntax.specs.Parsed.{state};
 ghost use Rattle.fancy_syntax.specs.SpanViews.{span_of, spans_of};
 ghost use Rattle.fancy_syntax.specs.TriviaViews.{recorded_part, trivia_of, trivium_of};
-ghost use Rattle.fancy_grammar.specs.Trivia.{kept, located, of_comment};
+ghost use Rattle.fancy_grammar.specs.Trivia.{dropped, kept, located, of_comment, part};
 ghost use Rattle.fancy_lex.specs.CommentViews.{comment_of};
 
 use crate::expr::Expr;
-use crate::grammar::recorded::{FirstBar, Last, Open, RecordedNode, RecordedTrivium, part_between};
+use crate::grammar::recorded::{
+    ConditionPart, FirstBar, Last, Open, RecordedNode, RecordedTrivium, part_between,
+};
 use crate::grammar::spanning::Spanning;
 use crate::grammar::state::{State, skip_layout};
 use crate::grammar::trees::is_empty;
@@ -47,6 +49,8 @@ impl Spans {
             open: Open {
                 start,
                 height: 0,
+                passed: 0,
+                condition: None,
                 part: start,
                 branches: 0,
                 bar: None,
@@ -120,7 +124,49 @@ impl Spans {
         self.around.push(self.open)?;
         self.open.start = start;
         self.open.height = self.recorded.len();
+        self.open.passed = self.passed.len();
         Ok(())
+    }
+
+    /// The next part of the open atom begins there.
+    fn begin(&mut self, start: usize)
+        ensures { log_of self.new ≡ spec.part_begun start (log_of self.old) }
+    {
+        let height = self.recorded.len();
+        self.open.part = start;
+        self.open.branches = height;
+        self.open.bar = None;
+        self.open.branch = start;
+        self.open.pieces = height;
+    }
+
+    /// Adds all text between the reaches: these parts, and what is before, between and after them.
+    fn fill(
+        &mut self,
+        start: usize,
+        end: usize,
+        parts: &[RecordedTrivium],
+    ) -> Result<(), AllocError>
+        ensures { OnOk result (log_of self.new ≡ spec.text_filled start end (map recorded_part parts.now) (log_of self.old)) }
+    {
+        let mut from = start;
+        for part in parts {
+            self.drop_text(from, part.start)?;
+            self.pass(*part)?;
+            from = part.end;
+        }
+        self.drop_text(from, end)
+    }
+
+    /// Inserts the text between the reaches, unless it is empty, after that many parts.
+    fn insert_dropped(&mut self, height: usize, start: usize, end: usize) -> Result<(), AllocError>
+        ensures { OnOk result (log_of self.new ≡ spec.text_inserted height start end (log_of self.old)) }
+    {
+        if start == end {
+            return Ok(());
+        }
+        let height = height.min(self.passed.len());
+        Ok(self.passed.insert(height, dropped(start, end))?)
     }
 
     /// Ends the open atom, which becomes the last piece.
@@ -151,6 +197,13 @@ impl Spanning for Spans {
 
     fn pass(&mut self, part: RecordedTrivium) -> Result<(), AllocError> {
         Ok(self.passed.push(part)?)
+    }
+
+    fn drop_text(&mut self, start: usize, end: usize) -> Result<(), AllocError> {
+        if start == end {
+            return Ok(());
+        }
+        Ok(self.passed.push(dropped(start, end))?)
     }
 
     fn record_atom(&mut self, start: State, atom: &Expr, end: State) -> Result<(), AllocError> {
@@ -190,20 +243,20 @@ impl Spanning for Spans {
     }
 
     fn open_body(&mut self, start: State, inside: State) -> Result<(), AllocError> {
-        let body = reach(inside.rest);
-        self.open(reach(start.rest), body)?;
-        self.record_leaf(condition_start(start), reach_before(inside.rest))?;
-        self.begin(body);
+        let condition = condition_start(start);
+        self.open(reach(start.rest), condition)?;
+        self.record_leaf(condition, reach_before(inside.rest))?;
+        self.begin_body(inside.rest);
         Ok(())
     }
 
-    fn begin(&mut self, start: usize) {
-        let height = self.recorded.len();
-        self.open.part = start;
-        self.open.branches = height;
-        self.open.bar = None;
-        self.open.branch = start;
-        self.open.pieces = height;
+    fn begin_body(&mut self, rest: &str) {
+        self.open.condition = Some(ConditionPart {
+            start: self.open.part,
+            closing: reach_before(rest),
+            passed: self.passed.len(),
+        });
+        self.begin(reach(rest));
     }
 
     fn next_branch(&mut self, start: usize) {
@@ -258,6 +311,18 @@ impl Spanning for Spans {
         self.recorded.truncate(self.open.branches);
     }
 
+    fn drop_conditional(&mut self, end: usize) -> Result<(), AllocError> {
+        self.recorded.truncate(self.open.branches);
+        let Some(condition) = self.open.condition else {
+            return Ok(());
+        };
+        let body = self
+            .passed
+            .split_off(condition.passed.min(self.passed.len()))?;
+        self.insert_dropped(self.open.passed, self.open.start, condition.start)?;
+        self.fill(condition.closing, end, &body)
+    }
+
     fn close(&mut self, end: usize, unnamed: bool) -> Result<(), AllocError> {
         let node = RecordedNode {
             start: self.open.start,
@@ -298,6 +363,18 @@ fn span_in(pattern: &str, node: RecordedNode) -> Span
     Span {
         start: position_at(pattern, node.start),
         end: position_at(pattern, node.end),
+    }
+}
+
+/// A part that leaves nothing in the tree.
+fn dropped(start: usize, end: usize) -> RecordedTrivium
+    ensures { recorded_part result ≡ part start end dropped false }
+{
+    RecordedTrivium {
+        start,
+        end,
+        kind: TriviumKind::Dropped,
+        unnamed: false,
     }
 }
 

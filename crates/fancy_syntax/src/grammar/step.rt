@@ -219,7 +219,7 @@ pub(crate) fn close<'a, S: Spanning>(
         return piece(alloc, atom, current, start.left, depth, spans);
     }
     let condition = Box::new(alloc, atom)?;
-    spans.begin(reach(current.rest));
+    spans.begin_body(current.rest);
     let left = byte_len(current.rest);
     Ok(Step::Open(OpenGroup::Body { condition, left }))
 }

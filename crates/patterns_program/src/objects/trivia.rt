@@ -16,6 +16,7 @@ fn kind_name(kind: TriviumKind) -> &'static str {
         TriviumKind::InlineFlags { .. } => "InlineFlags",
         TriviumKind::Opening { .. } => "Opening",
         TriviumKind::Closing => "Closing",
+        TriviumKind::Dropped => "Dropped",
     }
 }
 
@@ -41,7 +42,10 @@ fn write_kind(alloc: Global, writer: &mut Writer, kind: TriviumKind) -> Result<(
             write_flags(alloc, writer, "around", around)?;
             write_flags(alloc, writer, "inside", inside)
         }
-        TriviumKind::Comment | TriviumKind::LineComment | TriviumKind::Closing => Ok(()),
+        TriviumKind::Comment
+        | TriviumKind::LineComment
+        | TriviumKind::Closing
+        | TriviumKind::Dropped => Ok(()),
     }
 }
 

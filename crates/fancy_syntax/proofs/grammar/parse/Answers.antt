@@ -10,7 +10,7 @@ use Rattle.fancy_syntax.specs.Parsed.{state}
 use Rattle.fancy_syntax.specs.View.{view}
 use Rattle.fancy_grammar.proofs.ErrorLemmas.{says_end}
 use Rattle.fancy_grammar.proofs.OutcomeLemmas.{IsErrorAmong-map, IsErrorAmong-is}
-use Rattle.fancy_syntax.proofs.RecordingLaws.{whole_shown}
+use Rattle.fancy_syntax.proofs.WholeLaws.{whole_shown}
 use Rattle.fancy_syntax.proofs.grammar.parse.Goals as goal
 
 pub returns-in_err-tree-clause-reads : goal.returns-in_err-tree-clause-reads

@@ -1,4 +1,4 @@
-use Rattle.std.proofs.Common.{◌≡◌, ◌∙◌, ℕ, Bor, List, chars, length, arith, rules}
+use Rattle.std.proofs.Common.{◌≡◌, ◌∙◌, chars, length, arith, rules}
 use Rattle.std.proofs.lemmas.Bool.Decides.{nat_tests}
 use Rattle.fancy_lex.proofs.LayoutLaws.{layout_cut}
 use Rattle.fancy_lex.proofs.TextLemmas.{cut_nothing}
