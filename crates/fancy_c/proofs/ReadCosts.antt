@@ -1,14 +1,13 @@
 -- What is read has at most six bytes of text for each byte that is read: by one induction on the derivation.
 use Rattle.std.proofs.Common.{◌≡◌, ℕ, zero, suc, ◌+◌, ◌-◌, ◌*◌, ◌≤◌, ◌==◌, ◌∷◌, [], List, ◌&&◌, Option}
-use Rattle.std.proofs.Common.{Some, None, IfSome, refl, ap, subst, arith, length}
+use Rattle.std.proofs.Common.{Some, None, IfSome, subst, arith, length}
 use Rattle.std.specs.Prelude.{not, nat_lt}
 use Rattle.std.proofs.lemmas.Bool.{cond_both}
 use Rattle.std.proofs.lemmas.Str.{len_utf8_bounds}
 use Prim.Native.Char.{code}
 use Rattle.fancy_lex.specs.Characters.{bar}
-use Rattle.fancy_lex.specs.LayoutSteps.{Skipped, rest, failed as open_comment}
 use Rattle.fancy_lex.specs.Target.{Target, by_number, by_name, relative}
-use Rattle.fancy_lex.specs.Text.{Text, bytes, reach_of}
+use Rattle.fancy_lex.specs.Text.{Text, bytes, reach_of, strip}
 use Rattle.fancy_lex.specs.declared.flags.Flags.{Flags}
 use Rattle.fancy_parts.proofs.CountLaws.{Closed, closes_counts}
 use Rattle.fancy_parts.specs.Quantifier.{counts}
@@ -19,19 +18,19 @@ use Rattle.fancy_grammar.specs.Grammar.{Alternation, alternation, Branches, last
 use Rattle.fancy_grammar.specs.Grammar.{Pieces, stop, next, piece_error, Piece, piece, layout_error, Atom, atom, AtomOf}
 use Rattle.fancy_grammar.specs.Grammar.{a_nothing, a_read, a_group, a_condition, condition_error, a_body, two_branches}
 use Rattle.fancy_grammar.specs.Grammar.{one_branch, absent_error, Inside, inside, Body, the_body, Whole, whole}
-use Rattle.fancy_grammar.specs.Grammar.{closed, closed_at, ended, ended_at, branches_of, conditional_of}
+use Rattle.fancy_grammar.specs.Grammar.{closed, branches_of, conditional_of}
 use Rattle.fancy_grammar.specs.Grammar.{conditional_after, is_condition, clear_or_stopper}
 use Rattle.fancy_grammar.specs.GroupKind.{GroupKind, capture, flag_group, look, atomic, define, repeater}
 use Rattle.fancy_grammar.specs.Label as label
-use Rattle.fancy_grammar.specs.Label.{Leaf, ast_backref, ast_call, ast_condition}
-use Rattle.fancy_grammar.specs.Quantified.{quants, adjacent, max_adjacent, is_unmoved, quant, quant_at, with_counts}
+use Rattle.fancy_grammar.specs.Label.{ast_backref, ast_call, ast_condition}
+use Rattle.fancy_grammar.specs.Quantified.{quants, adjacent, max_adjacent, is_unmoved, quant, with_counts}
 use Rattle.fancy_grammar.specs.Quantified.{quantified, suffix, is_repeatable, is_dropped, Suffix}
 use Rattle.fancy_grammar.specs.State.{skipped, State, at, Outcome, done, failed, mapped}
 use Rattle.fancy_grammar.specs.Tree.{Tree, leaf, over, row, Trees, no_trees, more_trees, expression, levels, levels_all}
 use Rattle.fancy_grammar.proofs.AtomStartLaws.{IsLeaf, StartReads, start_reads}
-use Rattle.fancy_grammar.proofs.OutcomeLemmas.{Holds, then_holds, after_keeps}
+use Rattle.fancy_grammar.proofs.OutcomeLemmas.{Holds, then_holds, after_keeps, skipped_both}
 use Rattle.fancy_grammar.proofs.ReadLaws.{suffix_reads}
-use Rattle.fancy_grammar.proofs.Slices.{Reads, fits, on, cut_slice, one, one_bytes, strip_bytes, SkippedSlice, layout_slice}
+use Rattle.fancy_grammar.proofs.Slices.{Reads, fits, on, cut_slice, one, strip_bytes}
 use Rattle.fancy_grammar.proofs.Slices.{skipped_slice}
 use Rattle.fancy_grammar.specs.Slices.{Slice}
 use Rattle.fancy_grammar.proofs.TreeLaws.{IsReadLeaf}
@@ -39,6 +38,7 @@ use Rattle.fancy_c.proofs.EscapeCosts.{NamesWithin}
 use Rattle.fancy_c.proofs.StartCosts.{StartWithin, start_within}
 use Rattle.fancy_c.proofs.TreeCosts.{cost, cost_all, costs, kind_cost, target_cost, join_cost, choice_cost, quantified_cost}
 use Rattle.fancy_c.proofs.TreeCosts.{branches_cost, conditional_cost, clear_or_stopper_cost, node_cost}
+use Rattle.fancy_lex.proofs.ReadingLemmas.{choose_both}
 
 -- what is read from n bytes up to t has six bytes of text for each byte that is read
 abbrev Paid : ℕ → Tree → State → Type 0
@@ -58,11 +58,14 @@ suffix_keeps a s w c g l h = by_outcome (suffix w c) (suffix_reads w c)
   where
     by_outcome : (o : Outcome Suffix) → Reads (λ (m : Suffix) v. Slice w.rest v.rest) w o → Holds (Keeps a s) (mapped g o)
     by_outcome (done m v) k = (h m, omega (arith, l, fits k))
-    by_outcome (failed k p) i = tt
+    by_outcome (failed e) i = tt
 
 quant_keeps : (left : ℕ) (a : Tree) (s : State) → Holds (Keeps a s) (quant left a s)
 unfolding quant
-quant_keeps left a s = by_layout (skipped s) (layout_slice s.flags.ignore_space s.rest)
+quant_keeps left a s =
+    skipped_both P (skipped s) _ _
+    (λ v i. by_counts v (counts s.flags.ignore_space v) (skipped_slice s v i) (closes_counts s.flags.ignore_space v))
+    (λ p i. tt)
   where
     P : Outcome Tree → Type 0
     P = Holds (Keeps a s)
@@ -78,14 +81,10 @@ quant_keeps left a s = by_layout (skipped s) (layout_slice s.flags.ignore_space 
         cond_both (is_dropped s.flags left a u) _ _ P
         (λ _. suffix_keeps a s (at s u) c (λ m. a) past (λ m. omega arith)) (λ _. tt))
 
-    by_layout : (j : Skipped) → SkippedSlice s.rest j → P (quant_at left a s j)
-    by_layout (rest v) i = by_counts v (counts s.flags.ignore_space v) i (closes_counts s.flags.ignore_space v)
-    by_layout (open_comment p) i = tt
-
 -- the same after a quantifier
 kept_on : (a b : Tree) (s t : State) (o : Outcome Tree) → Keeps a s b t → Holds (Keeps b t) o → Holds (Keeps a s) o
 kept_on a b s t (done c v) h k = (omega (arith, h.0, k.0), omega (arith, h.1, k.1))
-kept_on a b s t (failed k p) h i = tt
+kept_on a b s t (failed e) h i = tt
 
 adjacent_keeps : (k d : ℕ) (a : Tree) (s : State) → Holds (Keeps a s) (adjacent k d a s)
 unfolding adjacent
@@ -108,12 +107,9 @@ quants_keep d left a s =
 -- ---- the end of a part
 
 closed_paid : (n : ℕ) (r : Tree) (s : State) → Paid n r s → Holds (Paid n) (closed r s)
-closed_paid n r s h = by_text s.rest refl
-  where
-    by_text : (t : Text) → s.rest ≡ t → Holds (Paid n) (closed_at r s t)
-    by_text [] e = tt
-    by_text (c ∷ t) e =
-        cond_both (c == code ")") _ _ (Holds (Paid n)) (λ _. omega (arith, h, ap bytes e, one_bytes c t)) (λ _. tt)
+closed_paid n r s h =
+    choose_both (Holds (Paid n)) (strip (code ")") s.rest) _ _
+    (λ t e. omega (arith, h, strip_bytes (code ")") s.rest t e)) tt
 
 conditional_paid : (n left : ℕ) (c r : Tree) (s : State) → cost c + cost r + 6 * bytes s.rest ≤ 6 * n →
     Holds (Paid n) (conditional_after c left r s)
@@ -125,7 +121,7 @@ conditional_paid n left c r s h =
 -- a tree after its quantifiers
 kept_paid : (n : ℕ) (a : Tree) (s : State) (o : Outcome Tree) → Paid n a s → Holds (Keeps a s) o → Holds (Paid n) o
 kept_paid n a s (done b t) h k = omega (arith, h, k.0, k.1)
-kept_paid n a s (failed k p) h i = tt
+kept_paid n a s (failed e) h i = tt
 
 -- ---- leaves
 
@@ -147,7 +143,7 @@ no_cost (more_trees t ts) e = absurd (two_levels t (omega (arith, e, one_or_more
 
 read_leaf_paid : (s : State) (o : Outcome Tree) → Reads (IsLeaf s) s o → StartWithin (bytes s.rest) (read o) →
     Holds (Paid (bytes s.rest)) o
-read_leaf_paid s (failed k p) h w = tt
+read_leaf_paid s (failed e) h w = tt
 read_leaf_paid s (done r t) h w = by_leaf r h.alone w
   where
     past : bytes t.rest + 1 ≤ bytes s.rest
@@ -239,7 +235,7 @@ mutual
   piece_paid (layout_error l) = tt
 
   atom_paid : {d : ℕ} {s : State} {o : Outcome Tree} → Atom d s o → PaidFrom s o
-  atom_paid (atom {d} {s} {e} {q} is a) =
+  atom_paid (atom {d} {s} {k = e} {q} is a) =
       after_keeps (PaidFrom s) (λ r t f h. h) e s.flags q
       (of_paid a (subst (StartReads s) is (start_reads d s)) (subst (StartWithin (bytes s.rest)) is (start_within d s)))
 
@@ -278,15 +274,10 @@ mutual
 pub whole_paid : {f : Flags} {text : Text} {r : Tree} {t : State} → Whole f text (done r t) → cost r ≤ 6 * bytes text
 whole_paid {f} {text} {r} {t} a = by_whole a
   where
-    ended_paid : (r : Tree) (s t : State) (u : Text) → Paid (bytes text) r s → (o : Outcome Tree) → ended_at r s u ≡ o →
-        Holds (Paid (bytes text)) o
-    ended_paid r s t [] h o e = subst (Holds (Paid (bytes text))) e h
-    ended_paid r s t (c ∷ u) h o e = subst (Holds (Paid (bytes text))) e tt
-
     of_whole : {o : Outcome Tree} → Whole f text o → Holds (Paid (bytes text)) o
     of_whole (whole {q} a) =
         then_holds (Paid (bytes text)) (Paid (bytes text)) q _ (alternation_paid a)
-        (λ r s h. ended_paid r s s s.rest h (ended r s) refl)
+        (λ r s h. cond_both (length s.rest == 0) _ _ (Holds (Paid (bytes text))) (λ _. h) (λ _. tt))
 
     by_whole : Whole f text (done r t) → cost r ≤ 6 * bytes text
     by_whole b = omega (arith, of_whole b)

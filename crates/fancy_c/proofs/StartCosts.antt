@@ -10,7 +10,6 @@ use Rattle.fancy_lex.specs.Delimited.{name_before}
 use Rattle.fancy_lex.specs.Escape.{escape}
 use Rattle.fancy_lex.specs.Escaped as escaped
 use Rattle.fancy_lex.specs.Escaped.{Escape}
-use Rattle.fancy_lex.specs.LayoutSteps.{Skipped, rest, failed as open_comment}
 use Rattle.fancy_lex.specs.Reading.{Reading, gives, fails, read_or}
 use Rattle.fancy_lex.specs.Referred.{Reference, Call}
 use Rattle.fancy_lex.specs.Text.{Text, bytes, strip_word, reach_of}
@@ -22,7 +21,7 @@ use Rattle.fancy_parts.specs.LetterSteps.{letters}
 use Rattle.fancy_parts.specs.GroupName.{group_name}
 use Rattle.fancy_parts.specs.GroupReference.{named_reference, named_call, call_of, begins_target, condition_target}
 use Rattle.fancy_grammar.specs.AtomStart.{AtomStart, read, of_kind, body, atom_start}
-use Rattle.fancy_grammar.specs.AtomStart.{start_of, after_layout, group_start, after_question, condition_start, repeater_start}
+use Rattle.fancy_grammar.specs.AtomStart.{start_of, group_start, after_question, condition_start, repeater_start}
 use Rattle.fancy_grammar.specs.AtomStart.{flags_start, leaf_node, leaf_outcome, leaf_of, begins_no_atom}
 use Rattle.fancy_grammar.specs.AtomStart.{named_start, target_start, backref_node, call_node}
 use Rattle.fancy_grammar.specs.Depth.{max_depth}
@@ -32,7 +31,8 @@ use Rattle.fancy_grammar.specs.Label.{ast_call}
 use Rattle.fancy_grammar.specs.State.{skipped, State, at, Outcome, done, failed}
 use Rattle.fancy_grammar.specs.Tree.{Tree, leaf, delegate}
 use Rattle.fancy_grammar.specs.Verb.{verb_at}
-use Rattle.fancy_grammar.proofs.Slices.{SkippedSlice, layout_slice, fits, one_bytes}
+use Rattle.fancy_grammar.proofs.Slices.{fits, one_bytes, skipped_slice}
+use Rattle.fancy_grammar.proofs.OutcomeLemmas.{skipped_both}
 use Rattle.fancy_c.proofs.ClassCosts.{IsClassWithin, class_within}
 use Rattle.fancy_c.proofs.EscapeCosts.{IsPaidIn, escape_paid, NamesWithin, more_within, IsCallIn, call_in, IsNameIn}
 use Rattle.fancy_c.proofs.EscapeCosts.{name_in, target_within}
@@ -46,7 +46,7 @@ ReadWithin n _ u = Unit {0}
 
 abbrev LeafWithin : ℕ → Outcome Tree → Type 0
 LeafWithin n (done r t) = ReadWithin n r t.rest
-LeafWithin n (failed k p) = Unit {0}
+LeafWithin n (failed e) = Unit {0}
 
 -- what is said of texts at the start of an atom that is read from n bytes: of a leaf, and of the name of a group; the
 -- condition of a conditional has no text
@@ -169,11 +169,6 @@ group_within n s t l =
     choose_both (StartWithin n) (strip_word (codes "*") t) _ _
     (λ u e. choose_both (StartWithin n) (verb_at u) _ _ (λ p _. tt) tt) tt)
 
-layout_within : (n : ℕ) (s : State) (t : Text) (k : Skipped) → bytes t ≤ n → SkippedSlice t k →
-    StartWithin n (after_layout s k)
-layout_within n s t (rest u) l h = group_within n s u (omega (arith, l, fits h))
-layout_within n s t (open_comment p) l h = tt
-
 pub start_within : (d : ℕ) (s : State) → StartWithin (bytes s.rest) (atom_start d s)
 unfolding atom_start
 start_within d s = by_text s.rest
@@ -185,6 +180,7 @@ start_within d s = by_text s.rest
         let less = one_bytes c t in
         cond_both (c == code "(") _ _ P (λ _.
         cond_both (nat_le max_depth (d + 1)) _ _ P (λ _. tt)
-        (λ _. layout_within (bytes (c ∷ t)) s t (skipped (at s t)) (omega (arith, less))
-        (layout_slice s.flags.ignore_space t))) (λ _.
+        (λ _. skipped_both P (skipped (at s t)) _ _
+        (λ u i. group_within (bytes (c ∷ t)) s u (omega (arith, less, fits (skipped_slice (at s t) u i)))) (λ p i. tt)))
+        (λ _.
         cond_both (begins_no_atom c) _ _ P (λ _. tt) (λ _. leaf_within (bytes (c ∷ t)) s c t less))

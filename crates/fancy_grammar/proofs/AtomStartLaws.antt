@@ -19,7 +19,6 @@ use Rattle.fancy_lex.specs.Class.{class}
 use Rattle.fancy_lex.specs.Escape.{escape}
 use Rattle.fancy_lex.specs.Escaped.{Escape}
 use Rattle.fancy_lex.specs.Escaped as escaped
-use Rattle.fancy_lex.specs.LayoutSteps.{Skipped, rest, failed as open_comment}
 use Rattle.fancy_lex.specs.Reading.{Reading, gives, fails}
 use Rattle.fancy_lex.specs.Text.{Text, bytes, reach_of, strip_word}
 use Rattle.fancy_parts.proofs.FlagLaws.{leaves_letters}
@@ -32,19 +31,21 @@ use Rattle.fancy_parts.specs.FlagLetters.{Letters, inline_flags, flag_group as s
 use Rattle.fancy_parts.specs.LetterSteps.{letters}
 use Rattle.fancy_grammar.specs.AtomStart.{AtomStart, nothing, read, of_kind, condition, body, absent_branch, atom_start}
 use Rattle.fancy_grammar.specs.AtomStart.{start_of}
-use Rattle.fancy_grammar.specs.AtomStart.{after_layout, group_start, after_question, condition_start, repeater_start}
+use Rattle.fancy_grammar.specs.AtomStart.{error_start, group_start, after_question, condition_start, repeater_start}
 use Rattle.fancy_grammar.specs.AtomStart.{verb_start, flags_start, leaf_node, leaf_outcome, leaf_of, begins_no_atom}
 use Rattle.fancy_grammar.specs.AtomStart.{named_start, target_start, backref_node, call_node}
 use Rattle.fancy_grammar.specs.Depth.{max_depth}
 use Rattle.fancy_grammar.specs.Items.{items}
 use Rattle.fancy_grammar.specs.Slices.{Slice}
-use Rattle.fancy_grammar.specs.State.{skipped, State, at, Outcome}
+use Rattle.fancy_grammar.specs.State.{skipped, State, at, Outcome, after_skipped}
 use Rattle.fancy_grammar.specs.Tree.{Tree, delegate, verb}
 use Rattle.fancy_grammar.specs.Verb.{verb_at}
 use Rattle.fancy_grammar.specs.declared.kinds.BacktrackingControlVerb.{BacktrackingControlVerb}
 use Rattle.fancy_grammar.proofs.Slices.{MayLie, ItemSpan, Reads, current, on, fits, one, one_bytes, cut_slice, to_ends}
-use Rattle.fancy_grammar.proofs.Slices.{lies_at, lies_in, bare, listed, taken, referred, SkippedSlice, layout_slice}
+use Rattle.fancy_grammar.proofs.Slices.{lies_at, lies_in, bare, listed, taken, referred, skipped_slice}
+use Rattle.fancy_grammar.proofs.Slices.{open_comment_lies}
 use Rattle.fancy_grammar.proofs.TreeLaws.{IsReadLeaf}
+use Rattle.fancy_grammar.proofs.OutcomeLemmas.{skipped_both}
 
 -- a slice of at least one byte
 abbrev pub Past : State → Text → Type 0
@@ -223,11 +224,6 @@ group_reads s z t h =
         choose_both (StartReads s) (verb_at u) _ _
         (λ p i. leaf_past s refl (tt, refl, refl) (verb_past s u p (after (codes "*") u e) i)) (lies_at cut)
 
-after_reads : (s z : State) (t : Text) (k : Skipped) → Past s t → SkippedSlice t k →
-    StartReads s (after_layout z k)
-after_reads s z t (rest u) h i = group_reads s z u (further s h i)
-after_reads s z t (open_comment p) h i = lies_in h.0 i
-
 -- what an escape is read as, after the first character
 escape_reads : (s z : State) (t : Text) → Past s t → MayLie s.rest (reach_of t + 1) → (o : Reading Escape) →
     Leaves (reach_of t + 1) t o → Sound t o → LeafReads s (leaf_outcome leaf_node z o)
@@ -284,7 +280,9 @@ start_reads d s = by_text s.rest refl
         let cut : Slice s.rest (c ∷ t) = record { word = []; cut = e } in
         cond_both (c == code "(") _ _ (StartReads s) (λ _.
         cond_both (nat_le max_depth (d + 1)) _ _ (StartReads s) (λ _. lies_at cut)
-        (λ _. after_reads s (at s t) t (skipped (at s t)) h (layout_slice s.flags.ignore_space t))) (λ _.
+        (λ _. skipped_both (StartReads s) (skipped (at s t)) _ _
+        (λ u i. group_reads s s u (further s h (skipped_slice (at s t) u i)))
+        (λ p i. lies_in h.0 (open_comment_lies (at s t) p i)))) (λ _.
         cond_both (begins_no_atom c) _ _ (StartReads s) (λ _. tt) (λ _. leaf_reads s c t h cut))
 
 -- a group opens only below the greatest depth
@@ -310,5 +308,5 @@ start_below d s = by_text s.rest
     by_text (c ∷ t) =
         cond_both (c == code "(") _ _ (OpensBelow d)
         (λ _. cond_both (nat_le max_depth (d + 1)) _ _ (OpensBelow d) (λ _. tt)
-        (λ e. below_at d (after_layout s (skipped (at s t))) (may_open e))) (λ _.
+        (λ e. below_at d (after_skipped (skipped (at s t)) (group_start s) error_start) (may_open e))) (λ _.
         cond_both (begins_no_atom c) _ _ (OpensBelow d) (λ _. tt) (λ _. tt))

@@ -6,12 +6,11 @@ use Rattle.std.proofs.lemmas.Bool.{cond-true, cond-false}
 use Rattle.std.proofs.lemmas.Bool.Decides.{nat_tests}
 use Prim.Native.Char.{code}
 use Rattle.fancy_lex.proofs.ReadingLemmas.{choose_both}
-use Rattle.fancy_lex.specs.Located.{target_not_repeatable}
-use Rattle.fancy_lex.specs.ErrorTable.{group_too_deep}
-use Rattle.fancy_lex.specs.LayoutSteps.{layout, layout_from, is_layout, Skipped, rest, failed as open_comment}
+use Rattle.fancy_lex.specs.ErrorTable.{group_too_deep, not_repeatable}
+use Rattle.fancy_lex.specs.LayoutSteps.{layout, layout_from, is_layout, rest}
 use Rattle.fancy_lex.specs.Reading.{Reading, gives, fails, choose}
 use Rattle.fancy_lex.specs.Referred.{Reference}
-use Rattle.fancy_lex.specs.Text.{Text, bytes, reach_of, strip_word}
+use Rattle.fancy_lex.specs.Text.{Text, bytes, strip_word}
 use Rattle.fancy_parts.specs.FlagLetters.{Letters, inline_flags, flag_group as scoped}
 use Rattle.fancy_parts.specs.GroupReference.{begins_target, condition_target}
 use Rattle.fancy_parts.specs.LetterSteps.{letters, letters_in}
@@ -19,16 +18,17 @@ use Rattle.fancy_parts.specs.Quantifier.{counts, as_operator, most}
 use Rattle.fancy_parts.specs.declared.counts.Counts.{Counts}
 use Rattle.fancy_grammar.specs.AtomStart.{AtomStart, nothing, read, of_kind, condition, body, atom_start, start_of}
 use Rattle.fancy_grammar.specs.AtomStart.{group_start, after_question, condition_start, repeater_start, verb_start}
-use Rattle.fancy_grammar.specs.AtomStart.{verb_condition, named_start, target_start, flags_start, after_layout}
+use Rattle.fancy_grammar.specs.AtomStart.{verb_condition, named_start, target_start, flags_start, group_start}
 use Rattle.fancy_grammar.specs.AtomStart.{error_start, leaf_of, begins_no_atom}
 use Rattle.fancy_grammar.specs.Depth.{max_depth}
 use Rattle.fancy_grammar.specs.GroupKind as kinds
 use Rattle.fancy_grammar.specs.GroupKind.{GroupKind, define}
 use Rattle.fancy_grammar.specs.Quantified.{quant, quants, adjacent, max_adjacent}
-use Rattle.fancy_grammar.specs.State.{ends, skipped, State, at, Outcome, done, failed, and_then}
+use Rattle.fancy_grammar.specs.State.{ends, skipped, State, at, Outcome, done, failed, and_then, after_skipped}
 use Rattle.fancy_grammar.specs.Tree.{Tree, empty}
 use Rattle.fancy_grammar.specs.Verb.{verb_at}
 use Rattle.fancy_grammar.proofs.PlainLemmas.{no_layout as passes_none}
+use Rattle.fancy_grammar.proofs.OutcomeLemmas.{skipped_both}
 
 -- ---- a parenthesis opens something
 
@@ -103,14 +103,12 @@ group_there s t =
     choose_both IsThere (strip_word (codes "?") t) _ _ (λ u _. question_there s u) (
     choose_both IsThere (strip_word (codes "*") t) _ _ (λ u _. verb_there s u) (opens_there _ _))
 
-after_there : (s : State) (k : Skipped) → IsThere (after_layout s k)
-after_there s (rest u) = group_there s u
-after_there s (open_comment p) = read_there _
-
 deep_there : (d c : ℕ) (s : State) (t : Text) →
-    IsThere (if nat_le max_depth (d + 1) then error_start (group_too_deep (c ∷ t)) else after_layout s
-    (skipped (at s t)))
-deep_there d c s t = either_there (nat_le max_depth (d + 1)) (read_there _) (after_there s (skipped (at s t)))
+    IsThere (if nat_le max_depth (d + 1) then error_start (group_too_deep (c ∷ t))
+    else after_skipped (skipped (at s t)) (group_start s) error_start)
+deep_there d c s t =
+    either_there (nat_le max_depth (d + 1)) (read_there _)
+    (skipped_both IsThere (skipped (at s t)) _ _ (λ u _. group_there s u) (λ p _. read_there _))
 
 begins_no_atom_at : (d : ℕ) (s : State) (c : ℕ) (t : Text) → start_of d s (c ∷ t) ≡ nothing →
     begins_no_atom c ≡ true
@@ -205,7 +203,7 @@ and_false false c e = refl
 
 -- an Empty under an operator at the start of a piece is an error
 operator_error : (s : State) (c : ℕ) (t : Text) → IsOperator c →
-    quant (bytes (c ∷ t)) empty (at s (c ∷ t)) ≡ failed target_not_repeatable (reach_of t + 1)
+    quant (bytes (c ∷ t)) empty (at s (c ∷ t)) ≡ failed (not_repeatable t)
 unfolding quant
 operator_error s c t m =
     let (q, e) = operator_counts s.flags.ignore_space c t m in
@@ -213,7 +211,7 @@ operator_error s c t m =
     rw (no_layout s.flags.ignore_space c t m, e, kept) refl
 
 pub nothing_repeats : (d : ℕ) (s : State) (u : Text) → atom_start d (at s u) ≡ nothing → ends u ≡ false →
-    (p : ℕ) × (quants d (bytes u) empty (at s u) ≡ failed target_not_repeatable p)
+    (t : Text) × (quants d (bytes u) empty (at s u) ≡ failed (not_repeatable t))
 unfolding atom_start
 nothing_repeats d s [] e h = absurd (true≢false h)
 nothing_repeats d s (c ∷ t) e h =

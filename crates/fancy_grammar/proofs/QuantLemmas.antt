@@ -2,16 +2,17 @@
 use Rattle.std.proofs.Common.{◌≡◌, ◌≢◌, ◌<◌, ℕ, zero, suc, ◌+◌, true, false, true≢false, ◌==◌, refl, sym, subst, arith}
 use Rattle.std.proofs.Common.{tests, rules}
 use Rattle.std.proofs.lemmas.Bool.Decides.{nat_tests}
-use Rattle.fancy_lex.specs.Located.{Kind, recursion_exceeded}
-use Rattle.fancy_lex.specs.Text.{bytes, reach_of}
+use Rattle.fancy_lex.specs.Located.{Located}
+use Rattle.fancy_lex.specs.ErrorTable.{quantifier_too_deep}
+use Rattle.fancy_lex.specs.Text.{bytes}
 use Rattle.fancy_grammar.specs.Depth.{max_depth}
 use Rattle.fancy_grammar.specs.Quantified.{quant, adjacent, may_count, is_unmoved}
 use Rattle.fancy_grammar.specs.State.{State, Outcome, done, failed}
 use Rattle.fancy_grammar.specs.Tree.{Tree}
 
 -- an error
-pub adjacent_error : (k d : ℕ) (a : Tree) (s : State) {j : Kind} {p : ℕ} → quant (bytes s.rest) a s ≡ failed j p →
-    adjacent k d a s ≡ failed j p
+pub adjacent_error : (k d : ℕ) (a : Tree) (s : State) {f : Located} → quant (bytes s.rest) a s ≡ failed f →
+    adjacent k d a s ≡ failed f
 unfolding adjacent
 adjacent_error zero d a s e = rw e refl
 adjacent_error (suc k) d a s e = rw e refl
@@ -27,7 +28,7 @@ adjacent_ends (suc k) d a s e u = rw (e, u) refl
 -- one quantifier too many
 pub adjacent_stops : (k d : ℕ) (a : Tree) (s : State) {b : Tree} {t : State} → quant (bytes s.rest) a s ≡ done b t →
     is_unmoved s t ≡ false →
-    may_count k d ≡ false → adjacent k d a s ≡ failed recursion_exceeded (reach_of t.rest)
+    may_count k d ≡ false → adjacent k d a s ≡ failed (quantifier_too_deep t.rest)
 unfolding adjacent
 adjacent_stops zero d a s e u c = rw (e, u) refl
 adjacent_stops (suc k) d a s e u c = rw (e, u, c) refl

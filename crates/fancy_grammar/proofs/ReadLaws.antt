@@ -1,6 +1,6 @@
 -- What is true of everything that is read: where it is, which nodes it has, and how large it is. By one induction on
 -- the derivation; the start of an atom decides which rule applies.
-use Rattle.std.proofs.Common.{◌≡◌, ℕ, zero, suc, ◌+◌, ◌<◌, ◌≤◌, ◌∷◌, [], ◌++◌, List, refl, sym, ap, ◌∙◌, subst, arith}
+use Rattle.std.proofs.Common.{◌≡◌, ℕ, zero, suc, ◌+◌, ◌<◌, ◌≤◌, ◌∷◌, [], ◌++◌, List, sym, ap, ◌∙◌, subst, arith}
 use Rattle.std.proofs.Common.{Bool, true, false, Option, Some, None, append-nil, length, ◌*◌, ◌-◌}
 use Rattle.std.specs.Prelude.{◌==◌, not, nat_lt, IfSome, ◌&&◌}
 use Rattle.std.proofs.lemmas.Bool.{cond_both}
@@ -10,10 +10,10 @@ use Prim.Native.Char.{code}
 use Rattle.fancy_lex.proofs.LeaveLaws.{lies_before, lies_at_end}
 use Rattle.fancy_lex.proofs.ReadingLemmas.{choose_both}
 use Rattle.fancy_lex.specs.Characters.{bar}
-use Rattle.fancy_lex.specs.Located.{Kind}
-use Rattle.fancy_lex.specs.LayoutSteps.{Skipped, rest, failed as open_comment}
+use Rattle.fancy_lex.specs.Located.{Located}
 use Rattle.fancy_lex.specs.Text.{Text, bytes, reach_of, strip}
 use Rattle.fancy_lex.specs.declared.flags.Flags.{Flags}
+use Rattle.fancy_lex.specs.Reading.{choose}
 use Rattle.fancy_parts.proofs.CountLaws.{Closed, closes_counts}
 use Rattle.fancy_parts.specs.Quantifier.{counts}
 use Rattle.fancy_parts.specs.declared.counts.Counts.{Counts}
@@ -23,22 +23,22 @@ use Rattle.fancy_grammar.specs.Grammar.{Alternation, alternation, Branches, last
 use Rattle.fancy_grammar.specs.Grammar.{Pieces, stop, next, piece_error, Piece, piece, layout_error, Atom, atom, AtomOf}
 use Rattle.fancy_grammar.specs.Grammar.{a_nothing, a_read, a_group, a_condition, condition_error, a_body, two_branches}
 use Rattle.fancy_grammar.specs.Grammar.{one_branch, absent_error, Inside, inside, Body, the_body, Whole, whole, start}
-use Rattle.fancy_grammar.specs.Grammar.{closed, closed_at, ended, ended_at, branches_of, conditional_of}
+use Rattle.fancy_grammar.specs.Grammar.{closed, not_closed, ended, branches_of, conditional_of}
 use Rattle.fancy_grammar.specs.Grammar.{conditional_after, is_condition, clear_or_stopper}
 use Rattle.fancy_grammar.specs.GroupKind.{GroupKind, capture, flag_group, look, atomic, define, repeater, group_node}
 use Rattle.fancy_grammar.specs.Items.{items}
-use Rattle.fancy_grammar.specs.Quantified.{quants, adjacent, max_adjacent, is_unmoved, quant, quant_at, with_counts}
-use Rattle.fancy_grammar.specs.Quantified.{suffix, suffix_at, after_lazy, may_be_possessive, is_repeatable, is_dropped}
+use Rattle.fancy_grammar.specs.Quantified.{quants, adjacent, max_adjacent, is_unmoved, quant, with_counts}
+use Rattle.fancy_grammar.specs.Quantified.{suffix, after_lazy, may_be_possessive, is_repeatable, is_dropped}
 use Rattle.fancy_grammar.specs.Quantified.{Suffix}
 use Rattle.fancy_grammar.specs.Ordered.{DescendingReaches, reach_of_item}
 use Rattle.fancy_grammar.specs.Slices.{Slice}
 use Rattle.fancy_grammar.specs.State.{skipped, State, at, Outcome, done, failed}
 use Rattle.fancy_grammar.specs.Tree.{Tree, expression, levels, nodes}
-use Rattle.fancy_grammar.proofs.OutcomeLemmas.{after_keeps}
+use Rattle.fancy_grammar.proofs.OutcomeLemmas.{after_keeps, skipped_both}
 use Rattle.fancy_grammar.proofs.Slices.{MayLie, ItemSpan, Reads, current, on, fits, one, one_bytes, strip_slice}
 use Rattle.fancy_grammar.proofs.Slices.{strip_bytes, cut_slice, to_ends, lies_at, lies_in, raised, lowered, bare}
 use Rattle.fancy_grammar.proofs.Slices.{then, before, after, listed, opened, SkippedSlice, layout_slice}
-use Rattle.fancy_grammar.proofs.Slices.{skipped_slice, then_reads}
+use Rattle.fancy_grammar.proofs.Slices.{skipped_slice, then_reads, open_comment_lies}
 use Rattle.fancy_grammar.proofs.TreeLaws.{items_of, items_choice, items_join, items_quantified, items_conditional}
 use Rattle.fancy_grammar.proofs.TreeLaws.{items_branches, items_clear_or_stopper, IsRead, AreRead, leaf_is_read}
 use Rattle.fancy_grammar.proofs.TreeLaws.{all_read, join_read, choice_read, quantified_read, node_read}
@@ -65,12 +65,13 @@ pub record Parts (Size : List Tree → State → Type 0) (s : State) (l : List T
 resized : (P Q : Tree → State → Type 0) (s : State) (o : Outcome Tree) → ((b : Tree) (v : State) → P b v → Q b v) →
     Reads (Part P s) s o → Reads (Part Q s) s o
 resized P Q s (done b v) f h = record { span = h.span; read = h.read; size = f b v h.size }
-resized P Q s (failed k p) f h = h
+resized P Q s (failed e) f h = h
 
 -- ---- quantifiers
 
 pub suffix_reads : (w : State) (c : Counts) → Reads (λ (m : Suffix) v. Slice w.rest v.rest) w (suffix w c)
-suffix_reads w c = by_layout (skipped w) (layout_slice w.flags.ignore_space w.rest)
+suffix_reads w c =
+    skipped_both W (skipped w) _ _ (λ t e. by_operators t (skipped_slice w t e)) (open_comment_lies w)
   where
     W : Outcome Suffix → Type 0
     W = Reads (λ (m : Suffix) v. Slice w.rest v.rest) w
@@ -80,11 +81,11 @@ suffix_reads w c = by_layout (skipped w) (layout_slice w.flags.ignore_space w.re
         cond_both (may_be_possessive w.flags c) _ _ W
         (λ _. choose_both W (strip (code "+") t) _ _ (λ u e. on i (strip_slice (code "+") t u e)) i) (λ _. i)
 
-    by_layout : (j : Skipped) → SkippedSlice w.rest j → W (suffix_at w c j)
-    by_layout (rest t) i =
+    by_operators : (t : Text) → Slice w.rest t →
+        W (choose (strip (code "?") t) (after_lazy w c true) (after_lazy w c false t))
+    by_operators t i =
         choose_both W (strip (code "?") t) _ _ (λ u e. after_operator true u (on i (strip_slice (code "?") t u e)))
         (after_operator false t i)
-    by_layout (open_comment p) i = i
 
 -- a quantifier has at least one byte for each level that it adds, and for each two nodes; it adds at most two levels
 abbrev Grows : Tree → State → Tree → State → Type 0
@@ -101,7 +102,10 @@ GrowsBy k a s b t = (weight b + 2 * bytes t.rest ≤ weight a + 2 * bytes s.rest
 quant_read : (left : ℕ) (a : Tree) (s t : State) → ItemSpan (items a) s.rest t.rest → IsRead a →
     Reads (Part (Grows a t) s) s (quant left a t)
 unfolding quant
-quant_read left a s t h n = by_layout (skipped t) (layout_slice t.flags.ignore_space t.rest)
+quant_read left a s t h n =
+    skipped_both (Reads P s) (skipped t) _ _ (λ v e.
+    by_counts v (counts t.flags.ignore_space v) (skipped_slice t v e) (closes_counts t.flags.ignore_space v))
+    (λ p e. lies_in h.slice (open_comment_lies t p e))
   where
     P : Tree → State → Type 0
     P = Part (Grows a t) s
@@ -130,11 +134,6 @@ quant_read left a s t h n = by_layout (skipped t) (layout_slice t.flags.ignore_s
           read = n;
           size = (omega (arith, long, fits k), omega (arith, long, fits k), omega arith);
         })) (λ _. lies_before i.ascii (to_ends (on h.slice ends))))
-
-    by_layout : (j : Skipped) → SkippedSlice t.rest j → Reads P s (quant_at left a t j)
-    by_layout (rest v) i =
-        by_counts v (counts t.flags.ignore_space v) i (closes_counts t.flags.ignore_space v)
-    by_layout (open_comment p) i = lies_in h.slice i
 
 unmoved_bytes : (s t : State) → is_unmoved s t ≡ true → bytes t.rest ≡ bytes s.rest
 unmoved_bytes s t e = grind (arith, nat_tests)
@@ -253,14 +252,13 @@ IsInside d s = Part (InsideFits d s) s
 
 closed_reads : (P : Tree → State → Type 0) (s t : State) (r : Tree) → Slice s.rest t.rest →
     ((u : State) → Slice t.rest u.rest → bytes u.rest + 1 ≤ bytes t.rest → P r u) → Reads P s (closed r t)
-closed_reads P s t r h k = by_text t.rest refl
+closed_reads P s t r h k =
+    choose_both (Reads P s) (strip (code ")") t.rest) _ _
+    (λ u e. k (at t u) (strip_slice (code ")") t.rest u e) (strip_bytes (code ")") t.rest u e)) (by_text t.rest h)
   where
-    by_text : (u : Text) → t.rest ≡ u → Reads P s (closed_at r t u)
-    by_text [] e = lies_at_end s.rest
-    by_text (c ∷ u) e =
-        cond_both (c == code ")") _ _ (Reads P s)
-        (λ _. k (at t u) (record { word = c ∷ []; cut = e }) (omega (arith, ap bytes e, one_bytes c u)))
-        (λ _. lies_at h)
+    by_text : (u : Text) → Slice s.rest u → MayLie s.rest (not_closed u).reach
+    by_text [] i = lies_at_end s.rest
+    by_text (c ∷ u) i = lies_at i
 
 -- the opening of a capturing group comes before its contents
 node_span : (h : GroupKind) (s t : State) (r : Tree) (v : Text) → Past s t.rest → ItemSpan (items r) t.rest v →
@@ -301,7 +299,7 @@ leaf_is_atom d s (done a t) h = record {
   read = leaf_is_read a h.alone;
   size = λ l. (omega (arith, h.past, weight_most a, leaf_size a h.alone.1), omega (arith, l, h.alone.2));
 }
-leaf_is_atom d s (failed k p) h = h
+leaf_is_atom d s (failed e) h = h
 
 -- ---- the grammar
 
@@ -368,7 +366,7 @@ mutual
       subst (SkippedSlice s.rest) l (layout_slice s.flags.ignore_space s.rest)
 
   pub atom_read : {d : ℕ} {s : State} {o : Outcome Tree} → Atom d s o → Reads (IsAtom d s) s o
-  atom_read (atom {d} {s} {e} {q} is a) =
+  atom_read (atom {d} {s} {k = e} {q} is a) =
       after_keeps (Reads (IsAtom d s) s) (λ r t f i. record { span = i.span; read = i.read; size = i.size }) e s.flags q
       (of_read a (subst (StartReads s) is (start_reads d s)) (subst (OpensBelow d) is (start_below d s)))
 
@@ -441,11 +439,7 @@ mutual
 
 ended_reads : (P : Tree → State → Type 0) (s t : State) (r : Tree) → Slice s.rest t.rest → P r t →
     Reads P s (ended r t)
-ended_reads P s t r h i = by_text t.rest
-  where
-    by_text : (u : Text) → Reads P s (ended_at r t u)
-    by_text [] = i
-    by_text (c ∷ u) = lies_at h
+ended_reads P s t r h i = cond_both (length t.rest == 0) _ _ (Reads P s) (λ _. i) (λ _. lies_at h)
 
 pub whole_read : {f : Flags} {text : Text} {o : Outcome Tree} → Whole f text o →
     Reads (IsAlternation 0 (start f text)) (start f text) o
@@ -459,8 +453,7 @@ pub derived_read : {f : Flags} {text : Text} {r : Tree} {t : State} → Whole f 
 derived_read a = (whole_read a).read
 
 -- an error is where a suffix of the text begins, or one past the end
-pub error_lies : {f : Flags} {text : Text} {k : Kind} {p : ℕ} → Whole f text (failed k p) →
-    MayLie text p
+pub error_lies : {f : Flags} {text : Text} {e : Located} → Whole f text (failed e) → MayLie text e.reach
 error_lies a = whole_read a
 
 -- so are the groups and references

@@ -28,7 +28,7 @@ pub record ItemSpan (l : List Item) (t u : Text) : Type 0 where
 -- P holds of what was read, or the error is where a suffix of the text that begins at s begins, or one past its end
 abbrev pub Reads : {A : Type 0} → (A → State → Type 0) → State → Outcome A → Type 0
 Reads P s (done a t) = P a t
-Reads P s (failed k p) = MayLie s.rest p
+Reads P s (failed e) = MayLie s.rest e.reach
 
 -- ---- slices
 
@@ -160,6 +160,9 @@ layout_slice x t = by_layout (layout x t) refl
 pub skipped_slice : (s : State) (u : Text) → skipped s ≡ rest u → Slice s.rest u
 skipped_slice s u l = subst (SkippedSlice s.rest) l (layout_slice s.flags.ignore_space s.rest)
 
+pub open_comment_lies : (s : State) (p : ℕ) → skipped s ≡ open_comment p → MayLie s.rest p
+open_comment_lies s p l = subst (SkippedSlice s.rest) l (layout_slice s.flags.ignore_space s.rest)
+
 -- ---- one part after another
 
 -- if q was read from t, and f continues after it
@@ -167,4 +170,4 @@ pub then_reads : {A B : Type 0} (P : A → State → Type 0) (Q : B → State �
     (f : A → State → Outcome B) → Slice s.rest t.rest → Reads P t q →
     ((a : A) (v : State) → P a v → Reads Q s (f a v)) → Reads Q s (and_then q f)
 then_reads P Q s t (done a v) f x h g = g a v h
-then_reads P Q s t (failed k p) f x h g = lies_in x h
+then_reads P Q s t (failed e) f x h g = lies_in x h

@@ -22,14 +22,14 @@ use Rattle.fancy_parts.specs.GroupName.{group_name}
 use Rattle.fancy_parts.specs.GroupReference.{begins_target, condition_name, condition_target, with_close_paren}
 use Rattle.fancy_parts.specs.LetterSteps.{letters}
 use Rattle.fancy_grammar.specs.AtomStart.{AtomStart, nothing, read, of_kind, condition, body, absent_branch}
-use Rattle.fancy_grammar.specs.AtomStart.{atom_start, start_of, after_layout, group_start, after_question, condition_start}
+use Rattle.fancy_grammar.specs.AtomStart.{atom_start, start_of, error_start, group_start, after_question, condition_start}
 use Rattle.fancy_grammar.specs.AtomStart.{repeater_start, flags_start, named_start, target_start, begins_no_atom}
 use Rattle.fancy_grammar.specs.Depth.{max_depth}
 use Rattle.fancy_grammar.specs.Label as label
 use Rattle.fancy_grammar.specs.Label.{Leaf}
 use Rattle.fancy_grammar.specs.Slices.{Slice}
 use Rattle.fancy_grammar.specs.Spans.{alone, condition_text, condition_span}
-use Rattle.fancy_grammar.specs.State.{State, at, skipped}
+use Rattle.fancy_grammar.specs.State.{State, at, skipped, after_skipped}
 use Rattle.fancy_grammar.specs.Tree.{leaf}
 use Rattle.fancy_grammar.specs.Verb.{verb_at}
 use Rattle.fancy_grammar.specs.declared.kinds.BacktrackingControlVerb.{BacktrackingControlVerb}
@@ -202,13 +202,13 @@ module _ (named : Bool) where
       by_start u a e (absent_branch v) h = tt
 
       by_layout : (t : Text) → s.rest ≡ open_paren ∷ t → (k : Skipped) → layout s.flags.ignore_space t ≡ k →
-          SkippedSlice t k → ConditionLies s (after_layout (at s t) k)
+          SkippedSlice t k → ConditionLies s (after_skipped k (group_start s) error_start)
       by_layout t e (rest u) l i =
           by_start u (on (record { word = open_paren ∷ []; cut = e }) i)
           (ap (λ z. option_and_then (strip_word (codes "?("))
           (option_and_then (λ v. rest_of (layout s.flags.ignore_space v)) (strip open_paren z))) e
           ∙ ap (λ k. option_and_then (strip_word (codes "?(")) (rest_of k)) l)
-          (group_start (at s t) u) (has_text_group (at s t) u)
+          (group_start s u) (has_text_group s u)
       by_layout t e (open_comment p) l i = tt
 
       by_text : (t : Text) → s.rest ≡ t → ConditionLies s (start_of d s t)

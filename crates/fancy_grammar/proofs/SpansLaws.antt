@@ -1,17 +1,17 @@
 -- The spans of a derivation are those of the nodes of its tree, and lie in its text: each node in the slice that its
 -- rule reads, and its children in its own span, one after another.
-use Rattle.std.proofs.Common.{◌≡◌, ℕ, Bool, List, [], ◌∷◌, refl, subst, ◌==◌, ◌&&◌, not}
+use Rattle.std.proofs.Common.{ℕ, Bool, List, refl, subst, ◌==◌, ◌&&◌, not, length}
 use Rattle.std.proofs.lemmas.Bool.{cond_both}
 use Prim.Native.Char.{code}
 use Rattle.fancy_lex.specs.Characters.{bar}
-use Rattle.fancy_lex.specs.Text.{Text, bytes, reach_of}
+use Rattle.fancy_lex.specs.Text.{Text, bytes, reach_of, strip}
 use Rattle.fancy_lex.specs.declared.flags.Flags.{Flags}
 use Rattle.fancy_grammar.specs.AtomStart.{AtomStart}
 use Rattle.fancy_grammar.specs.Grammar.{Alternation, alternation, Branches, last, more, branch_error, Branch, branch}
 use Rattle.fancy_grammar.specs.Grammar.{Pieces, stop, next, piece_error, Piece, piece, layout_error, Atom, atom, AtomOf}
 use Rattle.fancy_grammar.specs.Grammar.{a_nothing, a_read, a_group, a_condition, condition_error, a_body, two_branches}
 use Rattle.fancy_grammar.specs.Grammar.{one_branch, absent_error, Inside, inside, Body, the_body, Whole, whole}
-use Rattle.fancy_grammar.specs.Grammar.{closed, closed_at, ended_at, branches_of, conditional_of, conditional_after}
+use Rattle.fancy_grammar.specs.Grammar.{closed, branches_of, conditional_of, conditional_after}
 use Rattle.fancy_grammar.specs.Grammar.{is_condition, clear_or_stopper}
 use Rattle.fancy_grammar.specs.Join.{solid}
 use Rattle.fancy_grammar.specs.Label as label
@@ -31,6 +31,7 @@ use Rattle.fancy_grammar.proofs.SpansLemmas.{Lies, LiesFrom, InRow, InBranches, 
 use Rattle.fancy_grammar.proofs.SpansLemmas.{barred, row_at, wider, leaf_lies, joined, chosen_among, in_front}
 use Rattle.fancy_grammar.proofs.SpansLemmas.{group_lies, parts_lie, conditional_lies, stopper_lies}
 use Rattle.fancy_grammar.proofs.SpansQuant.{quants_lie}
+use Rattle.fancy_lex.proofs.ReadingLemmas.{choose_both}
 
 module _ (named : Bool) where
   -- one part after another; x gives the spans by the outcome
@@ -39,25 +40,19 @@ module _ (named : Bool) where
       ((a : A) (v : State) → P a v → LiesFrom named t (x (f a v)) (f a v)) →
       LiesFrom named t (x (and_then q f)) (and_then q f)
   then_lies P t x (done a v) f h g = g a v h
-  then_lies P t x (failed k p) f h g = tt
+  then_lies P t x (failed e) f h g = tt
 
   -- after a closing parenthesis
   closed_lies : {t : Text} (x : Outcome Tree → Spans) (r : Tree) (s : State) →
       ((u : State) → Slice s.rest u.rest → Lies named t u.rest r (x (done r u))) →
       LiesFrom named t (x (closed r s)) (closed r s)
-  closed_lies {t} x r s k = by_text s.rest refl
-    where
-      P : Outcome Tree → Type 0
-      P o = LiesFrom named t (x o) o
-
-      by_text : (u : Text) → s.rest ≡ u → P (closed_at r s u)
-      by_text [] e = tt
-      by_text (c ∷ u) e =
-          cond_both (c == code ")") _ _ P (λ _. k (at s u) (record { word = c ∷ []; cut = e })) (λ _. tt)
+  closed_lies {t} x r s k =
+      choose_both (λ o. LiesFrom named t (x o) o) (strip (code ")") s.rest) _ _
+      (λ u e. k (at s u) (strip_slice (code ")") s.rest u e)) tt
 
   leaf_lies_from : (s : State) (o : Outcome Tree) → Reads (IsLeaf s) s o → LiesFrom named s.rest (alone (between s o)) o
   leaf_lies_from s (done a t) h = leaf_lies named a h.alone h.span.slice
-  leaf_lies_from s (failed k p) h = tt
+  leaf_lies_from s (failed e) h = tt
 
   piece_lies_from : {t u : Text} (d left : ℕ) (q : Outcome Tree) (x : Spans) → Slice t u → LiesFrom named u x q →
       LiesFrom named t (quants_spans left (reach_of u) q x) (and_then q (quants d left))
@@ -66,8 +61,8 @@ module _ (named : Bool) where
     where
       from_earlier : (y : Spans) (o : Outcome Tree) → LiesFrom named u y o → LiesFrom named t y o
       from_earlier y (done b v) i = wider named k (current v.rest) i
-      from_earlier y (failed j p) i = tt
-  piece_lies_from d left (failed j p) x k h = tt
+      from_earlier y (failed e) i = tt
+  piece_lies_from d left (failed e) x k h = tt
 
   body_lies_from : {c : Tree} {y : Spans} (left : ℕ) (w t : State) (q : Outcome Tree) (x : Spans) →
       Lies named w.rest t.rest c y → LiesFrom named t.rest x q →
@@ -79,7 +74,7 @@ module _ (named : Bool) where
       let spans : Outcome Tree → Spans = λ o. conditional_spans (between w o) y (done r v) x in
       cond_both (bytes v.rest == left && not (is_condition c)) _ _ (λ o. LiesFrom named w.rest (spans o) o) (λ _. tt)
       (λ _. closed_lies spans (conditional_of c b.0 b.1) v (λ z k. conditional_lies named h j l k))
-  body_lies_from left w t (failed k p) x h i = tt
+  body_lies_from left w t (failed e) x h i = tt
 
   mutual
     alternation_lies : {d : ℕ} {s : State} {o : Outcome Tree} (a : Alternation d s o) →
@@ -120,7 +115,7 @@ module _ (named : Bool) where
 
     atom_lies : {d : ℕ} {s : State} {o : Outcome Tree} (a : Atom d s o) →
         LiesFrom named s.rest (atom_spans named a) o
-    atom_lies {d} {s} (atom {e = k} {q} e a) =
+    atom_lies {d} {s} (atom {k} {q} e a) =
         let P = LiesFrom named s.rest (atom_of_spans named a) in
         let read_start = subst (StartReads s) e (start_reads d s) in
         let h = of_lies a read_start (subst (ConditionLies named s) e (condition_lies named d s)) in
@@ -167,14 +162,9 @@ module _ (named : Bool) where
       Lies named text t.rest r (whole_spans named a)
   whole_lies a = by_whole a
     where
-      by_rest : {text : Text} {x : Spans} (r : Tree) (t : State) → Lies named text t.rest r x → (u : Text) →
-          LiesFrom named text x (ended_at r t u)
-      by_rest r t h [] = h
-      by_rest r t h (c ∷ u) = tt
-
       by_whole : {f : Flags} {text : Text} {o : Outcome Tree} (a : Whole f text o) →
           LiesFrom named text (whole_spans named a) o
       by_whole {text} (whole {q} a) =
           let x = alternation_spans named a in
           then_lies (λ r v. Lies named text v.rest r x) text (λ _. x) q _ (alternation_lies a)
-          (λ r t h. by_rest r t h t.rest)
+          (λ r t h. cond_both (length t.rest == 0) _ _ (LiesFrom named text x) (λ _. h) (λ _. tt))

@@ -14,12 +14,12 @@ use Rattle.fancy_parts.specs.Quantifier.{counts}
 use Rattle.fancy_parts.specs.declared.counts.Counts.{Counts}
 use Rattle.fancy_grammar.specs.Depth.{max_depth}
 use Rattle.fancy_grammar.specs.Label as label
-use Rattle.fancy_grammar.specs.Quantified.{quants, adjacent, max_adjacent, is_unmoved, quant, quant_at, with_counts}
+use Rattle.fancy_grammar.specs.Quantified.{quants, adjacent, max_adjacent, is_unmoved, quant, with_counts}
 use Rattle.fancy_grammar.specs.Quantified.{suffix, is_swapped, quantified, is_repeatable, is_dropped, is_greedy, Suffix}
 use Rattle.fancy_grammar.specs.Slices.{Slice}
 use Rattle.fancy_grammar.specs.Spans.{Spans, around, if_done, under, quantifier_end, counted, quant_spans}
 use Rattle.fancy_grammar.specs.Spans.{adjacent_spans, quants_spans}
-use Rattle.fancy_grammar.specs.State.{skipped, State, at, Outcome, done, failed, failed_with, and_then, mapped}
+use Rattle.fancy_grammar.specs.State.{skipped, after_skipped, State, at, Outcome, done, failed, and_then, mapped}
 use Rattle.fancy_grammar.specs.Tree.{Tree, repeat, atomic_group}
 use Rattle.fancy_grammar.proofs.OutcomeLemmas.{Holds}
 use Rattle.fancy_grammar.proofs.ReadLaws.{suffix_reads}
@@ -35,7 +35,7 @@ suffix_rest s c = by_cases (suffix s c) (suffix_reads s c)
   where
     by_cases : (o : Outcome Suffix) → Reads (λ m v. Slice s.rest v.rest) s o → RestIn s.rest o
     by_cases (done m v) h = h
-    by_cases (failed k p) h = tt
+    by_cases (failed e) h = tt
 
 module _ (named : Bool) where
   under_lies : {t e v : Text} {a : Tree} {x : Spans} (f : Flags) (c : Counts) (m : Suffix) →
@@ -78,19 +78,19 @@ module _ (named : Bool) where
             (under s.flags c m (record { start = reach_of t; end = e }) x))
             (λ _. under_lies s.flags c m (kept (on i j)) (current v.rest))
             (λ _. under_lies s.flags c m (kept i) j)
-        by_operators c u (failed k p) i j = tt
+        by_operators c u (failed e) i j = tt
 
         by_dropped : (u : Text) (o : Outcome Suffix) → Slice s.rest u → RestIn u o →
             LiesFrom named t x (mapped (λ m. a) o)
         by_dropped u (done m v) i j = kept (on i j)
-        by_dropped u (failed k p) i j = tt
+        by_dropped u (failed e) i j = tt
 
         by_tests : (b d : Bool) (c : Counts) (u : Text) → Slice s.rest u →
             LiesFrom named t
             (if b then if_done (suffix (at s u) c)
             (λ m v. under s.flags c m (record { start = reach_of t; end = quantifier_end u m v }) x) x else x)
             (if b then mapped (λ m. quantified s.flags c m a) (suffix (at s u) c)
-            else if d then mapped (λ m. a) (suffix (at s u) c) else failed_with (not_repeatable u))
+            else if d then mapped (λ m. a) (suffix (at s u) c) else failed (not_repeatable u))
         by_tests true d c u i = by_operators c u (suffix (at s u) c) i (suffix_rest (at s u) c)
         by_tests false true c u i = by_dropped u (suffix (at s u) c) i (suffix_rest (at s u) c)
         by_tests false false c u i = tt
@@ -105,7 +105,7 @@ module _ (named : Bool) where
         by_layout : (j : Skipped) → SkippedSlice s.rest j →
             LiesFrom named t
             (choose (option_and_then (counts s.flags.ignore_space) (rest_of j)) (counted (reach_of t) a s x) x)
-            (quant_at left a s j)
+            (after_skipped j (λ v. with_counts left a (at s v) (counts s.flags.ignore_space v)) failed)
         by_layout (rest v) i = by_counts v (counts s.flags.ignore_space v) i (takes_counts s.flags.ignore_space v)
         by_layout (open_comment p) i = tt
 
@@ -118,9 +118,9 @@ module _ (named : Bool) where
         y = quant_spans (reach_of t) a s x
 
         by_first : (o : Outcome Tree) → LiesFrom named t y o → LiesFrom named t y
-            (and_then o (λ b v. if is_unmoved s v then done b v else failed_with (quantifier_too_deep v.rest)))
+            (and_then o (λ b v. if is_unmoved s v then done b v else failed (quantifier_too_deep v.rest)))
         by_first (done b v) i = cond_both (is_unmoved s v) _ _ (LiesFrom named t y) (λ _. i) (λ _. tt)
-        by_first (failed j p) i = tt
+        by_first (failed e) i = tt
     adjacent_lies (suc k) d a s x h =
         by_first (λ b v i. adjacent_lies k (d + 1) b v (quant_spans (reach_of t) a s x) i)
         (quant (bytes s.rest) a s) (quant_lies (bytes s.rest) a s x h)
@@ -131,7 +131,7 @@ module _ (named : Bool) where
         by_tests : (c e : Bool) (b : Tree) (v : State) → Lies named t v.rest b y →
             LiesFrom named t (adjacent_spans k (reach_of t) b v y) (adjacent k (d + 1) b v) →
             LiesFrom named t (if c then y else adjacent_spans k (reach_of t) b v y)
-            (if c then done b v else if e then adjacent k (d + 1) b v else failed_with (quantifier_too_deep v.rest))
+            (if c then done b v else if e then adjacent k (d + 1) b v else failed (quantifier_too_deep v.rest))
         by_tests true e b v i j = i
         by_tests false true b v i j = j
         by_tests false false b v i j = tt
@@ -142,9 +142,9 @@ module _ (named : Bool) where
             LiesFrom named t
             (if_done o (λ b v. if is_unmoved s v then y else adjacent_spans k (reach_of t) b v y) y)
             (and_then o (λ b v. if is_unmoved s v then done b v
-            else if nat_lt (d + 1) max_depth then adjacent k (d + 1) b v else failed_with (quantifier_too_deep v.rest)))
+            else if nat_lt (d + 1) max_depth then adjacent k (d + 1) b v else failed (quantifier_too_deep v.rest)))
         by_first go_on (done b v) i = by_tests (is_unmoved s v) (nat_lt (d + 1) max_depth) b v i (go_on b v i)
-        by_first go_on (failed j p) i = tt
+        by_first go_on (failed e) i = tt
 
     pub quants_lie : (d left : ℕ) (a : Tree) (s : State) (x : Spans) → Lies named t s.rest a x →
         LiesFrom named t (quants_spans left (reach_of t) (done a s) x) (quants d left a s)
@@ -164,4 +164,4 @@ module _ (named : Bool) where
             (λ b v. if v.flags.oniguruma_mode then adjacent_spans max_adjacent (reach_of t) b v y else y) y)
             (and_then o (λ b v. if v.flags.oniguruma_mode then adjacent max_adjacent d b v else done b v))
         by_first (done b v) i = by_mode v.flags.oniguruma_mode b v i
-        by_first (failed k p) i = tt
+        by_first (failed e) i = tt

@@ -87,7 +87,7 @@ module _ (named : Bool) where
 
     atom_same : {d : ℕ} {s z : State} {o q : Outcome Tree} (a : Atom d s o) (b : Atom d z q) → s ≡ z →
         atom_spans named a ≡ atom_spans named b
-    atom_same (atom {d} {e = k} f a) (atom {s = z} {e = l} {q} g b) e =
+    atom_same (atom {d} {k} f a) (atom {s = z} {k = l} {q} g b) e =
         let i : l ≡ k = cc in of_same a (subst (λ (x : AtomStart). AtomOf x d z q) i b) e ∙ equal_start i b
 
     of_same : {k : AtomStart} {d : ℕ} {s z : State} {o q : Outcome Tree} (a : AtomOf k d s o) (b : AtomOf k d z q) →

@@ -61,7 +61,7 @@ counted_after start a s p q (c, t) = by_test (is_repeatable s.flags a)
     by_outcome (done m v) =
         ap (with_dropped (layout_end (at s t)) (reach_of v.rest)) counts_after
         ∙ dropped_after (layout_end (at s t)) (reach_of v.rest) p (with_dropped start (reach_of t) q ++ l)
-    by_outcome (failed k j) = counts_after
+    by_outcome (failed e) = counts_after
 
     by_test : (b : Bool) →
         (if b then (p ++ q) ++ l else let r = with_dropped start (reach_of t) (p ++ q) ++ l in
@@ -104,11 +104,11 @@ adjacent_after (suc k) a s p q = by_outcome (adjacent_after k) (quant (bytes s.r
             ≡ p ++ (if c then quant_trivia a s q else adjacent_trivia k b t (quant_trivia a s q))
         by_test true = quant_after a s p q
         by_test false = ap (adjacent_trivia k b t) (quant_after a s p q) ∙ h b t p (quant_trivia a s q)
-    by_outcome h (failed j i) = quant_after a s p q
+    by_outcome h (failed e) = quant_after a s p q
 
 quants_after : (left : ℕ) (o : Outcome Tree) (p q : List Passed) →
     quants_trivia left o (p ++ q) ≡ p ++ quants_trivia left o q
-quants_after left (failed k j) p q = refl
+quants_after left (failed e) p q = refl
 quants_after left (done a s) p q = by_outcome (quant left a s)
   where
     by_outcome : (o : Outcome Tree) →
@@ -125,7 +125,7 @@ quants_after left (done a s) p q = by_outcome (quant left a s)
             ap (adjacent_trivia max_adjacent b t) (quant_after a s p q)
             ∙ adjacent_after max_adjacent b t p (quant_trivia a s q)
         by_mode false = quant_after a s p q
-    by_outcome (failed k j) = quant_after a s p q
+    by_outcome (failed e) = quant_after a s p q
 
 -- ---- the productions
 

@@ -1,14 +1,14 @@
 -- What the tree of a text does not hold lies in the text, one part after another.
 use Rattle.std.proofs.Common.{◌≡◌, ℕ, zero, suc, ◌+◌, ◌==◌, nat_lt, Bool, true, false, if◌then◌else◌, List, [], ◌∷◌, ◌++◌}
-use Rattle.std.proofs.Common.{Option, Some, None, chars, refl, sym, ap, subst, arith, append-nil, ◌&&◌, not}
+use Rattle.std.proofs.Common.{Option, Some, None, chars, refl, sym, ap, subst, arith, append-nil, ◌&&◌, not, length}
 use Rattle.std.specs.Option.{option_and_then}
 use Rattle.std.specs.List.{AllByRecursion}
 use Rattle.std.specs.Str.{IsUtf8}
 use Rattle.std.proofs.lemmas.Bool.{cond_both}
-use Rattle.std.proofs.lemmas.Bool.Decides.{nat_tests}
 use Prim.Native.Char.{code}
 use Rattle.fancy_lex.proofs.ReadingLemmas.{choose_both}
 use Rattle.fancy_lex.proofs.TakeLaws.{TakesSome}
+use Rattle.fancy_lex.proofs.TextLemmas.{strip_is}
 use Rattle.fancy_lex.specs.Characters.{bar, close_paren}
 use Rattle.fancy_lex.specs.ErrorTable.{quantifier_too_deep, not_repeatable}
 use Rattle.fancy_lex.specs.LayoutSteps.{Skipped, rest, rest_of, failed as open_comment}
@@ -25,17 +25,17 @@ use Rattle.fancy_grammar.specs.Grammar.{Alternation, alternation, Branches, last
 use Rattle.fancy_grammar.specs.Grammar.{Pieces, stop, next, piece_error, Piece, piece, layout_error, Atom, atom, AtomOf}
 use Rattle.fancy_grammar.specs.Grammar.{a_nothing, a_read, a_group, a_condition, condition_error, a_body, two_branches}
 use Rattle.fancy_grammar.specs.Grammar.{one_branch, absent_error, Inside, inside, Body, the_body, Whole, whole}
-use Rattle.fancy_grammar.specs.Grammar.{closed, closed_at, ended_at, conditional_after, conditional_of, branches_of}
+use Rattle.fancy_grammar.specs.Grammar.{closed, conditional_after, conditional_of, branches_of}
 use Rattle.fancy_grammar.specs.Grammar.{is_condition, clear_or_stopper}
 use Rattle.fancy_grammar.specs.GroupKind.{GroupKind, capture, flag_group, look, atomic, define, repeater, group_node}
 use Rattle.fancy_grammar.specs.Items.{openings}
 use Rattle.fancy_grammar.specs.Join.{is_empty, join, choice}
-use Rattle.fancy_grammar.specs.Quantified.{quants, adjacent, max_adjacent, is_unmoved, quant, quant_at, with_counts}
-use Rattle.fancy_grammar.specs.Quantified.{suffix, suffix_at, after_lazy, may_be_possessive, is_repeatable, is_dropped}
+use Rattle.fancy_grammar.specs.Quantified.{quants, adjacent, max_adjacent, is_unmoved, quant, with_counts}
+use Rattle.fancy_grammar.specs.Quantified.{suffix, after_lazy, may_be_possessive, is_repeatable, is_dropped}
 use Rattle.fancy_grammar.specs.Quantified.{Suffix, quantified}
 use Rattle.fancy_grammar.specs.Slices.{Slice}
 use Rattle.fancy_grammar.specs.Spans.{IsCutOut, condition_span, end_of, if_done}
-use Rattle.fancy_grammar.specs.State.{State, at, skipped, Outcome, done, failed, failed_with, and_then, mapped}
+use Rattle.fancy_grammar.specs.State.{State, at, skipped, after_skipped, Outcome, done, failed, and_then, mapped}
 use Rattle.fancy_grammar.specs.Tree.{Tree, expression}
 use Rattle.fancy_grammar.specs.Trivia.{Trivium, Passed, part, flags, opening, closing, IsTriviaOf, IsPartOf, AreInOrder}
 use Rattle.fancy_grammar.specs.Trivia.{comments_at, flags_of_atom, opening_of, closing_of, quant_trivia, adjacent_trivia}
@@ -43,7 +43,7 @@ use Rattle.fancy_grammar.specs.Trivia.{quants_trivia, alternation_trivia, branch
 use Rattle.fancy_grammar.specs.Trivia.{piece_trivia, atom_trivia, atom_of_trivia, inside_trivia, body_trivia, whole_trivia}
 use Rattle.fancy_grammar.specs.Trivia.{with_dropped, filled, layout_end, counted_trivia, leaves_condition}
 use Rattle.fancy_grammar.proofs.AtomStartLaws.{IsLeaf, StartReads, start_reads}
-use Rattle.fancy_grammar.proofs.OutcomeLemmas.{Holds, after_keeps}
+use Rattle.fancy_grammar.proofs.OutcomeLemmas.{Holds, after_keeps, skipped_both}
 use Rattle.fancy_grammar.proofs.Slices.{Reads, current, on, one, strip_slice}
 use Rattle.fancy_grammar.proofs.SpansCondition.{ConditionLies, condition_lies}
 use Rattle.fancy_grammar.proofs.TriviaLemmas.{Passes, nothing, one_more, extended, followed, PassesFrom}
@@ -59,7 +59,10 @@ EndsPastLayout s o = Holds (λ _ (v : State). (t : Text) × (skipped s ≡ rest 
 
 -- the operators follow the layout
 suffix_ends : (s : State) (c : Counts) → EndsPastLayout s (suffix s c)
-suffix_ends s c = by_layout (skipped s) refl
+suffix_ends s c =
+    skipped_both W (skipped s) _ _ (λ t e.
+    choose_both W (strip (code "?") t) _ _ (λ u i. after_operator true t u e (strip_slice (code "?") t u i))
+    (after_operator false t t e (current t))) (λ p e. tt)
   where
     W : Outcome Suffix → Type 0
     W = EndsPastLayout s
@@ -70,19 +73,13 @@ suffix_ends s c = by_layout (skipped s) refl
         (λ _. choose_both W (strip (code "+") u) _ _ (λ v i. (t, e, on h (strip_slice (code "+") u v i))) (t, e, h))
         (λ _. (t, e, h))
 
-    by_layout : (j : Skipped) → skipped s ≡ j → W (suffix_at s c j)
-    by_layout (rest t) e =
-        choose_both W (strip (code "?") t) _ _ (λ u i. after_operator true t u e (strip_slice (code "?") t u i))
-        (after_operator false t t e (current t))
-    by_layout (open_comment q) e = tt
-
 -- the operators of a quantifier that the tree holds: only comments before them are added
 suffix_passes : (s : State) (c : Counts) (p : List Passed) → PassesFrom s.rest p (p ++ comments_at s) (suffix s c)
 suffix_passes s c p = by_outcome (suffix s c) (suffix_ends s c)
   where
     by_outcome : (o : Outcome Suffix) → EndsPastLayout s o → PassesFrom s.rest p (p ++ comments_at s) o
     by_outcome (done m v) (t, e, h) = extended (layout_passes s t e p) h
-    by_outcome (failed k j) h = tt
+    by_outcome (failed e) h = tt
 
 -- the operators of a quantifier that is ignored: the comments before them are added, and they are dropped
 ignored_passes : (s : State) (c : Counts) (p : List Passed) →
@@ -99,7 +96,7 @@ ignored_passes s c p = by_outcome (suffix s c) (suffix_ends s c)
         let ends : layout_end s ≡ reach_of t = ap (λ j. choose (rest_of j) reach_of (reach_of s.rest)) e in
         subst (λ n. Passes s.rest v.rest p (with_dropped n (reach_of v.rest) q)) (sym ends)
         (dropped_passes (layout_passes s t e p) h)
-    by_outcome (failed k j) h = tt
+    by_outcome (failed e) h = tt
 
 -- a quantifier, if one follows the layout
 quant_passes : (left : ℕ) (a : Tree) (s : State) (p : List Passed) →
@@ -138,7 +135,7 @@ quant_passes left a s p = by_layout (skipped s) refl
         by_repeatable : (b : Bool) →
             PassesFrom s.rest p (if b then m else ignored)
             (if b then mapped (λ x. quantified s.flags c x a) o
-            else if is_dropped s.flags left a u then mapped (λ x. a) o else failed_with (not_repeatable u))
+            else if is_dropped s.flags left a u then mapped (λ x. a) o else failed (not_repeatable u))
         by_repeatable true =
             mapped_from s.rest p m (λ x. quantified s.flags c x a) o
             (on_from m (extended h read) o (suffix_passes (at s u) c q))
@@ -149,7 +146,8 @@ quant_passes left a s p = by_layout (skipped s) refl
 
     by_layout : (j : Skipped) → skipped s ≡ j →
         PassesFrom s.rest p (choose (option_and_then (counts s.flags.ignore_space) (rest_of j))
-        (counted_trivia (choose (rest_of j) reach_of (reach_of s.rest)) a s q) q) (quant_at left a s j)
+        (counted_trivia (choose (rest_of j) reach_of (reach_of s.rest)) a s q) q)
+        (after_skipped j (λ v. with_counts left a (at s v) (counts s.flags.ignore_space v)) failed)
     by_layout (rest v) e =
         by_counts v (counts s.flags.ignore_space v) (layout_passes s v e p) (takes_counts s.flags.ignore_space v)
     by_layout (open_comment r) e = tt
@@ -173,7 +171,7 @@ adjacent_passes (suc k) d a s p =
 
     by_tests : (c e : Bool) (b : Tree) (v : State) → Passes s.rest v.rest p q → GoesOn b v →
         PassesFrom s.rest p (if c then q else adjacent_trivia k b v q)
-        (if c then done b v else if e then adjacent k (d + 1) b v else failed_with (quantifier_too_deep v.rest))
+        (if c then done b v else if e then adjacent k (d + 1) b v else failed (quantifier_too_deep v.rest))
     by_tests true e b v h i = h
     by_tests false true b v h i = on_from (adjacent_trivia k b v q) h (adjacent k (d + 1) b v) i
     by_tests false false b v h i = tt
@@ -181,9 +179,9 @@ adjacent_passes (suc k) d a s p =
     by_first : ((b : Tree) (v : State) → GoesOn b v) → (o : Outcome Tree) → PassesFrom s.rest p q o →
         PassesFrom s.rest p (if_done o (λ b v. if is_unmoved s v then q else adjacent_trivia k b v q) q)
         (and_then o (λ b v. if is_unmoved s v then done b v
-        else if nat_lt (d + 1) max_depth then adjacent k (d + 1) b v else failed_with (quantifier_too_deep v.rest)))
+        else if nat_lt (d + 1) max_depth then adjacent k (d + 1) b v else failed (quantifier_too_deep v.rest)))
     by_first go_on (done b v) h = by_tests (is_unmoved s v) (nat_lt (d + 1) max_depth) b v h (go_on b v)
-    by_first go_on (failed j r) h = tt
+    by_first go_on (failed e) h = tt
 
 quants_passes : (d left : ℕ) (a : Tree) (s : State) (p : List Passed) →
     PassesFrom s.rest p (quants_trivia left (done a s) p) (quants d left a s)
@@ -204,7 +202,7 @@ quants_passes d left a s p = by_first (quant left a s) (quant_passes left a s p)
         (if_done o (λ b v. if v.flags.oniguruma_mode then adjacent_trivia max_adjacent b v q else q) q)
         (and_then o (λ b v. if v.flags.oniguruma_mode then adjacent max_adjacent d b v else done b v))
     by_first (done b v) h = by_mode v.flags.oniguruma_mode b v h
-    by_first (failed k r) h = tt
+    by_first (failed e) h = tt
 
 -- ---- groups
 
@@ -226,18 +224,14 @@ PassesInside t p m o = Holds (λ _ (v : State). Passes t (close_paren ∷ v.rest
 
 closed_passes : {t : Text} {p m : List Passed} (r : Tree) (s : State) → Passes t s.rest p m →
     PassesInside t p m (closed r s)
-closed_passes {t} {p} {m} r s h = by_text s.rest h
-  where
-    by_text : (u : Text) → Passes t u p m → PassesInside t p m (closed_at r s u)
-    by_text [] h = tt
-    by_text (c ∷ u) h =
-        cond_both (c == code ")") _ _ (PassesInside t p m)
-        (λ e. let is : c ≡ close_paren = grind (arith, nat_tests) in subst (λ d. Passes t (d ∷ u) p m) is h) (λ _. tt)
+closed_passes {t} {p} {m} r s h =
+    choose_both (PassesInside t p m) (strip (code ")") s.rest) _ _
+    (λ u e. subst (λ v. Passes t v p m) (strip_is (code ")") s.rest u e) h) tt
 
 on_inside : {t u : Text} {p q : List Passed} (m : List Passed) → Passes t u p q → (o : Outcome Tree) →
     PassesInside u q m o → PassesInside t p m o
 on_inside m h (done a v) i = followed h i
-on_inside m h (failed k p) i = tt
+on_inside m h (failed e) i = tt
 
 paren_bytes : (t : Text) → bytes (close_paren ∷ t) ≡ bytes t + 1
 unfolding bytes
@@ -255,11 +249,11 @@ module _ (t : Text) (p m : List Passed) where
 
   past_paren : (o : Outcome Tree) → PassesInside t p m o → PassesFrom t p m o
   past_paren (done r v) h = extended h (one close_paren v.rest)
-  past_paren (failed k q) h = tt
+  past_paren (failed e) h = tt
 
   closing_passes : (h : GroupKind) (reach : ℕ) (q : Outcome Tree) → PassesInside t p m q →
       (let o = mapped (group_node h reach) q in PassesFrom t p (m ++ closing_of h (end_of o)) o)
-  closing_passes h reach (failed k q) i = tt
+  closing_passes h reach (failed e) i = tt
   closing_passes flag_group reach (done r v) i = one_closing r v false i
   closing_passes (capture None) reach (done r v) i = one_closing r v true i
   closing_passes (capture (Some name)) reach (done r v) i = no_closing r v i
@@ -273,7 +267,7 @@ module _ (t : Text) (p m : List Passed) where
 -- an atom that is read at once: a leaf, or inline flags
 read_passes : (s : State) (o : Outcome Tree) (p : List Passed) → Reads (IsLeaf s) s o →
     PassesFrom s.rest p (p ++ flags_of_atom s o) o
-read_passes s (failed k q) p h = tt
+read_passes s (failed e) p h = tt
 read_passes s (done r t) p h =
     cond_both (is_empty r) _ _ (λ l. Passes s.rest t.rest p (p ++ l))
     (λ _. one_more (flags s.flags t.flags) false h.span.slice.word (nothing (current s.rest)) h.span.slice.cut tt
@@ -320,12 +314,12 @@ mutual
       by_atom (done r v) h =
           on_from (quants_trivia (bytes s.rest) (done r v) m) h (quants d (bytes s.rest) r v)
           (quants_passes d (bytes s.rest) r v m)
-      by_atom (failed k j) h = tt
+      by_atom (failed e) h = tt
   piece_passes (layout_error l) p = tt
 
   atom_passes : {d : ℕ} {s : State} {o : Outcome Tree} (a : Atom d s o) (p : List Passed) →
       PassesFrom s.rest p (atom_trivia a p) o
-  atom_passes {d} {s} (atom {e = k} {q} e a) p =
+  atom_passes {d} {s} (atom {k} {q} e a) p =
       let read_start = subst (StartReads s) e (start_reads d s) in
       let lies = subst (ConditionLies false s) e (condition_lies false d s) in
       after_keeps (PassesFrom s.rest p (atom_of_trivia a p)) (λ r t f i. i) k s.flags q (of_passes a p read_start lies)
@@ -375,7 +369,7 @@ mutual
       by_contents : (q : Outcome Tree) → PassesFrom s.rest p (alternation_trivia a p) q →
           PassesInside s.rest p (alternation_trivia a p) (and_then q closed)
       by_contents (done r v) h = closed_passes r v h
-      by_contents (failed k j) h = tt
+      by_contents (failed e) h = tt
 
   body_passes : {d : ℕ} {c : Tree} {s : State} {o : Outcome Tree} (a : Body d c s o) (p : List Passed) →
       PassesFrom s.rest p (body_trivia a p) o
@@ -392,15 +386,11 @@ whole_passes : {f : Flags} {text : Text} {r : Tree} {t : State} (a : Whole f tex
     Passes text t.rest [] (whole_trivia a)
 whole_passes a = by_whole a
   where
-    by_rest : {text : Text} {m : List Passed} (r : Tree) (t : State) → Passes text t.rest [] m → (u : Text) →
-        PassesFrom text [] m (ended_at r t u)
-    by_rest r t h [] = h
-    by_rest r t h (c ∷ u) = tt
-
     by_whole : {f : Flags} {text : Text} {o : Outcome Tree} (a : Whole f text o) → PassesFrom text [] (whole_trivia a) o
     by_whole {text} (whole {q} a) =
         let m = alternation_trivia a [] in
-        then_from text [] m m q _ (alternation_passes a []) (λ r t h. by_rest r t h t.rest)
+        then_from text [] m m q _ (alternation_passes a [])
+        (λ r t h. cond_both (length t.rest == 0) _ _ (PassesFrom text [] m) (λ _. h) (λ _. tt))
 
 -- ---- the trivia of a text
 

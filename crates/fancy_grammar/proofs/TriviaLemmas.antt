@@ -50,18 +50,18 @@ PassesFrom t p m o = Holds (λ _ (v : State). Passes t v.rest p m) o
 pub on_from : {A : Type 0} {t u : Text} {p q : List Passed} (m : List Passed) → Passes t u p q → (o : Outcome A) →
     PassesFrom u q m o → PassesFrom t p m o
 on_from m h (done a v) i = followed h i
-on_from m h (failed k p) i = tt
+on_from m h (failed e) i = tt
 
 module _ (t : Text) (p m : List Passed) where
   pub mapped_from : {A B : Type 0} (f : A → B) (o : Outcome A) → PassesFrom t p m o → PassesFrom t p m (mapped f o)
   mapped_from f (done a v) h = h
-  mapped_from f (failed k q) h = tt
+  mapped_from f (failed e) h = tt
 
   pub then_from : {A B : Type 0} (q : List Passed) (o : Outcome A) (f : A → State → Outcome B) →
       PassesFrom t p q o → ((a : A) (v : State) → Passes t v.rest p q → PassesFrom t p m (f a v)) →
       PassesFrom t p m (and_then o f)
   then_from q (done a v) f h g = g a v h
-  then_from q (failed k j) f h g = tt
+  then_from q (failed e) f h g = tt
 
 -- ---- what leaves nothing in the tree
 
@@ -130,7 +130,7 @@ filled_passes {t} {a} {v} {p} {q} {l} h g s =
 pub filled_from : {A : Type 0} {t a z : Text} {p q : List Passed} (l : List Passed) → Passes t a p q → Slice a z →
     (o : Outcome A) → PassesFrom z [] l o → PassesFrom t p (filled (reach_of a) (end_of o) l q) o
 filled_from l h s (done r v) i = filled_passes h (followed (nothing s) i) (current v.rest)
-filled_from l h s (failed k j) i = tt
+filled_from l h s (failed e) i = tt
 
 -- a node without others in it spans a slice of the text
 pub alone_lies : {named : Bool} {t u : Text} {r : Tree} {y : Span} → Lies named t u r (alone y) →

@@ -88,7 +88,7 @@ mutual
 
   atom_same : {d : ℕ} {s z : State} {o q : Outcome Tree} (a : Atom d s o) (b : Atom d z q) (p : List Passed) →
       s ≡ z → atom_trivia a p ≡ atom_trivia b p
-  atom_same (atom {d} {e = k} f a) (atom {s = z} {e = l} {q} g b) p e =
+  atom_same (atom {d} {k} f a) (atom {s = z} {k = l} {q} g b) p e =
       let i : l ≡ k = cc in of_same a (subst (λ (x : AtomStart). AtomOf x d z q) i b) p e ∙ equal_start p i b
 
   of_same : {k : AtomStart} {d : ℕ} {s z : State} {o q : Outcome Tree} (a : AtomOf k d s o) (b : AtomOf k d z q)

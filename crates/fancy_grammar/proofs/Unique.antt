@@ -1,6 +1,6 @@
 -- From a start there is at most one outcome.
 use Rattle.std.proofs.Common.{◌≡◌, ℕ, refl, sym, subst, ap, ap₂, ◌∙◌, List, ◌∷◌}
-use Rattle.fancy_lex.specs.Located.{Kind}
+use Rattle.fancy_lex.specs.Located.{Located}
 use Rattle.fancy_lex.specs.Text.{Text, bytes, reach_of}
 use Rattle.fancy_lex.specs.declared.flags.Flags.{Flags}
 use Rattle.fancy_lex.specs.LayoutSteps.{rest, failed as open_comment}
@@ -23,11 +23,11 @@ value_of e = cc
 pub state_of : {A : Type 0} {a b : A} {s t : State} → ◌≡◌ {A = Outcome A} (done a s) (done b t) → s ≡ t
 state_of e = cc
 
-pub done_or_failed : {A : Type 0} {a : A} {s : State} {k : Kind} {p : ℕ} → ◌≡◌ {A = Outcome A} (done a s) (failed k p) → ⊥
+pub done_or_failed : {A : Type 0} {a : A} {s : State} {f : Located} → ◌≡◌ {A = Outcome A} (done a s) (failed f) → ⊥
 done_or_failed e = cc
 
-same_error : {A B : Type 0} {k j : Kind} {p q : ℕ} → ◌≡◌ {A = Outcome A} (failed k p) (failed j q) →
-    ◌≡◌ {A = Outcome B} (failed k p) (failed j q)
+same_error : {A B : Type 0} {f g : Located} → ◌≡◌ {A = Outcome A} (failed f) (failed g) →
+    ◌≡◌ {A = Outcome B} (failed f) (failed g)
 same_error e = cc
 
 -- the same part after the same outcome
@@ -102,7 +102,7 @@ mutual
   piece_unique (layout_error l) (layout_error m) e = let h = same_skipped e in cc
 
   pub atom_unique : {d : ℕ} {s z : State} {o q : Outcome Tree} → Atom d s o → Atom d z q → s ≡ z → o ≡ q
-  atom_unique (atom {d} {e = k} f a) (atom {s = z} {e = l} {q} g b) e =
+  atom_unique (atom {d} {k} f a) (atom {s = z} {k = l} {q} g b) e =
       let i : l ≡ k = cc in let same = of_unique a (subst (λ (x : AtomStart). AtomOf x d z q) i b) e in cc
 
   pub of_unique : {k : AtomStart} {d : ℕ} {s z : State} {o q : Outcome Tree} → AtomOf k d s o → AtomOf k d z q → s ≡ z →

@@ -34,8 +34,8 @@ use Rattle.fancy_grammar.proofs.Unique.{whole_unique}
 pub same_tree : {f : Flags} {text : Text} {r q : Tree} → DerivesTree f text r → DerivesTree f text q → q ≡ r
 same_tree a b = let e = whole_unique a.1 b.1 in cc
 
-same_error : {A : Type 0} {k j : Kind} {p q : ℕ} → ◌≡◌ {A = Outcome A} (failed k p) (failed j q) → (j ≡ k) × (q ≡ p)
-same_error e = (cc, cc)
+same_error : {A : Type 0} {f g : Located} → ◌≡◌ {A = Outcome A} (failed f) (failed g) → f ≡ g
+same_error e = cc
 
 apart : {f : Flags} {text : Text} {r : Tree} {k : Kind} (p : ℕ) → DerivesTree f text r → FailsWith f text k p → ⊥
 apart p a (q, b, i) = let e = whole_unique a.1 b in cc
@@ -90,7 +90,8 @@ only_reading (At p k) f text a =
 
     other : (j : Kind) (q : ℕ) → IsErrorOf f text j q → (j ≡ kind_of k) × (q ≡ position_at (bytes text) p)
     other j q (of_reading (r, b, i)) =
-        let same = same_error (whole_unique a b) in (same.0, omega (arith, i, same.1))
+        let same = same_error (whole_unique a b) in
+        (sym (ap (λ (f : Located). f.kind) same), omega (arith, i, ap (λ (f : Located). f.reach) same))
     other j q (of_resolving b some i) = absurd (apart _ b here)
 only_reading OutOfMemory f text a = tt
 

@@ -7,8 +7,7 @@ use Rattle.fancy_lex.specs.Escape.{escape}
 use Rattle.fancy_lex.specs.Escaped as escaped
 use Rattle.fancy_lex.specs.Escaped.{Escape}
 use Rattle.fancy_lex.specs.Located.{Located}
-use Rattle.fancy_lex.specs.ErrorTable.{comment_not_closed, group_too_deep, group_not_closed, unknown_verb}
-use Rattle.fancy_lex.specs.LayoutSteps.{Skipped, rest, failed as open_comment}
+use Rattle.fancy_lex.specs.ErrorTable.{group_too_deep, group_not_closed, unknown_verb}
 use Rattle.fancy_lex.specs.Reading.{Reading, gives, fails, choose}
 use Rattle.fancy_lex.specs.Referred.{Reference, Call}
 use Rattle.fancy_lex.specs.Text.{Text}
@@ -23,7 +22,7 @@ use Rattle.fancy_parts.specs.GroupReference.{named_reference, named_call, begins
 use Rattle.fancy_grammar.specs.Depth.{max_depth}
 use Rattle.fancy_grammar.specs.GroupKind.{GroupKind, capture, flag_group, look, atomic, define, repeater}
 use Rattle.fancy_grammar.specs.Label.{ast_backref, ast_call, ast_condition}
-use Rattle.fancy_grammar.specs.State.{State, at, skipped, Outcome, done, failed_with}
+use Rattle.fancy_grammar.specs.State.{State, at, skipped, after_skipped, Outcome, done, failed}
 use Rattle.fancy_grammar.specs.Tree.{Tree, empty, any, assertion, general_newline, literal, literal_bytes, delegate}
 use Rattle.fancy_grammar.specs.Tree.{keep_out, continue_from_previous_match_end, verb, ast_node}
 use Rattle.fancy_grammar.specs.Verb.{by_word, verb_at}
@@ -41,7 +40,7 @@ pub data AtomStart : Type 0 where
 
 -- no atom can begin here: reading ends with this error
 abbrev pub error_start : Located → AtomStart
-error_start e = read (failed_with e)
+error_start e = read (failed e)
 
 -- the assertion of the start of a line; in Oniguruma mode it is another variant
 abbrev pub start_of_line : Flags → Assertion
@@ -81,7 +80,7 @@ leaf_node (escaped.subroutine_call c) = call_node c
 -- what a reader returns at this state, as the outcome of a leaf
 abbrev pub leaf_outcome : {A : Type 0} → (A → Tree) → State → Reading A → Outcome Tree
 leaf_outcome node s (gives a t) = done (node a) (at s t)
-leaf_outcome node s (fails e) = failed_with e
+leaf_outcome node s (fails e) = failed e
 
 -- an atom of one character, an escape or a class
 abbrev pub leaf_of : State → ℕ → Text → Outcome Tree
@@ -166,17 +165,13 @@ group_start s t =
     by_word ((codes "?", λ u. after_question s u) ∷ (codes "*", λ u. verb_start s u) ∷ []) t
     (of_kind (capture None) (at s t))
 
--- after the parenthesis, and after the layout that follows it
-abbrev pub after_layout : State → Skipped → AtomStart
-after_layout s (rest u) = group_start s u
-after_layout s (open_comment p) = error_start (comment_not_closed p)
-
 -- the start of an atom, inside d groups
 abbrev pub start_of : ℕ → State → Text → AtomStart
 start_of d s [] = nothing
 start_of d s (c ∷ t) =
     if c == code "(" then (
-    if nat_le max_depth (d + 1) then error_start (group_too_deep (c ∷ t)) else after_layout s (skipped (at s t)))
+    if nat_le max_depth (d + 1) then error_start (group_too_deep (c ∷ t))
+    else after_skipped (skipped (at s t)) (group_start s) error_start)
     else if begins_no_atom c then nothing
     else read (leaf_of s c t)
 

@@ -12,18 +12,18 @@ abbrev pub IfParseError : Error → (Kind → ℕ → Type 0) → Type 0
 IfParseError (ParseError p k) P = P (kind_of k) p
 IfParseError OutOfMemory P = Unit {0}
 
--- memory ran out, or the error has this kind and this reach
-abbrev pub IsErrorAt : ReadError → Kind → ℕ → Type 0
-IsErrorAt e kind reach = IfFailed e (λ k q. (k ≡ kind) × (q ≡ reach))
+-- memory ran out, or P holds for the error's reach and kind
+abbrev pub IfLocated : ReadError → (Located → Type 0) → Type 0
+IfLocated e P = IfFailed e (λ k q. P (record { reach = q; kind = k }))
 
 -- memory ran out, or it is this error
 abbrev pub IsThisError : ReadError → Located → Type 0
-IsThisError e f = IsErrorAt e f.kind f.reach
+IsThisError e f = IfLocated e (λ g. g ≡ f)
 
 -- memory ran out, or P holds for the error as an outcome
 abbrev pub IsErrorAmong : {A : Type 0} → ReadError → (Outcome A → Type 0) → Type 0
-IsErrorAmong e P = IfFailed e (λ k q. P (failed k q))
+IsErrorAmong e P = IfLocated e (λ g. P (failed g))
 
 -- memory ran out, or it is the error in the option
 abbrev pub IsErrorIn : ReadError → Option Located → Type 0
-IsErrorIn e o = IfFailed e (λ k q. o ≡ Some (record { reach = q; kind = k }))
+IsErrorIn e o = IfLocated e (λ g. o ≡ Some g)

@@ -3,14 +3,15 @@
 -- it has a rule of its own for its error.
 -- Layout, classes, the letters of flag groups, boundaries, hex codes, numbers, names and id references are read by
 -- functions in the premises. Those that loop have a relation too; `Premises` states that the two agree.
-use Rattle.std.specs.Prelude.{◌≡◌, ℕ, ◌+◌, ◌==◌, Bool, true, false, not, ◌&&◌, List, [], ◌∷◌, Some, None}
+use Rattle.std.specs.Prelude.{◌≡◌, ℕ, ◌+◌, ◌==◌, Bool, true, false, not, ◌&&◌, List, [], ◌∷◌, length, Some, None}
 use Rattle.std.specs.Prelude.{if◌then◌else◌}
 use Prim.Native.Char.{code}
 use Rattle.fancy_lex.specs.Characters.{bar}
-use Rattle.fancy_lex.specs.Located.{Kind}
+use Rattle.fancy_lex.specs.Located.{Kind, Located}
 use Rattle.fancy_lex.specs.ErrorTable.{comment_not_closed, group_not_closed, bar_for_close_paren, close_paren_left_over}
 use Rattle.fancy_lex.specs.ErrorTable.{body_missing}
 use Rattle.fancy_lex.specs.LayoutSteps.{rest, failed as open_comment}
+use Rattle.fancy_lex.specs.Reading.{choose}
 use Rattle.fancy_lex.specs.Text.{Text, bytes, IsPositionOf, reach_of, strip}
 use Rattle.fancy_lex.specs.declared.flags.Flags.{Flags}
 use Rattle.fancy_grammar.specs.AtomStart.{AtomStart, nothing, read, of_kind, condition, body, absent_branch, atom_start}
@@ -18,21 +19,21 @@ use Rattle.fancy_grammar.specs.GroupKind.{group_node}
 use Rattle.fancy_grammar.specs.Join.{join, choice, is_empty}
 use Rattle.fancy_grammar.specs.Label.{AstReference, ast_condition}
 use Rattle.fancy_grammar.specs.Quantified.{quants}
-use Rattle.fancy_grammar.specs.State.{ends, skipped, State, at, Outcome, done, failed, failed_with, and_then, mapped}
+use Rattle.fancy_grammar.specs.State.{ends, skipped, State, at, Outcome, done, failed, and_then, mapped}
 use Rattle.fancy_grammar.specs.Tree.{Tree, more_trees, list_of, empty, alt, conditional, clear, stopper}
 use Rattle.fancy_grammar.specs.Tree.{expression, ast_node}
 
 -- ---- the end of a part, and its outcome
 
--- The tree, if the closing parenthesis follows. Otherwise there is an error, at the end of the text or at a bar; the
--- bar can only follow the second branch of an absent expression, since an alternation continues after a bar.
-abbrev pub closed_at : Tree → State → Text → Outcome Tree
-closed_at r s [] = failed_with group_not_closed
-closed_at r s (c ∷ t) =
-    if c == code ")" then done r (at s t) else failed_with (bar_for_close_paren s.rest)
+-- the error where no closing parenthesis follows: at the end of the text or at a bar; the bar can only follow the second
+-- branch of an absent expression, since an alternation continues after a bar
+abbrev pub not_closed : Text → Located
+not_closed [] = group_not_closed
+not_closed t = bar_for_close_paren t
 
+-- the tree, if the closing parenthesis follows
 abbrev pub closed : Tree → State → Outcome Tree
-closed r s = closed_at r s s.rest
+closed r s = choose (strip (code ")") s.rest) (λ t. done r (at s t)) (failed (not_closed s.rest))
 
 -- whether the tree is a condition on a group, before it is resolved
 abbrev pub is_condition_node : AstReference → Bool
@@ -57,7 +58,7 @@ branches_of r = (r, empty)
 -- condition on a group may have no body
 abbrev pub conditional_after : Tree → ℕ → Tree → State → Outcome Tree
 conditional_after c left r s =
-    if bytes s.rest == left && not (is_condition c) then failed_with (body_missing s.rest)
+    if bytes s.rest == left && not (is_condition c) then failed (body_missing s.rest)
     else closed (conditional_of c (branches_of r).0 (branches_of r).1) s
 
 -- the node of the one branch after `(?~|`: a clear if it is empty, and otherwise a stopper
@@ -80,7 +81,7 @@ after_atom _ f q = restored f q
 
 -- The variables of a rule are in braces before it: d is how many groups are open; s is the state at its start, t and v
 -- are later states, in text order, and u is a later text; r, a and c are trees, and c is a condition; o and q are
--- outcomes, k and p the kind and the reach of an error; e is the start of an atom, and h the kind of a group.
+-- outcomes, and e is an error; k is the start of an atom, and h the kind of a group.
 
 mutual
   -- branches with bars between
@@ -91,7 +92,7 @@ mutual
     last : {d s t r : _} → Branch d s (done r t) → strip bar t.rest ≡ None → Branches d s (done (r ∷ []) t)
     more : {d s t u r q : _} → Branch d s (done r t) → strip bar t.rest ≡ Some u → Branches d (at t u) q →
         Branches d s (mapped (r ∷◌) q)
-    branch_error : {d s k p : _} → Branch d s (failed k p) → Branches d s (failed k p)
+    branch_error : {d s e : _} → Branch d s (failed e) → Branches d s (failed e)
 
   -- pieces up to where a branch ends
   pub data Branch : ℕ → State → Outcome Tree → Type 0 where
@@ -101,16 +102,16 @@ mutual
     stop : {d : ℕ} {s : State} → ends s.rest ≡ true → Pieces d s (done [] s)
     next : {d t r q : _} {s : State} → ends s.rest ≡ false → Piece d s (done r t) → Pieces d t q →
         Pieces d s (mapped (r ∷◌) q)
-    piece_error : {d k p : _} {s : State} → ends s.rest ≡ false → Piece d s (failed k p) → Pieces d s (failed k p)
+    piece_error : {d e : _} {s : State} → ends s.rest ≡ false → Piece d s (failed e) → Pieces d s (failed e)
 
   -- layout, and an atom under the quantifiers that follow it
   pub data Piece : ℕ → State → Outcome Tree → Type 0 where
     piece : {d s u q : _} → skipped s ≡ rest u → Atom d (at s u) q → Piece d s (and_then q (quants d (bytes s.rest)))
-    layout_error : {d s p : _} → skipped s ≡ open_comment p → Piece d s (failed_with (comment_not_closed p))
+    layout_error : {d s p : _} → skipped s ≡ open_comment p → Piece d s (failed (comment_not_closed p))
 
   -- the start of an atom decides which of its rules applies
   pub data Atom : ℕ → State → Outcome Tree → Type 0 where
-    atom : {d s e q : _} → atom_start d s ≡ e → AtomOf e d s q → Atom d s (after_atom e s.flags q)
+    atom : {d s k q : _} → atom_start d s ≡ k → AtomOf k d s q → Atom d s (after_atom k s.flags q)
 
   pub data AtomOf : AtomStart → ℕ → State → Outcome Tree → Type 0 where
     a_nothing : {d s : _} → AtomOf nothing d s (done empty s)
@@ -119,14 +120,14 @@ mutual
         AtomOf (of_kind h t) d s (mapped (group_node h (reach_of s.rest)) q)
     -- a conditional: its condition's parentheses, and its body
     a_condition : {d s t v c o : _} → Inside d t (done c v) → Body d c v o → AtomOf (condition t) d s o
-    condition_error : {d s t k p : _} → Inside d t (failed k p) → AtomOf (condition t) d s (failed k p)
+    condition_error : {d s t e : _} → Inside d t (failed e) → AtomOf (condition t) d s (failed e)
     a_body : {d s t c o : _} → Body d c t o → AtomOf (body c t) d s o
     -- the two branches of an absent expression; the one branch of a stopper or a clear
     two_branches : {d s t v u a q : _} → Branch (d + 1) t (done a v) → strip bar v.rest ≡ Some u →
         Branch (d + 1) (at v u) q → AtomOf (absent_branch t) d s (and_then q (λ r. closed (expression a r)))
     one_branch : {d s t v a : _} → Branch (d + 1) t (done a v) → strip bar v.rest ≡ None →
         AtomOf (absent_branch t) d s (closed (clear_or_stopper a) v)
-    absent_error : {d s t k p : _} → Branch (d + 1) t (failed k p) → AtomOf (absent_branch t) d s (failed k p)
+    absent_error : {d s t e : _} → Branch (d + 1) t (failed e) → AtomOf (absent_branch t) d s (failed e)
 
   -- the contents of a group, one level deeper, with its closing parenthesis
   pub data Inside : ℕ → State → Outcome Tree → Type 0 where
@@ -143,12 +144,8 @@ abbrev pub start : Flags → Text → State
 start f text = record { flags = f; rest = text }
 
 -- the tree, if nothing is left; what is left can only begin with a closing parenthesis
-abbrev pub ended_at : Tree → State → Text → Outcome Tree
-ended_at r s [] = done r s
-ended_at r s (c ∷ t) = failed_with (close_paren_left_over s.rest)
-
 abbrev pub ended : Tree → State → Outcome Tree
-ended r s = ended_at r s s.rest
+ended r s = if length s.rest == 0 then done r s else failed (close_paren_left_over s.rest)
 
 -- a whole text, under the flags that the caller gives
 pub data Whole : Flags → Text → Outcome Tree → Type 0 where
@@ -160,4 +157,4 @@ DerivesTree f text r = (t : State) × Whole f text (done r t)
 
 -- reading the text ends with an error of this kind, at this position
 abbrev pub FailsWith : Flags → Text → Kind → ℕ → Type 0
-FailsWith f text k p = (q : ℕ) × Whole f text (failed k q) × IsPositionOf (bytes text) q p
+FailsWith f text k p = (q : ℕ) × Whole f text (failed (record { reach = q; kind = k })) × IsPositionOf (bytes text) q p

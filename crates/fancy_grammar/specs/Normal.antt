@@ -32,7 +32,7 @@ whole_of _ _ = None
 
 abbrev pub whole_leaf : Outcome Tree → Option Tree
 whole_leaf (done r s) = whole_of s.rest r
-whole_leaf (failed k p) = None
+whole_leaf (failed e) = None
 
 -- the Delegate that this text is read as, if it is one whole class or one whole class escape
 unfoldable pub class_of : Flags → Text → Option Tree

@@ -2,8 +2,7 @@
 use Rattle.std.specs.Prelude.{ℕ, zero, suc, ◌+◌, ◌==◌, Bool, true, false, not, ◌&&◌, nat_lt, Option, Some, None}
 use Rattle.std.specs.Prelude.{if◌then◌else◌}
 use Prim.Native.Char.{code}
-use Rattle.fancy_lex.specs.ErrorTable.{comment_not_closed, not_repeatable, quantifier_too_deep}
-use Rattle.fancy_lex.specs.LayoutSteps.{Skipped, rest, failed as open_comment}
+use Rattle.fancy_lex.specs.ErrorTable.{not_repeatable, quantifier_too_deep}
 use Rattle.fancy_lex.specs.Reading.{choose}
 use Rattle.fancy_lex.specs.Text.{Text, bytes, strip}
 use Rattle.fancy_lex.specs.declared.flags.Flags.{Flags}
@@ -11,7 +10,7 @@ use Rattle.fancy_parts.specs.Quantifier.{counts}
 use Rattle.fancy_parts.specs.declared.counts.Counts.{Counts}
 use Rattle.fancy_grammar.specs.Depth.{max_depth}
 use Rattle.fancy_grammar.specs.Join.{is_empty}
-use Rattle.fancy_grammar.specs.State.{skipped, State, at, Outcome, done, failed_with, and_then, mapped}
+use Rattle.fancy_grammar.specs.State.{skipped, after_skipped, State, at, Outcome, done, failed, and_then, mapped}
 use Rattle.fancy_grammar.specs.Label as label
 use Rattle.fancy_grammar.specs.Tree.{Tree, leaf, over, repeat, atomic_group}
 
@@ -62,14 +61,10 @@ after_lazy s c lazy t =
     choose (strip (code "+") t) (λ u. done (record { lazy = lazy; possessive = true }) (at s u)) plain
     else plain
 
--- after the counts: layout, and then the lazy operator
-abbrev pub suffix_at : State → Counts → Skipped → Outcome Suffix
-suffix_at s c (rest t) = choose (strip (code "?") t) (after_lazy s c true) (after_lazy s c false t)
-suffix_at s c (open_comment p) = failed_with (comment_not_closed p)
-
--- the operators after the counts
+-- after the counts: layout, and then the operators
 abbrev pub suffix : State → Counts → Outcome Suffix
-suffix s c = suffix_at s c (skipped s)
+suffix s c =
+    after_skipped (skipped s) (λ t. choose (strip (code "?") t) (after_lazy s c true) (after_lazy s c false t)) failed
 
 -- the tree under these counts; if it cannot be repeated, the error is at the operator or the closing brace
 abbrev pub with_counts : ℕ → Tree → State → Option (Counts × Text) → Outcome Tree
@@ -77,16 +72,12 @@ with_counts left a s None = done a s
 with_counts left a s (Some (c, t)) =
     if is_repeatable s.flags a then mapped (λ m. quantified s.flags c m a) (suffix (at s t) c)
     else if is_dropped s.flags left a t then mapped (λ m. a) (suffix (at s t) c)
-    else failed_with (not_repeatable t)
-
--- after the layout that precedes a quantifier
-abbrev pub quant_at : ℕ → Tree → State → Skipped → Outcome Tree
-quant_at left a s (rest t) = with_counts left a (at s t) (counts s.flags.ignore_space t)
-quant_at left a s (open_comment p) = failed_with (comment_not_closed p)
+    else failed (not_repeatable t)
 
 -- layout, and the tree under the quantifier that follows it, or the tree itself if no quantifier follows
 unfoldable pub quant : ℕ → Tree → State → Outcome Tree
-quant left a s = quant_at left a s (skipped s)
+quant left a s =
+    after_skipped (skipped s) (λ t. with_counts left a (at s t) (counts s.flags.ignore_space t)) failed
 
 -- no byte was read between the states
 abbrev pub is_unmoved : State → State → Bool
@@ -99,7 +90,7 @@ may_count (suc k) d = nat_lt (d + 1) max_depth
 
 -- a quantifier that counts, where none more may
 abbrev pub too_many : Tree → State → Outcome Tree
-too_many b t = failed_with (quantifier_too_deep t.rest)
+too_many b t = failed (quantifier_too_deep t.rest)
 
 -- one adjacent quantifier; if it reads a byte it counts, and `more` reads those after it
 abbrev pub one_adjacent : (Tree → State → Outcome Tree) → Tree → State → Outcome Tree

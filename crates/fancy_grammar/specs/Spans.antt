@@ -106,7 +106,7 @@ solid_spans r x xs = if is_empty r then xs else more_spans x xs
 -- the reach at which what is read ends, or the reach of the error
 abbrev pub end_of : {A : Type 0} → Outcome A → ℕ
 end_of (done a t) = reach_of t.rest
-end_of (failed k p) = p
+end_of (failed e) = e.reach
 
 -- from a state to the end of what is read from it
 abbrev pub between : {A : Type 0} → State → Outcome A → Span
@@ -115,7 +115,7 @@ between s o = record { start = reach_of s.rest; end = end_of o }
 -- f applied to what is read, or x for an error
 abbrev pub if_done : {A B : Type 0} → Outcome A → (A → State → B) → B → B
 if_done (done a t) f x = f a t
-if_done (failed k p) f x = x
+if_done (failed e) f x = x
 
 -- ---- groups and conditionals
 

@@ -1,8 +1,9 @@
 -- The state of the parser, and the outcome of a part.
-use Rattle.std.specs.Prelude.{ℕ, Bool, true, [], ◌∷◌}
+use Rattle.std.specs.Prelude.{Bool, true, [], ◌∷◌}
 use Rattle.fancy_lex.specs.Characters.{◌∈◌}
-use Rattle.fancy_lex.specs.Located.{Kind, Located}
-use Rattle.fancy_lex.specs.LayoutSteps.{layout, Skipped}
+use Rattle.fancy_lex.specs.Located.{Located}
+use Rattle.fancy_lex.specs.ErrorTable.{comment_not_closed}
+use Rattle.fancy_lex.specs.LayoutSteps.{layout, Skipped, rest, failed as open_comment}
 use Rattle.fancy_lex.specs.Text.{Text}
 use Rattle.fancy_lex.specs.declared.flags.Flags.{Flags}
 
@@ -19,24 +20,25 @@ at s t = record s { rest = t }
 abbrev pub skipped : State → Skipped
 skipped s = layout s.flags.ignore_space s.rest
 
+-- f of the text after the layout, or g of the error of an unclosed comment
+abbrev pub after_skipped : {B : Type 0} → Skipped → (Text → B) → (Located → B) → B
+after_skipped (rest t) f g = f t
+after_skipped (open_comment p) f g = g (comment_not_closed p)
+
 -- a branch ends here: at the end, a bar or a closing parenthesis
 abbrev pub ends : Text → Bool
 ends [] = true
 ends (c ∷ t) = c ∈ "|)"
 
--- what is read, with the state after it; or the error that ends the reading, with its reach
+-- what is read, with the state after it; or the error that ends the reading
 pub data Outcome (A : Type 0) : Type 0 where
   done : A → State → Outcome A
-  failed : Kind → ℕ → Outcome A
-
--- this error, as an outcome
-abbrev pub failed_with : {A : Type 0} → Located → Outcome A
-failed_with e = failed e.kind e.reach
+  failed : Located → Outcome A
 
 -- one part after another: an error of the first is the error of both
 abbrev pub and_then : {A B : Type 0} → Outcome A → (A → State → Outcome B) → Outcome B
 and_then (done a s) f = f a s
-and_then (failed k p) f = failed k p
+and_then (failed e) f = failed e
 
 -- the outcome with f applied to what is read
 abbrev pub mapped : {A B : Type 0} → (A → B) → Outcome A → Outcome B

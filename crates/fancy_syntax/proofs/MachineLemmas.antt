@@ -1,12 +1,13 @@
 -- How each step of the loop keeps the contents of the stack valid.
 use Rattle.std.proofs.Common.{◌≡◌, ◌≢◌, ◌==◌, if◌then◌else◌, tests, rules, ℕ, ◌+◌, Bool, true, false}
 use Rattle.std.proofs.Common.{true≢false, List, [], ◌∷◌, ◌++◌, length, Some, None, Result, Ok, Err, refl, sym, ap, ◌∙◌}
-use Rattle.std.proofs.Common.{subst, append-nil, arith, ◌<◌}
+use Rattle.std.proofs.Common.{subst, append-nil, arith, ◌<◌, Option}
+use Rattle.std.proofs.lemmas.Bool.{cond-true, cond-false}
 use Rattle.std.proofs.lemmas.Bool.Decides.{nat_tests}
 use Rattle.std.proofs.lemmas.List.{length_push, append_assoc}
 use Prim.Native.Char.{code}
 use Rattle.fancy_lex.specs.Characters.{bar}
-use Rattle.fancy_lex.specs.Located.{Kind}
+use Rattle.fancy_lex.specs.Located.{Located}
 use Rattle.fancy_lex.specs.ErrorTable.{bar_for_close_paren, body_missing}
 use Rattle.fancy_lex.specs.LayoutSteps.{rest, failed as open_comment}
 use Rattle.fancy_lex.specs.Text.{Text, bytes, reach_of, strip}
@@ -14,10 +15,11 @@ use Rattle.fancy_lex.specs.declared.error.ReadError.{ReadError}
 use Rattle.fancy_lex.specs.declared.flags.Flags.{Flags}
 use Rattle.fancy_lex.specs.declared.error.ReadError.TheVariants.{At}
 use Rattle.fancy_lex.specs.declared.error.ParseError.TheVariants.{UnclosedOpenParen}
-use Rattle.fancy_grammar.specs.Grammar.{Alternation, alternation, Branches, last, branch_error, Branch, branch, stop}
+use Rattle.fancy_lex.specs.Reading.{choose}
+use Rattle.fancy_grammar.specs.Grammar.{Alternation, alternation, last, branch_error, branch, stop}
 use Rattle.fancy_grammar.specs.Grammar.{piece_error, Piece, piece, layout_error, Atom, atom, Inside, inside, the_body}
-use Rattle.fancy_grammar.specs.Grammar.{condition_error, two_branches, one_branch, absent_error, closed, closed_at}
-use Rattle.fancy_grammar.specs.Grammar.{more, next, restored, conditional_after, clear_or_stopper, Pieces, Branches}
+use Rattle.fancy_grammar.specs.Grammar.{condition_error, two_branches, one_branch, absent_error, closed, not_closed}
+use Rattle.fancy_grammar.specs.Grammar.{more, next, restored, conditional_after, clear_or_stopper}
 use Rattle.fancy_grammar.specs.Grammar as grammar
 use Rattle.fancy_grammar.specs.Join.{solid, one_or, choice}
 use Rattle.fancy_grammar.specs.Spans.{end_of}
@@ -45,7 +47,7 @@ use Rattle.fancy_grammar.specs.Depth.{max_depth}
 use Rattle.fancy_grammar.specs.GroupKind.{group_node}
 use Rattle.fancy_grammar.specs.Quantified.{quants}
 use Rattle.fancy_grammar.specs.Errors.{IsErrorAmong}
-use Rattle.fancy_grammar.specs.State.{ends, skipped, State, at, Outcome, done, failed, failed_with, and_then, mapped}
+use Rattle.fancy_grammar.specs.State.{ends, skipped, State, at, Outcome, done, failed, and_then, mapped}
 use Rattle.fancy_grammar.specs.Tree.{Tree, concat, empty, expression}
 use Rattle.fancy_syntax.specs.declared.grammar.frame.Frame.{Frame}
 use Rattle.fancy_syntax.specs.declared.grammar.frame.PieceStart.{PieceStart}
@@ -82,7 +84,7 @@ steps_piece {d} {left} s {t} {u} {a} {m} l n (Ok (step.Piece tree)) v i k x h j 
 steps_piece s l n (Ok (step.Open open_group)) v i k x h j = absurd h
 steps_piece {d} {left} s {t} {a = tree} l n (Err e) v i k (x, y) h j =
     IsErrorAmong-map (λ o. quants d left tree t ≡ o) (Piece d s) e
-    (λ c p g. piece_as k x (subst (λ z. quants d z tree t ≡ failed c p) i g)) h
+    (λ f g. piece_as k x (subst (λ z. quants d z tree t ≡ failed f) i g)) h
 
 -- the start of the atom decides what a step records
 pub step_start : (d : ℕ) (s : State) {u : Text} {k : AtomStart} (l : Log) → skipped s ≡ rest u →
@@ -137,8 +139,8 @@ steps_layout d s e i l = rw i (layout_error l)
 -- ---- open parts
 
 -- an error inside is the error of the piece
-pub opens_error : {d p : ℕ} {s v : State} {k : Kind} {o : OpenPart} {l m : Log} (n : Log) → OpensPart d s l o v m →
-    Part o (d + 1) v (failed k p) m n → Piece d s (failed k p)
+pub opens_error : {d : ℕ} {s v : State} {error : Located} {o : OpenPart} {l m : Log} (n : Log) → OpensPart d s l o v m →
+    Part o (d + 1) v (failed error) m n → Piece d s (failed error)
 opens_error n (a_group l e) (r, x) = piece l (atom e (grammar.a_group (inside r)))
 opens_error n (a_condition l e) (r, x) = piece l (atom e (condition_error (inside r)))
 opens_error n (a_body l e) (r, x) = piece l (atom e (grammar.a_body (the_body r)))
@@ -148,20 +150,16 @@ opens_error n (after_branch (a_branch l e) b f) (r, x) = piece l (atom e (two_br
 
 -- a closing parenthesis is taken whatever the tree
 closed_through : (f : Tree → Tree) (r : Tree) (s : State) → mapped f (closed r s) ≡ closed (f r) s
-closed_through f r s = by_text s.rest
+closed_through f r s = by_paren (strip (code ")") s.rest)
   where
-    by_test : (u : Text) (b : Bool) →
-        mapped f (if b then done r (at s u) else failed_with (bar_for_close_paren s.rest))
-        ≡ (if b then done (f r) (at s u) else failed_with (bar_for_close_paren s.rest))
-    by_test u true = refl
-    by_test u false = refl
-
-    by_text : (u : Text) → mapped f (closed_at r s u) ≡ closed_at (f r) s u
-    by_text [] = refl
-    by_text (c ∷ u) = by_test u (c == code ")")
+    by_paren : (o : Option Text) →
+        mapped f (choose o (λ u. done r (at s u)) (failed (not_closed s.rest)))
+        ≡ choose o (λ u. done (f r) (at s u)) (failed (not_closed s.rest))
+    by_paren (Some u) = refl
+    by_paren None = refl
 
 pub ended_without_body : (p : OpenPart) (r : Tree) (s : State) → lacks_body p s ≡ true →
-    ended_part p r s ≡ failed_with (body_missing s.rest)
+    ended_part p r s ≡ failed (body_missing s.rest)
 ended_without_body p r s e = rw e refl
 
 pub ended_closed : (p : OpenPart) (r : Tree) (s : State) → lacks_body p s ≡ false →
@@ -235,13 +233,13 @@ condition_ended n r w (a_branch l e) x g h = absurd (true≢false (sym g))
 condition_ended n r w (after_branch x y z) a g h = absurd (true≢false (sym g))
 
 -- an error at the end of a part is the error of the piece
-pub ended_error : {d q : ℕ} {s v : State} {k : Kind} {p : OpenPart} {l m : Log} (n : Log) (r : Tree) (w : State) →
+pub ended_error : {d : ℕ} {s v : State} {error : Located} {p : OpenPart} {l m : Log} (n : Log) (r : Tree) (w : State) →
     OpensPart d s l p v m → Part p (d + 1) v (done r w) m n →
-    MayEnd p w → ended_part p r w ≡ failed k q → Piece d s (failed k q)
-ended_error {d} {q} {s} {k} {p} {l} n r w x y f h = by_goes (has_body_next p) refl
+    MayEnd p w → ended_part p r w ≡ failed error → Piece d s (failed error)
+ended_error {d} {s} {error} {p} {l} n r w x y f h = by_goes (has_body_next p) refl
   where
     of_condition : {v : State} {p : OpenPart} {m : Log} → OpensPart d s l p v m → Part p (d + 1) v (done r w) m n →
-        has_body_next p ≡ true → ended_part p r w ≡ failed k q → Piece d s (failed k q)
+        has_body_next p ≡ true → ended_part p r w ≡ failed error → Piece d s (failed error)
     of_condition {v} (a_condition l e) (x, y) g h =
         piece l (atom e (condition_error (subst (Inside d v) h (inside x))))
     of_condition (a_group l e) x g h = absurd (true≢false (sym g))
@@ -250,7 +248,7 @@ ended_error {d} {q} {s} {k} {p} {l} n r w x y f h = by_goes (has_body_next p) re
     of_condition (a_branch l e) x g h = absurd (true≢false (sym g))
     of_condition (after_branch x y z) a g h = absurd (true≢false (sym g))
 
-    by_goes : (b : Bool) → has_body_next p ≡ b → Piece d s (failed k q)
+    by_goes : (b : Bool) → has_body_next p ≡ b → Piece d s (failed error)
     by_goes true g = of_condition x y g h
     by_goes false g =
         let (u, i, a) = opens_ended n r w x y g f in piece i (subst (Atom d (at s u)) (ap (restored s.flags) h) a.0)
@@ -409,32 +407,32 @@ reading_end {d} {s} {t} {ps} {l} {m} (second a) h e f =
     subst (λ c. BranchTo d s (done (choice (c ++ joined ps ∷ [])) t) l (choice_closed c ps t m)) (sym (h.one refl).1)
     (reading_one h refl e)
 
-reading_branch_error : {d q : ℕ} {p : OpenPart} {s t : State} {k : Kind} {bs ps : List Tree} {l m : Log}
+reading_branch_error : {d : ℕ} {p : OpenPart} {s t : State} {error : Located} {bs ps : List Tree} {l m : Log}
     (h : ReadSoFar d p s l bs ps t m) → ends t.rest ≡ false →
-    Piece d t (failed k q) → (n : Log) × BranchTo d h.begin (failed k q) h.before n
-reading_branch_error {q} {k} {m} h e a =
-    let (p, x) = h.branch (failed k q) (piece_recorded a m) (piece_error e a, refl) in (_, (branch p, x))
+    Piece d t (failed error) → (n : Log) × BranchTo d h.begin (failed error) h.before n
+reading_branch_error {error} {m} h e a =
+    let (p, x) = h.branch (failed error) (piece_recorded a m) (piece_error e a, refl) in (_, (branch p, x))
 
-reading_error : {d q : ℕ} {s t : State} {k : Kind} {bs ps : List Tree} {l m : Log} (p : OpenPart) →
+reading_error : {d : ℕ} {s t : State} {error : Located} {bs ps : List Tree} {l m : Log} (p : OpenPart) →
     ReadSoFar d p s l bs ps t m → ends t.rest ≡ false →
-    Piece d t (failed k q) → (n : Log) × Part p d s (failed k q) l n
-reading_error {d} {q} {s} {k} {bs} {l} p h e a = by_part p h.one
+    Piece d t (failed error) → (n : Log) × Part p d s (failed error) l n
+reading_error {d} {s} {error} {bs} {l} p h e a = by_part p h.one
   where
-    f : (n : Log) × BranchTo d h.begin (failed k q) h.before n
+    f : (n : Log) × BranchTo d h.begin (failed error) h.before n
     f = reading_branch_error h e a
 
-    several : (n : Log) × AlternationTo d s (failed k q) l n
-    several = let (b, x) = h.all (failed k q) f.0 (branch_error f.1.0, f.1.1) in (_, (alternation b, x))
+    several : (n : Log) × AlternationTo d s (failed error) l n
+    several = let (b, x) = h.all (failed error) f.0 (branch_error f.1.0, f.1.1) in (_, (alternation b, x))
 
-    only : (h.begin ≡ s) × (bs ≡ []) × (h.before ≡ l) → (n : Log) × BranchTo d s (failed k q) l n
+    only : (h.begin ≡ s) × (bs ≡ []) × (h.before ≡ l) → (n : Log) × BranchTo d s (failed error) l n
     only i = (
       f.0,
-      subst (λ l. BranchTo d s (failed k q) l f.0) i.2
-          (subst (λ (x : State). BranchTo d x (failed k q) h.before f.0) i.0 f.1),
+      subst (λ l. BranchTo d s (failed error) l f.0) i.2
+          (subst (λ (x : State). BranchTo d x (failed error) h.before f.0) i.0 f.1),
     )
 
     by_part : (p : OpenPart) → (holds_one p ≡ true → (h.begin ≡ s) × (bs ≡ []) × (h.before ≡ l)) →
-        (n : Log) × Part p d s (failed k q) l n
+        (n : Log) × Part p d s (failed error) l n
     by_part top i = several
     by_part (group _ _) i = several
     by_part condition i = several
@@ -445,9 +443,9 @@ reading_error {d} {q} {s} {k} {bs} {l} p h e a = by_part p h.one
 -- ---- the stack of open groups
 
 -- an error in the innermost part is the error of the whole text
-levels_error : {start : State} {none : Log} {d p : ℕ} {s : State} {k : Kind} {fs : List Frame} {ts : List Tree}
+levels_error : {start : State} {none : Log} {d : ℕ} {s : State} {error : Located} {fs : List Frame} {ts : List Tree}
     {o : OpenPart} {l : Log} (n : Log) → OpenGroups start none fs ts o d s l →
-    Part o d s (failed k p) l n → Alternation 0 start (failed k p)
+    Part o d s (failed error) l n → Alternation 0 start (failed error)
 levels_error n outermost (r, x) = r
 levels_error n (inner f e x l h i m j) r =
     let (k, y) = reading_error (part_of f.open_group) h m (opens_error n j r) in levels_error k l y
@@ -555,12 +553,12 @@ running_began begun h = record {
   reading = h.reading;
 }
 
-pub running_error : {start t : State} {none l : Log} {stack : List Frame} {f : Frame} {trees : List Tree} {p : ℕ}
-    {k : Kind} (h : Running start none stack f trees t l) → ends t.rest ≡ false →
-    Piece (length stack) t (failed k p) → Alternation 0 start (failed k p)
-running_error {t} {f} {p} {k} h e a =
+pub running_error : {start t : State} {none l : Log} {stack : List Frame} {f : Frame} {trees : List Tree}
+    {error : Located} (h : Running start none stack f trees t l) → ends t.rest ≡ false →
+    Piece (length stack) t (failed error) → Alternation 0 start (failed error)
+running_error {t} {f} {error} h e a =
     let (n, x) = reading_error (part_of f.open_group) h.reading e
-    (subst (λ d. Piece d t (failed k p)) (sym h.is_depth) a) in
+    (subst (λ d. Piece d t (failed error)) (sym h.is_depth) a) in
     levels_error n h.levels x
 
 pub running_piece : {start t v : State} {none l m : Log} {stack : List Frame} {f : Frame} {trees : List Tree} {r : Tree}
@@ -606,8 +604,8 @@ running_leaf {start} {t} {u} {v} {none} {l} {stack} {f} {trees} {r} {q} all h p 
 
 -- an error in its quantifiers is the error of the whole text
 pub running_leaf_error : {start t u : State} {none l : Log} {stack : List Frame} {f : Frame} {trees : List Tree}
-    {r : Tree} {p : ℕ} {k : Kind} → Running start none stack f trees t l → IsPlainLeaf t r u →
-    quants (length stack) (bytes t.rest) r u ≡ failed k p → Alternation 0 start (failed k p)
+    {r : Tree} {error : Located} → Running start none stack f trees t l → IsPlainLeaf t r u →
+    quants (length stack) (bytes t.rest) r u ≡ failed error → Alternation 0 start (failed error)
 running_leaf_error h p e = running_error h p.more (piece_as p.no_layout (atom (p.leaf _) a_read) e)
 
 -- a part is opened in the piece that began there
@@ -715,32 +713,27 @@ running_bar {start} {t} {none} {l = c} {u} {stack} {f} all g h e b x i j =
 pub closed_here : (r : Tree) (t : State) (c : ℕ) (u : Text) → t.rest ≡ c ∷ u → ends t.rest ≡ true →
     strip bar t.rest ≡ None → closed r t ≡ done r (at t u)
 closed_here r t c u e h n =
-    ap (closed_at r t) e ∙ same (c == code ")") (by_bar (rw e at h) (rw e at n))
+    ap (λ o. choose o (λ v. done r (at t v)) (failed (not_closed t.rest)))
+    (ap (strip (code ")")) e ∙ cond-true _ _ _ (by_bar (rw e at h) (rw e at n)))
   where
     by_bar : ends (c ∷ u) ≡ true → strip bar (c ∷ u) ≡ None → (c == code ")") ≡ true
     by_bar h n = grind (arith, nat_tests)
 
-    same : (b : Bool) → b ≡ true → (if b then done r (at t u) else failed_with (bar_for_close_paren t.rest))
-        ≡ done r (at t u)
-    same true i = refl
-    same false i = absurd (true≢false (sym i))
-
 -- a character other than the closing parenthesis follows
 closed_other : (r : Tree) (t : State) (c : ℕ) (u : Text) → t.rest ≡ c ∷ u → c ≢ code ")" →
-    closed r t ≡ failed_with (bar_for_close_paren t.rest)
-closed_other r t c u e h = ap (closed_at r t) e ∙ other (c == code ")") (search (tests, rules))
-  where
-    other : (b : Bool) → b ≡ false → (if b then done r (at t u) else failed_with (bar_for_close_paren t.rest))
-        ≡ failed_with (bar_for_close_paren t.rest)
-    other true i = absurd (true≢false i)
-    other false i = refl
+    closed r t ≡ failed (bar_for_close_paren t.rest)
+closed_other r t c u e h =
+    let other : (c == code ")") ≡ false = search (tests, rules) in
+    ap (λ o. choose o (λ v. done r (at t v)) (failed (not_closed t.rest)))
+    (ap (strip (code ")")) e ∙ cond-false _ _ _ other)
+    ∙ rw e refl
 
 bar_does_not_close : bar ≢ code ")"
 bar_does_not_close e = omega (arith, e)
 
-second_error : {d p : ℕ} {start s t : State} {none l m : Log} {k : Kind} {a r : Tree} {fs : List Frame}
+second_error : {d : ℕ} {start s t : State} {none l m : Log} {error : Located} {a r : Tree} {fs : List Frame}
     {ts : List Tree} → OpenGroups start none fs ts (second a) d s l → BranchTo d s (done r t) l m →
-    closed (expression a r) t ≡ failed k p → Alternation 0 start (failed k p)
+    closed (expression a r) t ≡ failed error → Alternation 0 start (failed error)
 second_error {t} {a} {r} (inner f i y l h m j x) b e =
     let (n, z) = reading_error (part_of f.open_group) h j (ended_error _ r t x b (λ _ z. absurd (true≢false z)) e) in
     levels_error n l z

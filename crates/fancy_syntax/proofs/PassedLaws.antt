@@ -112,7 +112,7 @@ quant_passed a s l =
         (layout_passed (at s t) n)) (layout_passed (at s t) n)).passed ≡ n.passed ++ comments_at (at s t)
     by_operators c t (done m v) =
         wrapped_passed (quantifier_end t m v) (is_swapped s.flags c || m.possessive) (layout_passed (at s t) n)
-    by_operators c t (failed k p) = refl
+    by_operators c t (failed e) = refl
 
     by_ignored : (c : Counts) (t : Text) (o : Outcome Suffix) →
         (let k = layout_passed (at s t) (text_dropped (layout_end s) (reach_of t) n) in
@@ -120,7 +120,7 @@ quant_passed a s l =
         ≡ (let q = with_dropped (layout_end s) (reach_of t) n.passed ++ comments_at (at s t) in
         if_done o (λ m v. with_dropped (layout_end (at s t)) (reach_of v.rest) q) q)
     by_ignored c t (done m v) = refl
-    by_ignored c t (failed k p) = refl
+    by_ignored c t (failed e) = refl
 
     by_test : (b : Bool) (c : Counts) (t : Text) →
         (if b then if_done (suffix (at s t) c) (λ m v. wrapped (quantifier_end t m v)
@@ -159,10 +159,10 @@ adjacent_passed (suc k) a s l =
         ≡ if_done o (λ b t. if is_unmoved s t then quant_trivia a s l.passed
         else adjacent_trivia k b t (quant_trivia a s l.passed)) (quant_trivia a s l.passed)
     by_outcome h (done r t) = by_test (is_unmoved s t) r t (h r t)
-    by_outcome h (failed j p) = quant_passed a s l
+    by_outcome h (failed e) = quant_passed a s l
 
 quants_passed : (left : ℕ) (q : Outcome Tree) (l : Log) → (quants_recorded left q l).passed ≡ quants_trivia left q l.passed
-quants_passed left (failed j p) l = refl
+quants_passed left (failed e) l = refl
 quants_passed left (done a s) l = by_outcome (quant left a s)
   where
     m : Log
@@ -178,7 +178,7 @@ quants_passed left (done a s) l = by_outcome (quant left a s)
         ≡ if_done o (λ b t. if t.flags.oniguruma_mode then adjacent_trivia max_adjacent b t (quant_trivia a s l.passed)
         else quant_trivia a s l.passed) (quant_trivia a s l.passed)
     by_outcome (done r t) = by_mode t.flags.oniguruma_mode r t
-    by_outcome (failed j p) = quant_passed a s l
+    by_outcome (failed e) = quant_passed a s l
 
 -- ---- conditionals
 
@@ -236,7 +236,7 @@ mutual
           (if_done q (λ rs t. choice_recorded rs (reach_of t.rest) (branches_recorded b l)) (branches_recorded b l)).passed
           ≡ (branches_recorded b l).passed
       by_outcome (done rs t) = choice_passed rs (reach_of t.rest) (branches_recorded b l)
-      by_outcome (failed k p) = refl
+      by_outcome (failed e) = refl
 
   branches_passed : {d : ℕ} {s : State} {o : Outcome (List Tree)} (a : Branches d s o) (l : Log) →
       (branches_recorded a l).passed ≡ branches_trivia a l.passed
@@ -253,7 +253,7 @@ mutual
           (if_done q (λ ps t. branch_ended (length (solid ps)) (reach_of t.rest) (pieces_recorded p l))
           (pieces_recorded p l)).passed ≡ (pieces_recorded p l).passed
       by_outcome (done ps t) = branch_ended_passed (length (solid ps)) (reach_of t.rest) (pieces_recorded p l)
-      by_outcome (failed k p) = refl
+      by_outcome (failed e) = refl
 
   pieces_passed : {d : ℕ} {s : State} {o : Outcome (List Tree)} (a : Pieces d s o) (l : Log) →
       (pieces_recorded a l).passed ≡ pieces_trivia a l.passed
@@ -358,4 +358,4 @@ mutual
           else alternation_trivia a (p ++ r))
       by_outcome whole (done u v) k =
           conditional whole u v k.is_kept (is_empty (branches_of u).0 && is_empty (branches_of u).1)
-      by_outcome whole (failed k z) f = whole
+      by_outcome whole (failed e) f = whole

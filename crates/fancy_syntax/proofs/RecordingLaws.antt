@@ -10,15 +10,15 @@ use Rattle.std.proofs.lemmas.List.{length_push}
 use Rattle.std.proofs.lemmas.List.Edits.{remove-append_right}
 use Rattle.std.proofs.Math.Seq.{take-append_seam, get_or-append_seam}
 use Prim.Native.Char.{code}
-use Rattle.fancy_lex.specs.Located.{Kind}
-use Rattle.fancy_lex.specs.Text.{Text, bytes, reach_of}
+use Rattle.fancy_lex.specs.Located.{Located}
+use Rattle.fancy_lex.specs.Text.{Text, bytes, reach_of, strip}
 use Rattle.fancy_parts.specs.Ranks.{is_counted}
 use Rattle.fancy_grammar.specs.AtomStart.{AtomStart}
 use Rattle.fancy_grammar.specs.Grammar.{Alternation, alternation, Branches, last, more, branch_error, Branch, branch}
 use Rattle.fancy_grammar.specs.Grammar.{Pieces, stop, next, piece_error, Piece, piece, layout_error, Atom, atom, AtomOf}
 use Rattle.fancy_grammar.specs.Grammar.{a_nothing, a_read, a_group, a_condition, condition_error, a_body, two_branches}
 use Rattle.fancy_grammar.specs.Grammar.{one_branch, absent_error, Inside, inside, Body, the_body}
-use Rattle.fancy_grammar.specs.Grammar.{closed, closed_at, branches_of, conditional_of, conditional_after}
+use Rattle.fancy_grammar.specs.Grammar.{closed, branches_of, conditional_of, conditional_after}
 use Rattle.fancy_grammar.specs.Grammar.{is_condition, clear_or_stopper, start}
 use Rattle.fancy_grammar.specs.GroupKind.{GroupKind, capture, flag_group, look, atomic, define, repeater, group_node}
 use Rattle.fancy_grammar.specs.Join.{solid, is_empty, one_or, choice}
@@ -54,6 +54,7 @@ use Rattle.fancy_syntax.specs.declared.grammar.recorded.Open.{Open}
 use Rattle.fancy_syntax.proofs.RecordingLemmas.{put_recorded, Beside, one_more, several_more, Barred, Fits, shown_one}
 use Rattle.fancy_syntax.proofs.RecordingLemmas.{shown_append, fits_shown, PieceRecorded, quants_recorded_as}
 use Rattle.fancy_syntax.proofs.RecordingLemmas.{passed_before, passed_after}
+use Rattle.fancy_lex.proofs.ReadingLemmas.{choose_both}
 
 -- the open branch begins at the state, above all recorded nodes
 pub record BranchBegun (s : State) (l : Log) : Type 0 where
@@ -214,12 +215,8 @@ module _ (named : Bool) where
 
 -- after a closing parenthesis, or an error
 closed_holds : (P : Outcome Tree → Type 0) (r : Tree) (s : State) → ((u : State) → P (done r u)) →
-    ((k : Kind) (p : ℕ) → P (failed k p)) → P (closed r s)
-closed_holds P r s g f = by_text s.rest
-  where
-    by_text : (u : Text) → P (closed_at r s u)
-    by_text [] = f _ _
-    by_text (c ∷ u) = cond_both (c == code ")") _ _ P (λ _. g (at s u)) (λ _. f _ _)
+    ((e : Located) → P (failed e)) → P (closed r s)
+closed_holds P r s g f = choose_both P (strip (code ")") s.rest) _ _ (λ u e. g (at s u)) (f _)
 
 slice_get_seam : (A B : List RecordedNode) (n : RecordedNode) → slice_get (A ++ n ∷ B) (length A) ≡ Some n
 slice_get_seam [] B n = refl
@@ -379,12 +376,12 @@ module _ (named : Bool) where
   body_as w l n m c left x y ys (done r v) k e f j h =
       cond_both (bytes v.rest == left && not (is_condition c)) _ _ P (λ _. tt)
       (λ _. closed_holds P (conditional_of c (branches_of r).0 (branches_of r).1) v
-      (λ u. conditional_as (reach_of w.rest) l n m c r v x y ys (reach_of u.rest) k e f j h) (λ _ _. tt))
+      (λ u. conditional_as (reach_of w.rest) l n m c r v x y ys (reach_of u.rest) k e f j h) (λ _. tt))
     where
       P : Outcome Tree → Type 0
       P o = Holds (λ t u. PieceRecorded named (reach_of w.rest) l (conditional_recorded r (reach_of v.rest) (end_of o) m) t
           (conditional_spans (between w o) y (done r v) x)) o
-  body_as w l n m c left x y ys (failed k p) a e f j h = tt
+  body_as w l n m c left x y ys (failed error) a e f j h = tt
 
   -- ---- pieces and branches
 
@@ -655,7 +652,7 @@ module _ (named : Bool) where
       Holds (λ r v. PieceRecorded named start l (quants_recorded left q m) r (quants_spans left start q x))
       (and_then q (quants d left))
   quantified_as start l m x d left (done a s) h = quants_recorded_as named start l d left a s m x h
-  quantified_as start l m x d left (failed k p) h = tt
+  quantified_as start l m x d left (failed e) h = tt
 
   -- a group
   grouped_as : (s : State) (l n m : Log) (x : Spans) (h : GroupKind) (position : ℕ) (q : Outcome Tree) →
@@ -667,7 +664,7 @@ module _ (named : Bool) where
   grouped_as s l n m x h position (done r v) w e k =
       group_as named (reach_of s.rest) l m r x h position (reach_of v.rest) k.xs (within_on w k.is_kept)
       (k.is_recorded ∙ ap (λ y. y ++ k.xs) e) k.fits
-  grouped_as s l n m x h position (failed k p) w e g = tt
+  grouped_as s l n m x h position (failed f) w e g = tt
 
   -- an absent expression
   expression_as : (s : State) (l n m w : Log) (b : ℕ) (a : Tree) (x y : Spans) (q : Outcome Tree) →
@@ -694,8 +691,8 @@ module _ (named : Bool) where
       (g.is_recorded ∙ ap (λ z. z ++ g.xs) (f.is_recorded ∙ ap (λ z. z ++ f.xs) e) ∙ append_assoc l.recorded f.xs g.xs)
       (λ c i j. shown_one named c (f.xs ++ g.xs) j ∙ (λ z. i z ∷ (shown_append named f.xs g.xs
       ∙ (λ z. fits_shown named a x f.xs f.fits z
-      ++ (fits_shown named r y g.xs g.fits ∙ sym (append-nil (in_preorder y))) z)) z))) (λ _ _. tt)
-  expression_as s l n m w b a x y (failed k p) i e f g = tt
+      ++ (fits_shown named r y g.xs g.fits ∙ sym (append-nil (in_preorder y))) z)) z))) (λ _. tt)
+  expression_as s l n m w b a x y (failed error) i e f g = tt
 
   -- a stopper or a clear
   stopper_as : (s : State) (l n m : Log) (a : Tree) (x : Spans) (v : State) → Within (reach_of s.rest) l n →
@@ -706,7 +703,7 @@ module _ (named : Bool) where
   stopper_as s l n m a x v k e b f =
       closed_holds (λ o. Holds (λ t u. PieceRecorded named (reach_of s.rest) l (stopper_recorded a (end_of o) m) t
       (node (between s o) (solid_spans a x no_spans))) o) (clear_or_stopper a) v
-      (λ u. by_test (reach_of u.rest) (is_empty a)) (λ _ _. tt)
+      (λ u. by_test (reach_of u.rest) (is_empty a)) (λ _. tt)
     where
       within : Within (reach_of s.rest) l m
       within = within_on k (kept_branch f)
@@ -736,7 +733,7 @@ module _ (named : Bool) where
       Holds (λ r v. PartRecorded l (if_done q (λ rs t. choice_recorded rs (reach_of t.rest) m) m) r
       (one_or_node (between s (mapped choice q)) f)) (mapped choice q)
   alternation_of s l m f (done rs v) h = h
-  alternation_of s l m f (failed k p) h = tt
+  alternation_of s l m f (failed e) h = tt
 
   branch_of : (s : State) (l m : Log) (f : Forest) (q : Outcome (List Tree)) → BranchBegun s l →
       Holds (λ ps v. PiecesRecorded l m (solid ps) f) q →
@@ -744,20 +741,20 @@ module _ (named : Bool) where
       (one_or_node (between s (mapped (λ ps. one_or concat (solid ps)) q)) f))
       (mapped (λ ps. one_or concat (solid ps)) q)
   branch_of s l m f (done ps v) g h = branch_as s l m (solid ps) f (reach_of v.rest) g h
-  branch_of s l m f (failed k p) g h = tt
+  branch_of s l m f (failed e) g h = tt
 
   read_as : (s : State) (l : Log) (o : Outcome Tree) → Reads (IsLeaf s) s o →
       Holds (λ r v. PieceRecorded named (reach_of s.rest) l (atom_read s o l) r (alone (between s o))) o
   read_as s l (done a t) h =
       passed_after named _ (leaf_as (reach_of s.rest) (reach_of t.rest) l a
       (λ n i j. fits_alone a n (leaf_lies named a h.alone h.span.slice) i j))
-  read_as s l (failed k p) h = tt
+  read_as s l (failed e) h = tt
 
   inside_of : (l m : Log) (x : Spans) (q : Outcome Tree) → Holds (λ r v. PartRecorded l m r x) q →
       Holds (λ r v. PartRecorded l m r x) (and_then q closed)
   inside_of l m x q h =
       then_holds (λ r v. PartRecorded l m r x) (λ r v. PartRecorded l m r x) q closed h
-      (λ r v k. closed_holds (Holds (λ r v. PartRecorded l m r x)) r v (λ u. k) (λ _ _. tt))
+      (λ r v k. closed_holds (Holds (λ r v. PartRecorded l m r x)) r v (λ u. k) (λ _. tt))
 
   mutual
     pub alternation_as : {d : ℕ} {s : State} {o : Outcome Tree} (a : Alternation d s o) (l : Log) → PartBegun s l →
@@ -824,12 +821,12 @@ module _ (named : Bool) where
         some_piece : (m : Log) (x : Spans) (start : ℕ) (o : Outcome Tree) →
             Holds (λ r v. PieceRecorded named start (layout_passed s l) m r x) o → Holds (λ r v. PieceAs l m r x) o
         some_piece m x start (done r v) h = (start, passed_before named _ h)
-        some_piece m x start (failed k p) h = tt
+        some_piece m x start (failed e) h = tt
     piece_as_read (layout_error i) l = tt
 
     atom_as : {d : ℕ} {s : State} {o : Outcome Tree} (a : Atom d s o) (l : Log) →
         Holds (λ r v. PieceRecorded named (reach_of s.rest) l (atom_recorded a l) r (atom_spans named a)) o
-    atom_as {d} {s} (atom {e = k} {q} e a) l =
+    atom_as {d} {s} (atom {k} {q} e a) l =
         let P = Holds (λ r v. PieceRecorded named (reach_of s.rest) l (atom_of_recorded a l) r (atom_of_spans named a)) in
         let read_start = subst (StartReads s) e (start_reads d s) in
         let h = atom_of_as a l read_start (subst (ConditionLies named s) e (condition_lies named d s)) in

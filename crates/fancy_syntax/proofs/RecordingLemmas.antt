@@ -15,12 +15,12 @@ use Rattle.fancy_parts.specs.Quantifier.{counts}
 use Rattle.fancy_parts.specs.declared.counts.Counts.{Counts}
 use Rattle.fancy_grammar.specs.Depth.{max_depth}
 use Rattle.fancy_grammar.specs.Label as label
-use Rattle.fancy_grammar.specs.Quantified.{quants, adjacent, max_adjacent, is_unmoved, quant, quant_at, with_counts}
+use Rattle.fancy_grammar.specs.Quantified.{quants, adjacent, max_adjacent, is_unmoved, quant, with_counts}
 use Rattle.fancy_grammar.specs.Quantified.{suffix, is_swapped, quantified, is_repeatable, is_dropped, is_greedy, Suffix}
 use Rattle.fancy_grammar.specs.Spans.{Span, Spans, node, Forest, no_spans, more_spans, after_bar, around}
 use Rattle.fancy_grammar.specs.Spans.{in_preorder, all_in_preorder, if_done, under, quantifier_end, counted, quant_spans}
 use Rattle.fancy_grammar.specs.Spans.{adjacent_spans, quants_spans}
-use Rattle.fancy_grammar.specs.State.{skipped, State, at, Outcome, done, failed, failed_with, and_then, mapped}
+use Rattle.fancy_grammar.specs.State.{skipped, after_skipped, State, at, Outcome, done, failed, and_then, mapped}
 use Rattle.fancy_grammar.specs.Tree.{Tree, leaf, over, row, Trees, trees_of, alt, repeat, atomic_group}
 use Rattle.fancy_grammar.proofs.OutcomeLemmas.{Holds}
 use Rattle.fancy_grammar.specs.Trivia.{Passed, layout_end, with_dropped}
@@ -206,7 +206,7 @@ module _ (named : Bool) where
             (mapped (λ k. quantified s.flags c k a) o)
         by_operators c u (done k v) =
             under_recorded s.flags c k (quantifier_end u k v) (passed_after _ g)
-        by_operators c u (failed k p) = tt
+        by_operators c u (failed e) = tt
 
         -- after the counts, which are left out, and the layout after them
         left_out : Text → Log
@@ -217,7 +217,7 @@ module _ (named : Bool) where
             (mapped (λ k. a) o)
         by_dropped u (done k v) =
             passed_after (with_dropped (layout_end (at s u)) (reach_of v.rest) (left_out u).passed) g
-        by_dropped u (failed k p) = tt
+        by_dropped u (failed e) = tt
 
         by_tests : (b d : Bool) (c : Counts) (u : Text) →
             RecordedAs
@@ -227,7 +227,7 @@ module _ (named : Bool) where
             (if b then if_done (suffix (at s u) c)
             (λ k v. under s.flags c k (record { start = start; end = quantifier_end u k v }) x) x else x)
             (if b then mapped (λ k. quantified s.flags c k a) (suffix (at s u) c)
-            else if d then mapped (λ k. a) (suffix (at s u) c) else failed_with (not_repeatable u))
+            else if d then mapped (λ k. a) (suffix (at s u) c) else failed (not_repeatable u))
         by_tests true d c u = by_operators c u (suffix (at s u) c)
         by_tests false true c u = by_dropped u (suffix (at s u) c)
         by_tests false false c u = tt
@@ -241,7 +241,7 @@ module _ (named : Bool) where
         by_layout : (j : Skipped) → RecordedAs
             (choose (option_and_then (counts s.flags.ignore_space) (rest_of j)) (counted_recorded (layout_end s) a s n) n)
             (choose (option_and_then (counts s.flags.ignore_space) (rest_of j)) (counted start a s x) x)
-            (quant_at left a s j)
+            (after_skipped j (λ v. with_counts left a (at s v) (counts s.flags.ignore_space v)) failed)
         by_layout (rest v) = by_counts v (counts s.flags.ignore_space v)
         by_layout (open_comment p) = tt
 
@@ -258,9 +258,9 @@ module _ (named : Bool) where
         y = quant_spans start a s x
 
         by_first : (o : Outcome Tree) → RecordedAs n y o → RecordedAs n y
-            (and_then o (λ b v. if is_unmoved s v then done b v else failed_with (quantifier_too_deep v.rest)))
+            (and_then o (λ b v. if is_unmoved s v then done b v else failed (quantifier_too_deep v.rest)))
         by_first (done b v) i = cond_both (is_unmoved s v) _ _ (RecordedAs n y) (λ _. i) (λ _. tt)
-        by_first (failed j p) i = tt
+        by_first (failed e) i = tt
     adjacent_recorded_as (suc k) d a s m x h =
         by_first (λ b v i. adjacent_recorded_as k (d + 1) b v (quant_recorded a s m) (quant_spans start a s x) i)
         (quant (bytes s.rest) a s) (quant_recorded_as (bytes s.rest) a s m x h)
@@ -274,7 +274,7 @@ module _ (named : Bool) where
         by_tests : (c e : Bool) (b : Tree) (v : State) → PieceRecorded start l n b y →
             RecordedAs (adjacent_recorded k b v n) (adjacent_spans k start b v y) (adjacent k (d + 1) b v) →
             RecordedAs (if c then n else adjacent_recorded k b v n) (if c then y else adjacent_spans k start b v y)
-            (if c then done b v else if e then adjacent k (d + 1) b v else failed_with (quantifier_too_deep v.rest))
+            (if c then done b v else if e then adjacent k (d + 1) b v else failed (quantifier_too_deep v.rest))
         by_tests true e b v i j = i
         by_tests false true b v i j = j
         by_tests false false b v i j = tt
@@ -285,9 +285,9 @@ module _ (named : Bool) where
             (if_done o (λ b v. if is_unmoved s v then n else adjacent_recorded k b v n) n)
             (if_done o (λ b v. if is_unmoved s v then y else adjacent_spans k start b v y) y)
             (and_then o (λ b v. if is_unmoved s v then done b v
-            else if nat_lt (d + 1) max_depth then adjacent k (d + 1) b v else failed_with (quantifier_too_deep v.rest)))
+            else if nat_lt (d + 1) max_depth then adjacent k (d + 1) b v else failed (quantifier_too_deep v.rest)))
         by_first go_on (done b v) i = by_tests (is_unmoved s v) (nat_lt (d + 1) max_depth) b v i (go_on b v i)
-        by_first go_on (failed j p) i = tt
+        by_first go_on (failed e) i = tt
 
     pub quants_recorded_as : (d left : ℕ) (a : Tree) (s : State) (m : Log) (x : Spans) → PieceRecorded start l m a x →
         RecordedAs (quants_recorded left (done a s) m) (quants_spans left start (done a s) x) (quants d left a s)
@@ -311,7 +311,7 @@ module _ (named : Bool) where
             (if_done o (λ b v. if v.flags.oniguruma_mode then adjacent_spans max_adjacent start b v y else y) y)
             (and_then o (λ b v. if v.flags.oniguruma_mode then adjacent max_adjacent d b v else done b v))
         by_first (done b v) i = by_mode v.flags.oniguruma_mode b v i
-        by_first (failed k p) i = tt
+        by_first (failed e) i = tt
 
 -- ---- the steps of adjacent quantifiers
 

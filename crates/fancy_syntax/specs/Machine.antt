@@ -24,7 +24,7 @@ use Rattle.fancy_syntax.specs.Recording.{branch_recorded}
 use Rattle.fancy_syntax.specs.Recording.{group_recorded, conditional_recorded, stopper_recorded, quants_recorded, added}
 use Rattle.fancy_syntax.specs.Parsed.{group_kind, state}
 use Rattle.fancy_grammar.specs.Errors.{IsErrorAmong}
-use Rattle.fancy_grammar.specs.State.{ends, skipped, State, at, Outcome, done, failed_with, mapped}
+use Rattle.fancy_grammar.specs.State.{ends, skipped, State, at, Outcome, done, failed, mapped}
 use Rattle.fancy_grammar.specs.Tree.{Tree, expression}
 use Rattle.fancy_syntax.specs.View.{view, views}
 use Rattle.fancy_syntax.specs.declared.grammar.frame.Frame.{Frame}
@@ -73,7 +73,7 @@ branches_at_bar _ l a = l ++ a ∷ []
 
 -- the error at a bar after the second branch of an absent expression, which allows none
 abbrev pub IsErrorOfBar : OpenPart → Text → Outcome Tree → Type 0
-IsErrorOfBar (second a) t o = o ≡ failed_with (bar_for_close_paren t)
+IsErrorOfBar (second a) t o = o ≡ failed (bar_for_close_paren t)
 IsErrorOfBar _ t o = ⊥
 
 -- the outcome of reading the open part; the record goes from the first log to the second
@@ -124,7 +124,7 @@ has_body_next _ = false
 -- the outcome when the part ends with the tree r at s
 abbrev pub ended_part : OpenPart → Tree → State → Outcome Tree
 ended_part p r s =
-    if lacks_body p s then failed_with (body_missing s.rest)
+    if lacks_body p s then failed (body_missing s.rest)
     else closed (node_of_part p r) s
 
 -- the log when the part ends with the tree r; its parenthesis begins at the first reach and ends at the second

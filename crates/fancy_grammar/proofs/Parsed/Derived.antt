@@ -1,7 +1,7 @@
 -- Each node of a raw tree that a pattern derives is as `IsParsedNode` says, and the flags keep their mode. By one
 -- induction on the derivation, as in `ReadLaws`.
 use Rattle.std.proofs.Common.{◌≡◌, ℕ, zero, suc, ◌+◌, ◌∷◌, [], List, refl, sym, ap, ◌∙◌, subst, Bool, true, false}
-use Rattle.std.proofs.Common.{Option, Some, None, IfSome}
+use Rattle.std.proofs.Common.{Option, Some, None, IfSome, length}
 use Rattle.std.specs.Prelude.{◌==◌, not, nat_lt, nat_le, ◌&&◌, codes}
 use Rattle.std.proofs.lemmas.Bool.{cond_both}
 use Prim.Native.Char.{code}
@@ -11,7 +11,6 @@ use Rattle.fancy_lex.specs.Class.{class}
 use Rattle.fancy_lex.specs.Escape.{escape}
 use Rattle.fancy_lex.specs.Escaped as escaped
 use Rattle.fancy_lex.specs.Escaped.{Escape}
-use Rattle.fancy_lex.specs.LayoutSteps.{Skipped, rest, failed as open_comment}
 use Rattle.fancy_lex.specs.Reading.{Reading, gives, fails}
 use Rattle.fancy_lex.specs.Referred.{Reference}
 use Rattle.fancy_lex.specs.Text.{Text, bytes, position_at, strip, strip_word, reach_of}
@@ -30,23 +29,22 @@ use Rattle.fancy_grammar.specs.AtomStart.{start_anchor, end_anchor, leaf_node, l
 use Rattle.fancy_grammar.specs.AtomStart.{backref_node, call_node, begins_no_atom, named_start, target_start}
 use Rattle.fancy_grammar.specs.AtomStart.{flags_start}
 use Rattle.fancy_grammar.specs.AtomStart.{condition_start, repeater_start, after_question, group_start}
-use Rattle.fancy_grammar.specs.AtomStart.{after_layout}
 use Rattle.fancy_grammar.specs.Depth.{max_depth}
 use Rattle.fancy_grammar.specs.Grammar.{Alternation, alternation, Branches, last, more, branch_error, Branch, branch}
 use Rattle.fancy_grammar.specs.Grammar.{Pieces, stop, next, piece_error, Piece, piece, layout_error, Atom, atom, AtomOf}
 use Rattle.fancy_grammar.specs.Grammar.{a_nothing, a_read, a_group, a_condition, condition_error, a_body, two_branches}
 use Rattle.fancy_grammar.specs.Grammar.{one_branch, absent_error, Inside, inside, Body, the_body, Whole, whole}
-use Rattle.fancy_grammar.specs.Grammar.{closed, closed_at, ended, ended_at, branches_of, conditional_of, DerivesTree}
+use Rattle.fancy_grammar.specs.Grammar.{closed, ended, branches_of, conditional_of, DerivesTree}
 use Rattle.fancy_grammar.specs.Grammar.{conditional_after, is_condition, clear_or_stopper, after_atom, restored}
 use Rattle.fancy_grammar.specs.GroupKind.{capture}
 use Rattle.fancy_grammar.specs.Label as label
-use Rattle.fancy_grammar.specs.Quantified.{quants, adjacent, max_adjacent, is_unmoved, quant, quant_at, with_counts}
-use Rattle.fancy_grammar.specs.Quantified.{suffix, suffix_at, after_lazy, may_be_possessive, is_repeatable, is_dropped}
+use Rattle.fancy_grammar.specs.Quantified.{quants, adjacent, max_adjacent, is_unmoved, quant, with_counts}
+use Rattle.fancy_grammar.specs.Quantified.{suffix, after_lazy, may_be_possessive, is_repeatable, is_dropped}
 use Rattle.fancy_grammar.specs.Quantified.{Suffix}
 use Rattle.fancy_grammar.specs.State.{skipped, State, at, Outcome, done, failed}
 use Rattle.fancy_grammar.specs.Tree.{Tree, leaf, expression}
 use Rattle.fancy_grammar.specs.Verb.{verb_at}
-use Rattle.fancy_grammar.proofs.OutcomeLemmas.{Holds, then_holds}
+use Rattle.fancy_grammar.proofs.OutcomeLemmas.{Holds, then_holds, skipped_both}
 use Rattle.fancy_grammar.proofs.Parsed.Nodes.{IsParsed, AreParsed, IsKindParsed, by_escape, by_class, join_parsed}
 use Rattle.fancy_grammar.proofs.Parsed.Nodes.{choice_parsed, quantified_parsed, node_parsed, conditional_parsed}
 use Rattle.fancy_grammar.proofs.Parsed.Nodes.{branches_parsed, expression_parsed, stopper_parsed}
@@ -112,7 +110,9 @@ module _ (f : Flags) (text : Text) where
 
   suffix_mode : (w : State) (c : Counts) → IsSameMode f w.flags →
       Holds (λ (m : Suffix) v. IsSameMode f v.flags) (suffix w c)
-  suffix_mode w c h = by_layout (skipped w)
+  suffix_mode w c h =
+      skipped_both W (skipped w) _ _ (λ t e.
+      choose_both W (strip (code "?") t) _ _ (λ u e. after_operator true u) (after_operator false t)) (λ p e. tt)
     where
       W : Outcome Suffix → Type 0
       W = Holds (λ (m : Suffix) v. IsSameMode f v.flags)
@@ -122,13 +122,11 @@ module _ (f : Flags) (text : Text) where
           cond_both (may_be_possessive w.flags c) _ _ W
           (λ _. choose_both W (strip (code "+") t) _ _ (λ u e. h) h) (λ _. h)
 
-      by_layout : (j : Skipped) → W (suffix_at w c j)
-      by_layout (rest t) = choose_both W (strip (code "?") t) _ _ (λ u e. after_operator true u) (after_operator false t)
-      by_layout (open_comment p) = tt
-
   quant_part : (left : ℕ) (a : Tree) (t : State) → IsPart f text a t → P (quant left a t)
   unfolding quant
-  quant_part left a t h = by_layout (skipped t)
+  quant_part left a t h =
+      skipped_both P (skipped t) _ _
+      (λ v e. by_counts v (counts t.flags.ignore_space v) (counts_words t.flags.ignore_space v)) (λ p e. tt)
     where
       by_counts : (v : Text) (o : Option (Counts × Text)) → IfWords o → P (with_counts left a (at t v) o)
       by_counts v None w = record { mode = h.mode; parsed = h.parsed }
@@ -145,10 +143,6 @@ module _ (f : Flags) (text : Text) where
           (λ _. then_holds M (IsPart f text) (suffix (at t u) c) _ operators
           (λ m x k. record { mode = k; parsed = h.parsed }))
           (λ _. tt))
-
-      by_layout : (j : Skipped) → P (quant_at left a t j)
-      by_layout (rest v) = by_counts v (counts t.flags.ignore_space v) (counts_words t.flags.ignore_space v)
-      by_layout (open_comment p) = tt
 
   adjacent_part : (k d : ℕ) (a : Tree) (t : State) → IsPart f text a t → P (adjacent k d a t)
   unfolding adjacent
@@ -168,19 +162,11 @@ module _ (f : Flags) (text : Text) where
   -- ---- the end of a part, and its outcome
 
   closed_part : (r : Tree) (t : State) → IsPart f text r t → P (closed r t)
-  closed_part r t h = by_text t.rest
-    where
-      by_text : (u : Text) → P (closed_at r t u)
-      by_text [] = tt
-      by_text (c ∷ u) =
-          cond_both (c == code ")") _ _ P (λ _. record { mode = h.mode; parsed = h.parsed }) (λ _. tt)
+  closed_part r t h =
+      choose_both P (strip (code ")") t.rest) _ _ (λ u e. record { mode = h.mode; parsed = h.parsed }) tt
 
   ended_part : (r : Tree) (t : State) → IsPart f text r t → P (ended r t)
-  ended_part r t h = by_text t.rest
-    where
-      by_text : (u : Text) → P (ended_at r t u)
-      by_text [] = h
-      by_text (c ∷ u) = tt
+  ended_part r t h = cond_both (length t.rest == 0) _ _ P (λ _. h) (λ _. tt)
 
   conditional_part : (c r : Tree) (left : ℕ) (v : State) → IsParsed f text c → IsPart f text r v →
       P (conditional_after c left r v)
@@ -348,10 +334,6 @@ module _ (f : Flags) (text : Text) where
       choose_both StartParsed (strip_word (codes "*") t) _ _
       (λ u e. choose_both StartParsed (verb_at u) _ _ (λ p i. record { mode = m; parsed = (tt, tt) }) tt) (m, tt))
 
-  after_part : (s : State) (k : Skipped) → IsSameMode f s.flags → StartParsed (after_layout s k)
-  after_part s (rest u) m = group_part s u m
-  after_part s (open_comment p) m = tt
-
   start_part : (d : ℕ) (s : State) → IsSameMode f s.flags → Slice text s.rest → StartParsed (atom_start d s)
   unfolding atom_start
   start_part d s m i = by_text s.rest i
@@ -361,13 +343,13 @@ module _ (f : Flags) (text : Text) where
       by_text (c ∷ t) i =
           cond_both (c == code "(") _ _ StartParsed (λ _.
           cond_both (nat_le max_depth (d + 1)) _ _ StartParsed (λ _. tt)
-          (λ _. after_part s (skipped (at s t)) m)) (λ _.
+          (λ _. skipped_both StartParsed (skipped (at s t)) _ _ (λ u e. group_part s u m) (λ p e. tt))) (λ _.
           cond_both (begins_no_atom c) _ _ StartParsed (λ _. tt) (λ _. leaf_part s c t m i))
 
   -- after an atom the flags from before it hold, or those that it sets
   restored_part : (g : Flags) (q : Outcome Tree) → IsSameMode f g → P q → P (restored g q)
   restored_part g (done r t) m h = record { mode = m; parsed = h.parsed }
-  restored_part g (failed k p) m h = tt
+  restored_part g (failed e) m h = tt
 
   atom_flags : (k : AtomStart) (g : Flags) (q : Outcome Tree) → IsSameMode f g → P q → P (after_atom k g q)
   atom_flags nothing g q m h = h
@@ -418,7 +400,7 @@ module _ (f : Flags) (text : Text) where
     piece_part (layout_error l) m i = tt
 
     atom_part : {d : ℕ} {s : State} {o : Outcome Tree} → Atom d s o → IsSameMode f s.flags → Slice text s.rest → P o
-    atom_part (atom {d} {s} {e} {q} is a) m i =
+    atom_part (atom {d} {s} {k = e} {q} is a) m i =
         atom_flags e s.flags q m
         (of_part a (subst StartParsed is (start_part d s m i)) (subst (StartReads s) is (start_reads d s)) m i)
 

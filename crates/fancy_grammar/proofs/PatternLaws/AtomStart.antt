@@ -8,7 +8,6 @@ use Rattle.fancy_lex.specs.Class.{class}
 use Rattle.fancy_lex.specs.Escape.{escape}
 use Rattle.fancy_lex.specs.Escaped.{Escape}
 use Rattle.fancy_lex.specs.Escaped as escaped
-use Rattle.fancy_lex.specs.LayoutSteps.{Skipped, rest, failed as open_comment}
 use Rattle.fancy_lex.specs.Reading.{Reading, gives, fails}
 use Rattle.fancy_lex.specs.Referred.{Reference, Call}
 use Rattle.fancy_lex.specs.Text.{Text, strip_word}
@@ -21,7 +20,7 @@ use Rattle.fancy_parts.specs.GroupReference.{named_reference, named_call, begins
 use Rattle.fancy_parts.specs.LetterSteps.{letters}
 use Rattle.fancy_grammar.specs.AtomStart.{AtomStart, nothing, read, of_kind, condition, body, absent_branch, atom_start}
 use Rattle.fancy_grammar.specs.AtomStart.{start_of}
-use Rattle.fancy_grammar.specs.AtomStart.{after_layout, group_start, after_question, condition_start, repeater_start}
+use Rattle.fancy_grammar.specs.AtomStart.{group_start, after_question, condition_start, repeater_start}
 use Rattle.fancy_grammar.specs.AtomStart.{flags_start, leaf_node, leaf_outcome, leaf_of, begins_no_atom}
 use Rattle.fancy_grammar.specs.AtomStart.{named_start, target_start, backref_node, call_node}
 use Rattle.fancy_grammar.specs.Depth.{max_depth}
@@ -31,7 +30,7 @@ use Rattle.fancy_grammar.specs.PatternDepth.{is_in_parens}
 use Rattle.fancy_grammar.specs.State.{skipped, State, at}
 use Rattle.fancy_grammar.specs.Tree.{Tree, leaf, delegate}
 use Rattle.fancy_grammar.specs.Verb.{verb_at}
-use Rattle.fancy_grammar.proofs.OutcomeLemmas.{Holds}
+use Rattle.fancy_grammar.proofs.OutcomeLemmas.{Holds, skipped_both}
 use Rattle.fancy_grammar.proofs.Parsed.Readers.{IsModeOf, letters_mode}
 use Rattle.fancy_grammar.proofs.PatternLaws.Suited.{Suits}
 use Rattle.fancy_grammar.proofs.PatternLaws.SuitedEscapes.{IsBare, IsSuited, suited_escape, literal_suits, delegate_suits}
@@ -158,11 +157,6 @@ module _ (in_mode : Bool) (d : ℕ) (s : State) (o : s.flags.oniguruma_mode ≡ 
         (λ u _. choose_both (StartMode in_mode d s) (verb_at u) _ _
         (λ p _. open_leaf (label.verb p.0) (at z p.1) m) tt) m)
 
-    layout_in_mode : (z : State) → z.flags.oniguruma_mode ≡ in_mode → (k : Skipped) →
-        StartMode in_mode d s (after_layout z k)
-    layout_in_mode z m (rest u) = group_in_mode z m u
-    layout_in_mode z m (open_comment p) = tt
-
   -- ---- leaves
 
   plain_leaf : (l : Leaf) (t : Text) → (IsLast d → IsPlain s.flags l) → LeafRead in_mode d s (leaf l) (at s t)
@@ -212,5 +206,6 @@ module _ (in_mode : Bool) (d : ℕ) (s : State) (o : s.flags.oniguruma_mode ≡ 
       by_text (c ∷ t) =
           cond_both (c == code "(") _ _ (StartMode in_mode d s)
           (λ _. cond_both (nat_le max_depth (d + 1)) _ _ (StartMode in_mode d s) (λ _. tt)
-          (λ e. layout_in_mode (may_open e) (at s t) o (skipped (at s t)))) (λ _.
+          (λ e. skipped_both (StartMode in_mode d s) (skipped (at s t)) _ _ (λ u _. group_in_mode (may_open e) s o u)
+          (λ p _. tt))) (λ _.
           cond_both (begins_no_atom c) _ _ (StartMode in_mode d s) (λ _. tt) (λ _. leaf_in_mode c t))

@@ -21,9 +21,9 @@ use Rattle.fancy_grammar.specs.Grammar.{a_nothing, a_read}
 use Rattle.fancy_grammar.specs.Join.{is_empty}
 use Rattle.fancy_grammar.specs.GroupInfo.{GroupInfo}
 use Rattle.fancy_grammar.specs.Pattern.{Context}
-use Rattle.fancy_grammar.specs.Quantified.{is_repeatable, is_dropped, quant, quant_at, quants, with_counts}
+use Rattle.fancy_grammar.specs.Quantified.{is_repeatable, is_dropped, quant, quants, with_counts}
 use Rattle.fancy_grammar.specs.Quantified.{adjacent, max_adjacent}
-use Rattle.fancy_grammar.specs.State.{State, at, skipped, Outcome, done, failed, and_then, ends}
+use Rattle.fancy_grammar.specs.State.{State, at, skipped, after_skipped, Outcome, done, failed, and_then, ends}
 use Rattle.fancy_grammar.specs.Tree.{Tree, empty, delegate}
 use Rattle.fancy_grammar.proofs.OutcomeLemmas.{Holds, piece_as}
 use Rattle.fancy_grammar.proofs.PatternLaws.Becomes.{in_longer}
@@ -46,15 +46,20 @@ same_counts l m a s e (Some (c, t)) =
     (λ d. sym (cond-false _ _ _ q ∙ cond-true _ _ _ (sym dropped ∙ d)))
     (λ d. sym (cond-false _ _ _ q ∙ cond-false _ _ _ (sym dropped ∙ d))))
 
-same_at : (l m : ℕ) (a : Tree) (s : State) → is_empty a ≡ false → (k : Skipped) → quant_at l a s k ≡ quant_at m a s k
-same_at l m a s e (rest t) = same_counts l m a (at s t) e (counts s.flags.ignore_space t)
-same_at l m a s e (open_comment p) = refl
+same_quant : (l m : ℕ) (a : Tree) (s : State) → is_empty a ≡ false → quant l a s ≡ quant m a s
+unfolding quant
+same_quant l m a s e = by_layout (skipped s)
+  where
+    by_layout : (k : Skipped) →
+        after_skipped k (λ t. with_counts l a (at s t) (counts s.flags.ignore_space t)) failed
+        ≡ after_skipped k (λ t. with_counts m a (at s t) (counts s.flags.ignore_space t)) failed
+    by_layout (rest t) = same_counts l m a (at s t) e (counts s.flags.ignore_space t)
+    by_layout (open_comment p) = refl
 
 same_quants : (d l m : ℕ) (a : Tree) (s : State) → is_empty a ≡ false → quants d l a s ≡ quants d m a s
-unfolding quant
 same_quants d l m a s e =
     ap (λ q. and_then q (λ b t. if t.flags.oniguruma_mode then adjacent max_adjacent d b t else done b t))
-    (same_at l m a s e (skipped s))
+    (same_quant l m a s e)
 
 node_solid : (e : Escape) → is_empty (leaf_node e) ≡ false
 node_solid (escaped.literal c casei) = refl
@@ -119,7 +124,7 @@ module _ (d : ℕ) (f : Flags) (c : ℕ) (t : Text) (k : Clear f.ignore_space (c
     quants_past : (q : Outcome Tree) → FromAnywhere q →
         and_then q (quants d (bytes (codes "(?#)" ++ c ∷ t))) ≡ and_then q (quants d (bytes (c ∷ t)))
     quants_past (done a s) h = h _ _
-    quants_past (failed k p) h = refl
+    quants_past (failed e) h = refl
 
     piece_from : (s : State) → s ≡ st f (c ∷ t) → {q : Outcome Tree} → Piece d s q → Piece d commented q
     piece_from s same (piece {u = w} {q} l a) =

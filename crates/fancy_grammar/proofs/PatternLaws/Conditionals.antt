@@ -55,7 +55,7 @@ HasSome _ = Unit {0}
 
 one_more : (r : Tree) (q : Outcome (List Tree)) → HasSome (mapped (r ∷◌) q)
 one_more r (done l s) = tt
-one_more r (failed k p) = tt
+one_more r (failed e) = tt
 
 some_branches : {d : ℕ} {s : State} {q : Outcome (List Tree)} → Branches d s q → HasSome q
 some_branches (last b e) = tt
@@ -64,11 +64,11 @@ some_branches (branch_error b) = tt
 
 tree_in : Tree → Outcome Tree → Tree
 tree_in x (done r s) = r
-tree_in x (failed k p) = x
+tree_in x (failed e) = x
 
 state_in : State → Outcome Tree → State
 state_in x (done r s) = s
-state_in x (failed k p) = x
+state_in x (failed e) = x
 
 -- the branches of an alternation that was read
 record Others (d : ℕ) (s : State) (r : Tree) (t : State) : Type 0 where
@@ -87,7 +87,7 @@ others_of d s r t (done (x ∷ l) u) e b h = record {
   derives = subst (λ w. Branches d s (done (x ∷ l) w)) (sym (ap (state_in t) e)) b;
   is = sym (ap (tree_in r) e);
 }
-others_of d s r t (failed k p) e b h = absurd cc
+others_of d s r t (failed f) e b h = absurd cc
 
 others : {d : ℕ} {s : State} {r : Tree} {t : State} → Alternation d s (done r t) → Others d s r t
 others {d} {s} {r} {t} a = let (q, e, b) = alternation_of a in others_of d s r t q e b (some_branches b)

@@ -14,7 +14,7 @@ use Prim.Native.Char.{code}
 use Rattle.fancy_lex.specs.LayoutSteps.{layout, rest}
 use Rattle.fancy_lex.specs.Text.{Text, bytes, reach_of, cut_at, EndsWith}
 use Rattle.fancy_lex.specs.declared.flags.Flags.{Flags}
-use Rattle.fancy_grammar.specs.AtomStart.{of_kind, atom_start, after_layout, group_start, after_question, named_start}
+use Rattle.fancy_grammar.specs.AtomStart.{of_kind, atom_start, error_start, group_start, after_question, named_start}
 use Rattle.fancy_grammar.specs.Depth.{max_depth}
 use Rattle.fancy_grammar.specs.Grammar.{Alternation, alternation, Branches, last, more, branch_error, Branch, branch}
 use Rattle.fancy_grammar.specs.Grammar.{Pieces, next, atom, a_read, a_group, inside}
@@ -39,7 +39,7 @@ use Rattle.std.proofs.Common.{length, suc}
 use Rattle.fancy_grammar.proofs.PatternLaws.Letters.{changed, inline_flags_start, flag_group_start, no_hash}
 use Rattle.fancy_grammar.proofs.PatternLaws.Rules.{Clear, Begins, begins_by, not_layout, no_question, no_star}
 use Rattle.fancy_grammar.proofs.PatternLaws.Rules.{AtomAt, WholeAt, Rest, lead_flags, quants_one, quant_none}
-use Rattle.fancy_grammar.proofs.OutcomeLemmas.{piece_as}
+use Rattle.fancy_grammar.proofs.OutcomeLemmas.{piece_as, after_rest}
 use Rattle.fancy_grammar.proofs.ReadBack.RuleLemmas.{st}
 use Rattle.fancy_grammar.proofs.Slices.{to_ends}
 use Rattle.fancy_lex.specs.Characters.{◌∈◌, is_among}
@@ -63,7 +63,7 @@ not_deep d h = grind (arith, nat_tests)
 pub paren_at : (d : ℕ) (f : Flags) (t : Text) → d + 1 < max_depth → layout f.ignore_space t ≡ rest t →
     atom_start d (st f (code "(" ∷ t)) ≡ group_start (st f (code "(" ∷ t)) t
 unfolding atom_start
-paren_at d f t l o = cond-false _ _ _ (not_deep d l) ∙ ap (after_layout (st f (code "(" ∷ t))) o
+paren_at d f t l o = cond-false _ _ _ (not_deep d l) ∙ after_rest (group_start (st f (code "(" ∷ t))) error_start o
 
 pub question_at : (d : ℕ) (f : Flags) (t : Text) → d + 1 < max_depth →
     atom_start d (st f (code "(" ∷ code "?" ∷ t)) ≡ after_question (st f (code "(" ∷ code "?" ∷ t)) t
@@ -415,7 +415,7 @@ module _ (d : ℕ) (s u : State)
     (first : (q : Outcome (List Tree)) → Pieces d s q → Pieces d u (mapped (empty ∷◌) q)) where
   same_branch : (q : Outcome (List Tree)) → mapped join (mapped (empty ∷◌) q) ≡ mapped join q
   same_branch (done l t) = refl
-  same_branch (failed k p) = refl
+  same_branch (failed e) = refl
 
   branch_after : {q : Outcome Tree} → Branch d s q → Branch d u q
   branch_after (branch {q} p) = subst (Branch d u) (same_branch q) (branch (first q p))

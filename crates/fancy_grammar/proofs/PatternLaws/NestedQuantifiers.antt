@@ -5,7 +5,6 @@ use Rattle.std.specs.Prelude.{option_map, option_and_then, unwrap_or}
 use Rattle.std.proofs.lemmas.Bool.{cond_both, false≢true, and_parts}
 use Rattle.std.proofs.lemmas.Bool.Decides.{nat_tests}
 use Prim.Native.Char.{code}
-use Rattle.fancy_lex.specs.LayoutSteps.{Skipped, rest, failed as open_comment}
 use Rattle.fancy_lex.specs.Text.{Text, bytes, strip}
 use Rattle.fancy_lex.proofs.ReadingLemmas.{choose_both}
 use Rattle.fancy_parts.specs.Quantifier.{counts, braced_counts, counts_from, in_braces, spaced_count, exact_or_range}
@@ -14,7 +13,7 @@ use Rattle.fancy_parts.specs.declared.counts.Counts.{Counts}
 use Rattle.fancy_parts.proofs.CountLaws.{Closed, closes_counts}
 use Rattle.fancy_grammar.specs.Depth.{max_depth}
 use Rattle.fancy_grammar.specs.Label as label
-use Rattle.fancy_grammar.specs.Quantified.{is_repeatable, quant, quant_at, with_counts, suffix, suffix_at, after_lazy}
+use Rattle.fancy_grammar.specs.Quantified.{is_repeatable, quant, with_counts, suffix, after_lazy}
 use Rattle.fancy_grammar.specs.Quantified.{is_greedy, may_be_possessive, Suffix, quantified, is_swapped, is_dropped}
 use Rattle.fancy_grammar.specs.Quantified.{quants, adjacent, max_adjacent, is_unmoved}
 use Rattle.fancy_grammar.specs.Resolved.{resolved_in}
@@ -23,9 +22,9 @@ use Rattle.fancy_grammar.specs.State.{skipped, State, at, Outcome, done, failed}
 use Rattle.fancy_grammar.specs.Tree.{Tree, over}
 use Rattle.fancy_grammar.specs.declared.precedence.Precedence.{Precedence}
 use Rattle.fancy_grammar.specs.declared.precedence.Precedence.TheVariants.{Operand}
-use Rattle.fancy_grammar.proofs.OutcomeLemmas.{Holds, then_holds}
+use Rattle.fancy_grammar.proofs.OutcomeLemmas.{Holds, then_holds, skipped_both}
 use Rattle.fancy_grammar.proofs.ReadLaws.{suffix_reads}
-use Rattle.fancy_grammar.proofs.Slices.{Reads, fits, one_bytes, cut_slice, SkippedSlice, layout_slice}
+use Rattle.fancy_grammar.proofs.Slices.{Reads, fits, one_bytes, cut_slice, skipped_slice}
 use Rattle.fancy_grammar.proofs.PatternLaws.Fitting.{FitAlone}
 use Rattle.fancy_grammar.proofs.PatternLaws.Nested.{Repeats, repeats, low, Fitted, Part, fewer}
 use Rattle.fancy_grammar.proofs.PatternLaws.Outermost.{MayFollow, FitOperands, repeat_operands, repeat_fit, repeat_alone}
@@ -104,7 +103,9 @@ record SuffixRead (w : State) (c : Counts) (m : Suffix) (v : State) : Type 0 whe
   pub possessive : m.possessive ≡ true → may_be_possessive w.flags c ≡ true
 
 suffix_read : (w : State) (c : Counts) → Holds (SuffixRead w c) (suffix w c)
-suffix_read w c = by_layout (skipped w)
+suffix_read w c =
+    skipped_both W (skipped w) _ _ (λ t e.
+    choose_both W (strip (code "?") t) _ _ (λ u e. after_operator true u) (after_operator false t)) (λ p e. tt)
   where
     W : Outcome Suffix → Type 0
     W = Holds (SuffixRead w c)
@@ -118,11 +119,6 @@ suffix_read w c = by_layout (skipped w)
         (λ may. choose_both W (strip (code "+") t) _ _ (λ u e. record { stays = refl; possessive = λ _. may })
         (plain lazy t)) (λ _. plain lazy t)
 
-    by_layout : (j : Skipped) → W (suffix_at w c j)
-    by_layout (rest t) =
-        choose_both W (strip (code "?") t) _ _ (λ u e. after_operator true u) (after_operator false t)
-    by_layout (open_comment p) = tt
-
 -- reading them does not make the rest longer
 record SuffixTaken (w : State) (c : Counts) (m : Suffix) (v : State) : Type 0 where
   pub is_read : SuffixRead w c m v
@@ -134,7 +130,7 @@ suffix_taken w c = both (suffix w c) (suffix_read w c) (suffix_reads w c)
     both : (q : Outcome Suffix) → Holds (SuffixRead w c) q → Reads (λ (m : Suffix) v. Slice w.rest v.rest) w q →
         Holds (SuffixTaken w c) q
     both (done m v) h k = record { is_read = h; fewer = fits k }
-    both (failed k p) h x = tt
+    both (failed e) h x = tt
 
 moved : (s t : State) → bytes t.rest < bytes s.rest → is_unmoved s t ≡ true → ⊥
 moved s t l e = let same : bytes t.rest ≡ bytes s.rest = grind (arith, nat_tests) in omega (arith, l, same)
@@ -258,7 +254,10 @@ module _ (in_mode : Bool) (z : ℕ) (named : Bool) (numbers_of : Text → List �
   quant_part : (j d left : ℕ) (s : State) (a : Tree) (t : State) → Quantified j d s a t →
       Holds (QuantRead j d s t) (quant left a t)
   unfolding quant
-  quant_part j d left s a t h = by_layout (skipped t) (layout_slice t.flags.ignore_space t.rest)
+  quant_part j d left s a t h =
+      skipped_both P (skipped t) _ _ (λ v e.
+      by_counts v (counts t.flags.ignore_space v) (skipped_slice t v e) (closes_counts t.flags.ignore_space v)
+      (operators_in_order t.flags.ignore_space v)) (λ p e. tt)
     where
       P : Outcome Tree → Type 0
       P = Holds (QuantRead j d s t)
@@ -286,12 +285,6 @@ module _ (in_mode : Bool) (z : ℕ) (named : Bool) (numbers_of : Text → List �
             taken = λ _. elsewhere j (suc j) d s a t w (omega arith) k.is_read.stays h;
             unmoved = λ _. elsewhere j j d s a t w (omega arith) k.is_read.stays h;
           })) (λ _. tt))
-
-      by_layout : (q : Skipped) → SkippedSlice t.rest q → P (quant_at left a t q)
-      by_layout (rest v) l =
-          by_counts v (counts t.flags.ignore_space v) l (closes_counts t.flags.ignore_space v)
-          (operators_in_order t.flags.ignore_space v)
-      by_layout (open_comment p) l = tt
 
   -- ---- the quantifiers adjacent to it
 

@@ -28,8 +28,8 @@ use Rattle.fancy_parts.specs.declared.counts.Counts.{Counts}
 use Rattle.fancy_grammar.specs.PatternQuantifier.{operator_left, lazy_operator, possessive_operator}
 use Rattle.fancy_grammar.specs.PatternQuantifier.{quantifier_text, is_possessive as possessive_counts}
 use Rattle.fancy_grammar.specs.Quantified as quantified
-use Rattle.fancy_grammar.specs.Quantified.{is_repeatable, may_be_possessive, quant, quant_at, after_lazy, suffix}
-use Rattle.fancy_grammar.specs.Quantified.{suffix_at, is_swapped}
+use Rattle.fancy_grammar.specs.Quantified.{is_repeatable, may_be_possessive, quant, after_lazy, suffix}
+use Rattle.fancy_grammar.specs.Quantified.{is_swapped}
 use Rattle.fancy_grammar.specs.State.{done, mapped}
 use Rattle.fancy_grammar.specs.Tree.{Tree, repeat, atomic_group}
 use Rattle.fancy_grammar.specs.Join.{is_empty}
@@ -42,6 +42,7 @@ use Rattle.fancy_grammar.proofs.PatternLaws.Rules.{Clear, not_layout, no_questio
 use Rattle.fancy_grammar.proofs.ReadBack.ClearLemmas.{not_open}
 use Rattle.fancy_grammar.proofs.ReadBack.CountTexts.{digit_is, counts_and_rest}
 use Rattle.fancy_grammar.proofs.ReadBack.RuleLemmas.{st}
+use Rattle.fancy_grammar.proofs.OutcomeLemmas.{after_rest}
 
 -- ---- numbers
 
@@ -272,13 +273,13 @@ suffix_read : (f : Flags) (c : Counts) (b possessive : Bool) (v : Text) →
     ≡ done (record { lazy = b; possessive = possessive }) (st f v)
 suffix_read f c true possessive v o k =
     let t = possessive_operator possessive ++ v in
-    ap (suffix_at (st f (code "?" ∷ t)) c) (at_character f.ignore_space (code "?") t refl refl)
+    after_rest _ _ (at_character f.ignore_space (code "?") t refl refl)
     ∙ possessive_read f c true possessive (code "?" ∷ t) v o k
 suffix_read f c false true v o k =
-    ap (suffix_at (st f (code "+" ∷ v)) c) (at_character f.ignore_space (code "+") v refl refl)
+    after_rest _ _ (at_character f.ignore_space (code "+") v refl refl)
     ∙ is_possessive f c false (code "+" ∷ v) v (o refl)
 suffix_read f c false false v o k =
-    ap (suffix_at (st f v) c) k.no_layout
+    after_rest _ _ k.no_layout
     ∙ ap (λ o. choose o (after_lazy (st f v) c true) (after_lazy (st f v) c false v)) k.no_question
     ∙ no_possessive f c false v v k.no_plus
 
@@ -317,7 +318,7 @@ quant_by : (left : ℕ) (f : Flags) (a b : Tree) (q v : Text) (possessive : Bool
 unfolding quant
 quant_by left f a b q v possessive lo hi braces greedy o k r m e =
     let read_counts : Counts = record { low = lo; high = hi; braces = braces } in
-    ap (quant_at left a (st f q)) m.no_layout
+    after_rest _ _ m.no_layout
     ∙ ap (quantified.with_counts left a (st f q)) m.counted
     ∙ cond-true _ _ _ r
     ∙ ap (mapped (λ m. quantified.quantified f read_counts m a))

@@ -1,11 +1,11 @@
 -- What is read nests in its text no deeper than in the pattern, so the text of every parsed tree fits. By one induction
 -- on the derivation.
-use Rattle.std.proofs.Common.{◌≡◌, ℕ, ◌+◌, ◌<◌, Bool, not, ◌&&◌, ◌==◌, List, [], ◌∷◌, refl, sym}
+use Rattle.std.proofs.Common.{◌≡◌, ℕ, ◌+◌, ◌<◌, Bool, not, ◌&&◌, ◌==◌, List, [], ◌∷◌, refl, sym, length}
 use Rattle.std.proofs.Common.{◌∙◌, subst, arith, inl}
 use Rattle.std.proofs.lemmas.Bool.{cond_both}
 use Rattle.std.specs.List.{AllByRecursion}
 use Prim.Native.Char.{code}
-use Rattle.fancy_lex.specs.Text.{Text, bytes, reach_of}
+use Rattle.fancy_lex.specs.Text.{Text, bytes, reach_of, strip}
 use Rattle.fancy_lex.specs.declared.flags.Flags.{Flags}
 use Rattle.fancy_parts.specs.Ranks.{only_named}
 use Rattle.fancy_grammar.specs.AtomStart.{AtomStart, nothing, read, of_kind, condition, body, absent_branch}
@@ -15,7 +15,7 @@ use Rattle.fancy_grammar.specs.Grammar.{Alternation, alternation, Branches, last
 use Rattle.fancy_grammar.specs.Grammar.{Pieces, stop, next, piece_error, Piece, piece, layout_error, Atom, atom, AtomOf}
 use Rattle.fancy_grammar.specs.Grammar.{a_nothing, a_read, a_group, a_condition, condition_error, a_body, two_branches}
 use Rattle.fancy_grammar.specs.Grammar.{one_branch, absent_error, Inside, inside, Body, the_body, Whole, whole, start}
-use Rattle.fancy_grammar.specs.Grammar.{closed, closed_at, ended, ended_at, branches_of, conditional_of, after_atom}
+use Rattle.fancy_grammar.specs.Grammar.{closed, ended, branches_of, conditional_of, after_atom}
 use Rattle.fancy_grammar.specs.Grammar.{restored}
 use Rattle.fancy_grammar.specs.Grammar.{is_condition, clear_or_stopper}
 use Rattle.fancy_grammar.specs.Items.{openings, numbers_in}
@@ -39,20 +39,13 @@ use Rattle.fancy_grammar.proofs.PatternLaws.NestedGroups.{group_grouped, conditi
 use Rattle.fancy_grammar.proofs.PatternLaws.NestedGroups.{expression_grouped, stopper_grouped, conditional_grouped}
 use Rattle.fancy_grammar.proofs.PatternLaws.NestedGroups.{target_grouped, target_fitted, target_suits}
 use Rattle.fancy_grammar.proofs.PatternLaws.Suited.{Suits}
+use Rattle.fancy_lex.proofs.ReadingLemmas.{choose_both}
 
 closed_holds : (P : Tree → State → Type 0) (r : Tree) (s : State) → ((u : Text) → P r (at s u)) → Holds P (closed r s)
-closed_holds P r s h = by_text s.rest
-  where
-    by_text : (t : Text) → Holds P (closed_at r s t)
-    by_text [] = tt
-    by_text (c ∷ t) = cond_both (c == code ")") _ _ (Holds P) (λ _. h t) (λ _. tt)
+closed_holds P r s h = choose_both (Holds P) (strip (code ")") s.rest) _ _ (λ t e. h t) tt
 
 ended_holds : (P : Tree → State → Type 0) (r : Tree) (s : State) → P r s → Holds P (ended r s)
-ended_holds P r s h = by_text s.rest
-  where
-    by_text : (t : Text) → Holds P (ended_at r s t)
-    by_text [] = h
-    by_text (c ∷ t) = tt
+ended_holds P r s h = cond_both (length s.rest == 0) _ _ (Holds P) (λ _. h) (λ _. tt)
 
 each_flags : (R : ℕ → Tree → Tree) (f g : Flags) (l : List Tree) → f ≡ g →
     AllByRecursion (λ r. (c : ℕ) → Suits f (R c r)) l → AllByRecursion (λ r. (c : ℕ) → Suits g (R c r)) l
@@ -81,7 +74,7 @@ module _ (in_mode : Bool) (z : ℕ) (named : Bool) (numbers_of : Text → List �
   group_part : (d : ℕ) (s : State) → s.flags.oniguruma_mode ≡ in_mode → (q : Outcome Tree) →
       Holds (λ r t. Grouped in_mode R d r) q → Holds (Part in_mode R 3 d s) (restored s.flags q)
   group_part d s o (done r t) h = restored_part d s o r t h
-  group_part d s o (failed k p) h = tt
+  group_part d s o (failed e) h = tt
 
   after_part : (e : AtomStart) (d : ℕ) (s : State) → s.flags.oniguruma_mode ≡ in_mode → (q : Outcome Tree) →
       AtomHolds e d s q → Holds (Part in_mode R 3 d s) (after_atom e s.flags q)
@@ -94,7 +87,7 @@ module _ (in_mode : Bool) (z : ℕ) (named : Bool) (numbers_of : Text → List �
 
   leaf_holds : (d : ℕ) (s : State) (q : Outcome Tree) → Holds (LeafRead in_mode d s) q → Holds (Part in_mode R 3 d s) q
   leaf_holds d s (done r t) h = leaf_part in_mode z named numbers_of d s r t h
-  leaf_holds d s (failed k p) h = tt
+  leaf_holds d s (failed e) h = tt
 
   joined : (d : ℕ) (s : State) (l : List Tree) (t : State) → Parts in_mode R 2 d s l t → Part in_mode R 1 d s (join l) t
   joined d s l t h =
@@ -193,7 +186,7 @@ module _ (in_mode : Bool) (z : ℕ) (named : Bool) (numbers_of : Text → List �
 
     atom_fits : {d : ℕ} {s : State} {q : Outcome Tree} → Atom d s q → d < max_depth →
         s.flags.oniguruma_mode ≡ in_mode → Holds (Part in_mode R 3 d s) q
-    atom_fits (atom {d} {s} {e} {q} is a) l o =
+    atom_fits (atom {d} {s} {k = e} {q} is a) l o =
         after_part e d s o q
         (of_fits a l o (subst (StartMode in_mode d s) is (start_mode in_mode d s o))
         (subst (OpensBelow d) is (start_below d s)))

@@ -25,10 +25,10 @@ use Rattle.fancy_grammar.specs.Label as label
 use Rattle.fancy_grammar.specs.GroupInfo.{GroupInfo}
 use Rattle.fancy_grammar.specs.Pattern.{Context, under, past_groups, group_count, is_in_digits}
 use Rattle.fancy_grammar.specs.Quantified as quantified
-use Rattle.fancy_grammar.specs.Quantified.{quant, quant_at, quants, adjacent}
+use Rattle.fancy_grammar.specs.Quantified.{quant, quants, adjacent}
 use Rattle.fancy_grammar.specs.State.{done}
 use Rattle.fancy_grammar.specs.Tree.{Tree, empty, concat}
-use Rattle.fancy_grammar.proofs.OutcomeLemmas.{piece_as}
+use Rattle.fancy_grammar.proofs.OutcomeLemmas.{piece_as, after_rest}
 use Rattle.fancy_grammar.proofs.ReadBack.ClearLemmas.{begins_quantifier, no_layout, no_quantifier_is}
 use Rattle.fancy_grammar.proofs.ReadBack.RuleLemmas.{st}
 use Rattle.fancy_grammar.proofs.PatternLaws.Becomes.{Becomes, EachBecomes, one_becomes, solid_also, each_in_longer}
@@ -169,7 +169,7 @@ pub quant_past : (left : ℕ) (f : Flags) (a : Tree) (v u : Text) → layout f.i
     begins_quantifier u ≡ false → quant left a (st f v) ≡ done a (st f u)
 unfolding quant
 quant_past left f a v u e m =
-    ap (quant_at left a (st f v)) e ∙ ap (quantified.with_counts left a (st f u)) (no_counts f.ignore_space u m)
+    after_rest _ _ e ∙ ap (quantified.with_counts left a (st f u)) (no_counts f.ignore_space u m)
 
 pub quant_none : (left : ℕ) (f : Flags) (a : Tree) (v : Text) → Clear f.ignore_space v →
     quant left a (st f v) ≡ done a (st f v)
@@ -184,12 +184,12 @@ pub adjacent_none : (k d : ℕ) (f : Flags) (b : Tree) (v : Text) → Clear f.ig
 unfolding adjacent
 adjacent_none zero d f b v c =
     ap (λ q. states.and_then q (λ b t. if quantified.is_unmoved (st f v) t then done b t
-    else states.failed_with (quantifier_too_deep t.rest))) (quant_none (bytes v) f b v c)
+    else states.failed (quantifier_too_deep t.rest))) (quant_none (bytes v) f b v c)
     ∙ cond-true _ _ _ (unmoved (bytes v))
 adjacent_none (suc k) d f b v c =
     ap (λ q. states.and_then q (λ b t. if quantified.is_unmoved (st f v) t then done b t
     else if nat_lt (d + 1) max_depth then adjacent k (d + 1) b t
-    else states.failed_with (quantifier_too_deep t.rest))) (quant_none (bytes v) f b v c)
+    else states.failed (quantifier_too_deep t.rest))) (quant_none (bytes v) f b v c)
     ∙ cond-true _ _ _ (unmoved (bytes v))
 
 -- before such a text, one quantifier at most is read

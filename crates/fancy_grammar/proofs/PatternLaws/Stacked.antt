@@ -17,7 +17,7 @@ use Rattle.fancy_grammar.specs.PatternDepth.{Fits, FitsInParensIf, MayOpenIf, is
 use Rattle.fancy_grammar.specs.PatternNeeds.{settled}
 use Rattle.fancy_grammar.specs.PatternQuantifier.{is_quantified, most_quantifiers}
 use Rattle.fancy_grammar.specs.Quantified.{is_repeatable, is_unmoved, quant, quants, adjacent, max_adjacent}
-use Rattle.fancy_grammar.specs.State.{done, failed_with, and_then}
+use Rattle.fancy_grammar.specs.State.{done, failed, and_then}
 use Rattle.fancy_grammar.specs.Tree.{Tree, leaf, over, row, no_trees, more_trees}
 use Rattle.fancy_grammar.specs.declared.precedence.Precedence.{Precedence}
 use Rattle.fancy_grammar.specs.declared.precedence.Precedence.TheVariants.{Operand}
@@ -48,7 +48,7 @@ adjacent_step : (k d : ℕ) (f : Flags) (b c : Tree) (w v : Text) → quant (byt
 unfolding adjacent
 adjacent_step k d f b c w v e less deep =
     ap (λ q. and_then q (λ b t. if is_unmoved (st f w) t then done b t
-    else if nat_lt (d + 1) max_depth then adjacent k (d + 1) b t else failed_with (quantifier_too_deep t.rest))) e
+    else if nat_lt (d + 1) max_depth then adjacent k (d + 1) b t else failed (quantifier_too_deep t.rest))) e
     ∙ (cond-false _ _ _ (moved (bytes v) (bytes w) less) ∙ cond-true _ _ _ (lt-ltb (d + 1) max_depth deep))
 
 -- in Oniguruma mode the first quantifier, and the ones adjacent to it

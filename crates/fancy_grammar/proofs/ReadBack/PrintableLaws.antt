@@ -58,7 +58,7 @@ delegate_whole (c ∷ s) t d h = h
 
 delegate_leaf : (o : Outcome Tree) (d : Tree) → IsDelegate d → IsDelegate (unwrap_or (whole_leaf o) d)
 delegate_leaf (done t s) d h = delegate_whole s.rest t d h
-delegate_leaf (failed k p) d h = h
+delegate_leaf (failed e) d h = h
 
 pub delegate_class : (f : Flags) (s : Text) (d : Tree) → IsDelegate d → IsDelegate (unwrap_or (class_of f s) d)
 unfolding class_of

@@ -7,11 +7,12 @@ use Rattle.std.proofs.lemmas.Bool.Decides.{nat_tests}
 use Rattle.std.proofs.Math.Bool.{and-true, and-false, not-not}
 use Rattle.std.specs.List.{AllByRecursion, AllZip}
 use Prim.Native.Char.{code}
-use Rattle.fancy_lex.specs.Located.{Kind, recursion_exceeded}
+use Rattle.fancy_lex.specs.Located.{Located}
 use Rattle.fancy_lex.specs.LayoutSteps.{layout, after_comment_start, rest}
 use Rattle.fancy_lex.specs.Reading.{gives, choose, layout_reading}
 use Rattle.fancy_lex.specs.Text.{Text, bytes, IsPositionOf, reach_of}
 use Rattle.fancy_lex.specs.declared.flags.Flags.{Flags}
+use Rattle.fancy_lex.specs.ErrorTable.{group_too_deep}
 use Rattle.fancy_parts.specs.FlagLetters.{Letters, flag_group as scoped, flags_end, flags_go_on}
 use Rattle.fancy_parts.specs.LetterSteps.{letters, letters_in, step}
 use Rattle.fancy_parts.specs.Quantifier.{counts}
@@ -20,7 +21,7 @@ use Rattle.fancy_parts.specs.declared.counts.Counts.{Counts}
 use Rattle.fancy_parts.proofs.FlagLemmas.{letters_start, in_end, in_go}
 use Rattle.fancy_grammar.specs.State as states
 use Rattle.fancy_grammar.specs.AtomStart.{read, of_kind, atom_start, begins_no_atom, flags_start, after_question}
-use Rattle.fancy_grammar.specs.AtomStart.{group_start, after_layout, leaf_of, leaf_node, leaf_outcome}
+use Rattle.fancy_grammar.specs.AtomStart.{group_start, error_start, leaf_of, leaf_node, leaf_outcome}
 use Rattle.fancy_grammar.specs.Depth.{max_depth}
 use Rattle.fancy_grammar.specs.Grammar.{Alternation, alternation, Branches, last, more, branch_error, Branch, branch}
 use Rattle.fancy_grammar.specs.Grammar.{Pieces, stop, next, piece_error, Piece, piece, Atom, atom, a_read, a_group}
@@ -31,14 +32,14 @@ use Rattle.fancy_grammar.specs.Label as label
 use Rattle.fancy_grammar.specs.Label.{Row}
 use Rattle.fancy_grammar.specs.Join.{is_empty, solid, one_or, join, choice}
 use Rattle.fancy_grammar.specs.Quantified as quantified
-use Rattle.fancy_grammar.specs.Quantified.{is_repeatable, may_be_possessive, quant, quant_at, quants}
-use Rattle.fancy_grammar.specs.Quantified.{adjacent, max_adjacent, after_lazy, suffix, suffix_at}
+use Rattle.fancy_grammar.specs.Quantified.{is_repeatable, may_be_possessive, quant, quants}
+use Rattle.fancy_grammar.specs.Quantified.{adjacent, max_adjacent, after_lazy, suffix}
 use Rattle.fancy_grammar.specs.Resolved.{resolved_in, resolved_all}
 use Rattle.fancy_grammar.specs.State.{skipped, State, Outcome, done, failed, and_then, mapped}
 use Rattle.fancy_grammar.specs.Tree as tree
 use Rattle.fancy_grammar.specs.Tree.{Tree, row, empty, literal, concat, repeat, trees_of, ast_node}
 use Rattle.fancy_grammar.specs.Tree.{ast_group}
-use Rattle.fancy_grammar.proofs.OutcomeLemmas.{trees_before, before-nil, solid-append, piece_as}
+use Rattle.fancy_grammar.proofs.OutcomeLemmas.{trees_before, before-nil, solid-append, piece_as, after_rest}
 use Rattle.fancy_grammar.specs.Normal.{unicode_flags, case_flags}
 use Rattle.fancy_grammar.proofs.ReadBack.InFront.{put_as}
 use Rattle.fancy_grammar.proofs.ReadBack.ClearLemmas.{Clear, no_layout, clear_counts, clear_lazy, clear_star}
@@ -207,7 +208,7 @@ no_run d f v = record {
 before_append : (l m : List Tree) (q : Outcome (List Tree)) →
     trees_before l (trees_before m q) ≡ trees_before (l ++ m) q
 before_append l m (done k s) = ap (λ n. done n s) (sym (append_assoc l m k))
-before_append l m (failed k e) = refl
+before_append l m (failed e) = refl
 
 pub run_chain : {d : ℕ} {f : Flags} {s t v : Text} {xs ys : List Tree} → Run d f s t xs → Run d f t v ys →
     Run d f s v (xs ++ ys)
@@ -246,7 +247,7 @@ quant_none : (left : ℕ) (f : Flags) (a : Tree) (v : Text) → Kept f → Clear
     quant left a (st f v) ≡ done a (st f v)
 unfolding quant
 quant_none left f a v k c =
-    ap (quant_at left a (st f v)) (skip_here f v k c.no_comment)
+    after_rest _ _ (skip_here f v k c.no_comment)
     ∙ ap (quantified.with_counts left a (st f v)) (clear_counts f.ignore_space v c)
 
 -- an atom that no quantifier follows
@@ -281,11 +282,11 @@ no_possessive f c b s v k = rw (clear_plus v k) (same_if (may_be_possessive f c)
 lazy_read : (f : Flags) (c : Counts) (v : Text) (greedy : Bool) → Kept f → Clear v →
     suffix (st f (lazy greedy ++ v)) c ≡ done (record { lazy = not greedy; possessive = false }) (st f v)
 lazy_read f c v true k h =
-    ap (suffix_at (st f v) c) (skip_here f v k h.no_comment)
+    after_rest _ _ (skip_here f v k h.no_comment)
     ∙ ap (λ o. choose o (after_lazy (st f v) c true) (after_lazy (st f v) c false v)) (clear_lazy v h)
     ∙ no_possessive f c false v v h
 lazy_read f c v false k h =
-    ap (suffix_at (st f (code "?" ∷ v)) c) (skip_here f (code "?" ∷ v) k refl)
+    after_rest _ _ (skip_here f (code "?" ∷ v) k refl)
     ∙ no_possessive f c true (code "?" ∷ v) v h
 
 quant_some : (left : ℕ) (f : Flags) (a : Tree) (q v : Text) (lo hi : ℕ) (greedy : Bool) → Kept f → Clear v →
@@ -294,7 +295,7 @@ quant_some : (left : ℕ) (f : Flags) (a : Tree) (q v : Text) (lo hi : ℕ) (gre
 unfolding quant
 quant_some left f a q v lo hi greedy k c m r =
     let read_counts : Counts = record { low = lo; high = hi; braces = m.braces } in
-    ap (quant_at left a (st f q)) (skip_here f q k m.no_comment)
+    after_rest _ _ (skip_here f q k m.no_comment)
     ∙ ap (λ x. quantified.with_counts left a (st f q) (counts x q)) k.no_space
     ∙ ap (quantified.with_counts left a (st f q)) m.counts
     ∙ cond-true _ _ _ r
@@ -364,7 +365,7 @@ opening_at : (d : ℕ) (f : Flags) (t : Text) → Kept f → d + 1 < max_depth �
     atom_start d (st f (code "(" ∷ t)) ≡ group_start (st f (code "(" ∷ t)) t
 unfolding atom_start
 opening_at d f t k l o = cond-false _ _ _ (not_deep d l)
-    ∙ ap (after_layout (st f (code "(" ∷ t))) (skip_here f t k o)
+    ∙ after_rest (group_start (st f (code "(" ∷ t))) error_start (skip_here f t k o)
 
 -- a parenthesis without a group kind after it
 capture_start : (f : Flags) (s t : Text) → Clear t → group_start (st f s) t ≡ of_kind (capture None) (st f t)
@@ -518,36 +519,36 @@ reads_char d f c v (Some x) e =
 
 -- a group that is too deep
 pub fails_deep : (d : ℕ) (f : Flags) (t : Text) → max_depth ≤ d + 1 →
-    Atom d (st f (code "(" ∷ t)) (failed recursion_exceeded (reach_of (code "(" ∷ t)))
+    Atom d (st f (code "(" ∷ t)) (failed (group_too_deep (code "(" ∷ t)))
 unfolding atom_start
 fails_deep d f t h =
     let deep : nat_le max_depth (d + 1) ≡ true = le-leb max_depth (d + 1) h in atom (cond-true _ _ _ deep) a_read
 
-module _ (d : ℕ) (f : Flags) (k : Kind) (p : ℕ) where
+module _ (d : ℕ) (f : Flags) (error : Located) where
   fails_kind : (g : Flags) (h : GroupKind) (s t : Text) → atom_start d (st f s) ≡ of_kind h (st g t) →
-      Alternation (d + 1) (st g t) (failed k p) → Atom d (st f s) (failed k p)
+      Alternation (d + 1) (st g t) (failed error) → Atom d (st f s) (failed error)
   fails_kind g h s t e w = atom e (a_group (inside w))
 
-  pub fails_group : (s : Text) → Kept f → d + 1 < max_depth → Clear s → Alternation (d + 1) (st f s) (failed k p) →
-      Atom d (st f (code "(" ∷ s)) (failed k p)
+  pub fails_group : (s : Text) → Kept f → d + 1 < max_depth → Clear s → Alternation (d + 1) (st f s) (failed error) →
+      Atom d (st f (code "(" ∷ s)) (failed error)
   fails_group s h l c w = fails_kind f (capture None) (code "(" ∷ s) s (group_at d f s h l c) w
 
-  pub fails_grouped : (s : Text) → Kept f → d + 1 < max_depth → Alternation (d + 1) (st f s) (failed k p) →
-      Atom d (st f (code "(" ∷ code "?" ∷ code ":" ∷ s)) (failed k p)
+  pub fails_grouped : (s : Text) → Kept f → d + 1 < max_depth → Alternation (d + 1) (st f s) (failed error) →
+      Atom d (st f (code "(" ∷ code "?" ∷ code ":" ∷ s)) (failed error)
   fails_grouped s h l w = fails_kind f flag_group (code "(" ∷ code "?" ∷ code ":" ∷ s) s (grouped_at d f s h l) w
 
   pub fails_piece : (s : Text) → Kept f → states.ends s ≡ false → after_comment_start s ≡ None →
-      Atom d (st f s) (failed k p) → Pieces d (st f s) (failed k p)
+      Atom d (st f s) (failed error) → Pieces d (st f s) (failed error)
   fails_piece s h e o a = piece_error e (piece (skip_here f s h o) a)
 
-  pub fails_first : (s : Text) → Pieces d (st f s) (failed k p) → Branches d (st f s) (failed k p)
+  pub fails_first : (s : Text) → Pieces d (st f s) (failed error) → Branches d (st f s) (failed error)
   fails_first s q = branch_error (branch q)
 
-  pub fails_more : (s t : Text) (x : Tree) → BranchAs d f s (code "|" ∷ t) x → Branches d (st f t) (failed k p) →
-      Branches d (st f s) (failed k p)
+  pub fails_more : (s t : Text) (x : Tree) → BranchAs d f s (code "|" ∷ t) x → Branches d (st f t) (failed error) →
+      Branches d (st f s) (failed error)
   fails_more s t x b q = more b.derives refl q
 
-  pub fails_whole : (s : Text) → Branches d (st f s) (failed k p) → Alternation d (st f s) (failed k p)
+  pub fails_whole : (s : Text) → Branches d (st f s) (failed error) → Alternation d (st f s) (failed error)
   fails_whole s q = alternation q
 
 -- ---- a whole text
@@ -556,6 +557,6 @@ pub reads_text : (f : Flags) (s : Text) (x : Tree) → WholeAs 0 f s [] x →
     (r : Tree) × DerivesTree f s r × Becomes r x
 reads_text f s x w = (w.tree, (_, whole w.derives), w.becomes)
 
-pub fails_text : (f : Flags) (s : Text) (k : Kind) (p q : ℕ) → Alternation 0 (st f s) (failed k q) →
-    IsPositionOf (bytes s) q p → FailsWith f s k p
-fails_text f s k p q w at = (q, whole w, at)
+pub fails_text : (f : Flags) (s : Text) (e : Located) (p : ℕ) → Alternation 0 (st f s) (failed e) →
+    IsPositionOf (bytes s) e.reach p → FailsWith f s e.kind p
+fails_text f s e p w at = (e.reach, whole w, at)

@@ -7,6 +7,7 @@ use Rattle.fancy_lex.specs.Located.{recursion_exceeded}
 use Rattle.fancy_lex.specs.Text.{Text, bytes, IsPositionOf, reach_of}
 use Rattle.fancy_lex.specs.declared.escape.Assertion.{Assertion}
 use Rattle.fancy_lex.specs.declared.escape.Assertion.TheVariants.{StartLine, StartLineOniguruma, EndLine}
+use Rattle.fancy_lex.specs.ErrorTable.{group_too_deep}
 use Rattle.fancy_parts.specs.Quote.{quantifier}
 use Rattle.fancy_lex.proofs.TextLemmas.{bytes-append}
 use Rattle.fancy_grammar.specs.Depth.{max_depth, most_open}
@@ -65,16 +66,16 @@ repeated_left t d v = left_if (is_long t) d (put t OPERAND) (left t OPERAND) v
 
 -- What k prints before v, with m groups nested, fails at the text that o gives.
 abbrev AtomFails : Bool → ℕ → Text → Text → Type 0
-AtomFails u d s at = Atom d (st (unicode_flags u) s) (failed recursion_exceeded (reach_of at))
+AtomFails u d s at = Atom d (st (unicode_flags u) s) (failed (group_too_deep at))
 
 abbrev PiecesFail : Bool → ℕ → Text → Text → Type 0
-PiecesFail u d s at = Pieces d (st (unicode_flags u) s) (failed recursion_exceeded (reach_of at))
+PiecesFail u d s at = Pieces d (st (unicode_flags u) s) (failed (group_too_deep at))
 
 abbrev BranchesFail : Bool → ℕ → Text → Text → Type 0
-BranchesFail u d s at = Branches d (st (unicode_flags u) s) (failed recursion_exceeded (reach_of at))
+BranchesFail u d s at = Branches d (st (unicode_flags u) s) (failed (group_too_deep at))
 
 abbrev WholeFails : Bool → ℕ → Text → Text → Type 0
-WholeFails u d s at = Alternation d (st (unicode_flags u) s) (failed recursion_exceeded (reach_of at))
+WholeFails u d s at = Alternation d (st (unicode_flags u) s) (failed (group_too_deep at))
 
 abbrev FailsAtom : Bool → (Text → Text) → ℕ → (ℕ → Text → Text) → Type 0
 FailsAtom u k m o = (d : ℕ) (v : Text) → d < max_depth → max_depth ≤ d + m → AtomFails u d (k v) (o d v)
@@ -104,12 +105,12 @@ EachFails u (more_trees t ts) = Fails u t × EachFails u ts
 
 to_whole : (u : Bool) (k : Text → Text) (m : ℕ) (o : ℕ → Text → Text) → FailsRun u k m o → FailsWhole u k m o
 to_whole u k m o r d v l h e =
-    fails_whole d (unicode_flags u) recursion_exceeded _ (k v)
-    (fails_first d (unicode_flags u) recursion_exceeded _ (k v) (r d v l h e.stops.clear))
+    fails_whole d (unicode_flags u) _ (k v)
+    (fails_first d (unicode_flags u) _ (k v) (r d v l h e.stops.clear))
 
 atom_run : (u : Bool) (k : Text → Text) (m : ℕ) (o : ℕ → Text → Text) → Starts k → FailsAtom u k m o → FailsRun u k m o
 atom_run u k m o s a d v l h _ =
-    fails_piece d (unicode_flags u) recursion_exceeded _ (k v) (kept_unicode u) (s v).goes
+    fails_piece d (unicode_flags u) _ (k v) (kept_unicode u) (s v).goes
     (s v).clear.no_comment (a d v l h)
 
 -- never wrapped
@@ -154,7 +155,7 @@ wrap_fails : (u : Bool) (k : Text → Text) (m : ℕ) (o : ℕ → Text → Text
 wrap_fails u k m o w d v l h =
     let s = k (code ")" ∷ v) in
     opened u d (code "?" ∷ code ":" ∷ s) (o (d + 1) (code ")" ∷ v))
-    (λ b. fails_grouped d (unicode_flags u) recursion_exceeded _ s (kept_unicode u) b
+    (λ b. fails_grouped d (unicode_flags u) _ s (kept_unicode u) b
     (w (d + 1) (code ")" ∷ v) b (omega arith) (ends_close v))) l
 
 -- wrapped from 1 on, from 2 on, from 3 on
@@ -218,7 +219,7 @@ group_fails u t h r =
     by_atom u k (1 + nest t WHOLE) (λ d v. left_open d (k v) (left t WHOLE (d + 1) (code ")" ∷ v)))
     (λ v. begins_group (put t WHOLE (code ")" ∷ v)) (clear v))
     (λ d v l m. opened u d (put t WHOLE (code ")" ∷ v)) (left t WHOLE (d + 1) (code ")" ∷ v))
-    (λ b. fails_group d (unicode_flags u) recursion_exceeded _ (put t WHOLE (code ")" ∷ v)) (kept_unicode u) b (clear v)
+    (λ b. fails_group d (unicode_flags u) _ (put t WHOLE (code ")" ∷ v)) (kept_unicode u) b (clear v)
     (r.whole (d + 1) (code ")" ∷ v) b (omega arith) (ends_close v))) l)
 
 concat_fails : (u : Bool) (ts : Trees) → ArePrintable ts → EachReads u ts → EachFails u ts →
@@ -238,17 +239,17 @@ alt_fails : (u : Bool) (ts : Trees) → EachReads u ts → EachFails u ts → (d
 alt_fails u no_trees r q d v l m e = absurd (omega arith)
 alt_fails u (more_trees t no_trees) r q d v l m e =
     cond_both (nat_le max_depth (d + nest t BRANCH)) _ _ (λ at. BranchesFail u d (put t BRANCH v) at)
-    (λ yes. fails_first d (unicode_flags u) recursion_exceeded _ (put t BRANCH v)
+    (λ yes. fails_first d (unicode_flags u) _ (put t BRANCH v)
     (q.0.branch d v l (leb-true max_depth (d + nest t BRANCH) yes) e.stops.clear))
     (λ no. let b = leb-false max_depth (d + nest t BRANCH) no in absurd (omega arith))
 alt_fails u (more_trees t (more_trees x xs)) r q d v l m e =
     let rest = put x BRANCH (put_barred xs v) in
     cond_both (nat_le max_depth (d + nest t BRANCH)) _ _ (λ at. BranchesFail u d (put t BRANCH (code "|" ∷ rest)) at)
-    (λ yes. fails_first d (unicode_flags u) recursion_exceeded _ (put t BRANCH (code "|" ∷ rest))
+    (λ yes. fails_first d (unicode_flags u) _ (put t BRANCH (code "|" ∷ rest))
     (q.0.branch d (code "|" ∷ rest) l (leb-true max_depth (d + nest t BRANCH) yes) (stops_bar rest).clear))
     (λ no.
     let b = leb-false max_depth (d + nest t BRANCH) no in
-    fails_more d (unicode_flags u) recursion_exceeded _ (put t BRANCH (code "|" ∷ rest)) rest _
+    fails_more d (unicode_flags u) _ (put t BRANCH (code "|" ∷ rest)) rest _
     (r.0.branch d (code "|" ∷ rest) b (stops_bar rest))
     (alt_fails u (more_trees x xs) r.1 q.1 d v l (omega arith) e))
 
@@ -271,7 +272,7 @@ repeat_fails : (u : Bool) (t : Tree) (lo hi : ℕ) (greedy : Bool) → Printable
 repeat_fails u t lo hi greedy h q d v l m c =
     let w = quantifier lo hi greedy ++ v in
     let b = begins_repeated t (h.1 false) (begins_atom t h.0) w in
-    fails_piece d (unicode_flags u) recursion_exceeded _ (put_repeated t w) (kept_unicode u) b.goes
+    fails_piece d (unicode_flags u) _ (put_repeated t w) (kept_unicode u) b.goes
     b.clear.no_comment (repeated_fails u t q d w l m)
 
 mutual
@@ -291,7 +292,7 @@ mutual
       by_branch u (puts ts) (nests ts PIECE) (lefts ts) (concat_fails u ts h (reads_each u ts h) (fails_each u ts h))
   fails u (alt ts) h =
       by_whole u (put_branches ts) (nests ts BRANCH) (branch_lefts ts)
-      (λ d v l m e. fails_whole d (unicode_flags u) recursion_exceeded _ (put_branches ts v)
+      (λ d v l m e. fails_whole d (unicode_flags u) _ (put_branches ts v)
       (alt_fails u ts (reads_each u ts h) (fails_each u ts h) d v l m e))
   fails u (group t) h = group_fails u t h (fails u t h)
   fails u (repeat t lo hi greedy) h =
@@ -399,7 +400,7 @@ at_level t p u h w =
     let s = put t p [] in
     let at : IsPositionOf (bytes s) (reach_of (left t p 0 [])) (position t p 0) = omega (arith, left_bytes t p 0 []) in
     subst (λ x. DeepFrom u x (position t p 0)) (put_alone t p)
-    (fails_text (unicode_flags u) s recursion_exceeded (position t p 0) _
+    (fails_text (unicode_flags u) s _ (position t p 0)
     (w 0 [] (omega arith) (omega arith) ends_nothing) at)
 
 -- if too many groups nest, the text fails at the first parenthesis that opens too deep

@@ -1,7 +1,7 @@
 //! The error kind that carries a message.
 ghost use Rattle.std.specs.Prelude.{chars};
 ghost use Rattle.fancy_lex.specs.Located as spec;
-ghost use Rattle.fancy_grammar.specs.Errors.{IsErrorAt};
+ghost use Rattle.fancy_grammar.specs.Errors.{IsThisError};
 
 use fancy_lex::error::{ParseError, ReadError};
 use fancy_lex::text::Reach;
@@ -9,7 +9,7 @@ use std::alloc::Global;
 
 /// The general error with this message, or out of memory.
 pub(crate) fn general(alloc: Global, message: &str, reach: Reach) -> ReadError
-    ensures { IsErrorAt result (spec.general_parse_error (chars message.now)) reach }
+    ensures { IsThisError result (record { reach = reach; kind = spec.general_parse_error (chars message.now) }) }
 {
     match String::from_str(alloc, message) {
         Ok(message) => ReadError::At(reach, ParseError::GeneralParseError(message)),

@@ -8,7 +8,7 @@ ghost use Rattle.fancy_parts.specs.NameDelimiter.{delimiter_of};
 ghost use Rattle.fancy_parts.specs.GroupReference as references;
 ghost use Rattle.fancy_grammar.specs.AtomStart.{read, of_kind};
 ghost use Rattle.fancy_grammar.specs.GroupKind as kind;
-ghost use Rattle.fancy_grammar.specs.State.{at, skipped};
+ghost use Rattle.fancy_grammar.specs.State.{at, skipped, after_skipped};
 ghost use Rattle.fancy_grammar.specs.AtomStart as spec;
 ghost use Rattle.fancy_syntax.specs.Parsed.{state, Sees, IsSomething};
 ghost use Rattle.fancy_grammar.specs.Errors.{IsThisError};
@@ -35,8 +35,8 @@ pub(crate) fn after_paren<'a>(
     alloc: Global,
     current: &mut State<'a>,
 ) -> Result<AtomStart<'a>, ReadError>
-    ensures value { Sees result (state current.new) (spec.after_layout (state current.old)
-        (skipped (state current.old))) }
+    ensures value { Sees result (state current.new) (after_skipped (skipped (state current.old))
+        (spec.group_start (state current.old)) spec.error_start) }
     ensures within { length current.new.rest.now ≤ length current.old.rest.now }
     ensures something { IfOk result (λ a. IsSomething a) }
 {

@@ -1,7 +1,7 @@
-use Rattle.std.proofs.Common.{ap, subst}
+use Rattle.std.proofs.Common.{subst}
 use Rattle.std.proofs.lemmas.Result.{err_from_is_err_and}
 use Rattle.std.specs.Str.{chars}
-use Rattle.fancy_grammar.specs.Grammar.{Alternation, Whole, whole, start, ended_at}
+use Rattle.fancy_grammar.specs.Grammar.{Alternation, Whole, whole, start}
 use Rattle.fancy_grammar.specs.State.{done}
 use Rattle.fancy_syntax.specs.Log.{Log}
 use Rattle.fancy_syntax.specs.RecordedWhole.{ShowsWhole}
@@ -10,14 +10,14 @@ use Rattle.fancy_syntax.specs.Parsed.{state}
 use Rattle.fancy_syntax.specs.View.{view}
 use Rattle.fancy_grammar.proofs.ErrorLemmas.{says_end}
 use Rattle.fancy_grammar.proofs.OutcomeLemmas.{IsErrorAmong-map, IsErrorAmong-is}
-use Rattle.fancy_syntax.proofs.WholeLaws.{whole_shown}
+use Rattle.fancy_syntax.proofs.WholeLaws.{ended_done, ended_left, whole_shown}
 use Rattle.fancy_syntax.proofs.grammar.parse.Goals as goal
 
 pub returns-in_err-tree-clause-reads : goal.returns-in_err-tree-clause-reads
 returns-in_err-tree-clause-reads g c =
     let e = err_from_is_err_and c.from_residual.result c.from_residual.ensures.1 in
     rw (e.1, e.2) (IsErrorAmong-map (Alternation 0 (start c.args.flags (chars c.args.text.now)))
-    (Whole c.args.flags (chars c.args.text.now)) c.in_err-tree.field-0.0 (λ k p h. whole h)
+    (Whole c.args.flags (chars c.args.text.now)) c.in_err-tree.field-0.0 (λ f h. whole h)
     c.in_err-tree.ensures.value)
 
 pub returns-in-None-clause-reads : goal.returns-in-None-clause-reads
@@ -25,7 +25,7 @@ returns-in-None-clause-reads g c =
     let current = state c.in_ok-tree.current in (
       current,
       subst (Whole c.args.flags (chars c.args.text.now))
-          (ap (ended_at (view c.in_ok-tree.tree) current) c.in-None.ensures.value) (whole c.in_ok-tree.ensures.value),
+          (ended_done (view c.in_ok-tree.tree) current c.in-None.ensures.value) (whole c.in_ok-tree.ensures.value),
     )
 
 pub returns-in-None-clause-spans : goal.returns-in-None-clause-spans
@@ -39,7 +39,7 @@ returns-in-None-clause-spans g c l is n =
       (
         current,
         subst (λ o. ShowsWhole c.args.flags (chars c.args.text.now) o m)
-            (ap (ended_at (view c.in_ok-tree.tree) current) c.in-None.ensures.value) (whole_shown from),
+            (ended_done (view c.in_ok-tree.tree) current c.in-None.ensures.value) (whole_shown from),
       ),
     )
 
@@ -47,7 +47,7 @@ pub returns-in-Some-clause-reads : goal.returns-in-Some-clause-reads
 returns-in-Some-clause-reads g c =
     let f = says_end c.general.result c.reach.result c.general.ensures in
     let current = state c.in_ok-tree.current in
-    IsErrorAmong-is (Whole c.args.flags (chars c.args.text.now)) c.general.result _ _
+    IsErrorAmong-is (Whole c.args.flags (chars c.args.text.now)) c.general.result _
     (rw c.reach.ensures at f)
     (subst (Whole c.args.flags (chars c.args.text.now))
-    (ap (ended_at (view c.in_ok-tree.tree) current) c.in-Some.ensures.value) (whole c.in_ok-tree.ensures.value))
+    (ended_left (view c.in_ok-tree.tree) current _ _ c.in-Some.ensures.value) (whole c.in_ok-tree.ensures.value))

@@ -18,8 +18,8 @@ returns-in_err-quantify_once-clause-value g c =
     (state c.loop-past.current) ≡ o)
     (λ o. adjacent max_adjacent c.args.depth (view c.args.tree.now) (state c.args.current.now) ≡ o)
     c.in_err-quantify_once.field-0.0
-    (λ k p h. c.loop-past.invariant.value
-    ∙ adjacent_error _ _ _ _ (from_start _ _ _ (failed k p) c.byte_len-before.ensures h))
+    (λ f h. c.loop-past.invariant.value
+    ∙ adjacent_error _ _ _ _ (from_start _ _ _ (failed f) c.byte_len-before.ensures h))
     c.in_err-quantify_once.ensures.value)
 
 pub returns-then-byte_len-before-clause-value : goal.returns-then-byte_len-before-clause-value

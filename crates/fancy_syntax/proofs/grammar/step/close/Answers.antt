@@ -19,7 +19,7 @@ returns-in_err-atom-clause-value g c =
     (IsErrorAmong-map
     (λ q. ended_part (part_of c.args.part.open_group) (view c.args.part.inner) (state c.args.current.now) ≡ q)
     (Piece c.args.depth s)
-    c.in_err-atom.field-0.0 (λ k q h. ended_error n (view c.args.part.inner) (state c.args.current.now) o p
+    c.in_err-atom.field-0.0 (λ f h. ended_error n (view c.args.part.inner) (state c.args.current.now) o p
     (λ _ _. c.requires.no_bar) h) c.in_err-atom.ensures.value)
 
 pub returns-then-is_unquantified-clause-value : goal.returns-then-is_unquantified-clause-value

@@ -12,7 +12,7 @@ use Rattle.fancy_syntax.proofs.grammar.step.read_end.Goals as goal
 pub returns-then-lacks_body-clause-value : goal.returns-then-lacks_body-clause-value
 returns-then-lacks_body-clause-value c =
     λ r. IsErrorAmong-is (λ q. ended_part (part_of c.args.open_group.now) r (state c.args.current.now) ≡ q)
-    c.general.result _ _
+    c.general.result _
     (says_no_body c.general.result c.reach.result c.general.ensures)
     (rw c.reach.ensures
     (ended_without_body _ _ _ (sym (c.lacks_body.ensures (state c.args.current.now) refl) ∙ c.if-lacks_body.true)))

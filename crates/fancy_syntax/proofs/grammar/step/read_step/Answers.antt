@@ -27,7 +27,7 @@ returns-in_err-read_atom_start-clause-value g c l =
     (IsErrorAmong-map (λ o. atom_start c.args.depth (at (state c.args.current.now) (chars c.in_ok-rest.rest.now))
     ≡ read o)
     (Piece c.args.depth (state c.args.current.now))
-    c.in_err-read_atom_start.field-0.0 (λ k p h. piece c.in_ok-rest.ensures.value (atom h a_read))
+    c.in_err-read_atom_start.field-0.0 (λ f h. piece c.in_ok-rest.ensures.value (atom h a_read))
     c.in_err-read_atom_start.ensures.value)
 
 pub returns-then-is_unquantified-clause-value : goal.returns-then-is_unquantified-clause-value

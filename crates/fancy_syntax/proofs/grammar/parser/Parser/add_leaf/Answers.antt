@@ -22,7 +22,7 @@ returns-in_err-quantify_last-clause-reading g c start none l h =
     c.from_residual-in_err-quantify_last.ensures.1 in
     rw (e.1, e.2) (IsErrorAmong-map (λ o. quants c.len-depth.result c.byte_len-left.result r u ≡ o)
     (Alternation 0 start) c.in_err-quantify_last.field-0.0
-    (λ k q x. running_leaf_error h p (ap (λ d. quants d (bytes s.rest) r u) (sym n)
+    (λ f x. running_leaf_error h p (ap (λ d. quants d (bytes s.rest) r u) (sym n)
     ∙ ap (λ left. quants c.len-depth.result left r u) (sym c.byte_len-left.ensures) ∙ x))
     (c.in_err-quantify_last.ensures.value _ r put))
 

@@ -14,7 +14,7 @@ returns-in_err-bar-clause-reading g c start none l h =
     let rest = (state c.args.self.now.current).rest in
     rw (e.1, e.2) (IsErrorAmong-map (IsErrorOfBar (part_of c.args.self.now.frame.open_group) rest)
     (Alternation 0 start) c.in_err-bar.field-0.0
-    (λ k p a. running_bar_error _ h c.requires.last c.requires.bar a)
+    (λ f a. running_bar_error _ h c.requires.last c.requires.bar a)
     (c.in_err-bar.ensures.error rest c.reach-bar.ensures))
 
 pub returns-clause-reading : goal.returns-clause-reading

@@ -40,7 +40,7 @@ returns-in_err-step-clause-reading g c start none l h =
     let e = err_from_is_err_and c.from_residual-in_err-step.result c.from_residual-in_err-step.ensures.1 in
     rw (e.1, e.2) (IsErrorAmong-map (Piece c.len-depth.result w.current)
     (Alternation 0 start) c.in_err-step.field-0.0
-    (λ k p a. running_error w.outer w.more (subst (λ d. Piece d w.current (failed k p)) n a))
+    (λ f a. running_error w.outer w.more (subst (λ d. Piece d w.current (failed f)) n a))
     (c.in_err-step.ensures.value w.current w.inside w.recorded w.before
     (choice_closed h.branches h.pieces (state c.args.self.now.current) l) w.began.0 w.began.1 (rw n w.opens)
     (rw n w.whole)))

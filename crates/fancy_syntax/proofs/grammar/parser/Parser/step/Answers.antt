@@ -17,8 +17,8 @@ returns-in_err-step-clause-reading g c start none l h =
     let e = err_from_is_err_and c.from_residual.result c.from_residual.ensures.1 in
     rw (e.1, e.2) (IsErrorAmong-map (Piece c.len.result (state c.args.self.now.current)) (Alternation 0 start)
     c.in_err-step.field-0.0
-    (λ k p a. running_error h c.requires.more
-    (subst (λ d. Piece d (state c.args.self.now.current) (failed k p)) n a)) (c.in_err-step.ensures.value l))
+    (λ f a. running_error h c.requires.more
+    (subst (λ d. Piece d (state c.args.self.now.current) (failed f)) n a)) (c.in_err-step.ensures.value l))
 
 pub returns-clause-reading : goal.returns-clause-reading
 returns-clause-reading g c start none l h =
