@@ -15,13 +15,6 @@ use Rattle.fancy_grammar.specs.Errors.{IsErrorIn}
 use Rattle.fancy_grammar.specs.Items.{Item}
 use Rattle.fancy_grammar.specs.GroupInfo as spec
 use Rattle.fancy_grammar.specs.Walk as walk
-use Rattle.fancy_grammar.specs.Label as label
-use Rattle.fancy_grammar.specs.Tree.{Tree, leaf, over}
-use Rattle.fancy_syntax.specs.View.{view}
-use Rattle.fancy_syntax.specs.declared.expr.Absent.{Absent}
-use Rattle.fancy_syntax.specs.declared.expr.Absent.TheOpen.{AstNode-F}
-use Rattle.fancy_syntax.specs.declared.expr.AstNode.{AstNode, out-AstNode}
-use Rattle.fancy_syntax.specs.declared.expr.Expr.{Expr}
 use Rattle.fancy_syntax.specs.declared.resolve.records.Resolver.{Resolver}
 use Rattle.fancy_syntax.specs.declared.resolve.records.Progress.{Progress}
 use Rattle.fancy_syntax.specs.declared.resolve.records.Stopped.{Stopped}
@@ -57,30 +50,6 @@ abbrev pub Walks : {A : Type 0} → Result A Stopped → walk.Resolver → walk.
 Walks r k before l after P =
     let end = walk.progress_after k before l in
     MatchResult r (λ a. P a × (progress_of after ≡ end)) (λ _. IsErrorRecorded after.error end.error)
-
--- the tree is a node of a raw tree: a capturing group, or a reference
-abbrev pub is_node_read : Tree → Bool
-is_node_read (leaf (label.ast_node r reach)) = true
-is_node_read (over (label.ast_group name reach) t) = true
-is_node_read _ = false
-
--- the tree is a capturing group of a raw tree
-abbrev pub is_group_read : Tree → Bool
-is_group_read (over (label.ast_group name reach) t) = true
-is_group_read _ = false
-
--- the node is a reference, not a group
-abbrev pub is_reference_step : AstNode-F Absent AstNode Expr → Bool
-is_reference_step (AstNode-F.AstGroup name inner) = false
-is_reference_step _ = true
-
-abbrev pub is_reference : AstNode → Bool
-is_reference n = is_reference_step (out-AstNode n)
-
--- the resolved tree, or the tree that is already there if there is none
-abbrev pub resolved_or : Tree → Option Expr → Tree
-resolved_or t None = t
-resolved_or t (Some e) = view e
 
 -- the number that a reference refers to in the walk, if it refers to one
 abbrev pub number_referred_to : Resolver → Progress → Role → CaptureGroupTarget → Option ℕ

@@ -1,14 +1,14 @@
 //! The second walk: each capturing group becomes a `Group`, and each reference the node with its number. It stops at
 //! the first error.
-ghost use Rattle.std.specs.Prelude.{◌≡◌, ◌+◌, ◌<◌, length, true, false, chars};
+ghost use Rattle.std.specs.Prelude.{◌≡◌, ℕ, ◌+◌, ◌<◌, length, option_map};
 ghost use Rattle.fancy_lex.specs.IdReference.{amount_bound};
-ghost use Rattle.fancy_lex.specs.NameViews.{view_target};
-ghost use Rattle.fancy_lex.specs.Text as text;
-ghost use Rattle.fancy_lex.specs.Text.{bytes};
+ghost use Rattle.fancy_lex.specs.Target.{Target};
+ghost use Rattle.fancy_lex.specs.Text.{text_of};
 ghost use Rattle.fancy_grammar.specs.Items.{items, items_all, openings_in};
-ghost use Rattle.fancy_syntax.specs.Records.{Walks, is_group_read, is_node_read, is_reference, resolver_of};
-ghost use Rattle.fancy_syntax.specs.Records.{progress_of, resolved_or};
-ghost use Rattle.fancy_grammar.specs.Tree.{trees_of, ast_node};
+ghost use Rattle.fancy_syntax.specs.Records.{Walks, resolver_of, progress_of};
+ghost use Rattle.fancy_grammar.specs.Resolved.{reference_node};
+ghost use Rattle.fancy_grammar.specs.Tree.{trees_of, ast_group};
+ghost use Rattle.fancy_parts.specs.Meaning.{number};
 ghost use Rattle.fancy_grammar.specs.Label.{ast_backref};
 ghost use Rattle.fancy_syntax.specs.View.{view, view_absent, view_ast, views};
 ghost use Rattle.fancy_grammar.specs.Walk.{resolved_by, all_resolved_by};
@@ -52,98 +52,97 @@ pub(super) fn rewrite(
             rewrite_child(false_branch, resolver, progress)
         }
         Expr::Absent(absent) => rewrite_absent(absent, resolver, progress),
-        Expr::AstNode(..) => rewrite_node(tree, resolver, progress),
+        Expr::AstNode(node, reach) => {
+            let resolved = resolve_node(node, *reach, resolver, progress)?;
+            // The node that was in its place owns no memory any more.
+            mem::forget(mem::replace(tree, resolved));
+            Ok(())
+        }
         _ => Ok(()),
     }
 }
 
 // The functions for nodes that hold trees are not inlined, so that the call for a leaf saves no registers.
 
-/// Replaces the node by what it is resolved to.
+/// What the node that is read at the reach is resolved to. What is left in its place owns no memory.
 #[cycle(rewrite)]
 #[inline(never)]
-fn rewrite_node(
-    tree: &mut Expr,
-    resolver: &Resolver,
-    progress: &mut Progress,
-) -> Result<(), Stopped>
-    requires passed { progress.old.passed + length (openings_in (items (view tree.old))) < amount_bound }
-    requires node { is_node_read (view tree.old) ≡ true }
-    ensures { Walks result (resolver_of resolver.now) (progress_of progress.old) (items (view tree.old))
-        progress.new
-        (λ _. view tree.new ≡ resolved_by (resolver_of resolver.now) progress.old.passed (view tree.old)) }
-{
-    let Expr::AstNode(node, position) = tree else {
-        unreachable!();
-    };
-    if let AstNode::AstGroup { .. } = node {
-        return rewrite_group(tree, resolver, progress);
-    }
-    if let Some(resolved) = resolve_reference(node, *position, resolver, progress)? {
-        // The name is dropped by itself, not with its tree; the node that is left then owns no memory.
-        drop(take_target(node));
-        mem::forget(mem::replace(tree, resolved));
-    } else {
-        *position = position_at(resolver.pattern, *position);
-    }
-    Ok(())
-}
-
-/// Replaces the capturing group by what it is resolved to.
-#[cycle(rewrite)]
-#[inline(never)]
-fn rewrite_group(
-    tree: &mut Expr,
-    resolver: &Resolver,
-    progress: &mut Progress,
-) -> Result<(), Stopped>
-    requires passed { progress.old.passed + length (openings_in (items (view tree.old))) < amount_bound }
-    requires group { is_group_read (view tree.old) ≡ true }
-    ensures { Walks result (resolver_of resolver.now) (progress_of progress.old) (items (view tree.old)) progress.new
-        (λ _. view tree.new ≡ resolved_by (resolver_of resolver.now) progress.old.passed (view tree.old)) }
-{
-    let Expr::AstNode(node, reach) = tree else {
-        unreachable!();
-    };
-    // The node is moved by itself, not with its tree; the node that is left then owns no memory.
-    let taken = AstNode::SubroutineCall(CaptureGroupTarget::ByNumber(0));
-    let node = mem::replace(node, taken);
-    let resolved = resolve_group(node, *reach, resolver, progress)?;
-    mem::forget(mem::replace(tree, resolved));
-    Ok(())
-}
-
-/// Takes the target out of the reference.
-fn take_target(reference: &mut AstNode) -> CaptureGroupTarget
-    requires { is_reference reference.old ≡ true }
-{
-    let target = match reference {
-        AstNode::AstGroup { .. } => unreachable!(),
-        AstNode::Backref { target, .. } => target,
-        AstNode::SubroutineCall(target) => target,
-        AstNode::BackrefExistsCondition { target, .. } => target,
-    };
-    mem::replace(target, CaptureGroupTarget::ByNumber(0))
-}
-
-/// The capturing group that is read at the reach, resolved.
-#[cycle(rewrite)]
-#[inline(never)]
-fn resolve_group(
-    node: AstNode,
+fn resolve_node(
+    node: &mut AstNode,
     reach: Reach,
     resolver: &Resolver,
     progress: &mut Progress,
 ) -> Result<Expr, Stopped>
-    requires passed { progress.old.passed + length (openings_in (items (view_ast node reach))) < amount_bound }
-    requires group { is_reference node ≡ false }
-    ensures { Walks result (resolver_of resolver.now) (progress_of progress.old) (items (view_ast node reach))
+    requires { progress.old.passed + length (openings_in (items (view_ast node.old reach))) < amount_bound }
+    ensures { Walks result (resolver_of resolver.now) (progress_of progress.old) (items (view_ast node.old reach))
         progress.new
-        (λ e. view e ≡ resolved_by (resolver_of resolver.now) progress.old.passed (view_ast node reach)) }
+        (λ e. view e ≡ resolved_by (resolver_of resolver.now) progress.old.passed (view_ast node.old reach)) }
 {
-    let AstNode::AstGroup { name, mut inner } = node else {
-        unreachable!();
-    };
+    let node = mem::replace(
+        node,
+        AstNode::SubroutineCall(CaptureGroupTarget::ByNumber(0)),
+    );
+    let position = position_at(resolver.pattern, reach);
+    match node {
+        AstNode::AstGroup { name, inner } => resolve_group(name, inner, resolver, progress),
+        AstNode::Backref {
+            target,
+            casei,
+            relative_recursion_level,
+        } => match refer(resolver, progress, reach, Role::BackReference, &target)? {
+            Some(group) => Ok(backref(group, casei, relative_recursion_level)),
+            None => Ok(Expr::AstNode(
+                AstNode::Backref {
+                    target,
+                    casei,
+                    relative_recursion_level,
+                },
+                position,
+            )),
+        },
+        AstNode::SubroutineCall(target) => match refer(
+            resolver,
+            progress,
+            reach,
+            Role::Call,
+            &target,
+        )? {
+            Some(group) => Ok(Expr::SubroutineCall(group)),
+            None => Ok(Expr::AstNode(AstNode::SubroutineCall(target), position)),
+        },
+        AstNode::BackrefExistsCondition {
+            target,
+            relative_recursion_level,
+        } => match refer(resolver, progress, reach, Role::Condition, &target)? {
+            Some(group) => Ok(Expr::BackrefExistsCondition {
+                group,
+                relative_recursion_level,
+            }),
+            None => Ok(Expr::AstNode(
+                AstNode::BackrefExistsCondition {
+                    target,
+                    relative_recursion_level,
+                },
+                position,
+            )),
+        },
+    }
+}
+
+/// What the capturing group with this name and these contents is resolved to.
+#[cycle(rewrite)]
+fn resolve_group(
+    name: Option<String>,
+    contents: Box<Expr>,
+    resolver: &Resolver,
+    progress: &mut Progress,
+) -> Result<Expr, Stopped>
+    requires { progress.old.passed + 1 + length (openings_in (items (view contents.value))) < amount_bound }
+    ensures { (reach : ℕ) → let group = ast_group (option_map text_of name) reach (view contents.value) in
+        Walks result (resolver_of resolver.now) (progress_of progress.old) (items group) progress.new
+        (λ e. view e ≡ resolved_by (resolver_of resolver.now) progress.old.passed group) }
+{
+    let mut inner = contents;
     if is_counted_name(resolver.named, name.as_deref()) {
         progress.passed += 1;
         rewrite_child(&mut inner, resolver, progress)?;
@@ -154,81 +153,19 @@ fn resolve_group(
     }
 }
 
-/// What the reference that is read at the reach is resolved to, or `None` if it stays.
-fn resolve_reference(
-    node: &AstNode,
-    reach: Reach,
-    resolver: &Resolver,
-    progress: &mut Progress,
-) -> Result<Option<Expr>, Stopped>
-    requires passed { progress.old.passed < amount_bound }
-    requires reference { is_reference node.now ≡ true }
-    ensures { Walks result (resolver_of resolver.now) (progress_of progress.old) (items (view_ast node.now reach))
-        progress.new
-        (λ o. resolved_or (view_ast node.now (text.position_at (bytes (chars resolver.now.pattern.now)) reach)) o
-        ≡ resolved_by (resolver_of resolver.now) progress.old.passed (view_ast node.now reach)) }
+/// The back reference to the group, with its recursion level if it has one.
+fn backref(group: usize, casei: bool, relative_recursion_level: Option<isize>) -> Expr
+    ensures { (m : ℕ) (target : Target) (reach : ℕ) → view result ≡
+        reference_node m (number group) (ast_backref target casei relative_recursion_level) reach }
 {
-    match node {
-        AstNode::AstGroup { .. } => unreachable!(),
-        AstNode::Backref {
-            target,
-            casei,
-            relative_recursion_level,
-        } => resolve_backref(
-            target,
-            *casei,
-            *relative_recursion_level,
-            reach,
-            resolver,
-            progress,
-        ),
-        AstNode::SubroutineCall(target) => {
-            let Some(group) = refer(resolver, progress, reach, Role::Call, target)? else {
-                return Ok(None);
-            };
-            Ok(Some(Expr::SubroutineCall(group)))
-        }
-        AstNode::BackrefExistsCondition {
-            target,
-            relative_recursion_level,
-        } => {
-            let Some(group) = refer(resolver, progress, reach, Role::Condition, target)? else {
-                return Ok(None);
-            };
-            Ok(Some(Expr::BackrefExistsCondition {
-                group,
-                relative_recursion_level: *relative_recursion_level,
-            }))
-        }
-    }
-}
-
-/// What the back reference that is read at the reach is resolved to, or `None` if it stays.
-fn resolve_backref(
-    target: &CaptureGroupTarget,
-    casei: bool,
-    relative_recursion_level: Option<isize>,
-    reach: Reach,
-    resolver: &Resolver,
-    progress: &mut Progress,
-) -> Result<Option<Expr>, Stopped>
-    requires { progress.old.passed < amount_bound }
-    ensures { let node = ast_backref (view_target target.now) casei relative_recursion_level in
-        Walks result (resolver_of resolver.now) (progress_of progress.old) (items (ast_node node reach)) progress.new
-        (λ o. resolved_or (ast_node node (text.position_at (bytes (chars resolver.now.pattern.now)) reach)) o
-        ≡ resolved_by (resolver_of resolver.now) progress.old.passed (ast_node node reach)) }
-{
-    let Some(group) = refer(resolver, progress, reach, Role::BackReference, target)? else {
-        return Ok(None);
-    };
-    Ok(Some(match relative_recursion_level {
+    match relative_recursion_level {
         Some(relative_level) => Expr::BackrefWithRelativeRecursionLevel {
             group,
             relative_level,
             casei,
         },
         None => Expr::Backref { group, casei },
-    }))
+    }
 }
 
 /// Resolves the trees in the node.

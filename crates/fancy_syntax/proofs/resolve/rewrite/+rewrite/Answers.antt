@@ -1,14 +1,13 @@
 use Rattle.std.proofs.Common.{arith, rules, ◌≡◌, ◌+◌, ◌++◌, get_or, length, sym, ap, ◌∙◌, ◌<◌, ◌≢◌, length-set}
-use Rattle.std.proofs.Common.{get_or-set_other, refl, set, take, [], true}
+use Rattle.std.proofs.Common.{get_or-set_other, refl, set, take, []}
 use Rattle.std.proofs.lemmas.List.{set-get_or}
+use Rattle.std.specs.Prelude.{chars}
+use Rattle.fancy_lex.specs.NameViews.{view_target}
+use Rattle.fancy_lex.specs.Text.{bytes}
 use Rattle.fancy_grammar.specs.Items.{items, openings_in}
-use Rattle.fancy_syntax.specs.Records.{resolver_of, progress_of, is_reference, is_reference_step}
+use Rattle.fancy_syntax.specs.Records.{resolver_of, progress_of}
 use Rattle.fancy_syntax.specs.View.{view, views}
 use Rattle.fancy_grammar.specs.Walk.{progress_after}
-use Rattle.fancy_syntax.specs.declared.expr.Absent.{Absent}
-use Rattle.fancy_syntax.specs.declared.expr.Absent.TheOpen.{AstNode-F}
-use Rattle.fancy_syntax.specs.declared.expr.AstNode.{AstNode, AstGroup, roll-AstNode, out-AstNode, roll-out-AstNode}
-use Rattle.fancy_syntax.specs.declared.expr.AstNode.TheVariants as variant
 use Rattle.fancy_syntax.specs.declared.expr.Expr.{Expr, the_lemmas}
 use Rattle.fancy_syntax.proofs.NoItems.{resolved_same}
 use Rattle.fancy_syntax.proofs.PartLemmas.{two_parts, three_borrowed, two_count, three_count, two_recorded, three_recorded}
@@ -193,14 +192,12 @@ rewrite_all-returns-in_err-rewrite t c =
     let all = rw (← step, c.loop-i.invariant.1) at kept in
     search rules
 
--- a node that is no group is a reference
-no_group : (v : AstNode-F Absent AstNode Expr) → ((a b : _) → roll-AstNode v ≡ AstGroup a b → ⊥) →
-    is_reference_step v ≡ true
-no_group (AstNode-F.AstGroup a b) h = absurd (h a b (variant.rolls-AstGroup a b))
-no_group _ h = refl
+pub resolve_node-returns-in-AstGroup : goal.resolve_node-returns-in-AstGroup
+resolve_node-returns-in-AstGroup t c =
+    let is = c.resolve_group.ensures c.args.reach in search (rules, the_lemmas)
 
-not_group : (n : AstNode) → ((a b : _) → n ≡ AstGroup a b → ⊥) → is_reference n ≡ true
-not_group n h = no_group (out-AstNode n) (λ a b e. h a b (sym (roll-out-AstNode n) ∙ e))
-
-pub rewrite_node-take_target-requires : goal.rewrite_node-take_target-requires
-rewrite_node-take_target-requires t c = not_group _ c.in_default-node.not-AstGroup
+pub resolve_node-returns-in-Some : goal.resolve_node-returns-in-Some
+resolve_node-returns-in-Some t c =
+    let pattern = bytes (chars c.args.resolver.now.pattern.now) in
+    let is = c.backref.ensures pattern (view_target c.in-Backref.target) c.args.reach in
+    search (rules, the_lemmas)
