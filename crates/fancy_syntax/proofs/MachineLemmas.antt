@@ -49,6 +49,7 @@ use Rattle.fancy_grammar.specs.Quantified.{quants}
 use Rattle.fancy_grammar.specs.Errors.{IsErrorAmong}
 use Rattle.fancy_grammar.specs.State.{ends, skipped, State, at, Outcome, done, failed, and_then, mapped}
 use Rattle.fancy_grammar.specs.Tree.{Tree, concat, empty, expression}
+use Rattle.fancy_syntax.specs.declared.grammar.frame.Enclosing.{Enclosing}
 use Rattle.fancy_syntax.specs.declared.grammar.frame.Frame.{Frame}
 use Rattle.fancy_syntax.specs.declared.grammar.frame.PieceStart.{PieceStart}
 use Rattle.fancy_syntax.specs.declared.grammar.step.Step.{Step}
@@ -443,22 +444,22 @@ reading_error {d} {s} {error} {bs} {l} p h e a = by_part p h.one
 -- ---- the stack of open groups
 
 -- an error in the innermost part is the error of the whole text
-levels_error : {start : State} {none : Log} {d : ℕ} {s : State} {error : Located} {fs : List Frame} {ts : List Tree}
+levels_error : {start : State} {none : Log} {d : ℕ} {s : State} {error : Located} {fs : List Enclosing} {ts : List Tree}
     {o : OpenPart} {l : Log} (n : Log) → OpenGroups start none fs ts o d s l →
     Part o d s (failed error) l n → Alternation 0 start (failed error)
 levels_error n outermost (r, x) = r
 levels_error n (inner f e x l h i m j) r =
-    let (k, y) = reading_error (part_of f.open_group) h m (opens_error n j r) in levels_error k l y
+    let (k, y) = reading_error (part_of f.frame.open_group) h m (opens_error n j r) in levels_error k l y
 
 push-not_nil : {A : Type 0} (l : List A) (x : A) → [] ≡ l ++ x ∷ [] → ⊥
 push-not_nil [] x e = cc
 push-not_nil (y ∷ l) x e = cc
 
-levels_none : {start : State} {none : Log} {d : ℕ} {s : State} {fs : List Frame} {ts : List Tree} {o : OpenPart}
+levels_none : {start : State} {none : Log} {d : ℕ} {s : State} {fs : List Enclosing} {ts : List Tree} {o : OpenPart}
     {l : Log} → OpenGroups start none fs ts o d s l →
     fs ≡ [] → (d ≡ 0) × (s ≡ start) × (o ≡ top) × (l ≡ none)
 levels_none outermost e = (refl, refl, refl, refl)
-levels_none (inner {frames} f i x l h a j k) e = absurd (push-not_nil frames f (sym e ∙ i))
+levels_none (inner {outer} f i x l h a j k) e = absurd (push-not_nil outer f (sym e ∙ i))
 
 push-same : {A : Type 0} (l m : List A) (x y : A) → l ++ x ∷ [] ≡ m ++ y ∷ [] → (l ≡ m) × (x ≡ y)
 push-same [] [] x y e = (refl, cc)
@@ -469,8 +470,8 @@ push-same (a ∷ c ∷ l) [] x y e = absurd cc
 push-same (a ∷ l) (b ∷ m) x y e = let t : l ++ x ∷ [] ≡ m ++ y ∷ [] = cc in let h = push-same l m x y t in (cc, h.1)
 
 -- the group on top of the stack, in which the innermost part was opened, and the trees up to the last of its own
-record Outer (start : State) (none : Log) (gs : List Frame) (g : Frame) (ts : List Tree) (o : OpenPart) (d : ℕ)
-    (s : State) (l : Log) : Type 0 where
+record Outer (start : State) (none : Log) (gs : List Enclosing) (g : Enclosing) (ts : List Tree) (o : OpenPart)
+    (d : ℕ) (s : State) (l : Log) : Type 0 where
   depth : ℕ
   begin : State
   before : Log
@@ -480,20 +481,20 @@ record Outer (start : State) (none : Log) (gs : List Frame) (g : Frame) (ts : Li
   branches : List Tree
   pieces : List Tree
   deeper : d ≡ depth + 1
-  holds : HoldsTrees g ts below branches pieces
-  levels : OpenGroups start none gs below (part_of g.open_group) depth begin before
-  reading : ReadSoFar depth (part_of g.open_group) begin before branches pieces current recorded
-  began : Began g current
+  holds : HoldsTrees g.frame ts below branches pieces
+  levels : OpenGroups start none gs below (part_of g.frame.open_group) depth begin before
+  reading : ReadSoFar depth (part_of g.frame.open_group) begin before branches pieces current recorded
+  began : Began g.piece current
   more : ends current.rest ≡ false
   opens : OpensPart depth current recorded o s l
 
-levels_pop : {start : State} {none : Log} (gs : List Frame) (g : Frame) {d : ℕ} {s : State} {fs : List Frame}
+levels_pop : {start : State} {none : Log} (gs : List Enclosing) (g : Enclosing) {d : ℕ} {s : State} {fs : List Enclosing}
     {ts : List Tree} {o : OpenPart} {l : Log} → OpenGroups start none fs ts o d s l →
     fs ≡ gs ++ g ∷ [] → Outer start none gs g ts o d s l
 levels_pop gs g outermost e = absurd (push-not_nil gs g e)
-levels_pop {start} {none} gs g {ts} (inner {d} {s} {l = c} {t} {m} {frames} {below} {branches} {pieces} f i x l h a w j)
+levels_pop {start} {none} gs g {ts} (inner {d} {s} {l = c} {t} {m} {outer} {below} {branches} {pieces} f i x l h a w j)
     e =
-    let p = push-same frames gs f g (sym i ∙ e) in
+    let p = push-same outer gs f g (sym i ∙ e) in
     record {
       depth = d;
       begin = s;
@@ -504,11 +505,11 @@ levels_pop {start} {none} gs g {ts} (inner {d} {s} {l = c} {t} {m} {frames} {bel
       branches = branches;
       pieces = pieces;
       deeper = refl;
-      holds = subst (λ (y : Frame). HoldsTrees y ts below branches pieces) p.1 x;
-      levels = subst (λ (y : Frame). OpenGroups start none gs below (part_of y.open_group) d s c) p.1
-          (subst (λ y. OpenGroups start none y below (part_of f.open_group) d s c) p.0 l);
-      reading = subst (λ (y : Frame). ReadSoFar d (part_of y.open_group) s c branches pieces t m) p.1 h;
-      began = subst (λ (y : Frame). Began y t) p.1 a;
+      holds = subst (λ (y : Enclosing). HoldsTrees y.frame ts below branches pieces) p.1 x;
+      levels = subst (λ (y : Enclosing). OpenGroups start none gs below (part_of y.frame.open_group) d s c) p.1
+          (subst (λ y. OpenGroups start none y below (part_of f.frame.open_group) d s c) p.0 l);
+      reading = subst (λ (y : Enclosing). ReadSoFar d (part_of y.frame.open_group) s c branches pieces t m) p.1 h;
+      began = subst (λ (y : Enclosing). Began y.piece t) p.1 a;
       more = w;
       opens = j;
     }
@@ -521,7 +522,7 @@ holds_new : (g : Frame) (trees : List Tree) → g.branches ≡ length trees → 
 holds_new g trees i j =
     let n = append-nil trees in (sym (append-nil (trees ++ []) ∙ n), i, j ∙ ap length (sym n))
 
-pub running_start : (start : State) (none : Log) (stack : List Frame) (f : Frame) (trees : List Tree) → stack ≡ [] →
+pub running_start : (start : State) (none : Log) (stack : List Enclosing) (f : Frame) (trees : List Tree) → stack ≡ [] →
     trees ≡ [] → f.branches ≡ 0 → f.pieces ≡ 0 → part_of f.open_group ≡ top → Running start none stack f trees start none
 running_start start none stack f trees e x i j k = record {
   depth = 0;
@@ -536,24 +537,7 @@ running_start start none stack f trees e x i j k = record {
   reading = reading_new 0 _ start none _ _ refl refl;
 }
 
--- the contents of the stack do not depend on where the piece began
-pub running_began : {start t : State} {none l : Log} {stack : List Frame} {f : Frame} {trees : List Tree}
-    (begun : PieceStart) → Running start none stack f trees t l →
-    Running start none stack (record f { piece = begun }) trees t l
-running_began begun h = record {
-  depth = h.depth;
-  begin = h.begin;
-  before = h.before;
-  below = h.below;
-  branches = h.branches;
-  pieces = h.pieces;
-  is_depth = h.is_depth;
-  holds = h.holds;
-  levels = h.levels;
-  reading = h.reading;
-}
-
-pub running_error : {start t : State} {none l : Log} {stack : List Frame} {f : Frame} {trees : List Tree}
+pub running_error : {start t : State} {none l : Log} {stack : List Enclosing} {f : Frame} {trees : List Tree}
     {error : Located} (h : Running start none stack f trees t l) → ends t.rest ≡ false →
     Piece (length stack) t (failed error) → Alternation 0 start (failed error)
 running_error {t} {f} {error} h e a =
@@ -561,7 +545,7 @@ running_error {t} {f} {error} h e a =
     (subst (λ d. Piece d t (failed error)) (sym h.is_depth) a) in
     levels_error n h.levels x
 
-pub running_piece : {start t v : State} {none l m : Log} {stack : List Frame} {f : Frame} {trees : List Tree} {r : Tree}
+pub running_piece : {start t v : State} {none l m : Log} {stack : List Enclosing} {f : Frame} {trees : List Tree} {r : Tree}
     (all : List Tree) → Running start none stack f trees t l → ends t.rest ≡ false →
     PieceTo (length stack) t (done r v) l m → all ≡ trees ++ solid (r ∷ []) →
     Running start none stack f all v (added r m)
@@ -590,7 +574,7 @@ leaf_passed {t} {u} {r} l p =
     rw (p.solid, p.no_comments) (nothing_passed (leaf (pass [] l)) ∙ ap leaf (nothing_passed l))
 
 -- a leaf that a look ahead reads, under its quantifiers
-pub running_leaf : {start t u v : State} {none l : Log} {stack : List Frame} {f : Frame} {trees : List Tree}
+pub running_leaf : {start t u v : State} {none l : Log} {stack : List Enclosing} {f : Frame} {trees : List Tree}
     {r q : Tree} (all : List Tree) → Running start none stack f trees t l → IsPlainLeaf t r u →
     quants (length stack) (bytes t.rest) r u ≡ done q v → all ≡ trees ++ q ∷ [] →
     Running start none stack f all v
@@ -603,46 +587,48 @@ running_leaf {start} {t} {u} {v} {none} {l} {stack} {f} {trees} {r} {q} all h p 
     (i ∙ ap (λ b. trees ++ (if b then [] else q ∷ [])) (sym solid)))
 
 -- an error in its quantifiers is the error of the whole text
-pub running_leaf_error : {start t u : State} {none l : Log} {stack : List Frame} {f : Frame} {trees : List Tree}
+pub running_leaf_error : {start t u : State} {none l : Log} {stack : List Enclosing} {f : Frame} {trees : List Tree}
     {r : Tree} {error : Located} → Running start none stack f trees t l → IsPlainLeaf t r u →
     quants (length stack) (bytes t.rest) r u ≡ failed error → Alternation 0 start (failed error)
 running_leaf_error h p e = running_error h p.more (piece_as p.no_layout (atom (p.leaf _) a_read) e)
 
--- a part is opened in the piece that began there
-running_open : {start t v : State} {none l m : Log} {stack : List Frame} {f : Frame} {trees : List Tree} {o : OpenPart}
-    (all : List Frame) (g : Frame) → Running start none stack f trees t l →
-    Began f t → ends t.rest ≡ false → OpensPart (length stack) t l o v m → all ≡ stack ++ f ∷ [] →
+-- a part is opened in a piece that begins there
+running_open : {start t v : State} {none l m : Log} {stack : List Enclosing} {f : Frame} {trees : List Tree} {o : OpenPart}
+    (p : PieceStart) (all : List Enclosing) (g : Frame) → Running start none stack f trees t l →
+    Began p t → ends t.rest ≡ false → OpensPart (length stack) t l o v m →
+    all ≡ stack ++ record { frame = f; piece = p } ∷ [] →
     part_of g.open_group ≡ o → g.branches ≡ length trees → g.pieces ≡ length trees → Running start none all g trees v m
-running_open {t} {v} {l = c} {m} {stack} {f} {trees} {o} all g h b e a i j k l = record {
+running_open {t} {v} {l = c} {m} {stack} {f} {trees} {o} p all g h b e a i j k l = record {
   depth = h.depth + 1;
   begin = v;
   before = m;
   below = trees;
   branches = [];
   pieces = [];
-  is_depth = omega (arith, h.is_depth, ap length i, length_push stack f);
+  is_depth = omega (arith, h.is_depth, ap length i, length_push stack (record { frame = f; piece = p }));
   holds = holds_new g trees k l;
   levels = rw j
-      (inner f i h.holds h.levels h.reading b e (subst (λ d. OpensPart d t c o v m) (sym h.is_depth) a));
+      (inner (record { frame = f; piece = p }) i h.holds h.levels h.reading b e
+      (subst (λ d. OpensPart d t c o v m) (sym h.is_depth) a));
   reading = reading_new _ _ v m _ _ refl refl;
 }
 
 -- a step is taken
-pub running_step : {start t v : State} {none l : Log} {stack all : List Frame} {f g : Frame} {trees ts : List Tree}
-    (m : Log) (made : Step) → Running start none stack f trees t l → Began f t → ends t.rest ≡ false →
-    IsStep (length stack) t l made v m → Takes made stack f trees all g ts →
+pub running_step : {start t v : State} {none l : Log} {stack all : List Enclosing} {f g : Frame} {trees ts : List Tree}
+    (m : Log) (made : Step) (p : PieceStart) → Running start none stack f trees t l → Began p t → ends t.rest ≡ false →
+    IsStep (length stack) t l made v m → Takes made p stack f trees all g ts →
     Running start none all g ts v (taken_recorded made m)
-running_step {ts} m (step.Piece tree) h b e a i = rw (i.0, i.1) (running_piece ts h e a i.2)
-running_step {all} {g} m (step.Open open_group) h b e a i =
-    rw i.1 (running_open all g h b e a i.0 (ap part_of i.2) i.3 i.4)
+running_step {ts} m (step.Piece tree) p h b e a i = rw (i.0, i.1) (running_piece ts h e a i.2)
+running_step {all} {g} m (step.Open open_group) p h b e a i =
+    rw i.1 (running_open p all g h b e a i.0 (ap part_of i.2) i.3 i.4)
 
 -- after it, no more groups are open than allowed
-pub step_below : (made : Step) (stack all : List Frame) (f g : Frame) (trees ts : List Tree) →
-    OpensBelow made (length stack) → length stack < max_depth → Takes made stack f trees all g ts →
+pub step_below : (made : Step) (p : PieceStart) (stack all : List Enclosing) (f g : Frame) (trees ts : List Tree) →
+    OpensBelow made (length stack) → length stack < max_depth → Takes made p stack f trees all g ts →
     length all < max_depth
-step_below (step.Piece tree) stack all f g trees ts b d i = rw i.0 d
-step_below (step.Open open_group) stack all f g trees ts b d i =
-    omega (arith, b, ap length i.0, length_push stack f)
+step_below (step.Piece tree) p stack all f g trees ts b d i = rw i.0 d
+step_below (step.Open open_group) p stack all f g trees ts b d i =
+    omega (arith, b, ap length i.0, length_push stack (record { frame = f; piece = p }))
 
 -- if a group was closed, another may be opened
 pub opens_below : (d : ℕ) (made : Step) → d + 1 < max_depth → OpensBelow made d
@@ -650,7 +636,7 @@ opens_below d (step.Piece tree) h = tt
 opens_below d (step.Open open_group) h = h
 
 -- after a bar, the second branch of an absent expression is open
-levels_bar : {d : ℕ} {start s t : State} {none l m : Log} {u : Text} {a : Tree} {fs : List Frame} {ts : List Tree} →
+levels_bar : {d : ℕ} {start s t : State} {none l m : Log} {u : Text} {a : Tree} {fs : List Enclosing} {ts : List Tree} →
     OpenGroups start none fs ts first d s l → BranchTo d s (done a t) l m →
     strip bar t.rest ≡ Some u →
     OpenGroups start none fs ts (second a) d (at t u) (branch_begun (reach_of u) m)
@@ -658,7 +644,7 @@ levels_bar {start} {t} {none} {u} {a} {fs} {ts} (inner {d} f i l h m j x y) (b, 
     subst (λ m. OpenGroups start none fs ts (second a) (d + 1) (at t u) (branch_begun (reach_of u) m)) z
     (inner f i l h m j x (after_branch y b e))
 
-pub running_bar : {start t : State} {none l : Log} {u : Text} {stack : List Frame} {f : Frame} {trees : List Tree}
+pub running_bar : {start t : State} {none l : Log} {u : Text} {stack : List Enclosing} {f : Frame} {trees : List Tree}
     (all : List Tree) (g : Frame) (h : Running start none stack f trees t l) → ends t.rest ≡ true →
     strip bar t.rest ≡ Some u → is_second (part_of f.open_group) ≡ false →
     part_of g.open_group ≡ opened_by_bar (part_of f.open_group) (joined h.pieces) →
@@ -731,14 +717,14 @@ closed_other r t c u e h =
 bar_does_not_close : bar ≢ code ")"
 bar_does_not_close e = omega (arith, e)
 
-second_error : {d : ℕ} {start s t : State} {none l m : Log} {error : Located} {a r : Tree} {fs : List Frame}
+second_error : {d : ℕ} {start s t : State} {none l m : Log} {error : Located} {a r : Tree} {fs : List Enclosing}
     {ts : List Tree} → OpenGroups start none fs ts (second a) d s l → BranchTo d s (done r t) l m →
     closed (expression a r) t ≡ failed error → Alternation 0 start (failed error)
 second_error {t} {a} {r} (inner f i y l h m j x) b e =
-    let (n, z) = reading_error (part_of f.open_group) h j (ended_error _ r t x b (λ _ z. absurd (true≢false z)) e) in
+    let (n, z) = reading_error (part_of f.frame.open_group) h j (ended_error _ r t x b (λ _ z. absurd (true≢false z)) e) in
     levels_error n l z
 
-pub running_bar_error : {start t : State} {none l : Log} {u : Text} {stack : List Frame} {f : Frame}
+pub running_bar_error : {start t : State} {none l : Log} {u : Text} {stack : List Enclosing} {f : Frame}
     {trees : List Tree} (o : Outcome Tree) → Running start none stack f trees t l →
     ends t.rest ≡ true → strip bar t.rest ≡ Some u → IsErrorOfBar (part_of f.open_group) t.rest o →
     Alternation 0 start o
@@ -759,7 +745,7 @@ running_bar_error {start} {t} {none} {l = c} {u} {stack} {f} o h e b x = by_open
     by_open (body _ _) l r x = absurd x
     by_open first l r x = absurd x
 
-pub running_end : {start t : State} {none l : Log} {stack : List Frame} {f : Frame} {trees : List Tree} (r : Tree)
+pub running_end : {start t : State} {none l : Log} {stack : List Enclosing} {f : Frame} {trees : List Tree} (r : Tree)
     (h : Running start none stack f trees t l) → ends t.rest ≡ true → strip bar t.rest ≡ None →
     r ≡ choice (h.branches ++ joined h.pieces ∷ []) → stack ≡ [] →
     AlternationTo 0 start (done r t) none (choice_closed h.branches h.pieces t l)
@@ -772,20 +758,20 @@ running_end {start} {t} {none} {l} r h e a i j =
     (subst (λ d. AlternationTo d h.begin (done whole t) h.before n) d (reading_alternation h.reading e a))))
 
 -- the context of the part that is to be closed
-pub record Closing (start : State) (none : Log) (stack : List Frame) (g : Frame) (trees : List Tree) (o : OpenPart)
-    (r : Tree) (t : State) (n : Log) : Type 0 where
+pub record Closing (start : State) (none : Log) (stack : List Enclosing) (g : Enclosing) (trees : List Tree)
+    (o : OpenPart) (r : Tree) (t : State) (n : Log) : Type 0 where
   pub current : State
   pub recorded : Log
   pub inside : State
   pub before : Log
-  pub outer : Running start none stack g trees current recorded
-  pub began : Began g current
+  pub outer : Running start none stack g.frame trees current recorded
+  pub began : Began g.piece current
   pub more : ends current.rest ≡ false
   pub opens : OpensPart (length stack) current recorded o inside before
   pub whole : Part o (length stack + 1) inside (done r t) before n
 
-pub running_closing : {start t : State} {none l : Log} {all : List Frame} {f : Frame} {trees : List Tree}
-    (stack : List Frame) (g : Frame) (below : List Tree) (r : Tree) (q : OpenPart) → q ≡ part_of f.open_group →
+pub running_closing : {start t : State} {none l : Log} {all : List Enclosing} {f : Frame} {trees : List Tree}
+    (stack : List Enclosing) (g : Enclosing) (below : List Tree) (r : Tree) (q : OpenPart) → q ≡ part_of f.open_group →
     (h : Running start none all f trees t l) → ends t.rest ≡ true → strip bar t.rest ≡ None →
     r ≡ choice (h.branches ++ joined h.pieces ∷ []) → below ≡ h.below → all ≡ stack ++ g ∷ [] →
     Closing start none stack g below q r t (choice_closed h.branches h.pieces t l)

@@ -27,6 +27,7 @@ use Rattle.fancy_syntax.specs.Machine.{OpenPart, OpensPart, a_group, a_condition
 use Rattle.fancy_syntax.specs.Machine.{after_branch, OpenGroups, outermost, inner, Running, IsStep}
 use Rattle.fancy_syntax.specs.Machine.{OpensBelow}
 use Rattle.fancy_syntax.specs.StackCapacity.{open_parens, groups_at_once, HasStackCapacity, HasCapacityFor}
+use Rattle.fancy_syntax.specs.declared.grammar.frame.Enclosing.{Enclosing}
 use Rattle.fancy_syntax.specs.declared.grammar.frame.Frame.{Frame}
 use Rattle.fancy_syntax.specs.declared.grammar.parser.Parser.{Parser}
 use Rattle.fancy_syntax.specs.declared.grammar.step.Step.{Step}
@@ -114,14 +115,14 @@ opened_fewer (after_branch {v} {u} x b e) =
 -- ---- the stack
 
 -- each group that is open has taken one
-groups_fewer : {start : State} {none l : Log} {d : ℕ} {s : State} {fs : List Frame} {ts : List Tree} {o : OpenPart} →
+groups_fewer : {start : State} {none l : Log} {d : ℕ} {s : State} {fs : List Enclosing} {ts : List Tree} {o : OpenPart} →
     OpenGroups start none fs ts o d s l → length fs + open_parens s.rest ≤ open_parens start.rest
 groups_fewer outermost = omega arith
-groups_fewer (inner {frames} f i x l h a m j) =
-    omega (arith, groups_fewer l, ap length i, length_push frames f, fewer_after h.slice, opened_fewer j)
+groups_fewer (inner {outer} f i x l h a m j) =
+    omega (arith, groups_fewer l, ap length i, length_push outer f, fewer_after h.slice, opened_fewer j)
 
 -- so the stack has capacity for one more if one opens
-capacity_for_one : {start t v : State} {none l m : Log} {stack : List Frame} {f : Frame} {trees : List Tree} {o : OpenPart}
+capacity_for_one : {start t v : State} {none l m : Log} {stack : List Enclosing} {f : Frame} {trees : List Tree} {o : OpenPart}
     (reserved : ℕ) → Running start none stack f trees t l → OpensPart (length stack) t l o v m →
     length stack + 1 < max_depth →
     groups_at_once start.rest ≤ reserved → length stack < reserved
@@ -135,7 +136,7 @@ capacity_for_one {start} {stack} reserved h opens below fits =
     by_test true i k = omega (arith, below, k)
     by_test false i k = omega (arith, i, k)
 
-pub capacity_for_step : {start t : State} {none l : Log} {stack : List Frame} {f : Frame} {trees : List Tree} (v : State)
+pub capacity_for_step : {start t : State} {none l : Log} {stack : List Enclosing} {f : Frame} {trees : List Tree} (v : State)
     (m : Log) (made : Step) (r : Parser) → Running start none stack f trees t l →
     IsStep (length stack) t l made v m → OpensBelow made (length stack) →
     HasStackCapacity r start.rest → vec_len r.stack ≡ length stack → HasCapacityFor made r

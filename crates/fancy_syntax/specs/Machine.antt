@@ -27,9 +27,11 @@ use Rattle.fancy_grammar.specs.Errors.{IsErrorAmong}
 use Rattle.fancy_grammar.specs.State.{ends, skipped, State, at, Outcome, done, failed, mapped}
 use Rattle.fancy_grammar.specs.Tree.{Tree, expression}
 use Rattle.fancy_syntax.specs.View.{view, views}
+use Rattle.fancy_syntax.specs.declared.grammar.frame.Enclosing.{Enclosing}
 use Rattle.fancy_syntax.specs.declared.grammar.frame.Frame.{Frame}
 use Rattle.fancy_syntax.specs.declared.grammar.frame.OpenGroup.{OpenGroup}
 use Rattle.fancy_syntax.specs.declared.grammar.frame.OpenGroup.TheVariants as open_group
+use Rattle.fancy_syntax.specs.declared.grammar.frame.PieceStart.{PieceStart}
 use Rattle.fancy_syntax.specs.declared.grammar.parser.Parser.{Parser}
 use Rattle.fancy_syntax.specs.declared.grammar.step.Step.{Step}
 use Rattle.fancy_syntax.specs.declared.grammar.step.Step.TheVariants as step
@@ -154,12 +156,12 @@ abbrev pub IsStep : ℕ → State → Log → Step → State → Log → Type 0
 IsStep d s l (step.Piece piece) t m = PieceTo d s (done (view piece) t) l m
 IsStep d s l (step.Open open_group) t m = OpensPart d s l (part_of open_group) t m
 
--- the stack, the innermost group and all trees after a step: one more tree, or one more group in which nothing is read
--- yet
-abbrev pub Takes : Step → List Frame → Frame → List Tree → List Frame → Frame → List Tree → Type 0
-Takes (step.Piece piece) fs f ts gs g us = (gs ≡ fs) × (g ≡ f) × (us ≡ ts ++ solid (view piece ∷ []))
-Takes (step.Open open_group) fs f ts gs g us =
-    (gs ≡ fs ++ f ∷ []) × (us ≡ ts) ×
+-- the stack, the innermost group and all trees after a step in the piece that begins there: one more tree, or one more
+-- group in which nothing is read yet
+abbrev pub Takes : Step → PieceStart → List Enclosing → Frame → List Tree → List Enclosing → Frame → List Tree → Type 0
+Takes (step.Piece piece) start fs f ts gs g us = (gs ≡ fs) × (g ≡ f) × (us ≡ ts ++ solid (view piece ∷ []))
+Takes (step.Open open_group) start fs f ts gs g us =
+    (gs ≡ fs ++ record { frame = f; piece = start } ∷ []) × (us ≡ ts) ×
     (g.open_group ≡ open_group) × (g.branches ≡ length ts) × (g.pieces ≡ length ts)
 
 -- the log after a step was taken: an Empty is left out
@@ -195,9 +197,9 @@ pub record ReadSoFar (d : ℕ) (p : OpenPart) (s : State) (start : Log) (branche
   pub one : holds_one p ≡ true → (begin ≡ s) × (branches ≡ []) × (before ≡ start)
   pub slice : Slice s.rest t.rest
 
--- the piece that opened the parts above the frame began at the state
-abbrev pub Began : Frame → State → Type 0
-Began f s = (f.piece.left ≡ bytes s.rest) × (f.piece.flags ≡ s.flags)
+-- the piece begins at the state
+abbrev pub Began : PieceStart → State → Type 0
+Began p s = (p.left ≡ bytes s.rest) × (p.flags ≡ s.flags)
 
 -- which trees among all are the group's own: those above the trees of the groups around it, and its pieces above its
 -- branches
@@ -207,16 +209,18 @@ HoldsTrees f trees below branches pieces =
 
 -- the open groups of a text that begins at `start`, with the log `none`, and the trees that they hold. The innermost
 -- part begins at s, at depth d, with the log l. Its own trees are not among these.
-pub data OpenGroups (start : State) (none : Log) : List Frame → List Tree → OpenPart → ℕ → State → Log → Type 0 where
-  outermost : OpenGroups start none [] [] top 0 start none
-  inner : {d s l t m v n p all frames trees below branches pieces : _} (f : Frame) → all ≡ frames ++ f ∷ [] →
-      HoldsTrees f trees below branches pieces → OpenGroups start none frames below (part_of f.open_group) d s l →
-      ReadSoFar d (part_of f.open_group) s l branches pieces t m → Began f t → ends t.rest ≡ false →
-      OpensPart d t m p v n → OpenGroups start none all trees p (d + 1) v n
+pub data OpenGroups (start : State) (none : Log) : List Enclosing → List Tree → OpenPart → ℕ → State → Log → Type 0
+  where
+    outermost : OpenGroups start none [] [] top 0 start none
+    inner : {d s l t m v n p all outer trees below branches pieces : _} (e : Enclosing) → all ≡ outer ++ e ∷ [] →
+        HoldsTrees e.frame trees below branches pieces →
+        OpenGroups start none outer below (part_of e.frame.open_group) d s l →
+        ReadSoFar d (part_of e.frame.open_group) s l branches pieces t m → Began e.piece t → ends t.rest ≡ false →
+        OpensPart d t m p v n → OpenGroups start none all trees p (d + 1) v n
 
--- what has been read of a text that begins at `start`, up to t: the frames, the trees that they hold, and the frame on
--- top of them; the record goes from `none` to l
-pub record Running (start : State) (none : Log) (stack : List Frame) (f : Frame) (trees : List Tree) (t : State)
+-- what has been read of a text that begins at `start`, up to t: the stack, the trees that all groups hold, and the
+-- innermost group; the record goes from `none` to l
+pub record Running (start : State) (none : Log) (stack : List Enclosing) (f : Frame) (trees : List Tree) (t : State)
     (l : Log) : Type 0 where
   pub depth : ℕ
   pub begin : State

@@ -49,7 +49,12 @@ pub(crate) struct Frame<'a> {
     pub(crate) branches: usize,
     /// How many trees are below the pieces of the open branch, which is the last.
     pub(crate) pieces: usize,
-    /// The start of the piece that holds the groups above this one.
+}
+
+/// An open group around another, and the start of its piece that holds the other.
+#[derive(Drop)]
+pub(crate) struct Enclosing<'a> {
+    pub(crate) frame: Frame<'a>,
     pub(crate) piece: PieceStart,
 }
 
@@ -59,8 +64,8 @@ impl<'a> Frame<'a> {
     ghost use Rattle.fancy_syntax.specs.Machine.{part_of, opened_by_bar, branches_at_bar, is_second, IsErrorOfBar};
     ghost use Rattle.fancy_grammar.specs.Errors.{IsErrorAmong};
 
-    /// A group in which nothing has been read yet, above `height` trees, under these flags.
-    pub(crate) fn new(open_group: OpenGroup<'a>, height: usize, flags: Flags) -> Frame<'a>
+    /// A group in which nothing has been read yet, above `height` trees.
+    pub(crate) fn new(open_group: OpenGroup<'a>, height: usize) -> Frame<'a>
         ensures open_group { result.open_group ≡ open_group.entry }
         ensures branches { result.branches ≡ height }
         ensures pieces { result.pieces ≡ height }
@@ -69,7 +74,6 @@ impl<'a> Frame<'a> {
             open_group,
             branches: height,
             pieces: height,
-            piece: PieceStart { left: 0, flags },
         }
     }
 

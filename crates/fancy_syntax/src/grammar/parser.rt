@@ -19,7 +19,7 @@ ghost use Rattle.fancy_syntax.specs.View.{view, views};
 
 use crate::expr::Expr;
 use crate::grammar::atom::{leaf_node, literal};
-use crate::grammar::frame::{Frame, OpenGroup, PieceStart};
+use crate::grammar::frame::{Enclosing, Frame, OpenGroup, PieceStart};
 use crate::grammar::plain::{is_unquantified, plain, plain_escape};
 use crate::grammar::spanning::Spanning;
 use crate::grammar::state::State;
@@ -40,7 +40,7 @@ pub(crate) struct Parser<'a> {
     /// The innermost open group.
     pub(crate) frame: Frame<'a>,
     /// The groups around it, the innermost last. It has capacity for all groups that can be open at once in the text.
-    pub(crate) stack: Vec<Frame<'a>>,
+    pub(crate) stack: Vec<Enclosing<'a>>,
     /// The trees that are in no other tree yet: those of all open groups, one above the other.
     pub(crate) trees: Vec<Expr>,
 }
@@ -62,7 +62,7 @@ impl<'a> Parser<'a> {
     {
         let mut parser = Parser {
             current: start,
-            frame: Frame::new(OpenGroup::Top, 0, start.flags),
+            frame: Frame::new(OpenGroup::Top, 0),
             stack: Vec::new(alloc),
             trees: Vec::with_capacity(alloc, TREES)?,
         };
@@ -126,12 +126,12 @@ impl<'a> Parser<'a> {
         ensures capacity { OnOk result (vec_capacity self.new.stack ≡ vec_capacity self.old.stack) }
         ensures shorter { OnOk result (length self.new.current.rest.now < length self.old.current.rest.now) }
     {
-        self.frame.piece = PieceStart {
+        let start = PieceStart {
             left: byte_len(self.current.rest),
             flags: self.current.flags,
         };
         let step = read_step(alloc, &mut self.current, self.stack.len(), spans)?;
-        Ok(self.take(step, spans)?)
+        Ok(self.take(step, start, spans)?)
     }
 
     /// Ends the open branch at the bar at the front, which `rest` follows. A returned error is the error of the text.
@@ -186,30 +186,28 @@ impl<'a> Parser<'a> {
     {
         let end = reach(self.current.rest);
         let inner = self.frame.finish(alloc, &mut self.trees, end, spans)?;
-        let Some(outer) = self.stack.pop() else {
+        let Some(Enclosing { frame, piece }) = self.stack.pop() else {
             return Ok(Some(inner));
         };
-        let Frame { open_group, .. } = mem::replace(&mut self.frame, outer);
+        let Frame { open_group, .. } = mem::replace(&mut self.frame, frame);
         let part = FinishedPart { open_group, inner };
         let depth = self.stack.len();
-        let step = close(
-            alloc,
-            part,
-            self.frame.piece,
-            &mut self.current,
-            depth,
-            spans,
-        )?;
-        self.take(step, spans)?;
+        let step = close(alloc, part, piece, &mut self.current, depth, spans)?;
+        self.take(step, piece, spans)?;
         Ok(None)
     }
 
-    /// Takes what a step read: a piece, which follows the others of the group, or a group, which opens in it. Memory
-    /// can only run out for the list of pieces.
+    /// Takes what a step read of the piece that begins at `start`: the whole piece, which follows the others of the
+    /// group, or a group, which opens in it. Memory can only run out for the list of pieces.
     #[inline(always)]
-    fn take<S: Spanning>(&mut self, step: Step<'a>, spans: &mut S) -> Result<(), AllocError>
+    fn take<S: Spanning>(
+        &mut self,
+        step: Step<'a>,
+        start: PieceStart,
+        spans: &mut S,
+    ) -> Result<(), AllocError>
         requires reserved { HasCapacityFor step self.old }
-        ensures taken { OnOk result (Takes step.entry
+        ensures taken { OnOk result (Takes step.entry start
             self.old.stack.items self.old.frame (views self.old.trees.items)
             self.new.stack.items self.new.frame (views self.new.trees.items)) }
         ensures current { self.new.current ≡ self.old.current }
@@ -221,8 +219,12 @@ impl<'a> Parser<'a> {
         match step {
             Step::Piece(piece) => add(&mut self.trees, piece, spans),
             Step::Open(open_group) => {
-                let inner = Frame::new(open_group, self.trees.len(), self.current.flags);
-                push_frame(&mut self.stack, mem::replace(&mut self.frame, inner));
+                let inner = Frame::new(open_group, self.trees.len());
+                let outer = Enclosing {
+                    frame: mem::replace(&mut self.frame, inner),
+                    piece: start,
+                };
+                push_enclosing(&mut self.stack, outer);
                 Ok(())
             }
         }
@@ -264,15 +266,15 @@ fn read_leaf<S: Spanning>(
     Ok(true)
 }
 
-/// Pushes a frame on the stack, which has capacity for it. It is a function of its own: inlined, it would cost each
+/// Pushes a group on the stack, which has capacity for it. It is a function of its own: inlined, it would cost each
 /// leaf registers.
 #[inline(never)]
-fn push_frame<'a>(stack: &mut Vec<Frame<'a>>, frame: Frame<'a>)
+fn push_enclosing<'a>(stack: &mut Vec<Enclosing<'a>>, outer: Enclosing<'a>)
     requires reserved { vec_len stack.old < vec_capacity stack.old }
-    ensures items { stack.new.items ≡ stack.old.items ++ frame.entry ∷ [] }
+    ensures items { stack.new.items ≡ stack.old.items ++ outer.entry ∷ [] }
     ensures capacity { vec_capacity stack.new ≡ vec_capacity stack.old }
 {
-    stack.push_reserved(frame);
+    stack.push_reserved(outer);
 }
 
 /// How many groups can be open at once in the text: as many as it has opening parentheses, and fewer than MAX_DEPTH.

@@ -30,12 +30,12 @@ pub returns-in_err-step-clause-reading : goal.returns-in_err-step-clause-reading
 returns-in_err-step-clause-reading g c start none l h =
     let f = c.in_ok-inner.ensures in
     let r = c.replace-open_group.ensures in
-    let w = running_closing c.pop.new.self.items c.replace-open_group.new.dest (views c.finish.new.trees.items)
+    let w = running_closing c.pop.new.self.items c.in-Some.field-0 (views c.finish.new.trees.items)
     (view c.in_ok-inner.inner) (part_of c.replace-open_group.result.open_group)
     (ap (λ (f : Frame). part_of f.open_group) r.value)
     h c.requires.last c.requires.no_bar
     (f.tree h.below h.branches h.pieces h.holds) (f.below h.below h.branches h.pieces h.holds)
-    (rw r.after c.in-Some.ensures.items) in
+    c.in-Some.ensures.items in
     let n : c.len-depth.result ≡ length c.pop.new.self.items = omega (arith, c.len-depth.ensures, c.pop.new.self.ok.0) in
     let e = err_from_is_err_and c.from_residual-in_err-step.result c.from_residual-in_err-step.ensures.1 in
     rw (e.1, e.2) (IsErrorAmong-map (Piece c.len-depth.result w.current)
@@ -49,23 +49,23 @@ pub returns-clause-reading : goal.returns-clause-reading
 returns-clause-reading g c start none l h =
     let f = c.in_ok-inner.ensures in
     let r = c.replace-open_group.ensures in
-    let w = running_closing c.pop.new.self.items c.replace-open_group.new.dest (views c.finish.new.trees.items)
+    let w = running_closing c.pop.new.self.items c.in-Some.field-0 (views c.finish.new.trees.items)
     (view c.in_ok-inner.inner) (part_of c.replace-open_group.result.open_group)
     (ap (λ (f : Frame). part_of f.open_group) r.value)
     h c.requires.last c.requires.no_bar
     (f.tree h.below h.branches h.pieces h.holds) (f.below h.below h.branches h.pieces h.holds)
-    (rw r.after c.in-Some.ensures.items) in
+    c.in-Some.ensures.items in
     let n : c.len-depth.result ≡ length c.pop.new.self.items = omega (arith, c.len-depth.ensures, c.pop.new.self.ok.0) in
     let made = c.in_ok-step.step in
     let m = choice_closed h.branches h.pieces (state c.args.self.now.current) l in
-    let k = close_recorded c.replace-open_group.new.dest.piece.left c.replace-open_group.new.dest.piece.flags
+    let k = close_recorded c.in-Some.field-0.piece.left c.in-Some.field-0.piece.flags
     (part_of c.replace-open_group.result.open_group) (view c.in_ok-inner.inner) (state c.args.self.now.current) m in
     let steps = subst (λ d. IsStep d w.current w.recorded made (state c.close.new.current) k) n
     (c.in_ok-step.ensures.value w.current w.inside w.recorded w.before m w.began.0 w.began.1 (rw n w.opens)
     (rw n w.whole)) in
     let taken = c.in_ok-take.ensures in (
       _,
-      rw taken.current (running_step k made w.outer w.began w.more steps taken.taken),
+      rw taken.current (running_step k made c.in-Some.field-0.piece w.outer w.began w.more steps (rw r.after at taken.taken)),
       λ n. taken.spans k (c.in_ok-step.ensures.spans m (subst (g.S.Spanning.records c.finish.new.spans)
           (λ i. choice_recorded (h.branches ++ joined h.pieces ∷ []) (c.reach-end.ensures i)
           (branch_ended (length h.pieces) (c.reach-end.ensures i) l))

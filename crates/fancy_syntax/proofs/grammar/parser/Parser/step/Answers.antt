@@ -5,7 +5,7 @@ use Rattle.fancy_grammar.specs.State.{failed}
 use Rattle.fancy_syntax.specs.Machine.{IsStep, OpensBelow}
 use Rattle.fancy_syntax.specs.Recording.{step_recorded}
 use Rattle.fancy_syntax.specs.Parsed.{state}
-use Rattle.fancy_syntax.proofs.MachineLemmas.{running_began, running_error, running_step}
+use Rattle.fancy_syntax.proofs.MachineLemmas.{running_error, running_step}
 use Rattle.fancy_syntax.proofs.StackLemmas.{capacity_for_step}
 use Rattle.fancy_grammar.proofs.OutcomeLemmas.{IsErrorAmong-map}
 use Rattle.fancy_syntax.proofs.grammar.parser.Parser.step.Goals as goal
@@ -31,7 +31,7 @@ returns-clause-reading g c start none l h =
     let taken = c.in_ok-take.ensures in (
       _,
       rw taken.current
-          (running_step k made (running_began (record { left = c.byte_len.result; flags = c.args.self.now.current.flags }) h)
+          (running_step k made (record { left = c.byte_len.result; flags = c.args.self.now.current.flags }) h
           (c.byte_len.ensures, refl) c.requires.more steps taken.taken),
       λ n. taken.spans k (c.in_ok-step.ensures.spans l n),
     )
