@@ -1,6 +1,6 @@
 -- Classes as a pattern has them, from their opening bracket through their last one.
 use Rattle.std.specs.Prelude.{◌≡◌, ℕ, ◌+◌, Bool, List, [], ◌∷◌, ◌++◌, length, codes}
-use Rattle.fancy_lex.specs.Characters.{open_bracket}
+use Prim.Native.Char.{code}
 use Rattle.fancy_lex.specs.Class.{class}
 use Rattle.fancy_lex.specs.Reading.{gives}
 use Rattle.fancy_lex.specs.Text.{Text}
@@ -13,7 +13,7 @@ use Rattle.class_meaning.specs.declared.class_text.ClassMeaning.TheVariants.{Cha
 
 -- the source is a class, for which the parser writes the text
 abbrev pub IsWrittenAs : Flags → Text → Text → Type 0
-IsWrittenAs f source text = (inside : Text) × (source ≡ open_bracket ∷ inside) × (class f inside ≡ gives text [])
+IsWrittenAs f source text = (inside : Text) × (source ≡ code "[" ∷ inside) × (class f inside ≡ gives text [])
 
 -- the source is a class, which the engine reads as these characters
 abbrev pub HasCharacters : Flags → Bool → Text → CharacterSet → Type 0

@@ -10,7 +10,6 @@ use Rattle.fancy_lex.proofs.EscapeLaws.{leaves_escape}
 use Rattle.fancy_lex.proofs.EscapeSound.{Sound, sound_escape}
 use Rattle.fancy_lex.proofs.LeaveLaws.{Leaves, leaves}
 use Rattle.fancy_lex.proofs.TextLemmas.{bytes-append, strip_is}
-use Rattle.fancy_lex.specs.Characters.{backslash, caret, open_bracket, close_bracket}
 use Rattle.fancy_lex.specs.Class.{class, class_from, class_start, with_symbol, escape_in_class, joint, is_negated}
 use Rattle.fancy_lex.specs.Class.{char_text, byte_text, upper_hex_digit, needs_backslash_in_class}
 use Rattle.fancy_lex.specs.Escape.{escape}
@@ -96,13 +95,13 @@ symbol_size m p = by_strip (strip m p.1) refl
 start_size : (out t : Text) → bytes (class_start out t).0 + 6 * bytes (class_start out t).1 ≤ bytes out + 1 + 6 * bytes t
 unfolding bytes class_start
 start_size out t =
-    let start : Text × Text = (out ++ open_bracket ∷ [], t) in
+    let start : Text × Text = (out ++ code "[" ∷ [], t) in
     omega (
       arith,
-      symbol_size caret start,
-      symbol_size close_bracket (with_symbol caret start),
-      bytes-append out (open_bracket ∷ []),
-      len_utf8_ascii open_bracket (omega arith),
+      symbol_size (code "^") start,
+      symbol_size (code "]") (with_symbol (code "^") start),
+      bytes-append out (code "[" ∷ []),
+      len_utf8_ascii (code "[") (omega arith),
     )
 
 -- the text of the class, with six bytes for each byte after it, is at most this long
@@ -124,13 +123,13 @@ module _ (f : Flags) where
       let P = IsClassWithin (bytes out + 6 * bytes (c ∷ t)) in
       let one = (len_utf8_bounds c).0 in
       let plain = bytes-append out (c ∷ []) in
-      cond_both (c == backslash) _ _ P
+      cond_both (c == code "\\") _ _ P
       (λ _. by_escape (items_within k outer) (escape f true t)
       (escape_written t _ (escape f true t) (leaves_escape f true t) (sound_escape f true t) (escape_paid f true t))) (λ _.
-      cond_both (c == open_bracket) _ _ P
+      cond_both (c == code "[") _ _ P
       (λ _. less _ _ _ (omega (arith, start_size out t, one))
       (items_within k (outer + 1) seen (class_start out t).0 (class_start out t).1)) (λ _.
-      cond_both (c == close_bracket) _ _ P
+      cond_both (c == code "]") _ _ P
       (λ _. cond_both (outer == 0) _ _ P (λ _. omega (arith, plain))
       (λ _. less _ _ _ (omega (arith, plain)) (items_within k (outer - 1) seen (out ++ c ∷ []) t)))
       (λ _. less _ _ _ (omega (arith, plain)) (items_within k outer seen (out ++ c ∷ []) t))))

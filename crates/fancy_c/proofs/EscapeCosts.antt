@@ -15,7 +15,7 @@ use Rattle.fancy_lex.proofs.ReferenceLaws.{IsCut, cut_is}
 use Rattle.fancy_lex.proofs.TextLemmas.{bytes-append}
 use Rattle.fancy_lex.specs.Boundary as boundaries
 use Rattle.fancy_lex.specs.BoundarySteps as boundary_steps
-use Rattle.fancy_lex.specs.Characters.{backslash, caret, open_brace, close_brace, ◌∈◌}
+use Rattle.fancy_lex.specs.Characters.{◌∈◌}
 use Rattle.fancy_lex.specs.Class.{joint}
 use Rattle.fancy_lex.specs.Delimited.{delimited_name, name_before, of_name}
 use Rattle.fancy_lex.specs.Escape.{escape, escape_at, number_escape, call_escape, backref_leaf, property, outside}
@@ -65,7 +65,7 @@ turned_bytes : (negated : Bool) (t : Text) → bytes (turn negated t).1 ≤ byte
 unfolding bytes
 turned_bytes negated [] = omega arith
 turned_bytes negated (c ∷ t) =
-    cond_both (c == caret) _ _ (λ (p : Bool × Text). bytes p.1 ≤ bytes (c ∷ t)) (λ _. omega arith) (λ _. omega arith)
+    cond_both (c == code "^") _ _ (λ (p : Bool × Text). bytes p.1 ≤ bytes (c ∷ t)) (λ _. omega arith) (λ _. omega arith)
 
 -- however the form is written, it has at most n bytes
 abbrev IsShort : ℕ → Form → Type 0
@@ -168,8 +168,8 @@ property_read : (negated : Bool) (t : Text) → IsRead t (read_property negated 
 unfolding bytes read_property name_at
 property_read negated [] = tt
 property_read negated (c ∷ t) =
-    cond_both (c == open_brace) _ _ (λ (o : Option (PropertyName × Text)). IsRead (c ∷ t) (option_map with_sign o))
-    (λ _. by_cut (cut_at close_brace t) (cut_bytes close_brace t)) (λ _. omega arith)
+    cond_both (c == code "{") _ _ (λ (o : Option (PropertyName × Text)). IsRead (c ∷ t) (option_map with_sign o))
+    (λ _. by_cut (cut_at (code "}") t) (cut_bytes (code "}") t)) (λ _. omega arith)
   where
     with_sign : PropertyName × Text → Property × Text
     with_sign p = (record { negated = negated; name = p.0 }, p.1)
@@ -353,7 +353,7 @@ module _ (f : Flags) where
   unfolding boundary_steps.boundary boundary_steps.named_boundary
   boundary_paid p negated t =
       paid_both t (layout_reading (layout f.ignore_space t)) _
-      (λ _ u. choose_both (IsPaidIn t) (strip open_brace u) _ _
+      (λ _ u. choose_both (IsPaidIn t) (strip (code "{") u) _ _
       (λ v _. paid_both t (layout_reading (layout f.ignore_space v)) _
       (λ _ w. cond_both (boundaries.at_count w) _ _ (IsPaidIn t) (λ _. tt) (λ _. braces v))) tt)
     where
@@ -379,7 +379,7 @@ module _ (f : Flags) where
       outside_rows : AtRows (IsPaid (c ∷ t) t) c (lone_outside f c)
       outside_rows = search rules
 
-      letter_paid : bytes (joint (is_negated_set (backslash ∷ c ∷ []))) + bytes (backslash ∷ c ∷ []) + 6 * bytes t
+      letter_paid : bytes (joint (is_negated_set (code "\\" ∷ c ∷ []))) + bytes (code "\\" ∷ c ∷ []) + 6 * bytes t
           ≤ 6 * (bytes (c ∷ t) + 1)
       letter_paid = omega (arith, (len_utf8_bounds c).0)
 

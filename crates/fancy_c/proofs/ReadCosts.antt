@@ -5,7 +5,6 @@ use Rattle.std.specs.Prelude.{not, nat_lt}
 use Rattle.std.proofs.lemmas.Bool.{cond_both}
 use Rattle.std.proofs.lemmas.Str.{len_utf8_bounds}
 use Prim.Native.Char.{code}
-use Rattle.fancy_lex.specs.Characters.{bar}
 use Rattle.fancy_lex.specs.Target.{Target, by_number, by_name, relative}
 use Rattle.fancy_lex.specs.Text.{Text, bytes, reach_of, strip}
 use Rattle.fancy_lex.specs.declared.flags.Flags.{Flags}
@@ -211,7 +210,7 @@ mutual
   branches_paid (more {s} {t} {u} {q} b e m) =
       let h = branch_paid b in
       then_holds (ArePaid (bytes u)) (ArePaid (bytes s.rest)) q _ (branches_paid m)
-      (λ l v i. omega (arith, h, strip_bytes bar t.rest u e, i))
+      (λ l v i. omega (arith, h, strip_bytes (code "|") t.rest u e, i))
   branches_paid (branch_error b) = tt
 
   branch_paid : {d : ℕ} {s : State} {o : Outcome Tree} → Branch d s o → PaidFrom s o
@@ -253,7 +252,7 @@ mutual
   of_paid (two_branches {s} {v} {u} {a} {q} m e n) h w =
       let first = branch_paid m in
       then_holds (Paid (bytes u)) (Paid (bytes s.rest)) q _ (branch_paid n) (λ r z i.
-      closed_paid (bytes s.rest) (expression a r) z (omega (arith, first, h.1, strip_bytes bar v.rest u e, i)))
+      closed_paid (bytes s.rest) (expression a r) z (omega (arith, first, h.1, strip_bytes (code "|") v.rest u e, i)))
   of_paid (one_branch {s} {v} {a} m e) h w =
       closed_paid (bytes s.rest) (clear_or_stopper a) v (omega (arith, branch_paid m, h.1, clear_or_stopper_cost a))
   of_paid (absent_error m) h w = tt

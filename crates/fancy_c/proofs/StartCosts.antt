@@ -14,7 +14,6 @@ use Rattle.fancy_lex.specs.Reading.{Reading, gives, fails, read_or}
 use Rattle.fancy_lex.specs.Referred.{Reference, Call}
 use Rattle.fancy_lex.specs.Text.{Text, bytes, strip_word, reach_of}
 use Rattle.fancy_lex.specs.Located.{Located}
-use Rattle.fancy_lex.specs.Characters.{close_paren}
 use Rattle.fancy_lex.specs.ErrorTable.{group_not_named}
 use Rattle.fancy_parts.specs.FlagLetters.{Letters, inline_flags, flag_group as scoped}
 use Rattle.fancy_parts.specs.LetterSteps.{letters}
@@ -122,7 +121,7 @@ call_within n s t (fails e) l h = tt
 named_call_in : (t : Text) → IsCallIn t (named_call t)
 unfolding named_call
 named_call_in t =
-    call_in (reach_of t) t (call_of (reach_of t)) (name_before close_paren t) (name_in close_paren t) target_within
+    call_in (reach_of t) t (call_of (reach_of t)) (name_before (code ")") t) (name_in (code ")") t) target_within
 
 condition_within : (n : ℕ) (s : State) (t : Text) → StartWithin n (condition_start s t)
 condition_within n s [] = tt

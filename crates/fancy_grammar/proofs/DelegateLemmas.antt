@@ -5,7 +5,8 @@ use Rattle.std.proofs.lemmas.Bool.{or_parts, false≢true}
 use Rattle.std.specs.Borrow.{Bor}
 use Rattle.std.specs.declared.alloc.AllocError.{AllocError}
 use Rattle.std.specs.Str.{all_scalars}
-use Rattle.fancy_lex.specs.Characters.{open_bracket, backslash, ◌∈◌}
+use Prim.Native.Char.{code}
+use Rattle.fancy_lex.specs.Characters.{◌∈◌}
 use Rattle.fancy_lex.specs.Class.{class}
 use Rattle.fancy_lex.specs.Escape.{escape}
 use Rattle.fancy_lex.specs.Escaped.{Escape}
@@ -38,54 +39,54 @@ whole_left (Some p) true r v class none is = absurd (false≢true (sym none))
 
 module _ (bs : List ℕ) (f : Flags) (is : f ≡ flags_of 0) where
   -- a class under no flags, as a leaf
-  class_leaf : class_of (unicode_flags false) (open_bracket ∷ chars bs) ≡
-      whole_leaf (leaf_outcome (λ w. delegate w false) (start (unicode_flags false) (open_bracket ∷ chars bs))
+  class_leaf : class_of (unicode_flags false) (code "[" ∷ chars bs) ≡
+      whole_leaf (leaf_outcome (λ w. delegate w false) (start (unicode_flags false) (code "[" ∷ chars bs))
       (class f (chars bs)))
   unfolding class_of
   class_leaf = rw is refl
 
   pub class_read : (w v : Text) (o : Option (ℕ × Bor (List ℕ))) (b : Bool) → class f (chars bs) ≡ gives w v →
       is_some o ≡ not b → MatchOption o (v ≡ []) (λ p. v ≡ p.0 ∷ chars p.1.now) →
-      b ≡ is_some (class_of (unicode_flags false) (open_bracket ∷ chars bs))
+      b ≡ is_some (class_of (unicode_flags false) (code "[" ∷ chars bs))
   class_read w v o b e none left = whole_left o b (delegate w false) v refl none left ∙ sym (ap is_some (class_leaf ∙
       ap (λ q. whole_leaf (leaf_outcome (λ w. delegate w false)
-      (start (unicode_flags false) (open_bracket ∷ chars bs)) q)) e))
+      (start (unicode_flags false) (code "[" ∷ chars bs)) q)) e))
 
   pub class_fails : (e : Located) → class f (chars bs) ≡ fails e →
-      false ≡ is_some (class_of (unicode_flags false) (open_bracket ∷ chars bs))
+      false ≡ is_some (class_of (unicode_flags false) (code "[" ∷ chars bs))
   class_fails e h = sym (ap is_some (class_leaf ∙
       ap (λ q. whole_leaf (leaf_outcome (λ w. delegate w false)
-      (start (unicode_flags false) (open_bracket ∷ chars bs)) q)) h))
+      (start (unicode_flags false) (code "[" ∷ chars bs)) q)) h))
 
   -- an escape under no flags, as a leaf
-  escape_leaf : class_of (unicode_flags false) (backslash ∷ chars bs) ≡
-      whole_leaf (leaf_outcome leaf_node (start (unicode_flags false) (backslash ∷ chars bs))
+  escape_leaf : class_of (unicode_flags false) (code "\\" ∷ chars bs) ≡
+      whole_leaf (leaf_outcome leaf_node (start (unicode_flags false) (code "\\" ∷ chars bs))
       (escape f false (chars bs)))
   unfolding class_of
   escape_leaf = rw is refl
 
   escape_is : (q : Reading Escape) → escape f false (chars bs) ≡ q →
-      is_some (class_of (unicode_flags false) (backslash ∷ chars bs)) ≡
-      is_some (whole_leaf (leaf_outcome leaf_node (start (unicode_flags false) (backslash ∷ chars bs)) q))
+      is_some (class_of (unicode_flags false) (code "\\" ∷ chars bs)) ≡
+      is_some (whole_leaf (leaf_outcome leaf_node (start (unicode_flags false) (code "\\" ∷ chars bs)) q))
   escape_is q e = ap is_some (escape_leaf ∙
-      ap (λ q. whole_leaf (leaf_outcome leaf_node (start (unicode_flags false) (backslash ∷ chars bs)) q)) e)
+      ap (λ q. whole_leaf (leaf_outcome leaf_node (start (unicode_flags false) (code "\\" ∷ chars bs)) q)) e)
 
   pub escape_read : (x : Escape) (v : Text) (o : Option (ℕ × Bor (List ℕ))) (a b : Bool) →
       escape f false (chars bs) ≡ gives x v →
       a ≡ is_some (whole_of [] (leaf_node x)) → a ≡ true → is_some o ≡ not b →
       MatchOption o (v ≡ []) (λ p. v ≡ p.0 ∷ chars p.1.now) →
-      b ≡ is_some (class_of (unicode_flags false) (backslash ∷ chars bs))
+      b ≡ is_some (class_of (unicode_flags false) (code "\\" ∷ chars bs))
   escape_read x v o a b e class is_class none left = whole_left o b (leaf_node x) v (sym is_class ∙ class) none left
       ∙ sym (escape_is _ e)
 
   pub escape_other : (x : Escape) (v : Text) (a : Bool) → escape f false (chars bs) ≡ gives x v →
       a ≡ is_some (whole_of [] (leaf_node x)) → a ≡ false →
-      a ≡ is_some (class_of (unicode_flags false) (backslash ∷ chars bs))
+      a ≡ is_some (class_of (unicode_flags false) (code "\\" ∷ chars bs))
   escape_other x v a e class is_other = is_other ∙ other_left (leaf_node x) v (sym is_other ∙ class)
       ∙ sym (escape_is _ e)
 
   pub escape_fails : (e : Located) → escape f false (chars bs) ≡ fails e →
-      false ≡ is_some (class_of (unicode_flags false) (backslash ∷ chars bs))
+      false ≡ is_some (class_of (unicode_flags false) (code "\\" ∷ chars bs))
   escape_fails e h = sym (escape_is _ h)
 
 -- the result if a reading failed, unless memory ran out

@@ -2,13 +2,13 @@
 use Rattle.std.proofs.Common.{◌≡◌, ℕ, Bool, true, false, if◌then◌else◌, List, [], ◌∷◌, ◌++◌, Some, refl, ap, subst}
 use Rattle.std.proofs.Common.{append_assoc}
 use Rattle.std.specs.List.{AllByRecursion}
+use Prim.Native.Char.{code}
 use Rattle.fancy_lex.specs.Located.{Located}
 use Rattle.fancy_lex.specs.ErrorTable.{comment_not_closed}
 use Rattle.fancy_lex.specs.LayoutSteps.{Skipped, rest, failed as open_comment}
 use Rattle.fancy_lex.specs.Text.{Text, bytes, strip}
 use Rattle.fancy_lex.specs.declared.error.ReadError.{ReadError}
 use Rattle.fancy_lex.specs.declared.error.ReadError.TheVariants.{At, OutOfMemory}
-use Rattle.fancy_lex.specs.Characters.{bar}
 use Rattle.fancy_lex.specs.declared.flags.Flags.{Flags}
 use Rattle.fancy_grammar.specs.AtomStart.{AtomStart, nothing, read, of_kind, condition, body, absent_branch}
 use Rattle.fancy_grammar.specs.Grammar.{restored, after_atom, Branch, Branches, more, Piece, Pieces, next, Atom, piece}
@@ -113,7 +113,7 @@ module _ (P : Tree → Type 0) where
   each_solid (t ∷ l) h = each_if (is_empty t) t (solid l) h.0 (each_solid l h.1)
 
 pub more_any : {d : ℕ} {s t : State} {u : Text} {r : Tree} (o : Outcome (List Tree)) → Branch d s (done r t) →
-    strip bar t.rest ≡ Some u →
+    strip (code "|") t.rest ≡ Some u →
     Branches d (at t u) o → Branches d s (trees_before (r ∷ []) o)
 more_any o b e m = more b e m
 

@@ -6,7 +6,6 @@ use Prim.Native.Char.{code}
 use Rattle.fancy_lex.specs.Comments.{comments, comments_from}
 use Rattle.fancy_lex.specs.Layout.{is_blank}
 use Rattle.fancy_lex.specs.LayoutSteps.{layout, layout_from, is_layout, rest}
-use Rattle.fancy_lex.specs.Characters.{hash, backslash}
 use Rattle.fancy_lex.specs.Escape.{escape}
 use Rattle.fancy_lex.specs.Escaped.{Escape}
 use Rattle.fancy_lex.specs.Reading.{gives}
@@ -25,7 +24,7 @@ unmoved s = search (tests, rules)
 pub not_open : (c : ℕ) → is_special c ≡ false → (c == code "(") ≡ false
 not_open c e = grind (arith, nat_tests)
 
-not_hash : (c : ℕ) → is_layout true c ≡ false → (c == hash) ≡ false
+not_hash : (c : ℕ) → is_layout true c ≡ false → (c == code "#") ≡ false
 not_hash c e = grind (arith, nat_tests)
 
 not_blank : (c : ℕ) → is_layout true c ≡ false → is_blank c ≡ false
@@ -107,11 +106,11 @@ unquantified s c t d left a e x h =
     subst (λ u. quants d left a (at s u) ≡ done a (at s u)) (sym e)
     (no_quants d left a (at s (c ∷ t)) (λ l. no_quant l c a s t x h))
 
-pub backslash_no_layout : (x : Bool) → is_layout x backslash ≡ false
+pub backslash_no_layout : (x : Bool) → is_layout x (code "\\") ≡ false
 backslash_no_layout true = refl
 backslash_no_layout false = refl
 
 pub is_escape : (d : ℕ) (s : State) (t u : Text) (e : Escape) → escape s.flags false t ≡ gives e u →
-    atom_start d (at s (backslash ∷ t)) ≡ read (done (leaf_node e) (at s u))
+    atom_start d (at s (code "\\" ∷ t)) ≡ read (done (leaf_node e) (at s u))
 unfolding atom_start
 is_escape d s t u e h = ap (λ o. read (leaf_outcome leaf_node s o)) h

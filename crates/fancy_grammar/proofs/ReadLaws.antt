@@ -9,7 +9,6 @@ use Rattle.std.proofs.lemmas.Bool.Decides.{nat_tests}
 use Prim.Native.Char.{code}
 use Rattle.fancy_lex.proofs.LeaveLaws.{lies_before, lies_at_end}
 use Rattle.fancy_lex.proofs.ReadingLemmas.{choose_both}
-use Rattle.fancy_lex.specs.Characters.{bar}
 use Rattle.fancy_lex.specs.Located.{Located}
 use Rattle.fancy_lex.specs.Text.{Text, bytes, reach_of, strip}
 use Rattle.fancy_lex.specs.declared.flags.Flags.{Flags}
@@ -321,13 +320,13 @@ mutual
         size = λ x. let i = h.size x in (omega (arith, i.0), omega (arith, i.1), omega arith);
       }
   branches_are_read (more {d} {s} {t} {u} {q} b e m) =
-      let h = branch_read b in let past = after h.span (strip_slice bar t.rest u e) in
+      let h = branch_read b in let past = after h.span (strip_slice (code "|") t.rest u e) in
       then_reads (AreBranches d (at t u)) (AreBranches d s) s (at t u) q _ past.slice (branches_are_read m)
       (λ l v i. record {
         span = then past i.span;
         read = (h.read, i.read);
         size = λ x. let j = h.size x in let k = i.size x in
-            (omega (arith, j.0, strip_bytes bar t.rest u e, k.0), omega (arith, j.1, k.1), omega arith);
+            (omega (arith, j.0, strip_bytes (code "|") t.rest u e, k.0), omega (arith, j.1, k.1), omega arith);
       })
   branches_are_read (branch_error b) = branch_read b
 
@@ -400,14 +399,14 @@ mutual
       })
   of_read (two_branches {d} {s} {v} {u} {a} {q} m e n) h b =
       let c = branch_read m in let j = c.size b in
-      let first = before h.0 (after c.span (strip_slice bar v.rest u e)) in
+      let first = before h.0 (after c.span (strip_slice (code "|") v.rest u e)) in
       then_reads (IsBranch (d + 1) (at v u)) (IsAtom d s) s (at v u) q _ first.slice (branch_read n) (λ r w i.
       let both = listed (ap (λ l. items a ++ l) (sym (append-nil (items r)))) (then first i.span) in
       let k = i.size b in
       closed_reads (IsAtom d s) s w (expression a r) both.slice (λ z x y. record {
         span = after both x;
         read = (tt, all_read (a ∷ r ∷ []) (c.read, (i.read, tt)));
-        size = λ _. (omega (arith, h.1, j.0, strip_bytes bar v.rest u e, k.0, y), omega (arith, j.1, k.1));
+        size = λ _. (omega (arith, h.1, j.0, strip_bytes (code "|") v.rest u e, k.0, y), omega (arith, j.1, k.1));
       }))
   of_read (one_branch {d} {s} {v} {a} m e) h b =
       let c = branch_read m in let j = c.size b in let over = clear_or_stopper_over a in

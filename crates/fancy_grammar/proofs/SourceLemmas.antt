@@ -3,7 +3,8 @@ use Rattle.std.proofs.Common.{◌≡◌, ℕ, zero, suc, ◌≤◌, ◌+◌, ◌
 use Rattle.std.proofs.Common.{Some, None, refl, ap, ◌∙◌, length, length-append, arith, if◌then◌else◌}
 use Rattle.std.specs.List.{AllByRecursion}
 use Rattle.std.specs.Prelude.{option_map, option_and_then, ◌&&◌}
-use Rattle.fancy_lex.specs.Characters.{◌∈◌, backslash, open_brace, close_brace}
+use Prim.Native.Char.{code}
+use Rattle.fancy_lex.specs.Characters.{◌∈◌}
 use Rattle.fancy_lex.specs.Class.{joint}
 use Rattle.fancy_lex.specs.Property.{letter}
 use Rattle.fancy_lex.specs.Reading.{choose}
@@ -86,7 +87,7 @@ cut_left delimiter (c ∷ t) = at (c == delimiter) (cut_at delimiter t) (cut_lef
 
 property_left : (upper : Bool) (t : Text) → EndsWith t (property_part upper t).rest
 property_left upper [] = ends_whole []
-property_left upper (c ∷ t) = at (not (c == open_brace)) (cut_at close_brace t) (cut_left close_brace t)
+property_left upper (c ∷ t) = at (not (c == code "{")) (cut_at (code "}") t) (cut_left (code "}") t)
   where
     at : (b : Bool) (o : Option (Text × Text)) → LeavesSome t o → EndsWith (c ∷ t)
         (if b then part (letter upper ++ (c ∷ [])) t
@@ -97,7 +98,7 @@ property_left upper (c ∷ t) = at (not (c == open_brace)) (cut_at close_brace t
 
 single_left : (c : ℕ) (t : Text) → EndsWith t (single_part c t).rest
 single_left c [] = ends_whole []
-single_left c (d ∷ t) = at (not (c == backslash)) (d ∈ "pP")
+single_left c (d ∷ t) = at (not (c == code "\\")) (d ∈ "pP")
   where
     at : (b e : Bool) → EndsWith (d ∷ t)
         (if b then part (by_letter_or c (plain c)) (d ∷ t)

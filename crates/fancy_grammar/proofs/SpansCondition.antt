@@ -10,7 +10,7 @@ use Rattle.fancy_lex.proofs.ReadingLemmas.{choose_both}
 use Rattle.fancy_lex.proofs.ReferenceLaws.{IsCut, cut_is, takes_delimited_name}
 use Rattle.fancy_lex.proofs.TakeLaws.{TakesSome}
 use Rattle.fancy_lex.proofs.TextLemmas.{strip_is, strip_word_is}
-use Rattle.fancy_lex.specs.Characters.{open_paren, close_paren, ◌∈◌}
+use Rattle.fancy_lex.specs.Characters.{◌∈◌}
 use Rattle.fancy_lex.specs.Delimited.{name_before, delimited_name, of_name}
 use Rattle.fancy_lex.specs.Id.{nonempty_front}
 use Rattle.fancy_lex.specs.LayoutSteps.{Skipped, rest, rest_of, failed as open_comment, layout}
@@ -40,7 +40,7 @@ use Rattle.fancy_grammar.proofs.SpansLemmas.{Lies, leaf_at, reaches}
 -- ---- a condition's text ends with its parenthesis
 
 abbrev Closes : Text → Text → Type 0
-Closes t u = EndsWith t (close_paren ∷ u)
+Closes t u = EndsWith t (code ")" ∷ u)
 
 abbrev ClosesSome : {A : Type 0} → Text → Option (A × Text) → Type 0
 ClosesSome t o = IfSome o (λ p. Closes t p.1)
@@ -49,22 +49,22 @@ abbrev ClosesIfGiven : {A : Type 0} → Text → Reading A → Type 0
 ClosesIfGiven t (gives a u) = Closes t u
 ClosesIfGiven t (fails e) = Unit {0}
 
-closes_name : (t : Text) → ClosesSome t (name_before close_paren t)
+closes_name : (t : Text) → ClosesSome t (name_before (code ")") t)
 unfolding name_before
-closes_name t = by_cut (cut_at close_paren t) (cut_is close_paren t)
+closes_name t = by_cut (cut_at (code ")") t) (cut_is (code ")") t)
   where
-    by_cut : (o : Option (Text × Text)) → IsCut close_paren t o → ClosesSome t (option_and_then nonempty_front o)
+    by_cut : (o : Option (Text × Text)) → IsCut (code ")") t o → ClosesSome t (option_and_then nonempty_front o)
     by_cut None e = tt
     by_cut (Some ([], v)) e = tt
     by_cut (Some (c ∷ w, v)) e = (c ∷ w, e)
 
 closes_with : (t : Text) (o : Option (Text × Text)) → TakesSome 3 t o → ClosesSome t (with_close_paren o)
 closes_with t None h = tt
-closes_with t (Some (w, u)) h = by_strip (strip close_paren u) refl
+closes_with t (Some (w, u)) h = by_strip (strip (code ")") u) refl
   where
-    by_strip : (o : Option Text) → strip close_paren u ≡ o → ClosesSome t (option_map (λ v. (w, v)) o)
+    by_strip : (o : Option Text) → strip (code ")") u ≡ o → ClosesSome t (option_map (λ v. (w, v)) o)
     by_strip None e = tt
-    by_strip (Some v) e = (h.word, h.cut ∙ ap (λ z. h.word ++ z) (strip_is close_paren u v e))
+    by_strip (Some v) e = (h.word, h.cut ∙ ap (λ z. h.word ++ z) (strip_is (code ")") u v e))
 
 closes_condition_name : (t : Text) → ClosesSome t (condition_name t)
 unfolding condition_name
@@ -88,11 +88,11 @@ closes_target t = by_name (condition_name t) (closes_condition_name t)
     by_name (Some (w, u)) h = by_written u h (written_reference (reach_of t) true w)
 
 closes_word : (t : Text) (v : BacktrackingControlVerb) (w : Text) (o : Option (BacktrackingControlVerb × Text)) →
-    ClosesSome t o → ClosesSome t (choose (strip_word (w ++ close_paren ∷ []) t) (λ u. Some (v, u)) o)
+    ClosesSome t o → ClosesSome t (choose (strip_word (w ++ code ")" ∷ []) t) (λ u. Some (v, u)) o)
 closes_word t v w o h =
-    let word = w ++ close_paren ∷ [] in
+    let word = w ++ code ")" ∷ [] in
     choose_both (ClosesSome t) (strip_word word t) _ _
-    (λ u e. (w, strip_word_is word t u e ∙ append_assoc w (close_paren ∷ []) u)) h
+    (λ u e. (w, strip_word_is word t u e ∙ append_assoc w (code ")" ∷ []) u)) h
 
 closes_verb : (t : Text) → ClosesSome t (verb_at t)
 unfolding verb_at
@@ -181,11 +181,11 @@ module _ (named : Bool) where
   condition_lies d s = by_text s.rest refl
     where
       positioned : (w : Text) (v : State) → condition_text s ≡ Some w →
-          reaches w (close_paren ∷ v.rest) ≡ condition_span s v
+          reaches w (code ")" ∷ v.rest) ≡ condition_span s v
       positioned w v e =
           let start = ap (λ o. choose o reach_of (reach_of s.rest)) (sym e) in
-          let end : reach_of (close_paren ∷ v.rest) ≡ reach_of v.rest + 1 =
-          omega (arith, len_utf8_ascii close_paren (omega arith)) in
+          let end : reach_of (code ")" ∷ v.rest) ≡ reach_of v.rest + 1 =
+          omega (arith, len_utf8_ascii (code ")") (omega arith)) in
           λ i. record { start = start i; end = end i }
 
       by_start : (u : Text) → Slice s.rest u → condition_text s ≡ strip_word (codes "?(") u → (k : AtomStart) →
@@ -193,20 +193,20 @@ module _ (named : Bool) where
       by_start u a e (body c v) (w, i, (l, j), h) =
           let cut : Slice u w = record { word = codes "?("; cut = strip_word_is (codes "?(") u w i } in
           subst (λ p. Lies named s.rest v.rest c (alone p)) (positioned w v (e ∙ i))
-          (subst (λ r. Lies named s.rest v.rest r (alone (reaches w (close_paren ∷ v.rest)))) (sym j)
-          (leaf_at (on a cut) (record { word = h.0; cut = h.1 }) (record { word = close_paren ∷ []; cut = refl })))
+          (subst (λ r. Lies named s.rest v.rest r (alone (reaches w (code ")" ∷ v.rest)))) (sym j)
+          (leaf_at (on a cut) (record { word = h.0; cut = h.1 }) (record { word = code ")" ∷ []; cut = refl })))
       by_start u a e nothing h = tt
       by_start u a e (read q) h = tt
       by_start u a e (of_kind g v) h = tt
       by_start u a e (condition v) h = tt
       by_start u a e (absent_branch v) h = tt
 
-      by_layout : (t : Text) → s.rest ≡ open_paren ∷ t → (k : Skipped) → layout s.flags.ignore_space t ≡ k →
+      by_layout : (t : Text) → s.rest ≡ code "(" ∷ t → (k : Skipped) → layout s.flags.ignore_space t ≡ k →
           SkippedSlice t k → ConditionLies s (after_skipped k (group_start s) error_start)
       by_layout t e (rest u) l i =
-          by_start u (on (record { word = open_paren ∷ []; cut = e }) i)
+          by_start u (on (record { word = code "(" ∷ []; cut = e }) i)
           (ap (λ z. option_and_then (strip_word (codes "?("))
-          (option_and_then (λ v. rest_of (layout s.flags.ignore_space v)) (strip open_paren z))) e
+          (option_and_then (λ v. rest_of (layout s.flags.ignore_space v)) (strip (code "(") z))) e
           ∙ ap (λ k. option_and_then (strip_word (codes "?(")) (rest_of k)) l)
           (group_start s u) (has_text_group s u)
       by_layout t e (open_comment p) l i = tt
@@ -220,5 +220,5 @@ module _ (named : Bool) where
           (layout_slice s.flags.ignore_space t))) (λ _.
           cond_both (begins_no_atom c) _ _ (ConditionLies s) (λ _. tt) (λ _. tt))
         where
-          is_paren : (c == code "(") ≡ true → c ≡ open_paren
+          is_paren : (c == code "(") ≡ true → c ≡ code "("
           is_paren i = grind (arith, nat_tests)

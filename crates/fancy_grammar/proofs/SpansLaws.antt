@@ -3,7 +3,6 @@
 use Rattle.std.proofs.Common.{ℕ, Bool, List, refl, subst, ◌==◌, ◌&&◌, not, length}
 use Rattle.std.proofs.lemmas.Bool.{cond_both}
 use Prim.Native.Char.{code}
-use Rattle.fancy_lex.specs.Characters.{bar}
 use Rattle.fancy_lex.specs.Text.{Text, bytes, reach_of, strip}
 use Rattle.fancy_lex.specs.declared.flags.Flags.{Flags}
 use Rattle.fancy_grammar.specs.AtomStart.{AtomStart}
@@ -89,7 +88,7 @@ module _ (named : Bool) where
     branches_lie (last b e) = one (branch_lies b)
     branches_lie {s} (more {t} {u} {q} b e m) =
         then_holds (λ l (v : State). InBranches named u v.rest (trees_of l) (branches_spans named m)) _ q _
-        (branches_lie m) (λ l v i. barred (branch_lies b) (strip_slice bar t.rest u e) i)
+        (branches_lie m) (λ l v i. barred (branch_lies b) (strip_slice (code "|") t.rest u e) i)
     branches_lie (branch_error b) = tt
 
     branch_lies : {d : ℕ} {s : State} {o : Outcome Tree} (a : Branch d s o) →
@@ -134,7 +133,7 @@ module _ (named : Bool) where
     of_lies {s} (a_body b) h c = body_lies s b c
     of_lies {s} (two_branches {v} {u} {a} {q} b e m) h c =
         let xs = more_spans (branch_spans named b) (more_spans (branch_spans named m) no_spans) in
-        let first = wider named h.0 (strip_slice bar v.rest u e) (branch_lies b) in
+        let first = wider named h.0 (strip_slice (code "|") v.rest u e) (branch_lies b) in
         then_lies (λ x w. Lies named u w.rest x (branch_spans named m)) s.rest (λ o. node (between s o) xs) q _
         (branch_lies m)
         (λ x w i. closed_lies (λ o. node (between s o) xs) (expression a x) w

@@ -9,7 +9,6 @@ use Prim.Native.Char.{code}
 use Rattle.fancy_lex.proofs.ReadingLemmas.{choose_both}
 use Rattle.fancy_lex.proofs.TakeLaws.{TakesSome}
 use Rattle.fancy_lex.proofs.TextLemmas.{strip_is}
-use Rattle.fancy_lex.specs.Characters.{bar, close_paren}
 use Rattle.fancy_lex.specs.ErrorTable.{quantifier_too_deep, not_repeatable}
 use Rattle.fancy_lex.specs.LayoutSteps.{Skipped, rest, rest_of, failed as open_comment}
 use Rattle.fancy_lex.specs.Reading.{choose}
@@ -220,7 +219,7 @@ opening_passes repeater s t p k = subst (Passes s.rest t.rest p) (sym (append-ni
 
 -- up to the closing parenthesis
 abbrev PassesInside : Text → List Passed → List Passed → Outcome Tree → Type 0
-PassesInside t p m o = Holds (λ _ (v : State). Passes t (close_paren ∷ v.rest) p m) o
+PassesInside t p m o = Holds (λ _ (v : State). Passes t (code ")" ∷ v.rest) p m) o
 
 closed_passes : {t : Text} {p m : List Passed} (r : Tree) (s : State) → Passes t s.rest p m →
     PassesInside t p m (closed r s)
@@ -233,22 +232,22 @@ on_inside : {t u : Text} {p q : List Passed} (m : List Passed) → Passes t u p 
 on_inside m h (done a v) i = followed h i
 on_inside m h (failed e) i = tt
 
-paren_bytes : (t : Text) → bytes (close_paren ∷ t) ≡ bytes t + 1
+paren_bytes : (t : Text) → bytes (code ")" ∷ t) ≡ bytes t + 1
 unfolding bytes
 paren_bytes t = omega arith
 
 module _ (t : Text) (p m : List Passed) where
   no_closing : (r : Tree) (v : State) → PassesInside t p m (done r v) → Passes t v.rest p (m ++ [])
-  no_closing r v i = subst (Passes t v.rest p) (sym (append-nil m)) (extended i (one close_paren v.rest))
+  no_closing r v i = subst (Passes t v.rest p) (sym (append-nil m)) (extended i (one (code ")") v.rest))
 
   one_closing : (r : Tree) (v : State) (b : Bool) → PassesInside t p m (done r v) →
       Passes t v.rest p (m ++ part (reach_of v.rest + 1) (reach_of v.rest) closing b ∷ [])
   one_closing r v b i =
-      one_more closing b (close_paren ∷ []) i refl refl (current v.rest)
+      one_more closing b (code ")" ∷ []) i refl refl (current v.rest)
       (ap (λ n. m ++ part n (reach_of v.rest) closing b ∷ []) (ap (λ n. n + 1) (sym (paren_bytes v.rest))))
 
   past_paren : (o : Outcome Tree) → PassesInside t p m o → PassesFrom t p m o
-  past_paren (done r v) h = extended h (one close_paren v.rest)
+  past_paren (done r v) h = extended h (one (code ")") v.rest)
   past_paren (failed e) h = tt
 
   closing_passes : (h : GroupKind) (reach : ℕ) (q : Outcome Tree) → PassesInside t p m q →
@@ -285,7 +284,7 @@ mutual
   branches_passes (last b e) p = branch_passes b p
   branches_passes {s} (more {t} {u} {r} {q} b e m) p =
       let others = branches_trivia m (branch_trivia b p) in
-      let first = extended (branch_passes b p) (strip_slice bar t.rest u e) in
+      let first = extended (branch_passes b p) (strip_slice (code "|") t.rest u e) in
       mapped_from s.rest p others (r ∷◌) q (on_from others first q (branches_passes m (branch_trivia b p)))
   branches_passes (branch_error b) p = tt
 
@@ -339,7 +338,7 @@ mutual
       cond_both (leaves_condition b) _ _ (λ m. PassesFrom s.rest p m o) (λ _.
       subst (λ n. PassesFrom s.rest p (filled n (end_of o) (body_trivia b []) (inside_trivia i q)) o)
       (ap (λ n. n + 1) (paren_bytes v.rest))
-      (filled_from (body_trivia b []) first (one close_paren v.rest) o (body_passes b []))) (λ _.
+      (filled_from (body_trivia b []) first (one (code ")") v.rest) o (body_passes b []))) (λ _.
       on_from (body_trivia b (inside_trivia i p)) (followed (nothing h.0) condition) o (body_passes b (inside_trivia i p)))
   of_passes (condition_error i) p h y = tt
   of_passes {s} {o} (a_body {t} b) p h y =
@@ -354,7 +353,7 @@ mutual
       (λ _. on_from (body_trivia b p) (nothing h.0.slice) o (body_passes b p))
   of_passes {s} (two_branches {v} {u} {a} {q} b e m) p h y =
       let all = branch_trivia m (branch_trivia b p) in
-      let first = extended (followed (nothing h.0) (branch_passes b p)) (strip_slice bar v.rest u e) in
+      let first = extended (followed (nothing h.0) (branch_passes b p)) (strip_slice (code "|") v.rest u e) in
       then_from s.rest p all all q _ (on_from all first q (branch_passes m (branch_trivia b p)))
       (λ x w i. past_paren s.rest p all (closed (expression a x) w) (closed_passes (expression a x) w i))
   of_passes {s} (one_branch {v} {a} b e) p h y =

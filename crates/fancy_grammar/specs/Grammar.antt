@@ -6,7 +6,6 @@
 use Rattle.std.specs.Prelude.{◌≡◌, ℕ, ◌+◌, ◌==◌, Bool, true, false, not, ◌&&◌, List, [], ◌∷◌, length, Some, None}
 use Rattle.std.specs.Prelude.{if◌then◌else◌}
 use Prim.Native.Char.{code}
-use Rattle.fancy_lex.specs.Characters.{bar}
 use Rattle.fancy_lex.specs.Located.{Kind, Located}
 use Rattle.fancy_lex.specs.ErrorTable.{comment_not_closed, group_not_closed, bar_for_close_paren, close_paren_left_over}
 use Rattle.fancy_lex.specs.ErrorTable.{body_missing}
@@ -89,8 +88,8 @@ mutual
     alternation : {d s q : _} → Branches d s q → Alternation d s (mapped choice q)
 
   pub data Branches : ℕ → State → Outcome (List Tree) → Type 0 where
-    last : {d s t r : _} → Branch d s (done r t) → strip bar t.rest ≡ None → Branches d s (done (r ∷ []) t)
-    more : {d s t u r q : _} → Branch d s (done r t) → strip bar t.rest ≡ Some u → Branches d (at t u) q →
+    last : {d s t r : _} → Branch d s (done r t) → strip (code "|") t.rest ≡ None → Branches d s (done (r ∷ []) t)
+    more : {d s t u r q : _} → Branch d s (done r t) → strip (code "|") t.rest ≡ Some u → Branches d (at t u) q →
         Branches d s (mapped (r ∷◌) q)
     branch_error : {d s e : _} → Branch d s (failed e) → Branches d s (failed e)
 
@@ -123,9 +122,9 @@ mutual
     condition_error : {d s t e : _} → Inside d t (failed e) → AtomOf (condition t) d s (failed e)
     a_body : {d s t c o : _} → Body d c t o → AtomOf (body c t) d s o
     -- the two branches of an absent expression; the one branch of a stopper or a clear
-    two_branches : {d s t v u a q : _} → Branch (d + 1) t (done a v) → strip bar v.rest ≡ Some u →
+    two_branches : {d s t v u a q : _} → Branch (d + 1) t (done a v) → strip (code "|") v.rest ≡ Some u →
         Branch (d + 1) (at v u) q → AtomOf (absent_branch t) d s (and_then q (λ r. closed (expression a r)))
-    one_branch : {d s t v a : _} → Branch (d + 1) t (done a v) → strip bar v.rest ≡ None →
+    one_branch : {d s t v a : _} → Branch (d + 1) t (done a v) → strip (code "|") v.rest ≡ None →
         AtomOf (absent_branch t) d s (closed (clear_or_stopper a) v)
     absent_error : {d s t e : _} → Branch (d + 1) t (failed e) → AtomOf (absent_branch t) d s (failed e)
 

@@ -4,7 +4,7 @@ use Rattle.std.specs.Prelude.{◌++◌, codes, map, Option, Some, None, if◌the
 use Rattle.std.specs.List.{list_any}
 use Rattle.std.proofs.Math.Bool.{beq}
 use Prim.Native.Char.{code}
-use Rattle.fancy_lex.specs.Characters.{◌∈◌, backslash}
+use Rattle.fancy_lex.specs.Characters.{◌∈◌}
 use Rattle.fancy_lex.specs.Class.{upper_hex_digit, byte_text}
 use Rattle.fancy_lex.specs.Reading.{choose}
 use Rattle.fancy_lex.specs.Text.{Text}
@@ -52,7 +52,7 @@ plain c = if is_unseen c then coded c else c ∷ []
 
 -- with its letter, or else the other text
 abbrev pub by_letter_or : ℕ → Text → Text
-by_letter_or c other = choose (letter_of c) (λ d. backslash ∷ d ∷ []) other
+by_letter_or c other = choose (letter_of c) (λ d. code "\\" ∷ d ∷ []) other
 
 -- if blanks are layout, these characters are layout too
 abbrev pub is_layout : Flags → ℕ → Bool
@@ -62,7 +62,7 @@ is_layout f c = f.ignore_space && c ∈ " #"
 abbrev pub character : Flags → Bool → ℕ → Text
 character f true c = if c ∈ "\\.+*?()|[{^$" || is_layout f c then coded c else plain c
 character f false c =
-    by_letter_or c (if c ∈ "\\.+*?()|[]{}^$" || (is_layout f c || f.casei) then backslash ∷ c ∷ [] else plain c)
+    by_letter_or c (if c ∈ "\\.+*?()|[]{}^$" || (is_layout f c || f.casei) then code "\\" ∷ c ∷ [] else plain c)
 
 -- ---- escapes
 

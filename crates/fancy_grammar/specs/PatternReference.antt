@@ -4,7 +4,7 @@ use Rattle.std.specs.Prelude.{[], ◌∷◌, ◌++◌, codes, decimal, find, Opt
 use Rattle.std.specs.Prelude.{if◌then◌else◌}
 use Rattle.std.specs.List.{list_any}
 use Prim.Native.Char.{code}
-use Rattle.fancy_lex.specs.Characters.{◌∈◌, is_among, backslash}
+use Rattle.fancy_lex.specs.Characters.{◌∈◌, is_among}
 use Rattle.fancy_lex.specs.EscapeReference.{is_relative}
 use Rattle.fancy_lex.specs.IdReference.{id_reference}
 use Rattle.fancy_lex.specs.NumberText.{number_text}
@@ -71,7 +71,7 @@ backref_name m c n = name_or m (λ l. is_last n l && nat_le n c) n (decimal n)
 
 abbrev pub backref_text : GroupInfo → ℕ → ℕ → Text
 backref_text m c n =
-    if m.numeric_capture_group_references then backslash ∷ decimal n else delimited (codes "\\k") (backref_name m c n)
+    if m.numeric_capture_group_references then code "\\" ∷ decimal n else delimited (codes "\\k") (backref_name m c n)
 
 abbrev pub backref_at_level_text : GroupInfo → ℕ → ℕ → ℤ → Text
 backref_at_level_text m c n level = delimited (codes "\\k") (backref_name m c n ++ signed level)

@@ -4,7 +4,8 @@
 use Rattle.std.specs.Prelude.{ℕ, zero, suc, ◌==◌, Bool, true, false, not, ◌&&◌, ◌||◌, List, [], ◌∷◌}
 use Rattle.std.specs.Prelude.{◌++◌, codes, length, Option, Some, None, if◌then◌else◌}
 use Rattle.std.specs.Str.{bytes_eq}
-use Rattle.fancy_lex.specs.Characters.{◌∈◌, backslash, caret, open_brace, close_brace}
+use Prim.Native.Char.{code}
+use Rattle.fancy_lex.specs.Characters.{◌∈◌}
 use Rattle.fancy_lex.specs.Class.{joint}
 use Rattle.fancy_lex.specs.Escaped.{hex_class, negated_hex_class}
 use Rattle.fancy_lex.specs.Property.{letter}
@@ -66,7 +67,7 @@ replaced_part seen (r ∷ l) t =
 -- more and the other letter are written
 abbrev pub named_front : Bool → Text → Text
 named_front upper name =
-    choose (strip caret name) (λ t. letter (not upper) ++ (codes "{^^" ++ t)) (letter upper ++ (codes "{" ++ name))
+    choose (strip (code "^") name) (λ t. letter (not upper) ++ (codes "{^^" ++ t)) (letter upper ++ (codes "{" ++ name))
 
 abbrev pub named_property : Bool → Text → Text
 named_property upper name = named_front upper name ++ codes "}"
@@ -75,14 +76,14 @@ named_property upper name = named_front upper name ++ codes "}"
 abbrev pub property_part : Bool → Text → Part
 property_part upper [] = part (letter upper) []
 property_part upper (c ∷ t) =
-    if not (c == open_brace) then part (letter upper ++ (c ∷ [])) t
-    else choose (cut_at close_brace t) (λ q. part (named_property upper q.0) q.1) (part (letter upper) (c ∷ t))
+    if not (c == code "{") then part (letter upper ++ (c ∷ [])) t
+    else choose (cut_at (code "}") t) (λ q. part (named_property upper q.0) q.1) (part (letter upper) (c ∷ t))
 
 -- the character, or the escape that it begins
 abbrev pub single_part : ℕ → Text → Part
 single_part c [] = part (by_letter_or c (plain c)) []
 single_part c (d ∷ t) =
-    if not (c == backslash) then part (by_letter_or c (plain c)) (d ∷ t)
+    if not (c == code "\\") then part (by_letter_or c (plain c)) (d ∷ t)
     else if d ∈ "pP" then property_part (d ∈ "P") t
     else part (c ∷ d ∷ []) t
 

@@ -8,7 +8,7 @@ use Rattle.std.specs.Prelude.{◌≡◌, ◌≤◌, ℕ, zero, suc, ◌+◌, Boo
 use Rattle.std.specs.Prelude.{if◌then◌else◌}
 use Rattle.std.specs.Option.{option_and_then}
 use Rattle.std.specs.Str.{IsCharBoundary}
-use Rattle.fancy_lex.specs.Characters.{open_paren}
+use Prim.Native.Char.{code}
 use Rattle.fancy_lex.specs.LayoutSteps.{past_layout}
 use Rattle.fancy_lex.specs.Reading.{choose}
 use Rattle.fancy_lex.specs.Text.{Text, bytes, reach_of, position_at, strip, strip_word}
@@ -144,7 +144,7 @@ conditional_spans p c q x = if_done q (λ r v.
 -- the text after the parenthesis of a conditional, layout and `?(`
 abbrev pub condition_text : State → Option Text
 condition_text s = option_and_then (strip_word (codes "?(")) (option_and_then (past_layout s.flags.ignore_space)
-    (strip open_paren s.rest))
+    (strip (code "(") s.rest))
 
 -- the span of a condition that is no alternation, in the conditional that begins at s: it ends one byte before the
 -- body, which begins at t

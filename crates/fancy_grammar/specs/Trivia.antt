@@ -5,7 +5,7 @@
 use Rattle.std.specs.Prelude.{◌≡◌, ◌≤◌, ℕ, zero, suc, ◌+◌, ◌==◌, Bool, true, false, not, ◌&&◌, List, [], ◌∷◌, ◌++◌}
 use Rattle.std.specs.Prelude.{None, map, if◌then◌else◌, ⊤}
 use Rattle.std.specs.Option.{option_and_then}
-use Rattle.fancy_lex.specs.Characters.{close_paren}
+use Prim.Native.Char.{code}
 use Rattle.fancy_lex.specs.Comments.{Comment, comments}
 use Rattle.fancy_lex.specs.Layout.{IsComment, IsLineComment}
 use Rattle.fancy_lex.specs.LayoutSteps.{past_layout}
@@ -209,7 +209,7 @@ IsTriviaOf f text l =
 abbrev pub IsTextOf : TriviumKind → Text → Text → Type 0
 IsTextOf comment w v = IsComment w
 IsTextOf line_comment w v = IsLineComment w v
-IsTextOf closing w v = w ≡ close_paren ∷ []
+IsTextOf closing w v = w ≡ code ")" ∷ []
 IsTextOf _ w v = ⊤
 
 -- it is a part of the text: from its start, in bytes, to its end

@@ -5,7 +5,7 @@ use Rattle.std.specs.Prelude.{None}
 use Rattle.std.specs.List.{AllByRecursion, list_any}
 use Rattle.std.specs.Option.{IfSome}
 use Prim.Native.Char.{code}
-use Rattle.fancy_lex.specs.Characters.{is_among, backslash, open_bracket}
+use Rattle.fancy_lex.specs.Characters.{is_among}
 use Rattle.fancy_lex.specs.Class.{class}
 use Rattle.fancy_lex.specs.Escape.{escape}
 use Rattle.fancy_lex.specs.EscapeReference.{is_relative}
@@ -48,9 +48,9 @@ IsLike f g = unset g ≡ unset f
 -- the source is read as the Delegate, whatever follows it: as an escape, or as a class
 pub data IsSource (f : Flags) (s : Text) (casei : Bool) : Text → Type 0 where
   an_escape : {t : Text} → ((v : Text) → escape f false (t ++ v) ≡ gives (escaped.delegate s casei) v) →
-      IsSource f s casei (backslash ∷ t)
+      IsSource f s casei (code "\\" ∷ t)
   a_class : {t : Text} → f.casei ≡ casei → ((v : Text) → class f (t ++ v) ≡ gives s v) →
-      IsSource f s casei (open_bracket ∷ t)
+      IsSource f s casei (code "[" ∷ t)
 
 -- this holds under all flags that the text may set before it
 abbrev pub HasSource : Flags → Text → Bool → Type 0

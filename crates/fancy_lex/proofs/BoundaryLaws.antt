@@ -4,13 +4,13 @@ use Rattle.std.proofs.Common.{Option, Some, None, refl, ap, sym, ◌∙◌, arit
 use Rattle.std.proofs.lemmas.Bool.{false≢true}
 use Rattle.std.specs.Str.{bytes_eq}
 use Rattle.std.proofs.lemmas.Slice.Eq.{bytes_eq-Decides}
+use Prim.Native.Char.{code}
 use Rattle.fancy_lex.specs.declared.escape.Assertion.{Assertion}
 use Rattle.fancy_lex.specs.declared.escape.Assertion.TheVariants.{LeftWordBoundary, RightWordBoundary}
 use Rattle.fancy_lex.specs.declared.escape.Assertion.TheVariants.{LeftWordHalfBoundary, RightWordHalfBoundary}
 use Rattle.fancy_lex.specs.Boundary.{boundary_of_name}
 use Rattle.fancy_lex.specs.BoundarySteps.{name, named_boundary}
 use Rattle.fancy_lex.specs.BoundaryName.{after_name, known_boundary, name_error, name_error_after}
-use Rattle.fancy_lex.specs.Characters.{close_brace}
 use Rattle.fancy_lex.specs.Escaped.{assertion}
 use Rattle.fancy_lex.specs.Located.{unclosed_open_paren, invalid_escape}
 use Rattle.fancy_lex.specs.LayoutSteps.{Skipped, rest, failed, rest_of, layout}
@@ -24,12 +24,12 @@ use Rattle.fancy_lex.proofs.TextLemmas.{strip_is, strip_same}
 -- whether the word has no closing brace
 abbrev pub no_brace : Text → Bool
 no_brace [] = true
-no_brace (c ∷ w) = not (c == close_brace) && no_brace w
+no_brace (c ∷ w) = not (c == code "}") && no_brace w
 
 -- the tests of a word, from the tests of its characters
-plain_tests : (c : ℕ) (w : Text) → no_brace (c ∷ w) ≡ true → ((c == close_brace) ≡ false) × (no_brace w ≡ true)
-plain_tests c w b = by (c == close_brace) refl b where
-  by : (h : Bool) → (c == close_brace) ≡ h → (not h && no_brace w) ≡ true → (h ≡ false) × (no_brace w ≡ true)
+plain_tests : (c : ℕ) (w : Text) → no_brace (c ∷ w) ≡ true → ((c == code "}") ≡ false) × (no_brace w ≡ true)
+plain_tests c w b = by (c == code "}") refl b where
+  by : (h : Bool) → (c == code "}") ≡ h → (not h && no_brace w) ≡ true → (h ≡ false) × (no_brace w ≡ true)
   by true e b = absurd (false≢true b)
   by false e b = (refl, b)
 
@@ -43,12 +43,12 @@ module _ (x : Bool) (p k : ℕ) (t : Text) where
   unfolding name
   name_unclosed e = rw e refl
 
-  pub name_close : (c : ℕ) (r : Text) → layout x t ≡ rest (c ∷ r) → (c == close_brace) ≡ true →
+  pub name_close : (c : ℕ) (r : Text) → layout x t ≡ rest (c ∷ r) → (c == code "}") ≡ true →
       name x p (suc k) t ≡ gives [] r
   unfolding name
   name_close c r e h = rw (e, h) refl
 
-  pub name_step : (c : ℕ) (r : Text) → layout x t ≡ rest (c ∷ r) → (c == close_brace) ≡ false →
+  pub name_step : (c : ℕ) (r : Text) → layout x t ≡ rest (c ∷ r) → (c == code "}") ≡ false →
       name x p (suc k) t ≡ (name x p k r >=> (λ w v. gives (c ∷ w) v))
   unfolding name
   name_step c r e h = rw (e, h) refl
@@ -60,10 +60,10 @@ module _ (x : Bool) (p k : ℕ) (v : Text)
   gives_rest : (u : Text) → layout x t ≡ rest u → (w : Text) → no_brace w ≡ true → after_name x w t ≡ Some v →
       name x p (suc k) t ≡ gives w v
   gives_rest u q [] b e =
-      let here = strip_is close_brace u v (sym (after_name_end x [] t u refl (ap rest_of q)) ∙ e) in
-      name_close x p k t close_brace v (q ∙ ap rest here) refl
+      let here = strip_is (code "}") u v (sym (after_name_end x [] t u refl (ap rest_of q)) ∙ e) in
+      name_close x p k t (code "}") v (q ∙ ap rest here) refl
   gives_rest u q (c ∷ w) b e = by (strip c u) refl where
-    tests : ((c == close_brace) ≡ false) × (no_brace w ≡ true)
+    tests : ((c == code "}") ≡ false) × (no_brace w ≡ true)
     tests = plain_tests c w b
 
     by : (o : Option Text) → strip c u ≡ o → name x p (suc k) t ≡ gives (c ∷ w) v
@@ -92,7 +92,7 @@ after_name_gives x p (suc k) v w t b l e =
 -- conversely, the text begins with the name and a closing brace: one step, given the same for the steps left
 module _ (x : Bool) (p k : ℕ) (more : (w r v : Text) → name x p k r ≡ gives w v → after_name x w r ≡ Some v)
     (t w v : Text) (e : name x p (suc k) t ≡ gives w v) where
-  spells_step : (c : ℕ) (r : Text) → layout x t ≡ rest (c ∷ r) → (c == close_brace) ≡ false → (o : Reading Text) →
+  spells_step : (c : ℕ) (r : Text) → layout x t ≡ rest (c ∷ r) → (c == code "}") ≡ false → (o : Reading Text) →
       name x p k r ≡ o → after_name x w t ≡ Some v
   spells_step c r q h (gives w' v') i =
       let step : gives (c ∷ w') v' ≡ gives w v = rw i at (sym (name_step x p k t c r q h)) ∙ e in
@@ -102,7 +102,7 @@ module _ (x : Bool) (p k : ℕ) (more : (w r v : Text) → name x p k r ≡ give
       ∙ ap Some left
   spells_step c r q h (fails f) i = let step = rw i at (sym (name_step x p k t c r q h)) ∙ e in absurd (cc)
 
-  spells_rest : (c : ℕ) (r : Text) → layout x t ≡ rest (c ∷ r) → (b : Bool) → (c == close_brace) ≡ b →
+  spells_rest : (c : ℕ) (r : Text) → layout x t ≡ rest (c ∷ r) → (b : Bool) → (c == code "}") ≡ b →
       after_name x w t ≡ Some v
   spells_rest c r q true h =
       let step : gives [] r ≡ gives w v = sym (name_close x p k t c r q h) ∙ e in
@@ -114,7 +114,7 @@ module _ (x : Bool) (p k : ℕ) (more : (w r v : Text) → name x p k r ≡ give
   spells_at : (o : Skipped) → layout x t ≡ o → after_name x w t ≡ Some v
   spells_at (failed m) q = let step = sym (name_open x p k t m q) ∙ e in absurd (cc)
   spells_at (rest []) q = let step = sym (name_unclosed x p k t q) ∙ e in absurd (cc)
-  spells_at (rest (c ∷ r)) q = spells_rest c r q (c == close_brace) refl
+  spells_at (rest (c ∷ r)) q = spells_rest c r q (c == code "}") refl
 
 name_out : (x : Bool) (p : ℕ) (t : Text) → name x p zero t ≡ error_at p (invalid_escape (codes "\\b{...}"))
 unfolding name

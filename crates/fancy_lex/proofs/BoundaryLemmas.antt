@@ -2,13 +2,13 @@
 use Rattle.std.proofs.Common.{◌≡◌, ◌≢◌, ℕ, zero, suc, pred, ◌<◌, ◌≤◌, Bool, false, ◌==◌, [], ◌∷◌, ◌++◌, length, codes}
 use Rattle.std.proofs.Common.{Option, Some, None, option_map, refl, ap, sym, ◌∙◌, append_assoc, arith}
 use Rattle.std.proofs.lemmas.Bool.Decides.{nat_tests}
+use Prim.Native.Char.{code}
 use Rattle.fancy_lex.specs.declared.error.ReadError.{ReadError}
 use Rattle.fancy_lex.specs.declared.error.ReadError.TheVariants.{At, OutOfMemory}
 use Rattle.fancy_lex.specs.BoundarySteps.{name}
 use Rattle.fancy_lex.specs.Located.{invalid_escape}
 use Rattle.fancy_lex.specs.ErrorTable.{boundary_start}
 use Rattle.fancy_lex.specs.Reading.{Reading, gives, fails, error_at, ◌>=>◌, layout_reading, Says, Reports}
-use Rattle.fancy_lex.specs.Characters.{close_brace}
 use Rattle.fancy_lex.specs.LayoutSteps.{Skipped, rest, failed, layout, past_layout}
 use Rattle.fancy_lex.specs.Text.{Text, strip}
 use Rattle.fancy_lex.proofs.LayoutLaws.{layout_length}
@@ -23,7 +23,7 @@ after_name_open x [] t e = rw e refl
 after_name_open x (c ∷ w) t e = rw e refl
 
 module _ (x : Bool) (word t : Text) where
-  pub after_name_end : (u : Text) → word ≡ [] → past_layout x t ≡ Some u → after_name x word t ≡ strip close_brace u
+  pub after_name_end : (u : Text) → word ≡ [] → past_layout x t ≡ Some u → after_name x word t ≡ strip (code "}") u
   unfolding after_name
   after_name_end u z e = rw (z, after_name, e) refl
 
@@ -94,18 +94,18 @@ module _ (x : Bool) (p : ℕ) (out t : Text) where
   name_error_end (suc k) u e z = rw (e, z) refl
 
   module _ (u : Text) (e : layout_reading (layout x t) ≡ gives tt u) (c : ℕ) (r : Text) (q : u ≡ c ∷ r) where
-    pub name_error_close : (k : ℕ) (o : Text) → 0 < k → c ≡ close_brace → o ≡ out ++ c ∷ [] →
+    pub name_error_close : (k : ℕ) (o : Text) → 0 < k → c ≡ code "}" → o ≡ out ++ c ∷ [] →
         name_error_after x p out k t ≡ error_at p (invalid_escape o)
     unfolding name_error_after name
     name_error_close zero o l h s = absurd (omega arith)
     name_error_close (suc k) o l h s = rw (e, q, s, h) refl
 
-    pub name_error_step : (k : ℕ) (o : Text) → 0 < k → c ≢ close_brace → o ≡ out ++ c ∷ [] →
+    pub name_error_step : (k : ℕ) (o : Text) → 0 < k → c ≢ code "}" → o ≡ out ++ c ∷ [] →
         name_error_after x p out k t ≡ name_error_after x p o (pred k) r
     unfolding name_error_after name
     name_error_step zero o l h s = absurd (omega arith)
     name_error_step (suc k) o l h s =
-        let other : (c == close_brace) ≡ false = grind (arith, nat_tests) in
+        let other : (c == code "}") ≡ false = grind (arith, nat_tests) in
         rw (e, q, other, s)
         (longer (name x p k r) (λ w. error_at p (invalid_escape (out ++ (w ++ codes "}")))) c
         ∙ same_after (name x p k r) _ _

@@ -3,6 +3,7 @@ use Rattle.std.proofs.Common.{◌≡◌, ◌≢◌, ℕ, zero, suc, ◌<◌, Boo
 use Rattle.std.proofs.Common.{Option, Some, None, refl, ap, ◌∙◌, subst, arith}
 use Rattle.std.proofs.lemmas.Bool.Decides.{nat_tests}
 use Rattle.std.specs.Borrow.{Bor}
+use Prim.Native.Char.{code}
 use Rattle.fancy_lex.specs.declared.error.ReadError.{ReadError}
 use Rattle.fancy_lex.specs.declared.escape.Assertion.{Assertion}
 use Rattle.fancy_lex.specs.declared.escape.Escaped.{Escaped}
@@ -11,7 +12,6 @@ use Rattle.fancy_lex.specs.BoundarySteps.{name, named_boundary, boundary}
 use Rattle.fancy_lex.specs.Boundary.{BracedName, close, character, open_layout, no_end, Braces, Boundary}
 use Rattle.fancy_lex.specs.Boundary.{no_brace, count, known, unknown, name_error, comment_open_before}
 use Rattle.fancy_lex.specs.Boundary.{comment_open_inside}
-use Rattle.fancy_lex.specs.Characters.{open_brace, close_brace}
 use Rattle.fancy_lex.specs.Escaped.{Escape, assertion}
 use Rattle.fancy_lex.specs.EscapeViews.{escape_of}
 use Rattle.fancy_lex.specs.Located.{Located}
@@ -25,13 +25,13 @@ use Rattle.fancy_lex.proofs.LayoutLaws.{layout_sound, layout_complete, unclosed_
 use Rattle.fancy_lex.proofs.ReadingLemmas.{derives_returned, only_returned}
 use Rattle.fancy_lex.proofs.TextLemmas.{strip_is, strip_same}
 
-brace_is : (c : ℕ) → (c == close_brace) ≡ true → c ≡ close_brace
+brace_is : (c : ℕ) → (c == code "}") ≡ true → c ≡ code "}"
 brace_is c e = grind (arith, nat_tests)
 
-no_brace_is : (c : ℕ) → (c == close_brace) ≡ false → c ≢ close_brace
+no_brace_is : (c : ℕ) → (c == code "}") ≡ false → c ≢ code "}"
 no_brace_is c e = grind (arith, nat_tests)
 
-brace_is_not : (c : ℕ) → c ≢ close_brace → (c == close_brace) ≡ false
+brace_is_not : (c : ℕ) → c ≢ code "}" → (c == code "}") ≡ false
 brace_is_not c e = grind (arith, nat_tests)
 
 -- ---- the name in braces
@@ -40,7 +40,7 @@ module _ (x : Bool) (p : ℕ) where
   -- the function's result, with more steps left than there are characters
   module _ (k : ℕ) (more : (u : Text) → length u < k → BracedName x p u (name x p k u)) (t : Text)
       (few : length t < suc k) where
-    named_rest : (c : ℕ) (u : Text) → layout x t ≡ rest (c ∷ u) → (b : Bool) → (c == close_brace) ≡ b →
+    named_rest : (c : ℕ) (u : Text) → layout x t ≡ rest (c ∷ u) → (b : Bool) → (c == code "}") ≡ b →
         BracedName x p t (name x p (suc k) t)
     named_rest c u e true h =
         rw (name_close x p k t c u e h)
@@ -53,7 +53,7 @@ module _ (x : Bool) (p : ℕ) where
     named_at : (s : Skipped) → layout x t ≡ s → BracedName x p t (name x p (suc k) t)
     named_at (failed q) e = rw (name_open x p k t q e) (open_layout (unclosed_sound x t q e))
     named_at (rest []) e = rw (name_unclosed x p k t e) (no_end (layout_sound x t [] e))
-    named_at (rest (c ∷ u)) e = named_rest c u e (c == close_brace) refl
+    named_at (rest (c ∷ u)) e = named_rest c u e (c == code "}") refl
 
   named : (k : ℕ) (t : Text) → length t < k → BracedName x p t (name x p k t)
   named zero t l = absurd (omega arith)
@@ -62,7 +62,7 @@ module _ (x : Bool) (p : ℕ) where
   -- each result in the relation is the function's: by induction on the derivation
   name_is : (k : ℕ) {t : Text} {o : Reading Text} → BracedName x p t o → length t < k → name x p k t ≡ o
   name_is zero h l = absurd (omega arith)
-  name_is (suc k) {t} (close {v} b) l = name_close x p k t close_brace v (layout_complete x t _ b) refl
+  name_is (suc k) {t} (close {v} b) l = name_close x p k t (code "}") v (layout_complete x t _ b) refl
   name_is (suc k) {t} (character {c} {u} d b h) l =
       let e = layout_complete x t _ b in
       let short = layout_length x t (c ∷ u) e in
@@ -78,23 +78,23 @@ module _ (x : Bool) (p : ℕ) (negated : Bool) where
   unfolding boundary
   result_open t q e = rw e refl
 
-  result_no_brace : (t u : Text) → layout x t ≡ rest u → strip open_brace u ≡ None →
+  result_no_brace : (t u : Text) → layout x t ≡ rest u → strip (code "{") u ≡ None →
       boundary x p negated t ≡ gives (unnamed_boundary negated) t
   unfolding boundary
   result_no_brace t u e s = rw (e, s) refl
 
-  result_inside : (t u i : Text) (q : ℕ) → layout x t ≡ rest u → strip open_brace u ≡ Some i →
+  result_inside : (t u i : Text) (q : ℕ) → layout x t ≡ rest u → strip (code "{") u ≡ Some i →
       layout x i ≡ failed q →
       boundary x p negated t ≡ fails (comment_not_closed q)
   unfolding boundary
   result_inside t u i q e s l = rw (e, s, l) refl
 
-  result_count : (t u i v : Text) → layout x t ≡ rest u → strip open_brace u ≡ Some i → layout x i ≡ rest v →
+  result_count : (t u i v : Text) → layout x t ≡ rest u → strip (code "{") u ≡ Some i → layout x i ≡ rest v →
       at_count v ≡ true → boundary x p negated t ≡ gives (unnamed_boundary negated) t
   unfolding boundary
   result_count t u i v e s l c = rw (e, s, l, c) refl
 
-  result_named : (t u i v : Text) → layout x t ≡ rest u → strip open_brace u ≡ Some i → layout x i ≡ rest v →
+  result_named : (t u i v : Text) → layout x t ≡ rest u → strip (code "{") u ≡ Some i → layout x i ≡ rest v →
       at_count v ≡ false → boundary x p negated t ≡ named_boundary x p negated i
   unfolding boundary
   result_named t u i v e s l c = rw (e, s, l, c) refl
@@ -126,9 +126,9 @@ module _ (x : Bool) (p : ℕ) (negated : Bool) where
     by_word (Some a) s = rw (result_known i w v a e s) (known b h s)
     by_word None s = rw (result_unknown i w v e s) (unknown b h s)
 
-  module _ (t u i : Text) (e : layout x t ≡ rest u) (s : strip open_brace u ≡ Some i) where
-    braced : Before x t (open_brace ∷ i)
-    braced = subst (Before x t) (strip_is open_brace u i s) (layout_sound x t u e)
+  module _ (t u i : Text) (e : layout x t ≡ rest u) (s : strip (code "{") u ≡ Some i) where
+    braced : Before x t (code "{" ∷ i)
+    braced = subst (Before x t) (strip_is (code "{") u i s) (layout_sound x t u e)
 
     by_count : (v : Text) → layout x i ≡ rest v → (c : Bool) → at_count v ≡ c →
         Boundary x p negated t (boundary x p negated t)
@@ -142,14 +142,14 @@ module _ (x : Bool) (p : ℕ) (negated : Bool) where
     by_inside (failed q) l = rw (result_inside t u i q e s l) (comment_open_inside braced (unclosed_sound x i q l))
     by_inside (rest v) l = by_count v l (at_count v) refl
 
-  by_brace : (t u : Text) → layout x t ≡ rest u → (o : Option Text) → strip open_brace u ≡ o →
+  by_brace : (t u : Text) → layout x t ≡ rest u → (o : Option Text) → strip (code "{") u ≡ o →
       Boundary x p negated t (boundary x p negated t)
   by_brace t u e None s = rw (result_no_brace t u e s) (no_brace (layout_sound x t u e) s)
   by_brace t u e (Some i) s = by_inside t u i e s (layout x i) refl
 
   by_layout : (t : Text) (l : Skipped) → layout x t ≡ l → Boundary x p negated t (boundary x p negated t)
   by_layout t (failed q) e = rw (result_open t q e) (comment_open_before (unclosed_sound x t q e))
-  by_layout t (rest u) e = by_brace t u e (strip open_brace u) refl
+  by_layout t (rest u) e = by_brace t u e (strip (code "{") u) refl
 
   -- each result in the relation is the function's
   name_result : {i : Text} {o : Reading Text} → BracedName x p i o → name x p (suc (length i)) i ≡ o
@@ -157,20 +157,20 @@ module _ (x : Bool) (p : ℕ) (negated : Bool) where
 
   is_named : (t i : Text) → Braces x t i false → boundary x p negated t ≡ named_boundary x p negated i
   is_named t i (b, v, l, c) =
-      result_named t (open_brace ∷ i) i v (layout_complete x t _ b) (strip_same open_brace i)
+      result_named t (code "{" ∷ i) i v (layout_complete x t _ b) (strip_same (code "{") i)
       (layout_complete x i v l) c
 
   pub boundary_is : {t : Text} {o : Reading Escape} → Boundary x p negated t o → boundary x p negated t ≡ o
   boundary_is {t} (no_brace {u} b s) = result_no_brace t u (layout_complete x t u b) s
   boundary_is {t} (count {u} (b, v, l, c)) =
-      result_count t (open_brace ∷ u) u v (layout_complete x t _ b) (strip_same open_brace u)
+      result_count t (code "{" ∷ u) u v (layout_complete x t _ b) (strip_same (code "{") u)
       (layout_complete x u v l) c
   boundary_is {t} (known {u} {v} {w} {a} b h s) = is_named t u b ∙ result_known u w v a (name_result h) s
   boundary_is {t} (unknown {u} {v} {w} b h s) = is_named t u b ∙ result_unknown u w v (name_result h) s
   boundary_is {t} (name_error {u} {e} b h) = is_named t u b ∙ result_not_read u e (name_result h)
   boundary_is {t} (comment_open_before {q} b) = result_open t q (unclosed_complete x t q b)
   boundary_is {t} (comment_open_inside {q} {u} b l) =
-      result_inside t (open_brace ∷ u) u q (layout_complete x t _ b) (strip_same open_brace u)
+      result_inside t (code "{" ∷ u) u q (layout_complete x t _ b) (strip_same (code "{") u)
       (unclosed_complete x u q l)
 
 pub boundary_reads : (x : Bool) (p : ℕ) (negated : Bool) (t : Text) →

@@ -7,7 +7,7 @@ use Rattle.std.proofs.lemmas.Bool.Decides.{nat_tests}
 use Rattle.std.proofs.lemmas.Str.{len_utf8_bounds}
 use Rattle.std.specs.Borrow.{Bor}
 use Rattle.std.specs.declared.alloc.Global.{Global}
-use Rattle.fancy_lex.specs.Characters.{backslash, open_bracket, close_bracket, caret}
+use Prim.Native.Char.{code}
 use Rattle.fancy_lex.specs.Class.{class_start, with_symbol, class_from, class, escape_in_class, is_negated}
 use Rattle.fancy_lex.specs.Class.{is_plain_in_class, Written}
 use Rattle.fancy_lex.specs.Class.{written, failed, prefixed, Class, class_items, ClassItems, close, end, plain}
@@ -59,15 +59,15 @@ symbol_bytes m p = by_strip (strip m p.1) refl where
 class_start_after : (out t : Text) → ◌≡◌ {A = Text × Text} (class_start out t) (prepend out (class_start [] t))
 unfolding class_start
 class_start_after out t =
-    let start : Text × Text = (open_bracket ∷ [], t) in
-    ap (with_symbol close_bracket) (metacharacter_prepended caret out start) ∙ metacharacter_prepended close_bracket out
-    (with_symbol caret start)
+    let start : Text × Text = (code "[" ∷ [], t) in
+    ap (with_symbol (code "]")) (metacharacter_prepended (code "^") out start) ∙ metacharacter_prepended (code "]") out
+    (with_symbol (code "^") start)
 
 class_start_bytes : (t : Text) → bytes (class_start [] t).1 ≤ bytes t
 unfolding class_start
 class_start_bytes t =
-    let start : Text × Text = (open_bracket ∷ [], t) in
-    omega (arith, symbol_bytes close_bracket (with_symbol caret start), symbol_bytes caret start)
+    let start : Text × Text = (code "[" ∷ [], t) in
+    omega (arith, symbol_bytes (code "]") (with_symbol (code "^") start), symbol_bytes (code "^") start)
 
 -- Each result in the relation is the function's: by induction on the derivation.
 
@@ -82,7 +82,7 @@ module _ (f : Flags) where
       rw (test, back) refl
 
   items_closing : (k depth : ℕ) (b : Bool) (out v : Text) → 0 < k →
-      class_from f k depth b out (close_bracket ∷ v) ≡ ended (pred k) depth b (out ++ close_bracket ∷ []) v
+      class_from f k depth b out (code "]" ∷ v) ≡ ended (pred k) depth b (out ++ code "]" ∷ []) v
   unfolding class_from
   items_closing zero depth b out v m = absurd (omega arith)
   items_closing (suc k) depth b out v m = refl
@@ -103,11 +103,11 @@ after f here there t s depth out x e l (written w a v) (j, m, less, q) =
     (j, m, omega (arith, l, less), e ∙ q ∙ ap (λ (o : Text). ended f j depth a o v) (append_assoc out x w))
 after f here there t s depth out x e l (failed p) q = e ∙ q
 
-not_special : (c : ℕ) → is_plain_in_class c ≡ true → (c ≢ backslash) × (c ≢ open_bracket) × (c ≢ close_bracket)
+not_special : (c : ℕ) → is_plain_in_class c ≡ true → (c ≢ code "\\") × (c ≢ code "[") × (c ≢ code "]")
 not_special c p = (grind (arith, nat_tests), grind (arith, nat_tests), grind (arith, nat_tests))
 
 items_fails : (f : Flags) (k depth : ℕ) (b : Bool) (out t : Text) (e : Located) →
-    escape f true t ≡ fails e → 0 < k → class_from f k depth b out (backslash ∷ t) ≡ fails e
+    escape f true t ≡ fails e → 0 < k → class_from f k depth b out (code "\\" ∷ t) ≡ fails e
 unfolding class_from
 items_fails f zero depth b out t e q m = absurd (omega arith)
 items_fails f (suc k) depth b out t e q m = rw q refl
@@ -144,8 +144,8 @@ mutual
       (k depth : ℕ) (out : Text) → bytes t < k → Runs f (class_from f k depth b out t) t depth out o
   run_items {f} {b} (close {t}) k depth out l = (
     pred k,
-    step_left f k depth b out t close_bracket l,
-    bytes_cons close_bracket t,
+    step_left f k depth b out t (code "]") l,
+    bytes_cons (code "]") t,
     items_closing f k depth b out t (positive _ k l),
   )
   run_items {f} {b} end k depth out l = items_end f k depth b out [] refl
@@ -155,21 +155,21 @@ mutual
       (run_items h (pred k) depth (out ++ c ∷ []) (step_left f k depth b out t c l))
   run_items {f} {b} (escaped {t} {u} {e} {o} q h) k depth out l =
       let less = escape_within f true t u e q in
-      after f _ _ (backslash ∷ t) u depth out (escape_in_class b e)
-      (items_escape f depth b out (backslash ∷ t) backslash t refl k e u (positive _ k l) refl q)
-      (omega (arith, less, bytes_cons backslash t)) o
+      after f _ _ (code "\\" ∷ t) u depth out (escape_in_class b e)
+      (items_escape f depth b out (code "\\" ∷ t) (code "\\") t refl k e u (positive _ k l) refl q)
+      (omega (arith, less, bytes_cons (code "\\") t)) o
       (run_items h (pred k) depth (out ++ escape_in_class b e)
-      (omega (arith, less, step_left f k depth b out t backslash l)))
+      (omega (arith, less, step_left f k depth b out t (code "\\") l)))
   run_items {f} {b} (escape_error {t} {e} q) k depth out l = items_fails f k depth b out t e q (positive _ k l)
   run_items {f} {b} (nested {m} {t} {u} {w} {o} g h) k depth out l =
-      let (j, more, less, q) = run_class g (pred k) (depth + 1) out (step_left f k depth b out t open_bracket l) in
-      after f _ _ (open_bracket ∷ t) u depth out w
-      (items_open f depth b out (open_bracket ∷ t) open_bracket t refl k (positive _ k l) refl ∙ q
+      let (j, more, less, q) = run_class g (pred k) (depth + 1) out (step_left f k depth b out t (code "[") l) in
+      after f _ _ (code "[" ∷ t) u depth out w
+      (items_open f depth b out (code "[" ∷ t) (code "[") t refl k (positive _ k l) refl ∙ q
       ∙ ended_inside f j depth m (out ++ w) u)
-      (omega (arith, less, bytes_cons open_bracket t)) o (run_items h j depth (out ++ w) more)
+      (omega (arith, less, bytes_cons (code "[") t)) o (run_items h j depth (out ++ w) more)
   run_items {f} {b} (class_error {t} {e} h) k depth out l =
-      items_open f depth b out (open_bracket ∷ t) open_bracket t refl k (positive _ k l) refl
-      ∙ run_class h (pred k) (depth + 1) out (step_left f k depth b out t open_bracket l)
+      items_open f depth b out (code "[" ∷ t) (code "[") t refl k (positive _ k l) refl
+      ∙ run_class h (pred k) (depth + 1) out (step_left f k depth b out t (code "[") l)
 
 -- the function's result for a result of the relation
 abbrev reading_of : Written → Reading Text
@@ -216,53 +216,53 @@ module _ (f : Flags) (k : ℕ) (reads : ReadsShort f k) (b : Bool) (t : Text) (l
   )
 
   escaped_reads : (e : Escape) (u : Text) → escape f true t ≡ gives e u →
-      ReadsClass f (b || is_negated e) u → ReadsClass f b (backslash ∷ t)
+      ReadsClass f (b || is_negated e) u → ReadsClass f b (code "\\" ∷ t)
   escaped_reads e u q (o, h, less) = (
     prefixed (escape_in_class b e) o,
     escaped q h,
-    less_prefixed (backslash ∷ t) u (escape_in_class b e) o
-        (omega (arith, escape_within f true t u e q, bytes_cons backslash t)) less,
+    less_prefixed (code "\\" ∷ t) u (escape_in_class b e) o
+        (omega (arith, escape_within f true t u e q, bytes_cons (code "\\") t)) less,
   )
 
-  escape_reads : (r : Reading Escape) → escape f true t ≡ r → ReadsClass f b (backslash ∷ t)
+  escape_reads : (r : Reading Escape) → escape f true t ≡ r → ReadsClass f b (code "\\" ∷ t)
   escape_reads (gives e u) q = escaped_reads e u q
       (reads (b || is_negated e) u (omega (arith, escape_within f true t u e q, l)))
   escape_reads (fails e) q = (failed e, escape_error q, tt)
 
   after_class : (w : Text) (m : Bool) (u : Text) → Class f b t (written w m u) → bytes u < bytes t →
-      ReadsClass f m u → ReadsClass f b (open_bracket ∷ t)
+      ReadsClass f m u → ReadsClass f b (code "[" ∷ t)
   after_class w m u g shorter (o, h, less) = (
     prefixed w o,
     nested g h,
-    less_prefixed (open_bracket ∷ t) u w o (omega (arith, shorter, bytes_cons open_bracket t)) less,
+    less_prefixed (code "[" ∷ t) u w o (omega (arith, shorter, bytes_cons (code "[") t)) less,
   )
 
-  class_item : (o : Written) × Class f b t o × Less t o → ReadsClass f b (open_bracket ∷ t)
+  class_item : (o : Written) × Class f b t o × Less t o → ReadsClass f b (code "[" ∷ t)
   class_item (written x m u, g, less) = after_class x m u g less (reads m u (omega (arith, less, l)))
   class_item (failed e, g, less) = (failed e, class_error g, tt)
 
-  nested_reads : ReadsClass f b (open_bracket ∷ t)
+  nested_reads : ReadsClass f b (code "[" ∷ t)
   nested_reads =
       let p = class_start [] t in
       class_item (class_within f b t p.0 p.1 refl (reads b p.1 (omega (arith, class_start_bytes t, l))))
 
   one_more : (c : ℕ) → ReadsClass f b (c ∷ t)
-  one_more c = by_backslash (cases_eq c backslash) where
-    plain_left : (c ≢ backslash) → (c ≢ open_bracket) → (c ≢ close_bracket) → is_plain_in_class c ≡ true
+  one_more c = by_backslash (cases_eq c (code "\\")) where
+    plain_left : (c ≢ code "\\") → (c ≢ code "[") → (c ≢ code "]") → is_plain_in_class c ≡ true
     plain_left x y z = grind (arith, nat_tests)
 
-    by_close : (c ≢ backslash) → (c ≢ open_bracket) → (c ≡ close_bracket) ⊎ (c ≢ close_bracket) →
+    by_close : (c ≢ code "\\") → (c ≢ code "[") → (c ≡ code "]") ⊎ (c ≢ code "]") →
         ReadsClass f b (c ∷ t)
-    by_close x y (inl e) = rw e (written (close_bracket ∷ []) b t, close, bytes_cons close_bracket t)
+    by_close x y (inl e) = rw e (written (code "]" ∷ []) b t, close, bytes_cons (code "]") t)
     by_close x y (inr z) = plain_reads c (plain_left x y z) (reads b t l)
 
-    by_open : (c ≢ backslash) → (c ≡ open_bracket) ⊎ (c ≢ open_bracket) → ReadsClass f b (c ∷ t)
+    by_open : (c ≢ code "\\") → (c ≡ code "[") ⊎ (c ≢ code "[") → ReadsClass f b (c ∷ t)
     by_open x (inl e) = rw e nested_reads
-    by_open x (inr y) = by_close x y (cases_eq c close_bracket)
+    by_open x (inr y) = by_close x y (cases_eq c (code "]"))
 
-    by_backslash : (c ≡ backslash) ⊎ (c ≢ backslash) → ReadsClass f b (c ∷ t)
+    by_backslash : (c ≡ code "\\") ⊎ (c ≢ code "\\") → ReadsClass f b (c ∷ t)
     by_backslash (inl e) = rw e (escape_reads _ refl)
-    by_backslash (inr x) = by_open x (cases_eq c open_bracket)
+    by_backslash (inr x) = by_open x (cases_eq c (code "["))
 
 items_read : (f : Flags) (k : ℕ) → ReadsShort f k
 items_read f zero b t l = absurd (omega arith)
@@ -289,13 +289,13 @@ mutual
         ReadItems f b u w a v → ReadClass f b t (opening ++ w) a v
 
   pub data ReadItems : Flags → Bool → Text → Text → Bool → Text → Type 0 where
-    at_close : {f : Flags} {b : Bool} {v : Text} → ReadItems f b (close_bracket ∷ v) (close_bracket ∷ []) b v
+    at_close : {f : Flags} {b : Bool} {v : Text} → ReadItems f b (code "]" ∷ v) (code "]" ∷ []) b v
     at_plain : {c : ℕ} {f : Flags} {b a : Bool} {t v w : Text} → is_plain_in_class c ≡ true →
         ReadItems f b t w a v → ReadItems f b (c ∷ t) (c ∷ w) a v
     at_escape : {f : Flags} {b a : Bool} {t u v w : Text} {e : Escape} → escape f true t ≡ gives e u →
-        ReadItems f (b || is_negated e) u w a v → ReadItems f b (backslash ∷ t) (escape_in_class b e ++ w) a v
+        ReadItems f (b || is_negated e) u w a v → ReadItems f b (code "\\" ∷ t) (escape_in_class b e ++ w) a v
     at_nested : {f : Flags} {b m a : Bool} {t u v x w : Text} → ReadClass f b t x m u →
-        ReadItems f m u w a v → ReadItems f b (open_bracket ∷ t) (x ++ w) a v
+        ReadItems f m u w a v → ReadItems f b (code "[" ∷ t) (x ++ w) a v
 
 abbrev IsReadClass : Flags → Bool → Text → Written → Type 0
 IsReadClass f b t (written w a v) = ReadClass f b t w a v
@@ -317,12 +317,12 @@ module _ (f : Flags) (b : Bool) (t : Text) where
   plain_first c p (failed x) i = tt
 
   escape_first : (u : Text) (e : Escape) → escape f true t ≡ gives e u → (o : Written) →
-      AreReadItems f (b || is_negated e) u o → AreReadItems f b (backslash ∷ t) (prefixed (escape_in_class b e) o)
+      AreReadItems f (b || is_negated e) u o → AreReadItems f b (code "\\" ∷ t) (prefixed (escape_in_class b e) o)
   escape_first u e q (written w a v) i = at_escape q i
   escape_first u e q (failed x) i = tt
 
   class_first : (m : Bool) (u x : Text) → ReadClass f b t x m u → (o : Written) → AreReadItems f m u o →
-      AreReadItems f b (open_bracket ∷ t) (prefixed x o)
+      AreReadItems f b (code "[" ∷ t) (prefixed x o)
   class_first m u x g (written w a v) i = at_nested g i
   class_first m u x g (failed e) i = tt
 
@@ -346,10 +346,10 @@ read_class h = class_is_read h
 -- The result does not depend on the text after the class: by induction on what is read.
 
 items_some : {f : Flags} {b a : Bool} {t w v : Text} → ReadItems f b t w a v → (c : ℕ) × (u : Text) × (t ≡ c ∷ u)
-items_some (at_close {v}) = (close_bracket, v, refl)
+items_some (at_close {v}) = (code "]", v, refl)
 items_some (at_plain {c} {t} p h) = (c, t, refl)
-items_some (at_escape {t} q h) = (backslash, t, refl)
-items_some (at_nested {t} g h) = (open_bracket, t, refl)
+items_some (at_escape {t} q h) = (code "\\", t, refl)
+items_some (at_nested {t} g h) = (code "[", t, refl)
 
 -- the same with s after the rest of the text
 abbrev pub before : Text → Text × Text → Text × Text
@@ -373,11 +373,11 @@ pub class_start_frame : (out t s : Text) (c : ℕ) (u : Text) → (class_start o
     ◌≡◌ {A = Text × Text} (class_start out (t ++ s)) (before s (class_start out t))
 unfolding class_start
 class_start_frame out t s c u e =
-    let p = with_symbol caret (out ++ open_bracket ∷ [], t) in
-    let (d, r, q) = symbol_some close_bracket p.0 p.1 c u e in
-    let (d', r', q') = symbol_some caret (out ++ open_bracket ∷ []) t d r q in
-    ap (with_symbol close_bracket) (symbol_frame caret (out ++ open_bracket ∷ []) t s d' r' q')
-    ∙ symbol_frame close_bracket p.0 p.1 s d r q
+    let p = with_symbol (code "^") (out ++ code "[" ∷ [], t) in
+    let (d, r, q) = symbol_some (code "]") p.0 p.1 c u e in
+    let (d', r', q') = symbol_some (code "^") (out ++ code "[" ∷ []) t d r q in
+    ap (with_symbol (code "]")) (symbol_frame (code "^") (out ++ code "[" ∷ []) t s d' r' q')
+    ∙ symbol_frame (code "]") p.0 p.1 s d r q
 
 mutual
   framed_class : {f : Flags} {b a : Bool} {t w v : Text} → ReadClass f b t w a v → (s : Text) →

@@ -3,7 +3,7 @@ use Rattle.std.proofs.Common.{◌≡◌, ◌≢◌, ℕ, Bool, true, false, List
 use Rattle.std.proofs.Common.{refl, arith, inl, inr, append_assoc, append-nil, subst}
 use Rattle.std.proofs.lemmas.Bool.{cases_eq}
 use Rattle.std.proofs.lemmas.Bool.Decides.{nat_tests}
-use Rattle.fancy_lex.specs.Characters.{line_feed, hash, open_paren, close_paren}
+use Prim.Native.Char.{code}
 use Rattle.fancy_lex.specs.Comments.{Comment, comments, comments_from, closed_before, line_before}
 use Rattle.fancy_lex.specs.Layout.{InComment, nothing, plain, pair, InLine, end_line, on_line, comment_start, IsComment}
 use Rattle.fancy_lex.specs.Layout.{IsLineComment, IsUnit, Units, none, more, Stops, is_blank}
@@ -40,36 +40,36 @@ module _ (x : Bool) where
   past_line end_line p r = refl
   past_line (on_line {c} {t} a h) p r = line_on x p _ c (t ++ r) refl a ∙ past_line h p r
 
-  not_open : (c : ℕ) (r : Text) → c ≢ open_paren → after_comment_start (c ∷ r) ≡ None
+  not_open : (c : ℕ) (r : Text) → c ≢ code "(" → after_comment_start (c ∷ r) ≡ None
   not_open c r h = grind (arith, nat_tests)
 
-  at_hash : x ≡ true → (r : Text) → comments x (hash ∷ r) ≡ comments_from x line (reach_of (hash ∷ r)) r
-  at_hash on r = opens_line x _ hash r refl refl on refl
+  at_hash : x ≡ true → (r : Text) → comments x (code "#" ∷ r) ≡ comments_from x line (reach_of (code "#" ∷ r)) r
+  at_hash on r = opens_line x _ (code "#") r refl refl on refl
 
   -- a comment is the first of those that follow
   past_comment : (u r : Text) → IsComment u → comments x (u ++ r) ≡ closed_before (reach_of (u ++ r)) r ∷ comments x r
   past_comment u r (i, h, e) =
       let p = reach_of (u ++ r) in
-      let cut : u ++ r ≡ comment_start ++ (i ++ close_paren ∷ r) = rw (e, snoc) refl in
-      opens x (u ++ r) (i ++ close_paren ∷ r) (ap after_comment_start cut) ∙ past_inside h p (close_paren ∷ r)
-      ∙ comment_closed x p _ close_paren r refl refl
+      let cut : u ++ r ≡ comment_start ++ (i ++ code ")" ∷ r) = rw (e, snoc) refl in
+      opens x (u ++ r) (i ++ code ")" ∷ r) (ap after_comment_start cut) ∙ past_inside h p (code ")" ∷ r)
+      ∙ comment_closed x p _ (code ")") r refl refl
 
   past_blank : x ≡ true → (c : ℕ) → is_blank c ≡ true → (r : Text) → comments x (c ∷ r) ≡ comments x r
   past_blank on c b r =
-      let other : c ≢ hash = grind (arith, nat_tests) in
-      let paren : c ≢ open_paren = grind (arith, nat_tests) in
+      let other : c ≢ code "#" = grind (arith, nat_tests) in
+      let paren : c ≢ code "(" = grind (arith, nat_tests) in
       after_blank x _ c r refl (not_open c r paren) on other b
 
   past_line_comment : x ≡ true → (u r : Text) → IsLineComment u r →
       comments x (u ++ r) ≡ line_before (reach_of (u ++ r)) r ∷ comments x r
   past_line_comment on u r (i, h, inl e) =
       let p = reach_of (u ++ r) in
-      let cut : u ++ r ≡ hash ∷ (i ++ line_feed ∷ r) = rw (e, snoc) refl in
-      ap (comments x) cut ∙ at_hash on _ ∙ ap (λ s. comments_from x line (reach_of s) (i ++ line_feed ∷ r)) (sym cut)
-      ∙ past_line h p (line_feed ∷ r) ∙ line_closed x p _ line_feed r refl refl
+      let cut : u ++ r ≡ code "#" ∷ (i ++ code "\n" ∷ r) = rw (e, snoc) refl in
+      ap (comments x) cut ∙ at_hash on _ ∙ ap (λ s. comments_from x line (reach_of s) (i ++ code "\n" ∷ r)) (sym cut)
+      ∙ past_line h p (code "\n" ∷ r) ∙ line_closed x p _ (code "\n") r refl refl
   past_line_comment on u r (i, h, inr (e, z)) =
       let p = reach_of (u ++ r) in
-      let cut : u ++ r ≡ hash ∷ (i ++ r) = rw e refl in
+      let cut : u ++ r ≡ code "#" ∷ (i ++ r) = rw e refl in
       ap (comments x) cut ∙ at_hash on _ ∙ ap (λ s. comments_from x line (reach_of s) (i ++ r)) (sym cut)
       ∙ past_line h p r ∙ ap (comments_from x line p) z ∙ line_ends x p [] refl
       ∙ ap (λ s. line_before p s ∷ comments x s) (sym z)
@@ -81,17 +81,17 @@ module _ (x : Bool) where
       by_text : x ≡ true → after_comment_start v ≡ None → (t : Text) → v ≡ t → comments x v ≡ []
       by_text on n [] e = none_at_end x v e
       by_text on n (c ∷ r) e =
-          elim (cases_eq c hash) [
+          elim (cases_eq c (code "#")) [
             | inl h ↦ elim (split_line r) [
-              | inl (i, m, k, q) ↦ absurd (s.no_unit (hash ∷ (i ++ line_feed ∷ [])) m
+              | inl (i, m, k, q) ↦ absurd (s.no_unit (code "#" ∷ (i ++ code "\n" ∷ [])) m
                   (e ∙ rw (h, q, snoc) refl) (inr (on, inr (i, k, inl refl))))
-              | inr k ↦ absurd (s.no_unit (hash ∷ r) [] (e ∙ ap (λ d. d ∷ r) h ∙ sym (append-nil (hash ∷ r)))
+              | inr k ↦ absurd (s.no_unit (code "#" ∷ r) [] (e ∙ ap (λ d. d ∷ r) h ∙ sym (append-nil (code "#" ∷ r)))
                   (inr (on, inr (r, k, inr (refl, refl)))))
             ]
             | inr h ↦ by_blank (is_blank c) refl h
           ]
         where
-          by_blank : (b : Bool) → is_blank c ≡ b → c ≢ hash → comments x v ≡ []
+          by_blank : (b : Bool) → is_blank c ≡ b → c ≢ code "#" → comments x v ≡ []
           by_blank true b h = absurd (s.no_unit (c ∷ []) r e (inr (on, inl (c, b, refl))))
           by_blank false b h = none_other x v c r e n on h b
 

@@ -2,7 +2,7 @@
 use Rattle.std.proofs.Common.{◌≡◌, ◌≢◌, ℕ, Bool, true, [], ◌∷◌, Some, None, false, arith, ◌==◌, ◌&&◌}
 use Rattle.std.proofs.Common.{if◌then◌else◌, is_some, ap, refl}
 use Rattle.std.proofs.lemmas.Bool.Decides.{nat_tests}
-use Rattle.fancy_lex.specs.Characters.{line_feed, hash, close_paren, backslash}
+use Prim.Native.Char.{code}
 use Rattle.fancy_lex.specs.Comments.{comments, comments_from, closed_before, line_before}
 use Rattle.fancy_lex.specs.Layout.{is_blank}
 use Rattle.fancy_lex.specs.LayoutSteps.{two, comment, escaped, line, after_comment_start}
@@ -23,13 +23,13 @@ module _ (x : Bool) (p : ℕ) (t : Text) where
 
   module _ (c : ℕ) (r : Text) (e : t ≡ c ∷ r) where
     comment_next : comments_from x comment p t
-        ≡ (if c == close_paren then closed_before p r ∷ comments x r
-        else if c == backslash then comments_from x escaped p r else comments_from x comment p r)
+        ≡ (if c == code ")" then closed_before p r ∷ comments x r
+        else if c == code "\\" then comments_from x escaped p r else comments_from x comment p r)
     unfolding comments_from
     comment_next = ap (comments_from x comment p) e
 
     line_next : comments_from x line p t
-        ≡ (if c == line_feed then line_before p r ∷ comments x r else comments_from x line p r)
+        ≡ (if c == code "\n" then line_before p r ∷ comments x r else comments_from x line p r)
     unfolding comments_from
     line_next = ap (comments_from x line p) e
 
@@ -37,19 +37,19 @@ module _ (x : Bool) (p : ℕ) (t : Text) where
     unfolding comments_from
     escaped_next = ap (comments_from x escaped p) e
 
-    pub comment_closed : c ≡ close_paren → comments_from x comment p t ≡ closed_before p r ∷ comments x r
+    pub comment_closed : c ≡ code ")" → comments_from x comment p t ≡ closed_before p r ∷ comments x r
     comment_closed h = let step = comment_next in grind (arith, nat_tests)
 
-    pub comment_pair : c ≡ backslash → comments_from x comment p t ≡ comments_from x escaped p r
+    pub comment_pair : c ≡ code "\\" → comments_from x comment p t ≡ comments_from x escaped p r
     comment_pair h = let step = comment_next in grind (arith, nat_tests)
 
-    pub comment_on : c ≢ close_paren → c ≢ backslash → comments_from x comment p t ≡ comments_from x comment p r
+    pub comment_on : c ≢ code ")" → c ≢ code "\\" → comments_from x comment p t ≡ comments_from x comment p r
     comment_on h k = let step = comment_next in grind (arith, nat_tests)
 
-    pub line_closed : c ≡ line_feed → comments_from x line p t ≡ line_before p r ∷ comments x r
+    pub line_closed : c ≡ code "\n" → comments_from x line p t ≡ line_before p r ∷ comments x r
     line_closed h = let step = line_next in grind (arith, nat_tests)
 
-    pub line_on : c ≢ line_feed → comments_from x line p t ≡ comments_from x line p r
+    pub line_on : c ≢ code "\n" → comments_from x line p t ≡ comments_from x line p r
     line_on h = let step = line_next in grind (arith, nat_tests)
 
 -- `(?#` opens a comment
@@ -75,18 +75,18 @@ none_at_end x t e = rw e refl
 module _ (x : Bool) (t : Text) (c : ℕ) (r : Text) (e : t ≡ c ∷ r) (none : after_comment_start t ≡ None)
     (ignore_space : x ≡ true) where
   next_is : comments x t ≡ (if is_some (after_comment_start t) then comments_from x two (reach_of t) r
-      else if x && c == hash then comments_from x line (reach_of t) r
+      else if x && c == code "#" then comments_from x line (reach_of t) r
       else if x && is_blank c then comments x r else [])
   unfolding comments_from
   next_is = rw e refl
 
-  pub opens_line : c ≡ hash → comments x t ≡ comments_from x line (reach_of t) r
+  pub opens_line : c ≡ code "#" → comments x t ≡ comments_from x line (reach_of t) r
   opens_line h = let step = next_is in grind (arith, nat_tests)
 
-  pub after_blank : c ≢ hash → is_blank c ≡ true → comments x t ≡ comments x r
+  pub after_blank : c ≢ code "#" → is_blank c ≡ true → comments x t ≡ comments x r
   after_blank h b = let step = next_is in grind (arith, nat_tests)
 
-  pub none_other : c ≢ hash → is_blank c ≡ false → comments x t ≡ []
+  pub none_other : c ≢ code "#" → is_blank c ≡ false → comments x t ≡ []
   none_other h b = let step = next_is in grind (arith, nat_tests)
 
 pub ruleset comment_steps = (

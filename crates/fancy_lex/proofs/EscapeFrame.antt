@@ -5,7 +5,7 @@ use Rattle.std.proofs.Common.{refl, ap, sym, ◌∙◌, arith, subst, ◌⊎◌,
 use Rattle.std.proofs.lemmas.Bool.{cases_eq}
 use Rattle.std.proofs.lemmas.Bool.Decides.{nat_tests}
 use Rattle.std.specs.Char.{digit_value, is_ascii_digit}
-use Rattle.fancy_lex.specs.Characters.{open_paren, open_brace, close_brace, close_paren, backslash, line_feed, hash}
+use Prim.Native.Char.{code}
 use Rattle.fancy_lex.specs.Characters.{◌∈◌}
 use Rattle.fancy_lex.specs.Escape.{escape, escape_at, number_escape, property, lone_escape, unknown_escape}
 use Rattle.fancy_lex.specs.EscapeReference.{group_number}
@@ -38,10 +38,10 @@ opened_more d [] s e = grind (arith, nat_tests)
 opened_more d (a ∷ []) s e = grind (arith, nat_tests)
 opened_more d (a ∷ b ∷ u) s e = grind (arith, nat_tests)
 
-not_opened : (d : ℕ) (t : Text) → d ≢ open_paren → is_some (after_comment_start (d ∷ t)) ≡ false
+not_opened : (d : ℕ) (t : Text) → d ≢ code "(" → is_some (after_comment_start (d ∷ t)) ≡ false
 not_opened d t h = grind (arith, nat_tests)
 
-at_paren : (x : Bool) (d : ℕ) (t : Text) → d ≡ open_paren → is_some (after_comment_start (d ∷ t)) ≡ false →
+at_paren : (x : Bool) (d : ℕ) (t : Text) → d ≡ code "(" → is_some (after_comment_start (d ∷ t)) ≡ false →
     layout_from x between (d ∷ t) ≡ rest (d ∷ t)
 at_paren x d t h q = let step = between_step x (d ∷ t) d t refl in grind (arith, nat_tests)
 
@@ -55,7 +55,7 @@ first_same c d t u e = cc
 abbrev step_on : Bool → Bool → ℕ → Text → Skipped
 step_on x b d t =
     if b then layout_from x two t
-    else if x && d == hash then layout_from x line t
+    else if x && d == code "#" then layout_from x line t
     else if x && is_blank d then layout_from x between t
     else rest (d ∷ t)
 
@@ -63,7 +63,7 @@ step_is : (x b : Bool) (d : ℕ) (t : Text) → is_some (after_comment_start (d 
     layout_from x between (d ∷ t) ≡ step_on x b d t
 step_is x b d t q = between_step x (d ∷ t) d t refl ∙ ap (λ a. step_on x a d t) q
 
-module _ (x : Bool) (s : Text) (c : ℕ) (r : Text) (paren : c ≢ open_paren) where
+module _ (x : Bool) (s : Text) (c : ℕ) (r : Text) (paren : c ≢ code "(") where
   abbrev From : Phase → Text → Type 0
   From st t = layout_from x st t ≡ rest (c ∷ r) → layout_from x st (t ++ s) ≡ rest ((c ∷ r) ++ s)
 
@@ -72,11 +72,11 @@ module _ (x : Bool) (s : Text) (c : ℕ) (r : Text) (paren : c ≢ open_paren) w
         is_some (after_comment_start (d ∷ (t ++ s))) ≡ b → From between (d ∷ t)
     from_step b q z e =
         step_is x b d (t ++ s) z
-        ∙ from_if b _ _ _ _ _ _ (rec two) (from_if (x && d == hash) _ _ _ _ _ _ (rec line)
+        ∙ from_if b _ _ _ _ _ _ (rec two) (from_if (x && d == code "#") _ _ _ _ _ _ (rec line)
         (from_if (x && is_blank d) _ _ _ _ _ _ (rec between)
         (λ q. ap (λ (l : Text). rest (l ++ s)) (rest_same (d ∷ t) (c ∷ r) q)))) (sym (step_is x b d t q) ∙ e)
 
-    from_between : (b : Bool) → is_some (after_comment_start (d ∷ t)) ≡ b → (d ≡ open_paren) ⊎ (d ≢ open_paren) →
+    from_between : (b : Bool) → is_some (after_comment_start (d ∷ t)) ≡ b → (d ≡ code "(") ⊎ (d ≢ code "(") →
         From between (d ∷ t)
     from_between true q h e = from_step true q (opened_more d t s q) e
     from_between false q (inr h) e = from_step false q (not_opened d (t ++ s) h) e
@@ -86,13 +86,13 @@ module _ (x : Bool) (s : Text) (c : ℕ) (r : Text) (paren : c ≢ open_paren) w
 
     from_next : (st : Phase) → From st (d ∷ t)
     unfolding layout_from
-    from_next between e = from_between _ refl (cases_eq d open_paren) e
+    from_next between e = from_between _ refl (cases_eq d (code "(")) e
     from_next two e = rec one e
     from_next one e = rec comment e
-    from_next comment e = from_if (d == close_paren) _ _ _ _ _ _ (rec between)
-        (from_if (d == backslash) _ _ _ _ _ _ (rec escaped) (rec comment)) e
+    from_next comment e = from_if (d == code ")") _ _ _ _ _ _ (rec between)
+        (from_if (d == code "\\") _ _ _ _ _ _ (rec escaped) (rec comment)) e
     from_next escaped e = rec comment e
-    from_next line e = from_if (d == line_feed) _ _ _ _ _ _ (rec between) (rec line) e
+    from_next line e = from_if (d == code "\n") _ _ _ _ _ _ (rec between) (rec line) e
 
   layout_from_frame : (t : Text) (st : Phase) → From st t
   unfolding layout_from
@@ -105,7 +105,7 @@ module _ (x : Bool) (s : Text) (c : ℕ) (r : Text) (paren : c ≢ open_paren) w
   layout_from_frame (d ∷ t) st e = from_next d t (layout_from_frame t) st e
 
 -- layout before a character other than `(` stays the same with s after the text
-pub layout_frame : (x : Bool) (t s : Text) (c : ℕ) (r : Text) → c ≢ open_paren → layout x t ≡ rest (c ∷ r) →
+pub layout_frame : (x : Bool) (t s : Text) (c : ℕ) (r : Text) → c ≢ code "(" → layout x t ≡ rest (c ∷ r) →
     layout x (t ++ s) ≡ rest ((c ∷ r) ++ s)
 layout_frame x t s c r h e = layout_from_frame x s c r h t between e
 
@@ -117,7 +117,7 @@ Stays (fails e) there = Unit {0}
 
 -- the text begins with a character other than `(`
 abbrev Begins : Text → Type 0
-Begins t = (c : ℕ) × (r : Text) × (t ≡ c ∷ r) × (c ≢ open_paren)
+Begins t = (c : ℕ) × (r : Text) × (t ≡ c ∷ r) × (c ≢ code "(")
 
 -- the same for a reading that returns a value only if its text begins like this
 abbrev Firm : {A : Type 0} → Text → Reading A → (Text → Reading A) → Type 0
@@ -129,7 +129,7 @@ stays_if : {A : Type 0} (b : Bool) (p q : Reading A) (p' q' : Text → Reading A
 stays_if true p q p' q' h k = h
 stays_if false p q p' q' h k = k
 
-firm_from : {A : Type 0} (c : ℕ) (t : Text) (o : Reading A) (there : Text → Reading A) → c ≢ open_paren →
+firm_from : {A : Type 0} (c : ℕ) (t : Text) (o : Reading A) (there : Text → Reading A) → c ≢ code "(" →
     Stays o there → Firm (c ∷ t) o there
 firm_from c t (gives a u) there h same = ((c, t, refl, h), same)
 firm_from c t (fails e) there h k = tt
@@ -154,20 +154,20 @@ after_layout {A = A} x t R S firm = by_layout (layout x t) refl where
 
 -- Hex codes, whose reaches h and h' are used only for errors.
 
-is_hex : (c : ℕ) → nat_lt (digit_value c) 16 ≡ true → c ≢ open_paren
+is_hex : (c : ℕ) → nat_lt (digit_value c) 16 ≡ true → c ≢ code "("
 is_hex c h = grind (arith, nat_tests)
 
 module _ (x : Bool) (h : ℕ) (h' : Text → ℕ) where
   closed_firm : (some : Bool) (v : ℕ) (t : Text) →
-      Firm t (closing_brace h some v (strip close_brace t))
-      (λ s. closing_brace (h' s) some v (strip close_brace (t ++ s)))
+      Firm t (closing_brace h some v (strip (code "}") t))
+      (λ s. closing_brace (h' s) some v (strip (code "}") (t ++ s)))
   closed_firm false v t = tt
   closed_firm true v [] = tt
-  closed_firm true v (c ∷ t) = by_test (c == close_brace) refl where
-    by_test : (b : Bool) → (c == close_brace) ≡ b →
+  closed_firm true v (c ∷ t) = by_test (c == code "}") refl where
+    by_test : (b : Bool) → (c == code "}") ≡ b →
         Firm (c ∷ t) (closing_brace h true v (if b then Some t else None))
         (λ s. closing_brace (h' s) true v (if b then Some (t ++ s) else None))
-    by_test true e = let other : c ≢ open_paren = grind (arith, nat_tests) in ((c, t, refl, other), λ s. refl)
+    by_test true e = let other : c ≢ code "(" = grind (arith, nat_tests) in ((c, t, refl, other), λ s. refl)
     by_test false e = tt
 
   closed_none : (some : Bool) (v : ℕ) (there : Text → Reading ℕ) → Firm [] (closing_brace h some v None) there
@@ -179,14 +179,14 @@ module _ (x : Bool) (h : ℕ) (h' : Text → ℕ) where
 
   -- after a digit there are layout and more digits, or otherwise the closing brace
   digits_on : (k : ℕ) (some : Bool) (v d c : ℕ) (t : Text) → ((v : ℕ) → DigitsFirm k true v) → (b : Bool) →
-      (b ≡ true → c ≢ open_paren)
+      (b ≡ true → c ≢ code "(")
       → Firm (c ∷ t)
       (choose (if b then Some (d, t) else None)
       (λ (p : ℕ × Text). layout_reading (layout x p.1) >=> (λ _ t. hex_digits x h k true (v * 16 + p.0) t))
-      (closing_brace h some v (strip close_brace (c ∷ t))))
+      (closing_brace h some v (strip (code "}") (c ∷ t))))
       (λ s. choose (if b then Some (d, t ++ s) else None)
       (λ (p : ℕ × Text). layout_reading (layout x p.1) >=> (λ _ t. hex_digits x (h' s) k true (v * 16 + p.0) t))
-      (closing_brace (h' s) some v (strip close_brace ((c ∷ t) ++ s))))
+      (closing_brace (h' s) some v (strip (code "}") ((c ∷ t) ++ s))))
   digits_on k some v d c t more false f = closed_firm some v (c ∷ t)
   digits_on k some v d c t more true f =
       firm_from c t _ _ (f refl)
@@ -200,11 +200,11 @@ module _ (x : Bool) (h : ℕ) (h' : Text → ℕ) where
   digits_firm (suc k) some v (c ∷ t) = digits_on k some v (digit_value c) c t (λ v. digits_firm k true v)
       (nat_lt (digit_value c) 16) (is_hex c)
 
-  braced_firm : (t : Text) → Firm (open_brace ∷ t) (braced_value x h t) (λ s. braced_value x (h' s) (t ++ s))
+  braced_firm : (t : Text) → Firm (code "{" ∷ t) (braced_value x h t) (λ s. braced_value x (h' s) (t ++ s))
   unfolding braced_value
   braced_firm t =
-      let other : open_brace ≢ open_paren = grind (arith, nat_tests) in
-      firm_from open_brace t _ _ other
+      let other : code "{" ≢ code "(" = grind (arith, nat_tests) in
+      firm_from (code "{") t _ _ other
       (after_layout x t (hex_digits x h 8 false 0) (λ s v. hex_digits x (h' s) 8 false 0 v)
       (digits_firm 8 false 0))
 
@@ -241,7 +241,7 @@ fixed_stays (suc k) v [] = tt
 fixed_stays (suc k) v (c ∷ t) = fixed_on k v (digit_value c) t (λ v. fixed_stays k v t) (nat_lt (digit_value c) 16)
 
 -- a run of digits does not begin with `(`
-fixed_paren : (k v c : ℕ) (t : Text) → c ≡ open_paren → fixed_digits (suc k) v (c ∷ t) ≡ None
+fixed_paren : (k v c : ℕ) (t : Text) → c ≡ code "(" → fixed_digits (suc k) v (c ∷ t) ≡ None
 unfolding fixed_digits hex_digit
 fixed_paren k v c t e = rw e refl
 
@@ -252,25 +252,25 @@ module _ (x : Bool) (h : ℕ) (h' : Text → ℕ) where
   abbrev ValueFirm : ℕ → Text → Type 0
   ValueFirm w t = Firm t (value x h (suc w) t) (λ s. value x (h' s) (suc w) (t ++ s))
 
-  value_brace : (w : ℕ) (t : Text) → ValueFirm w (open_brace ∷ t)
+  value_brace : (w : ℕ) (t : Text) → ValueFirm w (code "{" ∷ t)
   unfolding value fixed_digits hex_digit
   value_brace w t = braced_firm x h h' t
 
-  value_on : (w c : ℕ) (t : Text) → c ≢ open_brace → (o : Option (ℕ × Text)) → fixed_digits (suc w) 0 (c ∷ t) ≡ o →
+  value_on : (w c : ℕ) (t : Text) → c ≢ code "{" → (o : Option (ℕ × Text)) → fixed_digits (suc w) 0 (c ∷ t) ≡ o →
       StaysSome o (λ s. fixed_digits (suc w) 0 (c ∷ (t ++ s)))
       → Firm (c ∷ t)
       (choose o (λ p. gives p.0 p.1)
-      (choose (strip open_brace (c ∷ t)) (braced_value x h) (error_at h invalid_hex)))
+      (choose (strip (code "{") (c ∷ t)) (braced_value x h) (error_at h invalid_hex)))
       (λ s. value x (h' s) (suc w) (c ∷ (t ++ s)))
   unfolding value
-  value_on w c t other None e k = let test : (c == open_brace) ≡ false = grind (arith, nat_tests) in rw test tt
+  value_on w c t other None e k = let test : (c == code "{") ≡ false = grind (arith, nat_tests) in rw test tt
   value_on w c t other (Some p) e same = (
     (c, t, refl, λ z. not_both p (sym e ∙ fixed_paren w 0 c t z)),
     λ s. ap (λ o. choose o (λ (p : ℕ × Text). gives p.0 p.1)
-        (choose (strip open_brace (c ∷ (t ++ s))) (braced_value x (h' s)) (error_at (h' s) invalid_hex))) (same s),
+        (choose (strip (code "{") (c ∷ (t ++ s))) (braced_value x (h' s)) (error_at (h' s) invalid_hex))) (same s),
   )
 
-  value_other : (w c : ℕ) (t : Text) → c ≢ open_brace → ValueFirm w (c ∷ t)
+  value_other : (w c : ℕ) (t : Text) → c ≢ code "{" → ValueFirm w (c ∷ t)
   unfolding value
   value_other w c t other = value_on w c t other _ refl (fixed_stays (suc w) 0 (c ∷ t))
 
@@ -280,8 +280,8 @@ module _ (x : Bool) (h : ℕ) (h' : Text → ℕ) where
 
   value_firm : (w : ℕ) (t : Text) → ValueFirm w t
   value_firm w [] = value_none w
-  value_firm w (c ∷ t) = by_brace (cases_eq c open_brace) where
-    by_brace : (c ≡ open_brace) ⊎ (c ≢ open_brace) → ValueFirm w (c ∷ t)
+  value_firm w (c ∷ t) = by_brace (cases_eq c (code "{")) where
+    by_brace : (c ≡ code "{") ⊎ (c ≢ code "{") → ValueFirm w (c ∷ t)
     by_brace (inl e) = subst (λ d. ValueFirm w (d ∷ t)) (sym e) (value_brace w t)
     by_brace (inr other) = value_other w c t other
 
@@ -319,7 +319,7 @@ cut_stays delimiter (c ∷ t) = some_if (c == delimiter) _ _ _ _ (λ s. refl)
 
 name_stays : (c : ℕ) (t : Text) → StaysSome (name_at (c ∷ t)) (λ s. name_at (c ∷ (t ++ s)))
 unfolding name_at
-name_stays c t = some_if (c == open_brace) _ _ _ _ (some_map property_spec.braced _ _ (cut_stays close_brace t))
+name_stays c t = some_if (c == code "{") _ _ _ _ (some_map property_spec.braced _ _ (cut_stays (code "}") t))
     (λ s. refl)
 
 pub read_stays : (b : Bool) (c : ℕ) (t : Text) →

@@ -3,10 +3,11 @@
 use Rattle.std.proofs.Common.{length, codes, ◌≡◌, ℕ, zero, suc, ◌+◌, ◌*◌, ◌≤◌, Bool, true, false, ◌==◌, nat_lt}
 use Rattle.std.proofs.Common.{if◌then◌else◌, [], ◌∷◌, ◌++◌, Option, Some, None, option_map, refl, subst, arith}
 use Rattle.std.specs.Char.{digit_value}
+use Prim.Native.Char.{code}
 use Rattle.fancy_lex.specs.declared.flags.Flags.{Flags}
 use Rattle.fancy_lex.specs.Boundary as boundaries
 use Rattle.fancy_lex.specs.BoundarySteps as boundary_steps
-use Rattle.fancy_lex.specs.Characters.{open_brace, close_brace, ◌∈◌}
+use Rattle.fancy_lex.specs.Characters.{◌∈◌}
 use Rattle.fancy_lex.specs.Escape.{escape, escape_at, number_escape, call_escape, backref_leaf, property, outside}
 use Rattle.fancy_lex.specs.EscapeReference.{back_reference}
 use Rattle.fancy_lex.specs.Escaped.{Escape}
@@ -59,13 +60,13 @@ leaves_cut delimiter (c ∷ t) = at (c == delimiter) (leaves_cut delimiter t) wh
 leaves_name_at : (t : Text) → LeavesSome t (name_at t)
 unfolding name_at
 leaves_name_at [] = tt
-leaves_name_at (c ∷ t) = at (c == open_brace) where
+leaves_name_at (c ∷ t) = at (c == code "{") where
   past : Ends (c ∷ t) t
   past = ends_past c t t (ends_whole t)
 
   at : (b : Bool) →
-      LeavesSome (c ∷ t) (if b then option_map (λ p. (braced p.0, p.1)) (cut_at close_brace t) else Some (single c, t))
-  at true = some_past (c ∷ t) t _ past (some_map t (cut_at close_brace t) _ (leaves_cut close_brace t))
+      LeavesSome (c ∷ t) (if b then option_map (λ p. (braced p.0, p.1)) (cut_at (code "}") t) else Some (single c, t))
+  at true = some_past (c ∷ t) t _ past (some_map t (cut_at (code "}") t) _ (leaves_cut (code "}") t))
   at false = past
 
 leaves_read : (negated : Bool) (t : Text) → LeavesSome t (read_property negated t)
@@ -83,10 +84,10 @@ module _ (p : ℕ) where
 -- hex codes, which get the reach h
 module _ (h : ℕ) where
   module _ (x : Bool) where
-    leaves_closed : (some : Bool) (v : ℕ) (t : Text) → Leaves h t (hexes.closing_brace h some v (strip close_brace t))
-    leaves_closed some v t = at some (strip close_brace t) refl where
-      at : (some : Bool) (o : Option Text) → strip close_brace t ≡ o → Leaves h t (hexes.closing_brace h some v o)
-      at true (Some u) e = leaves (ends_strip close_brace t u e)
+    leaves_closed : (some : Bool) (v : ℕ) (t : Text) → Leaves h t (hexes.closing_brace h some v (strip (code "}") t))
+    leaves_closed some v t = at some (strip (code "}") t) refl where
+      at : (some : Bool) (o : Option Text) → strip (code "}") t ≡ o → Leaves h t (hexes.closing_brace h some v o)
+      at true (Some u) e = leaves (ends_strip (code "}") t u e)
       at true None e = leaves_given
       at false o e = leaves_given
 
@@ -108,8 +109,8 @@ module _ (h : ℕ) where
     leaves_value width t =
         choose_both (Leaves h t) (hexes.fixed_digits width 0 t) _ _
         (λ p e. leaves (ends_some t _ p (leaves_fixed width 0 t) e))
-        (choose_both (Leaves h t) (strip open_brace t) _ _
-        (λ u e. leaves_past (ends_strip open_brace t u e) (leaves_braced u))
+        (choose_both (Leaves h t) (strip (code "{") t) _ _
+        (λ u e. leaves_past (ends_strip (code "{") t u e) (leaves_braced u))
         (leaves_given))
 
   module _ (f : Flags) (width : ℕ) where
@@ -136,7 +137,7 @@ module _ (p : ℕ) where
     leaves_name_after k more [] = leaves_given
     leaves_name_after k more (c ∷ t) =
         let past = ends_past c t t (ends_whole t) in
-        leaves_if (c == close_brace) (leaves past) (leaves_past past (leaves_both (more t) (λ w v. whole v)))
+        leaves_if (c == code "}") (leaves past) (leaves_past past (leaves_both (more t) (λ w v. whole v)))
 
     leaves_name : (k : ℕ) (t : Text) → Leaves p t (boundary_steps.name x p k t)
     unfolding boundary_steps.name
@@ -153,24 +154,24 @@ module _ (p : ℕ) where
     leaves_boundary negated t = at (layout x t) refl where
       at : (o : Skipped) → layout x t ≡ o →
           Leaves p t (layout_reading o >=>
-          (λ _ u. choose (strip open_brace u)
+          (λ _ u. choose (strip (code "{") u)
           (λ inside. layout_reading (layout x inside) >=>
           (λ _ v. if boundaries.at_count v then gives (boundaries.unnamed_boundary negated) t
           else boundary_steps.named_boundary x p negated inside)) (gives (boundaries.unnamed_boundary negated) t)))
-      at (rest u) e = choose_both (Leaves p t) (strip open_brace u) _ _
+      at (rest u) e = choose_both (Leaves p t) (strip (code "{") u) _ _
           (λ inside h. braces u inside e h (layout x inside) refl)
           (whole t) where
-            braces : (u inside : Text) → layout x t ≡ rest u → strip open_brace u ≡ Some inside → (o : Skipped) →
+            braces : (u inside : Text) → layout x t ≡ rest u → strip (code "{") u ≡ Some inside → (o : Skipped) →
                 layout x inside ≡ o → Leaves p t
                 (layout_reading o >=>
                 (λ _ v. if boundaries.at_count v then gives (boundaries.unnamed_boundary negated) t
                 else boundary_steps.named_boundary x p negated inside))
             braces u inside e h (rest v) i =
                 leaves_if (boundaries.at_count v) (whole t)
-                (leaves_past (ends_twice t u inside (layout_cut x t u e) (ends_strip open_brace u inside h))
+                (leaves_past (ends_twice t u inside (layout_cut x t u e) (ends_strip (code "{") u inside h))
                 (leaves_named negated inside))
             braces u inside e h (failed q) i = leaves_none
-                (lies_past (ends_twice t u inside (layout_cut x t u e) (ends_strip open_brace u inside h))
+                (lies_past (ends_twice t u inside (layout_cut x t u e) (ends_strip (code "{") u inside h))
                 (layout_lies p x inside q i))
       at (failed q) e = leaves_none (layout_lies p x t q e)
 

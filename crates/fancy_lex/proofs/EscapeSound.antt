@@ -4,9 +4,10 @@ use Rattle.std.proofs.Common.{◌+◌, Some, rules}
 use Rattle.std.proofs.lemmas.Bool.{cond_both}
 use Rattle.std.proofs.lemmas.Bool.Decides.{nat_tests}
 use Rattle.std.specs.Char.{is_ascii_digit}
+use Prim.Native.Char.{code}
 use Rattle.fancy_lex.specs.Boundary as boundaries
 use Rattle.fancy_lex.specs.BoundarySteps as boundary_steps
-use Rattle.fancy_lex.specs.Characters.{open_brace, ◌∈◌}
+use Rattle.fancy_lex.specs.Characters.{◌∈◌}
 use Rattle.fancy_lex.specs.Escape.{escape, escape_at, number_escape, call_escape, backref_leaf, property}
 use Rattle.fancy_lex.specs.Escape.{outside, lone_escape, lone_outside}
 use Rattle.fancy_lex.specs.EscapeReference.{group_number, numbered_reference, back_reference, subroutine_call}
@@ -130,7 +131,7 @@ module _ (f : Flags) where
   unfolding boundary_steps.boundary boundary_steps.named_boundary
   sound_boundary p negated t =
       sound_both t (layout_reading (layout f.ignore_space t)) _
-      (λ _ u. choose_both (Sound t) (strip open_brace u) _ _
+      (λ _ u. choose_both (Sound t) (strip (code "{") u) _ _
       (λ v _. sound_both t (layout_reading (layout f.ignore_space v)) _
       (λ _ w. cond_both (boundaries.at_count w) _ _ (Sound t) (λ _. tt) (λ _. braces v))) tt)
     where

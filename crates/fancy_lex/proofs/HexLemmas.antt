@@ -3,7 +3,7 @@ use Rattle.std.proofs.Common.{◌≡◌, ◌≢◌, add-one, ℕ, suc, ◌+◌, 
 use Rattle.std.proofs.Common.{refl, ap, ◌∙◌, arith, nat_lt}
 use Rattle.std.proofs.Math.Nat.{pow-suc, pow-le-pow_right}
 use Rattle.std.proofs.lemmas.Bool.Decides.{nat_tests}
-use Rattle.fancy_lex.specs.Characters.{close_brace}
+use Prim.Native.Char.{code}
 use Rattle.fancy_lex.specs.ErrorTable.{code_not_read}
 use Rattle.fancy_lex.specs.Text.{Text, strip}
 use Rattle.fancy_lex.specs.LayoutSteps.{layout}
@@ -44,22 +44,22 @@ module _ (x : Bool) (h i v : ℕ) (t : Text) where
   digits_error d r b l e s = rw (one_more 8 i l, hex_digits, e) (says_first _ _ b s)
 
   digits_end : i < 8 → hex_digit t ≡ None →
-      hex_digits x h (8 - i) (nat_lt 0 i) v t ≡ closing_brace h (nat_lt 0 i) v (strip close_brace t)
+      hex_digits x h (8 - i) (nat_lt 0 i) v t ≡ closing_brace h (nat_lt 0 i) v (strip (code "}") t)
   unfolding hex_digits
   digits_end l e = rw (one_more 8 i l, hex_digits, e) refl
 
   pub digits_none : i ≡ 0 → hex_digit t ≡ None → hex_digits x h (8 - i) (nat_lt 0 i) v t ≡ fails (code_not_read h)
   digits_none z e =
       let none : nat_lt 0 i ≡ false = grind (arith, nat_tests) in
-      digits_end (omega arith) e ∙ ap (λ some. closing_brace h some v (strip close_brace t)) none
+      digits_end (omega arith) e ∙ ap (λ some. closing_brace h some v (strip (code "}") t)) none
 
   pub digits_some : i ≢ 0 → i < 8 → hex_digit t ≡ None →
-      hex_digits x h (8 - i) (nat_lt 0 i) v t ≡ closing_brace h true v (strip close_brace t)
+      hex_digits x h (8 - i) (nat_lt 0 i) v t ≡ closing_brace h true v (strip (code "}") t)
   digits_some z l e =
       let some : nat_lt 0 i ≡ true = grind (arith, nat_tests) in
-      digits_end l e ∙ ap (λ some. closing_brace h some v (strip close_brace t)) some
+      digits_end l e ∙ ap (λ some. closing_brace h some v (strip (code "}") t)) some
 
-  pub digits_done : 8 ≤ i → hex_digits x h (8 - i) (nat_lt 0 i) v t ≡ closing_brace h true v (strip close_brace t)
+  pub digits_done : 8 ≤ i → hex_digits x h (8 - i) (nat_lt 0 i) v t ≡ closing_brace h true v (strip (code "}") t)
   unfolding hex_digits
   digits_done l =
       let none : 8 - i ≡ 0 = omega arith in

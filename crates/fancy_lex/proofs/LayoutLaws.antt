@@ -5,7 +5,7 @@ use Rattle.std.proofs.Common.{append-nil, length-append, ◌<◌, ◌≤◌, Opt
 use Rattle.std.proofs.lemmas.Bool.Decides.{nat_tests}
 use Rattle.std.proofs.lemmas.Bool.{cases_eq, false≢true}
 use Rattle.std.specs.Borrow.{Bor}
-use Rattle.fancy_lex.specs.Characters.{line_feed, hash, open_paren, close_paren, backslash}
+use Prim.Native.Char.{code}
 use Rattle.fancy_lex.specs.Text.{Text, LiesIn, beyond, at_end}
 use Rattle.fancy_lex.proofs.LeaveLaws.{lies_at_end}
 use Rattle.fancy_lex.specs.Layout.{InComment, nothing, plain, pair, InLine, end_line, on_line}
@@ -46,30 +46,30 @@ module _ (x : Bool) where
       now ∙ past_line h r
 
   past_comment : {i : Text} → InComment i → (r : Text) →
-      layout_from x between (comment_start ++ (i ++ close_paren ∷ r)) ≡ layout_from x between r
+      layout_from x between (comment_start ++ (i ++ code ")" ∷ r)) ≡ layout_from x between r
   past_comment {i} h r =
-      between_opened x _ (i ++ close_paren ∷ r) refl ∙ past_inside h (close_paren ∷ r)
-      ∙ comment_step x _ close_paren r refl
+      between_opened x _ (i ++ code ")" ∷ r) refl ∙ past_inside h (code ")" ∷ r)
+      ∙ comment_step x _ (code ")") r refl
 
   -- a character that opens no comment
-  not_open : (c : ℕ) (r : Text) → c ≢ open_paren → after_comment_start (c ∷ r) ≡ None
+  not_open : (c : ℕ) (r : Text) → c ≢ code "(" → after_comment_start (c ∷ r) ≡ None
   not_open c r h = grind (arith, nat_tests)
 
-  at_hash : x ≡ true → (r : Text) → layout_from x between (hash ∷ r) ≡ layout_from x line r
-  at_hash on r = between_line x _ hash r refl refl on refl
+  at_hash : x ≡ true → (r : Text) → layout_from x between (code "#" ∷ r) ≡ layout_from x line r
+  at_hash on r = between_line x _ (code "#") r refl refl on refl
 
   at_blank : x ≡ true → (c : ℕ) → is_blank c ≡ true → (r : Text) →
       layout_from x between (c ∷ r) ≡ layout_from x between r
   at_blank on c b r =
-      let other : c ≢ hash = grind (arith, nat_tests) in
-      let paren : c ≢ open_paren = grind (arith, nat_tests) in
+      let other : c ≢ code "#" = grind (arith, nat_tests) in
+      let paren : c ≢ code "(" = grind (arith, nat_tests) in
       between_blank x _ c r refl (not_open c r paren) on other b
 
   past_unit : (u r : Text) → IsUnit x u r → layout_from x between (u ++ r) ≡ layout_from x between r
   past_unit u r (inl (i, h, e)) = rw (e, snoc) (past_comment h r)
   past_unit u r (inr (on, inl (c, b, e))) = rw e (at_blank on c b r)
   past_unit u r (inr (on, inr (i, h, inl e))) =
-      rw (e, snoc) (at_hash on _ ∙ past_line h (line_feed ∷ r) ∙ line_step x _ line_feed r refl)
+      rw (e, snoc) (at_hash on _ ∙ past_line h (code "\n" ∷ r) ∙ line_step x _ (code "\n") r refl)
   past_unit u r (inr (on, inr (i, h, inr (e, z)))) =
       rw (e, z) (at_hash on _ ∙ past_line h [] ∙ line_end x [] refl ∙ sym (between_end x [] refl))
 
@@ -79,10 +79,10 @@ past_units x none = refl
 past_units x (more {v} u t e h hs) = rw (e, append_assoc) (past_unit x u (t ++ v) h ∙ past_units x hs)
 
 -- the text up to the line feed, or all of it
-pub split_line : (t : Text) → ((i : Text) × (r : Text) × InLine i × (t ≡ i ++ line_feed ∷ r)) ⊎ InLine t
+pub split_line : (t : Text) → ((i : Text) × (r : Text) × InLine i × (t ≡ i ++ code "\n" ∷ r)) ⊎ InLine t
 split_line [] = inr end_line
 split_line (c ∷ t) =
-    elim (cases_eq c line_feed) [
+    elim (cases_eq c (code "\n")) [
       | inl e ↦ inl ([], t, end_line, ap (λ d. d ∷ t) e)
       | inr e ↦ elim (split_line t) [
         | inl (i, r, h, q) ↦ inl (c ∷ i, r, on_line e h, ap (λ s. c ∷ s) q)
@@ -92,37 +92,37 @@ split_line (c ∷ t) =
 
 -- the inside of a comment that is closed, or of one that is not
 abbrev Ends : Text → Type 0
-Ends t = (i : Text) × (r : Text) × InComment i × (t ≡ i ++ close_paren ∷ r)
+Ends t = (i : Text) × (r : Text) × InComment i × (t ≡ i ++ code ")" ∷ r)
 
-ends_plain : (c : ℕ) (t : Text) → c ≢ backslash → c ≢ close_paren → Ends t → Ends (c ∷ t)
+ends_plain : (c : ℕ) (t : Text) → c ≢ code "\\" → c ≢ code ")" → Ends t → Ends (c ∷ t)
 ends_plain c t a b (i, r, h, q) = (c ∷ i, r, plain a b h, ap (λ s. c ∷ s) q)
 
-ends_pair : (b c : ℕ) (t : Text) → b ≡ backslash → Ends t → Ends (b ∷ c ∷ t)
+ends_pair : (b c : ℕ) (t : Text) → b ≡ code "\\" → Ends t → Ends (b ∷ c ∷ t)
 ends_pair b c t e (i, r, h, q) = (b ∷ c ∷ i, r, pair e h, ap (λ s. b ∷ c ∷ s) q)
 
-open_plain : (c : ℕ) (t : Text) (p : ℕ) → c ≢ backslash → c ≢ close_paren → OpenComment t p →
+open_plain : (c : ℕ) (t : Text) (p : ℕ) → c ≢ code "\\" → c ≢ code ")" → OpenComment t p →
     OpenComment (c ∷ t) p
 open_plain c t p a b (to_end h) = to_end (plain a b h)
 open_plain c t p a b (after_backslash i e q h) = after_backslash (c ∷ i) (ap (λ s. c ∷ s) e) q (plain a b h)
 
-open_pair : (b c : ℕ) (t : Text) (p : ℕ) → b ≡ backslash → OpenComment t p → OpenComment (b ∷ c ∷ t) p
+open_pair : (b c : ℕ) (t : Text) (p : ℕ) → b ≡ code "\\" → OpenComment t p → OpenComment (b ∷ c ∷ t) p
 open_pair b c t p d (to_end h) = to_end (pair d h)
 open_pair b c t p d (after_backslash i e q h) = after_backslash (b ∷ c ∷ i) (ap (λ s. b ∷ c ∷ s) e) q (pair d h)
 
 split_comment : (t : Text) → Ends t ⊎ ((p : ℕ) × OpenComment t p)
 split_comment [] = inr (at_end, to_end nothing)
 split_comment (c ∷ []) =
-    elim (cases_eq c close_paren) [
+    elim (cases_eq c (code ")")) [
       | inl e ↦ inl ([], [], nothing, ap (λ d. d ∷ []) e)
-      | inr e ↦ elim (cases_eq c backslash) [
+      | inr e ↦ elim (cases_eq c (code "\\")) [
         | inl b ↦ inr (0, after_backslash [] (ap (λ d. d ∷ []) b) refl nothing)
         | inr b ↦ inr (at_end, to_end (plain b e nothing))
       ]
     ]
 split_comment (c ∷ d ∷ t) =
-    elim (cases_eq c close_paren) [
+    elim (cases_eq c (code ")")) [
       | inl e ↦ inl ([], d ∷ t, nothing, ap (λ k. k ∷ d ∷ t) e)
-      | inr e ↦ elim (cases_eq c backslash) [
+      | inr e ↦ elim (cases_eq c (code "\\")) [
         | inl b ↦ elim (split_comment t) [
           | inl h ↦ inl (ends_pair c d t b h)
           | inr (p, h) ↦ inr (p, open_pair c d t p b h)
@@ -137,7 +137,7 @@ split_comment (c ∷ d ∷ t) =
 open_error : (x : Bool) (t : Text) (p : ℕ) → OpenComment t p → layout_from x comment t ≡ failed p
 open_error x t p (to_end h) = rw (← append-nil t) (past_inside x h [] ∙ comment_end x [] refl)
 open_error x t p (after_backslash i e q h) =
-    rw (e, q) (past_inside x h (backslash ∷ []) ∙ comment_step x _ backslash [] refl ∙ escaped_end x [] refl)
+    rw (e, q) (past_inside x h (code "\\" ∷ []) ∙ comment_step x _ (code "\\") [] refl ∙ escaped_end x [] refl)
 
 -- a text with a text after its `(?#` is `(?#` and that text
 pub opened_is : (t i : Text) → after_comment_start t ≡ Some i → t ≡ comment_start ++ i
@@ -166,14 +166,14 @@ blank_apart : (c : ℕ) → is_blank c ≡ true → is_blank c ≡ false → ⊥
 blank_apart c a b = cc
 
 stops_from : (x : Bool) (t : Text) → after_comment_start t ≡ None →
-    (x ≡ true → (c : ℕ) (r : Text) → t ≡ c ∷ r → (c ≢ hash) × (is_blank c ≡ false)) → Stops x t
+    (x ≡ true → (c : ℕ) (r : Text) → t ≡ c ∷ r → (c ≢ code "#") × (is_blank c ≡ false)) → Stops x t
 stops_from x t n others =
     record { no_unit = no_unit; no_comment_start = λ i e. some_none t i (comment_start ++ i) n e refl } where
       no_unit : (u r : Text) → t ≡ u ++ r → IsUnit x u r → ⊥
       no_unit u r e (inl (i, h, q)) = some_none t _ _ n (e ∙ ap (λ s. s ++ r) q) refl
       no_unit u r e (inr (on, inl (c, b, q))) = blank_apart c b (others on c r (e ∙ ap (λ s. s ++ r) q)).1
-      no_unit u r e (inr (on, inr (i, h, inl q))) = (others on hash _ (e ∙ ap (λ s. s ++ r) q)).0 refl
-      no_unit u r e (inr (on, inr (i, h, inr (q, z)))) = (others on hash _ (e ∙ ap (λ s. s ++ r) q)).0 refl
+      no_unit u r e (inr (on, inr (i, h, inl q))) = (others on (code "#") _ (e ∙ ap (λ s. s ++ r) q)).0 refl
+      no_unit u r e (inr (on, inr (i, h, inr (q, z)))) = (others on (code "#") _ (e ∙ ap (λ s. s ++ r) q)).0 refl
 
 front_extended : (t : Text) → after_comment_start t ≡ None → Front true t
 front_extended [] e = stop (stops_from true [] e (λ _ c r q. absurd (nil_cons c r q))) (between_end true [] refl)
@@ -181,19 +181,19 @@ front_extended [] e = stop (stops_from true [] e (λ _ c r q. absurd (nil_cons c
     nil_cons : (c : ℕ) (r : Text) → [] ≡ c ∷ r → ⊥
     nil_cons c r q = cc
 front_extended (c ∷ t) e =
-    elim (cases_eq c hash) [
+    elim (cases_eq c (code "#")) [
       | inl h ↦ elim (split_line t) [
-        | inl (i, r, k, q) ↦ unit (hash ∷ (i ++ line_feed ∷ [])) r (at_line i r h q) (inr (refl, inr (i, k, inl refl)))
-            (omega arith)
-        | inr k ↦ unit (hash ∷ t) [] (ap (λ d. d ∷ t) h ∙ sym (append-nil (hash ∷ t)))
+        | inl (i, r, k, q) ↦ unit (code "#" ∷ (i ++ code "\n" ∷ [])) r (at_line i r h q)
+            (inr (refl, inr (i, k, inl refl))) (omega arith)
+        | inr k ↦ unit (code "#" ∷ t) [] (ap (λ d. d ∷ t) h ∙ sym (append-nil (code "#" ∷ t)))
             (inr (refl, inr (t, k, inr (refl, refl)))) (omega arith)
       ]
       | inr h ↦ blank_or (is_blank c) refl h
     ] where
-      at_line : (i r : Text) → c ≡ hash → t ≡ i ++ line_feed ∷ r → c ∷ t ≡ hash ∷ ((i ++ line_feed ∷ []) ++ r)
+      at_line : (i r : Text) → c ≡ code "#" → t ≡ i ++ code "\n" ∷ r → c ∷ t ≡ code "#" ∷ ((i ++ code "\n" ∷ []) ++ r)
       at_line i r h q = rw (h, q, snoc) refl
 
-      blank_or : (b : Bool) → is_blank c ≡ b → c ≢ hash → Front true (c ∷ t)
+      blank_or : (b : Bool) → is_blank c ≡ b → c ≢ code "#" → Front true (c ∷ t)
       blank_or true b h = unit (c ∷ []) t refl (inr (refl, inl (c, b, refl))) (omega arith)
       blank_or false b h =
           stop
@@ -207,14 +207,14 @@ front : (x : Bool) (t : Text) → Front x t
 front x t =
     elim (opened_cases t) [
       | inl (i, e) ↦ elim (split_comment i) [
-        | inl (j, r, h, q) ↦ unit (comment_start ++ (j ++ close_paren ∷ [])) r (at_comment i j r e q) (inl (j, h, refl))
+        | inl (j, r, h, q) ↦ unit (comment_start ++ (j ++ code ")" ∷ [])) r (at_comment i j r e q) (inl (j, h, refl))
             (omega arith)
         | inr (p, h) ↦ open_comment i p e h
       ]
       | inr e ↦ by_flag x e
     ] where
-      at_comment : (i j r : Text) → t ≡ comment_start ++ i → i ≡ j ++ close_paren ∷ r →
-          t ≡ (comment_start ++ (j ++ close_paren ∷ [])) ++ r
+      at_comment : (i j r : Text) → t ≡ comment_start ++ i → i ≡ j ++ code ")" ∷ r →
+          t ≡ (comment_start ++ (j ++ code ")" ∷ [])) ++ r
       at_comment i j r e q = rw (e, q, snoc) refl
 
       by_flag : (x : Bool) → after_comment_start t ≡ None → Front x t

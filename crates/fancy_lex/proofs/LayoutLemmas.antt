@@ -2,7 +2,7 @@
 use Rattle.std.proofs.Common.{◌≡◌, ◌≢◌, ℕ, Bool, true, [], ◌∷◌, Some, None, false, arith, ◌==◌, ◌&&◌}
 use Rattle.std.proofs.Common.{if◌then◌else◌, is_some, ap, refl, ◌∙◌}
 use Rattle.std.proofs.lemmas.Bool.Decides.{nat_tests}
-use Rattle.fancy_lex.specs.Characters.{line_feed, hash, open_paren, close_paren, backslash}
+use Prim.Native.Char.{code}
 use Rattle.fancy_lex.specs.Text.{Text, at_end, past_end}
 use Rattle.fancy_lex.specs.Layout.{is_blank}
 use Rattle.fancy_lex.specs.LayoutSteps.{rest, failed, layout_from, between}
@@ -27,7 +27,7 @@ module _ (x : Bool) (t : Text) where
 
   module _ (c : ℕ) (r : Text) where
     pub comment_step : t ≡ c ∷ r → layout_from x comment
-        t ≡ (if c == close_paren then layout_from x between r else if c == backslash then layout_from x escaped r
+        t ≡ (if c == code ")" then layout_from x between r else if c == code "\\" then layout_from x escaped r
         else layout_from x comment r)
     unfolding layout_from
     comment_step e = ap (layout_from x comment) e
@@ -37,12 +37,12 @@ module _ (x : Bool) (t : Text) where
     escaped_step e = ap (layout_from x escaped) e
 
     pub line_step : t ≡ c ∷ r → layout_from x line
-        t ≡ (if c == line_feed then layout_from x between r else layout_from x line r)
+        t ≡ (if c == code "\n" then layout_from x between r else layout_from x line r)
     unfolding layout_from
     line_step e = ap (layout_from x line) e
 
     pub between_step : t ≡ c ∷ r → layout_from x between
-        t ≡ (if is_some (after_comment_start t) then layout_from x two r else if x && c == hash then layout_from x
+        t ≡ (if is_some (after_comment_start t) then layout_from x two r else if x && c == code "#" then layout_from x
         line r else if x && is_blank c then layout_from x between r else rest t)
     unfolding layout_from
     between_step e = rw e refl
@@ -67,22 +67,22 @@ between_plain (c ∷ r) e = grind (arith, nat_tests)
 -- the cases of a step, by the tests of the code
 module _ (x : Bool) (t : Text) (c : ℕ) (r : Text) (e : t ≡ c ∷ r) (none : after_comment_start t ≡ None)
     (ignore_space : x ≡ true) where
-  pub between_line : c ≡ hash → layout_from x between t ≡ layout_from x line r
+  pub between_line : c ≡ code "#" → layout_from x between t ≡ layout_from x line r
   between_line h = let step = between_step x t c r e in grind (arith, nat_tests)
 
-  pub between_blank : c ≢ hash → is_blank c ≡ true → layout_from x between t ≡ layout_from x between r
+  pub between_blank : c ≢ code "#" → is_blank c ≡ true → layout_from x between t ≡ layout_from x between r
   between_blank h b = let step = between_step x t c r e in grind (arith, nat_tests)
 
-  pub between_other : c ≢ hash → is_blank c ≡ false → layout_from x between t ≡ rest t
+  pub between_other : c ≢ code "#" → is_blank c ≡ false → layout_from x between t ≡ rest t
   between_other h b = let step = between_step x t c r e in grind (arith, nat_tests)
 
 -- no layout, by the first character
-module _ (x : Bool) (t : Text) (c : ℕ) (r : Text) (e : t ≡ c ∷ r) (paren : c ≢ open_paren) where
+module _ (x : Bool) (t : Text) (c : ℕ) (r : Text) (e : t ≡ c ∷ r) (paren : c ≢ code "(") where
   no_comment_start : is_some (after_comment_start (c ∷ r)) ≡ false
   no_comment_start = grind (arith, nat_tests)
 
   by_flag : (y : Bool) → is_layout y c ≡ false →
-      (if y && c == hash then layout_from x line r else if y && is_blank c then layout_from x between r else rest t)
+      (if y && c == code "#" then layout_from x line r else if y && is_blank c then layout_from x between r else rest t)
       ≡ rest t
   by_flag y h = grind (arith, nat_tests)
 
@@ -91,19 +91,19 @@ module _ (x : Bool) (t : Text) (c : ℕ) (r : Text) (e : t ≡ c ∷ r) (paren :
 
 -- the same inside a comment and a line comment
 module _ (x : Bool) (t : Text) (c : ℕ) (r : Text) (e : t ≡ c ∷ r) where
-  pub comment_close : c ≡ close_paren → layout_from x comment t ≡ layout_from x between r
+  pub comment_close : c ≡ code ")" → layout_from x comment t ≡ layout_from x between r
   comment_close h = let step = comment_step x t c r e in grind (arith, nat_tests)
 
-  pub comment_escape : c ≡ backslash → layout_from x comment t ≡ layout_from x escaped r
+  pub comment_escape : c ≡ code "\\" → layout_from x comment t ≡ layout_from x escaped r
   comment_escape k = let step = comment_step x t c r e in grind (arith, nat_tests)
 
-  pub comment_plain : c ≢ close_paren → c ≢ backslash → layout_from x comment t ≡ layout_from x comment r
+  pub comment_plain : c ≢ code ")" → c ≢ code "\\" → layout_from x comment t ≡ layout_from x comment r
   comment_plain h k = let step = comment_step x t c r e in grind (arith, nat_tests)
 
-  pub line_close : c ≡ line_feed → layout_from x line t ≡ layout_from x between r
+  pub line_close : c ≡ code "\n" → layout_from x line t ≡ layout_from x between r
   line_close h = let step = line_step x t c r e in grind (arith, nat_tests)
 
-  pub line_plain : c ≢ line_feed → layout_from x line t ≡ layout_from x line r
+  pub line_plain : c ≢ code "\n" → layout_from x line t ≡ layout_from x line r
   line_plain h = let step = line_step x t c r e in grind (arith, nat_tests)
 
 pub ruleset layout_steps = (

@@ -4,7 +4,7 @@ use Rattle.std.proofs.Common.{◌≡◌, ℕ, zero, suc, ◌+◌, ◌-◌, Bool,
 use Rattle.std.proofs.Common.{None, refl, ◌<◌, arith}
 use Rattle.std.proofs.lemmas.Bool.{cond_both}
 use Rattle.std.proofs.lemmas.Bool.Decides.{nat_tests}
-use Rattle.fancy_lex.specs.Characters.{backslash, caret, open_bracket, close_bracket}
+use Prim.Native.Char.{code}
 use Rattle.fancy_lex.specs.Class.{class, class_from, escape_in_class, is_negated, class_start, with_symbol}
 use Rattle.fancy_lex.specs.Reading.{choose}
 use Rattle.fancy_lex.specs.Text.{Text, EndsWith as Ends, bytes, strip}
@@ -23,10 +23,10 @@ ends_symbol m p = at (strip m p.1) refl where
 ends_class_start : (out t : Text) → Ends t (class_start out t).1
 unfolding class_start
 ends_class_start out t =
-    let start : Text × Text = (out ++ open_bracket ∷ [], t) in
-    ends_twice t _ _ (ends_symbol caret start) (ends_symbol close_bracket (with_symbol caret start))
+    let start : Text × Text = (out ++ code "[" ∷ [], t) in
+    ends_twice t _ _ (ends_symbol (code "^") start) (ends_symbol (code "]") (with_symbol (code "^") start))
 
-is_ascii : (c : ℕ) → (c == backslash) ≡ true → c < 128
+is_ascii : (c : ℕ) → (c == code "\\") ≡ true → c < 128
 is_ascii c e = grind (arith, nat_tests)
 
 -- the reach that is given is that of one past the end
@@ -37,15 +37,15 @@ module _ (f : Flags) where
   leaves_items (suc k) depth seen out [] = leaves_none (lies_at_end [])
   leaves_items (suc k) depth seen out (c ∷ t) =
       let past = ends_past c t t (ends_whole t) in
-      cond_both (c == backslash) _ _ (Leaves 0 (c ∷ t))
+      cond_both (c == code "\\") _ _ (Leaves 0 (c ∷ t))
       (λ e. leaves_both (leaves_trans (lies_before (is_ascii c e) (ends_whole (c ∷ t)))
       (leaves_past past (leaves_escape f true t)))
       (λ e u. leaves_items k depth (seen || is_negated e) (out ++ escape_in_class seen e) u))
-      (λ _. leaves_if (c == open_bracket)
+      (λ _. leaves_if (c == code "[")
       (leaves_past past
       (leaves_past (ends_class_start out t)
       (leaves_items k (depth + 1) seen (class_start out t).0 (class_start out t).1)))
-      (leaves_if (c == close_bracket)
+      (leaves_if (c == code "]")
       (leaves_if (depth == 0) (whole_next t) (leaves_past past (leaves_items k (depth - 1) seen (out ++ c ∷ []) t)))
       (leaves_past past (leaves_items k depth seen (out ++ c ∷ []) t))))
 

@@ -3,11 +3,11 @@ use Rattle.std.specs.Prelude.{◌≡◌, ◌≢◌, ℕ, Bool, true, false, ◌|
 use Rattle.std.specs.Prelude.{None}
 use Rattle.std.specs.Str.{bytes_eq}
 use Rattle.std.specs.Char.{is_ascii_digit}
+use Prim.Native.Char.{code}
 use Rattle.fancy_lex.specs.declared.escape.Assertion.{Assertion}
 use Rattle.fancy_lex.specs.declared.escape.Assertion.TheVariants.{LeftWordBoundary, RightWordBoundary}
 use Rattle.fancy_lex.specs.declared.escape.Assertion.TheVariants.{LeftWordHalfBoundary, RightWordHalfBoundary}
 use Rattle.fancy_lex.specs.declared.escape.Assertion.TheVariants.{WordBoundary, NotWordBoundary}
-use Rattle.fancy_lex.specs.Characters.{open_brace, close_brace, comma}
 use Rattle.fancy_lex.specs.Escaped.{Escape, assertion}
 use Rattle.fancy_lex.specs.Located.{Located}
 use Rattle.fancy_lex.specs.ErrorTable.{comment_not_closed, boundary_not_closed, name_of_no_boundary}
@@ -32,12 +32,12 @@ unnamed_boundary negated = assertion (if negated then NotWordBoundary else WordB
 -- whether the count of a repeat begins here, after a brace and layout
 abbrev pub at_count : Text → Bool
 at_count [] = false
-at_count (c ∷ t) = is_ascii_digit c || c == comma
+at_count (c ∷ t) = is_ascii_digit c || c == code ","
 
 -- the name after the opening brace: up to the first closing brace outside layout, with layout taken out
 pub data BracedName (x : Bool) (p : ℕ) : Text → Reading Text → Type 0 where
-  close : {t v : Text} → Before x t (close_brace ∷ v) → BracedName x p t (gives [] v)
-  character : {c : ℕ} {t u : Text} {o : Reading Text} → c ≢ close_brace → Before x t (c ∷ u) → BracedName x p u o →
+  close : {t v : Text} → Before x t (code "}" ∷ v) → BracedName x p t (gives [] v)
+  character : {c : ℕ} {t u : Text} {o : Reading Text} → c ≢ code "}" → Before x t (c ∷ u) → BracedName x p u o →
       BracedName x p t (o >=> (λ w v. gives (c ∷ w) v))
   open_layout : {q : ℕ} {t : Text} → Unclosed x t q → BracedName x p t (fails (comment_not_closed q))
   no_end : {t : Text} → Before x t [] → BracedName x p t (fails (boundary_not_closed p))
@@ -45,11 +45,11 @@ pub data BracedName (x : Bool) (p : ℕ) : Text → Reading Text → Type 0 wher
 -- after layout there is a brace with `u` after it; `counts` says whether `u`, after layout, begins the count of a
 -- repeat
 abbrev pub Braces : Bool → Text → Text → Bool → Type 0
-Braces x t u counts = Before x t (open_brace ∷ u) × (v : Text) × Before x u v × (at_count v ≡ counts)
+Braces x t u counts = Before x t (code "{" ∷ u) × (v : Text) × Before x u v × (at_count v ≡ counts)
 
 -- a boundary after its letter: braces belong to it unless they begin the count of a repeat
 pub data Boundary (x : Bool) (p : ℕ) (negated : Bool) : Text → Reading Escape → Type 0 where
-  no_brace : {t u : Text} → Before x t u → strip open_brace u ≡ None →
+  no_brace : {t u : Text} → Before x t u → strip (code "{") u ≡ None →
       Boundary x p negated t (gives (unnamed_boundary negated) t)
   count : {t u : Text} → Braces x t u true → Boundary x p negated t (gives (unnamed_boundary negated) t)
   known : {t u v w : Text} {a : Assertion} → Braces x t u false → BracedName x p u (gives w v) →
@@ -59,5 +59,5 @@ pub data Boundary (x : Bool) (p : ℕ) (negated : Bool) : Text → Reading Escap
   name_error : {t u : Text} {e : Located} → Braces x t u false → BracedName x p u (fails e) →
       Boundary x p negated t (fails e)
   comment_open_before : {q : ℕ} {t : Text} → Unclosed x t q → Boundary x p negated t (fails (comment_not_closed q))
-  comment_open_inside : {q : ℕ} {t u : Text} → Before x t (open_brace ∷ u) → Unclosed x u q →
+  comment_open_inside : {q : ℕ} {t u : Text} → Before x t (code "{" ∷ u) → Unclosed x u q →
       Boundary x p negated t (fails (comment_not_closed q))

@@ -1,10 +1,10 @@
 -- The name of a boundary, as it is matched against the known names and as an error reports it.
 use Rattle.std.specs.Prelude.{ℕ, suc, Bool, [], ◌∷◌, ◌++◌, length, codes, Option, Some, option_map, option_and_then}
+use Prim.Native.Char.{code}
 use Rattle.fancy_lex.specs.declared.escape.Assertion.{Assertion}
 use Rattle.fancy_lex.specs.declared.escape.Assertion.TheVariants.{LeftWordBoundary, RightWordBoundary}
 use Rattle.fancy_lex.specs.declared.escape.Assertion.TheVariants.{LeftWordHalfBoundary, RightWordHalfBoundary}
 use Rattle.fancy_lex.specs.BoundarySteps.{name}
-use Rattle.fancy_lex.specs.Characters.{close_brace}
 use Rattle.fancy_lex.specs.Escaped.{Escape}
 use Rattle.fancy_lex.specs.Located.{invalid_escape}
 use Rattle.fancy_lex.specs.ErrorTable.{boundary_start}
@@ -14,7 +14,7 @@ use Rattle.fancy_lex.specs.Text.{Text, strip}
 
 -- the text after the word and a closing brace, with layout before each character, if the text begins with them
 unfoldable pub after_name : Bool → Text → Text → Option Text
-after_name x [] t = option_and_then (strip close_brace) (past_layout x t)
+after_name x [] t = option_and_then (strip (code "}")) (past_layout x t)
 after_name x (c ∷ word) t = option_and_then (after_name x word) (option_and_then (strip c) (past_layout x t))
 
 -- the boundary whose name and closing brace are at the front, and the text after them

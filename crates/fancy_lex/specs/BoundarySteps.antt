@@ -1,7 +1,7 @@
 -- Word boundaries as they are read, one character of a name after another.
 use Rattle.std.specs.Prelude.{ℕ, zero, suc, Bool, ◌==◌, if◌then◌else◌, [], ◌∷◌, length}
+use Prim.Native.Char.{code}
 use Rattle.fancy_lex.specs.Boundary.{boundary_of_name, unnamed_boundary, at_count}
-use Rattle.fancy_lex.specs.Characters.{open_brace, close_brace}
 use Rattle.fancy_lex.specs.Escaped.{Escape, assertion}
 use Rattle.fancy_lex.specs.ErrorTable.{boundary_not_closed, name_of_no_boundary}
 use Rattle.fancy_lex.specs.LayoutSteps.{layout}
@@ -11,7 +11,7 @@ use Rattle.fancy_lex.specs.Text.{Text, strip}
 -- the text after a closing brace, or one more step, or the end of the text
 abbrev pub up_to_brace : {A : Type 0} → A → (Text → A) → (ℕ → Text → A) → Text → A
 up_to_brace end closed more [] = end
-up_to_brace end closed more (c ∷ t) = if c == close_brace then closed t else more c t
+up_to_brace end closed more (c ∷ t) = if c == code "}" then closed t else more c t
 
 -- the backslash is at the reach p; if x is true, blanks are layout
 module _ (x : Bool) (p : ℕ) where
@@ -38,7 +38,7 @@ module _ (x : Bool) (p : ℕ) where
   unfoldable pub boundary : Bool → Text → Reading Escape
   boundary negated t =
       layout_reading (layout x t) >=> (λ _ u.
-      choose (strip open_brace u)
+      choose (strip (code "{") u)
       (λ inside. layout_reading (layout x inside) >=> (λ _ v.
       if at_count v then gives (unnamed_boundary negated) t else named_boundary negated inside))
       (gives (unnamed_boundary negated) t))

@@ -2,7 +2,7 @@
 use Rattle.std.specs.Prelude.{◌≡◌, ℕ, zero, suc, ◌+◌, ◌-◌, ◌/◌, ◌%◌, Bool, true, false, not, ◌&&◌, ◌||◌, ◌==◌, nat_lt}
 use Rattle.std.specs.Prelude.{if◌then◌else◌, [], ◌∷◌, ◌++◌, codes}
 use Prim.Native.Char.{code}
-use Rattle.fancy_lex.specs.Characters.{backslash, caret, open_bracket, close_bracket, ◌∈◌}
+use Rattle.fancy_lex.specs.Characters.{◌∈◌}
 use Rattle.fancy_lex.specs.Escape.{escape}
 use Rattle.fancy_lex.specs.Escaped.{Escape, literal, literal_bytes, delegate}
 use Rattle.fancy_lex.specs.Located.{Located}
@@ -22,7 +22,7 @@ upper_hex_digit d = if nat_lt d 10 then code "0" + d else code "A" + (d - 10)
 
 -- the character, with a backslash before it if it is a metacharacter
 abbrev pub char_text : ℕ → Text
-char_text c = if needs_backslash_in_class c then backslash ∷ c ∷ [] else c ∷ []
+char_text c = if needs_backslash_in_class c then code "\\" ∷ c ∷ [] else c ∷ []
 
 -- `\x` and the two digits of a byte
 abbrev pub byte_text : ℕ → Text
@@ -56,7 +56,7 @@ with_symbol symbol p = choose {B = Text × Text} (strip symbol p.1) (λ u. (p.0 
 -- adds the opening of a class to the text that is written: the bracket, a caret, and a closing bracket that is a plain
 -- character; returns the rest of the text too
 unfoldable pub class_start : Text → Text → Text × Text
-class_start out t = with_symbol close_bracket (with_symbol caret (out ++ open_bracket ∷ [], t))
+class_start out t = with_symbol (code "]") (with_symbol (code "^") (out ++ code "[" ∷ [], t))
 
 -- a class under these flags
 module _ (f : Flags) where
@@ -67,10 +67,10 @@ module _ (f : Flags) where
   class_from zero outer seen out t = fails class_not_closed
   class_from (suc k) outer seen out [] = fails class_not_closed
   class_from (suc k) outer seen out (c ∷ t) =
-      if c == backslash then
+      if c == code "\\" then
       escape f true t >=> (λ e u. class_from k outer (seen || is_negated e) (out ++ escape_in_class seen e) u)
-      else if c == open_bracket then class_from k (outer + 1) seen (class_start out t).0 (class_start out t).1
-      else if c == close_bracket then (
+      else if c == code "[" then class_from k (outer + 1) seen (class_start out t).0 (class_start out t).1
+      else if c == code "]" then (
       if outer == 0 then gives (out ++ c ∷ []) t else class_from k (outer - 1) seen (out ++ c ∷ []) t)
       else class_from k outer seen (out ++ c ∷ []) t
 
@@ -105,18 +105,18 @@ mutual
   -- the items of a class through its closing bracket
   pub data ClassItems : Flags → Bool → Text → Written → Type 0 where
     close : {f : Flags} {b : Bool} {t : Text} →
-        ClassItems f b (close_bracket ∷ t) (written (close_bracket ∷ []) b t)
+        ClassItems f b (code "]" ∷ t) (written (code "]" ∷ []) b t)
     end : {f : Flags} {b : Bool} → ClassItems f b [] (failed class_not_closed)
     plain : {c : ℕ} {f : Flags} {b : Bool} {t : Text} {o : Written} → is_plain_in_class c ≡ true →
         ClassItems f b t o → ClassItems f b (c ∷ t) (prefixed (c ∷ []) o)
     escaped : {f : Flags} {b : Bool} {t u : Text} {e : Escape} {o : Written} → escape f true t ≡ gives e u →
-        ClassItems f (b || is_negated e) u o → ClassItems f b (backslash ∷ t) (prefixed (escape_in_class b e) o)
+        ClassItems f (b || is_negated e) u o → ClassItems f b (code "\\" ∷ t) (prefixed (escape_in_class b e) o)
     escape_error : {f : Flags} {b : Bool} {t : Text} {e : Located} → escape f true t ≡ fails e →
-        ClassItems f b (backslash ∷ t) (failed e)
+        ClassItems f b (code "\\" ∷ t) (failed e)
     nested : {f : Flags} {b m : Bool} {t u w : Text} {o : Written} → Class f b t (written w m u) →
-        ClassItems f m u o → ClassItems f b (open_bracket ∷ t) (prefixed w o)
+        ClassItems f m u o → ClassItems f b (code "[" ∷ t) (prefixed w o)
     class_error : {f : Flags} {b : Bool} {t : Text} {e : Located} → Class f b t (failed e) →
-        ClassItems f b (open_bracket ∷ t) (failed e)
+        ClassItems f b (code "[" ∷ t) (failed e)
 
 -- the outermost class after its bracket; no negated set was written before it
 abbrev pub OuterClass : Flags → Text → Reading Text → Type 0

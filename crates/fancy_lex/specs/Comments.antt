@@ -1,6 +1,6 @@
 -- The comments in layout, as it is read, one character after another.
 use Rattle.std.specs.Prelude.{ℕ, Bool, true, false, ◌&&◌, ◌==◌, if◌then◌else◌, List, [], ◌∷◌, is_some}
-use Rattle.fancy_lex.specs.Characters.{line_feed, hash, close_paren, backslash}
+use Prim.Native.Char.{code}
 use Rattle.fancy_lex.specs.Layout.{is_blank}
 use Rattle.fancy_lex.specs.LayoutSteps.{Phase, between, two, one, comment, escaped, line, after_comment_start}
 use Rattle.fancy_lex.specs.Text.{Text, reach_of}
@@ -25,7 +25,7 @@ unfoldable pub comments_from : Bool → Phase → ℕ → Text → List Comment
 comments_from x between p [] = []
 comments_from x between p (c ∷ t) =
     if is_some (after_comment_start (c ∷ t)) then comments_from x two p t
-    else if x && c == hash then comments_from x line p t
+    else if x && c == code "#" then comments_from x line p t
     else if x && is_blank c then comments_from x between (reach_of t) t
     else []
 comments_from x two p [] = []
@@ -34,15 +34,15 @@ comments_from x one p [] = []
 comments_from x one p (c ∷ t) = comments_from x comment p t
 comments_from x comment p [] = []
 comments_from x comment p (c ∷ t) =
-    if c == close_paren
+    if c == code ")"
     then closed_before p t ∷ comments_from x between (reach_of t) t
-    else if c == backslash then comments_from x escaped p t
+    else if c == code "\\" then comments_from x escaped p t
     else comments_from x comment p t
 comments_from x escaped p [] = []
 comments_from x escaped p (c ∷ t) = comments_from x comment p t
 comments_from x line p [] = line_before p [] ∷ []
 comments_from x line p (c ∷ t) =
-    if c == line_feed
+    if c == code "\n"
     then line_before p t ∷ comments_from x between (reach_of t) t
     else comments_from x line p t
 

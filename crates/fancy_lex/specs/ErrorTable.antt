@@ -1,7 +1,7 @@
 -- The errors of a pattern, a definition for each: its kind, with the text of the kind, and its reach. A parameter p is
 -- the reach of the error, and a parameter t is the rest of the text, from which the reach is computed.
 use Rattle.std.specs.Prelude.{ℕ, ◌+◌, Bool, [], ◌∷◌, ◌++◌, codes, if◌then◌else◌}
-use Rattle.fancy_lex.specs.Characters.{backslash}
+use Prim.Native.Char.{code}
 use Rattle.fancy_lex.specs.Located.{Kind, Located, general_parse_error, unclosed_open_paren, recursion_exceeded}
 use Rattle.fancy_lex.specs.Located.{trailing_backslash, invalid_escape, unclosed_unicode_name, invalid_hex}
 use Rattle.fancy_lex.specs.Located.{invalid_codepoint_value, invalid_class, unknown_flag}
@@ -92,7 +92,7 @@ number_too_great t = record { reach = reach_of t; kind = invalid_backref }
 
 -- a letter that is no escape
 abbrev pub letter_of_no_escape : ℕ → ℕ → Located
-letter_of_no_escape p c = record { reach = p; kind = invalid_escape (backslash ∷ c ∷ []) }
+letter_of_no_escape p c = record { reach = p; kind = invalid_escape (code "\\" ∷ c ∷ []) }
 
 -- a boundary whose braces are not closed; the text is the same for `\B`
 abbrev pub boundary_not_closed : ℕ → Located

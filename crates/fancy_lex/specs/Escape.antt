@@ -9,7 +9,7 @@ use Rattle.fancy_lex.specs.declared.escape.Assertion.TheVariants.{StartText, End
 use Rattle.fancy_lex.specs.declared.escape.Assertion.TheVariants.{LeftWordBoundary, RightWordBoundary}
 use Rattle.fancy_lex.specs.declared.flags.Flags.{Flags}
 use Rattle.fancy_lex.specs.BoundarySteps.{boundary}
-use Rattle.fancy_lex.specs.Characters.{backslash, ◌∈◌}
+use Rattle.fancy_lex.specs.Characters.{◌∈◌}
 use Rattle.fancy_lex.specs.EscapeReference as reference
 use Rattle.fancy_lex.specs.Escaped.{hex_class, negated_hex_class, Escape, literal, any, assertion, general_newline}
 use Rattle.fancy_lex.specs.Escaped.{keep_out, continue_from_previous_match_end, delegate, backref, subroutine_call}
@@ -54,7 +54,7 @@ is_itself inside c = not (is_ascii_alphanumeric c) && (inside || not (c ∈ "<>"
 -- letters that are the whole escape, in a class and outside, and the leaf of c as one of them
 abbrev pub lone_anywhere : Flags → ℕ → List (String × Escape)
 lone_anywhere f c =
-    ("dDsSwW", delegate (backslash ∷ c ∷ []) f.casei)
+    ("dDsSwW", delegate (code "\\" ∷ c ∷ []) f.casei)
     ∷ ("h", delegate hex_class false)
     ∷ ("H", delegate negated_hex_class false)
     ∷ ("a", literal (code "\u{7}") false)

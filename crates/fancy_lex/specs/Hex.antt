@@ -2,8 +2,8 @@
 use Rattle.std.specs.Prelude.{ℕ, zero, suc, ◌+◌, ◌*◌, Bool, true, false, not, ◌&&◌, ◌||◌, ◌==◌, nat_lt, nat_le}
 use Rattle.std.specs.Prelude.{if◌then◌else◌, [], ◌∷◌, Option, Some, None, option_and_then}
 use Rattle.std.specs.Char.{digit_value}
+use Prim.Native.Char.{code}
 use Rattle.fancy_lex.specs.declared.flags.Flags.{Flags}
-use Rattle.fancy_lex.specs.Characters.{open_brace, close_brace}
 use Rattle.fancy_lex.specs.Escaped.{Escape, literal, literal_bytes}
 use Rattle.fancy_lex.specs.ErrorTable.{code_not_read, code_of_no_character}
 use Rattle.fancy_lex.specs.LayoutSteps.{layout}
@@ -34,11 +34,11 @@ module _ (x : Bool) (h : ℕ) where
   -- up to k digits, each with layout after it, and the closing brace; v is the value of the digits before them, and
   -- `some` says whether there were any
   unfoldable pub hex_digits : ℕ → Bool → ℕ → Text → Reading ℕ
-  hex_digits zero some v t = closing_brace h some v (strip close_brace t)
+  hex_digits zero some v t = closing_brace h some v (strip (code "}") t)
   hex_digits (suc k) some v t =
       choose (hex_digit t)
       (λ p. layout_reading (layout x p.1) >=> (λ _ u. hex_digits k true (v * 16 + p.0) u))
-      (closing_brace h some v (strip close_brace t))
+      (closing_brace h some v (strip (code "}") t))
 
   -- one to eight digits in braces, with layout before, between and after them: their value
   unfoldable pub braced_value : Text → Reading ℕ
@@ -48,7 +48,7 @@ module _ (x : Bool) (h : ℕ) where
   unfoldable pub value : ℕ → Text → Reading ℕ
   value width t =
       choose (fixed_digits width 0 t) (λ p. gives p.0 p.1)
-      (choose (strip open_brace t) braced_value (fails (code_not_read h)))
+      (choose (strip (code "{") t) braced_value (fails (code_not_read h)))
 
 -- the leaf of the value v: after `\x`, whose width is 2, and without UNICODE, a byte if v is from 80 to FF; otherwise
 -- the character of this code

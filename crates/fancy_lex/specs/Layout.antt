@@ -1,7 +1,6 @@
 -- Layout: comments, and under IGNORE_SPACE also blanks and line comments.
 use Rattle.std.specs.Prelude.{◌≡◌, ◌≢◌, ℕ, Bool, true, ◌||◌, ◌==◌, [], ◌∷◌, ◌++◌, ◌⊎◌, codes}
 use Prim.Native.Char.{code}
-use Rattle.fancy_lex.specs.Characters.{line_feed, hash, close_paren, backslash}
 use Rattle.fancy_lex.specs.Text.{Text, at_end, past_end}
 
 -- a space, CR, LF or TAB
@@ -11,13 +10,13 @@ is_blank c = ((c == code " " || c == code "\r") || c == code "\n") || c == code 
 -- the inside of a comment: characters other than `\` and `)`, and pairs of `\` and any character
 pub data InComment : Text → Type 0 where
   nothing : InComment []
-  plain : {c : ℕ} {t : Text} → c ≢ backslash → c ≢ close_paren → InComment t → InComment (c ∷ t)
-  pair : {b c : ℕ} {t : Text} → b ≡ backslash → InComment t → InComment (b ∷ c ∷ t)
+  plain : {c : ℕ} {t : Text} → c ≢ code "\\" → c ≢ code ")" → InComment t → InComment (c ∷ t)
+  pair : {b c : ℕ} {t : Text} → b ≡ code "\\" → InComment t → InComment (b ∷ c ∷ t)
 
 -- a text without a line feed
 pub data InLine : Text → Type 0 where
   end_line : InLine []
-  on_line : {c : ℕ} {t : Text} → c ≢ line_feed → InLine t → InLine (c ∷ t)
+  on_line : {c : ℕ} {t : Text} → c ≢ code "\n" → InLine t → InLine (c ∷ t)
 
 -- the opening of a comment
 abbrev pub comment_start : Text
@@ -25,7 +24,7 @@ comment_start = codes "(?#"
 
 -- `(?#`, the inside of a comment, and `)`
 abbrev pub IsComment : Text → Type 0
-IsComment u = (t : Text) × InComment t × (u ≡ comment_start ++ (t ++ (close_paren ∷ [])))
+IsComment u = (t : Text) × InComment t × (u ≡ comment_start ++ (t ++ (code ")" ∷ [])))
 
 -- one blank character
 abbrev pub IsBlank : Text → Type 0
@@ -33,7 +32,7 @@ IsBlank u = (c : ℕ) × (is_blank c ≡ true) × (u ≡ c ∷ [])
 
 -- `#` through the next line feed, or through the end of the text if there is no line feed
 abbrev pub IsLineComment : Text → Text → Type 0
-IsLineComment u v = (t : Text) × InLine t × ((u ≡ hash ∷ (t ++ (line_feed ∷ []))) ⊎ ((u ≡ hash ∷ t) × (v ≡ [])))
+IsLineComment u v = (t : Text) × InLine t × ((u ≡ code "#" ∷ (t ++ (code "\n" ∷ []))) ⊎ ((u ≡ code "#" ∷ t) × (v ≡ [])))
 
 -- `u` is a unit of layout with `v` after it; if x is true, blanks and line comments are layout
 abbrev pub IsUnit : Bool → Text → Text → Type 0
@@ -63,7 +62,7 @@ pub record Before (x : Bool) (t v : Text) : Type 0 where
 -- the inside of a comment that is not closed: all of the text, or all of it but an unpaired backslash at the end
 pub data OpenComment : Text → ℕ → Type 0 where
   to_end : {t : Text} → InComment t → OpenComment t at_end
-  after_backslash : {p : ℕ} {t : Text} (i : Text) → t ≡ i ++ (backslash ∷ []) → p ≡ past_end →
+  after_backslash : {p : ℕ} {t : Text} (i : Text) → t ≡ i ++ (code "\\" ∷ []) → p ≡ past_end →
       InComment i → OpenComment t p
 
 -- the layout at the start of `t` has an unclosed comment, whose error is at the reach p

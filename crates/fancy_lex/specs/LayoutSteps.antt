@@ -1,7 +1,7 @@
 -- Layout as it is read, one character after another, and the text after it.
 use Rattle.std.specs.Prelude.{ℕ, Bool, ◌&&◌, ◌||◌, ◌==◌, if◌then◌else◌, [], ◌∷◌, option_and_then, Option, Some, None}
 use Rattle.std.specs.Prelude.{is_some}
-use Rattle.fancy_lex.specs.Characters.{line_feed, hash, open_paren, close_paren, question_mark, backslash}
+use Prim.Native.Char.{code}
 use Rattle.fancy_lex.specs.Layout.{is_blank}
 use Rattle.fancy_lex.specs.Text.{Text, strip, at_end, past_end}
 
@@ -27,11 +27,11 @@ pub data Phase : Type 0 where
 
 -- whether the character is a blank or begins a line comment, and both are layout
 abbrev pub is_layout : Bool → ℕ → Bool
-is_layout x c = x && (c == hash || is_blank c)
+is_layout x c = x && (c == code "#" || is_blank c)
 
 -- the text after `(?#`, if the text begins with it
 abbrev pub after_comment_start : Text → Option Text
-after_comment_start t = option_and_then (strip hash) (option_and_then (strip question_mark) (strip open_paren t))
+after_comment_start t = option_and_then (strip (code "#")) (option_and_then (strip (code "?")) (strip (code "(") t))
 
 -- the text after the rest of the layout, or the reach of the error if a comment is not closed; no text ends inside
 -- `(?#`, since all three characters are seen before the first is read
@@ -39,7 +39,7 @@ unfoldable pub layout_from : Bool → Phase → Text → Skipped
 layout_from x between [] = rest []
 layout_from x between (c ∷ t) =
     if is_some (after_comment_start (c ∷ t)) then layout_from x two t
-    else if x && c == hash then layout_from x line t
+    else if x && c == code "#" then layout_from x line t
     else if x && is_blank c then layout_from x between t
     else rest (c ∷ t)
 layout_from x two [] = rest []
@@ -48,13 +48,13 @@ layout_from x one [] = rest []
 layout_from x one (c ∷ t) = layout_from x comment t
 layout_from x comment [] = failed at_end
 layout_from x comment (c ∷ t) =
-    if c == close_paren then layout_from x between t
-    else if c == backslash then layout_from x escaped t
+    if c == code ")" then layout_from x between t
+    else if c == code "\\" then layout_from x escaped t
     else layout_from x comment t
 layout_from x escaped [] = failed past_end
 layout_from x escaped (c ∷ t) = layout_from x comment t
 layout_from x line [] = rest []
-layout_from x line (c ∷ t) = if c == line_feed then layout_from x between t else layout_from x line t
+layout_from x line (c ∷ t) = if c == code "\n" then layout_from x between t else layout_from x line t
 
 -- the same from the start of the layout
 abbrev pub layout : Bool → Text → Skipped

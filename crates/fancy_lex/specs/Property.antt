@@ -4,7 +4,7 @@ use Rattle.std.specs.Prelude.{codes, map, Option, Some, None, option_map}
 use Rattle.std.specs.Char.{to_ascii_lowercase}
 use Rattle.std.specs.List.{starts_with}
 use Rattle.std.specs.Str.{bytes_eq}
-use Rattle.fancy_lex.specs.Characters.{caret, open_brace, close_brace}
+use Prim.Native.Char.{code}
 use Rattle.fancy_lex.specs.Text.{Text, cut_at}
 use Rattle.fancy_lex.specs.declared.property.KnownName.{KnownName}
 use Rattle.fancy_lex.specs.declared.property.KnownName.TheVariants.{Alnum, Blank, Cntrl, Word, Graph, Print, Cs, Other}
@@ -23,7 +23,7 @@ pub record Property : Type 0 where
 unfoldable pub name_at : Text → Option (PropertyName × Text)
 name_at [] = None
 name_at (c ∷ t) =
-    if c == open_brace then option_map (λ p. (braced p.0, p.1)) (cut_at close_brace t)
+    if c == code "{" then option_map (λ p. (braced p.0, p.1)) (cut_at (code "}") t)
     else Some (single c, t)
 
 -- the property with this name, and the rest of the text
@@ -79,7 +79,7 @@ form_text inside false (pair plain turned) = plain
 -- the name without a caret in front, which inverts the negation
 abbrev pub turn : Bool → Text → Bool × Text
 turn negated [] = (negated, [])
-turn negated (c ∷ t) = if c == caret then (not negated, t) else (negated, c ∷ t)
+turn negated (c ∷ t) = if c == code "^" then (not negated, t) else (negated, c ∷ t)
 
 -- the text with its ASCII letters in lower case
 abbrev pub lowercase : Text → Text

@@ -1,7 +1,7 @@
 //! Escapes: the text after a backslash.
 ghost use Rattle.std.specs.Prelude.{◌≡◌, ◌==◌, ℕ, Bool, true, ◌+◌, ◌^◌, ◌<◌, ◌≤◌, [], ◌∷◌, if◌then◌else◌, false};
 ghost use Rattle.std.specs.Prelude.{length, chars, IfErr, IfOk, IfSome, option_map};
-ghost use Rattle.fancy_lex.specs.Characters.{backslash};
+ghost use Rattle.fancy_lex.specs.Characters.{code};
 ghost use Rattle.fancy_lex.specs.Escape as spec;
 ghost use Rattle.fancy_lex.specs.EscapeReference as references;
 ghost use Rattle.fancy_lex.specs.Escaped as leaf;
@@ -106,7 +106,7 @@ pub enum DelegateText<'a> {
 
 /// A backslash and the letter.
 fn letter_name(alloc: Global, c: char) -> Result<String, AllocError>
-    ensures { IfOk result (λ s. text_of s ≡ backslash ∷ c ∷ []) }
+    ensures { IfOk result (λ s. text_of s ≡ code "\\" ∷ c ∷ []) }
 {
     let mut name = String::new(alloc);
     push(&mut name, '\\')?;

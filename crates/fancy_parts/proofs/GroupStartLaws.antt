@@ -2,7 +2,8 @@
 -- characters, and the error is at the start of the text, or one byte before it.
 use Rattle.std.proofs.Common.{◌≡◌, ℕ, ◌+◌, true, false, [], ◌∷◌, Option, Some, None, option_map, refl, arith}
 use Rattle.std.proofs.lemmas.Bool.{cond_both}
-use Rattle.fancy_lex.specs.Characters.{close_paren, ◌∈◌}
+use Prim.Native.Char.{code}
+use Rattle.fancy_lex.specs.Characters.{◌∈◌}
 use Rattle.fancy_lex.specs.Delimited.{name_before}
 use Rattle.fancy_lex.specs.Referred.{name_reading, target_of_name}
 use Rattle.fancy_lex.specs.Text.{Text, strip, reach_of}
@@ -21,10 +22,10 @@ takes_strip c t u e = record { word = c ∷ []; cut = strip_is c t u e; long = o
 -- the closing parenthesis after a name
 takes_close_paren : (t : Text) (o : Option (Text × Text)) → TakesSome 3 t o → TakesSome 4 t (with_close_paren o)
 takes_close_paren t None h = tt
-takes_close_paren t (Some (w, u)) h = at (strip close_paren u) refl where
-  at : (o : Option Text) → strip close_paren u ≡ o → TakesSome 4 t (option_map (λ v. (w, v)) o)
+takes_close_paren t (Some (w, u)) h = at (strip (code ")") u) refl where
+  at : (o : Option Text) → strip (code ")") u ≡ o → TakesSome 4 t (option_map (λ v. (w, v)) o)
   at None e = tt
-  at (Some v) e = takes_on (omega arith) h (takes_strip close_paren u v e)
+  at (Some v) e = takes_on (omega arith) h (takes_strip (code ")") u v e)
 
 pub takes_condition_name : (t : Text) → TakesSome 2 t (condition_name t)
 unfolding condition_name
@@ -32,7 +33,7 @@ takes_condition_name [] = tt
 takes_condition_name (c ∷ t) =
     cond_both (c ∈ "'<") _ _ (TakesSome 2 (c ∷ t))
     (λ _. takes_less_some 2 4 (c ∷ t) _ (omega arith) (takes_close_paren (c ∷ t) _ (takes_delimited_name (c ∷ t))))
-    (λ _. takes_name close_paren (c ∷ t))
+    (λ _. takes_name (code ")") (c ∷ t))
 
 pub takes_group_name : (delimiter : ℕ) (t u : Text) → TakesOrFails (reach_of t + 1) 2 u (group_name delimiter t u)
 unfolding group_name
@@ -44,12 +45,12 @@ takes_group_name delimiter t u = at (name_before delimiter u) (takes_name delimi
 
 pub takes_named_reference : (t : Text) → TakesOrFails (reach_of t) 2 t (named_reference t)
 unfolding named_reference
-takes_named_reference t = takes_reference_by_name 2 t false (name_before close_paren t) (takes_name close_paren t)
+takes_named_reference t = takes_reference_by_name 2 t false (name_before (code ")") t) (takes_name (code ")") t)
 
 pub takes_named_call : (t : Text) → TakesOrFails (reach_of t) 2 t (named_call t)
 unfolding named_call
 takes_named_call t =
-    takes_by_name 2 t t (call_of (reach_of t)) (name_before close_paren t) (takes_name close_paren t)
+    takes_by_name 2 t t (call_of (reach_of t)) (name_before (code ")") t) (takes_name (code ")") t)
 
 pub takes_condition_target : (t : Text) → TakesOrFails (reach_of t) 2 t (condition_target t)
 unfolding condition_target
@@ -58,13 +59,13 @@ takes_condition_target t = takes_reference_by_name 2 t true (condition_name t) (
 module _ (t : Text) where
   pub named_reference_at : IfGives (ReferenceAt (reach_of t)) (named_reference t)
   unfolding named_reference
-  named_reference_at = reference_by_name_at (reach_of t) false (name_before close_paren t)
+  named_reference_at = reference_by_name_at (reach_of t) false (name_before (code ")") t)
 
   pub named_call_at : IfGives (CallAt (reach_of t)) (named_call t)
   unfolding named_call
   named_call_at =
       let p = reach_of t in
-      named_at p (CallAt p) (call_of p) (name_before close_paren t) (λ w. call_to_at p (Some (target_of_name w)))
+      named_at p (CallAt p) (call_of p) (name_before (code ")") t) (λ w. call_to_at p (Some (target_of_name w)))
 
   pub condition_target_at : IfGives (ReferenceAt (reach_of t)) (condition_target t)
   unfolding condition_target

@@ -12,7 +12,7 @@ use Prim.Native.Char.{code}
 use Rattle.fancy_lex.proofs.LayoutLaws.{layout_sound, layout_complete, unclosed_sound, unclosed_complete}
 use Rattle.fancy_lex.proofs.ReadingLemmas.{derives_returned, only_returned}
 use Rattle.fancy_lex.proofs.TextLemmas.{bytes-append}
-use Rattle.fancy_lex.specs.Characters.{open_paren, hash, ◌∈◌}
+use Rattle.fancy_lex.specs.Characters.{◌∈◌}
 use Rattle.fancy_lex.specs.ErrorTable.{comment_not_closed, group_not_closed, no_flag_letter, mode_changed}
 use Rattle.fancy_lex.specs.Layout.{Units, none, more as unit_more, IsUnit, is_blank}
 use Rattle.fancy_lex.specs.LayoutSteps.{Skipped, rest, failed, layout}
@@ -96,10 +96,10 @@ not_layout x l v (unit_more u t cut unit h) e = by_unit unit where
   not_begun c s d q = let same : c ≡ code "-" = begins c s q in grind (arith, nat_tests)
 
   by_unit : IsUnit x u (t ++ v) → ⊥
-  by_unit (inl (i, h, q)) = not_begun open_paren _ refl q
+  by_unit (inl (i, h, q)) = not_begun (code "(") _ refl q
   by_unit (inr (on, inl (c, b, q))) = blank_no_minus c b (begins c [] q)
-  by_unit (inr (on, inr (i, h, inl q))) = not_begun hash _ refl q
-  by_unit (inr (on, inr (i, h, inr (q, y)))) = not_begun hash _ refl q
+  by_unit (inr (on, inr (i, h, inl q))) = not_begun (code "#") _ refl q
+  by_unit (inr (on, inr (i, h, inr (q, y)))) = not_begun (code "#") _ refl q
 
 prefix_nil : (w l : Text) → w ++ l ≡ [] → w ≡ []
 prefix_nil [] l e = refl

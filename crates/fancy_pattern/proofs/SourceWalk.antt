@@ -5,7 +5,8 @@ use Rattle.std.proofs.Common.{refl, ap, sym, subst, ◌∙◌, arith, eq-eqb}
 use Rattle.std.proofs.Math.Bool.{or-false}
 use Rattle.std.proofs.lemmas.Bool.{ne_eqb, or_parts}
 use Rattle.std.specs.Option.{option_or}
-use Rattle.fancy_lex.specs.Characters.{◌∈◌, backslash, open_brace, close_brace}
+use Prim.Native.Char.{code}
+use Rattle.fancy_lex.specs.Characters.{◌∈◌}
 use Rattle.fancy_lex.specs.Property.{letter}
 use Rattle.fancy_lex.specs.Reading.{choose}
 use Rattle.fancy_lex.specs.Text.{Text, EndsWith, strip_word, cut_at}
@@ -54,7 +55,7 @@ none_replaced unicode seen c t text e h =
     let (bracket, joints) = or_parts _ _ others in
     subst (λ u. None ≡ replaced_part seen (replaced unicode) u) (sym e) (at unicode seen slash bracket joints)
   where
-    at : (b s : Bool) → (c == backslash) ≡ false → (c == 91) ≡ false → (c == 38) ≡ false →
+    at : (b s : Bool) → (c == code "\\") ≡ false → (c == 91) ≡ false → (c == 38) ≡ false →
         None ≡ replaced_part s (replaced b) (c ∷ t)
     at true true slash bracket joints = rw (slash, bracket, joints) refl
     at true false slash bracket joints = rw (slash, bracket) refl
@@ -68,19 +69,19 @@ pub added_part : (a b : TextOutput) (p q : Part) (left : Text) → q ≡ p →
 added_part a b p q left e s r = subst (λ x. AddedPart a b x left) (sym e) (record { source = s; rest = r })
 
 -- no escape begins there
-pub single_plain : (c : ℕ) (t : Text) → (c ≢ backslash) ⊎ (t ≡ []) → single_part c t ≡ part (by_letter_or c (plain c)) t
+pub single_plain : (c : ℕ) (t : Text) → (c ≢ code "\\") ⊎ (t ≡ []) → single_part c t ≡ part (by_letter_or c (plain c)) t
 single_plain c [] h = refl
-single_plain c (d ∷ t) (inl h) = rw (ne_eqb c backslash h) refl
+single_plain c (d ∷ t) (inl h) = rw (ne_eqb c (code "\\") h) refl
 single_plain c (d ∷ t) (inr h) = absurd (cc)
 
-pub single_escape : (c d : ℕ) (t u : Text) → c ≡ backslash → d ≢ 112 → d ≢ 80 → t ≡ d ∷ u →
+pub single_escape : (c d : ℕ) (t u : Text) → c ≡ code "\\" → d ≢ 112 → d ≢ 80 → t ≡ d ∷ u →
     single_part c t ≡ part (c ∷ d ∷ []) u
-single_escape c d t u h k l e = rw (e, eq-eqb c backslash h, ne_eqb d 112 k, ne_eqb d 80 l) refl
+single_escape c d t u h k l e = rw (e, eq-eqb c (code "\\") h, ne_eqb d 112 k, ne_eqb d 80 l) refl
 
 -- and it is no negated set
 property_keeps : (upper : Bool) (t : Text) → (property_part upper t).negated ≡ false
 property_keeps upper [] = refl
-property_keeps upper (c ∷ t) = at (not (c == open_brace)) (cut_at close_brace t)
+property_keeps upper (c ∷ t) = at (not (c == code "{")) (cut_at (code "}") t)
   where
     at : (b : Bool) (o : Option (Text × Text)) →
         (if b then part (letter upper ++ (c ∷ [])) t
@@ -91,7 +92,7 @@ property_keeps upper (c ∷ t) = at (not (c == open_brace)) (cut_at close_brace 
 
 single_keeps : (c : ℕ) (t : Text) → (single_part c t).negated ≡ false
 single_keeps c [] = refl
-single_keeps c (d ∷ t) = at (not (c == backslash)) (d ∈ "pP")
+single_keeps c (d ∷ t) = at (not (c == code "\\")) (d ∈ "pP")
   where
     at : (b e : Bool) →
         (if b then part (by_letter_or c (plain c)) (d ∷ t)

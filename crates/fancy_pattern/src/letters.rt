@@ -2,7 +2,7 @@
 ghost use Rattle.std.specs.Prelude.{◌≡◌, ◌<◌, ◌/◌, ◌%◌, ◌∷◌, [], true, false, chars, map, OnOk};
 ghost use Rattle.std.specs.Bool.{OnTrue};
 ghost use Rattle.std.specs.List.{flat_map};
-ghost use Rattle.fancy_lex.specs.Characters.{◌∈◌, backslash};
+ghost use Rattle.fancy_lex.specs.Characters.{◌∈◌, code};
 ghost use Rattle.fancy_lex.specs.Class.{byte_text, upper_hex_digit};
 ghost use Rattle.fancy_grammar.specs.PatternLetters as spec;
 ghost use Rattle.fancy_pattern.specs.TextOutput.{Added};
@@ -120,7 +120,7 @@ fn put_plain(out: &mut TextOutput, c: char) -> Result<(), AllocError>
 /// Writes the character after a backslash.
 #[tactic(auto, using(crate::proofs::OutputLemmas::added_steps))]
 fn put_after_backslash(out: &mut TextOutput, c: char) -> Result<(), AllocError>
-    ensures { OnOk result (Added out.old out.new (backslash ∷ c ∷ [])) }
+    ensures { OnOk result (Added out.old out.new (code "\\" ∷ c ∷ [])) }
 {
     out.put('\\')?;
     out.put(c)

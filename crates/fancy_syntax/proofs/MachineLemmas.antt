@@ -6,7 +6,6 @@ use Rattle.std.proofs.lemmas.Bool.{cond-true, cond-false}
 use Rattle.std.proofs.lemmas.Bool.Decides.{nat_tests}
 use Rattle.std.proofs.lemmas.List.{length_push, append_assoc}
 use Prim.Native.Char.{code}
-use Rattle.fancy_lex.specs.Characters.{bar}
 use Rattle.fancy_lex.specs.Located.{Located}
 use Rattle.fancy_lex.specs.ErrorTable.{bar_for_close_paren, body_missing}
 use Rattle.fancy_lex.specs.LayoutSteps.{rest, failed as open_comment}
@@ -169,7 +168,7 @@ ended_closed p r s e = rw e refl
 
 -- a bar may end a single-branch part only if it is the second branch of an absent expression, and then it is an error
 abbrev MayEnd : OpenPart → State → Type 0
-MayEnd p s = holds_one p ≡ true → is_second p ≡ false → strip bar s.rest ≡ None
+MayEnd p s = holds_one p ≡ true → is_second p ≡ false → strip (code "|") s.rest ≡ None
 
 -- the same, if the outcome decides the log
 closed_to : {d : ℕ} {s : State} (f : Flags) (g : Tree → Tree) (r : Tree) (w : State) (h : Outcome Tree → Log) (l : Log) →
@@ -268,8 +267,8 @@ close_has_body left flags p r w n e g = rw (e, g) refl
 -- the atom that ends with a part, under its quantifiers
 pub closes : {d left : ℕ} {s v t : State} {a : Tree} {p : OpenPart} {l m : Log} (n : Log) (flags : Flags) (r : Tree)
     (w : State) (q : Result Step ReadError) (z : State) → OpensPart d s l p v m →
-    Part p (d + 1) v (done r w) m n → has_body_next p ≡ false → strip bar w.rest ≡ None → ended_part p r w ≡ done a t →
-    left ≡ bytes s.rest → flags ≡ s.flags →
+    Part p (d + 1) v (done r w) m n → has_body_next p ≡ false → strip (code "|") w.rest ≡ None →
+    ended_part p r w ≡ done a t → left ≡ bytes s.rest → flags ≡ s.flags →
     GivesPiece q (quants d left a (record t { flags = s.flags })) z →
     GivesStep q d s l z (close_recorded left flags p r w n)
 closes {d} {left} {s} {t} {a} {p} {l} n flags r w q z x y g f h i j e =
@@ -318,7 +317,7 @@ next_to : {d : ℕ} {s t : State} {r : Tree} {l m n : Log} (o : Outcome (List Tr
 next_to {r} o e (a, x) (b, y) = (next e a b, ap (λ m. pieces_recorded b (added r m)) x ∙ y)
 
 more_to : {d : ℕ} {s t : State} {u : Text} {r : Tree} {l m n : Log} (o : Outcome (List Tree)) →
-    BranchTo d s (done r t) l m → strip bar t.rest ≡ Some u →
+    BranchTo d s (done r t) l m → strip (code "|") t.rest ≡ Some u →
     BranchesTo d (at t u) o (branch_begun (reach_of u) m) n → BranchesTo d s (trees_before (r ∷ []) o) l n
 more_to {u} o (a, x) e (b, y) = (more a e b, ap (λ m. branches_recorded b (branch_begun (reach_of u) m)) x ∙ y)
 
@@ -365,7 +364,7 @@ reading_one {d} {t} {ps} {m} h k e =
 
 reading_bar : {d : ℕ} {p : OpenPart} {s t : State} {u : Text} {bs ps : List Tree} {l m : Log} (cs qs : List Tree) →
     ReadSoFar d p s l bs ps t m → holds_one p ≡ false →
-    ends t.rest ≡ true → strip bar t.rest ≡ Some u → cs ≡ bs ++ joined ps ∷ [] → qs ≡ [] →
+    ends t.rest ≡ true → strip (code "|") t.rest ≡ Some u → cs ≡ bs ++ joined ps ∷ [] → qs ≡ [] →
     ReadSoFar d p s l cs qs (at t u) (branch_begun (reach_of u) (branch_closed ps t m))
 reading_bar {d} {s} {t} {u} {bs} {ps} {l} {m} cs qs h k e f i j = record {
   begin = at t u;
@@ -378,7 +377,7 @@ reading_bar {d} {s} {t} {u} {bs} {ps} {l} {m} cs qs h k e f i j = record {
       (subst (λ q. BranchesTo d s q l n) (sym (before-push bs (joined ps) o))
       (h.all _ n (more_to o (reading_branch h e) f b)));
   one = λ l. absurd (true≢false (sym l ∙ k));
-  slice = on h.slice (strip_slice bar t.rest u f);
+  slice = on h.slice (strip_slice (code "|") t.rest u f);
 }
 
 -- the log when the open part ends at t with these branches and pieces
@@ -386,7 +385,7 @@ abbrev pub choice_closed : List Tree → List Tree → State → Log → Log
 choice_closed bs ps t l = choice_recorded (bs ++ joined ps ∷ []) (reach_of t.rest) (branch_closed ps t l)
 
 reading_alternation : {d : ℕ} {p : OpenPart} {s t : State} {bs ps : List Tree} {l m : Log} →
-    ReadSoFar d p s l bs ps t m → ends t.rest ≡ true → strip bar t.rest ≡ None →
+    ReadSoFar d p s l bs ps t m → ends t.rest ≡ true → strip (code "|") t.rest ≡ None →
     AlternationTo d s (done (choice (bs ++ joined ps ∷ [])) t) l (choice_closed bs ps t m)
 reading_alternation {t} {bs} {ps} h e f =
     let (b, x) = reading_branch h e in
@@ -395,7 +394,7 @@ reading_alternation {t} {bs} {ps} h e f =
 
 -- the open part ends at t
 reading_end : {d : ℕ} {s t : State} {bs ps : List Tree} {l m : Log} (p : OpenPart) → ReadSoFar d p s l bs ps t m →
-    ends t.rest ≡ true → strip bar t.rest ≡ None →
+    ends t.rest ≡ true → strip (code "|") t.rest ≡ None →
     Part p d s (done (choice (bs ++ joined ps ∷ [])) t) l (choice_closed bs ps t m)
 reading_end top h e f = reading_alternation h e f
 reading_end (group _ _) h e f = reading_alternation h e f
@@ -638,7 +637,7 @@ opens_below d (step.Open open_group) h = h
 -- after a bar, the second branch of an absent expression is open
 levels_bar : {d : ℕ} {start s t : State} {none l m : Log} {u : Text} {a : Tree} {fs : List Enclosing} {ts : List Tree} →
     OpenGroups start none fs ts first d s l → BranchTo d s (done a t) l m →
-    strip bar t.rest ≡ Some u →
+    strip (code "|") t.rest ≡ Some u →
     OpenGroups start none fs ts (second a) d (at t u) (branch_begun (reach_of u) m)
 levels_bar {start} {t} {none} {u} {a} {fs} {ts} (inner {d} f i l h m j x y) (b, z) e =
     subst (λ m. OpenGroups start none fs ts (second a) (d + 1) (at t u) (branch_begun (reach_of u) m)) z
@@ -646,7 +645,7 @@ levels_bar {start} {t} {none} {u} {a} {fs} {ts} (inner {d} f i l h m j x y) (b, 
 
 pub running_bar : {start t : State} {none l : Log} {u : Text} {stack : List Enclosing} {f : Frame} {trees : List Tree}
     (all : List Tree) (g : Frame) (h : Running start none stack f trees t l) → ends t.rest ≡ true →
-    strip bar t.rest ≡ Some u → is_second (part_of f.open_group) ≡ false →
+    strip (code "|") t.rest ≡ Some u → is_second (part_of f.open_group) ≡ false →
     part_of g.open_group ≡ opened_by_bar (part_of f.open_group) (joined h.pieces) →
     HoldsTrees g all h.below (branches_at_bar (part_of f.open_group) h.branches (joined h.pieces)) [] →
     Running start none stack g all (at t u) (branch_begun (reach_of u) (branch_closed h.pieces t l))
@@ -697,12 +696,12 @@ running_bar {start} {t} {none} {l = c} {u} {stack} {f} all g h e b x i j =
 
 -- a closing parenthesis follows if a branch ends here without a bar
 pub closed_here : (r : Tree) (t : State) (c : ℕ) (u : Text) → t.rest ≡ c ∷ u → ends t.rest ≡ true →
-    strip bar t.rest ≡ None → closed r t ≡ done r (at t u)
+    strip (code "|") t.rest ≡ None → closed r t ≡ done r (at t u)
 closed_here r t c u e h n =
     ap (λ o. choose o (λ v. done r (at t v)) (failed (not_closed t.rest)))
     (ap (strip (code ")")) e ∙ cond-true _ _ _ (by_bar (rw e at h) (rw e at n)))
   where
-    by_bar : ends (c ∷ u) ≡ true → strip bar (c ∷ u) ≡ None → (c == code ")") ≡ true
+    by_bar : ends (c ∷ u) ≡ true → strip (code "|") (c ∷ u) ≡ None → (c == code ")") ≡ true
     by_bar h n = grind (arith, nat_tests)
 
 -- a character other than the closing parenthesis follows
@@ -714,7 +713,7 @@ closed_other r t c u e h =
     (ap (strip (code ")")) e ∙ cond-false _ _ _ other)
     ∙ rw e refl
 
-bar_does_not_close : bar ≢ code ")"
+bar_does_not_close : code "|" ≢ code ")"
 bar_does_not_close e = omega (arith, e)
 
 second_error : {d : ℕ} {start s t : State} {none l m : Log} {error : Located} {a r : Tree} {fs : List Enclosing}
@@ -726,7 +725,7 @@ second_error {t} {a} {r} (inner f i y l h m j x) b e =
 
 pub running_bar_error : {start t : State} {none l : Log} {u : Text} {stack : List Enclosing} {f : Frame}
     {trees : List Tree} (o : Outcome Tree) → Running start none stack f trees t l →
-    ends t.rest ≡ true → strip bar t.rest ≡ Some u → IsErrorOfBar (part_of f.open_group) t.rest o →
+    ends t.rest ≡ true → strip (code "|") t.rest ≡ Some u → IsErrorOfBar (part_of f.open_group) t.rest o →
     Alternation 0 start o
 running_bar_error {start} {t} {none} {l = c} {u} {stack} {f} o h e b x = by_open (part_of f.open_group) h.levels
     h.reading x
@@ -737,7 +736,7 @@ running_bar_error {start} {t} {none} {l = c} {u} {stack} {f} o h e b x = by_open
     by_open (second a) l r x =
         subst (Alternation 0 start) (sym x)
         (second_error l (reading_one r refl e)
-        (closed_other (expression a (joined h.pieces)) t bar u (strip_is bar t.rest u b)
+        (closed_other (expression a (joined h.pieces)) t (code "|") u (strip_is (code "|") t.rest u b)
         bar_does_not_close))
     by_open top l r x = absurd x
     by_open (group _ _) l r x = absurd x
@@ -746,7 +745,7 @@ running_bar_error {start} {t} {none} {l = c} {u} {stack} {f} o h e b x = by_open
     by_open first l r x = absurd x
 
 pub running_end : {start t : State} {none l : Log} {stack : List Enclosing} {f : Frame} {trees : List Tree} (r : Tree)
-    (h : Running start none stack f trees t l) → ends t.rest ≡ true → strip bar t.rest ≡ None →
+    (h : Running start none stack f trees t l) → ends t.rest ≡ true → strip (code "|") t.rest ≡ None →
     r ≡ choice (h.branches ++ joined h.pieces ∷ []) → stack ≡ [] →
     AlternationTo 0 start (done r t) none (choice_closed h.branches h.pieces t l)
 running_end {start} {t} {none} {l} r h e a i j =
@@ -772,7 +771,7 @@ pub record Closing (start : State) (none : Log) (stack : List Enclosing) (g : En
 
 pub running_closing : {start t : State} {none l : Log} {all : List Enclosing} {f : Frame} {trees : List Tree}
     (stack : List Enclosing) (g : Enclosing) (below : List Tree) (r : Tree) (q : OpenPart) → q ≡ part_of f.open_group →
-    (h : Running start none all f trees t l) → ends t.rest ≡ true → strip bar t.rest ≡ None →
+    (h : Running start none all f trees t l) → ends t.rest ≡ true → strip (code "|") t.rest ≡ None →
     r ≡ choice (h.branches ++ joined h.pieces ∷ []) → below ≡ h.below → all ≡ stack ++ g ∷ [] →
     Closing start none stack g below q r t (choice_closed h.branches h.pieces t l)
 running_closing {t} {l} {f} stack g below r q z h e a i k j =

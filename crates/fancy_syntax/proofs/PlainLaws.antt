@@ -1,6 +1,6 @@
 -- A plain character is a leaf, and so is an escape. Where no quantifier follows, none is recorded.
 use Rattle.std.proofs.Common.{◌≡◌, ℕ, Bool, true, false, [], ◌∷◌, refl, sym, ap, ◌∙◌, subst, if◌then◌else◌}
-use Rattle.fancy_lex.specs.Characters.{backslash}
+use Prim.Native.Char.{code}
 use Rattle.fancy_lex.specs.Escape.{escape}
 use Rattle.fancy_lex.specs.Escaped.{Escape}
 use Rattle.fancy_lex.specs.Escaped as escaped
@@ -83,12 +83,12 @@ leaf_is_solid (escaped.delegate t casei) = refl
 leaf_is_solid (escaped.backref r casei) = refl
 leaf_is_solid (escaped.subroutine_call c) = refl
 
-pub is_plain_escape : (s : State) (t u : Text) (e : Escape) → s.rest ≡ backslash ∷ t →
+pub is_plain_escape : (s : State) (t u : Text) (e : Escape) → s.rest ≡ code "\\" ∷ t →
     escape s.flags false t ≡ gives e u → IsPlainLeaf s (leaf_node e) (at s u)
 is_plain_escape s t u e i h = record {
   more = ap ends i;
-  no_layout = rw i (no_layout backslash s.flags.ignore_space t refl (backslash_no_layout s.flags.ignore_space));
-  no_comments = rw i (no_comments backslash s.flags.ignore_space t refl (backslash_no_layout s.flags.ignore_space));
+  no_layout = rw i (no_layout (code "\\") s.flags.ignore_space t refl (backslash_no_layout s.flags.ignore_space));
+  no_comments = rw i (no_comments (code "\\") s.flags.ignore_space t refl (backslash_no_layout s.flags.ignore_space));
   leaf = λ d. subst (λ v. atom_start d (at s v) ≡ read (done (leaf_node e) (at s u))) (sym i) (is_escape d s t u e h);
   solid = leaf_is_solid e;
 }

@@ -11,7 +11,6 @@ use Rattle.std.proofs.Math.Utf8.{encode, encodes}
 use Rattle.std.specs.Str.{IsUtf8}
 use Rattle.memchr.specs.Find.{IsFirstByte, is_byte}
 use Prim.Native.Char.{code}
-use Rattle.fancy_lex.specs.Characters.{bar, open_paren}
 use Rattle.fancy_lex.specs.Text.{Text, bytes}
 use Rattle.fancy_grammar.specs.AtomStart.{AtomStart, nothing, read, atom_start, start_of}
 use Rattle.fancy_grammar.specs.AtomStart.{begins_no_atom}
@@ -37,7 +36,7 @@ use Rattle.fancy_syntax.specs.declared.grammar.step.Step.TheVariants as step
 
 open_parens-append : (w u : Text) → open_parens (w ++ u) ≡ open_parens w + open_parens u
 open_parens-append [] u = omega arith
-open_parens-append (c ∷ w) u = by_test (c == open_paren) (open_parens-append w u)
+open_parens-append (c ∷ w) u = by_test (c == code "(") (open_parens-append w u)
   where
     by_test : (b : Bool) → open_parens (w ++ u) ≡ open_parens w + open_parens u →
         (if b then open_parens (w ++ u) + 1 else open_parens (w ++ u))
@@ -50,14 +49,14 @@ fewer_after : {t u : Text} → Slice t u → open_parens u ≤ open_parens t
 fewer_after {u} a = omega (arith, ap open_parens a.cut, open_parens-append a.word u)
 
 -- after an opening parenthesis there is one less
-one_fewer : {s t u : Text} → s ≡ open_paren ∷ t → Slice s u → bytes u + 1 ≤ bytes s → open_parens u + 1 ≤ open_parens s
+one_fewer : {s t u : Text} → s ≡ code "(" ∷ t → Slice s u → bytes u + 1 ≤ bytes s → open_parens u + 1 ≤ open_parens s
 one_fewer {s} {t} {u} e a long = by_word a.word a.cut
   where
     by_word : (w : Text) → s ≡ w ++ u → open_parens u + 1 ≤ open_parens s
     by_word [] cut = absurd (omega (arith, long, ap bytes cut))
     by_word (c ∷ w) cut =
-        let both : open_paren ∷ t ≡ c ∷ (w ++ u) = sym e ∙ cut in
-        let first : c ≡ open_paren = cc in
+        let both : code "(" ∷ t ≡ c ∷ (w ++ u) = sym e ∙ cut in
+        let first : c ≡ code "(" = cc in
         let word : open_parens (c ∷ w) ≡ open_parens w + 1 = rw first refl in
         omega (arith, ap open_parens cut, open_parens-append (c ∷ w) u, word)
 
@@ -69,9 +68,9 @@ Opens (read o) = ⊥
 Opens _ = Unit {0}
 
 abbrev Begins : State → AtomStart → Type 0
-Begins s k = Opens k → (t : Text) × (s.rest ≡ open_paren ∷ t)
+Begins s k = Opens k → (t : Text) × (s.rest ≡ code "(" ∷ t)
 
-first_opens : (d : ℕ) (s : State) → Opens (atom_start d s) → (t : Text) × (s.rest ≡ open_paren ∷ t)
+first_opens : (d : ℕ) (s : State) → Opens (atom_start d s) → (t : Text) × (s.rest ≡ code "(" ∷ t)
 unfolding atom_start
 first_opens d s = by_text s.rest refl
   where
@@ -81,7 +80,7 @@ first_opens d s = by_text s.rest refl
         cond_both (c == code "(") _ _ (Begins s) (λ is _. (t, e ∙ ap (λ x. x ∷ t) (same is))) (λ _.
         cond_both (begins_no_atom c) _ _ (Begins s) (λ _ h. absurd h) (λ _ h. absurd h))
       where
-        same : (c == code "(") ≡ true → c ≡ open_paren
+        same : (c == code "(") ≡ true → c ≡ code "("
         same is = grind (arith, nat_tests)
 
 opens_start : (d : ℕ) (s : State) (k : AtomStart) (u : Text) → atom_start d s ≡ k → Opens k → Slice s.rest u →
@@ -110,7 +109,12 @@ opened_fewer (a_branch {d} {s} {t} {u} l e) =
     let past = subst (StartReads (at s u)) e (start_reads d (at s u)) in
     omega (arith, fewer_after (skipped_slice s u l), opens_start d (at s u) _ t.rest e tt past.0 past.1)
 opened_fewer (after_branch {v} {u} x b e) =
-    omega (arith, opened_fewer x, fewer_after (branch_read b).span.slice, fewer_after (strip_slice bar v.rest u e))
+    omega (
+      arith,
+      opened_fewer x,
+      fewer_after (branch_read b).span.slice,
+      fewer_after (strip_slice (code "|") v.rest u e),
+    )
 
 -- ---- the stack
 
@@ -147,12 +151,12 @@ capacity_for_step v m (step.Open open_group) r h steps below reserved e =
 -- ---- the count
 
 -- the byte of an opening parenthesis is in a text where the character is
-no_paren : (bs : List ℕ) → ((k : ℕ) → k < length bs → slice_index bs k ≢ open_paren) → open_parens bs ≡ 0
+no_paren : (bs : List ℕ) → ((k : ℕ) → k < length bs → slice_index bs k ≢ code "(") → open_parens bs ≡ 0
 no_paren [] h = refl
 no_paren (b ∷ bs) h =
-    by_test (b == open_paren) refl (no_paren bs (λ k l. h (suc k) (omega (arith, l))))
+    by_test (b == code "(") refl (no_paren bs (λ k l. h (suc k) (omega (arith, l))))
   where
-    by_test : (x : Bool) → (b == open_paren) ≡ x → open_parens bs ≡ 0 →
+    by_test : (x : Bool) → (b == code "(") ≡ x → open_parens bs ≡ 0 →
         (if x then open_parens bs + 1 else open_parens bs) ≡ 0
     by_test true e more = absurd (h 0 (omega arith) (grind (arith, nat_tests)))
     by_test false e more = more
@@ -160,20 +164,20 @@ no_paren (b ∷ bs) h =
 parens_encoded : (cs : Text) → open_parens (encodes cs) ≡ open_parens cs
 parens_encoded [] = refl
 parens_encoded (c ∷ cs) =
-    open_parens-append (encode c) (encodes cs) ∙ by_test (c == open_paren) refl (parens_encoded cs)
+    open_parens-append (encode c) (encodes cs) ∙ by_test (c == code "(") refl (parens_encoded cs)
   where
-    one_of : (c == open_paren) ≡ true → open_parens (encode c) ≡ 1
+    one_of : (c == code "(") ≡ true → open_parens (encode c) ≡ 1
     one_of e =
-        let is : c ≡ open_paren = grind (arith, nat_tests) in
+        let is : c ≡ code "(" = grind (arith, nat_tests) in
         rw (encode_ascii c (omega (arith, is)), is) refl
 
-    none_of : (c == open_paren) ≡ false → open_parens (encode c) ≡ 0
+    none_of : (c == code "(") ≡ false → open_parens (encode c) ≡ 0
     none_of e = no_paren (encode c) (λ k l i.
         let same : c ≡ slice_index (encode c) k =
         inside_one c [] (encode c) k (sym (append-nil (encode c))) l (omega (arith, i)) in
         grind (arith, nat_tests))
 
-    by_test : (b : Bool) → (c == open_paren) ≡ b → open_parens (encodes cs) ≡ open_parens cs →
+    by_test : (b : Bool) → (c == code "(") ≡ b → open_parens (encodes cs) ≡ open_parens cs →
         open_parens (encode c) + open_parens (encodes cs) ≡ (if b then open_parens cs + 1 else open_parens cs)
     by_test true e more = omega (arith, one_of e, more)
     by_test false e more = omega (arith, none_of e, more)
@@ -182,28 +186,28 @@ pub parens_of_bytes : (bs : List ℕ) → IsUtf8 bs → open_parens bs ≡ open_
 parens_of_bytes bs u = ap open_parens (sym (encodes-chars bs u)) ∙ parens_encoded (chars bs)
 
 -- if none is found, none is left
-pub none_found : (bs : List ℕ) → IsFirstByte (is_byte open_paren) bs None → open_parens bs ≡ 0
+pub none_found : (bs : List ℕ) → IsFirstByte (is_byte (code "(")) bs None → open_parens bs ≡ 0
 none_found bs none = no_paren bs (λ k l e. none k (omega arith) l (grind (arith, nat_tests)))
 
 -- after the first there is one less
-paren_at : (bs : List ℕ) (k : ℕ) → k < length bs → ((j : ℕ) → j < k → slice_index bs j ≢ open_paren) →
-    slice_index bs k ≡ open_paren → open_parens bs ≡ open_parens (drop 1 (drop k bs)) + 1
+paren_at : (bs : List ℕ) (k : ℕ) → k < length bs → ((j : ℕ) → j < k → slice_index bs j ≢ code "(") →
+    slice_index bs k ≡ code "(" → open_parens bs ≡ open_parens (drop 1 (drop k bs)) + 1
 paren_at [] k l h e = absurd (omega (arith, l))
-paren_at (b ∷ bs) zero l h e = by_test (b == open_paren) refl
+paren_at (b ∷ bs) zero l h e = by_test (b == code "(") refl
   where
-    by_test : (x : Bool) → (b == open_paren) ≡ x →
+    by_test : (x : Bool) → (b == code "(") ≡ x →
         (if x then open_parens bs + 1 else open_parens bs) ≡ open_parens bs + 1
     by_test true i = refl
     by_test false i = absurd (grind (arith, nat_tests))
 paren_at (b ∷ bs) (suc k) l h e =
-    by_test (b == open_paren) refl (paren_at bs k (omega (arith, l)) (λ j m. h (suc j) (omega (arith, m))) e)
+    by_test (b == code "(") refl (paren_at bs k (omega (arith, l)) (λ j m. h (suc j) (omega (arith, m))) e)
   where
-    by_test : (x : Bool) → (b == open_paren) ≡ x → open_parens bs ≡ open_parens (drop 1 (drop k bs)) + 1 →
+    by_test : (x : Bool) → (b == code "(") ≡ x → open_parens bs ≡ open_parens (drop 1 (drop k bs)) + 1 →
         (if x then open_parens bs + 1 else open_parens bs) ≡ open_parens (drop 1 (drop k bs)) + 1
     by_test true i more = absurd (h 0 (omega arith) (grind (arith, nat_tests)))
     by_test false i more = more
 
-pub first_found : (bs : List ℕ) (k : ℕ) → IsFirstByte (is_byte open_paren) bs (Some k) →
+pub first_found : (bs : List ℕ) (k : ℕ) → IsFirstByte (is_byte (code "(")) bs (Some k) →
     open_parens bs ≡ open_parens (drop 1 (drop k bs)) + 1
 first_found bs k first =
     paren_at bs k first.0.high (λ j l e. first.0.before j (omega arith) l (grind (arith, nat_tests)))

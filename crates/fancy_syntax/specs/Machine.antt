@@ -1,7 +1,7 @@
 -- The open groups, as the parser's stack holds them.
 use Rattle.std.specs.Prelude.{◌≡◌, ℕ, ◌+◌, ◌<◌, ◌==◌, ◌&&◌, not, if◌then◌else◌, Bool, true, false, List, []}
 use Rattle.std.specs.Prelude.{◌∷◌, ◌++◌, length, Some, Result, MatchResult, ⊤}
-use Rattle.fancy_lex.specs.Characters.{bar}
+use Prim.Native.Char.{code}
 use Rattle.fancy_lex.specs.Comments.{comments}
 use Rattle.fancy_lex.specs.ErrorTable.{bar_for_close_paren, body_missing}
 use Rattle.fancy_lex.specs.LayoutSteps.{rest}
@@ -101,7 +101,7 @@ pub data OpensPart : ℕ → State → Log → OpenPart → State → Log → Ty
   a_branch : {d s l t u : _} → skipped s ≡ rest u → atom_start d (at s u) ≡ seen.absent_branch t →
       OpensPart d s l first t (opened (reach_of u) (reach_of t.rest) (layout_passed s l))
   after_branch : {d s l t m v u a : _} → OpensPart d s l first t m → (b : Branch (d + 1) t (done a v)) →
-      strip bar v.rest ≡ Some u →
+      strip (code "|") v.rest ≡ Some u →
       OpensPart d s l (second a) (at v u) (branch_begun (reach_of u) (branch_recorded b m))
 
 -- the body of a conditional is missing: it takes no byte, and the condition needs a body

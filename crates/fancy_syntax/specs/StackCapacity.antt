@@ -2,7 +2,7 @@
 use Rattle.std.specs.Prelude.{ℕ, ◌+◌, ◌≤◌, ◌<◌, ◌==◌, nat_le, if◌then◌else◌, [], ◌∷◌, ⊤, vec_len, vec_capacity, Result}
 use Rattle.std.specs.Prelude.{IsOk}
 use Rattle.std.specs.declared.alloc.AllocError.{AllocError}
-use Rattle.fancy_lex.specs.Characters.{open_paren}
+use Prim.Native.Char.{code}
 use Rattle.fancy_lex.specs.Text.{Text}
 use Rattle.fancy_grammar.specs.Depth.{most_open}
 use Rattle.fancy_grammar.specs.State.{State}
@@ -15,7 +15,7 @@ use Rattle.fancy_syntax.specs.declared.grammar.step.Step.TheVariants as step
 -- how many opening parentheses a text has, whatever their role is
 abbrev pub open_parens : Text → ℕ
 open_parens [] = 0
-open_parens (c ∷ t) = if c == open_paren then open_parens t + 1 else open_parens t
+open_parens (c ∷ t) = if c == code "(" then open_parens t + 1 else open_parens t
 
 -- the largest number of groups that a text may have open at once
 abbrev pub groups_at_once : Text → ℕ

@@ -53,7 +53,6 @@ use Rattle.fancy_grammar.proofs.Parsed.Readers.{counts_words, IsFreeOf}
 use Rattle.fancy_grammar.proofs.Parsed.Readers.{name_free, angled_writable, quoted_writable}
 use Rattle.std.proofs.Common.{ℤ, ◌++◌, ap₂, append_assoc, arith}
 use Rattle.std.proofs.lemmas.Bool.Decides.{nat_tests}
-use Rattle.fancy_lex.specs.Characters.{bar, backslash}
 use Rattle.fancy_lex.specs.Referred.{Call}
 use Rattle.fancy_lex.specs.Text.{position_at}
 use Rattle.fancy_parts.specs.Written.{is_after_backslash}
@@ -189,17 +188,17 @@ module _ (f : Flags) (text : Text) where
   StartParsed (absent_branch t) = IsSameMode f t.flags
 
   -- a reference with a level comes after the letter of its escape
-  after_no_backslash : (t : Text) → Slice text (backslash ∷ t) → (p : ℕ) → IsAfterLetter t p →
+  after_no_backslash : (t : Text) → Slice text (code "\\" ∷ t) → (p : ℕ) → IsAfterLetter t p →
       is_after_backslash text (position_at (bytes text) p) ≡ false
   after_no_backslash [] i p h = absurd h
   after_no_backslash (c ∷ u) i p h =
-      let is : text ≡ (i.word ++ (backslash ∷ [])) ++ (code "k" ∷ u)
-      = i.cut ∙ (ap (λ d. i.word ++ (backslash ∷ d ∷ u)) h.0
-      ∙ sym (append_assoc i.word (backslash ∷ []) (code "k" ∷ u))) in
+      let is : text ≡ (i.word ++ (code "\\" ∷ [])) ++ (code "k" ∷ u)
+      = i.cut ∙ (ap (λ d. i.word ++ (code "\\" ∷ d ∷ u)) h.0
+      ∙ sym (append_assoc i.word (code "\\" ∷ []) (code "k" ∷ u))) in
       ap₂ (λ (s : Text) (q : ℕ). is_after_backslash s (position_at (bytes s) q)) is h.1
-      ∙ after_letter (i.word ++ (backslash ∷ [])) u
+      ∙ after_letter (i.word ++ (code "\\" ∷ [])) u
 
-  escape_part : (s : State) (t : Text) → IsSameMode f s.flags → Slice text (backslash ∷ t) →
+  escape_part : (s : State) (t : Text) → IsSameMode f s.flags → Slice text (code "\\" ∷ t) →
       P (leaf_outcome leaf_node s (escape s.flags false t))
   escape_part s t m i = by_reading (escape s.flags false t) refl (escape_mode s.flags t)
     where
@@ -248,7 +247,7 @@ module _ (f : Flags) (text : Text) where
       cond_both (c == code "[") _ _ P (λ _. class_part s t m)
       (λ _. record { mode = m; parsed = (tt, tt) })))))
     where
-      is_backslash : (c == code "\\") ≡ true → c ≡ backslash
+      is_backslash : (c == code "\\") ≡ true → c ≡ code "\\"
       is_backslash e = grind (arith, nat_tests)
 
   letters_part : (s : State) (t : Text) → IsSameMode f s.flags → StartParsed (flags_start (letters s.flags t))
@@ -373,7 +372,7 @@ module _ (f : Flags) (text : Text) where
     branches_part (last b e) m i = let h = branch_part b m i in record { mode = h.mode; parsed = (h.parsed, tt) }
     branches_part (more {t} {u} {q} b e n) m i =
         let h = branch_part b m i in
-        let next = on (on i (branch_read b).span.slice) (strip_slice bar t.rest u e) in
+        let next = on (on i (branch_read b).span.slice) (strip_slice (code "|") t.rest u e) in
         then_holds (AreParts f text) (AreParts f text) q _ (branches_part n h.mode next)
         (λ l v k. record { mode = k.mode; parsed = (h.parsed, k.parsed) })
     branches_part (branch_error b) m i = tt
@@ -418,7 +417,7 @@ module _ (f : Flags) (text : Text) where
     of_part (a_body n) h x m i = body_part n h.0 h.1 (on i x.0.slice)
     of_part (two_branches {v} {u} {a} {q} b e n) h x m i =
         let c = branch_part b h (on i x.0) in
-        let next = on (on (on i x.0) (branch_read b).span.slice) (strip_slice bar v.rest u e) in
+        let next = on (on (on i x.0) (branch_read b).span.slice) (strip_slice (code "|") v.rest u e) in
         then_holds (IsPart f text) (IsPart f text) q _ (branch_part n c.mode next)
         (λ r w k. closed_part (expression a r) w (record {
           mode = k.mode;

@@ -15,7 +15,7 @@ use Rattle.fancy_lex.proofs.ReadingLemmas.{choose_both}
 use Rattle.fancy_lex.proofs.ReferencePositions.{IfGives}
 use Rattle.fancy_lex.specs.Boundary as boundaries
 use Rattle.fancy_lex.specs.BoundarySteps as boundary_steps
-use Rattle.fancy_lex.specs.Characters.{open_brace, ◌∈◌}
+use Rattle.fancy_lex.specs.Characters.{◌∈◌}
 use Rattle.fancy_lex.specs.Escape.{escape, escape_at, number_escape, call_escape, property, outside}
 use Rattle.fancy_lex.specs.Escape.{lone_escape, lone_outside}
 use Rattle.fancy_lex.specs.EscapeReference.{group_number, numbered_reference, back_reference, subroutine_call as called}
@@ -101,7 +101,7 @@ module _ (f : Flags) (whole : Text) where
   unfolding boundary_steps.boundary boundary_steps.named_boundary
   boundary_mode p negated t =
       after (layout_reading (layout f.ignore_space t)) _ (λ _ u.
-      choose_both Sound (strip open_brace u) _ _ (λ v _.
+      choose_both Sound (strip (code "{") u) _ _ (λ v _.
       after (layout_reading (layout f.ignore_space v)) _ (λ _ w.
       cond_both (boundaries.at_count w) _ _ Sound (λ _. unnamed negated) (λ _. braces v))) (unnamed negated))
     where

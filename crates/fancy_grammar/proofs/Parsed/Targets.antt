@@ -10,7 +10,7 @@ use Rattle.std.proofs.lemmas.Bool.Decides.{nat_tests}
 use Prim.Native.Char.{code}
 use Rattle.fancy_lex.proofs.ReadingLemmas.{choose_both}
 use Rattle.fancy_lex.proofs.ReferencePositions.{IfGives, named_at}
-use Rattle.fancy_lex.specs.Characters.{close_paren, ◌∈◌}
+use Rattle.fancy_lex.specs.Characters.{◌∈◌}
 use Rattle.fancy_lex.specs.Delimited.{name_before, delimited_name, of_name}
 use Rattle.fancy_lex.specs.EscapeReference.{group_number, numbered_reference, back_reference, call_target, written_call}
 use Rattle.fancy_lex.specs.EscapeReference.{delimited_call, numbered_call, subroutine_call, relative_target}
@@ -35,7 +35,7 @@ use Rattle.fancy_grammar.proofs.Parsed.Readers.{quoted_writable}
 -- a call with the name is between delimiters, if the name is no distance and can be written so, or in `(?P>` and `)`
 pub data IsCalledBy (w : Text) : Type 0 where
   between : is_relative w ≡ false → IsNameWritable w → IsCalledBy w
-  in_parens : IsFreeOf close_paren w → IsCalledBy w
+  in_parens : IsFreeOf (code ")") w → IsCalledBy w
 
 abbrev pub IsWord : ℕ → Type 0
 IsWord n = n < 2 ^ 64
@@ -176,13 +176,13 @@ back_reference_read t = named_read (reach_of t) true (delimited_name t)
 
 pub named_reference_read : (t : Text) → IfGives IsReferenceRead (named_reference t)
 unfolding named_reference
-named_reference_read t = named_read (reach_of t) false (name_before close_paren t)
+named_reference_read t = named_read (reach_of t) false (name_before (code ")") t)
 
 -- without amounts there is no level
 pub named_reference_plain : (t : Text) → IfGives (λ (r : Reference). r.level ≡ None) (named_reference t)
 unfolding named_reference reference_by_name written_reference id_reference reference_of
 named_reference_plain t =
-    named_at (reach_of t) IsPlain (written_reference (reach_of t) false) (name_before close_paren t)
+    named_at (reach_of t) IsPlain (written_reference (reach_of t) false) (name_before (code ")") t)
     (λ w r e. by_id (id w) e)
   where
     IsPlain : Reference → Type 0
@@ -268,9 +268,9 @@ subroutine_call_read t =
 
 pub named_call_read : (t : Text) → IfGives IsCall (named_call t)
 unfolding named_call
-named_call_read t = by_name (name_before close_paren t) (before_free close_paren t)
+named_call_read t = by_name (name_before (code ")") t) (before_free (code ")") t)
   where
-    by_name : (o : Option (Text × Text)) → IfNameFree close_paren o →
+    by_name : (o : Option (Text × Text)) → IfNameFree (code ")") o →
         IfGives IsCall (name_reading (reach_of t) (of_name (call_of (reach_of t)) o))
     by_name None h = tt
     by_name (Some (w, u)) h = called_read w (in_parens h)

@@ -12,7 +12,7 @@ use Rattle.std.proofs.lemmas.Option.{same_Some}
 use Rattle.std.proofs.lemmas.Str.{encodes-append}
 use Rattle.std.specs.List.{AllByRecursion}
 use Prim.Native.Char.{code}
-use Rattle.fancy_lex.specs.Characters.{is_among, backslash}
+use Rattle.fancy_lex.specs.Characters.{is_among}
 use Rattle.fancy_lex.specs.Delimited.{delimited_name}
 use Rattle.fancy_lex.specs.Escape.{escape, escape_at, number_escape}
 use Rattle.fancy_lex.specs.EscapeReference as escapes
@@ -134,7 +134,7 @@ not_numeric text position role (relative z) h = refl
 
 -- whether a backslash is just before a text
 byte_before : (w t : Text) (c : ℕ) → encodes (c ∷ t) ≡ c ∷ encodes t → bytes (c ∷ t) ≡ bytes t + 1 →
-    is_after_backslash (w ++ c ∷ t) (position_at (bytes (w ++ c ∷ t)) (reach_of t)) ≡ (c == backslash)
+    is_after_backslash (w ++ c ∷ t) (position_at (bytes (w ++ c ∷ t)) (reach_of t)) ≡ (c == code "\\")
 byte_before w t c e k =
     let text = w ++ c ∷ t in
     let position : position_at (bytes text) (reach_of t) ≡ bytes w + 1 = omega (arith, bytes-append w (c ∷ t), k) in
@@ -146,13 +146,13 @@ byte_before w t c e k =
     let before : bytes w + 1 - 1 ≡ bytes w = omega arith in
     let first : nat_lt 0 (bytes w + 1) ≡ true = lt-ltb 0 (bytes w + 1) (omega arith) in
     ap (is_after_backslash text) position
-    ∙ (ap (λ b. b && (get_or (encodes text) (bytes w + 1 - 1) 0 == backslash)) first
-    ∙ (ap (λ k. get_or (encodes text) k 0 == backslash) before ∙ ap (λ k. k == backslash) byte))
+    ∙ (ap (λ b. b && (get_or (encodes text) (bytes w + 1 - 1) 0 == code "\\")) first
+    ∙ (ap (λ k. get_or (encodes text) k 0 == code "\\") before ∙ ap (λ k. k == code "\\") byte))
 
 after_backslash : (w t : Text) →
-    is_after_backslash (w ++ backslash ∷ t) (position_at (bytes (w ++ backslash ∷ t)) (reach_of t)) ≡ true
+    is_after_backslash (w ++ code "\\" ∷ t) (position_at (bytes (w ++ code "\\" ∷ t)) (reach_of t)) ≡ true
 unfolding lib.Utf8.encode bytes
-after_backslash w t = byte_before w t backslash refl (omega arith)
+after_backslash w t = byte_before w t (code "\\") refl (omega arith)
 
 pub after_letter : (w t : Text) →
     is_after_backslash (w ++ code "k" ∷ t) (position_at (bytes (w ++ code "k" ∷ t)) (reach_of t)) ≡ false
@@ -388,7 +388,7 @@ digits_read_as f p n v h d = rw (number_read n v h d, lt-ltb n (2 ^ 64) h) refl
 module _ (μ : GroupInfo) (h : Context) where
   -- before a text that begins with no digit
   pub digits_atom : (n : ℕ) → μ.numeric_capture_group_references ≡ true → n < 2 ^ 64 → (v : Text) →
-      at_digit v ≡ false → AtomAt μ h (backslash ∷ (decimal n ++ v)) v (leaf (label.backref n h.flags.casei))
+      at_digit v ≡ false → AtomAt μ h (code "\\" ∷ (decimal n ++ v)) v (leaf (label.backref n h.flags.casei))
   digits_atom n e l v y =
       let r = ast_backref (by_number n) h.flags.casei None in
       let t = decimal n ++ v in

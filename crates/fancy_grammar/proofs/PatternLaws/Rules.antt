@@ -5,7 +5,6 @@ use Rattle.std.proofs.Common.{zero, suc, nat_lt}
 use Rattle.std.proofs.lemmas.Bool.{cond-true, cond-false, cond_both, or_parts}
 use Rattle.std.proofs.lemmas.Bool.Decides.{nat_tests}
 use Prim.Native.Char.{code}
-use Rattle.fancy_lex.specs.Characters.{bar, hash}
 use Rattle.fancy_lex.specs.ErrorTable.{quantifier_too_deep}
 use Rattle.fancy_lex.specs.Layout.{is_blank}
 use Rattle.fancy_lex.specs.LayoutSteps.{layout, after_comment_start, is_layout, layout_from, rest}
@@ -56,13 +55,13 @@ pub record Stops (x : Bool) (v : Text) : Type 0 where
 -- an alternation ends here
 pub record Ends (x : Bool) (v : Text) : Type 0 where
   pub stops : Stops x v
-  pub no_bar : strip bar v ≡ None
+  pub no_bar : strip (code "|") v ≡ None
 
 pub not_layout : (x : Bool) (c : ℕ) (t : Text) → after_comment_start (c ∷ t) ≡ None → is_layout x c ≡ false →
     layout x (c ∷ t) ≡ rest (c ∷ t)
 not_layout false c t o e = no_layout (c ∷ t) o
 not_layout true c t o e =
-    let (h, b) = or_parts (c == hash) (is_blank c) e in
+    let (h, b) = or_parts (c == code "#") (is_blank c) e in
     between_step true (c ∷ t) c t refl
     ∙ (cond-false _ _ _ (ap is_some o) ∙ (cond-false _ _ _ h ∙ cond-false _ _ _ b))
 
@@ -253,7 +252,7 @@ reads_branch μ h s v g ys r = record {
 }
 
 pub reads_last : (μ : GroupInfo) (h : Context) (s v : Text) (g : Flags) (x : Tree) → BranchAt μ h s g v x →
-    strip bar v ≡ None → BranchesAt μ h s g v (x ∷ [])
+    strip (code "|") v ≡ None → BranchesAt μ h s g v (x ∷ [])
 reads_last μ h s v g x b e = record { trees = b.tree ∷ []; derives = last b.derives e; become = (b.becomes, tt) }
 
 pub reads_more : (μ : GroupInfo) (h : Context) (s t v : Text) (f g : Flags) (x : Tree) (ys : List Tree) →
@@ -279,6 +278,6 @@ reads_whole μ h s v g ys b = record {
 }
 
 pub reads_only : (μ : GroupInfo) (h : Context) (s v : Text) (g : Flags) (x : Tree) → BranchAt μ h s g v x →
-    strip bar v ≡ None →
+    strip (code "|") v ≡ None →
     WholeAt μ h s g v x
 reads_only μ h s v g x b e = reads_whole μ h s v g (x ∷ []) (reads_last μ h s v g x b e)

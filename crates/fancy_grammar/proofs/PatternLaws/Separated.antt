@@ -2,7 +2,7 @@
 use Rattle.std.proofs.Common.{◌≡◌, ℕ, ◌<◌, ◌^◌, Bool, true, List, ◌∷◌, ◌++◌, codes, decimal, refl, sym}
 use Rattle.std.proofs.Common.{◌∙◌, subst, append_assoc}
 use Rattle.std.proofs.lemmas.Bool.{cond-true, false≢true}
-use Rattle.fancy_lex.specs.Characters.{backslash}
+use Prim.Native.Char.{code}
 use Rattle.fancy_lex.specs.Text.{Text, bytes}
 use Rattle.fancy_lex.specs.declared.flags.Flags.{Flags}
 use Rattle.fancy_grammar.specs.Label as label
@@ -33,7 +33,7 @@ module _ (μ : GroupInfo) where
       let g = settled h.flags t in
       let i = under g h in
       let v = codes "(?#)" ++ u in
-      let s = backslash ∷ decimal n in
+      let s = code "\\" ∷ decimal n in
       let b = begins_reference h.flags.ignore_space (decimal n ++ v) in
       let a = digits_atom μ i n e small v refl in
       let piece = piece_as b.clear.no_layout a.derives

@@ -11,7 +11,7 @@ use Rattle.std.proofs.lemmas.Bool.Decides.{nat_tests}
 use Prim.Native.Char.{code}
 use Rattle.fancy_lex.specs.Boundary as boundaries
 use Rattle.fancy_lex.specs.BoundarySteps as boundary_steps
-use Rattle.fancy_lex.specs.Characters.{open_brace, backslash, ◌∈◌, is_among}
+use Rattle.fancy_lex.specs.Characters.{◌∈◌, is_among}
 use Rattle.fancy_lex.specs.Delimited.{delimited_name, of_name}
 use Rattle.fancy_lex.specs.Escape.{escape, escape_at, number_escape, call_escape, backref_leaf, property}
 use Rattle.fancy_lex.specs.Escape.{outside, lone_escape, lone_anywhere, lone_outside}
@@ -243,7 +243,7 @@ module _ (f : Flags) where
   unfolding boundary_steps.boundary
   suited_boundary p negated t =
       gives_after (IsSuited f) (layout_reading (layout f.ignore_space t)) _
-      (λ _ u. choose_both (IfGives (IsSuited f)) (strip open_brace u) _ _
+      (λ _ u. choose_both (IfGives (IsSuited f)) (strip (code "{") u) _ _
       (λ v _. gives_after (IsSuited f) (layout_reading (layout f.ignore_space v)) _
       (λ _ w. cond_both (boundaries.at_count w) _ _ (IfGives (IsSuited f)) (λ _. unnamed_suits negated)
       (λ _. suited_named p negated v))) (unnamed_suits negated))
@@ -263,7 +263,7 @@ module _ (f : Flags) where
   anywhere_rows c =
       let e = none_met f in
       let k = λ (a : ℕ) (h : is_kept_by_backslash false a ≡ true). kept_suits a (kept_in f.oniguruma_mode a h) in (
-        λ _. delegate_suits f (backslash ∷ c ∷ []) f.casei refl,
+        λ _. delegate_suits f (code "\\" ∷ c ∷ []) f.casei refl,
         (
           λ _. e,
           (

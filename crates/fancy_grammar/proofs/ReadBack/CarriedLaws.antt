@@ -7,7 +7,8 @@ use Rattle.fancy_lex.specs.Boundary.{boundary_of_name, at_count}
 use Rattle.fancy_lex.specs.BoundarySteps.{boundary, named_boundary, name}
 use Rattle.std.specs.Char.{is_ascii_digit}
 use Rattle.std.specs.Option.{option_or}
-use Rattle.fancy_lex.specs.Characters.{backslash, open_bracket, close_bracket, caret, open_brace, ◌∈◌}
+use Prim.Native.Char.{code}
+use Rattle.fancy_lex.specs.Characters.{◌∈◌}
 use Rattle.fancy_lex.specs.Class.{class_from, class, class_start, with_symbol, escape_in_class, is_negated}
 use Rattle.fancy_lex.specs.Escape.{escape, escape_at, backref_leaf, number_escape, call_escape, property, outside}
 use Rattle.fancy_lex.specs.Escape.{is_itself, lone_anywhere, lone_in_class, lone_outside, row_of, lone_escape}
@@ -208,11 +209,11 @@ symbol_left m out out' (d ∷ r) = by_test (d == m) where
 opening_left : (out out' t : Text) → (class_start out t).1 ≡ (class_start out' t).1
 unfolding class_start
 opening_left out out' t =
-    let p = with_symbol caret (out ++ open_bracket ∷ [], t) in
-    let q = with_symbol caret (out' ++ open_bracket ∷ [], t) in
-    symbol_left close_bracket p.0 q.0 p.1
-    ∙ ap (λ r. (with_symbol close_bracket (q.0, r)).1)
-    (symbol_left caret (out ++ open_bracket ∷ []) (out' ++ open_bracket ∷ []) t)
+    let p = with_symbol (code "^") (out ++ code "[" ∷ [], t) in
+    let q = with_symbol (code "^") (out' ++ code "[" ∷ [], t) in
+    symbol_left (code "]") p.0 q.0 p.1
+    ∙ ap (λ r. (with_symbol (code "]") (q.0, r)).1)
+    (symbol_left (code "^") (out ++ code "[" ∷ []) (out' ++ code "[" ∷ []) t)
 
 rest_is : (a w r v : Text) → gives a r ≡ gives w v → r ≡ v
 rest_is a w r v e = cc
@@ -281,19 +282,19 @@ module _ (u i : Bool) where
       let more = items_carry k in
       carry_step k _
       (λ j s.
-      if c == backslash then escape (case_flags u i) true (t ++ s) >=>
+      if c == code "\\" then escape (case_flags u i) true (t ++ s) >=>
       (λ e v. class_from (case_flags u i) j depth (seen' || is_negated e) (out' ++ escape_in_class seen' e) v)
-      else if c == open_bracket then class_from (case_flags u i) j (depth + 1) seen'
+      else if c == code "[" then class_from (case_flags u i) j (depth + 1) seen'
       (class_start out' (t ++ s)).0 (class_start out' (t ++ s)).1
-      else if c == close_bracket
+      else if c == code "]"
       then (if depth == 0 then gives (out' ++ c ∷ []) (t ++ s) else class_from (case_flags u i) j
       (depth - 1) seen' (out' ++ c ∷ []) (t ++ s))
       else class_from (case_flags u i) j depth seen' (out' ++ c ∷ []) (t ++ s))
       _ (λ j s. refl)
-      (carry_if k (c == backslash) _ _ _ _
+      (carry_if k (c == code "\\") _ _ _ _
       (inner_carries k more depth seen seen' out out' t)
-      (carry_if k (c == open_bracket) _ _ _ _ (open_carries k more (depth + 1) seen seen' out out' t)
-      (carry_if k (c == close_bracket) _ _ _ _
+      (carry_if k (c == code "[") _ _ _ _ (open_carries k more (depth + 1) seen seen' out out' t)
+      (carry_if k (c == code "]") _ _ _ _
       (carry_if k (depth == 0) _ _ _ _ (out' ++ c ∷ [], λ j s l. refl)
       (more (depth - 1) seen seen' (out ++ c ∷ []) (out' ++ c ∷ []) t))
       (more depth seen seen' (out ++ c ∷ []) (out' ++ c ∷ []) t))))
@@ -368,7 +369,7 @@ boundary_none : (x : Bool) (p : ℕ) (negated : Bool) (t : Text) → NoDelegate 
 unfolding boundary named_boundary
 boundary_none x p negated t =
     none_then (layout_reading (layout x t)) _
-    (λ _ v. choose_both NoDelegate (strip open_brace v) _ _
+    (λ _ v. choose_both NoDelegate (strip (code "{") v) _ _
     (λ inside _. none_then (layout_reading (layout x inside)) _
     (λ _ w. none_if (at_count w) _ _ tt
     (none_then (name x p (suc _) inside) _

@@ -9,7 +9,7 @@ use Rattle.std.specs.Cmp.{first_so, second_so}
 use Rattle.std.specs.List.{list_all, AllByRecursion}
 use Rattle.std.specs.Str.{all_scalars, bytes_eq}
 use Prim.Native.Char.{code}
-use Rattle.fancy_lex.specs.Characters.{caret, ◌∈◌}
+use Rattle.fancy_lex.specs.Characters.{◌∈◌}
 use Rattle.fancy_lex.specs.Class.{class_start, is_plain_in_class, byte_text, upper_hex_digit}
 use Rattle.fancy_lex.specs.Escape.{escape, escape_at, number_escape, property, lone_escape}
 use Rattle.fancy_lex.specs.Escaped.{Escape, literal, literal_bytes, delegate}
@@ -166,7 +166,7 @@ lowercase_ok (c ∷ w) h = (lower_brace c h.0, (lower_scalar c h.1.0, lowercase_
 
 pub turn_ok : (b : Bool) (w : Text) → IsName w → IsName (turn b w).1
 turn_ok b [] h = tt
-turn_ok b (c ∷ w) h = by_test (c == caret)
+turn_ok b (c ∷ w) h = by_test (c == code "^")
   where
     by_test : (x : Bool) → IsName (if◌then◌else◌ {A = Bool × Text} x (not b, w) (b, c ∷ w)).1
     by_test true = h.1.1

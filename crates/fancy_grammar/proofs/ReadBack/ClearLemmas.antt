@@ -6,7 +6,7 @@ use Rattle.std.proofs.Math.Bool.{or-false}
 use Rattle.std.proofs.lemmas.Bool.{or_parts, or_cases, cond_both, both_ways, false≢true, false_from_ne_true}
 use Rattle.std.proofs.lemmas.Option.{same_Some}
 use Prim.Native.Char.{code}
-use Rattle.fancy_lex.specs.Characters.{is_among, ◌∈◌, bar}
+use Rattle.fancy_lex.specs.Characters.{is_among, ◌∈◌}
 use Rattle.fancy_lex.specs.Escape.{escape, escape_at, lone_escape}
 use Rattle.fancy_lex.specs.Escaped as escaped
 use Rattle.fancy_lex.specs.LayoutSteps.{layout, after_comment_start, rest}
@@ -82,7 +82,7 @@ pub record Stops (v : Text) : Type 0 where
 -- an alternation ends here
 pub record Ends (v : Text) : Type 0 where
   pub stops : Stops v
-  pub no_bar : strip bar v ≡ None
+  pub no_bar : strip (code "|") v ≡ None
 
 pub clear_close : (v : Text) → Clear (code ")" ∷ v)
 clear_close v = record { no_comment = refl; no_quantifier = refl }

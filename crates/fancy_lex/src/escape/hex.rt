@@ -1,7 +1,7 @@
 //! Hex codes after `\x`, `\u` and `\U`.
 ghost use Rattle.std.specs.Prelude.{◌≡◌, ℕ, ◌+◌, ◌*◌, ◌-◌, ◌<◌, ◌≤◌, length, chars, IfSome, IfErr, IfOk, option_map};
 ghost use Rattle.std.specs.Prelude.{false, true};
-ghost use Rattle.fancy_lex.specs.Characters.{close_brace};
+ghost use Rattle.fancy_lex.specs.Characters.{code};
 ghost use Rattle.fancy_lex.specs.EscapeViews.{escape_of};
 ghost use Rattle.fancy_lex.specs.ErrorViews.{LiesWithin};
 ghost use Rattle.fancy_lex.specs.ErrorTable.{code_of_no_character};
@@ -45,7 +45,7 @@ fn fixed_digits(text: &str, width: u32) -> Option<(u32, &str)>
 
 /// Reads the closing brace after some digits.
 fn closing_brace(text: &str, value: u32, reach: Reach) -> Result<(u32, &str), ReadError>
-    ensures value { Reads (λ v. v) result (spec.closing_brace reach true value (strip close_brace (chars text.now))) }
+    ensures value { Reads (λ v. v) result (spec.closing_brace reach true value (strip (code "}") (chars text.now))) }
     ensures shorter { IfOk result (λ p. length p.1.now < length text.now) }
 {
     if let Some(rest) = after(text, '}') {

@@ -1,6 +1,6 @@
 //! The start of an atom: a leaf, or the opening of a group.
 ghost use Rattle.std.specs.Prelude.{◌≡◌, false, ◌+◌, ◌<◌, ◌≤◌, ◌^◌, ◌∷◌, [], length, chars, string_bytes, IfOk};
-ghost use Rattle.fancy_lex.specs.Characters.{open_paren};
+ghost use Rattle.fancy_lex.specs.Characters.{code};
 ghost use Rattle.fancy_lex.specs.Class as classes;
 ghost use Rattle.fancy_lex.specs.Escape as escapes;
 ghost use Rattle.fancy_lex.specs.EscapeViews.{escape_of};
@@ -58,7 +58,7 @@ fn open_group<'a>(
     depth: usize,
 ) -> Result<AtomStart<'a>, ReadError>
     requires depth { depth < max_depth }
-    requires front { chars current.old.rest.now ≡ open_paren ∷ chars rest.now }
+    requires front { chars current.old.rest.now ≡ code "(" ∷ chars rest.now }
     requires shorter { length rest.now < length current.old.rest.now }
     ensures value { Sees result (state current.new) (spec.atom_start depth (state current.old)) }
     ensures within { IfOk result (λ _. length current.new.rest.now < length current.old.rest.now) }

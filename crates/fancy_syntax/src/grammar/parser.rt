@@ -2,7 +2,7 @@
 ghost use Rattle.std.specs.Prelude.{◌≡◌, ◌∷◌, [], ◌++◌, ◌<◌, ◌≤◌, true, false, length, chars, vec_len, vec_capacity};
 ghost use Rattle.std.specs.Prelude.{Some, None, IfOk, OnOk, MatchOption, MatchResult, if◌then◌else◌};
 ghost use Rattle.fancy_grammar.specs.Tree.{Tree};
-ghost use Rattle.fancy_lex.specs.Characters.{bar};
+ghost use Rattle.fancy_lex.specs.Characters.{code};
 ghost use Rattle.fancy_lex.specs.Text.{reach_of, strip};
 ghost use Rattle.fancy_grammar.specs.Depth.{max_depth};
 ghost use Rattle.fancy_grammar.specs.Errors.{IsErrorAmong};
@@ -144,7 +144,7 @@ impl<'a> Parser<'a> {
     ) -> Result<(), ReadError>
         requires pieces { self.old.frame.pieces ≤ vec_len self.old.trees }
         requires last { ends (chars self.old.current.rest.now) ≡ true }
-        requires bar { strip bar (chars self.old.current.rest.now) ≡ Some (chars rest.now) }
+        requires bar { strip (code "|") (chars self.old.current.rest.now) ≡ Some (chars rest.now) }
         ensures reading { (start : states.State) (none l : Log) → HasRead start none self.old l →
             MatchResult result
             (λ _. HasReadTo start none self.new (λ m. S.records spans.old l → S.records spans.new m))
@@ -171,7 +171,7 @@ impl<'a> Parser<'a> {
         requires branches { self.old.frame.branches ≤ self.old.frame.pieces }
         requires pieces { self.old.frame.pieces ≤ vec_len self.old.trees }
         requires last { ends (chars self.old.current.rest.now) ≡ true }
-        requires no_bar { strip bar (chars self.old.current.rest.now) ≡ None }
+        requires no_bar { strip (code "|") (chars self.old.current.rest.now) ≡ None }
         ensures reading { (start : states.State) (none l : Log) → HasRead start none self.old l →
             MatchResult result (λ found. MatchOption found
             (HasReadTo start none self.new (λ m. S.records spans.old l → S.records spans.new m))

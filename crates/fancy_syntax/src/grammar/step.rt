@@ -1,7 +1,7 @@
 //! The steps of the loop that read a piece, or continue with the next part of a group.
 ghost use Rattle.std.specs.Prelude.{◌≡◌, ◌+◌, ◌<◌, ◌≤◌, true, false, List, [], ◌∷◌, ◌++◌, length, chars, vec_len, IfOk, OnOk};
 ghost use Rattle.std.specs.Prelude.{MatchResult, None};
-ghost use Rattle.fancy_lex.specs.Characters.{bar};
+ghost use Rattle.fancy_lex.specs.Characters.{code};
 ghost use Rattle.fancy_lex.specs.Text.{bytes, reach_of, strip};
 ghost use Rattle.fancy_grammar.specs.State.{ends};
 ghost use Rattle.fancy_grammar.specs.Depth.{max_depth};
@@ -197,7 +197,7 @@ pub(crate) fn close<'a, S: Spanning>(
 ) -> Result<Step<'a>, ReadError>
     requires depth { depth < max_depth }
     requires last { ends (chars current.old.rest.now) ≡ true }
-    requires no_bar { strip bar (chars current.old.rest.now) ≡ None }
+    requires no_bar { strip (code "|") (chars current.old.rest.now) ≡ None }
     ensures value { (s t : states.State) (l m n : Log) → start.left ≡ bytes s.rest → start.flags ≡ s.flags →
         OpensPart depth s l (part_of part.entry.open_group) t m →
         Part (part_of part.entry.open_group) (depth + 1) t (states.done (view part.entry.inner) (state current.old)) m n →
@@ -242,7 +242,7 @@ fn end_part<S: Spanning>(
     spans: &mut S,
 ) -> Result<Expr, ReadError>
     requires last { ends (chars current.old.rest.now) ≡ true }
-    requires no_bar { strip bar (chars current.old.rest.now) ≡ None }
+    requires no_bar { strip (code "|") (chars current.old.rest.now) ≡ None }
     ensures value { GivesTree result (state current.new)
         (ended_part (part_of open_group.entry) (view inner) (state current.old)) }
     ensures shorter { IfOk result (λ _. length current.new.rest.now < length current.old.rest.now) }
@@ -261,7 +261,7 @@ fn end_part<S: Spanning>(
 /// Reads the closing parenthesis of the open part, whatever its tree is. The errors are those of `end_part`.
 fn read_end(alloc: Global, open_group: &OpenGroup, current: &mut State) -> Result<(), ReadError>
     requires last { ends (chars current.old.rest.now) ≡ true }
-    requires no_bar { strip bar (chars current.old.rest.now) ≡ None }
+    requires no_bar { strip (code "|") (chars current.old.rest.now) ≡ None }
     ensures value { (r : Tree) → MatchResult result
         (λ _. ended_part (part_of open_group.now) r (state current.old) ≡
         states.done (machine.node_of_part (part_of open_group.now) r) (state current.new))
@@ -373,7 +373,7 @@ const NO_BODY: &str =
 /// Reads the closing parenthesis, where neither a piece nor a bar follows. UnclosedOpenParen at the end of the text.
 fn close_paren(current: &mut State) -> Result<(), ReadError>
     requires last { ends (chars current.old.rest.now) ≡ true }
-    requires no_bar { strip bar (chars current.old.rest.now) ≡ None }
+    requires no_bar { strip (code "|") (chars current.old.rest.now) ≡ None }
     ensures value { (r : Tree) → MatchResult result (λ _. spec.closed r (state current.old) ≡
         states.done r (state current.new)) (λ e. IsErrorAmong e (λ o. spec.closed r (state current.old) ≡ o)) }
     ensures shorter { IfOk result (λ _. length current.new.rest.now < length current.old.rest.now) }

@@ -1,6 +1,6 @@
 //! Whether a Delegate's text is one whole class or one whole class escape.
 ghost use Rattle.std.specs.Prelude.{◌≡◌, ◌∷◌, ◌<◌, [], chars, is_some, false, IfOk};
-ghost use Rattle.fancy_lex.specs.Characters.{open_bracket, backslash};
+ghost use Rattle.fancy_lex.specs.Characters.{code};
 ghost use Rattle.fancy_lex.specs.declared.error.ReadError.TheVariants.{OutOfMemory};
 ghost use Rattle.fancy_lex.specs.EscapeViews.{escape_of};
 ghost use Rattle.fancy_grammar.specs.AtomStart.{leaf_node};
@@ -29,7 +29,7 @@ pub(crate) fn is_whole(alloc: Global, text: &str) -> Result<bool, AllocError>
 
 /// Whether a bracket and the text are one whole class.
 fn is_whole_class(alloc: Global, text: &str) -> Result<bool, AllocError>
-    ensures { IfOk result (λ b. b ≡ is_some (class_of (unicode_flags false) (open_bracket ∷ chars text.now))) }
+    ensures { IfOk result (λ b. b ≡ is_some (class_of (unicode_flags false) (code "[" ∷ chars text.now))) }
 {
     match class(alloc, text, Flags::from_bits(0)) {
         Ok((_, rest)) => Ok(next(rest).is_none()),
@@ -39,7 +39,7 @@ fn is_whole_class(alloc: Global, text: &str) -> Result<bool, AllocError>
 
 /// Whether a backslash and the text are one whole class escape.
 fn is_whole_escape(alloc: Global, text: &str) -> Result<bool, AllocError>
-    ensures { IfOk result (λ b. b ≡ is_some (class_of (unicode_flags false) (backslash ∷ chars text.now))) }
+    ensures { IfOk result (λ b. b ≡ is_some (class_of (unicode_flags false) (code "\\" ∷ chars text.now))) }
 {
     match escape(alloc, text, Flags::from_bits(0), false) {
         Ok((leaf, rest)) => Ok(is_class(leaf) && next(rest).is_none()),

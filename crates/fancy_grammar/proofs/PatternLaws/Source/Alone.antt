@@ -3,7 +3,7 @@ use Rattle.std.proofs.Common.{◌≡◌, Bool, true, false, not, ◌&&◌, [], �
 use Rattle.std.proofs.Math.Bool.{and-false}
 use Rattle.std.proofs.lemmas.Bool.{cond-false, or_parts}
 use Rattle.std.specs.Str.{bytes_eq}
-use Rattle.fancy_lex.specs.Characters.{backslash, open_bracket}
+use Prim.Native.Char.{code}
 use Rattle.fancy_lex.specs.Class.{class, OuterClass}
 use Rattle.fancy_lex.specs.Escape.{escape}
 use Rattle.fancy_lex.specs.Escaped as leaves
@@ -47,7 +47,7 @@ module _ (s : Text) (h : is_hex_class s ≡ false) where
       sym (ap (λ g. g.casei) e) ∙ ap (λ (n : Needs). fixed_or f.casei n.casei) (cond-false _ _ _ h)
 
   -- a class whose source, by itself, is read as the class
-  pub class_source : (f : Flags) (t : Text) (casei : Bool) → source f.unicode s ≡ open_bracket ∷ t →
+  pub class_source : (f : Flags) (t : Text) (casei : Bool) → source f.unicode s ≡ code "[" ∷ t →
       ((g : Flags) → IsLike f g → class g t ≡ gives s []) → HasSource f s casei
   class_source f t casei e c g like none =
       let text = source_is g casei ∙ (ap (λ u. source u s) (ap (λ k. k.unicode) like) ∙ e) in
@@ -55,7 +55,7 @@ module _ (s : Text) (h : is_hex_class s ≡ false) where
       (a_class (same_case g casei none) (λ v. class_follows g t s v (c g like)))
 
   -- an escape that is read as the Delegate, and is its own source
-  pub escape_source : (f : Flags) (t : Text) (casei : Bool) → source f.unicode s ≡ backslash ∷ t →
+  pub escape_source : (f : Flags) (t : Text) (casei : Bool) → source f.unicode s ≡ code "\\" ∷ t →
       ((g : Flags) → IsLike f g → (v : Text) → escape g false (t ++ v) ≡ gives (leaves.delegate s g.casei) v) →
       HasSource f s casei
   escape_source f t casei e q g like none =

@@ -3,7 +3,7 @@ use Rattle.std.proofs.Common.{◌≡◌, None, ℕ, Bool, true, false, [], ◌�
 use Rattle.std.proofs.lemmas.Bool.{cond_both}
 use Rattle.std.proofs.lemmas.Bool.Decides.{nat_tests}
 use Prim.Native.Char.{code}
-use Rattle.fancy_lex.specs.Characters.{◌∈◌, backslash}
+use Rattle.fancy_lex.specs.Characters.{◌∈◌}
 use Rattle.fancy_lex.specs.Class.{escape_in_class, is_negated, needs_backslash_in_class, upper_hex_digit}
 use Rattle.fancy_lex.specs.Escape.{escape, escape_at, lone_escape}
 use Rattle.fancy_lex.specs.Escaped.{Escape}
@@ -36,7 +36,7 @@ no_letter c h =
 pub record IsKeptEscape (c : ℕ) : Type 0 where
   pub no_row : c ∈ "pPxt" ≡ false
   pub reads : (f : Flags) (v : Text) → (e : Escape) × (escape f true (c ∷ v) ≡ gives e v)
-      × (escape_in_class false e ≡ backslash ∷ c ∷ []) × (is_negated e ≡ false)
+      × (escape_in_class false e ≡ code "\\" ∷ c ∷ []) × (is_negated e ≡ false)
 
 kept_escapes : Each IsKeptEscape (codes "dDsSwW\\.+*?()|[]{}^$#&-~")
 unfolding escape_at lone_escape
@@ -68,7 +68,7 @@ kept_escapes =
   where
     letter : (c : ℕ) → c ∈ "pPxt" ≡ false →
         ((f : Flags) (v : Text) → (e : Escape) × (escape f true (c ∷ v) ≡ gives e v)
-        × (escape_in_class false e ≡ backslash ∷ c ∷ []) × (is_negated e ≡ false)) → IsKeptEscape c
+        × (escape_in_class false e ≡ code "\\" ∷ c ∷ []) × (is_negated e ≡ false)) → IsKeptEscape c
     letter c n r = record { no_row = n; reads = r }
 
 pub kept_escape : (c : ℕ) → c ∈ "dDsSwW\\.+*?()|[]{}^$#&-~" ≡ true → IsKeptEscape c
@@ -83,7 +83,7 @@ unseen_plain c h = (grind (arith, nat_tests), grind (arith, nat_tests))
 -- an escape that the class reads as the character, and writes as the character itself
 pub record IsUnseenEscape (c : ℕ) (t : Text) : Type 0 where
   pub after : Text
-  pub is : t ≡ backslash ∷ after
+  pub is : t ≡ code "\\" ∷ after
   pub reads : (f : Flags) → (casei : Bool) × EscapesIn true f casei c after
 
 pub unseen_escape : (c : ℕ) → is_unseen c ≡ true → IsUnseenEscape c (by_letter_or c (coded c))

@@ -5,7 +5,7 @@ use Rattle.std.proofs.lemmas.Bool.{cond_both}
 use Rattle.std.proofs.lemmas.Bool.Decides.{nat_tests}
 use Rattle.std.specs.Char.{is_ascii_digit}
 use Prim.Native.Char.{code}
-use Rattle.fancy_lex.specs.Characters.{◌∈◌, backslash, open_brace, close_brace}
+use Rattle.fancy_lex.specs.Characters.{◌∈◌}
 use Rattle.fancy_lex.specs.Class.{joint, escape_in_class, is_negated, needs_backslash_in_class, upper_hex_digit}
 use Rattle.fancy_lex.specs.Class.{byte_text}
 use Rattle.fancy_lex.specs.Escape.{escape, escape_at, number_escape, property, lone_escape, lone_anywhere}
@@ -100,14 +100,14 @@ digit_on u σ d t h =
 byte_read : (σ : Bool) (v : ℕ) → 0x80 ≤ v → v ≤ 0xFF → Reads false σ σ (byte_text v) (byte_text v)
 byte_read σ v l h =
     single_read false σ (byte_text v) (code "x" ∷ upper_hex_digit (v / 16) ∷ upper_hex_digit (v % 16) ∷ [])
-    (λ z. part_on false σ backslash (code "x" ∷ upper_hex_digit (v / 16) ∷ upper_hex_digit (v % 16) ∷ z) (codes "\\x")
+    (λ z. part_on false σ (code "\\") (code "x" ∷ upper_hex_digit (v / 16) ∷ upper_hex_digit (v % 16) ∷ z) (codes "\\x")
     (upper_hex_digit (v / 16) ∷ upper_hex_digit (v % 16) ∷ z) (at σ _)
     ∙ ap (λ s. codes "\\x" ++ s)
     (digit_on false σ (v / 16) (upper_hex_digit (v % 16) ∷ z) (omega arith)
     ∙ ap (λ s. upper_hex_digit (v / 16) ∷ s) (digit_on false σ (v % 16) z (omega arith))))
     (λ g like s. (leaves.literal_bytes v, reads_byte true g v s like l h, refl, refl))
   where
-    at : (σ : Bool) (t : Text) → part_at false σ backslash (code "x" ∷ t) ≡ part (codes "\\x") t
+    at : (σ : Bool) (t : Text) → part_at false σ (code "\\") (code "x" ∷ t) ≡ part (codes "\\x") t
     at true t = refl
     at false t = refl
 
@@ -117,7 +117,7 @@ byte_in u b σ v none l h below =
     subst (λ u. InClass u b σ false (escape_in_class b (leaves.literal_bytes v))) (sym none)
     (without_joint false b σ (byte_text v)
     (in_by false b σ false (byte_text v) (byte_text v) below (byte_read σ v l h) (front_escape b (code "x") _ refl)
-    (opens_by backslash _ refl refl)))
+    (opens_by (code "\\") _ refl refl)))
 
 -- ---- the hex classes
 
@@ -154,15 +154,15 @@ abbrev IsCutFree : Option (Text × Text) → Type 0
 IsCutFree (Some p) = HasNoBrace p.0
 IsCutFree None = Unit {0}
 
-cut_more : (c : ℕ) (o : Option (Text × Text)) → (c == close_brace) ≡ false → IsCutFree o →
+cut_more : (c : ℕ) (o : Option (Text × Text)) → (c == code "}") ≡ false → IsCutFree o →
     IsCutFree (option_map (λ p. (c ∷ p.0, p.1)) o)
 cut_more c (Some p) e h = (e, h)
 cut_more c None e h = tt
 
-cut_free : (t : Text) → IsCutFree (cut_at close_brace t)
+cut_free : (t : Text) → IsCutFree (cut_at (code "}") t)
 cut_free [] = tt
 cut_free (c ∷ t) =
-    cond_both (c == close_brace) _ _ IsCutFree (λ e. tt) (λ e. cut_more c (cut_at close_brace t) e (cut_free t))
+    cond_both (c == code "}") _ _ IsCutFree (λ e. tt) (λ e. cut_more c (cut_at (code "}") t) e (cut_free t))
 
 abbrev pub IsNameFree : Option (PropertyName × Text) → Type 0
 IsNameFree (Some p) = IsFree p.0
@@ -176,7 +176,7 @@ pub name_free : (t : Text) → IsNameFree (name_at t)
 unfolding name_at
 name_free [] = tt
 name_free (c ∷ t) =
-    cond_both (c == open_brace) _ _ IsNameFree (λ e. braced_free (cut_at close_brace t) (cut_free t)) (λ e. e)
+    cond_both (c == code "{") _ _ IsNameFree (λ e. braced_free (cut_at (code "}") t) (cut_free t)) (λ e. e)
 
 -- ---- escapes in a class
 
@@ -238,9 +238,9 @@ module _ (f : Flags) (b σ : Bool) (below : IsBelow σ b) where
       from None h = tt
       from (Some q) h = property_in f.unicode b σ (c ∈ "P") q.0 below h
 
-  letter_item : (c : ℕ) → c ∈ "dDsSwW" ≡ true → Item (leaves.delegate (backslash ∷ c ∷ []) f.casei)
+  letter_item : (c : ℕ) → c ∈ "dDsSwW" ≡ true → Item (leaves.delegate (code "\\" ∷ c ∷ []) f.casei)
   letter_item c h =
-      unjoined f.unicode b σ (backslash ∷ c ∷ []) refl
+      unjoined f.unicode b σ (code "\\" ∷ c ∷ []) refl
       (kept_in f.unicode b σ _ c below (letter_kept c h) (letter_other c h))
 
   literal_item : (c : ℕ) → Item (leaves.literal c false)

@@ -2,7 +2,7 @@
 use Rattle.std.proofs.Common.{◌≡◌, ℕ, Bool, true, false, ◌&&◌, ◌||◌, ◌==◌, [], ◌∷◌, ◌++◌, codes, None}
 use Rattle.std.proofs.Common.{refl, ap, ◌∙◌, sym, subst, append_assoc}
 use Prim.Native.Char.{code}
-use Rattle.fancy_lex.specs.Characters.{◌∈◌, backslash}
+use Rattle.fancy_lex.specs.Characters.{◌∈◌}
 use Rattle.fancy_lex.specs.Class.{joint}
 use Rattle.fancy_lex.specs.Escape.{escape}
 use Rattle.fancy_lex.specs.Escaped as leaves
@@ -68,7 +68,7 @@ unjoined u b σ t h i = subst (InClass u b σ (is_negated_set t)) (sym (none b))
 
 -- ---- how a text begins
 
-pub front_escape : (b : Bool) (d : ℕ) (r : Text) → (d == code "p") ≡ false → Front b (backslash ∷ d ∷ r)
+pub front_escape : (b : Bool) (d : ℕ) (r : Text) → (d == code "p") ≡ false → Front b (code "\\" ∷ d ∷ r)
 front_escape b d r h = record {
   property = λ z. record { space = rw h refl; control = rw h refl };
   set = λ e z. record { space = refl; control = refl };
@@ -161,7 +161,7 @@ pub rowless_in : (u b σ negated : Bool) (w : Text) → IsBelow σ b → IsRowle
 rowless_in u b σ negated w below h =
     unjoined u b σ (property_written negated w) (no_set negated)
     (in_by u b σ _ (property_written negated w) _ below (rowless_read u σ negated w h) (front negated w h.lower)
-    (opens_by backslash _ refl refl))
+    (opens_by (code "\\") _ refl refl))
   where
     no_set : (negated : Bool) → is_negated_set (property_written negated w) ≡ false
     no_set true = refl
@@ -182,17 +182,17 @@ pub short_in : (u b σ negated : Bool) (c : ℕ) → IsBelow σ b → (c == code
 short_in u b σ true c below h =
     unjoined u b σ (codes "\\P" ++ c ∷ []) refl
     (in_by u b σ _ (codes "\\P" ++ c ∷ []) _ below (short_read u σ true c h)
-    (front_escape b (code "P") _ refl) (opens_by backslash _ refl refl))
+    (front_escape b (code "P") _ refl) (opens_by (code "\\") _ refl refl))
 short_in u b σ false c below h =
     unjoined u b σ (codes "\\p" ++ c ∷ []) refl
     (in_by u b σ _ (codes "\\p" ++ c ∷ []) _ below (short_read u σ false c h)
-    (front_short b c [] h) (opens_by backslash _ refl refl))
+    (front_short b c [] h) (opens_by (code "\\") _ refl refl))
 
 pub kept_in : (u b σ n : Bool) (c : ℕ) → IsBelow σ b → c ∈ "dDsSwW\\.+*?()|[]{}^$#&-~" ≡ true →
-    (c == code "p") ≡ false → InClass u b σ n (backslash ∷ c ∷ [])
+    (c == code "p") ≡ false → InClass u b σ n (code "\\" ∷ c ∷ [])
 kept_in u b σ n c below h k =
-    in_by u b σ n (backslash ∷ c ∷ []) _ below (kept_read u σ c h) (front_escape b c [] k)
-    (opens_by backslash _ refl refl)
+    in_by u b σ n (code "\\" ∷ c ∷ []) _ below (kept_read u σ c h) (front_escape b c [] k)
+    (opens_by (code "\\") _ refl refl)
 
 -- ---- sets of the table
 
@@ -211,12 +211,12 @@ in_set u b σ true items source below i front opens h =
 -- items that are replaced by one escape
 pub row_read : (u σ negated : Bool) (c : ℕ) (t name : Text) → HasNoBrace name →
     ((z : Text) → part_at u σ c (t ++ z)
-    ≡ part (backslash ∷ negated_letter negated ∷ code "{" ∷ (name ++ codes "}")) z) →
+    ≡ part (code "\\" ∷ negated_letter negated ∷ code "{" ∷ (name ++ codes "}")) z) →
     property_text u true (prop negated (braced name)) ≡ c ∷ t → is_negated_set (c ∷ t) ≡ false →
-    Reads u σ σ (c ∷ t) (backslash ∷ negated_letter negated ∷ code "{" ∷ (name ++ codes "}"))
+    Reads u σ σ (c ∷ t) (code "\\" ∷ negated_letter negated ∷ code "{" ∷ (name ++ codes "}"))
 row_read u σ negated c t name free at is n =
     single_read u σ (c ∷ t) (negated_letter negated ∷ code "{" ∷ (name ++ codes "}"))
-    (λ z. part_on u σ c (t ++ z) (backslash ∷ negated_letter negated ∷ code "{" ∷ (name ++ codes "}")) z (at z))
+    (λ z. part_on u σ c (t ++ z) (code "\\" ∷ negated_letter negated ∷ code "{" ∷ (name ++ codes "}")) z (at z))
     (λ g like v. (
       leaves.delegate (c ∷ t) g.casei,
       ap (λ q. escape g true (negated_letter negated ∷ code "{" ∷ q)) (append_assoc name (codes "}") v)

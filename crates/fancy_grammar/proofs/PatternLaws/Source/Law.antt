@@ -10,7 +10,7 @@ use Rattle.std.specs.Str.{bytes_eq}
 use Prim.Native.Char.{code}
 use Rattle.fancy_lex.specs.Boundary as boundaries
 use Rattle.fancy_lex.specs.BoundarySteps as boundary_steps
-use Rattle.fancy_lex.specs.Characters.{◌∈◌, backslash, caret, open_brace}
+use Rattle.fancy_lex.specs.Characters.{◌∈◌}
 use Rattle.fancy_lex.specs.Class.{class, OuterClass, class_items}
 use Rattle.fancy_lex.specs.Escape.{escape, escape_at, number_escape, call_escape, backref_leaf, property, outside}
 use Rattle.fancy_lex.specs.Escape.{lone_escape, lone_anywhere}
@@ -65,7 +65,7 @@ like_unicode f g like = ap (λ k. k.unicode) like
 -- ---- escapes of one letter
 
 abbrev ReadsLetter : ℕ → Type 0
-ReadsLetter c = (g : Flags) (v : Text) → escape g false (c ∷ v) ≡ gives (leaves.delegate (backslash ∷ c ∷ []) g.casei) v
+ReadsLetter c = (g : Flags) (v : Text) → escape g false (c ∷ v) ≡ gives (leaves.delegate (code "\\" ∷ c ∷ []) g.casei) v
 
 reads_letter : Each ReadsLetter (codes "dDsSwW")
 unfolding escape_at lone_escape
@@ -75,9 +75,9 @@ reads_letter =
     no_more)))))
 
 -- `\d`, `\D`, `\s`, `\S`, `\w`, `\W`
-letters_have_source : (f : Flags) (c : ℕ) (casei : Bool) → c ∈ "dDsSwW" ≡ true → HasSource f (backslash ∷ c ∷ []) casei
+letters_have_source : (f : Flags) (c : ℕ) (casei : Bool) → c ∈ "dDsSwW" ≡ true → HasSource f (code "\\" ∷ c ∷ []) casei
 letters_have_source f c casei h =
-    escape_source (backslash ∷ c ∷ []) refl f (c ∷ []) casei
+    escape_source (code "\\" ∷ c ∷ []) refl f (c ∷ []) casei
     (alone f.unicode false _ _ (kept_read f.unicode false c (letter_kept c h)))
     (λ g like v. each_among ReadsLetter (codes "dDsSwW") c reads_letter h g v)
 
@@ -202,7 +202,7 @@ set_has_source f u true casei items s same i h k =
 rowless_has_source : (f : Flags) (negated : Bool) (w : Text) (casei : Bool) → IsRowless w →
     HasSource f (property_written negated w) casei
 rowless_has_source f negated w casei h =
-    escape_source (property_written negated w) (no_hex negated) f (property_body negated (strip caret w) w) casei
+    escape_source (property_written negated w) (no_hex negated) f (property_body negated (strip (code "^") w) w) casei
     (alone f.unicode false _ _ (rowless_read f.unicode false negated w h))
     (λ g like v. rowless_reads g false negated w v h)
   where
@@ -222,7 +222,7 @@ short_has_source f false c casei h =
 -- what the escape of a row is written as
 table_has_source : (f : Flags) (negated τ : Bool) (name s : Text) (casei : Bool) → f.unicode ≡ true → HasNoBrace name →
     property_text true false (prop negated (braced name)) ≡ s → is_hex_class s ≡ false →
-    Reads true false τ s (backslash ∷ negated_letter negated ∷ code "{" ∷ (name ++ codes "}")) → HasSource f s casei
+    Reads true false τ s (code "\\" ∷ negated_letter negated ∷ code "{" ∷ (name ++ codes "}")) → HasSource f s casei
 table_has_source f negated τ name s casei same free is hex r =
     escape_source s hex f (negated_letter negated ∷ code "{" ∷ (name ++ codes "}")) casei
     (alone_under f true τ s _ same r)
@@ -395,7 +395,7 @@ module _ (f g : Flags) (same : f.unicode ≡ g.unicode) where
   unfolding boundary_steps.boundary boundary_steps.named_boundary
   boundary_sourced p negated t =
       sourced_then (layout_reading (layout g.ignore_space t)) _
-      (λ _ u. choose_both SourcedRead (strip open_brace u) _ _
+      (λ _ u. choose_both SourcedRead (strip (code "{") u) _ _
       (λ v _. sourced_then (layout_reading (layout g.ignore_space v)) _
       (λ _ w. cond_both (boundaries.at_count w) _ _ SourcedRead (λ _. tt) (λ _. braces v))) tt)
     where

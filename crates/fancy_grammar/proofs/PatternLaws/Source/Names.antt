@@ -4,7 +4,6 @@ use Rattle.std.proofs.Common.{refl, ap, ◌∙◌, sym, subst, append_assoc, if�
 use Rattle.std.proofs.lemmas.Bool.Decides.{nat_tests}
 use Rattle.std.specs.Char.{to_ascii_lowercase}
 use Prim.Native.Char.{code}
-use Rattle.fancy_lex.specs.Characters.{backslash, caret}
 use Rattle.fancy_lex.specs.Class.{is_negated}
 use Rattle.fancy_lex.specs.Escape.{escape}
 use Rattle.fancy_lex.specs.Escaped as leaves
@@ -29,7 +28,7 @@ abbrev pub property_written : Bool → Text → Text
 property_written negated w = letter negated ++ (codes "{" ++ (w ++ codes "}"))
 
 pub property_before : (negated : Bool) (w t : Text) →
-    property_written negated w ++ t ≡ backslash ∷ negated_letter negated ∷ code "{" ∷ (w ++ code "}" ∷ t)
+    property_written negated w ++ t ≡ code "\\" ∷ negated_letter negated ∷ code "{" ∷ (w ++ code "}" ∷ t)
 property_before true w t = ap (λ z. codes "\\P{" ++ z) (append_assoc w (codes "}") t)
 property_before false w t = ap (λ z. codes "\\p{" ++ z) (append_assoc w (codes "}") t)
 
@@ -77,7 +76,7 @@ property_body negated None w = negated_letter negated ∷ code "{" ∷ (w ++ cod
 
 named_is : (negated : Bool) (o : Option Text) (w : Text) →
     choose o (λ t. letter (not negated) ++ (codes "{^^" ++ t)) (letter negated ++ (codes "{" ++ w)) ++ codes "}"
-    ≡ backslash ∷ property_body negated o w
+    ≡ code "\\" ∷ property_body negated o w
 named_is true (Some t) w = refl
 named_is true None w = refl
 named_is false (Some t) w = refl
@@ -91,9 +90,9 @@ stripped m (c ∷ w) t e = at (c == m) refl e
     at true k e = let same : w ≡ t = cc in ap (λ d. d ∷ w) (eqb-true c m k) ∙ ap (λ z. m ∷ z) same
     at false k e = absurd cc
 
-unturned : (negated : Bool) (w : Text) → strip caret w ≡ None → turn negated w ≡ (negated, w)
+unturned : (negated : Bool) (w : Text) → strip (code "^") w ≡ None → turn negated w ≡ (negated, w)
 unturned negated [] e = refl
-unturned negated (c ∷ w) e = at (c == caret) e
+unturned negated (c ∷ w) e = at (c == code "^") e
   where
     at : (b : Bool) → (if b then Some w else None) ≡ None →
         if◌then◌else◌ {A = Bool × Text} b (not negated, w) (negated, c ∷ w) ≡ (negated, c ∷ w)
@@ -102,10 +101,10 @@ unturned negated (c ∷ w) e = at (c == caret) e
 
 -- the source is read as the property
 pub rowless_reads : (g : Flags) (inside negated : Bool) (w v : Text) → IsRowless w →
-    escape g inside (property_body negated (strip caret w) w ++ v)
+    escape g inside (property_body negated (strip (code "^") w) w ++ v)
     ≡ gives (leaves.delegate (property_written negated w) g.casei) v
 unfolding property_text
-rowless_reads g inside negated w v h = from (strip caret w) refl
+rowless_reads g inside negated w v h = from (strip (code "^") w) refl
   where
     by : {x y : Text} → x ≡ y → gives (leaves.delegate x g.casei) v ≡ gives (leaves.delegate y g.casei) v
     by e = ap (λ z. gives (leaves.delegate z g.casei) v) e
@@ -119,14 +118,14 @@ rowless_reads g inside negated w v h = from (strip caret w) refl
     twice true = refl
     twice false = refl
 
-    from : (o : Option Text) → strip caret w ≡ o → escape g inside (property_body negated o w ++ v)
+    from : (o : Option Text) → strip (code "^") w ≡ o → escape g inside (property_body negated o w ++ v)
         ≡ gives (leaves.delegate (property_written negated w) g.casei) v
     from None e =
         regroup negated w ∙ (named_reads g g.unicode inside negated w v refl h.no_brace
         ∙ by (ap (λ p. braced_text g.unicode inside p) (unturned negated w e)
         ∙ rowless_text g.unicode inside negated w h))
     from (Some t) e =
-        let same : w ≡ code "^" ∷ t = stripped caret w t e in
+        let same : w ≡ code "^" ∷ t = stripped (code "^") w t e in
         let free : HasNoBrace (code "^" ∷ t) = subst HasNoBrace same h.no_brace in
         regroup (not negated) (code "^" ∷ code "^" ∷ t)
         ∙ (named_reads g g.unicode inside (not negated) (code "^" ∷ code "^" ∷ t) v refl (refl, free)
@@ -136,21 +135,21 @@ rowless_reads g inside negated w v h = from (strip caret w) refl
 
 rowless_on : (u σ negated : Bool) (w z : Text) → IsRowless w →
     source_from u σ (property_written negated w ++ z)
-    ≡ (backslash ∷ property_body negated (strip caret w) w) ++ source_from u σ z
+    ≡ (code "\\" ∷ property_body negated (strip (code "^") w) w) ++ source_from u σ z
 rowless_on u σ negated w z h =
     ap (source_from u σ) (property_before negated w z)
-    ∙ (part_on u σ backslash (negated_letter negated ∷ code "{" ∷ (w ++ code "}" ∷ z)) (named_property negated w) z
+    ∙ (part_on u σ (code "\\") (negated_letter negated ∷ code "{" ∷ (w ++ code "}" ∷ z)) (named_property negated w) z
     (part_is u σ negated)
-    ∙ ap (λ q. q ++ source_from u σ z) (named_is negated (strip caret w) w))
+    ∙ ap (λ q. q ++ source_from u σ z) (named_is negated (strip (code "^") w) w))
   where
     own : (negated : Bool) → property_part negated (code "{" ∷ (w ++ code "}" ∷ z)) ≡ part (named_property negated w) z
     own negated =
         ap (λ o. choose o (λ q. part (named_property negated q.0) q.1)
         (part (letter negated) (code "{" ∷ (w ++ code "}" ∷ z)))) (cut_back w z h.no_brace)
 
-    no_blank : (w : Text) → lowercase w ≡ w → part_at true true backslash (codes "p{" ++ (w ++ code "}" ∷ z))
+    no_blank : (w : Text) → lowercase w ≡ w → part_at true true (code "\\") (codes "p{" ++ (w ++ code "}" ∷ z))
         ≡ property_part false (code "{" ∷ (w ++ code "}" ∷ z))
-        × part_at true false backslash (codes "p{" ++ (w ++ code "}" ∷ z))
+        × part_at true false (code "\\") (codes "p{" ++ (w ++ code "}" ∷ z))
         ≡ property_part false (code "{" ∷ (w ++ code "}" ∷ z))
     no_blank [] e = (refl, refl)
     no_blank (c ∷ w) e =
@@ -163,7 +162,7 @@ rowless_on u σ negated w z h =
         first_code (d ∷ t) = d
 
     part_is : (u σ negated : Bool) →
-        part_at u σ backslash (negated_letter negated ∷ code "{" ∷ (w ++ code "}" ∷ z))
+        part_at u σ (code "\\") (negated_letter negated ∷ code "{" ∷ (w ++ code "}" ∷ z))
         ≡ part (named_property negated w) z
     part_is true true true = own true
     part_is true false true = own true
@@ -180,9 +179,9 @@ no_set true w casei = refl
 no_set false w casei = refl
 
 pub rowless_read : (u σ negated : Bool) (w : Text) → IsRowless w →
-    Reads u σ σ (property_written negated w) (backslash ∷ property_body negated (strip caret w) w)
+    Reads u σ σ (property_written negated w) (code "\\" ∷ property_body negated (strip (code "^") w) w)
 rowless_read u σ negated w h =
-    single_read u σ (property_written negated w) (property_body negated (strip caret w) w)
+    single_read u σ (property_written negated w) (property_body negated (strip (code "^") w) w)
     (λ z. rowless_on u σ negated w z h)
     (λ g like v. (
       leaves.delegate (property_written negated w) g.casei,
@@ -200,15 +199,15 @@ short_reads g inside true c v h = single_large g inside c v h
 short_reads g inside false c v h = single_small g inside c v h
 
 pub short_on : (u σ negated : Bool) (c : ℕ) (z : Text) → (c == code "{") ≡ false →
-    source_from u σ (backslash ∷ negated_letter negated ∷ c ∷ z)
-    ≡ backslash ∷ negated_letter negated ∷ c ∷ source_from u σ z
+    source_from u σ (code "\\" ∷ negated_letter negated ∷ c ∷ z)
+    ≡ code "\\" ∷ negated_letter negated ∷ c ∷ source_from u σ z
 short_on u σ negated c z h =
-    part_on u σ backslash (negated_letter negated ∷ c ∷ z) (backslash ∷ negated_letter negated ∷ c ∷ []) z
+    part_on u σ (code "\\") (negated_letter negated ∷ c ∷ z) (code "\\" ∷ negated_letter negated ∷ c ∷ []) z
     (part_is u σ negated)
   where
     part_is : (u σ negated : Bool) →
-        part_at u σ backslash (negated_letter negated ∷ c ∷ z)
-        ≡ part (backslash ∷ negated_letter negated ∷ c ∷ []) z
+        part_at u σ (code "\\") (negated_letter negated ∷ c ∷ z)
+        ≡ part (code "\\" ∷ negated_letter negated ∷ c ∷ []) z
     part_is true true true = rw h refl
     part_is true false true = rw h refl
     part_is true true false = rw h refl
@@ -219,9 +218,9 @@ short_on u σ negated c z h =
     part_is false false false = rw h refl
 
 pub short_read : (u σ negated : Bool) (c : ℕ) → (c == code "{") ≡ false →
-    Reads u σ σ (backslash ∷ negated_letter negated ∷ c ∷ []) (backslash ∷ negated_letter negated ∷ c ∷ [])
+    Reads u σ σ (code "\\" ∷ negated_letter negated ∷ c ∷ []) (code "\\" ∷ negated_letter negated ∷ c ∷ [])
 short_read u σ negated c h =
-    single_read u σ (backslash ∷ negated_letter negated ∷ c ∷ []) (negated_letter negated ∷ c ∷ [])
+    single_read u σ (code "\\" ∷ negated_letter negated ∷ c ∷ []) (negated_letter negated ∷ c ∷ [])
     (λ z. short_on u σ negated c z h)
     (λ g like v. (
       leaves.delegate (letter negated ++ (c ∷ [])) g.casei,
@@ -230,7 +229,7 @@ short_read u σ negated c h =
       plain negated,
     ))
   where
-    is : (negated : Bool) → letter negated ++ (c ∷ []) ≡ backslash ∷ negated_letter negated ∷ c ∷ []
+    is : (negated : Bool) → letter negated ++ (c ∷ []) ≡ code "\\" ∷ negated_letter negated ∷ c ∷ []
     is true = refl
     is false = refl
 

@@ -4,7 +4,7 @@ use Rattle.std.proofs.Common.{refl, ap, ◌∙◌, sym, subst, append_assoc}
 use Rattle.std.proofs.lemmas.Bool.{cond-false, or_parts, and_parts, not-true, false≢true}
 use Rattle.std.specs.List.{list_all}
 use Prim.Native.Char.{code}
-use Rattle.fancy_lex.specs.Characters.{◌∈◌, backslash}
+use Rattle.fancy_lex.specs.Characters.{◌∈◌}
 use Rattle.fancy_lex.specs.Class.{escape_in_class, escape_text, is_negated, joint, written, class_items}
 use Rattle.fancy_lex.specs.Class.{ClassItems, close, plain, escaped, nested}
 use Rattle.fancy_lex.specs.Escape.{escape}
@@ -45,9 +45,9 @@ both_read u σ ρ τ t t' s s' x y = record {
 -- an escape, before other items
 pub escape_item : (g : Flags) (σ τ : Bool) (t v r w : Text) (a : Bool) (e : Escape) (x : Text) →
     escape g true t ≡ gives e v → escape_in_class σ e ≡ x → (σ || is_negated e) ≡ τ →
-    ClassItems g τ v (written w a r) → ClassItems g σ (backslash ∷ t) (written (x ++ w) a r)
+    ClassItems g τ v (written w a r) → ClassItems g σ (code "\\" ∷ t) (written (x ++ w) a r)
 escape_item g σ τ t v r w a e x q is n k =
-    subst (λ z. ClassItems g σ (backslash ∷ t) (written (z ++ w) a r)) is
+    subst (λ z. ClassItems g σ (code "\\" ∷ t) (written (z ++ w) a r)) is
     (escaped q (subst (λ b. ClassItems g b v (written w a r)) (sym n) k))
 
 -- an escape that is no negated set
@@ -100,9 +100,9 @@ word_read u σ (c ∷ w) h =
 
 -- an escape whose source is read as the escape
 pub escape_read : (u σ τ : Bool) (x d : Text) →
-    ((z : Text) → source_from u σ (x ++ z) ≡ backslash ∷ (d ++ source_from u τ z)) →
+    ((z : Text) → source_from u σ (x ++ z) ≡ code "\\" ∷ (d ++ source_from u τ z)) →
     ((g : Flags) → g.unicode ≡ u → (v : Text) → (e : Escape) × (escape g true (d ++ v) ≡ gives e v)
-    × (escape_in_class σ e ≡ x) × ((σ || is_negated e) ≡ τ)) → Reads u σ τ x (backslash ∷ d)
+    × (escape_in_class σ e ≡ x) × ((σ || is_negated e) ≡ τ)) → Reads u σ τ x (code "\\" ∷ d)
 escape_read u σ τ x d is reads = record {
   is = is;
   reads =
@@ -111,33 +111,33 @@ escape_read u σ τ x d is reads = record {
 
 -- and is no negated set
 pub single_read : (u σ : Bool) (x d : Text) →
-    ((z : Text) → source_from u σ (x ++ z) ≡ backslash ∷ (d ++ source_from u σ z)) →
+    ((z : Text) → source_from u σ (x ++ z) ≡ code "\\" ∷ (d ++ source_from u σ z)) →
     ((g : Flags) → g.unicode ≡ u → (v : Text) → (e : Escape) × (escape g true (d ++ v) ≡ gives e v)
-    × (escape_text e ≡ x) × (is_negated e ≡ false)) → Reads u σ σ x (backslash ∷ d)
+    × (escape_text e ≡ x) × (is_negated e ≡ false)) → Reads u σ σ x (code "\\" ∷ d)
 single_read u σ x d is reads =
     escape_read u σ σ x d is
     (λ g like v. let (e, q, text_is, n) = reads g like v in (e, q, alone σ e n ∙ text_is, same_after σ e n))
 
 escape_on : (u σ : Bool) (c : ℕ) (t : Text) → c ∈ "pPxt" ≡ false →
-    source_from u σ (backslash ∷ c ∷ t) ≡ backslash ∷ c ∷ source_from u σ t
+    source_from u σ (code "\\" ∷ c ∷ t) ≡ code "\\" ∷ c ∷ source_from u σ t
 escape_on u σ c t h =
     let (p, h1) = or_parts (c == code "p") _ h in
     let (q, h2) = or_parts (c == code "P") _ h1 in
     let (x, y) = or_parts (c == code "x") _ h2 in
-    part_on u σ backslash (c ∷ t) (backslash ∷ c ∷ []) t (part_is u σ p q x y)
+    part_on u σ (code "\\") (c ∷ t) (code "\\" ∷ c ∷ []) t (part_is u σ p q x y)
   where
     part_is : (u σ : Bool) → (c == code "p") ≡ false → (c == code "P") ≡ false → (c == code "x") ≡ false →
-        (c == code "t") ≡ false → part_at u σ backslash (c ∷ t) ≡ part (backslash ∷ c ∷ []) t
+        (c == code "t") ≡ false → part_at u σ (code "\\") (c ∷ t) ≡ part (code "\\" ∷ c ∷ []) t
     part_is true true p q x y = rw (p, q, x) refl
     part_is true false p q x y = rw (p, q, x) refl
     part_is false true p q x y = rw (y, p, q) refl
     part_is false false p q x y = rw (y, p, q) refl
 
 pub kept_read : (u σ : Bool) (c : ℕ) → c ∈ "dDsSwW\\.+*?()|[]{}^$#&-~" ≡ true →
-    Reads u σ σ (backslash ∷ c ∷ []) (backslash ∷ c ∷ [])
+    Reads u σ σ (code "\\" ∷ c ∷ []) (code "\\" ∷ c ∷ [])
 kept_read u σ c h =
     let k = kept_escape c h in
-    single_read u σ (backslash ∷ c ∷ []) (c ∷ []) (λ z. escape_on u σ c z k.no_row) (λ g like v. k.reads g v)
+    single_read u σ (code "\\" ∷ c ∷ []) (c ∷ []) (λ z. escape_on u σ c z k.no_row) (λ g like v. k.reads g v)
 
 -- ---- sets
 

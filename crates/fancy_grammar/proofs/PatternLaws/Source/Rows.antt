@@ -7,7 +7,7 @@ use Rattle.std.specs.Char.{to_ascii_lowercase}
 use Rattle.std.specs.List.{list_all}
 use Rattle.std.specs.Str.{bytes_eq}
 use Prim.Native.Char.{code}
-use Rattle.fancy_lex.specs.Characters.{◌∈◌, backslash, caret}
+use Rattle.fancy_lex.specs.Characters.{◌∈◌}
 use Rattle.fancy_lex.specs.Class.{joint, plain}
 use Rattle.fancy_lex.specs.Escape.{escape}
 use Rattle.fancy_lex.specs.Escaped as leaves
@@ -203,7 +203,7 @@ module _ (t name : Text) (row : IsRow t name) where
         reads = set_read true;
         below = λ e. refl;
         front = front_row true t;
-        opens = opens_by backslash _ refl refl;
+        opens = opens_by (code "\\") _ refl refl;
       }
       by true false below = record {
         source = codes "&&\\p{" ++ (name ++ codes "}");
@@ -222,7 +222,7 @@ module _ (t name : Text) (row : IsRow t name) where
         reads = set_read false;
         below = λ e. row.negated;
         front = front_row false t;
-        opens = opens_by backslash _ refl refl;
+        opens = opens_by (code "\\") _ refl refl;
       }
 
 pub graph : IsRow (codes "\\p{White_Space}\\p{C}]") (codes "graph")
@@ -267,11 +267,11 @@ turned_print σ =
     at false z = refl
 
 turned_in : (b σ : Bool) (c : ℕ) (r source : Text) → IsBelow σ b → (c == code "^") ≡ false →
-    is_negated_set (code "[" ∷ c ∷ r) ≡ false → Reads true σ σ (code "[" ∷ c ∷ r) (backslash ∷ source) →
+    is_negated_set (code "[" ∷ c ∷ r) ≡ false → Reads true σ σ (code "[" ∷ c ∷ r) (code "\\" ∷ source) →
     InText true b σ (code "[" ∷ c ∷ r)
 turned_in b σ c r source below h n k =
     unjoined true b σ (code "[" ∷ c ∷ r) n
-    (in_by true b σ _ (code "[" ∷ c ∷ r) _ below k (front_bracket b c r h) (opens_by backslash _ refl refl))
+    (in_by true b σ _ (code "[" ∷ c ∷ r) _ below k (front_bracket b c r h) (opens_by (code "\\") _ refl refl))
 
 -- ---- the table
 
@@ -281,9 +281,9 @@ pair_in : (u b σ negated : Bool) (x y : Text) → InText u b σ x → InText u 
 pair_in u b σ true x y h k = k
 pair_in u b σ false x y h k = h
 
-word_in : (u b σ : Bool) (c : ℕ) → IsBelow σ b → c ∈ "wW" ≡ true → InText u b σ (backslash ∷ c ∷ [])
+word_in : (u b σ : Bool) (c : ℕ) → IsBelow σ b → c ∈ "wW" ≡ true → InText u b σ (code "\\" ∷ c ∷ [])
 word_in u b σ c below h =
-    unjoined u b σ (backslash ∷ c ∷ []) refl
+    unjoined u b σ (code "\\" ∷ c ∷ []) refl
     (kept_in u b σ _ c below (grind (arith, nat_tests)) (grind (arith, nat_tests)))
 
 module _ (b σ negated : Bool) (l : Text) (below : IsBelow σ b) (free : HasNoBrace l) (lower : lowercase l ≡ l) where
@@ -305,13 +305,13 @@ module _ (b σ negated : Bool) (l : Text) (below : IsBelow σ b) (free : HasNoBr
   form_in true =
       cond_both (bytes_eq l (codes "alnum")) _ _ (λ k. InText true b σ (form_text true negated (form true k l)))
       (λ _. in_set true b σ negated _ _ below (alpha_digit σ) (front_named b (code "a") _ refl refl)
-      (opens_by backslash _ refl refl) refl)
+      (opens_by (code "\\") _ refl refl) refl)
       (λ e1. cond_both (bytes_eq l (codes "blank")) _ _ (λ k. InText true b σ (form_text true negated (form true k l)))
       (λ _. in_set true b σ negated _ _ below (blanks σ) (front_named b (code "Z") _ refl refl)
-      (opens_by backslash _ refl refl) refl)
+      (opens_by (code "\\") _ refl refl) refl)
       (λ e2. cond_both (bytes_eq l (codes "cntrl")) _ _ (λ k. InText true b σ (form_text true negated (form true k l)))
       (λ _. in_set true b σ negated _ _ below (controls σ) (front_escape b (code "x") _ refl)
-      (opens_by backslash _ refl refl) refl)
+      (opens_by (code "\\") _ refl refl) refl)
       (λ e3. cond_both (bytes_eq l (codes "word")) _ _ (λ k. InText true b σ (form_text true negated (form true k l)))
       (λ _. pair_in true b σ negated (codes "\\w") (codes "\\W") (word_in true b σ (code "w") below refl)
       (word_in true b σ (code "W") below refl))
@@ -329,7 +329,7 @@ module _ (b σ negated : Bool) (l : Text) (below : IsBelow σ b) (free : HasNoBr
       (λ e1. cond_both (bytes_eq l (codes "blank")) _ _
       (λ k. InText false b σ (form_text true negated (form false k l)))
       (λ _. in_set false b σ negated _ _ below (tab_blank σ) (front_escape b (code "t") _ refl)
-      (opens_by backslash _ refl refl) refl)
+      (opens_by (code "\\") _ refl refl) refl)
       (λ e2. cond_both (bytes_eq l (codes "cntrl")) _ _
       (λ k. InText false b σ (form_text true negated (form false k l)))
       (λ _. posix_in false b σ negated (codes "cntrl:") below refl)
@@ -368,7 +368,7 @@ lower_twice (c ∷ w) = rw (lower_same c, lower_twice w) refl
 
 pub turn_free : (negated : Bool) (w : Text) → HasNoBrace w → HasNoBrace (turn negated w).1
 turn_free negated [] h = tt
-turn_free negated (c ∷ w) h = by_test (c == caret)
+turn_free negated (c ∷ w) h = by_test (c == code "^")
   where
     by_test : (x : Bool) → HasNoBrace (if◌then◌else◌ {A = Bool × Text} x (not negated, w) (negated, c ∷ w)).1
     by_test true = h.1

@@ -4,7 +4,7 @@ use Rattle.std.proofs.Common.{refl, ap, ◌∙◌, sym, subst, if◌then◌else�
 use Rattle.std.proofs.lemmas.Bool.{cond_both}
 use Rattle.std.specs.Option.{option_and_then}
 use Prim.Native.Char.{code}
-use Rattle.fancy_lex.specs.Characters.{◌∈◌, backslash}
+use Rattle.fancy_lex.specs.Characters.{◌∈◌}
 use Rattle.fancy_lex.specs.Reading.{choose}
 use Rattle.fancy_lex.specs.Text.{Text, strip, strip_word}
 use Rattle.fancy_lex.specs.declared.flags.Flags.{Flags}
@@ -162,10 +162,10 @@ open_caret_on u σ t h =
 pub data CharSource (c : ℕ) : Text → Type 0 where
   itself : CharSource c (c ∷ [])
   by_escape : {after : Text} → is_unseen c ≡ true → ((f : Flags) → (casei : Bool) × EscapesIn true f casei c after) →
-      CharSource c (backslash ∷ after)
+      CharSource c (code "\\" ∷ after)
 
 pub char_source_is : (c : ℕ) → CharSource c (char_source c)
 char_source_is c =
     cond_both (is_unseen c) (coded c) (c ∷ []) (λ t. CharSource c (by_letter_or c t))
     (λ h. let e = unseen_escape c h in subst (CharSource c) (sym e.is) (by_escape h e.reads))
-    (λ h. subst (CharSource c) (sym (ap (λ o. choose o (λ d. backslash ∷ d ∷ []) (c ∷ [])) (no_letter c h))) itself)
+    (λ h. subst (CharSource c) (sym (ap (λ o. choose o (λ d. code "\\" ∷ d ∷ []) (c ∷ [])) (no_letter c h))) itself)

@@ -1,5 +1,5 @@
 use Rattle.std.proofs.Common.{◌≢◌, ◌⊎◌, ◌≡◌, [], ◌∷◌, inl, inr, chars, refl, rules}
-use Rattle.fancy_lex.specs.Characters.{backslash}
+use Prim.Native.Char.{code}
 use Rattle.fancy_grammar.specs.PatternSource.{part}
 use Rattle.fancy_grammar.specs.PatternLetters.{by_letter_or, plain}
 use Rattle.fancy_pattern.proofs.OutputLemmas.{then_added}
@@ -18,7 +18,7 @@ returns c =
 
 pub returns-2 : goal.returns-2
 returns-2 c =
-    let why : (c.args.c ≢ backslash) ⊎ (chars c.args.rest.now ≡ []) =
+    let why : (c.args.c ≢ code "\\") ⊎ (chars c.args.rest.now ≡ []) =
     elim c.else-c-eq92.branch [
       | else-c-eq92-via-else-c-eq92 w ↦ inl w.if-c-eq92.false
       | else-c-eq92-via-then-c-eq92+in-None-1 w ↦ inr (search rules)
