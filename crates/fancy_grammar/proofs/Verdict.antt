@@ -40,19 +40,12 @@ same_error e = cc
 apart : {f : Flags} {text : Text} {r : Tree} {k : Kind} (p : ℕ) → DerivesTree f text r → FailsWith f text k p → ⊥
 apart p a (q, b, i) = let e = whole_unique a.1 b in cc
 
-kind_in : Kind → Option Located → Kind
-kind_in k None = k
-kind_in k (Some x) = x.kind
+same_first : {f g : Located} → ◌≡◌ {A = Option Located} (Some f) (Some g) → f ≡ g
+same_first e = cc
 
-reach_in : Option Located → ℕ
-reach_in None = 0
-reach_in (Some x) = x.reach
-
-same_first : {k j : Kind} {p q : ℕ} →
-    ◌≡◌ {A = Option Located} (Some (record { reach = p; kind = k })) (Some (record { reach = q; kind = j })) →
-    (j ≡ k) × (q ≡ p)
-unfolding kind_in reach_in
-same_first {k} e = (sym (ap (kind_in k) e), sym (ap reach_in e))
+-- the same error has the same kind and the same reach
+same_parts : {f g : Located} → f ≡ g → (g.kind ≡ f.kind) × (g.reach ≡ f.reach)
+same_parts e = (sym (ap (λ (h : Located). h.kind) e), sym (ap (λ (h : Located). h.reach) e))
 
 pub only_tree : (f : Flags) (text : Text) (t u : Tree) (m k : GroupInfo) → IsTreeOf f text t m → IsTreeOf f text u k →
     (u ≡ t) × (k ≡ m)
@@ -90,8 +83,7 @@ only_reading (At p k) f text a =
 
     other : (j : Kind) (q : ℕ) → IsErrorOf f text j q → (j ≡ kind_of k) × (q ≡ position_at (bytes text) p)
     other j q (of_reading (r, b, i)) =
-        let same = same_error (whole_unique a b) in
-        (sym (ap (λ (f : Located). f.kind) same), omega (arith, i, ap (λ (f : Located). f.reach) same))
+        let same = same_parts (same_error (whole_unique a b)) in (same.0, omega (arith, i, same.1))
     other j q (of_resolving b some i) = absurd (apart _ b here)
 only_reading OutOfMemory f text a = tt
 
@@ -114,7 +106,7 @@ only_resolving (At p k) f text r a h =
     other : (j : Kind) (q : ℕ) → IsErrorOf f text j q → (j ≡ kind_of k) × (q ≡ position_at (bytes text) p)
     other j q (of_reading b) = absurd (apart q a b)
     other j q (of_resolving b some i) =
-        let same = same_first (sym h ∙ sym (ap (error_of f) (same_tree a b)) ∙ some) in
+        let same = same_parts (same_first (sym h ∙ sym (ap (error_of f) (same_tree a b)) ∙ some)) in
         (same.0, omega (arith, i, same.1))
 only_resolving OutOfMemory f text r a h = tt
 
