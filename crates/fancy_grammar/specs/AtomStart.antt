@@ -135,7 +135,8 @@ abbrev pub repeater_start : State → Text → AtomStart
 repeater_start s [] = error_start group_not_closed
 repeater_start s (c ∷ t) = of_kind repeater (at s (c ∷ t))
 
--- what may follow the question mark that opens a group, each with what the text after it begins
+-- the words that may follow the question mark that opens a group, each with the start of an atom that it makes of the
+-- text after it; the first that matches decides
 abbrev pub after_question_words : State → Text → List (Text × (Text → AtomStart))
 after_question_words s t =
     (codes "=", λ u. of_kind (look LookAhead) (at s u))

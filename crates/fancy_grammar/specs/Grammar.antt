@@ -1,6 +1,6 @@
 -- The grammar: what each production reads from a state, at a depth of open groups.
--- A production has several parts, one after another. The last part decides the outcome of the whole. Each part before
--- it has a rule of its own for its error.
+-- A production has several parts, one after another. The last part that a rule reads gives the outcome, to which a
+-- function may be applied. Each such part before it has a rule of its own for its error.
 -- Layout, classes, the letters of flag groups, boundaries, hex codes, numbers, names and id references are read by
 -- functions in the premises. Those that loop have a relation too; `Premises` states that the two agree.
 use Rattle.std.specs.Prelude.{◌≡◌, ℕ, ◌+◌, ◌==◌, Bool, true, false, not, ◌&&◌, List, [], ◌∷◌, length, Some, None}
@@ -80,7 +80,7 @@ after_atom _ f q = restored f q
 
 -- The variables of a rule are in braces before it: d is how many groups are open; s is the state at its start, t and v
 -- are later states, in text order, and u is a later text; r, a and c are trees, and c is a condition; o and q are
--- outcomes, and e is an error; k is the start of an atom, and h the kind of a group.
+-- outcomes, e is an error, and p the reach of an unclosed comment; k is the start of an atom, and h the kind of a group.
 
 mutual
   -- branches with bars between

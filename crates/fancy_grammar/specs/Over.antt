@@ -18,7 +18,7 @@ pub record Paren : Type 0 where
 abbrev pub moved : ℕ → ℕ → List Paren → List Paren
 moved n k = map (λ q. record { position = n + q.position; round = k + q.round })
 
--- a group with this opening around these parentheses, if it is printed
+-- these parentheses, inside a group with this opening if it is printed; where nothing is inside, the opening may be empty
 abbrev pub in_group : Bool → Text → List Paren → List Paren
 in_group true opening inside = record { position = 0; round = 0 } ∷ moved (bytes opening) 1 inside
 in_group false opening inside = inside
@@ -52,7 +52,7 @@ abbrev mutual
   parens_branches no_trees = []
   parens_branches (more_trees t ts) = parens t BRANCH ++ moved (bytes (printed t BRANCH)) 0 (parens_barred ts)
 
-  -- each branch after a bar
+  -- the parentheses of branches, from the bar before the first of them
   pub parens_barred : Trees → List Paren
   parens_barred no_trees = []
   parens_barred (more_trees t ts) =

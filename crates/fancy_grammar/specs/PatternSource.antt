@@ -93,7 +93,7 @@ single_part c (d ∷ t) =
 abbrev pub part_at : Bool → Bool → ℕ → Text → Part
 part_at unicode seen c t = choose (replaced_part seen (replaced unicode) (c ∷ t)) (λ p. p) (single_part c t)
 
--- the parts of a text, at most this many; `seen` says whether the source before it has a negated set
+-- the source of a text, part by part, of n parts at most; `seen` says whether the source before it has a negated set
 unfoldable pub parts_in : Bool → Bool → ℕ → Text → Text
 parts_in unicode seen n [] = []
 parts_in unicode seen zero (c ∷ t) = []
@@ -101,7 +101,7 @@ parts_in unicode seen (suc n) (c ∷ t) =
     let p = part_at unicode seen c t in
     p.source ++ parts_in unicode (seen || p.negated) n p.rest
 
--- all the parts of a text: each takes a character or more
+-- the source of a whole text: each part takes a character or more, so that its length is enough
 abbrev pub source_from : Bool → Bool → Text → Text
 source_from unicode seen t = parts_in unicode seen (length t) t
 

@@ -66,7 +66,8 @@ abbrev pub suffix : State → Counts → Outcome Suffix
 suffix s c =
     after_skipped (skipped s) (λ t. choose (strip (code "?") t) (after_lazy s c true) (after_lazy s c false t)) failed
 
--- the tree under these counts; if it cannot be repeated, the error is at the operator or the closing brace
+-- the tree if there are no counts; the tree under them if it can be repeated; the tree alone if it ignores them; or else
+-- an error, at the operator or the closing brace
 abbrev pub with_counts : ℕ → Tree → State → Option (Counts × Text) → Outcome Tree
 with_counts left a s None = done a s
 with_counts left a s (Some (c, t)) =
@@ -88,11 +89,11 @@ abbrev pub may_count : ℕ → ℕ → Bool
 may_count zero d = false
 may_count (suc k) d = nat_lt (d + 1) max_depth
 
--- a quantifier that counts, where none more may
+-- one quantifier too many: the error is at the text after it
 abbrev pub too_many : Tree → State → Outcome Tree
 too_many b t = failed (quantifier_too_deep t.rest)
 
--- one adjacent quantifier; if it reads a byte it counts, and `more` reads those after it
+-- one adjacent quantifier; if a byte was read, even of layout alone, it counts, and `more` reads on
 abbrev pub one_adjacent : (Tree → State → Outcome Tree) → Tree → State → Outcome Tree
 one_adjacent more a s = and_then (quant (bytes s.rest) a s) (λ b t. if is_unmoved s t then done b t else more b t)
 

@@ -19,16 +19,16 @@ reference_node m (number n) (ast_call t) reach = subroutine_call n
 reference_node m (number n) (ast_condition t level) reach = backref_exists n level
 reference_node m _ r reach = ast_node r (position_at m reach)
 
--- in a pattern of n bytes; numbers_of gives the numbers of each name, and c groups that have a number open before the
--- tree
-module _ (n : ℕ) (named : Bool) (numbers_of : Text → List ℕ) where
+-- in a pattern of m bytes; `named` says whether only groups with a name have a number, numbers_of gives the numbers of
+-- each name, and c groups that have a number open before the tree
+module _ (m : ℕ) (named : Bool) (numbers_of : Text → List ℕ) where
   abbrev mutual
     -- a capturing group that has a number becomes a Group, any other becomes its contents; a reference becomes the node
     -- of its meaning
     pub resolved_in : ℕ → Tree → Tree
     resolved_in c (ast_group name reach t) =
         if is_counted named name then group (resolved_in (c + 1) t) else resolved_in c t
-    resolved_in c (ast_node r reach) = reference_node n (refers_to numbers_of c (role_of r) (target_of r)) r reach
+    resolved_in c (ast_node r reach) = reference_node m (refers_to numbers_of c (role_of r) (target_of r)) r reach
     resolved_in c (leaf l) = leaf l
     resolved_in c (over w t) = over w (resolved_in c t)
     resolved_in c (row r ts) = row r (resolved_all c ts)
@@ -38,9 +38,9 @@ module _ (n : ℕ) (named : Bool) (numbers_of : Text → List ℕ) where
     resolved_all c (more_trees t ts) =
         more_trees (resolved_in c t) (resolved_all (c + length (numbered_openings_in named (openings t))) ts)
 
--- the raw tree resolved, under the flags that the caller gives, in a pattern of n bytes
+-- the raw tree resolved, under the flags that the caller gives, in a pattern of m bytes
 abbrev pub resolved : Flags → ℕ → Tree → Tree
-resolved f n r = resolved_in n (only_named f (openings r)) (numbers_in f r) 0 r
+resolved f m r = resolved_in m (only_named f (openings r)) (numbers_in f r) 0 r
 
 -- the first error among references with their reaches and meanings
 abbrev pub first_error : List (AstReference × ℕ × Meaning) → Option Located

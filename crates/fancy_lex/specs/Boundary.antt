@@ -34,7 +34,8 @@ abbrev pub at_count : Text → Bool
 at_count [] = false
 at_count (c ∷ t) = is_ascii_digit c || c == code ","
 
--- the name after the opening brace: up to the first closing brace outside layout, with layout taken out
+-- the name after the opening brace: up to the first closing brace outside layout, with layout taken out; x says whether
+-- blanks and line comments are layout, and p is the reach of the escape's backslash
 pub data BracedName (x : Bool) (p : ℕ) : Text → Reading Text → Type 0 where
   close : {t v : Text} → Before x t (code "}" ∷ v) → BracedName x p t (gives [] v)
   character : {c : ℕ} {t u : Text} {o : Reading Text} → c ≢ code "}" → Before x t (c ∷ u) → BracedName x p u o →

@@ -1,4 +1,4 @@
--- Whether a character is one of several; clauses import `code` from here.
+-- Whether a character is one of several. Clauses in code import `code`, which names a character, from here.
 use Rattle.std.specs.Prelude.{ℕ, Bool, false, ◌||◌, ◌==◌, List, [], ◌∷◌, codes}
 pub use Prim.Native.Char.{code}
 use Prim.Native.String.{String}

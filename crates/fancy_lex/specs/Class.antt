@@ -93,8 +93,9 @@ abbrev pub prefixed : Text → Written → Written
 prefixed w (written x a v) = written (w ++ x) a v
 prefixed w (failed e) = failed e
 
--- The variables of a rule are in braces before it: f are the flags; b says whether a negated set was written before the
--- text t, and m whether one was by the text u after it; o is the result; c is a character, e an escape.
+-- The variables of a rule are in braces before it: f are the flags; t is the text at the start, and u a later text; b
+-- and m say whether a negated set was written before t and before u; `opening` is a text that is written; o is the
+-- result; c is a character; e is an escape, or in the rules of errors an error.
 mutual
   -- a class after its bracket
   pub data Class : Flags → Bool → Text → Written → Type 0 where
