@@ -5,7 +5,9 @@ use fancy_lex::escape::Assertion;
 use fancy_lex::name::CaptureGroupTarget;
 use fancy_spans::SpannedNode;
 use fancy_syntax::expr::{Absent, AstNode, Expr};
-use fre_program::names::{absent_name, assertion_name, look_around_name, node_name, verb_name};
+use fre_program::names::{
+    absent_name, assertion_name, crlf_of, look_around_name, node_name, verb_name,
+};
 use json::Writer;
 use std::alloc::AllocError;
 
@@ -34,12 +36,9 @@ fn write_level(writer: &mut Writer, name: &str, level: Option<isize>) -> Result<
 /// Writes the fields of an assertion.
 fn write_assertion(writer: &mut Writer, assertion: Assertion) -> Result<(), AllocError> {
     write_text(writer, "assertion", assertion_name(assertion))?;
-    match assertion {
-        Assertion::EndTextIgnoreTrailingNewlines { crlf }
-        | Assertion::StartLine { crlf }
-        | Assertion::StartLineOniguruma { crlf }
-        | Assertion::EndLine { crlf } => write_bool(writer, "crlf", crlf),
-        _ => Ok(()),
+    match crlf_of(assertion) {
+        Some(crlf) => write_bool(writer, "crlf", crlf),
+        None => Ok(()),
     }
 }
 
