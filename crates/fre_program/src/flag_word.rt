@@ -7,6 +7,9 @@ ghost use Rattle.fre_program.specs.FlagWord.{is_letter, NamesFlags, named_flags}
 use fancy_lex::flags::{Flag, Flags};
 use fancy_lex::text::next;
 
+/// What a word that names flags is, in words.
+pub const FLAG_WORD: &str = "letters of imsUxuRon, or - for none";
+
 /// The flags that the letters name, if each of them names one.
 #[tactic(auto, using(crate::proofs::FlagLemmas::letters_start, crate::proofs::FlagLemmas::letters_next, crate::proofs::FlagLemmas::letters_end, crate::proofs::FlagLemmas::letters_fail))]
 fn letters(word: &str) -> Option<Flags>

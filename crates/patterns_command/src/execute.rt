@@ -6,6 +6,7 @@ use crate::words::{
 };
 use clap::error::ErrorKind;
 use clap::{ArgMatches, Error};
+use fre_program::flag_word::FLAG_WORD;
 use pattern_format::style::Style;
 use patterns_lint::chosen::Chosen;
 use patterns_lint::rule::write_rules;
@@ -44,10 +45,7 @@ fn explain<O: Write, E: Write>(error: &Error, out: &mut O, err: &mut E) -> Resul
 
 /// Reports letters that are no flags.
 fn explain_flags<E: Write>(err: &mut E) -> Result<u8, RunError> {
-    writeln!(
-        err,
-        "patterns: --flags takes letters of imsUxuRon, or - for none"
-    )?;
+    writeln!(err, "patterns: --flags takes {FLAG_WORD}")?;
     Ok(MISUSED)
 }
 

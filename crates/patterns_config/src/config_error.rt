@@ -1,4 +1,5 @@
 //! Why a configuration is refused.
+use fre_program::flag_word::FLAG_WORD;
 use std::alloc::AllocError;
 use std::fmt;
 use thiserror::Error;
@@ -30,9 +31,7 @@ impl fmt::Display for Problem {
             Problem::UnknownKey(key) => write!(f, "unknown key {key:?}"),
             Problem::WrongType { key, expected } => write!(f, "{key} must be {expected}"),
             Problem::UnknownRule(name) => write!(f, "unknown rule {name:?}"),
-            Problem::UnknownFlags(_) => f.write_str(
-                "flags must be letters of imsUxuRon, or - for none",
-            ),
+            Problem::UnknownFlags(_) => write!(f, "flags must be {FLAG_WORD}"),
             Problem::MissingFiles(_) => f.write_str("overrides must have files"),
         }
     }

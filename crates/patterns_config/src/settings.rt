@@ -1,7 +1,7 @@
 //! What a configuration says of files.
 use crate::config_error::{Problem, TableError};
 use crate::tables::{flag_at, text_at, texts_at};
-use fancy_lex::flags::Flag;
+use fre_program::flag_word::flags_named;
 use std::alloc::Global;
 use toml::Table;
 
@@ -20,18 +20,13 @@ pub struct Settings {
     pub deny: Vec<String>,
 }
 
-/// Whether the word names flags: `-` for none, or letters.
-fn is_flags(word: &str) -> bool {
-    word == "-" || !word.is_empty() && word.chars().all(|c| Flag::from_letter(c).is_some())
-}
-
 /// The flags of a table, as letters.
 fn flags_of(alloc: Global, table: &Table) -> Result<Option<String>, TableError> {
     let Some(text) = text_at(table, "flags")? else {
         return Ok(None);
     };
     let word = String::from_str(alloc, text)?;
-    if is_flags(text) {
+    if flags_named(text).is_some() {
         Ok(Some(word))
     } else {
         Err(TableError::Refused(Problem::UnknownFlags(word)))

@@ -1,7 +1,7 @@
 //! Records of patterns that were extracted from sources: each is an object of JSON.
 use crate::source_positions::SourcePositions;
 use crate::values::trail::Tokens;
-use fre_program::flag_word::flags_named;
+use fre_program::flag_word::{FLAG_WORD, flags_named};
 use json::{Scratch, Token};
 use patterns_text::position::FilePosition;
 use std::alloc::{AllocError, Global};
@@ -92,9 +92,7 @@ impl fmt::Display for RecordProblem {
             RecordProblem::WrongType(member) => {
                 write!(f, "{} must be {}", member.name(), member.expected())
             }
-            RecordProblem::UnknownFlags => f.write_str(
-                "flags must be letters of imsUxuRon, or - for none",
-            ),
+            RecordProblem::UnknownFlags => write!(f, "flags must be {FLAG_WORD}"),
             RecordProblem::WrongLength(member) => write!(
                 f,
                 "{} must have one entry more than the pattern has characters",
