@@ -1,8 +1,10 @@
 -- The word that names flags: `-` for none, or letters.
-use Rattle.std.specs.Prelude.{◌≡◌, Bool, true, false, ◌||◌, ◌==◌, ◌⊎◌, ℕ, [], ◌∷◌, codes}
+use Rattle.std.specs.Prelude.{◌≡◌, Bool, true, false, ◌||◌, ◌==◌, ◌⊎◌, ℕ, [], ◌∷◌, codes, map}
 use Rattle.std.specs.List.{list_all}
-use Prim.Native.Char.{code}
+use Rattle.fancy_lex.specs.Flag.{letter}
 use Rattle.fancy_lex.specs.Text.{Text}
+use Rattle.fancy_lex.specs.declared.flags.Flag.TheVariants.{Casei, Multi, Dotnl, SwapGreed, IgnoreSpace, Unicode, Crlf}
+use Rattle.fancy_lex.specs.declared.flags.Flag.TheVariants.{OnigurumaMode, IgnoreNumberedGroups}
 use Rattle.fancy_lex.specs.declared.flags.Flags.{Flags}
 
 -- whether the word contains the character
@@ -13,20 +15,26 @@ has c (d ∷ t) = d == c || has c t
 -- the flags that the letters of a word name
 abbrev pub named_flags : Text → Flags
 named_flags w = record {
-  casei = has (code "i") w;
-  multi = has (code "m") w;
-  dotnl = has (code "s") w;
-  swap_greed = has (code "U") w;
-  ignore_space = has (code "x") w;
-  unicode = has (code "u") w;
-  crlf = has (code "R") w;
-  oniguruma_mode = has (code "o") w;
-  ignore_numbered_groups = has (code "n") w;
+  casei = has (letter Casei) w;
+  multi = has (letter Multi) w;
+  dotnl = has (letter Dotnl) w;
+  swap_greed = has (letter SwapGreed) w;
+  ignore_space = has (letter IgnoreSpace) w;
+  unicode = has (letter Unicode) w;
+  crlf = has (letter Crlf) w;
+  oniguruma_mode = has (letter OnigurumaMode) w;
+  ignore_numbered_groups = has (letter IgnoreNumberedGroups) w;
 }
 
--- whether the character is one of those letters
+-- the letters of all flags
+abbrev pub letters : Text
+letters =
+    map letter
+    (Casei ∷ Multi ∷ Dotnl ∷ SwapGreed ∷ IgnoreSpace ∷ Unicode ∷ Crlf ∷ OnigurumaMode ∷ IgnoreNumberedGroups ∷ [])
+
+-- whether the character is the letter of a flag
 abbrev pub is_letter : ℕ → Bool
-is_letter c = has c (codes "imsUxuRon")
+is_letter c = has c letters
 
 -- the word is `-`, or one letter or more and nothing else
 abbrev pub NamesFlags : Text → Type 0
