@@ -1,12 +1,16 @@
 -- The letters after the `(?` of a flag group.
-use Rattle.std.specs.Prelude.{◌≡◌, ◌≢◌, ◌⊎◌, ℕ, ◌==◌, Bool, true, false, not, [], ◌∷◌, ◌++◌, codes, Option, Some, None}
-use Rattle.std.specs.Prelude.{if◌then◌else◌}
+use Rattle.std.specs.Prelude.{◌≡◌, ◌≢◌, ◌⊎◌, ℕ, ◌==◌, Bool, true, false, not, List, [], ◌∷◌, ◌++◌, codes}
+use Rattle.std.specs.Prelude.{Option, Some, None, option_map}
+use Rattle.std.specs.List.{find}
 use Prim.Native.Char.{code}
 use Rattle.fancy_lex.specs.Characters.{◌∈◌}
+use Rattle.fancy_lex.specs.Flag.{letter, with_flag}
 use Rattle.fancy_lex.specs.ErrorTable.{comment_not_closed, group_not_closed, no_flag_letter, mode_changed}
 use Rattle.fancy_lex.specs.Layout.{Before, Unclosed}
 use Rattle.fancy_lex.specs.Reading.{Reading, gives, fails}
 use Rattle.fancy_lex.specs.Text.{Text}
+use Rattle.fancy_lex.specs.declared.flags.Flag.{Flag}
+use Rattle.fancy_lex.specs.declared.flags.Flag.TheVariants.{Casei, Multi, Dotnl, SwapGreed, IgnoreSpace, Crlf}
 use Rattle.fancy_lex.specs.declared.flags.Flags.{Flags}
 
 -- the result of the letters
@@ -14,16 +18,13 @@ pub data Letters : Type 0 where
   inline_flags : Flags → Letters  -- closed by a parenthesis: these flags hold from there on
   flag_group : Flags → Letters  -- closed by a colon: these flags hold inside the group
 
--- the flags with the flag of this letter set or cleared; None if the letter is no flag
+-- the flags that a pattern can set and clear
+abbrev pub pattern_flags : List Flag
+pattern_flags = Casei ∷ Multi ∷ Dotnl ∷ SwapGreed ∷ IgnoreSpace ∷ Crlf ∷ []
+
+-- the flags with the flag of this letter set or cleared; None if it is the letter of none that a pattern can set
 abbrev pub with_letter : Flags → Bool → ℕ → Option Flags
-with_letter f on c =
-    if c == code "i" then Some (record f { casei = on })
-    else if c == code "m" then Some (record f { multi = on })
-    else if c == code "R" then Some (record f { crlf = on })
-    else if c == code "s" then Some (record f { dotnl = on })
-    else if c == code "U" then Some (record f { swap_greed = on })
-    else if c == code "x" then Some (record f { ignore_space = on })
-    else None
+with_letter f on c = option_map (λ flag. with_flag f flag on) (find (λ flag. c == letter flag) pattern_flags)
 
 -- the result of one character: the letters end with it, or go on under these flags; then `clears` says whether the next
 -- ones clear their flags or set them

@@ -1,10 +1,11 @@
 -- What the readers of parts without trees give: flags of the same mode, counts that fit in a word, and names that can
 -- be written.
 use Rattle.std.proofs.Common.{◌≡◌, ℕ, zero, suc, ◌<◌, ◌^◌, Bool, true, false, not, ◌&&◌, ◌==◌, if◌then◌else◌, []}
-use Rattle.std.proofs.Common.{◌∷◌}
+use Rattle.std.proofs.Common.{List, ◌∷◌}
 use Rattle.std.proofs.Common.{Option, Some, None, IfSome, option_map, unwrap_or, nat_lt, refl, ◌∙◌}
 use Rattle.std.proofs.Common.{arith}
 use Rattle.std.specs.Prelude.{option_and_then}
+use Rattle.std.specs.List.{find}
 use Rattle.std.proofs.lemmas.Bool.{cond_both}
 use Rattle.std.proofs.lemmas.Bool.Decides.{nat_tests}
 use Rattle.std.proofs.Math.Bool.{beq}
@@ -13,14 +14,16 @@ use Rattle.fancy_lex.proofs.ReferencePositions.{IfGives}
 use Rattle.fancy_lex.specs.Characters.{is_among}
 use Rattle.fancy_lex.specs.Delimited.{name_before}
 use Rattle.fancy_lex.specs.ErrorTable.{group_not_named}
+use Rattle.fancy_lex.specs.Flag.{letter, with_flag}
 use Rattle.fancy_lex.specs.Id.{nonempty_front}
 use Rattle.fancy_lex.specs.LayoutSteps.{layout, past_layout}
 use Rattle.fancy_lex.specs.Number.{number}
 use Rattle.fancy_lex.specs.Reading.{Reading, gives, fails, ◌>=>◌, layout_reading, read_or}
 use Rattle.fancy_lex.specs.Text.{Text, strip, bytes, cut_at}
+use Rattle.fancy_lex.specs.declared.flags.Flag.{Flag}
 use Rattle.fancy_lex.specs.declared.flags.Flags.{Flags}
 use Rattle.fancy_parts.specs.FlagLetters.{Letters, inline_flags, flag_group, LetterStep, flags_end, flags_go_on}
-use Rattle.fancy_parts.specs.FlagLetters.{with_letter}
+use Rattle.fancy_parts.specs.FlagLetters.{pattern_flags, with_letter}
 use Rattle.fancy_parts.specs.GroupName.{group_name}
 use Rattle.fancy_parts.specs.LetterSteps.{step, unknown_letter, flag_or_error, after_step, letters_in, letters}
 use Rattle.fancy_parts.specs.Quantifier.{counts, braced_counts, counts_from, in_braces, spaced_count, count}
@@ -66,15 +69,22 @@ abbrev IsStepOf : Flags → LetterStep → Type 0
 IsStepOf f (flags_end l) = IsModeOf f l
 IsStepOf f (flags_go_on clears g) = IsSameMode f g
 
+-- each of these flags keeps the mode
+abbrev KeepMode : Flags → Bool → List Flag → Type 0
+KeepMode f on [] = Unit {0}
+KeepMode f on (flag ∷ l) = IsSameMode f (with_flag f flag on) × KeepMode f on l
+
+-- whichever of them has the letter
+among_mode : (f : Flags) (on : Bool) (c : ℕ) (l : List Flag) → KeepMode f on l →
+    IfSome (option_map (λ flag. with_flag f flag on) (find (λ flag. c == letter flag) l)) (λ g. IsSameMode f g)
+among_mode f on c [] h = tt
+among_mode f on c (flag ∷ l) (e, h) =
+    cond_both (c == letter flag) (Some flag) (find (λ flag. c == letter flag) l)
+    (λ o. IfSome (option_map (λ flag. with_flag f flag on) o) (λ g. IsSameMode f g))
+    (λ _. e) (λ _. among_mode f on c l h)
+
 letter_mode : (f : Flags) (on : Bool) (c : ℕ) → IfSome (with_letter f on c) (λ g. IsSameMode f g)
-letter_mode f on c =
-    let P = λ (o : Option Flags). IfSome o (λ g. IsSameMode f g) in
-    cond_both (c == code "i") _ _ P (λ _. refl) (λ _.
-    cond_both (c == code "m") _ _ P (λ _. refl) (λ _.
-    cond_both (c == code "R") _ _ P (λ _. refl) (λ _.
-    cond_both (c == code "s") _ _ P (λ _. refl) (λ _.
-    cond_both (c == code "U") _ _ P (λ _. refl) (λ _.
-    cond_both (c == code "x") _ _ P (λ _. refl) (λ _. tt))))))
+letter_mode f on c = among_mode f on c pattern_flags (refl, (refl, (refl, (refl, (refl, (refl, tt))))))
 
 module _ (t : Text) where
   step_mode : (f g : Flags) → IsSameMode f g → (clears : Bool) (u : Text) → IfGives (IsStepOf f) (step t clears g u)
