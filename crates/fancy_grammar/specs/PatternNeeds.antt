@@ -5,13 +5,14 @@ use Rattle.std.specs.Char.{is_ascii_alphanumeric}
 use Rattle.std.specs.List.{list_all}
 use Rattle.std.specs.Str.{bytes_eq}
 use Rattle.std.proofs.Math.Bool.{beq}
-use Prim.Native.Char.{code}
 use Rattle.fancy_lex.specs.Characters.{◌∈◌}
 use Rattle.fancy_lex.specs.Escaped.{hex_class, negated_hex_class}
+use Rattle.fancy_lex.specs.Flag.{letter}
 use Rattle.fancy_lex.specs.Text.{Text}
 use Rattle.fancy_lex.specs.declared.escape.Assertion.{Assertion}
 use Rattle.fancy_lex.specs.declared.escape.Assertion.TheVariants.{EndTextIgnoreTrailingNewlines, StartLine}
 use Rattle.fancy_lex.specs.declared.escape.Assertion.TheVariants.{StartLineOniguruma, EndLine}
+use Rattle.fancy_lex.specs.declared.flags.Flag.TheVariants.{Casei, Multi, Dotnl, Crlf}
 use Rattle.fancy_lex.specs.declared.flags.Flags.{Flags}
 use Rattle.fancy_grammar.specs.Label.{Leaf, any, assertion, literal, delegate, backref, backref_at_level, ast_group}
 use Rattle.fancy_grammar.specs.Tree.{Tree, leaf, over, row, Trees, no_trees, more_trees}
@@ -127,8 +128,8 @@ letter_on c was on = if on && not was then c ∷ [] else []
 -- the letters of the flags that are on in g and off in f
 abbrev pub letters_on : Flags → Flags → Text
 letters_on f g =
-    letter_on (code "i") f.casei g.casei ++ (letter_on (code "m") f.multi g.multi
-    ++ (letter_on (code "s") f.dotnl g.dotnl ++ letter_on (code "R") f.crlf g.crlf))
+    letter_on (letter Casei) f.casei g.casei ++ (letter_on (letter Multi) f.multi g.multi
+    ++ (letter_on (letter Dotnl) f.dotnl g.dotnl ++ letter_on (letter Crlf) f.crlf g.crlf))
 
 -- some flag is on in g and off in f
 abbrev pub turns_on : Flags → Flags → Bool
