@@ -118,9 +118,6 @@ pub group_written : (a b c d : String Global) (t : Text) → Appended a b (codes
     Appended c d (codes ")") → Appended a d (codes "(" ++ (t ++ codes ")"))
 group_written a b c d t p q r = written_three a b c d (codes "(") t (codes ")") _ p q r refl
 
-pub no_text_written : (a : String Global) (t : Text) → t ≡ [] → Appended a a t
-no_text_written a t e = subst (λ u. Appended a a u) (sym e) (nothing_written a)
-
 pub long_written : (a b c d : String Global) (e : Tree) → is_long e ≡ true → Appended a b (codes "(?:") →
     Appended b c (printed e OPERAND) → Appended c d (codes ")") → Appended a d (operand_text e)
 long_written a b c d e l p q r = subst (λ g. Appended a d (grouped g (printed e OPERAND))) (sym l)

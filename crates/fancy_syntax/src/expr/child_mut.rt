@@ -46,7 +46,23 @@ impl Parent for Expr {
                 Expr::DefineGroup { definitions } => Some(definitions),
                 Expr::Absent(absent) => absent.box_mut(i),
                 Expr::Conditional { condition, .. } => Some(condition),
-                _ => None,
+                Expr::Empty
+                | Expr::Any { .. }
+                | Expr::Assertion(_)
+                | Expr::GeneralNewline { .. }
+                | Expr::Literal { .. }
+                | Expr::LiteralBytes { .. }
+                | Expr::Concat(_)
+                | Expr::Alt(_)
+                | Expr::Delegate { .. }
+                | Expr::Backref { .. }
+                | Expr::BackrefWithRelativeRecursionLevel { .. }
+                | Expr::KeepOut
+                | Expr::ContinueFromPreviousMatchEnd
+                | Expr::BackrefExistsCondition { .. }
+                | Expr::SubroutineCall(_)
+                | Expr::BacktrackingControlVerb(_)
+                | Expr::AstNode(..) => None,
             },
             1 => match self {
                 Expr::Absent(absent) => absent.box_mut(i),

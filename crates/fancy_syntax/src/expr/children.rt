@@ -27,7 +27,21 @@ impl Expr {
             | Expr::Conditional { .. }
             | Expr::DefineGroup { .. } => false,
             Expr::Absent(absent) => matches!(absent, Absent::Clear),
-            _ => true,
+            Expr::Empty
+            | Expr::Any { .. }
+            | Expr::Assertion(_)
+            | Expr::GeneralNewline { .. }
+            | Expr::Literal { .. }
+            | Expr::LiteralBytes { .. }
+            | Expr::Delegate { .. }
+            | Expr::Backref { .. }
+            | Expr::BackrefWithRelativeRecursionLevel { .. }
+            | Expr::KeepOut
+            | Expr::ContinueFromPreviousMatchEnd
+            | Expr::BackrefExistsCondition { .. }
+            | Expr::SubroutineCall(_)
+            | Expr::BacktrackingControlVerb(_)
+            | Expr::AstNode(..) => true,
         }
     }
 
@@ -69,7 +83,22 @@ impl Expr {
                 second: Some(true_branch),
                 third: Some(false_branch),
             },
-            _ => ExprChildrenIter::Empty,
+            Expr::Empty
+            | Expr::Any { .. }
+            | Expr::Assertion(_)
+            | Expr::GeneralNewline { .. }
+            | Expr::Literal { .. }
+            | Expr::LiteralBytes { .. }
+            | Expr::Delegate { .. }
+            | Expr::Backref { .. }
+            | Expr::BackrefWithRelativeRecursionLevel { .. }
+            | Expr::KeepOut
+            | Expr::ContinueFromPreviousMatchEnd
+            | Expr::BackrefExistsCondition { .. }
+            | Expr::SubroutineCall(_)
+            | Expr::BacktrackingControlVerb(_)
+            | Expr::Absent(Absent::Clear)
+            | Expr::AstNode(..) => ExprChildrenIter::Empty,
         }
     }
 }

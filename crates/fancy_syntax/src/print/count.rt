@@ -76,7 +76,22 @@ fn node_len(tree: &Expr, precedence: u8) -> usize
             hi,
             greedy,
         } => repeat_len(child, *lo, *hi, *greedy, precedence > PIECE),
-        _ => 0,
+        Expr::Empty
+        | Expr::GeneralNewline { .. }
+        | Expr::LiteralBytes { .. }
+        | Expr::LookAround(..)
+        | Expr::Backref { .. }
+        | Expr::BackrefWithRelativeRecursionLevel { .. }
+        | Expr::AtomicGroup(_)
+        | Expr::KeepOut
+        | Expr::ContinueFromPreviousMatchEnd
+        | Expr::BackrefExistsCondition { .. }
+        | Expr::Conditional { .. }
+        | Expr::SubroutineCall(_)
+        | Expr::BacktrackingControlVerb(_)
+        | Expr::Absent(_)
+        | Expr::DefineGroup { .. }
+        | Expr::AstNode(..) => ascii_len(""),
     }
 }
 

@@ -35,7 +35,20 @@ pub(crate) fn is_printable(alloc: Global, tree: &Expr) -> Result<bool, AllocErro
             Ok(!is_empty_in_normal_form(child) && is_printable(alloc, child)?)
         }
         Expr::DefineGroup { .. } => Ok(true),
-        _ => Ok(false),
+        Expr::GeneralNewline { .. }
+        | Expr::LiteralBytes { .. }
+        | Expr::LookAround(..)
+        | Expr::Backref { .. }
+        | Expr::BackrefWithRelativeRecursionLevel { .. }
+        | Expr::AtomicGroup(_)
+        | Expr::KeepOut
+        | Expr::ContinueFromPreviousMatchEnd
+        | Expr::BackrefExistsCondition { .. }
+        | Expr::Conditional { .. }
+        | Expr::SubroutineCall(_)
+        | Expr::BacktrackingControlVerb(_)
+        | Expr::Absent(_)
+        | Expr::AstNode(..) => Ok(false),
     }
 }
 
@@ -76,7 +89,25 @@ fn is_empty_in_normal_form(tree: &Expr) -> bool
             [only] => is_empty_in_normal_form(only),
             _ => false,
         },
-        _ => false,
+        Expr::Any { .. }
+        | Expr::Assertion(_)
+        | Expr::GeneralNewline { .. }
+        | Expr::LiteralBytes { .. }
+        | Expr::Group(_)
+        | Expr::LookAround(..)
+        | Expr::Repeat { .. }
+        | Expr::Delegate { .. }
+        | Expr::Backref { .. }
+        | Expr::BackrefWithRelativeRecursionLevel { .. }
+        | Expr::AtomicGroup(_)
+        | Expr::KeepOut
+        | Expr::ContinueFromPreviousMatchEnd
+        | Expr::BackrefExistsCondition { .. }
+        | Expr::Conditional { .. }
+        | Expr::SubroutineCall(_)
+        | Expr::BacktrackingControlVerb(_)
+        | Expr::Absent(_)
+        | Expr::AstNode(..) => false,
     }
 }
 

@@ -119,7 +119,22 @@ fn put_node(buf: &mut String, tree: &Expr, precedence: u8)
             hi,
             greedy,
         } => put_repeat(buf, child, *lo, *hi, *greedy, precedence > PIECE),
-        _ => {}
+        Expr::Empty
+        | Expr::GeneralNewline { .. }
+        | Expr::LiteralBytes { .. }
+        | Expr::LookAround(..)
+        | Expr::Backref { .. }
+        | Expr::BackrefWithRelativeRecursionLevel { .. }
+        | Expr::AtomicGroup(_)
+        | Expr::KeepOut
+        | Expr::ContinueFromPreviousMatchEnd
+        | Expr::BackrefExistsCondition { .. }
+        | Expr::Conditional { .. }
+        | Expr::SubroutineCall(_)
+        | Expr::BacktrackingControlVerb(_)
+        | Expr::Absent(_)
+        | Expr::DefineGroup { .. }
+        | Expr::AstNode(..) => put_fixed(buf, ""),
     }
 }
 

@@ -58,7 +58,20 @@ pub(super) fn rewrite(
             mem::forget(mem::replace(tree, resolved));
             Ok(())
         }
-        _ => Ok(()),
+        Expr::Empty
+        | Expr::Any { .. }
+        | Expr::Assertion(_)
+        | Expr::GeneralNewline { .. }
+        | Expr::Literal { .. }
+        | Expr::LiteralBytes { .. }
+        | Expr::Delegate { .. }
+        | Expr::Backref { .. }
+        | Expr::BackrefWithRelativeRecursionLevel { .. }
+        | Expr::KeepOut
+        | Expr::ContinueFromPreviousMatchEnd
+        | Expr::BackrefExistsCondition { .. }
+        | Expr::SubroutineCall(_)
+        | Expr::BacktrackingControlVerb(_) => Ok(()),
     }
 }
 

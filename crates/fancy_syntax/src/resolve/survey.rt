@@ -70,7 +70,20 @@ pub(super) fn survey(
         Expr::Absent(absent) => survey_absent(alloc, absent, named, found),
         Expr::DefineGroup { definitions } => survey(alloc, definitions, named, found),
         Expr::AstNode(node, reach) => survey_node(alloc, node, *reach, named, found),
-        _ => Ok(()),
+        Expr::Empty
+        | Expr::Any { .. }
+        | Expr::Assertion(_)
+        | Expr::GeneralNewline { .. }
+        | Expr::Literal { .. }
+        | Expr::LiteralBytes { .. }
+        | Expr::Delegate { .. }
+        | Expr::Backref { .. }
+        | Expr::BackrefWithRelativeRecursionLevel { .. }
+        | Expr::KeepOut
+        | Expr::ContinueFromPreviousMatchEnd
+        | Expr::BackrefExistsCondition { .. }
+        | Expr::SubroutineCall(_)
+        | Expr::BacktrackingControlVerb(_) => Ok(()),
     }
 }
 

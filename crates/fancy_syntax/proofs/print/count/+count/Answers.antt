@@ -5,7 +5,7 @@ use Rattle.fancy_parts.specs.Quote.{quotes}
 use Rattle.fancy_grammar.specs.Printed.{printed, printed_all, caseless}
 use Rattle.fancy_syntax.specs.View.{view}
 use Rattle.fancy_syntax.specs.declared.expr.Expr.{the_lemmas}
-use Rattle.fancy_syntax.proofs.PrintLemmas.{asked, left, branches, bytes_none, minds_case}
+use Rattle.fancy_syntax.proofs.PrintLemmas.{asked, left, branches, minds_case}
 use Rattle.fancy_syntax.proofs.PrintLemmas.{all_step, all_end, branches_step, branches_end}
 use Rattle.fancy_syntax.proofs.print.count.+count.Goals as goal
 
@@ -48,7 +48,7 @@ tree_len-returns-in-Literal-default-false t c =
     let plain = minds_case _ (quotes (chars c.as_str.result.now)) minds in
     omega (arith, c.quotes_len.ensures, c.quotes_len.type_inv, ap bytes (text ∙ plain))
 
-pub node_len-returns-in_default : goal.node_len-returns-in_default
-node_len-returns-in_default t c =
+pub node_len-returns-in-Empty : goal.node_len-returns-in-Empty
+node_len-returns-in-Empty t c =
     let none : printed (view c.args.tree.now) c.args.precedence ≡ [] = search (rules, the_lemmas) in
-    omega (arith, bytes_none _ none)
+    omega (arith, c.ascii_len-in-Empty.ensures, ap bytes none)

@@ -23,12 +23,12 @@ are_empty_in_normal_form-returns t c =
     sym (items_join_empty (left trees 0) ∙ c.loop-tree.invariant
     ∙ empties_end trees c.loop-tree.tree-index c.loop-tree-test.false)
 
-pub is_empty_in_normal_form-returns-in_default-as_slice : goal.is_empty_in_normal_form-returns-in_default-as_slice
-is_empty_in_normal_form-returns-in_default-as_slice t c =
-    sym (alt_several c.args.tree.now c.in-Alt.children c.in-Alt.is
-    (rw c.as_slice.ensures.value at c.in_default-as_slice.len_at_least))
-
 pub is_empty_in_normal_form-returns-in_default : goal.is_empty_in_normal_form-returns-in_default
 is_empty_in_normal_form-returns-in_default t c =
+    sym (alt_several c.args.tree.now c.in-Alt.children c.in-Alt.is
+    (rw c.as_slice.ensures.value at c.in_default.len_at_least))
+
+pub is_empty_in_normal_form-returns-in-Any-8 : goal.is_empty_in_normal_form-returns-in-Any-8
+is_empty_in_normal_form-returns-in-Any-8 t c =
     let other : may_be_blank (view c.args.tree.now) ≡ false = search (rules, the_lemmas) in
     solid_variant (view c.args.tree.now) other

@@ -6,7 +6,7 @@ use Rattle.fancy_grammar.specs.Printed.{printed, printed_all, caseless}
 use Rattle.fancy_syntax.specs.View.{view}
 use Rattle.fancy_syntax.specs.declared.expr.Expr.{the_lemmas}
 use Rattle.fancy_syntax.proofs.PrintLemmas.{asked, left, branches, all_step, all_end, branches_step, branches_end}
-use Rattle.fancy_syntax.proofs.PrintLemmas.{bar_capacity, minds_case, no_text_written}
+use Rattle.fancy_syntax.proofs.PrintLemmas.{bar_capacity, minds_case}
 use Rattle.fancy_syntax.proofs.print.write.+write.Goals as goal
 
 pub put_all-put_tree-requires : goal.put_all-put_tree-requires
@@ -81,7 +81,7 @@ put_tree-returns-in-Literal-default-false t c =
     let plain = minds_case _ (quotes (chars c.as_str.result.now)) minds in
     written_as _ _ _ _ c.put_quotes.ensures (sym (text ∙ plain))
 
-pub put_node-returns-in_default : goal.put_node-returns-in_default
-put_node-returns-in_default t c =
+pub put_node-returns-in-Empty : goal.put_node-returns-in-Empty
+put_node-returns-in-Empty t c =
     let none : printed (view c.args.tree.now) c.args.precedence ≡ [] = search (rules, the_lemmas) in
-    no_text_written c.args.buf.now _ none
+    written_as _ _ _ _ c.put_fixed-in-Empty.ensures (sym none)
