@@ -91,8 +91,8 @@ verb_slice : (t : Text) → VerbSlice t (verb_at t)
 unfolding verb_at
 verb_slice t =
     let P = VerbSlice t in
-    choose_both P (strip_word (codes "FAIL)") t) _ _ (word_slice (codes "FAIL)") t) (
     choose_both P (strip_word (codes "F)") t) _ _ (word_slice (codes "F)") t) (
+    choose_both P (strip_word (codes "FAIL)") t) _ _ (word_slice (codes "FAIL)") t) (
     choose_both P (strip_word (codes "ACCEPT)") t) _ _ (word_slice (codes "ACCEPT)") t) (
     choose_both P (strip_word (codes "COMMIT)") t) _ _ (word_slice (codes "COMMIT)") t) (
     choose_both P (strip_word (codes "SKIP)") t) _ _ (word_slice (codes "SKIP)") t) (

@@ -97,8 +97,8 @@ closes_word t v w o h =
 closes_verb : (t : Text) → ClosesSome t (verb_at t)
 unfolding verb_at
 closes_verb t =
-    closes_word t Fail (codes "FAIL") _
-    (closes_word t Fail (codes "F") _ (closes_word t Accept (codes "ACCEPT") _ (closes_word t Commit (codes "COMMIT") _
+    closes_word t Fail (codes "F") _
+    (closes_word t Fail (codes "FAIL") _ (closes_word t Accept (codes "ACCEPT") _ (closes_word t Commit (codes "COMMIT") _
     (closes_word t Skip (codes "SKIP") _ (closes_word t Prune (codes "PRUNE") None tt)))))
 
 -- ---- the start of an atom

@@ -24,11 +24,11 @@ use Rattle.fancy_grammar.specs.PatternReference.{unresolved_text, group_opening}
 use Rattle.fancy_grammar.specs.PatternSource.{delegate_text}
 use Rattle.fancy_grammar.specs.Quantified.{is_repeatable}
 use Rattle.fancy_grammar.specs.Tree.{Tree, leaf, over, row, Trees, no_trees, more_trees}
+use Rattle.fancy_grammar.specs.Verb.{word}
 use Rattle.fancy_grammar.specs.declared.kinds.LookAround.{LookAround}
 use Rattle.fancy_grammar.specs.declared.kinds.LookAround.TheVariants.{LookAhead, LookAheadNeg, LookBehind}
 use Rattle.fancy_grammar.specs.declared.kinds.LookAround.TheVariants.{LookBehindNeg}
 use Rattle.fancy_grammar.specs.declared.kinds.BacktrackingControlVerb.{BacktrackingControlVerb}
-use Rattle.fancy_grammar.specs.declared.kinds.BacktrackingControlVerb.TheVariants.{Fail, Accept, Commit, Skip, Prune}
 use Rattle.fancy_grammar.specs.declared.precedence.Precedence.{Precedence}
 use Rattle.fancy_grammar.specs.declared.precedence.Precedence.TheVariants.{Whole, Branch, Piece, Operand}
 
@@ -101,12 +101,9 @@ separated_if is t = if is then codes "(?#)" ++ t else t
 
 -- ---- leaves
 
-abbrev pub verb_name : BacktrackingControlVerb → Text
-verb_name Fail = codes "*FAIL"
-verb_name Accept = codes "*ACCEPT"
-verb_name Commit = codes "*COMMIT"
-verb_name Skip = codes "*SKIP"
-verb_name Prune = codes "*PRUNE"
+-- a verb, as it stands in parentheses
+abbrev pub verb_text : BacktrackingControlVerb → Text
+verb_text v = codes "*" ++ word v
 
 abbrev pub parenthesized : Text → Text
 parenthesized t = codes "(" ++ (t ++ codes ")")
@@ -124,7 +121,7 @@ leaf_text m keep_out h = codes "\\K"
 leaf_text m continue_from_previous_match_end h = codes "\\G"
 leaf_text m (backref_exists n level) h = codes "(?" ++ (parenthesized (target_text m n level) ++ codes ")")
 leaf_text m (subroutine_call n) h = call_text m h.opened n
-leaf_text m (verb v) h = parenthesized (verb_name v)
+leaf_text m (verb v) h = parenthesized (verb_text v)
 leaf_text m clear h = codes "(?~|)"
 leaf_text m (ast_node r position) h = unresolved_text r
 leaf_text m empty h = []
@@ -158,7 +155,7 @@ look_opening LookBehindNeg = codes "?<!"
 -- a condition, with its text as an alternation, which must not be read as a target or as `DEFINE`
 abbrev pub condition_text : GroupInfo → Tree → Text → Text
 condition_text m (leaf (backref_exists n level)) t = target_text m n level
-condition_text m (leaf (verb v)) t = verb_name v
+condition_text m (leaf (verb v)) t = verb_text v
 condition_text m c t = separated_if (begins_target t || bytes_eq t (codes "DEFINE")) t
 
 abbrev pub is_alt : Tree → Bool

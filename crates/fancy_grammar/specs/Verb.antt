@@ -1,5 +1,5 @@
--- Words that a text may begin with, and the names of verbs.
-use Rattle.std.specs.Prelude.{codes, List, [], ◌∷◌, map, Option, Some, None}
+-- Words that a text may begin with, and the words of verbs.
+use Rattle.std.specs.Prelude.{codes, List, [], ◌∷◌, ◌++◌, map, Option, Some, None}
 use Rattle.fancy_lex.specs.Reading.{choose}
 use Rattle.fancy_lex.specs.Text.{Text, strip_word}
 use Rattle.fancy_grammar.specs.declared.kinds.BacktrackingControlVerb.{BacktrackingControlVerb}
@@ -10,17 +10,18 @@ abbrev pub by_word : {A : Type 0} → List (Text × (Text → A)) → Text → A
 by_word [] t other = other
 by_word ((w, f) ∷ l) t other = choose (strip_word w t) f (by_word l t other)
 
--- the names of verbs, each with the closing parenthesis
-abbrev pub verbs : List (Text × BacktrackingControlVerb)
-verbs =
-    (codes "FAIL)", Fail)
-    ∷ (codes "F)", Fail)
-    ∷ (codes "ACCEPT)", Accept)
-    ∷ (codes "COMMIT)", Commit)
-    ∷ (codes "SKIP)", Skip)
-    ∷ (codes "PRUNE)", Prune)
-    ∷ []
+-- the word of a verb, as it is written
+abbrev pub word : BacktrackingControlVerb → Text
+word Fail = codes "FAIL"
+word Accept = codes "ACCEPT"
+word Commit = codes "COMMIT"
+word Skip = codes "SKIP"
+word Prune = codes "PRUNE"
 
--- the verb whose name and closing parenthesis are next, and the text after them
+-- the verbs by the words that are read as them: `F` is one more word for a Fail
+abbrev pub verbs : List (Text × BacktrackingControlVerb)
+verbs = (codes "F", Fail) ∷ map (λ v. (word v, v)) (Fail ∷ Accept ∷ Commit ∷ Skip ∷ Prune ∷ [])
+
+-- the verb whose word and a closing parenthesis are next, and the text after them
 unfoldable pub verb_at : Text → Option (BacktrackingControlVerb × Text)
-verb_at t = by_word (map (λ v. (v.0, λ u. Some (v.1, u))) verbs) t None
+verb_at t = by_word (map (λ v. (v.0 ++ codes ")", λ u. Some (v.1, u))) verbs) t None

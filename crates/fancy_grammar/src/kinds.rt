@@ -1,4 +1,7 @@
 //! The kinds of look-around, and the verbs.
+ghost use Rattle.std.specs.Prelude.{◌≡◌, nat_lt, true};
+ghost use Rattle.std.specs.List.{list_all};
+ghost use Rattle.fancy_grammar.specs.Verb as spec;
 
 /// The kind of a look-around.
 #[derive(Clone, Copy, PartialEq, Eq, Debug, Drop)]
@@ -26,4 +29,29 @@ pub enum BacktrackingControlVerb {
     Skip,
     /// `(*PRUNE)`: backtracking onto it fails at this start position.
     Prune,
+}
+
+impl BacktrackingControlVerb {
+    /// All verbs.
+    pub const ALL: [BacktrackingControlVerb; 5] = [
+        BacktrackingControlVerb::Fail,
+        BacktrackingControlVerb::Accept,
+        BacktrackingControlVerb::Commit,
+        BacktrackingControlVerb::Skip,
+        BacktrackingControlVerb::Prune,
+    ];
+
+    /// The verb's word, as in `(*FAIL)`.
+    pub fn word(self) -> &'static str
+        ensures text { spec.word self ≡ result.now }
+        ensures ascii { list_all (λ b. nat_lt b 128) result.now ≡ true }
+    {
+        match self {
+            BacktrackingControlVerb::Fail => "FAIL",
+            BacktrackingControlVerb::Accept => "ACCEPT",
+            BacktrackingControlVerb::Commit => "COMMIT",
+            BacktrackingControlVerb::Skip => "SKIP",
+            BacktrackingControlVerb::Prune => "PRUNE",
+        }
+    }
 }

@@ -63,20 +63,6 @@ fn assertion_text(assertion: Assertion, flags: Flags) -> &'static str
     }
 }
 
-/// The name of a verb, as it is written in the parentheses.
-pub(crate) fn verb_name(verb: BacktrackingControlVerb) -> &'static str
-    ensures text { spec.verb_name verb ≡ result.now }
-    ensures ascii { list_all (λ b. nat_lt b 128) result.now ≡ true }
-{
-    match verb {
-        BacktrackingControlVerb::Fail => "*FAIL",
-        BacktrackingControlVerb::Accept => "*ACCEPT",
-        BacktrackingControlVerb::Commit => "*COMMIT",
-        BacktrackingControlVerb::Skip => "*SKIP",
-        BacktrackingControlVerb::Prune => "*PRUNE",
-    }
-}
-
 /// Writes any character.
 #[tactic(auto, using(crate::proofs::OutputLemmas::added_steps))]
 fn put_any(out: &mut TextOutput, newline: bool, crlf: bool, flags: Flags) -> Result<(), AllocError>
@@ -93,13 +79,25 @@ fn put_assertion(out: &mut TextOutput, assertion: Assertion, flags: Flags) -> Re
     put_ascii(out, assertion_text(assertion, flags))
 }
 
+/// Writes a verb without its parentheses.
+#[tactic(auto, using(crate::proofs::OutputLemmas::added_steps))]
+pub(crate) fn put_verb_text(
+    out: &mut TextOutput,
+    verb: BacktrackingControlVerb,
+) -> Result<(), AllocError>
+    ensures { OnOk result (Added out.old out.new (spec.verb_text verb)) }
+{
+    out.put('*')?;
+    put_ascii(out, verb.word())
+}
+
 /// Writes a verb.
 #[tactic(auto, using(crate::proofs::OutputLemmas::added_steps))]
 fn put_verb(out: &mut TextOutput, verb: BacktrackingControlVerb) -> Result<(), AllocError>
-    ensures { OnOk result (Added out.old out.new (spec.parenthesized (spec.verb_name verb))) }
+    ensures { OnOk result (Added out.old out.new (spec.parenthesized (spec.verb_text verb))) }
 {
     out.put('(')?;
-    put_ascii(out, verb_name(verb))?;
+    put_verb_text(out, verb)?;
     out.put(')')
 }
 

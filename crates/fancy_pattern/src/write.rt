@@ -24,7 +24,7 @@ ghost use Rattle.fancy_pattern.specs.Writers.{Writes, WritesSettled, WritesChoic
 use crate::context::Context;
 use crate::flags::{open_flag_group, put_inline_flags};
 use crate::group_text::{close, look_opening, open};
-use crate::leaf::{put_leaf, verb_name};
+use crate::leaf::{put_leaf, put_verb_text};
 use crate::names::GroupNames;
 use crate::output::{TextOutput, put_ascii, put_if};
 use crate::quantifier::{
@@ -600,7 +600,7 @@ fn put_condition(
         }
         Expr::BacktrackingControlVerb(verb) => {
             context.pass_node();
-            put_ascii(out, verb_name(*verb))
+            put_verb_text(out, *verb)
         }
         Expr::Empty
         | Expr::Any { .. }

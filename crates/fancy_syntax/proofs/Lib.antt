@@ -7,6 +7,7 @@ pub mod LoanLemmas
 pub mod WriteLemmas
 -- ---- the loop of the grammar
 mod TreesLemmas
+mod VerbLemmas
 mod SolidLemmas
 mod StepLemmas
 mod PassedLemmas

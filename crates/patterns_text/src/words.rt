@@ -4,7 +4,7 @@ use crate::names::Names;
 use crate::shown::{Code, is_hidden};
 use fancy_lex::escape::Assertion;
 use fancy_lex::name::CaptureGroupTarget;
-use fancy_syntax::expr::{Absent, AstNode, BacktrackingControlVerb, Expr, LookAround};
+use fancy_syntax::expr::{Absent, AstNode, Expr, LookAround};
 use fre_program::hex::Hex;
 use std::io::Write;
 use std::{fmt, io};
@@ -81,16 +81,6 @@ fn look_around_words(look_around: LookAround) -> &'static str {
     }
 }
 
-fn verb_words(verb: BacktrackingControlVerb) -> &'static str {
-    match verb {
-        BacktrackingControlVerb::Fail => "verb FAIL",
-        BacktrackingControlVerb::Accept => "verb ACCEPT",
-        BacktrackingControlVerb::Commit => "verb COMMIT",
-        BacktrackingControlVerb::Skip => "verb SKIP",
-        BacktrackingControlVerb::Prune => "verb PRUNE",
-    }
-}
-
 fn absent_words(absent: &Absent) -> &'static str {
     match absent {
         Absent::Repeater(_) => "absent repeater: text without a match of",
@@ -116,7 +106,6 @@ fn plain_words(node: &Expr) -> &'static str {
         Expr::KeepOut => r"\K: the match begins here",
         Expr::ContinueFromPreviousMatchEnd => "end of the previous match",
         Expr::Conditional { .. } => "conditional",
-        Expr::BacktrackingControlVerb(verb) => verb_words(*verb),
         Expr::Absent(absent) => absent_words(absent),
         Expr::DefineGroup { .. } => "definitions",
         Expr::Literal { .. }
@@ -128,6 +117,7 @@ fn plain_words(node: &Expr) -> &'static str {
         | Expr::BackrefWithRelativeRecursionLevel { .. }
         | Expr::BackrefExistsCondition { .. }
         | Expr::SubroutineCall(_)
+        | Expr::BacktrackingControlVerb(_)
         | Expr::AstNode(..) => "a node that no parsed tree has",
     }
 }
@@ -290,6 +280,7 @@ impl fmt::Display for Held<'_> {
                 let mode = if *greedy { "greedy" } else { "lazy" };
                 write!(f, "repeat {times}, {mode}")
             }
+            Expr::BacktrackingControlVerb(verb) => write!(f, "verb {}", verb.word()),
             node => f.write_str(plain_words(node)),
         }
     }

@@ -20,7 +20,7 @@ use Rattle.fancy_grammar.specs.AtomStart.{atom_start, condition, body, error_sta
 use Rattle.fancy_grammar.specs.Grammar.{atom, a_condition, a_body, inside}
 use Rattle.fancy_grammar.specs.Label as label
 use Rattle.fancy_grammar.specs.GroupInfo.{GroupInfo}
-use Rattle.fancy_grammar.specs.Pattern.{Context, past_groups, deeper, written, flags_after, condition_text, verb_name}
+use Rattle.fancy_grammar.specs.Pattern.{Context, past_groups, deeper, written, flags_after, condition_text, verb_text}
 use Rattle.fancy_grammar.specs.Pattern.{separated_if}
 use Rattle.fancy_grammar.specs.PatternDepth.{MayOpen, Fits, FitsAsCondition}
 use Rattle.fancy_grammar.specs.PatternReference.{name_of}
@@ -124,7 +124,7 @@ module _ (μ : GroupInfo) (i : Context) (d : MayOpen i) where
       ∙ ap (λ o. choose o (λ p. body (leaf (label.verb p.0)) (st i.flags p.1))
       (error_start (unknown_verb (code "*" ∷ (t ++ z))))) e
 
-  on_verb : (b : BacktrackingControlVerb) → Before μ i (verb_name b) i.flags (leaf (label.verb b))
+  on_verb : (b : BacktrackingControlVerb) → Before μ i (verb_text b) i.flags (leaf (label.verb b))
   on_verb b = record {
     node = λ z. leaf (label.verb b);
     becomes = λ z. record { is = λ n u e. refl; count = refl; groups = tt };
@@ -132,7 +132,7 @@ module _ (μ : GroupInfo) (i : Context) (d : MayOpen i) where
   }
     where
       starts : (b : BacktrackingControlVerb) (z : Text) →
-          atom_start i.depth (st i.flags (codes "(?(" ++ (verb_name b ++ code ")" ∷ z)))
+          atom_start i.depth (st i.flags (codes "(?(" ++ (verb_text b ++ code ")" ∷ z)))
           ≡ body (leaf (label.verb b)) (st i.flags z)
       starts Fail z = verb_is (codes "FAIL)") z Fail (fail_read z)
       starts Accept z = verb_is (codes "ACCEPT)") z Accept (accept_read z)

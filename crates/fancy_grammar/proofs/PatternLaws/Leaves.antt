@@ -32,7 +32,7 @@ use Rattle.fancy_grammar.specs.Grammar.{atom, a_read, one_branch, branch, stop}
 use Rattle.fancy_grammar.specs.Label as label
 use Rattle.fancy_grammar.specs.Label.{Leaf}
 use Rattle.fancy_grammar.specs.GroupInfo.{GroupInfo}
-use Rattle.fancy_grammar.specs.Pattern.{Context, parenthesized, verb_name}
+use Rattle.fancy_grammar.specs.Pattern.{Context, parenthesized, verb_text}
 use Rattle.fancy_grammar.specs.PatternLetters.{any_text, assertion_text, character}
 use Rattle.fancy_grammar.specs.State.{done}
 use Rattle.fancy_grammar.specs.Tree.{leaf, assertion}
@@ -432,7 +432,7 @@ unfolding verb_at
 prune_read v = refl
 
 pub verb_leaf_at : (μ : GroupInfo) (h : Context) (b : BacktrackingControlVerb) → h.depth + 1 < max_depth →
-    LeafAt μ h (parenthesized (verb_name b)) (label.verb b)
+    LeafAt μ h (parenthesized (verb_text b)) (label.verb b)
 verb_leaf_at μ h Fail l = verb_leaf μ h (codes "FAIL)") Fail l fail_read
 verb_leaf_at μ h Accept l = verb_leaf μ h (codes "ACCEPT)") Accept l accept_read
 verb_leaf_at μ h Commit l = verb_leaf μ h (codes "COMMIT)") Commit l commit_read

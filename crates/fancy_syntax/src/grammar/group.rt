@@ -2,6 +2,7 @@
 ghost use Rattle.std.specs.Prelude.{◌≡◌, ◌<◌, ◌≤◌, length, chars, codes, ◌++◌, Some, None, IfOk, IfSome, option_map};
 ghost use Rattle.std.specs.Prelude.{MatchResult};
 ghost use Rattle.fancy_lex.specs.ErrorTable.{unknown_verb};
+ghost use Rattle.fancy_lex.specs.Text.{strip_word};
 ghost use Rattle.fancy_parts.specs.LetterSteps.{letters};
 ghost use Rattle.fancy_parts.specs.GroupName as names;
 ghost use Rattle.fancy_parts.specs.NameDelimiter.{delimiter_of};
@@ -314,29 +315,27 @@ fn read_verb<'a>(
     Ok(verb)
 }
 
-/// The verb whose name and closing parenthesis are at the front, and what follows them.
+/// The verb whose word and closing parenthesis are at the front, and what follows them.
 #[tactic(auto, unfolding(fancy_grammar::specs::Verb::verb_at))]
 fn verb_at(text: &str) -> Option<(BacktrackingControlVerb, &str)>
     ensures value { verbs.verb_at (chars text.now) ≡ option_map (λ p. (p.0, chars p.1.now)) result }
     ensures within { IfSome result (λ p. length p.1.now ≤ length text.now) }
 {
-    if let Some(rest) = after_word(text, "FAIL)") {
-        return Some((BacktrackingControlVerb::Fail, rest));
-    }
     if let Some(rest) = after_word(text, "F)") {
         return Some((BacktrackingControlVerb::Fail, rest));
     }
-    if let Some(rest) = after_word(text, "ACCEPT)") {
-        return Some((BacktrackingControlVerb::Accept, rest));
-    }
-    if let Some(rest) = after_word(text, "COMMIT)") {
-        return Some((BacktrackingControlVerb::Commit, rest));
-    }
-    if let Some(rest) = after_word(text, "SKIP)") {
-        return Some((BacktrackingControlVerb::Skip, rest));
-    }
-    if let Some(rest) = after_word(text, "PRUNE)") {
-        return Some((BacktrackingControlVerb::Prune, rest));
+    for verb in BacktrackingControlVerb::ALL {
+        if let Some(rest) = after_verb(text, verb) {
+            return Some((verb, rest));
+        }
     }
     None
+}
+
+/// What follows the verb's word and a closing parenthesis, if they are at the front.
+fn after_verb(text: &str, verb: BacktrackingControlVerb) -> Option<&str>
+    ensures value { strip_word (verbs.word verb ++ codes ")") (chars text.now) ≡ option_map (λ r. chars r.now) result }
+    ensures within { IfSome result (λ r. length r.now ≤ length text.now) }
+{
+    after_word(after_word(text, verb.word())?, ")")
 }

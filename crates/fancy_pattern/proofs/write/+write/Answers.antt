@@ -1,6 +1,6 @@
 use Rattle.std.proofs.Common.{◌≡◌, ◌+◌, true, false, [], codes, sym, ap, ◌∙◌, subst, refl, rules, if◌then◌else◌}
 use Rattle.fancy_grammar.specs.Label as label
-use Rattle.fancy_grammar.specs.Pattern.{written, written_all, written_branches, condition_text, after, verb_name}
+use Rattle.fancy_grammar.specs.Pattern.{written, written_all, written_branches, condition_text, after, verb_text}
 use Rattle.fancy_grammar.specs.Pattern.{in_parens, past_groups, group_count, look_opening, repeated}
 use Rattle.fancy_grammar.specs.PatternNeeds.{first, needs}
 use Rattle.fancy_grammar.specs.PatternQuantifier.{quantifier_text}
@@ -190,12 +190,11 @@ pub put_condition-returns-in-BacktrackingControlVerb : goal.put_condition-return
 put_condition-returns-in-BacktrackingControlVerb t c = λ m names.
     let v = c.in-BacktrackingControlVerb.verb in
     let is : view c.args.condition.now ≡ verb v = search (rules, the_lemmas) in
-    on_then _ _ _ c.put_ascii.ensures
-    (λ w. subst (λ x. Writes c.args.out.now c.put_ascii.new.out c.args.context.now
+    on_then _ _ _ c.put_verb_text.ensures
+    (λ w. subst (λ x. Writes c.args.out.now c.put_verb_text.new.out c.args.context.now
     c.pass_node-in-BacktrackingControlVerb.new.self (λ o. needs_listed o x)
     (λ h. condition_text m x (written m x Whole h)) (after x Whole)) (sym is)
-    (word_writes _ _ _ _ m (label.verb v) (verb_name v) refl (λ x. refl)
-    (subst (Added c.args.out.now c.put_ascii.new.out) (sym c.verb_name.ensures.text) w)
+    (word_writes _ _ _ _ m (label.verb v) (verb_text v) refl (λ x. refl) w
     c.pass_node-in-BacktrackingControlVerb.ensures))
 
 pub put_condition-returns-in_ok-put_tree-in-Empty : goal.put_condition-returns-in_ok-put_tree-in-Empty
