@@ -1,11 +1,12 @@
 -- The texts of characters and of escapes.
-use Rattle.std.specs.Prelude.{ℕ, ◌/◌, ◌%◌, ◌==◌, Bool, true, false, ◌&&◌, ◌||◌, nat_lt, nat_le, List, [], ◌∷◌}
-use Rattle.std.specs.Prelude.{◌++◌, codes, map, Option, Some, None, if◌then◌else◌}
+use Rattle.std.specs.Prelude.{ℕ, ◌/◌, ◌%◌, Bool, true, false, ◌&&◌, ◌||◌, nat_lt, nat_le, List, [], ◌∷◌}
+use Rattle.std.specs.Prelude.{◌++◌, codes, map, if◌then◌else◌}
 use Rattle.std.specs.List.{list_any}
 use Rattle.std.proofs.Math.Bool.{beq}
 use Prim.Native.Char.{code}
-use Rattle.fancy_lex.specs.Characters.{◌∈◌}
+use Rattle.fancy_lex.specs.Characters.{is_among, ◌∈◌, metacharacters}
 use Rattle.fancy_lex.specs.Class.{upper_hex_digit, byte_text}
+use Rattle.fancy_lex.specs.Escape.{letter_of}
 use Rattle.fancy_lex.specs.Reading.{choose}
 use Rattle.fancy_lex.specs.Text.{Text}
 use Rattle.fancy_lex.specs.declared.escape.Assertion.{Assertion}
@@ -34,18 +35,6 @@ coded c =
     if nat_lt c 0x80 then byte_text c
     else codes "\\u" ++ map upper_hex_digit (c / 4096 ∷ c / 256 % 16 ∷ c / 16 % 16 ∷ c % 16 ∷ [])
 
--- the letter that denotes the character after a backslash
-abbrev pub letter_of : ℕ → Option ℕ
-letter_of c =
-    if c == code "\n" then Some (code "n")
-    else if c == code "\t" then Some (code "t")
-    else if c == code "\r" then Some (code "r")
-    else if c == code "\u{c}" then Some (code "f")
-    else if c == code "\u{b}" then Some (code "v")
-    else if c == code "\u{7}" then Some (code "a")
-    else if c == code "\u{1b}" then Some (code "e")
-    else None
-
 -- what a character is written as if it is no metacharacter and no flag applies to it
 abbrev pub plain : ℕ → Text
 plain c = if is_unseen c then coded c else c ∷ []
@@ -60,9 +49,10 @@ is_layout f c = f.ignore_space && c ∈ " #"
 
 -- a character of a Literal under these flags, with its case ignored or kept
 abbrev pub character : Flags → Bool → ℕ → Text
-character f true c = if c ∈ "\\.+*?()|[{^$" || is_layout f c then coded c else plain c
+character f true c = if is_among c metacharacters || is_layout f c then coded c else plain c
 character f false c =
-    by_letter_or c (if c ∈ "\\.+*?()|[]{}^$" || (is_layout f c || f.casei) then code "\\" ∷ c ∷ [] else plain c)
+    by_letter_or c
+    (if is_among c (metacharacters ++ codes "]}") || (is_layout f c || f.casei) then code "\\" ∷ c ∷ [] else plain c)
 
 -- ---- escapes
 

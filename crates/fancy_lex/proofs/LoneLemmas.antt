@@ -6,8 +6,7 @@ use Rattle.std.proofs.lemmas.Bool.Decides.{nat_tests}
 use Rattle.std.specs.Char.{is_ascii_digit}
 use Rattle.std.specs.List.{AllByRecursion}
 use Rattle.std.specs.Option.{option_or}
-use Prim.Native.String.{String}
-use Rattle.fancy_lex.specs.Characters.{◌∈◌}
+use Rattle.fancy_lex.specs.Characters.{is_among, ◌∈◌}
 use Rattle.fancy_lex.specs.Escape.{escape_at, outside, is_itself, lone_anywhere, lone_in_class, lone_outside, row_of}
 use Rattle.fancy_lex.specs.Escape.{lone_escape, unknown_escape}
 use Rattle.fancy_lex.specs.Escaped.{Escape, literal}
@@ -16,12 +15,12 @@ use Rattle.fancy_lex.specs.Text.{Text}
 use Rattle.fancy_lex.specs.declared.flags.Flags.{Flags}
 
 -- P holds for each row that has c among its letters
-abbrev pub AtRows : (Escape → Type 0) → ℕ → List (String × Escape) → Type 0
-AtRows P c rows = AllByRecursion (λ r. c ∈ r.0 ≡ true → P r.1) rows
+abbrev pub AtRows : (Escape → Type 0) → ℕ → List (Text × Escape) → Type 0
+AtRows P c rows = AllByRecursion (λ r. is_among c r.0 ≡ true → P r.1) rows
 
-by_row : (P : Escape → Type 0) (c : ℕ) (rows : List (String × Escape)) → AtRows P c rows → IfSome (row_of c rows) P
+by_row : (P : Escape → Type 0) (c : ℕ) (rows : List (Text × Escape)) → AtRows P c rows → IfSome (row_of c rows) P
 by_row P c [] h = tt
-by_row P c (r ∷ rows) h = cond_both (c ∈ r.0) _ _ (λ o. IfSome o P) h.0 (λ _. by_row P c rows h.1)
+by_row P c (r ∷ rows) h = cond_both (is_among c r.0) _ _ (λ o. IfSome o P) h.0 (λ _. by_row P c rows h.1)
 
 by_either : (P : Escape → Type 0) (o q : Option Escape) → IfSome o P → IfSome q P → IfSome (option_or o q) P
 by_either P (Some e) q h k = h

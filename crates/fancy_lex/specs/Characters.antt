@@ -9,6 +9,10 @@ is_among c [] = false
 is_among c (d ∷ []) = c == d
 is_among c (d ∷ e ∷ rest) = c == d || is_among c (e ∷ rest)
 
+-- the characters that have a meaning of their own wherever they are outside a class
+abbrev pub metacharacters : List ℕ
+metacharacters = codes "\\.+*?()|[{^$"
+
 -- whether the character occurs in the text
 infix 60 ◌∈◌
 abbrev pub ◌∈◌ : ℕ → String → Bool

@@ -2,7 +2,7 @@
 use Rattle.std.specs.Prelude.{◌≡◌, ℕ, zero, suc, ◌+◌, ◌-◌, ◌/◌, ◌%◌, Bool, true, false, not, ◌&&◌, ◌||◌, ◌==◌, nat_lt}
 use Rattle.std.specs.Prelude.{if◌then◌else◌, [], ◌∷◌, ◌++◌, codes}
 use Prim.Native.Char.{code}
-use Rattle.fancy_lex.specs.Characters.{◌∈◌}
+use Rattle.fancy_lex.specs.Characters.{is_among, ◌∈◌, metacharacters}
 use Rattle.fancy_lex.specs.Escape.{escape}
 use Rattle.fancy_lex.specs.Escaped.{Escape, literal, literal_bytes, delegate}
 use Rattle.fancy_lex.specs.Located.{Located}
@@ -14,7 +14,7 @@ use Rattle.fancy_lex.specs.declared.flags.Flags.{Flags}
 
 -- the characters that need a backslash in a class
 abbrev pub needs_backslash_in_class : ℕ → Bool
-needs_backslash_in_class c = c ∈ "\\.+*?()|[]{}^$#&-~"
+needs_backslash_in_class c = is_among c (metacharacters ++ codes "]}#&-~")
 
 -- a digit's character, in upper case
 abbrev pub upper_hex_digit : ℕ → ℕ

@@ -1,7 +1,7 @@
 -- Escapes: the text after a backslash.
-use Rattle.std.specs.Prelude.{ℕ, ◌+◌, Bool, true, false, not, ◌&&◌, ◌||◌, if◌then◌else◌, List, [], ◌∷◌, Option, Some}
+use Rattle.std.specs.Prelude.{ℕ, ◌+◌, ◌==◌, Bool, true, false, not, ◌&&◌, ◌||◌, if◌then◌else◌, List, [], ◌∷◌, codes}
+use Rattle.std.specs.Prelude.{map, Option, Some}
 use Prim.Native.Char.{code}
-use Prim.Native.String.{String}
 use Rattle.std.specs.Char.{is_ascii_alphanumeric, is_ascii_digit}
 use Rattle.std.specs.Map.{lookup}
 use Rattle.std.specs.Option.{option_or}
@@ -9,7 +9,7 @@ use Rattle.fancy_lex.specs.declared.escape.Assertion.TheVariants.{StartText, End
 use Rattle.fancy_lex.specs.declared.escape.Assertion.TheVariants.{LeftWordBoundary, RightWordBoundary}
 use Rattle.fancy_lex.specs.declared.flags.Flags.{Flags}
 use Rattle.fancy_lex.specs.BoundarySteps.{boundary}
-use Rattle.fancy_lex.specs.Characters.{◌∈◌}
+use Rattle.fancy_lex.specs.Characters.{is_among, ◌∈◌}
 use Rattle.fancy_lex.specs.EscapeReference as reference
 use Rattle.fancy_lex.specs.Escaped.{hex_class, negated_hex_class, Escape, literal, any, assertion, general_newline}
 use Rattle.fancy_lex.specs.Escaped.{keep_out, continue_from_previous_match_end, delegate, backref, subroutine_call}
@@ -51,41 +51,50 @@ property f inside p c (d ∷ t) =
 abbrev pub is_itself : Bool → ℕ → Bool
 is_itself inside c = not (is_ascii_alphanumeric c) && (inside || not (c ∈ "<>"))
 
+-- the characters that a letter denotes after a backslash, each with its letter
+abbrev pub lettered : List (ℕ × ℕ)
+lettered =
+    (code "\u{7}", code "a")
+    ∷ (code "\u{c}", code "f")
+    ∷ (code "\n", code "n")
+    ∷ (code "\r", code "r")
+    ∷ (code "\t", code "t")
+    ∷ (code "\u{b}", code "v")
+    ∷ (code "\u{1b}", code "e") ∷ []
+
+-- the letter that denotes the character after a backslash
+abbrev pub letter_of : ℕ → Option ℕ
+letter_of c = lookup (λ d. c == d) lettered
+
 -- letters that are the whole escape, in a class and outside, and the leaf of c as one of them
-abbrev pub lone_anywhere : Flags → ℕ → List (String × Escape)
+abbrev pub lone_anywhere : Flags → ℕ → List (Text × Escape)
 lone_anywhere f c =
-    ("dDsSwW", delegate (code "\\" ∷ c ∷ []) f.casei)
-    ∷ ("h", delegate hex_class false)
-    ∷ ("H", delegate negated_hex_class false)
-    ∷ ("a", literal (code "\u{7}") false)
-    ∷ ("f", literal (code "\u{c}") false)
-    ∷ ("n", literal (code "\n") false)
-    ∷ ("r", literal (code "\r") false)
-    ∷ ("t", literal (code "\t") false)
-    ∷ ("v", literal (code "\u{b}") false)
-    ∷ ("e", literal (code "\u{1b}") false) ∷ []
+    (codes "dDsSwW", delegate (code "\\" ∷ c ∷ []) f.casei)
+    ∷ (codes "h", delegate hex_class false)
+    ∷ (codes "H", delegate negated_hex_class false)
+    ∷ map (λ r. (r.1 ∷ [], literal r.0 false)) lettered
 
 -- the same for letters that are escapes only in a class
-abbrev pub lone_in_class : ℕ → List (String × Escape)
-lone_in_class c = ("b", literal (code "\u{8}") false) ∷ ("kAzBKGR", literal c false) ∷ []
+abbrev pub lone_in_class : ℕ → List (Text × Escape)
+lone_in_class c = (codes "b", literal (code "\u{8}") false) ∷ (codes "kAzBKGR", literal c false) ∷ []
 
 -- the same for characters that are escapes only outside a class
-abbrev pub lone_outside : Flags → ℕ → List (String × Escape)
+abbrev pub lone_outside : Flags → ℕ → List (Text × Escape)
 lone_outside f c =
-    ("A", assertion StartText)
-    ∷ ("z", assertion EndText)
-    ∷ ("Z", assertion (EndTextIgnoreTrailingNewlines f.crlf))
-    ∷ ("K", keep_out)
-    ∷ ("G", continue_from_previous_match_end)
-    ∷ ("R", general_newline f.unicode)
-    ∷ ("O", any true true)
-    ∷ ("N", any false false)
-    ∷ ("<", if f.oniguruma_mode then literal c false else assertion LeftWordBoundary)
-    ∷ (">", if f.oniguruma_mode then literal c false else assertion RightWordBoundary) ∷ []
+    (codes "A", assertion StartText)
+    ∷ (codes "z", assertion EndText)
+    ∷ (codes "Z", assertion (EndTextIgnoreTrailingNewlines f.crlf))
+    ∷ (codes "K", keep_out)
+    ∷ (codes "G", continue_from_previous_match_end)
+    ∷ (codes "R", general_newline f.unicode)
+    ∷ (codes "O", any true true)
+    ∷ (codes "N", any false false)
+    ∷ (codes "<", if f.oniguruma_mode then literal c false else assertion LeftWordBoundary)
+    ∷ (codes ">", if f.oniguruma_mode then literal c false else assertion RightWordBoundary) ∷ []
 
 -- the leaf of c in the row that has it among its letters
-abbrev pub row_of : ℕ → List (String × Escape) → Option Escape
-row_of c rows = lookup (λ letters. c ∈ letters) rows
+abbrev pub row_of : ℕ → List (Text × Escape) → Option Escape
+row_of c rows = lookup (λ letters. is_among c letters) rows
 
 -- the leaf of a character that is the whole escape
 unfoldable pub lone_escape : Flags → Bool → ℕ → Option Escape

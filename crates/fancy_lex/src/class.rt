@@ -8,7 +8,7 @@ ghost use Rattle.fancy_lex.specs.ErrorViews.{LiesWithin};
 ghost use Rattle.fancy_lex.specs.Text.{Text, text_of, BeginsWith, EndsWith};
 
 use crate::error::{ParseError, ReadError};
-use crate::escape::{DelegateText, Escaped, escape};
+use crate::escape::{DelegateText, Escaped, escape, is_metacharacter};
 use crate::flags::Flags;
 use crate::property::{is_negated, push_property};
 use crate::text::{AT_END, after, append, next, push};
@@ -18,26 +18,7 @@ use std::alloc::{AllocError, Global};
 fn needs_backslash_in_class(c: char) -> bool
     ensures { result ≡ spec.needs_backslash_in_class c }
 {
-    matches!(
-        c,
-        '\\' | '.'
-            | '+'
-            | '*'
-            | '?'
-            | '('
-            | ')'
-            | '|'
-            | '['
-            | ']'
-            | '{'
-            | '}'
-            | '^'
-            | '$'
-            | '#'
-            | '&'
-            | '-'
-            | '~'
-    )
+    is_metacharacter(c) || matches!(c, ']' | '}' | '#' | '&' | '-' | '~')
 }
 
 /// Adds the character, with a backslash before it if it is a metacharacter.

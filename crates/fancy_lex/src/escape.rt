@@ -1,7 +1,7 @@
 //! Escapes: the text after a backslash.
 ghost use Rattle.std.specs.Prelude.{◌≡◌, ◌==◌, ℕ, Bool, true, ◌+◌, ◌^◌, ◌<◌, ◌≤◌, [], ◌∷◌, if◌then◌else◌, false};
 ghost use Rattle.std.specs.Prelude.{length, chars, IfErr, IfOk, IfSome, option_map};
-ghost use Rattle.fancy_lex.specs.Characters.{code};
+ghost use Rattle.fancy_lex.specs.Characters.{code, is_among, metacharacters};
 ghost use Rattle.fancy_lex.specs.Escape as spec;
 ghost use Rattle.fancy_lex.specs.EscapeReference as references;
 ghost use Rattle.fancy_lex.specs.Escaped as leaf;
@@ -102,6 +102,34 @@ pub enum DelegateText<'a> {
         unicode: bool,
         inside: bool,
     },
+}
+
+/// Whether the character has a meaning of its own wherever it is outside a class.
+#[inline]
+pub fn is_metacharacter(c: char) -> bool
+    ensures { result ≡ is_among c metacharacters }
+{
+    matches!(
+        c,
+        '\\' | '.' | '+' | '*' | '?' | '(' | ')' | '|' | '[' | '{' | '^' | '$'
+    )
+}
+
+/// The letter that denotes the character after a backslash.
+#[inline]
+pub fn letter_of(c: char) -> Option<char>
+    ensures { spec.letter_of c ≡ result }
+{
+    match c {
+        '\x07' => Some('a'),
+        '\x0C' => Some('f'),
+        '\n' => Some('n'),
+        '\r' => Some('r'),
+        '\t' => Some('t'),
+        '\x0B' => Some('v'),
+        '\x1B' => Some('e'),
+        _ => None,
+    }
 }
 
 /// A backslash and the letter.

@@ -1,25 +1,21 @@
 -- The text that a character, a number or a quantifier is printed as.
 use Rattle.std.specs.Prelude.{◌≡◌, ℕ, Bool, ◌==◌, ◌&&◌, if◌then◌else◌, Option, Some, None}
 use Rattle.std.specs.Prelude.{[], ◌∷◌, ◌++◌, codes, decimal}
-use Rattle.std.specs.List.{flat_map, list_any}
+use Rattle.std.specs.List.{flat_map}
 use Prim.Native.Char.{code}
+use Rattle.fancy_lex.specs.Characters.{is_among, ◌∈◌, metacharacters}
+use Rattle.fancy_lex.specs.Escape.{letter_of}
 use Rattle.fancy_lex.specs.Text.{Text}
 use Rattle.fancy_parts.specs.Quantifier.{most}
 
--- the characters that are literals only after a backslash
-abbrev pub metacharacters : Text
-metacharacters = codes "\\.+*?()|[]{}^$#"
-
--- whether the character is one of them
+-- whether the character is a literal only after a backslash
 abbrev pub needs_backslash : ℕ → Bool
-needs_backslash c = list_any (λ m. c == m) metacharacters
+needs_backslash c = is_among c (metacharacters ++ codes "]}#")
 
 -- what is written after a backslash for a character, if it is not written as itself
 abbrev pub after_backslash : ℕ → Option ℕ
 after_backslash c =
-    if c == code "\n" then Some (code "n")
-    else if c == code "\t" then Some (code "t")
-    else if c == code "\r" then Some (code "r")
+    if c ∈ "\n\t\r" then letter_of c
     else if needs_backslash c then Some c
     else None
 

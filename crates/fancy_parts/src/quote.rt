@@ -7,6 +7,7 @@ ghost use Rattle.fancy_parts.specs.Quote.{AreUnquoted};
 ghost use Rattle.fancy_parts.specs.Capacity.{HasCapacity, Appended};
 
 use crate::reserved::{put, put_text};
+use fancy_lex::escape::{is_metacharacter, letter_of};
 use fancy_lex::text::{front, next};
 
 /// Whether the character is printed with a backslash.
@@ -19,10 +20,8 @@ fn is_escaped(c: char) -> bool
         return false;
     }
     match c {
-        '\n' | '\t' | '\r' => true,
-        '\\' | '.' | '+' | '*' | '?' | '(' | ')' | '|' | '[' | ']' | '{' | '}' | '^' | '$' | '#' =>
-            true,
-        _ => false,
+        '\n' | '\t' | '\r' | ']' | '}' | '#' => true,
+        _ => is_metacharacter(c),
     }
 }
 
@@ -35,9 +34,7 @@ pub(crate) fn after_backslash(c: char) -> Option<char>
         return None;
     }
     match c {
-        '\n' => Some('n'),
-        '\t' => Some('t'),
-        '\r' => Some('r'),
+        '\n' | '\t' | '\r' => letter_of(c),
         _ => Some(c),
     }
 }

@@ -1,18 +1,19 @@
 -- Characters that are written as they are.
 use Rattle.std.proofs.Common.{◌≡◌, ℕ, ◌<◌, Bool, true, false, not, ◌&&◌, ◌||◌, [], ◌∷◌, Option, Some, None, refl, ap, sym}
-use Rattle.std.proofs.Common.{arith, is_some}
+use Rattle.std.proofs.Common.{◌++◌, codes, arith, is_some}
 use Rattle.std.specs.Char.{is_ascii_alphanumeric}
 use Rattle.std.proofs.lemmas.Bool.{and_parts, agree_below, agree_below_at}
 use Rattle.std.proofs.lemmas.Bool.Decides.{nat_tests}
-use Rattle.fancy_lex.specs.Characters.{◌∈◌}
+use Rattle.fancy_lex.specs.Characters.{is_among, ◌∈◌, metacharacters}
+use Rattle.fancy_lex.specs.Escape.{letter_of}
 use Rattle.fancy_lex.specs.declared.flags.Flags.{Flags}
-use Rattle.fancy_grammar.specs.PatternLetters.{letter_of, is_unseen, character}
+use Rattle.fancy_grammar.specs.PatternLetters.{is_unseen, character}
 
 -- no metacharacter, no layout, no character with an escape letter of its own, and visible
 is_ordinary : ℕ → Bool
 is_ordinary c =
     not (is_some (letter_of c))
-    && (not (c ∈ "\\.+*?()|[]{}^$") && (not (c ∈ "\\.+*?()|[{^$") && (not (c ∈ " #") && not (is_unseen c))))
+    && (not (is_among c (metacharacters ++ codes "]}")) && (not (is_among c metacharacters) && (not (c ∈ " #") && not (is_unseen c))))
 
 letter_is_ordinary : ℕ → Bool
 letter_is_ordinary c = not (is_ascii_alphanumeric c) || is_ordinary c
@@ -49,7 +50,7 @@ by_itself f casei c h k =
     keeps true = refl
     keeps false = refl
 
-    at : (b : Bool) → letter_of c ≡ None → c ∈ "\\.+*?()|[]{}^$" ≡ false → c ∈ "\\.+*?()|[{^$" ≡ false →
+    at : (b : Bool) → letter_of c ≡ None → is_among c (metacharacters ++ codes "]}") ≡ false → is_among c metacharacters ≡ false →
         c ∈ " #" ≡ false → is_unseen c ≡ false → (b || not f.casei) ≡ true → character f b c ≡ c ∷ []
     at true letter symbol caseless_symbol layout seen k = rw (caseless_symbol, layout, keeps f.ignore_space, seen) refl
     at false letter symbol caseless_symbol layout seen k =

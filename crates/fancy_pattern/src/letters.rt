@@ -1,14 +1,15 @@
 //! Characters: written as they are, after a backslash, or by their codes.
-ghost use Rattle.std.specs.Prelude.{◌≡◌, ◌<◌, ◌/◌, ◌%◌, ◌∷◌, [], true, false, chars, map, OnOk};
+ghost use Rattle.std.specs.Prelude.{◌≡◌, ◌<◌, ◌/◌, ◌%◌, ◌∷◌, [], ◌++◌, codes, true, false, chars, map, OnOk};
 ghost use Rattle.std.specs.Bool.{OnTrue};
 ghost use Rattle.std.specs.List.{flat_map};
-ghost use Rattle.fancy_lex.specs.Characters.{◌∈◌, code};
+ghost use Rattle.fancy_lex.specs.Characters.{code, is_among, metacharacters};
 ghost use Rattle.fancy_lex.specs.Class.{byte_text, upper_hex_digit};
 ghost use Rattle.fancy_grammar.specs.PatternLetters as spec;
 ghost use Rattle.fancy_pattern.specs.TextOutput.{Added};
 
 use crate::output::{TextOutput, put_ascii};
 use fancy_lex::class::upper_hex_digit;
+use fancy_lex::escape::{is_metacharacter, letter_of};
 use fancy_lex::flags::Flags;
 use fancy_lex::text::next;
 use std::alloc::AllocError;
@@ -30,30 +31,11 @@ fn is_unseen(c: char) -> bool
     )
 }
 
-/// The letter that represents the character after a backslash.
-fn letter_of(c: char) -> Option<char>
-    ensures { spec.letter_of c ≡ result }
+/// Whether a character of a Literal needs a backslash under all flags.
+fn needs_backslash(c: char) -> bool
+    ensures { result ≡ is_among c (metacharacters ++ codes "]}") }
 {
-    match c {
-        '\n' => Some('n'),
-        '\t' => Some('t'),
-        '\r' => Some('r'),
-        '\u{C}' => Some('f'),
-        '\u{B}' => Some('v'),
-        '\u{7}' => Some('a'),
-        '\u{1B}' => Some('e'),
-        _ => None,
-    }
-}
-
-/// Whether the character is a metacharacter outside a class, whatever is before it.
-fn is_metacharacter(c: char) -> bool
-    ensures { result ≡ (c ∈ "\\.+*?()|[{^$") }
-{
-    matches!(
-        c,
-        '\\' | '.' | '+' | '*' | '?' | '(' | ')' | '|' | '[' | '{' | '^' | '$'
-    )
+    is_metacharacter(c) || matches!(c, ']' | '}')
 }
 
 /// Whether the character is layout under these flags.
@@ -154,7 +136,7 @@ fn put_cased(out: &mut TextOutput, c: char, flags: Flags) -> Result<(), AllocErr
     if let Some(letter) = letter_of(c) {
         return put_after_backslash(out, letter);
     }
-    if is_metacharacter(c) || c == ']' || c == '}' || is_layout(c, flags) || flags.casei {
+    if needs_backslash(c) || is_layout(c, flags) || flags.casei {
         put_after_backslash(out, c)
     } else {
         put_plain(out, c)

@@ -8,9 +8,9 @@ use Rattle.std.proofs.lemmas.Bool.Decides.{nat_tests}
 use Rattle.std.specs.Char.{is_ascii_digit, is_ascii_alphanumeric}
 use Rattle.std.proofs.lemmas.Option.{same_Some}
 use Prim.Native.Char.{code}
-use Rattle.fancy_lex.specs.Characters.{◌∈◌}
+use Rattle.fancy_lex.specs.Characters.{is_among, ◌∈◌, metacharacters}
 use Rattle.fancy_lex.specs.Class.{upper_hex_digit}
-use Rattle.fancy_lex.specs.Escape.{escape, escape_at, lone_escape, outside}
+use Rattle.fancy_lex.specs.Escape.{escape, escape_at, lone_escape, letter_of, outside}
 use Rattle.fancy_lex.specs.Escaped as escaped
 use Rattle.fancy_lex.specs.Hex as hexes
 use Rattle.fancy_lex.specs.Hex.{hex, fixed_digits, value, leaf_of_value, is_scalar}
@@ -20,7 +20,7 @@ use Rattle.fancy_lex.specs.Text.{Text, reach_of}
 use Rattle.fancy_lex.specs.declared.escape.Assertion.TheVariants.{LeftWordBoundary, RightWordBoundary}
 use Rattle.fancy_lex.specs.declared.flags.Flags.{Flags}
 use Rattle.fancy_grammar.specs.PatternLetters as letters
-use Rattle.fancy_grammar.specs.PatternLetters.{is_unseen, coded, letter_of, plain, character}
+use Rattle.fancy_grammar.specs.PatternLetters.{is_unseen, coded, plain, character}
 use Rattle.fancy_grammar.specs.PatternNeeds.{is_kept_by_backslash}
 use Rattle.fancy_lex.proofs.ReadingLemmas.{choose_both}
 use Rattle.fancy_grammar.proofs.PatternLaws.Rules.{not_layout}
@@ -176,12 +176,12 @@ pub escapes_letter : (inside : Bool) (f : Flags) (c d : ℕ) → letter_of c ≡
 unfolding escape_at lone_escape
 escapes_letter inside f c d =
     let Q : Option ℕ → Type 0 = λ o. o ≡ Some d → EscapesIn inside f false c (d ∷ []) in
-    cond_both (c == code "\n") _ _ Q (λ t e. from (code "n") (code "\n") e t (λ s. n s))
-    (λ _. cond_both (c == code "\t") _ _ Q (λ t e. from (code "t") (code "\t") e t (λ s. tab s))
-    (λ _. cond_both (c == code "\r") _ _ Q (λ t e. from (code "r") (code "\r") e t (λ s. r s))
+    cond_both (c == code "\u{7}") _ _ Q (λ t e. from (code "a") (code "\u{7}") e t (λ s. bell s))
     (λ _. cond_both (c == code "\u{c}") _ _ Q (λ t e. from (code "f") (code "\u{c}") e t (λ s. form s))
+    (λ _. cond_both (c == code "\n") _ _ Q (λ t e. from (code "n") (code "\n") e t (λ s. n s))
+    (λ _. cond_both (c == code "\r") _ _ Q (λ t e. from (code "r") (code "\r") e t (λ s. r s))
+    (λ _. cond_both (c == code "\t") _ _ Q (λ t e. from (code "t") (code "\t") e t (λ s. tab s))
     (λ _. cond_both (c == code "\u{b}") _ _ Q (λ t e. from (code "v") (code "\u{b}") e t (λ s. v s))
-    (λ _. cond_both (c == code "\u{7}") _ _ Q (λ t e. from (code "a") (code "\u{7}") e t (λ s. bell s))
     (λ _. cond_both (c == code "\u{1b}") _ _ Q (λ t e. from (code "e") (code "\u{1b}") e t (λ s. esc s))
     (λ _ e. absurd cc)))))))
   where
@@ -241,7 +241,7 @@ reads_by_backslash f c h =
 
 -- the text is the character itself, if that denotes itself here, or an escape for it
 pub data Spells (f : Flags) (casei : Bool) (c : ℕ) : Text → Type 0 where
-  itself : f.casei ≡ casei → c ∈ "\\.+*?()|[{^$" ≡ false → is_layout f.ignore_space c ≡ false →
+  itself : f.casei ≡ casei → is_among c metacharacters ≡ false → is_layout f.ignore_space c ≡ false →
       Spells f casei c (c ∷ [])
   by_escape : {t : Text} → EscapesAs f casei c t → Spells f casei c (code "\\" ∷ t)
 
@@ -262,7 +262,7 @@ no_layout : (x : Bool) (c : ℕ) → is_unseen c ≡ false → x && c ∈ " #" �
 no_layout true c h k = blanks_unseen c h k
 no_layout false c h k = refl
 
-plain_spells : (f : Flags) (c : ℕ) → c ∈ "\\.+*?()|[{^$" ≡ false → letters.is_layout f c ≡ false →
+plain_spells : (f : Flags) (c : ℕ) → is_among c metacharacters ≡ false → letters.is_layout f c ≡ false →
     Spells f f.casei c (plain c)
 plain_spells f c h k =
     cond_both (is_unseen c) _ _ (Spells f f.casei c)
@@ -274,16 +274,16 @@ abbrev pub CaseFits : Flags → Bool → ℕ → Type 0
 CaseFits f true c = f.casei ≡ true
 CaseFits f false c = f.casei ≡ true → is_kept_by_backslash f.oniguruma_mode c ≡ true
 
-metacharacter_small : (c : ℕ) → c ∈ "\\.+*?()|[{^$" ≡ true → (c < 0x10000) × (is_scalar c ≡ true)
+metacharacter_small : (c : ℕ) → is_among c metacharacters ≡ true → (c < 0x10000) × (is_scalar c ≡ true)
 metacharacter_small c h = grind (arith, nat_tests)
 
 blank_small : (x : Bool) (c : ℕ) → x && c ∈ " #" ≡ true → (c < 0x10000) × (is_scalar c ≡ true)
 blank_small true c h = grind (arith, nat_tests)
 blank_small false c h = absurd (false≢true h)
 
-metacharacter_kept : (c : ℕ) → c ∈ "\\.+*?()|[]{}^$" ≡ true → is_kept_by_backslash false c ≡ true
+metacharacter_kept : (c : ℕ) → is_among c (metacharacters ++ codes "]}") ≡ true → is_kept_by_backslash false c ≡ true
 metacharacter_kept c h =
-    each_among (λ c. is_kept_by_backslash false c ≡ true) (codes "\\.+*?()|[]{}^$") c
+    each_among (λ c. is_kept_by_backslash false c ≡ true) (metacharacters ++ codes "]}") c
     (also refl (also refl (also refl (also refl (also refl (also refl (also refl (also refl (also refl (also refl (also
     refl
     (also refl (also refl (also refl no_more)))))))))))))) h
@@ -293,26 +293,26 @@ blank_kept true c h =
     each_among (λ c. is_kept_by_backslash false c ≡ true) (codes " #") c (also refl (also refl no_more)) h
 blank_kept false c h = absurd (false≢true h)
 
-fewer_metacharacters : (c : ℕ) → c ∈ "\\.+*?()|[]{}^$" ≡ false → c ∈ "\\.+*?()|[{^$" ≡ false
+fewer_metacharacters : (c : ℕ) → is_among c (metacharacters ++ codes "]}") ≡ false → is_among c metacharacters ≡ false
 fewer_metacharacters c h = grind (arith, nat_tests)
 
 pub character_spells : (f : Flags) (casei : Bool) (c : ℕ) → CaseFits f casei c → Spells f casei c (character f casei c)
 character_spells f true c h =
     let with_case : (t : Text) → Spells f f.casei c t → Spells f true c t = λ t s. subst (λ b. Spells f b c t) h s in
-    cond_both (c ∈ "\\.+*?()|[{^$" || letters.is_layout f c) _ _ (Spells f true c)
+    cond_both (is_among c metacharacters || letters.is_layout f c) _ _ (Spells f true c)
     (λ e. let (a, b) : (c < 0x10000) × (is_scalar c ≡ true)
     = ⊎_elim (λ m. metacharacter_small c m) (λ m. blank_small f.ignore_space c m)
-    (or_cases (c ∈ "\\.+*?()|[{^$") (letters.is_layout f c) e) in
+    (or_cases (is_among c metacharacters) (letters.is_layout f c) e) in
     with_case _ (coded_spells f c a b))
-    (λ e. let (a, b) = or_parts (c ∈ "\\.+*?()|[{^$") _ e in with_case _ (plain_spells f c a b))
+    (λ e. let (a, b) = or_parts (is_among c metacharacters) _ e in with_case _ (plain_spells f c a b))
 character_spells f false c h =
     choose_both (Spells f false c) (letter_of c) _ _ (λ d e. by_escape (escapes_letter false f c d e))
-    (cond_both (c ∈ "\\.+*?()|[]{}^$" || (letters.is_layout f c || f.casei)) _ _ (Spells f false c)
+    (cond_both (is_among c (metacharacters ++ codes "]}") || (letters.is_layout f c || f.casei)) _ _ (Spells f false c)
     (λ e. by_escape
     (⊎_elim (λ m. reads_kept f c (metacharacter_kept c m))
     (λ m. ⊎_elim (λ b. reads_kept f c (blank_kept f.ignore_space c b)) (λ b. reads_by_backslash f c (h b))
     (or_cases (letters.is_layout f c) f.casei m))
-    (or_cases (c ∈ "\\.+*?()|[]{}^$") _ e)))
-    (λ e. let (a, b) = or_parts (c ∈ "\\.+*?()|[]{}^$") _ e in
+    (or_cases (is_among c (metacharacters ++ codes "]}")) _ e)))
+    (λ e. let (a, b) = or_parts (is_among c (metacharacters ++ codes "]}")) _ e in
     let (k, i) = or_parts (letters.is_layout f c) f.casei b in
     subst (λ b. Spells f b c (plain c)) i (plain_spells f c (fewer_metacharacters c a) k)))

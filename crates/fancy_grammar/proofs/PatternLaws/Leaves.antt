@@ -6,7 +6,7 @@ use Rattle.std.proofs.lemmas.Bool.{cond-true, cond-false, cond_both, and_parts, 
 use Prim.Native.Char.{code}
 use Rattle.fancy_lex.specs.Boundary.{unnamed_boundary}
 use Rattle.fancy_lex.specs.BoundarySteps.{boundary, named_boundary, name}
-use Rattle.fancy_lex.specs.Characters.{◌∈◌}
+use Rattle.fancy_lex.specs.Characters.{is_among, metacharacters}
 use Rattle.fancy_lex.specs.Class.{upper_hex_digit}
 use Rattle.fancy_lex.specs.Escape.{escape, escape_at, lone_escape, outside}
 use Rattle.fancy_lex.specs.Escaped as escaped
@@ -77,7 +77,7 @@ begins_escape x t = begins_by x (code "\\") t refl refl refl refl
 -- ---- characters
 
 abbrev pub is_metacharacter : ℕ → Bool
-is_metacharacter c = c ∈ "\\.+*?()|[{^$"
+is_metacharacter c = is_among c metacharacters
 
 plain_leaf : (d : ℕ) (f : Flags) (c : ℕ) (v : Text) → is_metacharacter c ≡ false →
     atom_start d (st f (c ∷ v)) ≡ read (done (leaf (label.literal (c ∷ []) f.casei)) (st f v))

@@ -5,6 +5,7 @@ use Rattle.std.proofs.lemmas.Bool.{and_from, cond_both}
 use Rattle.std.specs.Char.{IsScalar}
 use Rattle.std.specs.Str.{all_scalars}
 use Prim.Native.Char.{code}
+use Rattle.fancy_lex.specs.Characters.{metacharacters}
 use Rattle.fancy_lex.specs.Class.{Class, class_items, ClassItems, close, plain, escaped, nested, written, class_start}
 use Rattle.fancy_lex.specs.Class.{escape_in_class, is_negated, is_plain_in_class, needs_backslash_in_class, char_text}
 use Rattle.fancy_lex.specs.Escape.{escape, escape_at, lone_escape}
@@ -77,7 +78,7 @@ amp_chunk = record {
 -- ---- characters
 
 abbrev class_metacharacters : Text
-class_metacharacters = codes "\\.+*?()|[]{}^$#&-~"
+class_metacharacters = metacharacters ++ codes "]}#&-~"
 
 abbrev Escapes : ℕ → Type 0
 Escapes c = (s : Text) → escape (unicode_flags false) true (c ∷ s) ≡ gives (literal c false) s

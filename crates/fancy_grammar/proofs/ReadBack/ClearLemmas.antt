@@ -1,13 +1,13 @@
 -- What may follow a piece: no comment, and no quantifier.
 use Rattle.std.proofs.Common.{◌≡◌, ℕ, Bool, true, false, ◌==◌, ⊎_elim, List, [], ◌∷◌, Option, Some, None, refl, sym}
-use Rattle.std.proofs.Common.{subst, eqb-true, ap, ◌∙◌, ◌||◌}
+use Rattle.std.proofs.Common.{subst, eqb-true, ap, ◌∙◌, ◌||◌, ◌++◌, codes}
 use Rattle.std.specs.List.{list_any}
 use Rattle.std.proofs.Math.Bool.{or-false}
 use Rattle.std.proofs.lemmas.Bool.{or_parts, or_cases, cond_both, both_ways, false≢true, false_from_ne_true}
 use Rattle.std.proofs.lemmas.Option.{same_Some}
 use Prim.Native.Char.{code}
-use Rattle.fancy_lex.specs.Characters.{is_among, ◌∈◌}
-use Rattle.fancy_lex.specs.Escape.{escape, escape_at, lone_escape}
+use Rattle.fancy_lex.specs.Characters.{is_among, ◌∈◌, metacharacters}
+use Rattle.fancy_lex.specs.Escape.{escape, escape_at, lone_escape, letter_of}
 use Rattle.fancy_lex.specs.Escaped as escaped
 use Rattle.fancy_lex.specs.LayoutSteps.{layout, after_comment_start, rest}
 use Rattle.fancy_lex.specs.Reading.{gives}
@@ -15,7 +15,7 @@ use Rattle.fancy_lex.specs.Text.{Text, strip}
 use Rattle.fancy_lex.specs.declared.flags.Flags.{Flags}
 use Rattle.fancy_lex.proofs.LayoutLemmas.{between_plain}
 use Rattle.fancy_parts.specs.Quantifier.{counts}
-use Rattle.fancy_parts.specs.Quote.{after_backslash, metacharacters, needs_backslash}
+use Rattle.fancy_parts.specs.Quote.{after_backslash, needs_backslash}
 use Rattle.fancy_grammar.specs.State.{ends}
 
 -- an operator or brace of a quantifier is next
@@ -125,20 +125,29 @@ among_any c (x ∷ y ∷ xs) = ap (λ b. c == x || b) (among_any c (y ∷ xs))
 pub each_among : (P : ℕ → Type 0) (xs : List ℕ) (c : ℕ) → Each P xs → is_among c xs ≡ true → P c
 each_among P xs c h e = each_at P xs c h (sym (among_any c xs) ∙ e)
 
+-- by what is written after the backslash
+pub by_after : (Q : ℕ → Option ℕ → Type 0) → Q (code "\n") (Some (code "n")) → Q (code "\t") (Some (code "t")) →
+    Q (code "\r") (Some (code "r")) → (c : ℕ) → (needs_backslash c ≡ true → Q c (Some c)) →
+    (needs_backslash c ≡ false → Q c None) → Q c (after_backslash c)
+by_after Q n t r c quoted plain =
+    cond_both (c ∈ "\n\t\r") _ _ (Q c)
+    (λ h. each_among (λ d. Q d (letter_of d)) (codes "\n\t\r") c (also n (also t (also r no_more))) h)
+    (λ _. cond_both (needs_backslash c) _ _ (Q c) quoted plain)
+
 -- a character that is printed as itself is no metacharacter
 pub after_none : (c : ℕ) → after_backslash c ≡ None → needs_backslash c ≡ false
 after_none c =
-    let IsPlain : Option ℕ → Type 0 = λ o. o ≡ None → needs_backslash c ≡ false in
-    cond_both (c == code "\n") _ _ IsPlain (λ t e. absurd cc)
-    (λ _. cond_both (c == code "\t") _ _ IsPlain (λ t e. absurd cc)
-    (λ _. cond_both (c == code "\r") _ _ IsPlain (λ t e. absurd cc)
-    (λ _. cond_both (needs_backslash c) _ _ IsPlain (λ t e. absurd cc) (λ n e. n))))
+    by_after (λ c o. o ≡ None → needs_backslash c ≡ false)
+    (λ e. absurd cc) (λ e. absurd cc) (λ e. absurd cc) c (λ h e. absurd cc) (λ h e. h)
 
 -- the character x after a backslash is read as the character c
 abbrev pub Escapes : ℕ → ℕ → Type 0
 Escapes x c = (f : Flags) (t : Text) → escape f false (x ∷ t) ≡ gives (escaped.literal c false) t
 
-escapes_metacharacters : Each (λ m. Escapes m m) metacharacters
+abbrev quoted_metacharacters : Text
+quoted_metacharacters = metacharacters ++ codes "]}#"
+
+escapes_metacharacters : Each (λ m. Escapes m m) quoted_metacharacters
 unfolding escape_at lone_escape
 escapes_metacharacters =
     also (λ f t. refl) (also (λ f t. refl) (also (λ f t. refl) (also (λ f t. refl)
@@ -160,16 +169,10 @@ escapes_r f t = refl
 
 pub after_some : (c x : ℕ) → after_backslash c ≡ Some x → Escapes x c
 after_some c x =
-    cond_both (c == code "\n") _ _ (λ y. y ≡ Some x → Escapes x c)
-    (λ t e. from (code "n") (code "\n") e t escapes_n)
-    (λ _. cond_both (c == code "\t") _ _ (λ y. y ≡ Some x → Escapes x c)
-    (λ t e. from (code "t") (code "\t") e t escapes_t)
-    (λ _. cond_both (c == code "\r") _ _ (λ y. y ≡ Some x → Escapes x c)
-    (λ t e. from (code "r") (code "\r") e t escapes_r)
-    (λ _. cond_both (needs_backslash c) _ _ (λ y. y ≡ Some x → Escapes x c)
-    (λ t e. subst (λ y. Escapes y c) (same_Some c x e)
-    (each_at (λ m. Escapes m m) metacharacters c escapes_metacharacters t))
-    (λ _ e. absurd cc))))
+    by_after (λ c o. o ≡ Some x → Escapes x c)
+    (λ e. from _ _ e escapes_n) (λ e. from _ _ e escapes_t) (λ e. from _ _ e escapes_r) c
+    (λ h e. from c c e (each_among (λ m. Escapes m m) quoted_metacharacters c escapes_metacharacters h))
+    (λ h e. absurd cc)
   where
-    from : (y d : ℕ) → Some y ≡ Some x → (c == d) ≡ true → Escapes y d → Escapes x c
-    from y d e t h = subst (λ z. Escapes z c) (same_Some y x e) (subst (Escapes y) (sym (eqb-true c d t)) h)
+    from : (y c : ℕ) → Some y ≡ Some x → Escapes y c → Escapes x c
+    from y c e h = subst (λ z. Escapes z c) (same_Some y x e) h

@@ -10,12 +10,11 @@ use Rattle.std.specs.Char.{IsScalar, is_ascii_digit}
 use Rattle.std.specs.Cmp.{first_so, second_so}
 use Rattle.std.specs.Str.{all_scalars}
 use Rattle.std.specs.Str.Parse.{AllDigits}
-use Prim.Native.Char.{code}
 use Rattle.fancy_lex.specs.Text.{Text}
 use Rattle.fancy_lex.specs.declared.escape.Assertion.{Assertion}
 use Rattle.fancy_lex.specs.declared.escape.Assertion.TheVariants.{StartLine, StartLineOniguruma, EndLine}
 use Rattle.fancy_parts.specs.Quantifier.{most}
-use Rattle.fancy_parts.specs.Quote.{needs_backslash, quote_as, quote, quotes, range, operator, counts_as, counts_text}
+use Rattle.fancy_parts.specs.Quote.{quote_as, quote, quotes, range, operator, counts_as, counts_text}
 use Rattle.fancy_parts.specs.Quote.{quantifier}
 use Rattle.fancy_grammar.specs.Printable.{is_count, printable, all_printable, takes_quantifier}
 use Rattle.fancy_grammar.specs.Printed.{any_text, assertion_text, grouped, caseless, is_long, printed, operand_text}
@@ -23,6 +22,7 @@ use Rattle.fancy_grammar.specs.Printed.{printed_all, printed_branches, barred}
 use Rattle.fancy_grammar.specs.Printed.{WHOLE, BRANCH, PIECE, OPERAND}
 use Rattle.fancy_grammar.specs.Tree.{Tree, Trees, no_trees, more_trees, any, assertion, literal, concat, alt, group}
 use Rattle.fancy_grammar.specs.Tree.{repeat, delegate}
+use Rattle.fancy_grammar.proofs.ReadBack.ClearLemmas.{by_after}
 use Rattle.fancy_grammar.proofs.ReadBack.CountTexts.{digit_is}
 use Rattle.fancy_grammar.proofs.ReadBack.PrintableLaws.{count_below}
 use Rattle.fancy_grammar.proofs.ReadBack.ScalarLemmas.{scalars_append}
@@ -30,11 +30,8 @@ use Rattle.fancy_grammar.proofs.ReadBack.ScalarLemmas.{scalars_append}
 quote_scalars : (c : ℕ) → IsScalar c → all_scalars (quote c) ≡ true
 unfolding quote
 quote_scalars c k =
-    let P = λ (o : Option ℕ). all_scalars (quote_as c o) ≡ true in
-    cond_both (c == code "\n") _ _ P (λ _. refl)
-    (λ _. cond_both (c == code "\t") _ _ P (λ _. refl)
-    (λ _. cond_both (c == code "\r") _ _ P (λ _. refl)
-    (λ _. cond_both (needs_backslash c) _ _ P (λ _. and_from _ true k refl) (λ _. and_from _ true k refl))))
+    by_after (λ c o. IsScalar c → all_scalars (quote_as c o) ≡ true) (λ _. refl) (λ _. refl) (λ _. refl) c
+    (λ _ k. and_from _ true k refl) (λ _ k. and_from _ true k refl) k
 
 quotes_scalars : (s : Text) → all_scalars s ≡ true → all_scalars (quotes s) ≡ true
 quotes_scalars [] h = refl

@@ -5,13 +5,13 @@ use Rattle.std.proofs.lemmas.Bool.Decides.{nat_tests}
 use Prim.Native.Char.{code}
 use Rattle.fancy_lex.specs.Characters.{◌∈◌}
 use Rattle.fancy_lex.specs.Class.{escape_in_class, is_negated, needs_backslash_in_class, upper_hex_digit}
-use Rattle.fancy_lex.specs.Escape.{escape, escape_at, lone_escape}
+use Rattle.fancy_lex.specs.Escape.{letter_of, escape, escape_at, lone_escape}
 use Rattle.fancy_lex.specs.Escaped.{Escape}
 use Rattle.fancy_lex.specs.Reading.{gives}
 use Rattle.fancy_lex.specs.Text.{Text}
 use Rattle.fancy_lex.specs.declared.flags.Flags.{Flags}
 use Rattle.fancy_lex.proofs.ReadingLemmas.{choose_both}
-use Rattle.fancy_grammar.specs.PatternLetters.{is_unseen, letter_of, by_letter_or, coded}
+use Rattle.fancy_grammar.specs.PatternLetters.{is_unseen, by_letter_or, coded}
 use Rattle.fancy_grammar.proofs.ReadBack.ClearLemmas.{apart, Each, no_more, also, each_among}
 use Rattle.fancy_grammar.proofs.PatternLaws.Characters.{EscapesIn, escapes_letter, reads_small, reads_large, unseen_small}
 
