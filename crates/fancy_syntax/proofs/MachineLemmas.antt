@@ -1,7 +1,7 @@
 -- How each step of the loop keeps the contents of the stack valid.
 use Rattle.std.proofs.Common.{◌≡◌, ◌≢◌, ◌==◌, if◌then◌else◌, tests, rules, ℕ, ◌+◌, Bool, true, false}
-use Rattle.std.proofs.Common.{true≢false, List, [], ◌∷◌, ◌++◌, length, Some, None, Result, Ok, Err, refl, sym, ap, ◌∙◌}
-use Rattle.std.proofs.Common.{subst, append-nil, arith, ◌<◌, Option}
+use Rattle.std.proofs.Common.{true≢false, List, [], ◌∷◌, ◌++◌, length, Some, None, refl, sym, ap, ◌∙◌}
+use Rattle.std.proofs.Common.{subst, append-nil, arith, Option}
 use Rattle.std.proofs.lemmas.Bool.{cond-true, cond-false}
 use Rattle.std.proofs.lemmas.Bool.Decides.{nat_tests}
 use Rattle.std.proofs.lemmas.List.{length_push, append_assoc}
@@ -28,31 +28,26 @@ use Rattle.fancy_syntax.specs.Recording.{pieces_recorded}
 use Rattle.fancy_syntax.specs.Recording.{branches_recorded, atom_recorded, inside_recorded, quants_recorded}
 use Rattle.fancy_syntax.specs.Recording.{group_recorded, atom_read}
 use Rattle.fancy_syntax.specs.Recording.{conditional_recorded, stopper_recorded, choice_recorded, added}
-use Rattle.fancy_syntax.specs.View.{view}
-use Rattle.fancy_grammar.specs.AtomStart.{AtomStart, nothing, read, atom_start}
 use Rattle.fancy_grammar.specs.Grammar.{a_nothing, a_read}
 use Rattle.fancy_syntax.specs.Log.{leaf_recorded, left_out, pass, layout_passed}
 use Rattle.fancy_syntax.specs.Machine.{IsPlainLeaf}
-use Rattle.fancy_syntax.specs.Recording.{start_recorded, skipped_recorded, step_recorded}
-use Rattle.fancy_syntax.specs.Machine.{part_recorded, close_recorded, taken_recorded}
+use Rattle.fancy_syntax.specs.Machine.{part_recorded}
 use Rattle.fancy_syntax.specs.Machine.{OpenPart, top, group, condition, body, first, second, part_of, holds_one}
 use Rattle.fancy_syntax.specs.Machine.{is_second, opened_by_bar, branches_at_bar, IsErrorOfBar, Part, OpensPart}
 use Rattle.fancy_syntax.specs.Machine.{a_group}
 use Rattle.fancy_syntax.specs.Machine.{a_condition, a_body, after_condition, a_branch, after_branch, lacks_body}
-use Rattle.fancy_syntax.specs.Machine.{node_of_part, has_body_next, ended_part, Began, GivesStep, GivesPiece, ReadSoFar}
+use Rattle.fancy_syntax.specs.Machine.{node_of_part, has_body_next, ended_part, Began, ReadSoFar}
 use Rattle.fancy_syntax.specs.Machine.{OpenGroups, Running}
-use Rattle.fancy_syntax.specs.Machine.{outermost, inner, HoldsTrees, IsStep, OpensBelow, Takes}
-use Rattle.fancy_grammar.specs.Depth.{max_depth}
+use Rattle.fancy_syntax.specs.Machine.{outermost, inner, HoldsTrees, IsStep}
 use Rattle.fancy_grammar.specs.GroupKind.{group_node}
 use Rattle.fancy_grammar.specs.Quantified.{quants}
 use Rattle.fancy_grammar.specs.Errors.{IsErrorAmong}
 use Rattle.fancy_grammar.specs.State.{ends, skipped, State, at, Outcome, done, failed, and_then, mapped}
-use Rattle.fancy_grammar.specs.Tree.{Tree, concat, empty, expression}
+use Rattle.fancy_grammar.specs.Tree.{Tree, concat, expression}
 use Rattle.fancy_syntax.specs.declared.grammar.frame.Enclosing.{Enclosing}
 use Rattle.fancy_syntax.specs.declared.grammar.frame.Frame.{Frame}
 use Rattle.fancy_syntax.specs.declared.grammar.frame.PieceStart.{PieceStart}
-use Rattle.fancy_syntax.specs.declared.grammar.step.Step.{Step}
-use Rattle.fancy_syntax.specs.declared.grammar.step.Step.TheVariants as step
+use Rattle.fancy_syntax.specs.declared.grammar.frame.OpenGroup.{OpenGroup}
 use Rattle.fancy_lex.proofs.TextLemmas.{strip_is}
 use Rattle.fancy_grammar.proofs.OutcomeLemmas.{Holds, IsErrorAmong-map, before-nil, before-push}
 use Rattle.fancy_grammar.proofs.OutcomeLemmas.{trees_before, solid-append, piece_as}
@@ -64,7 +59,7 @@ use Rattle.fancy_syntax.proofs.SolidLemmas.{IsSolid, quants_solid}
 -- ---- a step
 
 -- an atom, with the log before and the log after
-abbrev AtomTo : ℕ → State → Outcome Tree → Log → Log → Type 0
+abbrev pub AtomTo : ℕ → State → Outcome Tree → Log → Log → Type 0
 AtomTo d s o l m = (a : Atom d s o) × (atom_recorded a l ≡ m)
 
 -- an atom after layout is a piece under its quantifiers
@@ -74,62 +69,26 @@ pub piece_to : {d : ℕ} {s : State} {u : Text} {q o : Outcome Tree} {l m n : Lo
 piece_to {d} {s} {q} {l} {n} i (a, h) e j =
     subst (λ o. PieceTo d s o l n) e (piece i a, ap (quants_recorded (bytes s.rest) q) h ∙ j)
 
-pub steps_piece : {d left : ℕ} (s : State) {t : State} {u : Text} {a : Tree} {m : Log} (l n : Log)
-    (r : Result Step ReadError) (v : State) → left ≡ bytes s.rest → skipped s ≡ rest u →
-    AtomTo d (at s u) (done a t) (layout_passed s l) m → GivesPiece r (quants d left a t) v →
-    quants_recorded left (done a t) m ≡ n → GivesStep r d s l v n
-steps_piece {d} {left} s {t} {u} {a} {m} l n (Ok (step.Piece tree)) v i k x h j =
-    piece_to {l = l} k x (subst (λ z. quants d z a t ≡ done (view tree) v) i h)
-    (subst (λ z. quants_recorded z (done a t) m ≡ n) i j)
-steps_piece s l n (Ok (step.Open open_group)) v i k x h j = absurd h
-steps_piece {d} {left} s {t} {a = tree} l n (Err e) v i k (x, y) h j =
-    IsErrorAmong-map (λ o. quants d left tree t ≡ o) (Piece d s) e
-    (λ f g. piece_as k x (subst (λ z. quants d z tree t ≡ failed f) i g)) h
+-- so it is a step, after which its tree follows the others unless it is Empty
+pub steps_piece : {d left : ℕ} (s : State) {t v : State} {u : Text} {a r : Tree} {l m : Log} (ts : List Tree)
+    {us : List Tree} → left ≡ bytes s.rest → skipped s ≡ rest u → AtomTo d (at s u) (done a t) (layout_passed s l) m →
+    quants d left a t ≡ done r v → us ≡ ts ++ solid (r ∷ []) →
+    IsStep d s l ts None us v (added r (quants_recorded left (done a t) m))
+steps_piece {d} {left} s {t} {v} {a} {r} {m} ts i k x h j = (
+  r,
+  quants_recorded left (done a t) m,
+  piece_to k x (subst (λ z. quants d z a t ≡ done r v) i h) (ap (λ z. quants_recorded z (done a t) m) (sym i)),
+  j,
+  refl,
+)
 
--- the start of the atom decides what a step records
-pub step_start : (d : ℕ) (s : State) {u : Text} {k : AtomStart} (l : Log) → skipped s ≡ rest u →
-    atom_start d (at s u) ≡ k →
-    step_recorded d s l ≡ start_recorded (bytes s.rest) (at s u) k (layout_passed s l)
-step_start d s {u} l i e =
-    ap (λ z. skipped_recorded d s z (layout_passed s l)) i
-    ∙ ap (λ k. start_recorded (bytes s.rest) (at s u) k (layout_passed s l)) e
-
-pub read_recorded : (d left : ℕ) (s : State) {t : State} {u : Text} {a : Tree} (l : Log) → left ≡ bytes s.rest →
-    skipped s ≡ rest u → atom_start d (at s u) ≡ read (done a t) →
-    quants_recorded left (done a t) (atom_read (at s u) (done a t) (layout_passed s l)) ≡ step_recorded d s l
-read_recorded d left s {t} {u} {a} l i k e =
-    sym (step_start d s l k e
-    ∙ ap (λ z. quants_recorded z (done a t) (atom_read (at s u) (done a t) (layout_passed s l))) (sym i))
-
-pub nothing_recorded : (d left : ℕ) (s : State) {u : Text} (l : Log) → left ≡ bytes s.rest →
-    skipped s ≡ rest u → atom_start d (at s u) ≡ nothing →
-    quants_recorded left (done empty (at s u)) (leaf_recorded (reach_of u) (reach_of u) (layout_passed s l))
-    ≡ step_recorded d s l
-nothing_recorded d left s {u} l i k e =
-    sym (step_start d s l k e
-    ∙ ap (λ z. quants_recorded z (done empty (at s u)) (leaf_recorded (reach_of u) (reach_of u) (layout_passed s l)))
-    (sym i))
-
--- a step that reads a whole atom, or none
-pub steps_read : (d left : ℕ) (s : State) {t : State} {u : Text} {a : Tree} (l : Log) (r : Result Step ReadError)
-    (v : State) → left ≡ bytes s.rest → skipped s ≡ rest u → atom_start d (at s u) ≡ read (done a t) →
-    GivesPiece r (quants d left a t) v → GivesStep r d s l v (step_recorded d s l)
-steps_read d left s l r v i k e h =
-    steps_piece {d = d} {left = left} s l (step_recorded d s l) r v i k (atom e a_read, refl) h
-    (read_recorded d left s l i k e)
-
-pub steps_nothing : (d left : ℕ) (s : State) {u : Text} (l : Log) (r : Result Step ReadError)
-    (v : State) → left ≡ bytes s.rest → skipped s ≡ rest u → atom_start d (at s u) ≡ nothing →
-    GivesPiece r (quants d left empty (at s u)) v → GivesStep r d s l v (step_recorded d s l)
-steps_nothing d left s l r v i k e h =
-    steps_piece {d = d} {left = left} s l (step_recorded d s l) r v i k (atom e a_nothing, refl) h
-    (nothing_recorded d left s l i k e)
-
--- a step that opens a part
-pub steps_open : {d : ℕ} {s t : State} {u : Text} {k : AtomStart} {p : OpenPart} {l : Log} → skipped s ≡ rest u →
-    atom_start d (at s u) ≡ k → OpensPart d s l p t (start_recorded (bytes s.rest) (at s u) k (layout_passed s l)) →
-    OpensPart d s l p t (step_recorded d s l)
-steps_open {d} {s} {t} {p} {l} i e h = subst (OpensPart d s l p t) (sym (step_start d s l i e)) h
+-- an error in its quantifiers is the error of the piece
+pub steps_error : {d left : ℕ} (s : State) {t : State} {u : Text} {a : Tree} (e : ReadError) → left ≡ bytes s.rest →
+    skipped s ≡ rest u → Atom d (at s u) (done a t) → IsErrorAmong e (λ o. quants d left a t ≡ o) →
+    IsErrorAmong e (Piece d s)
+steps_error {d} {left} s {t} {a} e i k x h =
+    IsErrorAmong-map (λ o. quants d left a t ≡ o) (Piece d s) e
+    (λ f g. piece_as k x (subst (λ z. quants d z a t ≡ failed f) i g)) h
 
 -- an error in the layout before a piece is the error of the piece
 pub steps_layout : (d : ℕ) (s : State) {p : ℕ} (e : ReadError) → e ≡ At p UnclosedOpenParen →
@@ -253,39 +212,48 @@ ended_error {d} {s} {error} {p} {l} n r w x y f h = by_goes (has_body_next p) re
     by_goes false g =
         let (u, i, a) = opens_ended n r w x y g f in piece i (subst (Atom d (at s u)) (ap (restored s.flags) h) a.0)
 
--- the log when the open part ends with the atom, or continues
-pub close_ends : (left : ℕ) (flags : Flags) (p : OpenPart) (r : Tree) (w : State) (n : Log) {a : Tree} {t : State} →
-    ended_part p r w ≡ done a t → has_body_next p ≡ false → close_recorded left flags p r w n
-    ≡ quants_recorded left (done a (record t { flags = flags })) (part_recorded p r (reach_of w.rest) (reach_of t.rest) n)
-close_ends left flags p r w n e g = rw (e, g) refl
+-- the atom that ends with a part, after layout
+part_atom : {d : ℕ} {s v t : State} {a : Tree} {p : OpenPart} {l m : Log} (n : Log) (flags : Flags) (r : Tree) (w : State) →
+    OpensPart d s l p v m → Part p (d + 1) v (done r w) m n → has_body_next p ≡ false →
+    strip (code "|") w.rest ≡ None → ended_part p r w ≡ done a t → flags ≡ s.flags →
+    (u : Text) × (skipped s ≡ rest u)
+    × AtomTo d (at s u) (done a (record t { flags = flags })) (layout_passed s l)
+    (part_recorded p r (reach_of w.rest) (reach_of t.rest) n)
+part_atom {d} {s} {t} {a} {p} {l} n flags r w x y g f h j =
+    let (u, c, b) = opens_ended n r w x y g (λ _ _. f) in (
+      u,
+      c,
+      subst (λ f. AtomTo d (at s u) (done a (record t { flags = f })) (layout_passed s l)
+          (part_recorded p r (reach_of w.rest) (reach_of t.rest) n)) (sym j)
+          (subst (λ o. AtomTo d (at s u) (restored s.flags o) (layout_passed s l)
+          (part_recorded p r (reach_of w.rest) (end_of o) n)) h b),
+    )
 
-pub close_has_body : (left : ℕ) (flags : Flags) (p : OpenPart) (r : Tree) (w : State) (n : Log) {a : Tree}
-    {t : State} → ended_part p r w ≡ done a t → has_body_next p ≡ true → close_recorded left flags p r w n
-    ≡ body_begun (reach_of t.rest) (part_recorded p r (reach_of w.rest) (reach_of t.rest) n)
-close_has_body left flags p r w n e g = rw (e, g) refl
+-- it ends a step, under its quantifiers
+pub closes : {d left : ℕ} {s v t z : State} {a q : Tree} {p : OpenPart} {l m : Log} (ts : List Tree)
+    {us : List Tree} (n : Log) (flags : Flags) (r : Tree) (w : State) → OpensPart d s l p v m → Part p (d + 1) v (done r w) m n →
+    has_body_next p ≡ false → strip (code "|") w.rest ≡ None → ended_part p r w ≡ done a t → left ≡ bytes s.rest →
+    flags ≡ s.flags → quants d left a (record t { flags = flags }) ≡ done q z → us ≡ ts ++ solid (q ∷ []) →
+    IsStep d s l ts None us z (added q (quants_recorded left (done a (record t { flags = flags }))
+    (part_recorded p r (reach_of w.rest) (reach_of t.rest) n)))
+closes {s} ts n flags r w x y g f h i j e k =
+    let (u, c, b) = part_atom n flags r w x y g f h j in steps_piece s ts i c b e k
 
--- the atom that ends with a part, under its quantifiers
-pub closes : {d left : ℕ} {s v t : State} {a : Tree} {p : OpenPart} {l m : Log} (n : Log) (flags : Flags) (r : Tree)
-    (w : State) (q : Result Step ReadError) (z : State) → OpensPart d s l p v m →
-    Part p (d + 1) v (done r w) m n → has_body_next p ≡ false → strip (code "|") w.rest ≡ None →
-    ended_part p r w ≡ done a t → left ≡ bytes s.rest → flags ≡ s.flags →
-    GivesPiece q (quants d left a (record t { flags = s.flags })) z →
-    GivesStep q d s l z (close_recorded left flags p r w n)
-closes {d} {left} {s} {t} {a} {p} {l} n flags r w q z x y g f h i j e =
-    let (u, c, b) = opens_ended n r w x y g (λ _ _. f) in
-    let m = part_recorded p r (reach_of w.rest) (reach_of t.rest) n in
-    steps_piece s l (close_recorded left flags p r w n) q z i c (subst (λ o. AtomTo d (at s u) (restored s.flags o)
-    (layout_passed s l) (part_recorded p r (reach_of w.rest) (end_of o) n)) h b) e
-    (sym (close_ends left flags p r w n h g ∙ ap (λ f. quants_recorded left (done a (record t { flags = f })) m) j))
+pub closes_error : {d left : ℕ} {s v t : State} {a : Tree} {p : OpenPart} {l m : Log} (n : Log) (flags : Flags) (r : Tree)
+    (w : State) (error : ReadError) → OpensPart d s l p v m → Part p (d + 1) v (done r w) m n →
+    has_body_next p ≡ false → strip (code "|") w.rest ≡ None → ended_part p r w ≡ done a t → left ≡ bytes s.rest →
+    flags ≡ s.flags → IsErrorAmong error (λ o. quants d left a (record t { flags = flags }) ≡ o) →
+    IsErrorAmong error (Piece d s)
+closes_error {s} n flags r w error x y g f h i j e =
+    let (u, c, b) = part_atom n flags r w x y g f h j in steps_error s error i c b.0 e
 
 -- if it continues, what comes next
-pub closes_condition : {d : ℕ} {s v t : State} {c : Tree} {p : OpenPart} {l m : Log} (left : ℕ) (n : Log) (flags : Flags)
-    (r : Tree) (w : State) → OpensPart d s l p v m →
-    Part p (d + 1) v (done r w) m n → has_body_next p ≡ true → ended_part p r w ≡ done c t →
-    OpensPart d s l (body c (bytes t.rest)) t (close_recorded left flags p r w n)
-closes_condition {d} {s} {t} {c} {p} {l} left n flags r w x y g h =
-    subst (OpensPart d s l (body c (bytes t.rest)) t)
-    (sym (close_has_body left flags p r w n h g ∙ ap (body_begun (reach_of t.rest)) (of_condition p g)))
+pub closes_condition : {d : ℕ} {s v t : State} {c : Tree} {p : OpenPart} {l m : Log} (n : Log) (r : Tree) (w : State) →
+    OpensPart d s l p v m → Part p (d + 1) v (done r w) m n → has_body_next p ≡ true → ended_part p r w ≡ done c t →
+    OpensPart d s l (body c (bytes t.rest)) t
+    (body_begun (reach_of t.rest) (part_recorded p r (reach_of w.rest) (reach_of t.rest) n))
+closes_condition {d} {s} {t} {c} {p} {l} n r w x y g h =
+    subst (λ k. OpensPart d s l (body c (bytes t.rest)) t (body_begun (reach_of t.rest) k)) (sym (of_condition p g))
     (condition_ended n r w x y g h)
   where
     of_condition : (p : OpenPart) → has_body_next p ≡ true → part_recorded p r (reach_of w.rest) (reach_of t.rest) n ≡ n
@@ -612,27 +580,20 @@ running_open {t} {v} {l = c} {m} {stack} {f} {trees} {o} p all g h b e a i j k l
   reading = reading_new _ _ v m _ _ refl refl;
 }
 
--- a step is taken
-pub running_step : {start t v : State} {none l : Log} {stack all : List Enclosing} {f g : Frame} {trees ts : List Tree}
-    (m : Log) (made : Step) (p : PieceStart) → Running start none stack f trees t l → Began p t → ends t.rest ≡ false →
-    IsStep (length stack) t l made v m → Takes made p stack f trees all g ts →
-    Running start none all g ts v (taken_recorded made m)
-running_step {ts} m (step.Piece tree) p h b e a i = rw (i.0, i.1) (running_piece ts h e a i.2)
-running_step {all} {g} m (step.Open open_group) p h b e a i =
-    rw i.1 (running_open p all g h b e a i.0 (ap part_of i.2) i.3 i.4)
+-- a step reads a piece
+pub running_read : {start t v : State} {none l : Log} {stack : List Enclosing} {f : Frame} {trees ts : List Tree} (m : Log) →
+    Running start none stack f trees t l → ends t.rest ≡ false → IsStep (length stack) t l trees None ts v m →
+    Running start none stack f ts v m
+running_read {ts} m h e (r, n, a, i, j) = rw j (running_piece ts h e a i)
 
--- after it, no more groups are open than allowed
-pub step_below : (made : Step) (p : PieceStart) (stack all : List Enclosing) (f g : Frame) (trees ts : List Tree) →
-    OpensBelow made (length stack) → length stack < max_depth → Takes made p stack f trees all g ts →
-    length all < max_depth
-step_below (step.Piece tree) p stack all f g trees ts b d i = rw i.0 d
-step_below (step.Open open_group) p stack all f g trees ts b d i =
-    omega (arith, b, ap length i.0, length_push stack (record { frame = f; piece = p }))
-
--- if a group was closed, another may be opened
-pub opens_below : (d : ℕ) (made : Step) → d + 1 < max_depth → OpensBelow made d
-opens_below d (step.Piece tree) h = tt
-opens_below d (step.Open open_group) h = h
+-- a step opens a part
+pub running_opened : {start t v : State} {none l : Log} {stack all : List Enclosing} {f g : Frame} {trees ts : List Tree}
+    (m : Log) (open_group : OpenGroup) (p : PieceStart) → Running start none stack f trees t l → Began p t →
+    ends t.rest ≡ false → IsStep (length stack) t l trees (Some open_group) ts v m →
+    all ≡ stack ++ record { frame = f; piece = p } ∷ [] → g.open_group ≡ open_group → g.branches ≡ length ts →
+    g.pieces ≡ length ts → Running start none all g ts v m
+running_opened {all} {g} m open_group p h b e (a, same) i j k l =
+    rw same (running_open p all g h b e a i (ap part_of j) (k ∙ ap length same) (l ∙ ap length same))
 
 -- after a bar, the second branch of an absent expression is open
 levels_bar : {d : ℕ} {start s t : State} {none l m : Log} {u : Text} {a : Tree} {fs : List Enclosing} {ts : List Tree} →

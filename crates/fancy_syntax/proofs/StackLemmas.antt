@@ -2,7 +2,7 @@
 use Rattle.std.proofs.Common.{◌≡◌, ◌≢◌, ℕ, zero, suc, ◌+◌, ◌<◌, ◌≤◌, ◌==◌, Bool, true, false, Some, None, List, [], ◌∷◌}
 use Rattle.std.proofs.Common.{◌++◌, chars, drop, append-nil}
 use Rattle.std.proofs.Common.{length, refl, sym, ap, ◌∙◌, subst, arith, if◌then◌else◌}
-use Rattle.std.specs.Prelude.{nat_le, slice_index, vec_len, vec_capacity}
+use Rattle.std.specs.Prelude.{nat_le, slice_index}
 use Rattle.std.proofs.lemmas.Bool.{cond_both}
 use Rattle.std.proofs.lemmas.Bool.Decides.{nat_tests}
 use Rattle.std.proofs.lemmas.List.{length_push}
@@ -23,14 +23,10 @@ use Rattle.fancy_grammar.proofs.ReadLaws.{inside_read, branch_read}
 use Rattle.fancy_grammar.proofs.Slices.{skipped_slice, strip_slice}
 use Rattle.fancy_syntax.specs.Log.{Log}
 use Rattle.fancy_syntax.specs.Machine.{OpenPart, OpensPart, a_group, a_condition, a_body, after_condition, a_branch}
-use Rattle.fancy_syntax.specs.Machine.{after_branch, OpenGroups, outermost, inner, Running, IsStep}
-use Rattle.fancy_syntax.specs.Machine.{OpensBelow}
-use Rattle.fancy_syntax.specs.StackCapacity.{open_parens, groups_at_once, HasStackCapacity, HasCapacityFor}
+use Rattle.fancy_syntax.specs.Machine.{after_branch, OpenGroups, outermost, inner, Running}
+use Rattle.fancy_syntax.specs.StackCapacity.{open_parens, groups_at_once}
 use Rattle.fancy_syntax.specs.declared.grammar.frame.Enclosing.{Enclosing}
 use Rattle.fancy_syntax.specs.declared.grammar.frame.Frame.{Frame}
-use Rattle.fancy_syntax.specs.declared.grammar.parser.Parser.{Parser}
-use Rattle.fancy_syntax.specs.declared.grammar.step.Step.{Step}
-use Rattle.fancy_syntax.specs.declared.grammar.step.Step.TheVariants as step
 
 -- ---- parentheses in a text
 
@@ -126,7 +122,7 @@ groups_fewer (inner {outer} f i x l h a m j) =
     omega (arith, groups_fewer l, ap length i, length_push outer f, fewer_after h.slice, opened_fewer j)
 
 -- so the stack has capacity for one more if one opens
-capacity_for_one : {start t v : State} {none l m : Log} {stack : List Enclosing} {f : Frame} {trees : List Tree} {o : OpenPart}
+pub capacity_for_one : {start t v : State} {none l m : Log} {stack : List Enclosing} {f : Frame} {trees : List Tree} {o : OpenPart}
     (reserved : ℕ) → Running start none stack f trees t l → OpensPart (length stack) t l o v m →
     length stack + 1 < max_depth →
     groups_at_once start.rest ≤ reserved → length stack < reserved
@@ -139,14 +135,6 @@ capacity_for_one {start} {stack} reserved h opens below fits =
         (if b then most_open else open_parens start.rest) ≤ reserved → length stack < reserved
     by_test true i k = omega (arith, below, k)
     by_test false i k = omega (arith, i, k)
-
-pub capacity_for_step : {start t : State} {none l : Log} {stack : List Enclosing} {f : Frame} {trees : List Tree} (v : State)
-    (m : Log) (made : Step) (r : Parser) → Running start none stack f trees t l →
-    IsStep (length stack) t l made v m → OpensBelow made (length stack) →
-    HasStackCapacity r start.rest → vec_len r.stack ≡ length stack → HasCapacityFor made r
-capacity_for_step v m (step.Piece piece) r h steps below reserved e = tt
-capacity_for_step v m (step.Open open_group) r h steps below reserved e =
-    omega (arith, e, capacity_for_one (vec_capacity r.stack) h steps below reserved)
 
 -- ---- the count
 

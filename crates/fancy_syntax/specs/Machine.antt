@@ -1,27 +1,24 @@
 -- The open groups, as the parser's stack holds them.
-use Rattle.std.specs.Prelude.{◌≡◌, ℕ, ◌+◌, ◌<◌, ◌==◌, ◌&&◌, not, if◌then◌else◌, Bool, true, false, List, []}
-use Rattle.std.specs.Prelude.{◌∷◌, ◌++◌, length, Some, Result, MatchResult, ⊤}
+use Rattle.std.specs.Prelude.{◌≡◌, ℕ, ◌+◌, ◌==◌, ◌&&◌, not, if◌then◌else◌, Bool, true, false, List, []}
+use Rattle.std.specs.Prelude.{◌∷◌, ◌++◌, length, Option, Some, None, Result, MatchResult}
 use Prim.Native.Char.{code}
 use Rattle.fancy_lex.specs.Comments.{comments}
 use Rattle.fancy_lex.specs.ErrorTable.{bar_for_close_paren, body_missing}
 use Rattle.fancy_lex.specs.LayoutSteps.{rest}
 use Rattle.fancy_lex.specs.Text.{Text, bytes, reach_of, strip}
 use Rattle.fancy_lex.specs.declared.error.ReadError.{ReadError}
-use Rattle.fancy_lex.specs.declared.flags.Flags.{Flags}
 use Rattle.fancy_grammar.specs.AtomStart.{atom_start}
-use Rattle.fancy_grammar.specs.Depth.{max_depth}
 use Rattle.fancy_grammar.specs.AtomStart as seen
 use Rattle.fancy_grammar.specs.Grammar.{Branch, Piece, Inside, closed, is_condition}
 use Rattle.fancy_grammar.specs.Grammar.{branches_of, conditional_of, clear_or_stopper}
 use Rattle.fancy_grammar.specs.GroupKind.{GroupKind, group_node}
 use Rattle.fancy_grammar.specs.Join.{solid, is_empty}
 use Rattle.fancy_grammar.specs.Slices.{Slice}
-use Rattle.fancy_grammar.specs.Spans.{if_done}
 use Rattle.fancy_syntax.specs.Log.{Log, opened, group_opened, body_opened, body_begun, branch_begun, atom_closed}
 use Rattle.fancy_syntax.specs.Log.{layout_passed}
 use Rattle.fancy_syntax.specs.Recording.{PieceTo, PiecesTo, BranchTo, BranchesTo, AlternationTo, inside_recorded}
 use Rattle.fancy_syntax.specs.Recording.{branch_recorded}
-use Rattle.fancy_syntax.specs.Recording.{group_recorded, conditional_recorded, stopper_recorded, quants_recorded, added}
+use Rattle.fancy_syntax.specs.Recording.{group_recorded, conditional_recorded, stopper_recorded, added}
 use Rattle.fancy_syntax.specs.Parsed.{group_kind, state}
 use Rattle.fancy_grammar.specs.Errors.{IsErrorAmong}
 use Rattle.fancy_grammar.specs.State.{ends, skipped, State, at, Outcome, done, failed, mapped}
@@ -33,8 +30,6 @@ use Rattle.fancy_syntax.specs.declared.grammar.frame.OpenGroup.{OpenGroup}
 use Rattle.fancy_syntax.specs.declared.grammar.frame.OpenGroup.TheVariants as open_group
 use Rattle.fancy_syntax.specs.declared.grammar.frame.PieceStart.{PieceStart}
 use Rattle.fancy_syntax.specs.declared.grammar.parser.Parser.{Parser}
-use Rattle.fancy_syntax.specs.declared.grammar.step.Step.{Step}
-use Rattle.fancy_syntax.specs.declared.grammar.step.Step.TheVariants as step
 
 -- an open part
 pub data OpenPart : Type 0 where
@@ -138,49 +133,26 @@ part_recorded (body c left) r paren end l = conditional_recorded r paren end l
 part_recorded first r paren end l = stopper_recorded r end l
 part_recorded (second a) r paren end l = atom_closed end false l
 
--- the same with what follows: the body of a conditional begins, or quantifiers are read under the flags from before the
--- piece
-abbrev pub close_recorded : ℕ → Flags → OpenPart → Tree → State → Log → Log
-close_recorded left flags p r s l = if_done (ended_part p r s) (λ a t.
-    let m = part_recorded p r (reach_of s.rest) (reach_of t.rest) l in
-    if has_body_next p then body_begun (reach_of t.rest) m
-    else quants_recorded left (done a (record t { flags = flags })) m) l
+-- a step from s to t reads a piece, whose tree follows the trees ts unless it is Empty, or opens a part of a piece; the
+-- trees are then us, and the record goes from l to m
+abbrev pub IsStep : ℕ → State → Log → List Tree → Option OpenGroup → List Tree → State → Log → Type 0
+IsStep d s l ts None us t m =
+    (r : Tree) × (n : Log) × PieceTo d s (done r t) l n × (us ≡ ts ++ solid (r ∷ [])) × (m ≡ added r n)
+IsStep d s l ts (Some open_group) us t m = OpensPart d s l (part_of open_group) t m × (us ≡ ts)
 
--- a group is opened only if one may open inside d groups
-abbrev pub OpensBelow : Step → ℕ → Type 0
-OpensBelow (step.Piece piece) d = ⊤
-OpensBelow (step.Open open_group) d = d + 1 < max_depth
+-- a step from s to t, with a record from l to one of which P holds, or the error of a piece at s
+abbrev pub GivesStep : Result (Option OpenGroup) ReadError → ℕ → State → Log → (ts us : List Tree) → State →
+    (Log → Type 0) → Type 0
+GivesStep r d s l ts us t P =
+    MatchResult r (λ opened. (m : Log) × IsStep d s l ts opened us t m × P m) (λ e. IsErrorAmong e (Piece d s))
 
--- a step from s reads a piece, or opens a part of one, and ends at t; the record goes from l to m
-abbrev pub IsStep : ℕ → State → Log → Step → State → Log → Type 0
-IsStep d s l (step.Piece piece) t m = PieceTo d s (done (view piece) t) l m
-IsStep d s l (step.Open open_group) t m = OpensPart d s l (part_of open_group) t m
-
--- the stack, the innermost group and all trees after a step in the piece that begins there: one more tree, or one more
--- group in which nothing is read yet
-abbrev pub Takes : Step → PieceStart → List Enclosing → Frame → List Tree → List Enclosing → Frame → List Tree → Type 0
-Takes (step.Piece piece) start fs f ts gs g us = (gs ≡ fs) × (g ≡ f) × (us ≡ ts ++ solid (view piece ∷ []))
-Takes (step.Open open_group) start fs f ts gs g us =
-    (gs ≡ fs ++ record { frame = f; piece = start } ∷ []) × (us ≡ ts) ×
-    (g.open_group ≡ open_group) × (g.branches ≡ length ts) × (g.pieces ≡ length ts)
-
--- the log after a step was taken: an Empty is left out
-abbrev pub taken_recorded : Step → Log → Log
-taken_recorded (step.Piece piece) l = added (view piece) l
-taken_recorded (step.Open open_group) l = l
-
--- a step from s to t, recorded from l to m, or the error of a piece at s
-abbrev pub GivesStep : Result Step ReadError → ℕ → State → Log → State → Log → Type 0
-GivesStep r d s l t m = MatchResult r (λ p. IsStep d s l p t m) (λ e. IsErrorAmong e (Piece d s))
-
--- the step reads a piece, with this outcome
-abbrev pub IsPiece : Step → State → Outcome Tree → Type 0
-IsPiece (step.Piece piece) t o = o ≡ done (view piece) t
-IsPiece (step.Open open_group) t o = ⊥
-
--- the result, a step that reads a piece up to t or an error, is the outcome
-abbrev pub GivesPiece : Result Step ReadError → Outcome Tree → State → Type 0
-GivesPiece r o t = MatchResult r (λ p. IsPiece p t o) (λ e. IsErrorAmong e (λ q. o ≡ q))
+-- the outcome is a tree, of which P holds, read up to t, and it follows the trees below unless it is Empty; or it is the
+-- error of the result
+abbrev pub EndsPiece : Result (Unit {0}) ReadError → Outcome Tree → (below all : List Tree) → State → (Tree → Type 0) →
+    Type 0
+EndsPiece r o below all t P =
+    MatchResult r (λ _. (a : Tree) × (o ≡ done a t) × (all ≡ below ++ solid (a ∷ [])) × P a)
+    (λ e. IsErrorAmong e (λ q. o ≡ q))
 
 -- what has been read of a part that begins at s: its branches, and the pieces of the branch that is open at t; the
 -- record goes from the log `start` to l

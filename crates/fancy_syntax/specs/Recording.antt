@@ -3,12 +3,12 @@
 use Rattle.std.specs.Prelude.{◌≡◌, ℕ, zero, suc, true, false, ◌||◌, ◌&&◌, List, ◌∷◌, length, None}
 use Rattle.std.specs.Prelude.{if◌then◌else◌}
 use Rattle.std.specs.Option.{option_and_then}
-use Rattle.fancy_lex.specs.LayoutSteps.{Skipped, rest, failed as open_comment, past_layout}
+use Rattle.fancy_lex.specs.LayoutSteps.{past_layout}
 use Rattle.fancy_lex.specs.Reading.{choose}
 use Rattle.fancy_lex.specs.Text.{Text, bytes, reach_of}
 use Rattle.fancy_parts.specs.Quantifier.{counts}
 use Rattle.fancy_parts.specs.declared.counts.Counts.{Counts}
-use Rattle.fancy_grammar.specs.AtomStart.{AtomStart, nothing, read, of_kind, condition, body, absent_branch, atom_start}
+use Rattle.fancy_grammar.specs.AtomStart.{AtomStart}
 use Rattle.fancy_grammar.specs.Grammar.{Alternation, alternation, Branches, last, more, branch_error, Branch, branch}
 use Rattle.fancy_grammar.specs.Grammar.{Pieces, stop, next, piece_error, Piece, piece, layout_error, Atom, atom, AtomOf}
 use Rattle.fancy_grammar.specs.Grammar.{a_nothing, a_read, a_group, a_condition, condition_error, a_body, two_branches}
@@ -17,8 +17,8 @@ use Rattle.fancy_grammar.specs.GroupKind.{GroupKind, capture, flag_group}
 use Rattle.fancy_grammar.specs.Join.{is_empty, solid}
 use Rattle.fancy_grammar.specs.Quantified.{quant, suffix, is_repeatable, is_swapped, is_unmoved, max_adjacent}
 use Rattle.fancy_grammar.specs.Spans.{end_of, if_done, quantifier_end}
-use Rattle.fancy_grammar.specs.State.{State, at, skipped, Outcome, done}
-use Rattle.fancy_grammar.specs.Tree.{Tree, alt, list_of, empty}
+use Rattle.fancy_grammar.specs.State.{State, at, Outcome}
+use Rattle.fancy_grammar.specs.Tree.{Tree, alt, list_of}
 use Rattle.fancy_grammar.specs.Trivia.{flags_of_atom, closing_of, layout_end}
 use Rattle.fancy_syntax.specs.Log.{Log, leaf_recorded, left_out, wrapped, opened, body_opened, body_begun, branch_begun}
 use Rattle.fancy_syntax.specs.Log.{branch_ended, choice_ended, body_split, branch_lacked, part_dropped, atom_closed}
@@ -166,22 +166,3 @@ BranchesTo d s o l m = (a : Branches d s o) × (branches_recorded a l ≡ m)
 
 abbrev pub AlternationTo : ℕ → State → Outcome Tree → Log → Log → Type 0
 AlternationTo d s o l m = (a : Alternation d s o) × (alternation_recorded a l ≡ m)
-
--- ---- the steps of the loop
-
--- after the start of an atom: a piece, or the opening of a part; that many bytes were left at the start of the piece
-abbrev pub start_recorded : ℕ → State → AtomStart → Log → Log
-start_recorded left s nothing l = quants_recorded left (done empty s) (leaf_recorded (reach_of s.rest) (reach_of s.rest) l)
-start_recorded left s (read o) l = quants_recorded left o (atom_read s o l)
-start_recorded left s (of_kind h t) l = group_opened h s t l
-start_recorded left s (condition t) l = opened (reach_of s.rest) (reach_of t.rest) l
-start_recorded left s (body c t) l = body_opened s t l
-start_recorded left s (absent_branch t) l = opened (reach_of s.rest) (reach_of t.rest) l
-
--- after the layout before a piece
-abbrev pub skipped_recorded : ℕ → State → Skipped → Log → Log
-skipped_recorded d s (rest u) l = start_recorded (bytes s.rest) (at s u) (atom_start d (at s u)) l
-skipped_recorded d s (open_comment p) l = l
-
-abbrev pub step_recorded : ℕ → State → Log → Log
-step_recorded d s l = skipped_recorded d s (skipped s) (layout_passed s l)

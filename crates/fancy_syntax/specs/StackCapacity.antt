@@ -1,7 +1,5 @@
 -- The capacity of the parser's stack, in groups, from the start of a call.
-use Rattle.std.specs.Prelude.{ℕ, ◌+◌, ◌≤◌, ◌<◌, ◌==◌, nat_le, if◌then◌else◌, [], ◌∷◌, ⊤, vec_len, vec_capacity, Result}
-use Rattle.std.specs.Prelude.{IsOk}
-use Rattle.std.specs.declared.alloc.AllocError.{AllocError}
+use Rattle.std.specs.Prelude.{ℕ, ◌+◌, ◌≤◌, ◌==◌, nat_le, if◌then◌else◌, [], ◌∷◌, vec_capacity}
 use Prim.Native.Char.{code}
 use Rattle.fancy_lex.specs.Text.{Text}
 use Rattle.fancy_grammar.specs.Depth.{most_open}
@@ -9,8 +7,6 @@ use Rattle.fancy_grammar.specs.State.{State}
 use Rattle.fancy_syntax.specs.Log.{Log}
 use Rattle.fancy_syntax.specs.Machine.{HasRead}
 use Rattle.fancy_syntax.specs.declared.grammar.parser.Parser.{Parser}
-use Rattle.fancy_syntax.specs.declared.grammar.step.Step.{Step}
-use Rattle.fancy_syntax.specs.declared.grammar.step.Step.TheVariants as step
 
 -- how many opening parentheses a text has, whatever their role is
 abbrev pub open_parens : Text → ℕ
@@ -28,13 +24,3 @@ HasStackCapacity r text = groups_at_once text ≤ vec_capacity r.stack
 -- what has been read belongs to some text, and the stack has capacity for its groups
 abbrev pub IsReserved : Parser → Type 0
 IsReserved r = (start : State) × (none : Log) × (l : Log) × HasRead start none r l × HasStackCapacity r start.rest
-
--- the stack has capacity for what the step opens
-abbrev pub HasCapacityFor : Step → Parser → Type 0
-HasCapacityFor (step.Piece piece) r = ⊤
-HasCapacityFor (step.Open open_group) r = vec_len r.stack < vec_capacity r.stack
-
--- a group opens without an allocation
-abbrev pub OpensAlways : Step → Result (Unit {0}) AllocError → Type 0
-OpensAlways (step.Piece piece) r = ⊤
-OpensAlways (step.Open open_group) r = IsOk r

@@ -10,21 +10,20 @@ ghost use Rattle.fancy_grammar.specs.Grammar.{Alternation};
 ghost use Rattle.fancy_grammar.specs.State.{done, ends};
 ghost use Rattle.fancy_grammar.specs.State as states;
 ghost use Rattle.fancy_syntax.specs.Log.{Log, leaf_recorded};
-ghost use Rattle.fancy_syntax.specs.Machine.{Takes, HasRead, HasReadTo, IsPlainLeaf, taken_recorded};
+ghost use Rattle.fancy_syntax.specs.Machine.{HasRead, HasReadTo, IsPlainLeaf};
 ghost use Rattle.fancy_syntax.specs.Recording.{AlternationTo};
 ghost use Rattle.fancy_syntax.specs.Parsed.{state};
-ghost use Rattle.fancy_syntax.specs.StackCapacity.{groups_at_once, HasStackCapacity, IsReserved, HasCapacityFor};
-ghost use Rattle.fancy_syntax.specs.StackCapacity.{OpensAlways};
+ghost use Rattle.fancy_syntax.specs.StackCapacity.{groups_at_once, HasStackCapacity, IsReserved};
 ghost use Rattle.fancy_syntax.specs.View.{view, views};
 
 use crate::expr::Expr;
 use crate::grammar::atom::{leaf_node, literal};
 use crate::grammar::frame::{Enclosing, Frame, OpenGroup, PieceStart};
-use crate::grammar::plain::{is_unquantified, plain, plain_escape};
+use crate::grammar::plain::{plain, plain_escape};
 use crate::grammar::spanning::Spanning;
 use crate::grammar::state::State;
-use crate::grammar::step::{FinishedPart, Step, close, quantify_last, read_step};
-use crate::grammar::trees::{add, push};
+use crate::grammar::step::{FinishedPart, close, quantify_last, read_step};
+use crate::grammar::trees::push;
 use fancy_grammar::depth::MAX_DEPTH;
 use fancy_lex::error::ReadError;
 use fancy_lex::text::{byte_len, reach};
@@ -92,10 +91,6 @@ impl<'a> Parser<'a> {
         if !read_leaf(alloc, &mut self.trees, &mut self.current, spans)? {
             return Ok(false);
         }
-        // Usually no quantifier follows: this saves a call for each leaf.
-        if is_unquantified(self.current) {
-            return Ok(true);
-        }
         let depth = self.stack.len();
         quantify_last(
             alloc,
@@ -130,8 +125,13 @@ impl<'a> Parser<'a> {
             left: byte_len(self.current.rest),
             flags: self.current.flags,
         };
-        let step = read_step(alloc, &mut self.current, self.stack.len(), spans)?;
-        Ok(self.take(step, start, spans)?)
+        let depth = self.stack.len();
+        let opened = read_step(alloc, &mut self.trees, &mut self.current, depth, spans)?;
+        let Some(open_group) = opened else {
+            return Ok(());
+        };
+        self.open(open_group, start);
+        Ok(())
     }
 
     /// Ends the open branch at the bar at the front, which `rest` follows. A returned error is the error of the text.
@@ -192,42 +192,41 @@ impl<'a> Parser<'a> {
         let Frame { open_group, .. } = mem::replace(&mut self.frame, frame);
         let part = FinishedPart { open_group, inner };
         let depth = self.stack.len();
-        let step = close(alloc, part, piece, &mut self.current, depth, spans)?;
-        self.take(step, piece, spans)?;
+        let opened = close(
+            alloc,
+            &mut self.trees,
+            part,
+            piece,
+            &mut self.current,
+            depth,
+            spans,
+        )?;
+        let Some(open_group) = opened else {
+            return Ok(None);
+        };
+        self.open(open_group, piece);
         Ok(None)
     }
 
-    /// Takes what a step read of the piece that begins at `start`: the whole piece, which follows the others of the
-    /// group, or a group, which opens in it. Memory can only run out for the list of pieces.
+    /// Opens a group in the piece that begins at `start`. The stack has capacity for the group around it.
     #[inline(always)]
-    fn take<S: Spanning>(
-        &mut self,
-        step: Step<'a>,
-        start: PieceStart,
-        spans: &mut S,
-    ) -> Result<(), AllocError>
-        requires reserved { HasCapacityFor step self.old }
-        ensures taken { OnOk result (Takes step.entry start
-            self.old.stack.items self.old.frame (views self.old.trees.items)
-            self.new.stack.items self.new.frame (views self.new.trees.items)) }
+    fn open(&mut self, open_group: OpenGroup<'a>, start: PieceStart)
+        requires reserved { vec_len self.old.stack < vec_capacity self.old.stack }
+        ensures stack { self.new.stack.items ≡
+            self.old.stack.items ++ record { frame = self.old.frame; piece = start } ∷ [] }
+        ensures open_group { self.new.frame.open_group ≡ open_group.entry }
+        ensures branches { self.new.frame.branches ≡ vec_len self.old.trees }
+        ensures pieces { self.new.frame.pieces ≡ vec_len self.old.trees }
+        ensures trees { self.new.trees ≡ self.old.trees }
         ensures current { self.new.current ≡ self.old.current }
         ensures capacity { vec_capacity self.new.stack ≡ vec_capacity self.old.stack }
-        ensures opens { OpensAlways step.entry result }
-        ensures spans { (l : Log) → S.records spans.old l →
-            OnOk result (S.records spans.new (taken_recorded step.entry l)) }
     {
-        match step {
-            Step::Piece(piece) => add(&mut self.trees, piece, spans),
-            Step::Open(open_group) => {
-                let inner = Frame::new(open_group, self.trees.len());
-                let outer = Enclosing {
-                    frame: mem::replace(&mut self.frame, inner),
-                    piece: start,
-                };
-                push_enclosing(&mut self.stack, outer);
-                Ok(())
-            }
-        }
+        let inner = Frame::new(open_group, self.trees.len());
+        let outer = Enclosing {
+            frame: mem::replace(&mut self.frame, inner),
+            piece: start,
+        };
+        push_enclosing(&mut self.stack, outer);
     }
 }
 

@@ -1,6 +1,6 @@
 //! The steps of the loop that read a piece, or continue with the next part of a group.
 ghost use Rattle.std.specs.Prelude.{◌≡◌, ◌+◌, ◌<◌, ◌≤◌, true, false, List, [], ◌∷◌, ◌++◌, length, chars, vec_len, IfOk, OnOk};
-ghost use Rattle.std.specs.Prelude.{MatchResult, None};
+ghost use Rattle.std.specs.Prelude.{IfSome, MatchResult, None};
 ghost use Rattle.fancy_lex.specs.Characters.{code};
 ghost use Rattle.fancy_lex.specs.Text.{bytes, reach_of, strip};
 ghost use Rattle.fancy_grammar.specs.State.{ends};
@@ -8,9 +8,9 @@ ghost use Rattle.fancy_grammar.specs.Depth.{max_depth};
 ghost use Rattle.fancy_grammar.specs.Grammar as spec;
 ghost use Rattle.fancy_syntax.specs.Log.{Log, group_opened};
 ghost use Rattle.fancy_syntax.specs.Machine as machine;
-ghost use Rattle.fancy_syntax.specs.Machine.{OpensPart, OpensBelow, Part, GivesStep, GivesPiece, ended_part, part_of};
-ghost use Rattle.fancy_syntax.specs.Machine.{TurnsLast, close_recorded, part_recorded};
-ghost use Rattle.fancy_syntax.specs.Recording.{atom_read, body_separated, group_recorded, quants_recorded, step_recorded};
+ghost use Rattle.fancy_syntax.specs.Machine.{OpensPart, Part, GivesStep, EndsPiece, ended_part, part_of};
+ghost use Rattle.fancy_syntax.specs.Machine.{TurnsLast, part_recorded};
+ghost use Rattle.fancy_syntax.specs.Recording.{added, body_separated, group_recorded, quants_recorded};
 ghost use Rattle.fancy_syntax.specs.Parsed.{group_kind, state, GivesTree};
 ghost use Rattle.fancy_grammar.specs.Trivia.{part, closing};
 ghost use Rattle.fancy_syntax.specs.TriviaViews.{recorded_part};
@@ -32,18 +32,11 @@ use crate::grammar::quantified::quantify;
 use crate::grammar::recorded::{RecordedTrivium, part_between};
 use crate::grammar::spanning::Spanning;
 use crate::grammar::state::{State, skip_layout};
+use crate::grammar::trees::{leave_out_empty, push};
 use crate::trivium::TriviumKind;
 use fancy_lex::error::{ParseError, ReadError};
 use fancy_lex::text::{AT_END, byte_len, next, reach, reach_before};
 use std::alloc::{AllocError, Global};
-
-/// What a step reads.
-pub(crate) enum Step<'a> {
-    /// A piece, to its end.
-    Piece(Expr),
-    /// The opening of a part of a group, up to its contents.
-    Open(OpenGroup<'a>),
-}
 
 /// A part of a group whose contents were read.
 #[derive(Drop)]
@@ -52,21 +45,21 @@ pub(crate) struct FinishedPart<'a> {
     pub(crate) inner: Expr,
 }
 
-/// Reads a piece, or the opening of a group. A returned error is the error of the piece.
+/// Reads a piece and adds its tree to the list, unless it is Empty; or reads the opening of a group, up to its contents,
+/// and returns the group. A returned error is the error of the piece.
 pub(crate) fn read_step<'a, S: Spanning>(
     alloc: Global,
+    trees: &mut Vec<Expr>,
     current: &mut State<'a>,
     depth: usize,
     spans: &mut S,
-) -> Result<Step<'a>, ReadError>
+) -> Result<Option<OpenGroup<'a>>, ReadError>
     requires depth { depth < max_depth }
     requires more { ends (chars current.old.rest.now) ≡ false }
-    ensures value { (l : Log) →
-        GivesStep result depth (state current.old) l (state current.new) (step_recorded depth (state current.old) l) }
-    ensures spans { (l : Log) → S.records spans.old l →
-        OnOk result (S.records spans.new (step_recorded depth (state current.old) l)) }
+    ensures value { (l : Log) → GivesStep result depth (state current.old) l (views trees.old.items)
+        (views trees.new.items) (state current.new) (λ m. S.records spans.old l → S.records spans.new m) }
     ensures shorter { IfOk result (λ _. length current.new.rest.now < length current.old.rest.now) }
-    ensures below { IfOk result (λ p. OpensBelow p depth) }
+    ensures below { IfOk result (λ opened. IfSome opened (λ _. depth + 1 < max_depth)) }
 {
     let left = byte_len(current.rest);
     let rest = skip_layout(*current)?;
@@ -76,35 +69,35 @@ pub(crate) fn read_step<'a, S: Spanning>(
     match read_atom_start(alloc, current, depth)? {
         AtomStart::Nothing => {
             spans.record_leaf(reach(before.rest), reach(current.rest))?;
-            piece(alloc, Expr::Empty, current, left, depth, spans)
+            push(trees, Expr::Empty)?;
+            end_piece(alloc, trees, current, left, depth, spans)?;
+            Ok(None)
         }
         AtomStart::Read(atom) => {
             spans.record_atom(before, &atom, *current)?;
-            // Usually no quantifier follows: this saves a call for each leaf.
-            if is_unquantified(*current) {
-                return Ok(Step::Piece(atom));
-            }
-            piece(alloc, atom, current, left, depth, spans)
+            push(trees, atom)?;
+            end_piece(alloc, trees, current, left, depth, spans)?;
+            Ok(None)
         }
         AtomStart::Group(kind) => {
             open_group(kind, before, *current, spans)?;
             let paren = reach(before.rest);
-            Ok(Step::Open(OpenGroup::Group { kind, reach: paren }))
+            Ok(Some(OpenGroup::Group { kind, reach: paren }))
         }
         AtomStart::Condition => {
             spans.open(reach(before.rest), reach(current.rest))?;
-            Ok(Step::Open(OpenGroup::Condition))
+            Ok(Some(OpenGroup::Condition))
         }
         AtomStart::Body(condition) => {
             spans.open_body(before, *current)?;
-            Ok(Step::Open(OpenGroup::Body {
+            Ok(Some(OpenGroup::Body {
                 condition,
                 left: byte_len(current.rest),
             }))
         }
         AtomStart::AbsentBranch => {
             spans.open(reach(before.rest), reach(current.rest))?;
-            Ok(Step::Open(OpenGroup::First))
+            Ok(Some(OpenGroup::First))
         }
     }
 }
@@ -136,34 +129,31 @@ fn open_group<S: Spanning>(
     }
 }
 
-/// Reads the quantifiers of an atom.
-#[inline(never)]
-fn piece<'a, S: Spanning>(
+/// Reads the quantifiers of the last tree, an atom, and leaves it out if it is Empty.
+#[inline(always)]
+fn end_piece<S: Spanning>(
     alloc: Global,
-    atom: Expr,
-    current: &mut State<'a>,
+    trees: &mut Vec<Expr>,
+    current: &mut State,
     left: usize,
     depth: usize,
     spans: &mut S,
-) -> Result<Step<'a>, ReadError>
+) -> Result<(), ReadError>
     requires depth { depth < max_depth }
-    ensures value { GivesPiece result (quants depth left (view atom) (state current.old)) (state current.new) }
-    ensures spans { (l : Log) → S.records spans.old l →
-        OnOk result (S.records spans.new (quants_recorded left (states.done (view atom) (state current.old)) l)) }
+    requires some { 0 < vec_len trees.old }
+    ensures value { (below : List Tree) (atom : Tree) (l : Log) → views trees.old.items ≡ below ++ atom ∷ [] →
+        EndsPiece result (quants depth left atom (state current.old)) below (views trees.new.items) (state current.new)
+        (λ piece. S.records spans.old l → S.records spans.new
+        (added piece (quants_recorded left (states.done atom (state current.old)) l))) }
     ensures within { length current.new.rest.now ≤ length current.old.rest.now }
 {
-    let mut piece = atom;
-    match quantify(alloc, &mut piece, current, left, depth, spans) {
-        Ok(()) => Ok(Step::Piece(piece)),
-        Err(error) => {
-            drop(piece);
-            Err(error)
-        }
-    }
+    quantify_last(alloc, trees, current, left, depth, spans)?;
+    leave_out_empty(trees, spans);
+    Ok(())
 }
 
 /// Reads the quantifiers of the last tree.
-#[inline(never)]
+#[inline(always)]
 pub(crate) fn quantify_last<S: Spanning>(
     alloc: Global,
     trees: &mut Vec<Expr>,
@@ -176,6 +166,35 @@ pub(crate) fn quantify_last<S: Spanning>(
     requires some { 0 < vec_len trees.old }
     ensures value { (below : List Tree) (tree : Tree) → views trees.old.items ≡ below ++ tree ∷ [] →
         TurnsLast result (views trees.new.items) below (state current.new) (quants depth left tree (state current.old)) }
+    ensures length { vec_len trees.new ≡ vec_len trees.old }
+    ensures within { length current.new.rest.now ≤ length current.old.rest.now }
+    ensures spans { (below : List Tree) (tree : Tree) (l : Log) → views trees.old.items ≡ below ++ tree ∷ [] →
+        S.records spans.old l →
+        OnOk result (S.records spans.new (quants_recorded left (states.done tree (state current.old)) l)) }
+{
+    // Usually no quantifier follows: this saves a call for each piece.
+    if is_unquantified(*current) {
+        return Ok(());
+    }
+    quantify_some(alloc, trees, current, left, depth, spans)
+}
+
+/// Reads the quantifiers of the last tree, whatever follows it. It is a function of its own: inlined, it would cost each
+/// leaf registers.
+#[inline(never)]
+fn quantify_some<S: Spanning>(
+    alloc: Global,
+    trees: &mut Vec<Expr>,
+    current: &mut State,
+    left: usize,
+    depth: usize,
+    spans: &mut S,
+) -> Result<(), ReadError>
+    requires depth { depth < max_depth }
+    requires some { 0 < vec_len trees.old }
+    ensures value { (below : List Tree) (tree : Tree) → views trees.old.items ≡ below ++ tree ∷ [] →
+        TurnsLast result (views trees.new.items) below (state current.new) (quants depth left tree (state current.old)) }
+    ensures length { vec_len trees.new ≡ vec_len trees.old }
     ensures within { length current.new.rest.now ≤ length current.old.rest.now }
     ensures spans { (below : List Tree) (tree : Tree) (l : Log) → views trees.old.items ≡ below ++ tree ∷ [] →
         S.records spans.old l →
@@ -185,26 +204,26 @@ pub(crate) fn quantify_last<S: Spanning>(
     quantify(alloc, &mut trees[last], current, left, depth, spans)
 }
 
-/// Ends a part that no bar follows: the piece ends with it, or the next part of the same group opens. A quantifier
-/// after the piece is read under the flags at the start of the piece. A returned error is the error of the piece.
+/// Ends a part that no bar follows: the piece ends with it, and its tree is added to the list unless it is Empty; or the
+/// next part of the same group opens, and is returned. A quantifier after the piece is read under the flags at the start
+/// of the piece. A returned error is the error of the piece.
 pub(crate) fn close<'a, S: Spanning>(
     alloc: Global,
+    trees: &mut Vec<Expr>,
     part: FinishedPart<'a>,
     start: PieceStart,
     current: &mut State<'a>,
     depth: usize,
     spans: &mut S,
-) -> Result<Step<'a>, ReadError>
+) -> Result<Option<OpenGroup<'a>>, ReadError>
     requires depth { depth < max_depth }
     requires last { ends (chars current.old.rest.now) ≡ true }
     requires no_bar { strip (code "|") (chars current.old.rest.now) ≡ None }
     ensures value { (s t : states.State) (l m n : Log) → start.left ≡ bytes s.rest → start.flags ≡ s.flags →
         OpensPart depth s l (part_of part.entry.open_group) t m →
         Part (part_of part.entry.open_group) (depth + 1) t (states.done (view part.entry.inner) (state current.old)) m n →
-        GivesStep result depth s l (state current.new)
-        (close_recorded start.left start.flags (part_of part.entry.open_group) (view part.entry.inner) (state current.old) n) }
-    ensures spans { (l : Log) → S.records spans.old l → OnOk result (S.records spans.new
-        (close_recorded start.left start.flags (part_of part.entry.open_group) (view part.entry.inner) (state current.old) l)) }
+        GivesStep result depth s l (views trees.old.items) (views trees.new.items) (state current.new)
+        (λ k. S.records spans.old n → S.records spans.new k) }
     ensures shorter { IfOk result (λ _. length current.new.rest.now < length current.old.rest.now) }
 {
     let FinishedPart { open_group, inner } = part;
@@ -212,16 +231,14 @@ pub(crate) fn close<'a, S: Spanning>(
     let atom = end_part(alloc, open_group, inner, current, spans)?;
     if !has_body {
         current.flags = start.flags;
-        // Usually no quantifier follows: this saves a call for each group.
-        if is_unquantified(*current) {
-            return Ok(Step::Piece(atom));
-        }
-        return piece(alloc, atom, current, start.left, depth, spans);
+        push(trees, atom)?;
+        end_piece(alloc, trees, current, start.left, depth, spans)?;
+        return Ok(None);
     }
     let condition = Box::new(alloc, atom)?;
     spans.begin_body(current.rest);
     let left = byte_len(current.rest);
-    Ok(Step::Open(OpenGroup::Body { condition, left }))
+    Ok(Some(OpenGroup::Body { condition, left }))
 }
 
 /// Whether the atom continues after the open part: the body of a conditional follows its condition.

@@ -1,8 +1,8 @@
 //! The trees that have been read and are in no other tree yet: those of all open groups, one above the other.
-ghost use Rattle.std.specs.Prelude.{◌≡◌, ◌≤◌, [], ◌∷◌, ◌++◌, take, drop, length, vec_len, IfOk, OnOk};
+ghost use Rattle.std.specs.Prelude.{◌≡◌, ◌≤◌, ◌<◌, List, [], ◌∷◌, ◌++◌, take, drop, length, vec_len, IfOk, OnOk};
 ghost use Rattle.fancy_grammar.specs.Join as spec;
 ghost use Rattle.fancy_grammar.specs.Join.{solid, one_or};
-ghost use Rattle.fancy_grammar.specs.Tree.{concat};
+ghost use Rattle.fancy_grammar.specs.Tree.{Tree, concat};
 ghost use Rattle.fancy_syntax.specs.Log.{Log, branch_ended};
 ghost use Rattle.fancy_syntax.specs.Recording.{added};
 ghost use Rattle.fancy_syntax.specs.View.{view, views};
@@ -13,23 +13,20 @@ use fancy_lex::text::Reach;
 use std::alloc::{AllocError, Global};
 use std::mem;
 
-/// Adds a piece; an Empty one is left out.
-#[inline]
-pub(crate) fn add<S: Spanning>(
-    trees: &mut Vec<Expr>,
-    piece: Expr,
-    spans: &mut S,
-) -> Result<(), AllocError>
-    ensures trees { OnOk result (views trees.new.items ≡ views trees.old.items ++ solid (view piece ∷ [])) }
-    ensures spans { (l : Log) → S.records spans.old l → OnOk result (S.records spans.new (added (view piece) l)) }
+/// Leaves the last tree out if it is Empty.
+#[inline(always)]
+pub(crate) fn leave_out_empty<S: Spanning>(trees: &mut Vec<Expr>, spans: &mut S)
+    requires some { 0 < vec_len trees.old }
+    ensures trees { (below : List Tree) (tree : Tree) → views trees.old.items ≡ below ++ tree ∷ [] →
+        views trees.new.items ≡ below ++ solid (tree ∷ []) }
+    ensures spans { (below : List Tree) (tree : Tree) (l : Log) → views trees.old.items ≡ below ++ tree ∷ [] →
+        S.records spans.old l → S.records spans.new (added tree l) }
 {
-    if is_empty(&piece) {
+    if is_empty(&trees[trees.len() - 1]) {
         // An Empty owns nothing.
-        mem::forget(piece);
+        mem::forget(trees.take_last());
         spans.leave_out();
-        return Ok(());
     }
-    push(trees, piece)
 }
 
 /// Adds a tree.

@@ -1,13 +1,10 @@
-use Rattle.std.proofs.Common.{◌≡◌, Ok, sym, ap, ◌∙◌}
+use Rattle.std.proofs.Common.{◌≡◌, refl, sym, ◌∙◌}
 use Rattle.std.proofs.lemmas.Result.{err_from_is_err_and}
-use Rattle.fancy_lex.specs.declared.flags.Flags.{Flags}
 use Rattle.fancy_grammar.specs.Grammar.{Piece}
-use Rattle.fancy_grammar.specs.Quantified.{quants}
 use Rattle.fancy_syntax.specs.Machine.{part_of, ended_part}
 use Rattle.fancy_syntax.specs.Parsed.{state}
-use Rattle.fancy_syntax.specs.View.{view}
-use Rattle.fancy_syntax.specs.declared.grammar.step.Step.TheVariants as step
-use Rattle.fancy_syntax.proofs.MachineLemmas.{ended_error, closes, closes_condition}
+use Rattle.fancy_syntax.specs.View.{view, views}
+use Rattle.fancy_syntax.proofs.MachineLemmas.{ended_error, closes, closes_error, closes_condition}
 use Rattle.fancy_grammar.proofs.OutcomeLemmas.{IsErrorAmong-map}
 use Rattle.fancy_syntax.proofs.grammar.step.close.Goals as goal
 
@@ -22,26 +19,35 @@ returns-in_err-atom-clause-value g c =
     c.in_err-atom.field-0.0 (λ f h. ended_error n (view c.args.part.inner) (state c.args.current.now) o p
     (λ _ _. c.requires.no_bar) h) c.in_err-atom.ensures.value)
 
-pub returns-then-is_unquantified-clause-value : goal.returns-then-is_unquantified-clause-value
-returns-then-is_unquantified-clause-value g c =
+pub returns-in_err-end_piece-clause-value : goal.returns-in_err-end_piece-clause-value
+returns-in_err-end_piece-clause-value g c =
     λ s t l m n i j o p.
-    closes n c.args.start.flags (view c.args.part.inner) (state c.args.current.now) (Ok (step.Piece _)) _ o p
-    (sym c.has_body_next-has_body.ensures ∙ c.if-not-has_body.true) c.requires.no_bar
-    c.in_ok-atom.ensures.value i j
-    (ap (λ (f : Flags). quants c.args.depth c.args.start.left (view c.in_ok-atom.atom)
-    (record (state c.end_part.new.current) { flags = f })) (sym j)
-    ∙ c.is_unquantified.ensures.quants c.if-is_unquantified.true _ _ _)
+    let e = err_from_is_err_and c.from_residual-in_err-end_piece.result c.from_residual-in_err-end_piece.ensures.1 in
+    rw (e.1, e.2)
+    (closes_error n c.args.start.flags (view c.args.part.inner) (state c.args.current.now) c.in_err-end_piece.field-0.0 o p
+    (sym c.has_body_next-has_body.ensures ∙ c.if-not-has_body.true) c.requires.no_bar c.in_ok-atom.ensures.value i j
+    (c.in_err-end_piece.ensures.value _ _ n c.in_ok-push.ensures))
 
 pub returns-then-not-has_body-clause-value : goal.returns-then-not-has_body-clause-value
 returns-then-not-has_body-clause-value g c =
     λ s t l m n i j o p.
-    closes n c.args.start.flags (view c.args.part.inner) (state c.args.current.now) c.piece.result _ o p
-    (sym c.has_body_next-has_body.ensures ∙ c.if-not-has_body.true) c.requires.no_bar
-    c.in_ok-atom.ensures.value i j (rw j at c.piece.ensures.value)
+    let (q, is, all, recorded) = c.in_ok-end_piece.ensures.value _ _ _ c.in_ok-push.ensures in (
+      _,
+      closes (views c.args.trees.now.items) n c.args.start.flags (view c.args.part.inner) (state c.args.current.now) o p
+          (sym c.has_body_next-has_body.ensures ∙ c.if-not-has_body.true) c.requires.no_bar c.in_ok-atom.ensures.value i j
+          is all,
+      λ x. recorded (c.in_ok-atom.ensures.spans n x),
+    )
 
 pub returns-clause-value : goal.returns-clause-value
 returns-clause-value g c =
     λ s t l m n i j o p.
-    rw (c.byte_len-left.ensures, c.in_ok-condition.ensures.ok)
-    (closes_condition c.args.start.left n c.args.start.flags (view c.args.part.inner) (state c.args.current.now) o p
-    (sym c.has_body_next-has_body.ensures ∙ c.if-not-has_body.false) c.in_ok-atom.ensures.value)
+    rw (c.byte_len-left.ensures, c.in_ok-condition.ensures.ok) (
+      _,
+      (
+        closes_condition n (view c.args.part.inner) (state c.args.current.now) o p
+            (sym c.has_body_next-has_body.ensures ∙ c.if-not-has_body.false) c.in_ok-atom.ensures.value,
+        refl,
+      ),
+      λ x. c.begin_body.ensures _ (c.in_ok-atom.ensures.spans n x),
+    )

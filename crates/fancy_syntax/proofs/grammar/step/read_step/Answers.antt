@@ -1,15 +1,18 @@
-use Rattle.std.proofs.Common.{◌≡◌, Ok, chars, subst, sym, ◌∙◌}
+use Rattle.std.proofs.Common.{◌≡◌, ◌∷◌, [], ◌++◌, chars, refl, ap, subst, sym, ◌∙◌}
 use Rattle.std.proofs.lemmas.Result.{err_from_is_err_and}
 use Rattle.fancy_grammar.specs.AtomStart.{atom_start, read}
-use Rattle.fancy_grammar.specs.Grammar.{Piece, piece, atom, a_read}
-use Rattle.fancy_grammar.specs.State.{at}
-use Rattle.fancy_syntax.specs.Log.{layout_passed}
+use Rattle.fancy_grammar.specs.Grammar.{Piece, piece, atom, a_nothing, a_read}
+use Rattle.fancy_grammar.specs.State.{at, done}
+use Rattle.fancy_syntax.specs.Log.{layout_passed, leaf_recorded, opened, started}
 use Rattle.fancy_syntax.specs.Machine.{a_group, a_condition, a_body, a_branch}
 use Rattle.fancy_syntax.specs.Parsed.{state}
-use Rattle.fancy_syntax.specs.declared.grammar.step.Step.TheVariants as step
+use Rattle.fancy_syntax.specs.View.{views}
+use Rattle.fancy_syntax.specs.declared.grammar.state.State.{State}
+use Rattle.fancy_lex.specs.Text.{reach_of}
+use Rattle.fancy_grammar.specs.Tree.{empty}
+use Rattle.fancy_grammar.specs.Quantified.{quants}
 use Rattle.fancy_syntax.proofs.StepLemmas.{nothing_shorter}
-use Rattle.fancy_syntax.proofs.MachineLemmas.{read_recorded, steps_read, steps_nothing, steps_open}
-use Rattle.fancy_syntax.proofs.MachineLemmas.{steps_layout}
+use Rattle.fancy_syntax.proofs.MachineLemmas.{AtomTo, steps_piece, steps_error, steps_layout}
 use Rattle.fancy_grammar.proofs.OutcomeLemmas.{IsErrorAmong-map}
 use Rattle.fancy_syntax.proofs.TreeLemmas.{view_Empty}
 use Rattle.fancy_syntax.proofs.grammar.step.read_step.Goals as goal
@@ -30,63 +33,103 @@ returns-in_err-read_atom_start-clause-value g c l =
     c.in_err-read_atom_start.field-0.0 (λ f h. piece c.in_ok-rest.ensures.value (atom h a_read))
     c.in_err-read_atom_start.ensures.value)
 
-pub returns-then-is_unquantified-clause-value : goal.returns-then-is_unquantified-clause-value
-returns-then-is_unquantified-clause-value g c l =
-    steps_read c.args.depth c.byte_len-left.result (state c.args.current.now) l (Ok (step.Piece _)) _
+pub returns-in_err-end_piece-in-Nothing-clause-value : goal.returns-in_err-end_piece-in-Nothing-clause-value
+returns-in_err-end_piece-in-Nothing-clause-value g c l =
+    let e = err_from_is_err_and c.from_residual-in_err-end_piece-in-Nothing.result
+    c.from_residual-in_err-end_piece-in-Nothing.ensures.1 in
+    let stays = rw c.in-Nothing.is at c.in_ok-read_atom_start.ensures.stays in
+    let put = rw view_Empty at c.in_ok-push-in-Nothing.ensures in
+    rw (e.1, e.2) (steps_error (state c.args.current.now) c.in_err-end_piece-in-Nothing.field-0.0
     c.byte_len-left.ensures c.in_ok-rest.ensures.value
-    (rw c.in-Read.is at c.in_ok-read_atom_start.ensures.value)
-    (c.is_unquantified.ensures.quants c.if-is_unquantified.true _ _ _)
+    (atom (rw c.in-Nothing.is at c.in_ok-read_atom_start.ensures.value) a_nothing)
+    (rw stays at (c.in_err-end_piece-in-Nothing.ensures.value _ _ l put)))
 
-pub returns-else-is_unquantified-clause-value : goal.returns-else-is_unquantified-clause-value
-returns-else-is_unquantified-clause-value g c l =
-    steps_read c.args.depth c.byte_len-left.result (state c.args.current.now) l _ _ c.byte_len-left.ensures
-    c.in_ok-rest.ensures.value
-    (rw c.in-Read.is at c.in_ok-read_atom_start.ensures.value) c.piece-in-Read.ensures.value
+pub returns-in_err-end_piece-in-Read-clause-value : goal.returns-in_err-end_piece-in-Read-clause-value
+returns-in_err-end_piece-in-Read-clause-value g c l =
+    let e = err_from_is_err_and c.from_residual-in_err-end_piece-in-Read.result
+    c.from_residual-in_err-end_piece-in-Read.ensures.1 in
+    rw (e.1, e.2) (steps_error (state c.args.current.now) c.in_err-end_piece-in-Read.field-0.0
+    c.byte_len-left.ensures c.in_ok-rest.ensures.value
+    (atom (rw c.in-Read.is at c.in_ok-read_atom_start.ensures.value) a_read)
+    (c.in_err-end_piece-in-Read.ensures.value _ _ l c.in_ok-push-in-Read.ensures))
 
-pub returns-in_ok-record_leaf-in-Nothing-clause-value : goal.returns-in_ok-record_leaf-in-Nothing-clause-value
-returns-in_ok-record_leaf-in-Nothing-clause-value g c l =
+pub returns-in_ok-end_piece-in-Nothing-clause-value : goal.returns-in_ok-end_piece-in-Nothing-clause-value
+returns-in_ok-end_piece-in-Nothing-clause-value g c l =
+    let s = state c.args.current.now in
+    let u = chars c.in_ok-rest.rest.now in
     let stays = rw c.in-Nothing.is at c.in_ok-read_atom_start.ensures.stays in
-    steps_nothing c.args.depth c.byte_len-left.result (state c.args.current.now) l _ _ c.byte_len-left.ensures
-    c.in_ok-rest.ensures.value
-    (rw c.in-Nothing.is at c.in_ok-read_atom_start.ensures.value)
-    (rw (view_Empty, stays) at c.piece.ensures.value)
+    let m = leaf_recorded (reach_of u) (reach_of u) (layout_passed s l) in
+    let (r, is, all, recorded) = c.in_ok-end_piece-in-Nothing.ensures.value _ empty m
+    (c.in_ok-push-in-Nothing.ensures ∙ ap (λ t. views c.args.trees.now.items ++ t ∷ []) view_Empty) in (
+      _,
+      steps_piece s (views c.args.trees.now.items) c.byte_len-left.ensures c.in_ok-rest.ensures.value
+          (subst (λ (w : State). AtomTo c.args.depth (at s u) (done empty (state w)) (layout_passed s l) m) (sym stays)
+          (atom (rw c.in-Nothing.is at c.in_ok-read_atom_start.ensures.value) a_nothing, refl)) is all,
+      λ x. recorded (subst (g.S.Spanning.records c.record_leaf.new.self)
+          (λ i. leaf_recorded (c.reach.ensures i)
+          ((c.reach-in-Nothing.ensures ∙ ap (λ (w : State). reach_of (chars w.rest.now)) stays) i) (layout_passed s l))
+          (c.in_ok-record_leaf-in-Nothing.ensures _ (c.in_ok-pass_layout.ensures l x))),
+    )
 
-pub returns-in_ok-record_leaf-in-Nothing-clause-shorter : goal.returns-in_ok-record_leaf-in-Nothing-clause-shorter
-returns-in_ok-record_leaf-in-Nothing-clause-shorter g c =
+pub returns-in_ok-end_piece-in-Nothing-clause-shorter : goal.returns-in_ok-end_piece-in-Nothing-clause-shorter
+returns-in_ok-end_piece-in-Nothing-clause-shorter g c =
     let stays = rw c.in-Nothing.is at c.in_ok-read_atom_start.ensures.stays in
-    nothing_shorter c.args.depth _ _ _ _ (state c.args.current.now) _ _ _
-    (rw c.in-Nothing.is at c.in_ok-read_atom_start.ensures.value) c.requires.more
-    c.byte_len-left.ensures (rw (view_Empty, stays) at c.piece.ensures.value) c.in_ok-rest.ensures.within
-    c.in_ok-rest.ensures.unmoved
-    (rw stays at c.piece.ensures.within)
+    let (r, is, all, recorded) = c.in_ok-end_piece-in-Nothing.ensures.value _ empty (started 0)
+    (c.in_ok-push-in-Nothing.ensures ∙ ap (λ t. views c.args.trees.now.items ++ t ∷ []) view_Empty) in
+    nothing_shorter c.args.depth _ _ _ _ (state c.args.current.now) _ r (state c.end_piece.new.current)
+    (rw c.in-Nothing.is at c.in_ok-read_atom_start.ensures.value) c.requires.more c.byte_len-left.ensures
+    (subst (λ (w : State). quants c.args.depth c.byte_len-left.result empty (state w)
+    ≡ done r (state c.end_piece.new.current)) stays is)
+    c.in_ok-rest.ensures.within c.in_ok-rest.ensures.unmoved
+    (rw stays at c.in_ok-end_piece-in-Nothing.ensures.within)
+
+pub returns-in_ok-end_piece-in-Read-clause-value : goal.returns-in_ok-end_piece-in-Read-clause-value
+returns-in_ok-end_piece-in-Read-clause-value g c l =
+    let (r, is, all, recorded) = c.in_ok-end_piece-in-Read.ensures.value _ _ _ c.in_ok-push-in-Read.ensures in (
+      _,
+      steps_piece (state c.args.current.now) (views c.args.trees.now.items) c.byte_len-left.ensures
+          c.in_ok-rest.ensures.value
+          (atom (rw c.in-Read.is at c.in_ok-read_atom_start.ensures.value) a_read, refl) is all,
+      λ x. recorded (c.in_ok-record_atom-in-Read.ensures (layout_passed (state c.args.current.now) l)
+          (c.in_ok-pass_layout.ensures l x)),
+    )
 
 pub returns-in_ok-open_group-in-Group-clause-value : goal.returns-in_ok-open_group-in-Group-clause-value
 returns-in_ok-open_group-in-Group-clause-value g c l =
     let seen = rw c.in-Group.is at c.in_ok-read_atom_start.ensures.value in
-    rw c.reach-paren.ensures (steps_open c.in_ok-rest.ensures.value seen (a_group c.in_ok-rest.ensures.value seen))
+    rw c.reach-paren.ensures (
+      _,
+      (a_group c.in_ok-rest.ensures.value seen, refl),
+      λ x. c.in_ok-open_group-in-Group.ensures _ (c.in_ok-pass_layout.ensures l x),
+    )
 
 pub returns-in_ok-open-in-Condition-clause-value : goal.returns-in_ok-open-in-Condition-clause-value
 returns-in_ok-open-in-Condition-clause-value g c l =
-    let seen = rw c.in-Condition.is at c.in_ok-read_atom_start.ensures.value in
-    steps_open c.in_ok-rest.ensures.value seen (a_condition c.in_ok-rest.ensures.value seen)
+    let seen = rw c.in-Condition.is at c.in_ok-read_atom_start.ensures.value in (
+      _,
+      (a_condition c.in_ok-rest.ensures.value seen, refl),
+      λ x. subst (g.S.Spanning.records c.open.new.self)
+          (λ i. opened (c.reach-in-Condition.ensures i) (c.reach-in-Condition-2.ensures i)
+          (layout_passed (state c.args.current.now) l))
+          (c.in_ok-open-in-Condition.ensures _ (c.in_ok-pass_layout.ensures l x)),
+    )
 
 pub returns-in_ok-open_body-in-Body-clause-value : goal.returns-in_ok-open_body-in-Body-clause-value
 returns-in_ok-open_body-in-Body-clause-value g c l =
     let seen = rw c.in-Body.is at c.in_ok-read_atom_start.ensures.value in
-    rw c.byte_len.ensures (steps_open c.in_ok-rest.ensures.value seen (a_body c.in_ok-rest.ensures.value seen))
+    rw c.byte_len.ensures (
+      _,
+      (a_body c.in_ok-rest.ensures.value seen, refl),
+      λ x. c.in_ok-open_body-in-Body.ensures _ (c.in_ok-pass_layout.ensures l x),
+    )
 
 pub returns-in_ok-open-in-AbsentBranch-clause-value : goal.returns-in_ok-open-in-AbsentBranch-clause-value
 returns-in_ok-open-in-AbsentBranch-clause-value g c l =
-    let seen = rw c.in-AbsentBranch.is at c.in_ok-read_atom_start.ensures.value in
-    steps_open c.in_ok-rest.ensures.value seen (a_branch c.in_ok-rest.ensures.value seen)
-
-pub returns-then-is_unquantified-clause-spans : goal.returns-then-is_unquantified-clause-spans
-returns-then-is_unquantified-clause-spans g c l h =
-    let s = state c.args.current.now in
-    let left = c.byte_len-left.result in
-    let read = c.in_ok-record_atom-in-Read.ensures (layout_passed s l) (c.in_ok-pass_layout.ensures l h) in
-    subst (g.S.Spanning.records c.record_atom.new.self)
-    (sym (c.is_unquantified.ensures.spans c.if-is_unquantified.true left _ _)
-    ∙ read_recorded c.args.depth left s l c.byte_len-left.ensures c.in_ok-rest.ensures.value
-    (rw c.in-Read.is at c.in_ok-read_atom_start.ensures.value))
-    read
+    let seen = rw c.in-AbsentBranch.is at c.in_ok-read_atom_start.ensures.value in (
+      _,
+      (a_branch c.in_ok-rest.ensures.value seen, refl),
+      λ x. subst (g.S.Spanning.records c.open-in-AbsentBranch.new.self)
+          (λ i. opened (c.reach-in-AbsentBranch.ensures i) (c.reach-in-AbsentBranch-2.ensures i)
+          (layout_passed (state c.args.current.now) l))
+          (c.in_ok-open-in-AbsentBranch.ensures _ (c.in_ok-pass_layout.ensures l x)),
+    )

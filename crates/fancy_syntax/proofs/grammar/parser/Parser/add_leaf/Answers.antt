@@ -26,23 +26,6 @@ returns-in_err-quantify_last-clause-reading g c start none l h =
     ∙ ap (λ left. quants c.len-depth.result left r u) (sym c.byte_len-left.ensures) ∙ x))
     (c.in_err-quantify_last.ensures.value _ r put))
 
-pub returns-then-is_unquantified-clause-reading : goal.returns-then-is_unquantified-clause-reading
-returns-then-is_unquantified-clause-reading g c start none l h =
-    let s = state c.args.self.now.current in
-    let u = state c.read_leaf.new.current in
-    let found = c.if-not-branch.false in
-    let (r, p, put) = c.in_ok-read_leaf.ensures.leaf found in
-    let m = leaf_recorded (reach_of s.rest) (reach_of u.rest) l in (
-      _,
-      running_leaf _ h p
-          (c.is_unquantified.ensures.quants c.if-is_unquantified.true (length c.args.self.now.stack.items) (bytes s.rest) r)
-          put,
-      λ x. subst (g.S.Spanning.records c.read_leaf.new.spans)
-          (sym (c.is_unquantified.ensures.spans c.if-is_unquantified.true (bytes s.rest) r m))
-          (subst (λ b. g.S.Spanning.records c.read_leaf.new.spans (if b then m else l)) found
-          (c.in_ok-read_leaf.ensures.spans l x)),
-    )
-
 pub returns-clause-reading : goal.returns-clause-reading
 returns-clause-reading g c start none l h =
     let s = state c.args.self.now.current in
