@@ -55,6 +55,7 @@ use Rattle.fancy_grammar.proofs.ReadLaws.{piece_read}
 use Rattle.fancy_grammar.proofs.Slices.{current, on, strip_slice}
 use Rattle.fancy_syntax.proofs.PassedLemmas.{nothing_passed}
 use Rattle.fancy_syntax.proofs.SolidLemmas.{IsSolid, quants_solid}
+use Rattle.fancy_syntax.proofs.TreesLemmas.{push-same}
 
 -- ---- a step
 
@@ -428,14 +429,6 @@ levels_none : {start : State} {none : Log} {d : ℕ} {s : State} {fs : List Encl
 levels_none outermost e = (refl, refl, refl, refl)
 levels_none (inner {outer} f i x l h a j k) e = absurd (push-not_nil outer f (sym e ∙ i))
 
-push-same : {A : Type 0} (l m : List A) (x y : A) → l ++ x ∷ [] ≡ m ++ y ∷ [] → (l ≡ m) × (x ≡ y)
-push-same [] [] x y e = (refl, cc)
-push-same [] (b ∷ []) x y e = absurd cc
-push-same [] (b ∷ c ∷ m) x y e = absurd cc
-push-same (a ∷ []) [] x y e = absurd cc
-push-same (a ∷ c ∷ l) [] x y e = absurd cc
-push-same (a ∷ l) (b ∷ m) x y e = let t : l ++ x ∷ [] ≡ m ++ y ∷ [] = cc in let h = push-same l m x y t in (cc, h.1)
-
 -- the group on top of the stack, in which the innermost part was opened, and the trees up to the last of its own
 record Outer (start : State) (none : Log) (gs : List Enclosing) (g : Enclosing) (ts : List Tree) (o : OpenPart)
     (d : ℕ) (s : State) (l : Log) : Type 0 where
@@ -731,11 +724,12 @@ pub record Closing (start : State) (none : Log) (stack : List Enclosing) (g : En
   pub whole : Part o (length stack + 1) inside (done r t) before n
 
 pub running_closing : {start t : State} {none l : Log} {all : List Enclosing} {f : Frame} {trees : List Tree}
-    (stack : List Enclosing) (g : Enclosing) (below : List Tree) (r : Tree) (q : OpenPart) → q ≡ part_of f.open_group →
+    (stack : List Enclosing) (g : Enclosing) (q : OpenPart) → q ≡ part_of f.open_group →
     (h : Running start none all f trees t l) → ends t.rest ≡ true → strip (code "|") t.rest ≡ None →
-    r ≡ choice (h.branches ++ joined h.pieces ∷ []) → below ≡ h.below → all ≡ stack ++ g ∷ [] →
-    Closing start none stack g below q r t (choice_closed h.branches h.pieces t l)
-running_closing {t} {l} {f} stack g below r q z h e a i k j =
+    all ≡ stack ++ g ∷ [] →
+    Closing start none stack g h.below q (choice (h.branches ++ joined h.pieces ∷ [])) t
+    (choice_closed h.branches h.pieces t l)
+running_closing {t} {l} {f} stack g q z h e a j =
     let o = levels_pop stack g h.levels j in
     let m : o.depth ≡ length stack = omega (arith, o.deeper, h.is_depth, ap length j, length_push stack g) in
     let opens : OpensPart (length stack) o.current o.recorded q h.begin h.before =
@@ -754,14 +748,14 @@ running_closing {t} {l} {f} stack g below r q z h e a i k j =
         branches = o.branches;
         pieces = o.pieces;
         is_depth = m;
-        holds = rw k o.holds;
+        holds = o.holds;
         levels = o.levels;
         reading = o.reading;
       };
       began = o.began;
       more = o.more;
       opens = opens;
-      whole = rw (z, i) (subst (λ d. Part (part_of f.open_group) d h.begin
+      whole = rw z (subst (λ d. Part (part_of f.open_group) d h.begin
           (done (choice (h.branches ++ joined h.pieces ∷ [])) t) h.before n) (o.deeper ∙ ap (λ d. d + 1) m)
           (reading_end (part_of f.open_group) h.reading e a));
     }

@@ -1,7 +1,7 @@
 -- The trees of the open groups, one above the other.
-use Rattle.std.proofs.Common.{◌≡◌, ◌≢◌, ◌≤◌, ℕ, ◌+◌, List, [], ◌∷◌, ◌++◌, length, take, drop, arith, refl, sym, ap, ◌∙◌}
+use Rattle.std.proofs.Common.{◌≡◌, ◌≢◌, ◌≤◌, ℕ, zero, suc, ◌+◌, List, [], ◌∷◌, ◌++◌, length, take, drop, arith, refl, sym, ap, ◌∙◌}
 use Rattle.std.proofs.Common.{get_or, set}
-use Rattle.std.proofs.lemmas.List.{append_assoc, length-append, length-map, length-drop, drop-map, length_push, map-set}
+use Rattle.std.proofs.lemmas.List.{append_assoc, length-append, length-map, length-drop, drop-map, length_push, map-set, map-append}
 use Rattle.std.proofs.Math.ListN.{get_or-map}
 use Rattle.std.proofs.Math.Seq.{take-append_seam, drop-append_seam, get_or-append_seam, set-append_seam}
 use Rattle.fancy_grammar.specs.Join.{one_or, choice}
@@ -42,6 +42,20 @@ last_set es i x below t h n =
     let k : i ≡ length below = omega (arith, n, views_length es, ap length h, length_push below t) in
     map-set view es i x ∙ rw (h, k) (set-append_seam below t [] (view x))
 
+pub push-same : {A : Type 0} (l m : List A) (x y : A) → l ++ x ∷ [] ≡ m ++ y ∷ [] → (l ≡ m) × (x ≡ y)
+push-same [] [] x y e = (refl, cc)
+push-same [] (b ∷ []) x y e = absurd cc
+push-same [] (b ∷ c ∷ m) x y e = absurd cc
+push-same (a ∷ []) [] x y e = absurd cc
+push-same (a ∷ c ∷ l) [] x y e = absurd cc
+push-same (a ∷ l) (b ∷ m) x y e = let t : l ++ x ∷ [] ≡ m ++ y ∷ [] = cc in let h = push-same l m x y t in (cc, h.1)
+
+-- the last tree is taken, and those below it are left
+pub last_taken : (es fs : List Expr) (e : Expr) (below : List Tree) (t : Tree) → views es ≡ below ++ t ∷ [] →
+    es ≡ fs ++ e ∷ [] → (views fs ≡ below) × (view e ≡ t)
+last_taken es fs e below t h i =
+    push-same (views fs) below (view e) t (sym (ap views i ∙ map-append view fs (e ∷ [])) ∙ h)
+
 -- two trees or more are a node
 several : (node : Trees → Tree) (ts : List Tree) → 2 ≤ length ts → one_or node ts ≡ node (trees_of ts)
 several node [] h = absurd (omega (arith, h))
@@ -54,6 +68,15 @@ pub split_node : (node : Trees → Tree) (height : ℕ) (es ws : List Expr) → 
 split_node node height es ws e h =
     let n : 2 ≤ length (views ws) = omega (arith, h, views_length ws, ap length e, length-drop height es) in
     rw (drop-map view height es, ← e) (several node (views ws) n)
+
+-- one tree above the others is the tree of its branch, and stays where it is
+pub one_above : (node : Trees → Tree) (height : ℕ) (ts : List Tree) → length ts ≡ height + 1 →
+    ts ≡ take height ts ++ one_or node (drop height ts) ∷ []
+one_above node zero [] h = absurd (omega (arith, h))
+one_above node zero (t ∷ []) h = refl
+one_above node zero (t ∷ u ∷ ts) h = absurd (omega (arith, h))
+one_above node (suc height) [] h = absurd (omega (arith, h))
+one_above node (suc height) (t ∷ ts) h = ap (λ l. t ∷ l) (one_above node height ts (omega (arith, h)))
 
 -- the trees once the last branch was put after the others
 branches_put : (f : Frame) {trees : List Tree} (below branches pieces all : List Tree) (x : Tree) →

@@ -1,5 +1,5 @@
 //! The open groups.
-ghost use Rattle.std.specs.Prelude.{◌≡◌, ◌≤◌, List, [], ◌∷◌, ◌++◌, length, vec_len, IfOk, OnOk};
+ghost use Rattle.std.specs.Prelude.{◌≡◌, ◌≤◌, ◌<◌, List, [], ◌∷◌, ◌++◌, length, vec_len, IfOk, OnOk};
 ghost use Rattle.fancy_grammar.specs.Join.{one_or, choice};
 ghost use Rattle.fancy_grammar.specs.Tree.{Tree, concat};
 ghost use Rattle.fancy_syntax.specs.Log.{Log, branch_ended};
@@ -11,7 +11,7 @@ use crate::expr::Expr;
 use crate::grammar::error::general;
 use crate::grammar::group::kind::GroupKind;
 use crate::grammar::spanning::Spanning;
-use crate::grammar::trees::{push, take_above, take_branch};
+use crate::grammar::trees::{join_branch, push, take_above, take_branch};
 use fancy_lex::error::ReadError;
 use fancy_lex::flags::Flags;
 use fancy_lex::text::Reach;
@@ -130,8 +130,7 @@ impl<'a> Frame<'a> {
             HoldsTrees self.old (views trees.old.items) below branches pieces →
             S.records spans.old l → OnOk result (S.records spans.new (branch_ended (length pieces) reach l)) }
     {
-        let branch = take_branch(alloc, trees, self.pieces, reach, spans)?;
-        push(trees, branch)?;
+        join_branch(alloc, trees, self.pieces, reach, spans)?;
         self.pieces = trees.len();
         Ok(())
     }
@@ -165,5 +164,34 @@ impl<'a> Frame<'a> {
         push(trees, branch)?;
         spans.end_choice(reach)?;
         Ok(Expr::Alt(take_above(alloc, trees, self.branches)?))
+    }
+
+    /// Ends the group, whose last branch ends at the reach, and makes its contents one tree.
+    pub(crate) fn join<S: Spanning>(
+        &self,
+        alloc: Global,
+        trees: &mut Vec<Expr>,
+        reach: Reach,
+        spans: &mut S,
+    ) -> Result<(), AllocError>
+        requires branches { self.now.branches ≤ self.now.pieces }
+        requires pieces { self.now.pieces ≤ vec_len trees.old }
+        ensures trees { (below branches pieces : List Tree) →
+            HoldsTrees self.now (views trees.old.items) below branches pieces →
+            OnOk result (views trees.new.items ≡ below ++ choice (branches ++ one_or concat pieces ∷ []) ∷ []) }
+        ensures some { OnOk result (0 < vec_len trees.new) }
+        ensures spans { (below branches pieces : List Tree) (l : Log) →
+            HoldsTrees self.now (views trees.old.items) below branches pieces →
+            S.records spans.old l → OnOk result (S.records spans.new
+            (choice_recorded (branches ++ one_or concat pieces ∷ []) reach (branch_ended (length pieces) reach l))) }
+    {
+        join_branch(alloc, trees, self.pieces, reach, spans)?;
+        // Usually it is the only one.
+        if self.branches == self.pieces {
+            return Ok(());
+        }
+        spans.end_choice(reach)?;
+        let branches = take_above(alloc, trees, self.branches)?;
+        push(trees, Expr::Alt(branches))
     }
 }

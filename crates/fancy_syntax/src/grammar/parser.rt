@@ -22,7 +22,7 @@ use crate::grammar::frame::{Enclosing, Frame, OpenGroup, PieceStart};
 use crate::grammar::plain::{plain, plain_escape};
 use crate::grammar::spanning::Spanning;
 use crate::grammar::state::State;
-use crate::grammar::step::{FinishedPart, close, quantify_last, read_step};
+use crate::grammar::step::{close, quantify_last, read_step};
 use crate::grammar::trees::push;
 use fancy_grammar::depth::MAX_DEPTH;
 use fancy_lex::error::ReadError;
@@ -185,17 +185,16 @@ impl<'a> Parser<'a> {
             (λ _. self.new.current ≡ self.old.current)) }
     {
         let end = reach(self.current.rest);
-        let inner = self.frame.finish(alloc, &mut self.trees, end, spans)?;
         let Some(Enclosing { frame, piece }) = self.stack.pop() else {
-            return Ok(Some(inner));
+            return Ok(Some(self.frame.finish(alloc, &mut self.trees, end, spans)?));
         };
+        self.frame.join(alloc, &mut self.trees, end, spans)?;
         let Frame { open_group, .. } = mem::replace(&mut self.frame, frame);
-        let part = FinishedPart { open_group, inner };
         let depth = self.stack.len();
         let opened = close(
             alloc,
             &mut self.trees,
-            part,
+            open_group,
             piece,
             &mut self.current,
             depth,

@@ -11,7 +11,7 @@ ghost use Rattle.fancy_syntax.specs.Machine as machine;
 ghost use Rattle.fancy_syntax.specs.Machine.{OpensPart, Part, GivesStep, EndsPiece, ended_part, part_of};
 ghost use Rattle.fancy_syntax.specs.Machine.{TurnsLast, part_recorded};
 ghost use Rattle.fancy_syntax.specs.Recording.{added, body_separated, group_recorded, quants_recorded};
-ghost use Rattle.fancy_syntax.specs.Parsed.{group_kind, state, GivesTree};
+ghost use Rattle.fancy_syntax.specs.Parsed.{group_kind, state, Turns};
 ghost use Rattle.fancy_grammar.specs.Trivia.{part, closing};
 ghost use Rattle.fancy_syntax.specs.TriviaViews.{recorded_part};
 ghost use Rattle.fancy_grammar.specs.Quantified.{quants};
@@ -26,7 +26,7 @@ use crate::grammar::atom_start::AtomStart;
 use crate::grammar::conditional::{branches_of, clear_or_stopper, conditional, is_condition};
 use crate::grammar::error::general;
 use crate::grammar::frame::{OpenGroup, PieceStart};
-use crate::grammar::group::kind::{GroupKind, node};
+use crate::grammar::group::kind::{GroupKind, enclose};
 use crate::grammar::plain::is_unquantified;
 use crate::grammar::quantified::quantify;
 use crate::grammar::recorded::{RecordedTrivium, part_between};
@@ -37,13 +37,7 @@ use crate::trivium::TriviumKind;
 use fancy_lex::error::{ParseError, ReadError};
 use fancy_lex::text::{AT_END, byte_len, next, reach, reach_before};
 use std::alloc::{AllocError, Global};
-
-/// A part of a group whose contents were read.
-#[derive(Drop)]
-pub(crate) struct FinishedPart<'a> {
-    pub(crate) open_group: OpenGroup<'a>,
-    pub(crate) inner: Expr,
-}
+use std::mem;
 
 /// Reads a piece and adds its tree to the list, unless it is Empty; or reads the opening of a group, up to its contents,
 /// and returns the group. A returned error is the error of the piece.
@@ -204,38 +198,39 @@ fn quantify_some<S: Spanning>(
     quantify(alloc, &mut trees[last], current, left, depth, spans)
 }
 
-/// Ends a part that no bar follows: the piece ends with it, and its tree is added to the list unless it is Empty; or the
-/// next part of the same group opens, and is returned. A quantifier after the piece is read under the flags at the start
-/// of the piece. A returned error is the error of the piece.
+/// Ends a part that no bar follows, and whose contents are the last tree: the piece ends with it, and its tree is the last
+/// unless it is Empty; or the next part of the same group opens, and is returned. A quantifier after the piece is read
+/// under the flags at the start of the piece. A returned error is the error of the piece.
 pub(crate) fn close<'a, S: Spanning>(
     alloc: Global,
     trees: &mut Vec<Expr>,
-    part: FinishedPart<'a>,
+    open_group: OpenGroup<'a>,
     start: PieceStart,
     current: &mut State<'a>,
     depth: usize,
     spans: &mut S,
 ) -> Result<Option<OpenGroup<'a>>, ReadError>
     requires depth { depth < max_depth }
+    requires some { 0 < vec_len trees.old }
     requires last { ends (chars current.old.rest.now) ≡ true }
     requires no_bar { strip (code "|") (chars current.old.rest.now) ≡ None }
-    ensures value { (s t : states.State) (l m n : Log) → start.left ≡ bytes s.rest → start.flags ≡ s.flags →
-        OpensPart depth s l (part_of part.entry.open_group) t m →
-        Part (part_of part.entry.open_group) (depth + 1) t (states.done (view part.entry.inner) (state current.old)) m n →
-        GivesStep result depth s l (views trees.old.items) (views trees.new.items) (state current.new)
+    ensures value { (below : List Tree) (inner : Tree) (s t : states.State) (l m n : Log) →
+        views trees.old.items ≡ below ++ inner ∷ [] → start.left ≡ bytes s.rest → start.flags ≡ s.flags →
+        OpensPart depth s l (part_of open_group.entry) t m →
+        Part (part_of open_group.entry) (depth + 1) t (states.done inner (state current.old)) m n →
+        GivesStep result depth s l below (views trees.new.items) (state current.new)
         (λ k. S.records spans.old n → S.records spans.new k) }
     ensures shorter { IfOk result (λ _. length current.new.rest.now < length current.old.rest.now) }
 {
-    let FinishedPart { open_group, inner } = part;
     let has_body = has_body_next(&open_group);
-    let atom = end_part(alloc, open_group, inner, current, spans)?;
+    let last = trees.len() - 1;
+    end_part(alloc, open_group, &mut trees[last], current, spans)?;
     if !has_body {
         current.flags = start.flags;
-        push(trees, atom)?;
         end_piece(alloc, trees, current, start.left, depth, spans)?;
         return Ok(None);
     }
-    let condition = Box::new(alloc, atom)?;
+    let condition = Box::new(alloc, trees.take_last())?;
     spans.begin_body(current.rest);
     let left = byte_len(current.rest);
     Ok(Some(OpenGroup::Body { condition, left }))
@@ -248,31 +243,28 @@ fn has_body_next(open_group: &OpenGroup) -> bool
     matches!(open_group, OpenGroup::Condition)
 }
 
-/// Reads the closing parenthesis of the part, and returns the tree of the part.
+/// Reads the closing parenthesis of the part, and makes the tree of its contents the tree of the part.
 ///
 /// The error is GeneralParseError if a conditional lacks a body that it needs; otherwise that of `close_paren`.
 fn end_part<S: Spanning>(
     alloc: Global,
     open_group: OpenGroup,
-    inner: Expr,
+    tree: &mut Expr,
     current: &mut State,
     spans: &mut S,
-) -> Result<Expr, ReadError>
+) -> Result<(), ReadError>
     requires last { ends (chars current.old.rest.now) ≡ true }
     requires no_bar { strip (code "|") (chars current.old.rest.now) ≡ None }
-    ensures value { GivesTree result (state current.new)
-        (ended_part (part_of open_group.entry) (view inner) (state current.old)) }
+    ensures value { Turns result (view tree.new) (state current.new)
+        (ended_part (part_of open_group.entry) (view tree.old) (state current.old)) }
     ensures shorter { IfOk result (λ _. length current.new.rest.now < length current.old.rest.now) }
     ensures spans { (l : Log) → S.records spans.old l → OnOk result (S.records spans.new (part_recorded
-        (part_of open_group.entry) (view inner) (reach_of (chars current.old.rest.now)) (reach_of (chars current.new.rest.now))
-        l)) }
+        (part_of open_group.entry) (view tree.old) (reach_of (chars current.old.rest.now))
+        (reach_of (chars current.new.rest.now)) l)) }
 {
     let paren = reach(current.rest);
-    if let Err(error) = read_end(alloc, &open_group, current) {
-        drop(inner);
-        return Err(error);
-    }
-    Ok(node_of_part(alloc, open_group, inner, paren, current.rest, spans)?)
+    read_end(alloc, &open_group, current)?;
+    Ok(node_of_part(alloc, open_group, tree, paren, current.rest, spans)?)
 }
 
 /// Reads the closing parenthesis of the open part, whatever its tree is. The errors are those of `end_part`.
@@ -302,37 +294,44 @@ fn lacks_body(open_group: &OpenGroup, text: &str) -> bool
     }
 }
 
-/// The tree of the part, made of the tree of its contents. Its closing parenthesis begins at the reach `paren`, and `rest`
-/// follows it.
+/// Makes the tree of the contents of the part the tree of the part. Its closing parenthesis begins at the reach `paren`,
+/// and `rest` follows it.
 fn node_of_part<S: Spanning>(
     alloc: Global,
     open_group: OpenGroup,
-    inner: Expr,
+    tree: &mut Expr,
     paren: usize,
     rest: &str,
     spans: &mut S,
-) -> Result<Expr, AllocError>
-    ensures tree { IfOk result (λ e. view e ≡ machine.node_of_part (part_of open_group.entry) (view inner)) }
+) -> Result<(), AllocError>
+    ensures tree { OnOk result (view tree.new ≡ machine.node_of_part (part_of open_group.entry) (view tree.old)) }
     ensures spans { (l : Log) → S.records spans.old l →
         OnOk result (S.records spans.new
-        (part_recorded (part_of open_group.entry) (view inner) paren (reach_of (chars rest.now)) l)) }
+        (part_recorded (part_of open_group.entry) (view tree.old) paren (reach_of (chars rest.now)) l)) }
 {
     let end = reach(rest);
     match open_group {
-        OpenGroup::Top | OpenGroup::Condition => Ok(inner),
+        OpenGroup::Top | OpenGroup::Condition => Ok(()),
         OpenGroup::Group { kind, reach } => {
             close_group(&kind, rest, spans)?;
-            node(alloc, kind, reach, inner)
+            enclose(alloc, kind, reach, tree)
         }
         OpenGroup::Body { condition, .. } => {
-            part_body(&inner, paren, spans)?;
-            conditional(alloc, condition, branches_of(inner), end, spans)
+            part_body(tree, paren, spans)?;
+            let body = mem::replace(tree, Expr::Empty);
+            *tree = conditional(alloc, condition, branches_of(body), end, spans)?;
+            Ok(())
         }
-        OpenGroup::First => clear_or_stopper(alloc, inner, end, spans),
+        OpenGroup::First => {
+            let branch = mem::replace(tree, Expr::Empty);
+            *tree = clear_or_stopper(alloc, branch, end, spans)?;
+            Ok(())
+        }
         OpenGroup::Second(absent) => {
             spans.close(end, false)?;
-            let exp = Box::new(alloc, inner)?;
-            Ok(Expr::Absent(Absent::Expression { absent, exp }))
+            let exp = Box::new(alloc, mem::replace(tree, Expr::Empty))?;
+            *tree = Expr::Absent(Absent::Expression { absent, exp });
+            Ok(())
         }
     }
 }

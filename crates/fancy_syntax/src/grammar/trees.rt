@@ -67,6 +67,30 @@ pub(crate) fn take_branch<S: Spanning>(
     }
 }
 
+/// Makes the trees above that many others, the pieces of a branch that ends at the reach, one tree: that of the branch.
+#[inline(always)]
+pub(crate) fn join_branch<S: Spanning>(
+    alloc: Global,
+    trees: &mut Vec<Expr>,
+    height: usize,
+    reach: Reach,
+    spans: &mut S,
+) -> Result<(), AllocError>
+    requires { height ≤ vec_len trees.old }
+    ensures trees { OnOk result (views trees.new.items ≡
+        take height (views trees.old.items) ++ one_or concat (drop height (views trees.old.items)) ∷ []) }
+    ensures spans { (l : Log) → S.records spans.old l → OnOk result
+        (S.records spans.new (branch_ended (length (drop height (views trees.old.items))) reach l)) }
+{
+    if trees.len() - height == 1 {
+        // Its tree is the piece, which stays where it is.
+        spans.end_branch(1, reach)?;
+        return Ok(());
+    }
+    let branch = take_branch(alloc, trees, height, reach, spans)?;
+    push(trees, branch)
+}
+
 /// From this many trees on, the list is handed on even if others are below; those are copied.
 const MANY: usize = 32;
 

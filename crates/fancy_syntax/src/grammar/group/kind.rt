@@ -1,5 +1,5 @@
 //! The kinds of group that hold one alternation.
-ghost use Rattle.std.specs.Prelude.{◌≡◌, IfOk, option_map, chars};
+ghost use Rattle.std.specs.Prelude.{◌≡◌, IfOk, OnOk, option_map, chars};
 ghost use Rattle.fancy_grammar.specs.GroupKind as spec;
 ghost use Rattle.fancy_syntax.specs.Parsed.{group_kind};
 ghost use Rattle.fancy_grammar.specs.Tree.{ast_group};
@@ -8,6 +8,7 @@ ghost use Rattle.fancy_syntax.specs.View.{view};
 use crate::expr::{Absent, AstNode, Expr, LookAround};
 use fancy_lex::text::Reach;
 use std::alloc::{AllocError, Global};
+use std::mem;
 
 /// The kind of a group.
 #[derive(Clone, Copy)]
@@ -23,33 +24,48 @@ pub(crate) enum GroupKind<'a> {
     Repeater,
 }
 
-/// The node around the contents of a group that opens at the reach.
-pub(crate) fn node(
+/// Puts the tree, the contents of a group that opens at the reach, in the node of the group. A flag group has none.
+pub(crate) fn enclose(
     alloc: Global,
     kind: GroupKind,
     reach: Reach,
-    inner: Expr,
-) -> Result<Expr, AllocError>
-    ensures { IfOk result (λ e. view e ≡ spec.group_node (group_kind kind.entry) reach (view inner)) }
+    tree: &mut Expr,
+) -> Result<(), AllocError>
+    ensures { OnOk result (view tree.new ≡ spec.group_node (group_kind kind.entry) reach (view tree.old)) }
+{
+    if matches!(kind, GroupKind::FlagGroup) {
+        return Ok(());
+    }
+    let inner = Box::new(alloc, mem::replace(tree, Expr::Empty))?;
+    // The replaced tree is Empty, which owns nothing.
+    mem::forget(mem::replace(tree, node(alloc, kind, reach, inner)?));
+    Ok(())
+}
+
+/// The node of a group that opens at the reach, around its contents.
+fn node(alloc: Global, kind: GroupKind, reach: Reach, inner: Box<Expr>) -> Result<Expr, AllocError>
+    ensures { IfOk result (λ e. view e ≡ spec.group_node (group_kind kind.entry) reach (view inner.value)) }
 {
     match kind {
         GroupKind::Capture(name) => capture(alloc, name, reach, inner),
-        GroupKind::FlagGroup => Ok(inner),
-        GroupKind::Look(look) => Ok(Expr::LookAround(Box::new(alloc, inner)?, look)),
-        GroupKind::Atomic => Ok(Expr::AtomicGroup(Box::new(alloc, inner)?)),
-        GroupKind::Define => Ok(Expr::DefineGroup {
-            definitions: Box::new(alloc, inner)?,
-        }),
-        GroupKind::Repeater => Ok(Expr::Absent(Absent::Repeater(Box::new(alloc, inner)?))),
+        GroupKind::FlagGroup => Ok(Box::into_inner(inner)),
+        GroupKind::Look(look) => Ok(Expr::LookAround(inner, look)),
+        GroupKind::Atomic => Ok(Expr::AtomicGroup(inner)),
+        GroupKind::Define => Ok(Expr::DefineGroup { definitions: inner }),
+        GroupKind::Repeater => Ok(Expr::Absent(Absent::Repeater(inner))),
     }
 }
 
 /// The node of a capturing group.
-fn capture(alloc: Global, name: Option<&str>, reach: Reach, inner: Expr) -> Result<Expr, AllocError>
+fn capture(
+    alloc: Global,
+    name: Option<&str>,
+    reach: Reach,
+    inner: Box<Expr>,
+) -> Result<Expr, AllocError>
     ensures { IfOk result (λ e. view e ≡ ast_group (option_map
-        (λ t. chars t.now) name.entry) reach (view inner)) }
+        (λ t. chars t.now) name.entry) reach (view inner.value)) }
 {
-    let inner = Box::new(alloc, inner)?;
     let Some(name) = name else {
         return Ok(Expr::AstNode(AstNode::AstGroup { name: None, inner }, reach));
     };

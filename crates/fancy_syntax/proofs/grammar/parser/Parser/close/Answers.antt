@@ -4,6 +4,7 @@ use Rattle.std.proofs.lemmas.List.{nil_from_length}
 use Rattle.std.proofs.lemmas.Result.{err_from_is_err_and}
 use Rattle.fancy_grammar.specs.Grammar.{Alternation, Piece}
 use Rattle.fancy_grammar.specs.State.{failed}
+use Rattle.fancy_grammar.specs.Join.{choice}
 use Rattle.fancy_syntax.specs.Machine.{IsStep, part_of}
 use Rattle.fancy_syntax.specs.Log.{branch_ended}
 use Rattle.fancy_syntax.specs.Recording.{choice_recorded}
@@ -19,56 +20,50 @@ use Rattle.fancy_syntax.proofs.grammar.parser.Parser.close.Goals as goal
 pub returns-in_default-clause-reading : goal.returns-in_default-clause-reading
 returns-in_default-clause-reading g c start none l h =
     let empty : c.args.self.now.stack.items ≡ [] =
-    nil_from_length _ (omega (arith, c.args.self.now.stack.ok.0, c.in_default.ensures.cases.0)) in (
+    nil_from_length _ (omega (arith, c.args.self.now.stack.ok.0, c.in_default.ensures.cases.0)) in
+    let f = c.in_ok-finish.ensures in (
       _,
-      running_end (view c.in_ok-inner.inner) h c.requires.last c.requires.no_bar
-          (c.in_ok-inner.ensures.tree h.below h.branches h.pieces h.holds) empty,
+      running_end (view c.in_ok-finish.field-0) h c.requires.last c.requires.no_bar
+          (f.tree h.below h.branches h.pieces h.holds) empty,
       λ n. subst (g.S.Spanning.records c.finish.new.spans) (λ i. choice_recorded (h.branches ++ joined h.pieces ∷ [])
           (c.reach-end.ensures i) (branch_ended (length h.pieces) (c.reach-end.ensures i) l))
-          (c.in_ok-inner.ensures.spans h.below h.branches h.pieces l h.holds n),
+          (f.spans h.below h.branches h.pieces l h.holds n),
     )
 
 pub returns-in_err-opened-clause-reading : goal.returns-in_err-opened-clause-reading
 returns-in_err-opened-clause-reading g c start none l h =
-    let f = c.in_ok-inner.ensures in
+    let f = c.in_ok-join.ensures in
     let r = c.replace-open_group.ensures in
-    let w = running_closing c.pop.new.self.items c.in-Some.field-0 (views c.finish.new.trees.items)
-    (view c.in_ok-inner.inner) (part_of c.replace-open_group.result.open_group)
-    (ap (λ (f : Frame). part_of f.open_group) r.value)
-    h c.requires.last c.requires.no_bar
-    (f.tree h.below h.branches h.pieces h.holds) (f.below h.below h.branches h.pieces h.holds)
-    c.in-Some.ensures.items in
+    let w = running_closing c.pop.new.self.items c.in-Some.field-0 (part_of c.replace-open_group.result.open_group)
+    (ap (λ (f : Frame). part_of f.open_group) r.value) h c.requires.last c.requires.no_bar c.in-Some.ensures.items in
     let n : c.len-depth.result ≡ length c.pop.new.self.items = omega (arith, c.len-depth.ensures, c.pop.new.self.ok.0) in
+    let inner = choice (h.branches ++ joined h.pieces ∷ []) in
+    let m = choice_closed h.branches h.pieces (state c.args.self.now.current) l in
     let e = err_from_is_err_and c.from_residual-in_err-opened.result c.from_residual-in_err-opened.ensures.1 in
     rw (e.1, e.2) (IsErrorAmong-map (Piece c.len-depth.result w.current)
     (Alternation 0 start) c.in_err-opened.field-0.0
     (λ f a. running_error w.outer w.more (subst (λ d. Piece d w.current (failed f)) n a))
-    (c.in_err-opened.ensures.value w.current w.inside w.recorded w.before
-    (choice_closed h.branches h.pieces (state c.args.self.now.current) l) w.began.0 w.began.1 (rw n w.opens)
-    (rw n w.whole)))
+    (c.in_err-opened.ensures.value h.below inner w.current w.inside w.recorded w.before m
+    (f.trees h.below h.branches h.pieces h.holds) w.began.0 w.began.1 (rw n w.opens) (rw n w.whole)))
 
 pub returns-in_default-opened-clause-reading : goal.returns-in_default-opened-clause-reading
 returns-in_default-opened-clause-reading g c start none l h =
-    let f = c.in_ok-inner.ensures in
+    let f = c.in_ok-join.ensures in
     let r = c.replace-open_group.ensures in
-    let w = running_closing c.pop.new.self.items c.in-Some.field-0 (views c.finish.new.trees.items)
-    (view c.in_ok-inner.inner) (part_of c.replace-open_group.result.open_group)
-    (ap (λ (f : Frame). part_of f.open_group) r.value)
-    h c.requires.last c.requires.no_bar
-    (f.tree h.below h.branches h.pieces h.holds) (f.below h.below h.branches h.pieces h.holds)
-    c.in-Some.ensures.items in
+    let w = running_closing c.pop.new.self.items c.in-Some.field-0 (part_of c.replace-open_group.result.open_group)
+    (ap (λ (f : Frame). part_of f.open_group) r.value) h c.requires.last c.requires.no_bar c.in-Some.ensures.items in
     let n : c.len-depth.result ≡ length c.pop.new.self.items = omega (arith, c.len-depth.ensures, c.pop.new.self.ok.0) in
-    let t = state c.close.new.current in
-    let ts = views c.finish.new.trees.items in
+    let inner = choice (h.branches ++ joined h.pieces ∷ []) in
     let m = choice_closed h.branches h.pieces (state c.args.self.now.current) l in
+    let t = state c.close.new.current in
     let us = views c.close.new.trees.items in
-    let (k, steps, recorded) = c.in_ok-opened.ensures.value w.current w.inside w.recorded w.before m w.began.0 w.began.1
-    (rw n w.opens) (rw n w.whole) in (
+    let (k, steps, recorded) = c.in_ok-opened.ensures.value h.below inner w.current w.inside w.recorded w.before m
+    (f.trees h.below h.branches h.pieces h.holds) w.began.0 w.began.1 (rw n w.opens) (rw n w.whole) in (
       k,
       rw r.after (running_read k w.outer w.more
-          (subst (λ o. IsStep (length c.pop.new.self.items) w.current w.recorded ts o us t k) c.in_default-opened.is
-          (subst (λ d. IsStep d w.current w.recorded ts c.in_ok-opened.opened us t k) n steps))),
-      λ x. recorded (subst (g.S.Spanning.records c.finish.new.spans)
+          (subst (λ o. IsStep (length c.pop.new.self.items) w.current w.recorded h.below o us t k) c.in_default-opened.is
+          (subst (λ d. IsStep d w.current w.recorded h.below c.in_ok-opened.opened us t k) n steps))),
+      λ x. recorded (subst (g.S.Spanning.records c.join.new.spans)
           (λ i. choice_recorded (h.branches ++ joined h.pieces ∷ []) (c.reach-end.ensures i)
           (branch_ended (length h.pieces) (c.reach-end.ensures i) l))
           (f.spans h.below h.branches h.pieces l h.holds x)),
@@ -76,30 +71,26 @@ returns-in_default-opened-clause-reading g c start none l h =
 
 pub returns-clause-reading : goal.returns-clause-reading
 returns-clause-reading g c start none l h =
-    let f = c.in_ok-inner.ensures in
+    let f = c.in_ok-join.ensures in
     let r = c.replace-open_group.ensures in
-    let w = running_closing c.pop.new.self.items c.in-Some.field-0 (views c.finish.new.trees.items)
-    (view c.in_ok-inner.inner) (part_of c.replace-open_group.result.open_group)
-    (ap (λ (f : Frame). part_of f.open_group) r.value)
-    h c.requires.last c.requires.no_bar
-    (f.tree h.below h.branches h.pieces h.holds) (f.below h.below h.branches h.pieces h.holds)
-    c.in-Some.ensures.items in
+    let w = running_closing c.pop.new.self.items c.in-Some.field-0 (part_of c.replace-open_group.result.open_group)
+    (ap (λ (f : Frame). part_of f.open_group) r.value) h c.requires.last c.requires.no_bar c.in-Some.ensures.items in
     let n : c.len-depth.result ≡ length c.pop.new.self.items = omega (arith, c.len-depth.ensures, c.pop.new.self.ok.0) in
-    let t = state c.close.new.current in
-    let ts = views c.finish.new.trees.items in
+    let inner = choice (h.branches ++ joined h.pieces ∷ []) in
     let m = choice_closed h.branches h.pieces (state c.args.self.now.current) l in
+    let t = state c.close.new.current in
     let trees = c.close.new.trees in
     let us = views trees.items in
     let height : vec_len trees ≡ length us = omega (arith, trees.ok.0, views_length trees.items) in
-    let (k, steps, recorded) = c.in_ok-opened.ensures.value w.current w.inside w.recorded w.before m w.began.0 w.began.1
-    (rw n w.opens) (rw n w.whole) in
+    let (k, steps, recorded) = c.in_ok-opened.ensures.value h.below inner w.current w.inside w.recorded w.before m
+    (f.trees h.below h.branches h.pieces h.holds) w.began.0 w.began.1 (rw n w.opens) (rw n w.whole) in
     let z = c.open.ensures in (
       k,
       rw (z.trees, z.current) (running_opened k c.in-Some-opened.open_group c.in-Some.field-0.piece w.outer w.began w.more
-          (subst (λ o. IsStep (length c.pop.new.self.items) w.current w.recorded ts o us t k) c.in-Some-opened.is
-          (subst (λ d. IsStep d w.current w.recorded ts c.in_ok-opened.opened us t k) n steps))
+          (subst (λ o. IsStep (length c.pop.new.self.items) w.current w.recorded h.below o us t k) c.in-Some-opened.is
+          (subst (λ d. IsStep d w.current w.recorded h.below c.in_ok-opened.opened us t k) n steps))
           (rw r.after at z.stack) z.open_group (z.branches ∙ height) (z.pieces ∙ height)),
-      λ x. recorded (subst (g.S.Spanning.records c.finish.new.spans)
+      λ x. recorded (subst (g.S.Spanning.records c.join.new.spans)
           (λ i. choice_recorded (h.branches ++ joined h.pieces ∷ []) (c.reach-end.ensures i)
           (branch_ended (length h.pieces) (c.reach-end.ensures i) l))
           (f.spans h.below h.branches h.pieces l h.holds x)),
