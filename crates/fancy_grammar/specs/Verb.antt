@@ -5,7 +5,7 @@ use Rattle.fancy_lex.specs.Text.{Text, strip_word}
 use Rattle.fancy_grammar.specs.declared.kinds.BacktrackingControlVerb.{BacktrackingControlVerb}
 use Rattle.fancy_grammar.specs.declared.kinds.BacktrackingControlVerb.TheVariants.{Fail, Accept, Commit, Skip, Prune}
 
--- f of the text after the word, for the first of these words that the text begins with; `other` if there is none
+-- f of the text after the word, for the first of these words that the text begins with; or `other`
 abbrev pub by_word : {A : Type 0} → List (Text × (Text → A)) → Text → A → A
 by_word [] t other = other
 by_word ((w, f) ∷ l) t other = choose (strip_word w t) f (by_word l t other)
