@@ -41,7 +41,7 @@ front_none : (p : Text × Text) → p.0 ≡ [] → nonempty_front p ≡ None
 front_none ([], v) e = refl
 front_none (c ∷ w, v) e = absurd cc
 
-pub front_some : (p : Text × Text) (w v : Text) → p.0 ≡ w → p.1 ≡ v → 0 < length w →
+front_some : (p : Text × Text) (w v : Text) → p.0 ≡ w → p.1 ≡ v → 0 < length w →
     nonempty_front p ≡ Some (w, v)
 front_some ([], u) w v e h l = absurd (omega (arith, ap length e))
 front_some (c ∷ x, u) w v e h l = rw (← e, ← h) refl

@@ -13,7 +13,6 @@ pub mod CommentLaws
 pub mod NumberLemmas
 pub mod IdLemmas
 pub mod AsciiLemmas
-mod NumberIds
 pub mod ReferenceLaws
 pub mod ReferencePositions
 -- ---- escapes

@@ -1,26 +1,27 @@
 //! Escapes: the text after a backslash.
-ghost use Rattle.std.specs.Prelude.{◌≡◌, ◌==◌, ℕ, Bool, true, ◌+◌, ◌^◌, ◌<◌, ◌≤◌, [], ◌∷◌, if◌then◌else◌, false};
-ghost use Rattle.std.specs.Prelude.{length, chars, IfErr, IfOk, IfSome, option_map};
+ghost use Rattle.std.specs.Prelude.{◌≡◌, true, ◌+◌, ◌^◌, ◌<◌, ◌≤◌, [], ◌∷◌, if◌then◌else◌, false};
+ghost use Rattle.std.specs.Prelude.{length, chars, IfErr, IfOk, option_map};
 ghost use Rattle.fancy_lex.specs.Characters.{code, is_among, metacharacters};
 ghost use Rattle.fancy_lex.specs.Escape as spec;
 ghost use Rattle.fancy_lex.specs.EscapeReference as references;
 ghost use Rattle.fancy_lex.specs.Escaped as leaf;
 ghost use Rattle.fancy_lex.specs.EscapeViews.{escape_of, delegate_text};
-ghost use Rattle.fancy_lex.specs.Reading.{Reads, Returns, Reports, gives};
-ghost use Rattle.fancy_lex.specs.Text.{Text, EndsWith, text_of};
+ghost use Rattle.fancy_lex.specs.Reading.{Reads, Returns, Reports};
+ghost use Rattle.fancy_lex.specs.Text.{EndsWith, text_of};
 ghost use Rattle.fancy_lex.specs.ErrorViews.{LiesWithin};
 
 use crate::error::{ParseError, ReadError};
-use crate::escape::boundary::{bare_boundary, boundary};
-use crate::escape::hex::{hex, short_hex};
+use crate::escape::boundary::boundary;
+use crate::escape::hex::hex;
 use crate::escape::reference::{back_reference, group_number, numbered_reference, subroutine_call};
 use crate::flags::Flags;
 use crate::name::target::{Call, Reference};
-use crate::property::{Property, PropertyName, read_property};
+use crate::property::{Property, read_property};
 use crate::text::{Reach, next, push, reach_before};
 use std::alloc::{AllocError, Global};
 
 pub mod boundary;
+pub mod fast_path;
 pub mod hex;
 pub mod reference;
 
@@ -266,31 +267,6 @@ fn property<'a>(
     Ok((Escaped::Delegate { inner, casei }, rest))
 }
 
-/// The property whose name is the character at the front; None if a brace is there, or nothing.
-#[inline(always)]
-#[tactic(auto, unfolding(crate::specs::Escape::property, crate::specs::Property::read_property, crate::specs::Property::name_at))]
-fn short_property(text: &str, letter: char, flags: Flags) -> Option<(Escaped<'static>, &str)>
-    ensures value { IfSome result (λ p. (q : ℕ) →
-        spec.property flags false q letter (chars text.now) ≡ gives (escape_of p.0) (chars p.1.now)) }
-    ensures shorter { IfSome result (λ p. length p.1.now < length text.now) }
-{
-    let (c, rest) = next(text)?;
-    if c == '{' {
-        return None;
-    }
-    let property = Property {
-        negated: letter == 'P',
-        name: PropertyName::Single(c),
-    };
-    let inner = DelegateText::Property {
-        property,
-        unicode: flags.unicode,
-        inside: false,
-    };
-    let casei = flags.casei;
-    Some((Escaped::Delegate { inner, casei }, rest))
-}
-
 /// Any character. `newline` says whether it can be a line terminator, and `crlf` has the same value.
 fn any(newline: bool) -> Escaped<'static>
     ensures { escape_of result ≡ leaf.any newline newline }
@@ -415,55 +391,6 @@ fn read_escape<'a>(
             None => Err(unknown_escape(alloc, c, reach)),
         },
     }
-}
-
-/// The call at the front, after its `g`, if it can be parsed.
-#[inline(always)]
-#[tactic(auto, using(crate::proofs::EscapeLemmas::call_is))]
-fn short_call(text: &str) -> Option<(Escaped<'_>, &str)>
-    ensures value { IfSome result (λ p. (q c : ℕ) →
-        spec.call_escape q c (chars text.now) ≡ gives (escape_of p.0) (chars p.1.now)) }
-    ensures shorter { IfSome result (λ p. length p.1.now < length text.now) }
-{
-    let (call, rest) = subroutine_call(text).ok()?;
-    Some((Escaped::SubroutineCall(call), rest))
-}
-
-/// How many digits a code without braces has after this letter.
-#[inline(always)]
-fn code_width(letter: char) -> u32
-    ensures value { result ≡ (if letter == 120 then 2 else if letter == 117 then 4 else 8) }
-    ensures within { result ≤ 8 }
-{
-    match letter {
-        'x' => 2,
-        'u' => 4,
-        _ => 8,
-    }
-}
-
-/// The escape at the front, after a backslash outside a class, and the text after it, if the escape is a short one: a
-/// single character, a code of a fixed number of digits without whitespace and comments before them, a property whose
-/// name is one character, a reference or a call. None for any other escape, and for one that cannot be parsed.
-#[inline(always)]
-#[tactic(auto, unfolding(crate::specs::Escape::escape_at, crate::specs::Escape::lone_escape, crate::specs::Escape::outside, crate::specs::Escape::number_escape))]
-pub fn short_escape(text: &str, flags: Flags) -> Option<(Escaped<'_>, &str)>
-    ensures value { IfSome result (λ p.
-        spec.escape flags false (chars text.now) ≡ gives (escape_of p.0) (chars p.1.now)) }
-    ensures shorter { IfSome result (λ p. length p.1.now < length text.now) }
-{
-    let (c, rest) = next(text)?;
-    let leaf = match c {
-        'b' => bare_boundary(rest, false, flags.ignore_space)?,
-        'B' => bare_boundary(rest, true, flags.ignore_space)?,
-        'x' | 'u' | 'U' => return short_hex(rest, code_width(c), flags),
-        'p' | 'P' => return short_property(rest, c, flags),
-        '0'..='9' => return numbered_backref(text, flags).ok(),
-        'k' => return backref_escape(rest, flags).ok(),
-        'g' => return short_call(rest),
-        _ => lone_escape(c, flags, false)?,
-    };
-    Some((leaf, rest))
 }
 
 /// Parses what follows a backslash, in a class if `inside` says so.

@@ -17,37 +17,18 @@ ghost use Rattle.fancy_lex.specs.Text.{EndsWith, Text, text_of};
 use crate::error::{ParseError, ReadError};
 use crate::escape::{Assertion, Escaped};
 use crate::flags::Flags;
-use crate::layout::{begins_layout, past_layout, skip};
+use crate::layout::{past_layout, skip};
 use crate::text::{Reach, after, next, push};
 use std::alloc::Global;
 
 /// The boundary without a name.
-fn unnamed_boundary(negated: bool) -> Escaped<'static>
+pub(crate) fn unnamed_boundary(negated: bool) -> Escaped<'static>
     ensures { escape_of result ≡ spec.unnamed_boundary negated }
 {
     if negated {
         Escaped::Assertion(Assertion::NotWordBoundary)
     } else {
         Escaped::Assertion(Assertion::WordBoundary)
-    }
-}
-
-/// The boundary without a name, if the next character shows that no braces belong to it.
-#[inline]
-pub(crate) fn bare_boundary(
-    text: &str,
-    negated: bool,
-    ignore_space: bool,
-) -> Option<Escaped<'static>>
-    ensures { IfSome result (λ e. (p : ℕ) →
-        steps.boundary ignore_space p negated (chars text.now) ≡ gives (escape_of e) (chars text.now)) }
-{
-    if begins_layout(text, ignore_space) {
-        return None;
-    }
-    match after(text, '{') {
-        Some(_) => None,
-        None => Some(unnamed_boundary(negated)),
     }
 }
 

@@ -12,7 +12,7 @@ ghost use Rattle.fancy_lex.specs.Text.{EndsWith, Text, strip};
 use crate::error::{ParseError, ReadError};
 use crate::escape::Escaped;
 use crate::flags::Flags;
-use crate::layout::{begins_layout, skip};
+use crate::layout::skip;
 use crate::text::{Reach, after, next, reach};
 
 /// The value of the digit at the front, and the text after it.
@@ -28,7 +28,7 @@ fn hex_digit(text: &str) -> Option<(u32, &str)>
 }
 
 /// Reads `width` digits, if they are at the front.
-fn fixed_digits(text: &str, width: u32) -> Option<(u32, &str)>
+pub(crate) fn fixed_digits(text: &str, width: u32) -> Option<(u32, &str)>
     requires { width ≤ 8 }
     ensures value { spec.fixed_digits width 0 (chars text.now) ≡ option_map (λ p. (p.0, chars p.1.now)) result }
     ensures within { IfSome result (λ p. length p.1.now ≤ length text.now) }
@@ -104,7 +104,7 @@ fn value(text: &str, width: u32, ignore_space: bool, reach: Reach) -> Result<(u3
 /// value that is no scalar value.
 #[inline(always)]
 #[tactic(auto, unfolding(crate::specs::Hex::leaf_of_value))]
-fn leaf_of_value(value: u32, width: u32, flags: Flags) -> Option<Escaped<'static>>
+pub(crate) fn leaf_of_value(value: u32, width: u32, flags: Flags) -> Option<Escaped<'static>>
     ensures { (h : ℕ) (t : Text) → spec.leaf_of_value flags width h value t ≡
         choose result (λ e. gives (escape_of e) t) (fails (code_of_no_character h)) }
 {
@@ -134,23 +134,6 @@ fn read_hex<'a>(
         Some(leaf) => Ok((leaf, rest)),
         None => Err(ReadError::At(reach, ParseError::InvalidCodepointValue)),
     }
-}
-
-/// The code at the front with `width` digits and no layout before them, if its value is a byte or a character.
-#[inline(always)]
-#[tactic(auto, unfolding(crate::specs::Hex::hex, crate::specs::Hex::value))]
-pub(crate) fn short_hex(text: &str, width: u32, flags: Flags) -> Option<(Escaped<'static>, &str)>
-    requires { width ≤ 8 }
-    ensures value { IfSome result (λ p.
-        spec.hex flags width (chars text.now) ≡ gives (escape_of p.0) (chars p.1.now)) }
-    ensures within { IfSome result (λ p. length p.1.now ≤ length text.now) }
-{
-    if begins_layout(text, flags.ignore_space) {
-        return None;
-    }
-    let (value, rest) = fixed_digits(text, width)?;
-    let leaf = leaf_of_value(value, width, flags)?;
-    Some((leaf, rest))
 }
 
 /// Parses a hex code after its letter: layout, then `width` digits, or one to eight in braces with layout around them.

@@ -78,7 +78,7 @@ pub enum IdReference<'a> {
 
 /// The amount that the whole text writes: a sign, and the ASCII digits of a number of at most `isize::MAX`.
 #[tactic(auto, unfolding(crate::specs::IdReference::amount))]
-pub(crate) fn amount(text: &str) -> Option<isize>
+fn amount(text: &str) -> Option<isize>
     ensures value { reference.amount (chars text.now) ≡ result }
 {
     let (sign, digits) = next(text)?;

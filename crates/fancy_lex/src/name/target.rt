@@ -1,6 +1,5 @@
 //! What references refer to, as it is written in the pattern.
-ghost use Rattle.std.specs.Prelude.{◌≡◌, chars, false, IfOk, IsOk, IfSome, IsSome, MatchOption, Some, None, option_map};
-ghost use Rattle.fancy_lex.specs.NumberText.{whole_number};
+ghost use Rattle.std.specs.Prelude.{◌≡◌, chars, false, IfOk, IsOk, IfSome, IsSome, option_map};
 ghost use Rattle.fancy_lex.specs.NameViews.{view_borrowed, view_reference, view_target};
 ghost use Rattle.fancy_lex.specs.Reading.{Reads};
 ghost use Rattle.fancy_lex.specs.Referred as spec;
@@ -9,10 +8,9 @@ ghost use Rattle.fancy_lex.specs.Views.{parts};
 
 use crate::error::{ParseError, ReadError};
 use crate::name::CaptureGroupTarget;
-use crate::name::id::{IdReference, amount, id_reference};
-use crate::name::number::number;
+use crate::name::id::{IdReference, id_reference};
 use crate::name::number_text::number_text;
-use crate::text::{Reach, next};
+use crate::text::Reach;
 use std::alloc::{AllocError, Global};
 
 /// The group that a reference refers to; its name is a slice of the pattern.
@@ -82,26 +80,6 @@ fn reference_to(reach: Reach, target: Target<'_>, level: Option<isize>) -> Refer
     }
 }
 
-/// The reference at the reach that the whole text writes by a number, with or without a level after it; `amounts`
-/// allows the level. None if there is no number at the front, if the number does not fit in a word, or if the text
-/// after it is no level.
-#[inline(always)]
-#[tactic(auto, unfolding(crate::specs::NumberText::whole_number), using(crate::proofs::NumberIds::numbers_written))]
-fn reference_by_number(text: &str, amounts: bool, reach: Reach) -> Option<Reference<'_>>
-    ensures value { MatchOption result (whole_number (chars text.now) ≡ None)
-        (λ r. spec.written_reference reach amounts (chars text.now) ≡ Some (view_reference r)) }
-{
-    let (value, rest) = number(text)?;
-    let target = Target::ByNumber(value?);
-    if next(rest).is_none() {
-        return Some(reference_to(reach, target, None));
-    }
-    if !amounts {
-        return None;
-    }
-    Some(reference_to(reach, target, Some(amount(rest)?)))
-}
-
 /// The reference at the reach that the whole text writes, if it is an id reference; `amounts` allows amounts. An amount
 /// without an id is relative, and one after an id is a level.
 #[inline(always)]
@@ -109,12 +87,8 @@ fn reference_by_number(text: &str, amounts: bool, reach: Reach) -> Option<Refere
 fn written_reference(text: &str, amounts: bool, reach: Reach) -> Option<Reference<'_>>
     ensures value { spec.written_reference reach amounts (chars text.now) ≡ option_map view_reference result }
 {
-    // A number is an id too, and reading it is faster.
-    if let Some(reference) = reference_by_number(text, amounts, reach) {
-        return Some(reference);
-    }
     match id_reference(text, amounts)? {
-        IdReference::Id(name) => Some(reference_to(reach, Target::ByName(name), None)),
+        IdReference::Id(name) => Some(reference_to(reach, target_of_name(name), None)),
         IdReference::IdAndAmount(id, amount) => Some(reference_to(
             reach,
             target_of_name(id),

@@ -18,8 +18,8 @@ ghost use Rattle.fancy_syntax.specs.View.{view, views};
 
 use crate::expr::Expr;
 use crate::grammar::atom::{leaf_node, literal};
+use crate::grammar::fast_path::{plain, plain_escape};
 use crate::grammar::frame::{Enclosing, Frame, OpenGroup, PieceStart};
-use crate::grammar::plain::{plain, plain_escape};
 use crate::grammar::spanning::Spanning;
 use crate::grammar::state::State;
 use crate::grammar::step::{close, quantify_last, read_step};

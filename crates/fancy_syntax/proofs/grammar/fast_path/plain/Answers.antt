@@ -1,7 +1,7 @@
 use Rattle.std.proofs.Common.{sym}
 use Rattle.fancy_syntax.specs.Parsed.{state}
 use Rattle.fancy_syntax.proofs.PlainLaws.{is_plain_literal}
-use Rattle.fancy_syntax.proofs.grammar.plain.plain.Goals as goal
+use Rattle.fancy_syntax.proofs.grammar.fast_path.plain.Goals as goal
 
 pub returns-clause-plain : goal.returns-clause-plain
 returns-clause-plain c =

@@ -3,7 +3,7 @@ use Prim.Native.Char.{code}
 use Rattle.fancy_lex.specs.BoundarySteps.{boundary}
 use Rattle.fancy_lex.specs.Reading.{gives}
 use Rattle.fancy_lex.specs.Text.{strip}
-use Rattle.fancy_lex.proofs.escape.boundary.bare_boundary.Goals as goal
+use Rattle.fancy_lex.proofs.escape.fast_path.bare_boundary.Goals as goal
 
 pub returns-in-None : goal.returns-in-None
 unfolding boundary

@@ -1,4 +1,8 @@
-//! Plain characters and escapes that a look ahead reads. Most atoms are one of these.
+//! The fast path of the parser: leaves that a look ahead reads whole, and the test that no quantifier follows. Most atoms
+//! are such a leaf, and most have no quantifier.
+//!
+//! `read_step` reads the same leaves to the same trees. So whatever is here can be deleted with its calls, and each result
+//! stays as it is; what each reader saves is in the measurements.
 ghost use Rattle.std.specs.Prelude.{◌≡◌, ◌<◌, ℕ, true, [], ◌∷◌, length, chars, IfSome};
 ghost use Rattle.fancy_lex.specs.EscapeViews.{escape_of};
 ghost use Rattle.fancy_grammar.specs.AtomStart.{leaf_node};
@@ -13,7 +17,8 @@ ghost use Rattle.fancy_grammar.specs.Tree.{Tree, literal};
 
 use crate::grammar::spanning::Spanning;
 use crate::grammar::state::State;
-use fancy_lex::escape::{Escaped, short_escape};
+use fancy_lex::escape::Escaped;
+use fancy_lex::escape::fast_path::short_escape;
 use fancy_lex::layout::is_layout;
 use fancy_lex::text::{after, next};
 

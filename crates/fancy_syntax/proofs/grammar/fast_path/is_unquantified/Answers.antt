@@ -2,7 +2,7 @@ use Rattle.std.proofs.Common.{false, ◌≡◌, ◌∙◌, sym, rules}
 use Rattle.fancy_syntax.specs.Parsed.{state}
 use Rattle.fancy_grammar.proofs.PlainLemmas.{unquantified, unquantified_at_end}
 use Rattle.fancy_syntax.proofs.PlainLaws.{unquantified_recorded, unquantified_recorded_at_end}
-use Rattle.fancy_syntax.proofs.grammar.plain.is_unquantified.Goals as goal
+use Rattle.fancy_syntax.proofs.grammar.fast_path.is_unquantified.Goals as goal
 
 pub returns-in_default : goal.returns-in_default
 returns-in_default c = record {

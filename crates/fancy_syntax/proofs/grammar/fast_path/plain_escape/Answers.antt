@@ -3,7 +3,7 @@ use Rattle.fancy_lex.specs.EscapeViews.{escape_of}
 use Rattle.fancy_lex.proofs.TextLemmas.{strip_is}
 use Rattle.fancy_syntax.proofs.PlainLaws.{is_plain_escape}
 use Rattle.fancy_syntax.specs.Parsed.{state}
-use Rattle.fancy_syntax.proofs.grammar.plain.plain_escape.Goals as goal
+use Rattle.fancy_syntax.proofs.grammar.fast_path.plain_escape.Goals as goal
 
 pub returns-clause-plain : goal.returns-clause-plain
 returns-clause-plain g c =
