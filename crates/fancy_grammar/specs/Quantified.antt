@@ -89,19 +89,18 @@ abbrev pub may_count : ℕ → ℕ → Bool
 may_count zero d = false
 may_count (suc k) d = nat_lt (d + 1) max_depth
 
--- one quantifier too many: the error is at the text after it
-abbrev pub too_many : Tree → State → Outcome Tree
-too_many b t = failed (quantifier_too_deep t.rest)
-
--- one adjacent quantifier; if a byte was read, even of layout alone, it counts, and `more` reads on
-abbrev pub one_adjacent : (Tree → State → Outcome Tree) → Tree → State → Outcome Tree
-one_adjacent more a s = and_then (quant (bytes s.rest) a s) (λ b t. if is_unmoved s t then done b t else more b t)
-
--- adjacent quantifiers at depth d: each that counts is one level deeper, and k of them may count
+-- adjacent quantifiers at depth d, of which k may count: one counts if a byte was read, even of layout alone, and those
+-- after it are one level deeper; the error of one that may not count is at the text after it
 unfoldable pub adjacent : ℕ → ℕ → Tree → State → Outcome Tree
-adjacent zero d a s = one_adjacent too_many a s
+adjacent zero d a s =
+    and_then (quant (bytes s.rest) a s) (λ b t.
+    if is_unmoved s t then done b t
+    else failed (quantifier_too_deep t.rest))
 adjacent (suc k) d a s =
-    one_adjacent (λ b t. if nat_lt (d + 1) max_depth then adjacent k (d + 1) b t else too_many b t) a s
+    and_then (quant (bytes s.rest) a s) (λ b t.
+    if is_unmoved s t then done b t
+    else if nat_lt (d + 1) max_depth then adjacent k (d + 1) b t
+    else failed (quantifier_too_deep t.rest))
 
 -- how many adjacent quantifiers may follow the first
 abbrev pub max_adjacent : ℕ
