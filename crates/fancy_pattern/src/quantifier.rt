@@ -1,6 +1,5 @@
 //! Quantifiers.
-ghost use Rattle.std.specs.Prelude.{◌≡◌, ◌-◌, ℕ, ◌++◌, codes, decimal, true, nat_lt, OnOk};
-ghost use Rattle.std.specs.List.{list_all};
+ghost use Rattle.std.specs.Prelude.{◌≡◌, ◌-◌, ℕ, ◌++◌, codes, decimal, OnOk};
 ghost use Rattle.fancy_parts.specs.Quote.{range, counts_as};
 ghost use Rattle.fancy_grammar.specs.Depth.{max_depth};
 ghost use Rattle.fancy_grammar.specs.PatternQuantifier as spec;
@@ -8,7 +7,7 @@ ghost use Rattle.fancy_grammar.specs.Tree.{atomic_group};
 ghost use Rattle.fancy_pattern.specs.TextOutput.{Added};
 ghost use Rattle.fancy_syntax.specs.View.{view};
 
-use crate::output::{TextOutput, put_ascii};
+use crate::output::{TextOutput, put_if};
 use fancy_lex::flags::Flags;
 use fancy_parts::quote::operator;
 use fancy_syntax::expr::Expr;
@@ -146,20 +145,18 @@ fn put_swapped(out: &mut TextOutput, lo: usize, hi: usize) -> Result<(), AllocEr
     out.put('}')
 }
 
-/// `?` if the quantifier is not greedy, or under SWAP_GREED if it is.
-fn lazy_operator(flags: Flags, greedy: bool) -> &'static str
-    ensures text { spec.lazy_operator flags greedy ≡ result.now }
-    ensures ascii { list_all (λ b. nat_lt b 128) result.now ≡ true }
+/// Writes `?` if the quantifier is not greedy, or under SWAP_GREED if it is.
+fn put_lazy(out: &mut TextOutput, greedy: bool, flags: Flags) -> Result<(), AllocError>
+    ensures { OnOk result (Added out.old out.new (spec.lazy_operator flags greedy)) }
 {
-    if greedy == flags.swap_greed { "?" } else { "" }
+    put_if(out, greedy == flags.swap_greed, '?')
 }
 
-/// `+` if the quantifier is possessive.
-fn possessive_operator(possessive: bool) -> &'static str
-    ensures text { spec.possessive_operator possessive ≡ result.now }
-    ensures ascii { list_all (λ b. nat_lt b 128) result.now ≡ true }
+/// Writes `+` if the quantifier is possessive.
+fn put_possessive(out: &mut TextOutput, possessive: bool) -> Result<(), AllocError>
+    ensures { OnOk result (Added out.old out.new (spec.possessive_operator possessive)) }
 {
-    if possessive { "+" } else { "" }
+    put_if(out, possessive, '+')
 }
 
 /// Writes a quantifier, which may be adjacent to another.
@@ -179,12 +176,11 @@ pub(crate) fn put_quantifier(
         possessive,
     } = quantifier;
     let operator = operator_left(adjacent, operator(lo, hi));
-    let lazy = lazy_operator(flags, greedy);
     if flags.oniguruma_mode && possessive && operator.is_none() {
         put_swapped(out, lo, hi)?;
-        return put_ascii(out, lazy);
+        return put_lazy(out, greedy, flags);
     }
     put_counts(out, lo, hi, operator)?;
-    put_ascii(out, lazy)?;
-    put_ascii(out, possessive_operator(possessive))
+    put_lazy(out, greedy, flags)?;
+    put_possessive(out, possessive)
 }
