@@ -112,6 +112,10 @@ fn put_after_backslash(out: &mut TextOutput, c: char) -> Result<(), AllocError>
 pub(crate) fn put_class_character(out: &mut TextOutput, c: char) -> Result<(), AllocError>
     ensures { OnOk result (Added out.old out.new (spec.by_letter_or c (spec.plain c))) }
 {
+    // Most characters are these: this saves the tests for the others.
+    if matches!(c, ' '..='~') {
+        return out.put(c);
+    }
     match letter_of(c) {
         Some(letter) => put_after_backslash(out, letter),
         None => put_plain(out, c),
