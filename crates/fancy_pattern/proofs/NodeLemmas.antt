@@ -14,11 +14,12 @@ use Rattle.fancy_grammar.specs.Pattern.{is_last_operand, after_inline_flags, all
 use Rattle.fancy_grammar.specs.Pattern.{after, condition_text, branches_text, is_alt, repeater_text, stopper_text}
 use Rattle.fancy_grammar.specs.Pattern.{look_opening, takes_pieces, takes_branches, in_flag_group_unless, written_all}
 use Rattle.fancy_grammar.specs.Pattern.{written_branches, parenthesized}
+use Rattle.fancy_grammar.specs.PatternNeeds.{first, needs_all}
 use Rattle.fancy_grammar.specs.PatternQuantifier.{is_possessive, is_quantified, quantifier_text}
 use Rattle.fancy_grammar.specs.PatternReference.{group_opening}
 use Rattle.fancy_grammar.specs.PatternWalk.{needs_listed, all_listed, after_all}
 use Rattle.fancy_grammar.specs.Quantified.{is_repeatable}
-use Rattle.fancy_grammar.specs.Tree.{Tree, leaf, over, row, Trees, no_trees, more_trees, empty, group, look_around, repeat}
+use Rattle.fancy_grammar.specs.Tree.{Tree, leaf, over, row, Trees, empty, group, look_around, repeat}
 use Rattle.fancy_grammar.specs.Tree.{atomic_group, define_group, repeater, stopper, expression, conditional, concat, alt}
 use Rattle.fancy_grammar.specs.declared.kinds.LookAround.{LookAround}
 use Rattle.fancy_grammar.specs.declared.needs.Needs.{Needs}
@@ -26,14 +27,14 @@ use Rattle.fancy_grammar.specs.declared.precedence.Precedence.{Precedence}
 use Rattle.fancy_grammar.specs.declared.precedence.Precedence.TheVariants.{Whole, Branch, Piece, Operand}
 use Rattle.fancy_pattern.specs.TextOutput.{Added, Changed, separated}
 use Rattle.fancy_pattern.specs.ContextViews.{IsContext}
-use Rattle.fancy_pattern.specs.Writers.{Writes, WritesSettled, WritesChoice, needs_below}
+use Rattle.fancy_pattern.specs.Writers.{Writes, WritesTree, WritesSettled, WritesChoice, Moves, Passes, Leaves, needs_below}
 use Rattle.fancy_pattern.specs.declared.context.Context as code
 use Rattle.fancy_pattern.specs.declared.output.TextOutput.{TextOutput}
 use Rattle.fancy_pattern.specs.declared.separator.Separator.TheVariants.{Condition}
 use Rattle.fancy_pattern.proofs.SettledLemmas.{keeps_after, no_more_groups}
 use Rattle.fancy_pattern.proofs.OutputLemmas.{added_as, then_added}
 use Rattle.fancy_pattern.proofs.WritesLemmas.{then_writes, text_writes, writes_as}
-use Rattle.fancy_pattern.proofs.WritesLemmas.{parens_writes}
+use Rattle.fancy_pattern.proofs.WritesLemmas.{parens_writes, past_writes}
 
 -- ---- tests
 
@@ -171,13 +172,8 @@ last_writes a b i j p opening l text n choice e w =
 
 -- a capturing group; its opening is that of the number that the position inside has reached
 pub group_writes : (a b c d e : TextOutput) (i j k o z : code.Context) (m : GroupInfo) (t : Tree) →
-    Added a b (codes "(" ++ []) →
-    ((h : Context) (l : List Needs) → IsContext i h l → IsContext j (deeper h) l) →
-    ((h : Context) (l : List Needs) → IsContext j h l → IsContext k (past_groups 1 h) l) →
-    Added b c (group_opening m k.opened) →
-    Writes c d k o (λ o. needs_listed o t) (written m t Whole) (after t Whole) → Added d e (codes ")") →
-    ((h g : Context) (x l : List Needs) → IsContext i h x → IsContext o g l →
-    IsContext z (record h { opened = g.opened }) l) →
+    Added a b (codes "(" ++ []) → Moves i j deeper → Moves j k (past_groups 1) →
+    Added b c (group_opening m k.opened) → WritesTree c d k o m t Whole → Added d e (codes ")") → Leaves i o z →
     Writes a e i z (λ o. needs_listed o t)
     (λ h. in_parens (group_opening m (h.opened + 1)) (written m t Whole) (past_groups 1 h))
     (past_groups (group_count t + 1))
@@ -203,10 +199,9 @@ pub quantified_writes : (a b c : TextOutput) (i j k : code.Context) (m : GroupIn
     (possessive : Bool)
     (lo hi : ℕ) (greedy : Bool) (left : ℕ) →
     ((h : Context) (l : List Needs) → IsContext i h l → left ≡ allowed p h) →
-    Writes a b i j (λ o. needs_listed o t) (written m t (Operand left)) (after t (Operand left)) →
+    WritesTree a b i j m t (Operand left) →
     Added b c (quantifier_text i.flags possessive (nat_lt 0 left && is_quantified i.flags t) lo hi greedy) →
-    ((h g : Context) (x l : List Needs) → IsContext i h x → IsContext j g l →
-    IsContext k (record h { opened = g.opened }) l) →
+    Leaves i j k →
     Writes a c i k (λ o. needs_listed o t) (repeated possessive t lo hi greedy (written m t) p)
     (past_groups (group_count t))
 quantified_writes a b c i j k m t p possessive lo hi greedy left enough w symbol out = record {
@@ -283,7 +278,7 @@ leaf_after (label.ast_node r position) p h e = absurd (cc)
 -- a condition that is written as a word of its own
 pub word_writes : (a b : TextOutput) (i j : code.Context) (m : GroupInfo) (l : label.Leaf) (text : Text) →
     is_text_condition (leaf l) ≡ false → ((t : Text) → condition_text m (leaf l) t ≡ text) → Added a b text →
-    ((h : Context) (d : Needs) (r : List Needs) → IsContext i h (d ∷ r) → IsContext j h r) →
+    Passes i j →
     Writes a b i j (λ o. needs_listed o (leaf l)) (λ h. condition_text m (leaf l) (written m (leaf l) Whole h))
     (after (leaf l) Whole)
 word_writes a b i j m l text e is p past = record {
@@ -331,9 +326,8 @@ branches_as m t u h g =
 
 pub choice_writes : (a b c d e : TextOutput) (i j k : code.Context) (m : GroupInfo) (t u : Tree) →
     Added a b (if is_empty t && is_empty u then codes "()" else []) →
-    Writes b c i j (λ o. needs_listed o t) (written m t Branch) (after t Branch) →
-    Added c d (if not (is_empty u) || is_alt t then codes "|" else []) →
-    Writes d e j k (λ o. needs_listed o u) (written m u Whole) (after u Whole) → WritesChoice a e i k m t u
+    WritesTree b c i j m t Branch → Added c d (if not (is_empty u) || is_alt t then codes "|" else []) →
+    WritesTree d e j k m u Whole → WritesChoice a e i k m t u
 choice_writes a b c d e i j k m t u p w q v =
     writes_as a e i k _ _ _ _ _ _
     (then_writes a b e i i k _ _ _ _ _ _ (λ h. refl) (text_writes a b i _ p)
@@ -348,12 +342,9 @@ conditional_text m q t u =
     ++ branches_text t u (written m t Branch j) (written m u Whole (after t Branch j)))
 
 pub conditional_writes : (a b c d e f : TextOutput) (i j k o z : code.Context) (m : GroupInfo) (q t u : Tree)
-    (p : Precedence) → Added a b (codes "(" ++ codes "?(") →
-    ((h : Context) (l : List Needs) → IsContext i h l → IsContext j (deeper h) l) →
+    (p : Precedence) → Added a b (codes "(" ++ codes "?(") → Moves i j deeper →
     Writes b c j k (λ o. needs_listed o q) (λ h. condition_text m q (written m q Whole h)) (after q Whole) →
-    Added c d (codes ")") → WritesChoice d e k o m t u → Added e f (codes ")") →
-    ((h g : Context) (x l : List Needs) → IsContext i h x → IsContext o g l →
-    IsContext z (record h { opened = g.opened }) l) →
+    Added c d (codes ")") → WritesChoice d e k o m t u → Added e f (codes ")") → Leaves i o z →
     WritesSettled a f i z m (conditional q t u) p
 conditional_writes a b c d e f i j k o z m q t u p opens at w symbol v closes out =
     let text : Context → Text = λ h. branches_text t u (written m t Branch h) (written m u Whole (after t Branch h)) in
@@ -382,14 +373,8 @@ expression_text m t u =
     in_parens (codes "?~|") (λ i. written m t Branch i ++ (codes "|" ++ written m u Branch (after t Branch i)))
 
 pub expression_writes : (a b c d e f : TextOutput) (i j k o z : code.Context) (m : GroupInfo) (t u : Tree)
-    (p : Precedence) → Added a b (codes "(" ++ codes "?~|") →
-    ((h : Context) (l : List Needs) → IsContext i h l → IsContext j (deeper h) l) →
-    Writes b c j k (λ o. needs_listed o t) (written m t Branch) (after t Branch) →
-    Added c d (codes "|") →
-    Writes d e k o (λ o. needs_listed o u) (written m u Branch) (after u Branch) →
-    Added e f (codes ")") →
-    ((h g : Context) (x l : List Needs) → IsContext i h x → IsContext o g l →
-    IsContext z (record h { opened = g.opened }) l) →
+    (p : Precedence) → Added a b (codes "(" ++ codes "?~|") → Moves i j deeper → WritesTree b c j k m t Branch →
+    Added c d (codes "|") → WritesTree d e k o m u Branch → Added e f (codes ")") → Leaves i o z →
     WritesSettled a f i z m (expression t u) p
 expression_writes a b c d e f i j k o z m t u p opens at w symbol v closes out =
     let whole = parens_writes a b e f i j o z (codes "?~|") _ _ _ opens at
@@ -471,40 +456,34 @@ settled_stopper a b i j m t p w = record {
 
 -- ---- rows
 
-pub pieces_writes : (a b : TextOutput) (i j : code.Context) (m : GroupInfo) (ts : Trees) (p : Precedence) →
-    takes_pieces p ≡ true →
-    Writes a b i j (λ o. all_listed o ts) (written_all m false ts) (after_all ts Piece) →
-    Writes a b i j (λ o. all_listed o ts)
-    (in_flag_group_unless (takes_pieces p) (concat ts) (written_all m false ts))
-    (after (concat ts) p)
-pieces_writes a b i j m ts p e w =
-    writes_as a b i j _ _ _ _ _ _ w (λ o. refl) (λ h. rw e refl) (λ h. rw e refl)
+pub pieces_writes : (a b : TextOutput) (i j k : code.Context) (m : GroupInfo) (ts : Trees) (p : Precedence) →
+    takes_pieces p ≡ true → Passes i j →
+    Writes a b j k (λ o. all_listed o ts) (written_all m false ts) (after_all ts Piece) →
+    WritesTree a b i k m (concat ts) p
+pieces_writes a b i j k m ts p e past w =
+    writes_as a b i k _ _ _ _ _ _ (past_writes a b i j k (λ o. needs_all first o ts) _ _ _ past w)
+    (λ o. refl) (λ h. rw e refl) (λ h. rw e refl)
 
-pub branches_writes : (a b : TextOutput) (i j : code.Context) (m : GroupInfo) (ts : Trees) (p : Precedence) →
-    takes_branches p ≡ true →
-    Writes a b i j (λ o. all_listed o ts) (written_branches m ts) (after_all ts Branch) →
-    Writes a b i j (λ o. all_listed o ts)
-    (in_flag_group_unless (takes_branches p) (alt ts) (written_branches m ts))
-    (after (alt ts) p)
-branches_writes a b i j m ts p e w =
-    writes_as a b i j _ _ _ _ _ _ w (λ o. refl) (λ h. rw e refl) (λ h. rw e refl)
+pub branches_writes : (a b : TextOutput) (i j k : code.Context) (m : GroupInfo) (ts : Trees) (p : Precedence) →
+    takes_branches p ≡ true → Passes i j →
+    Writes a b j k (λ o. all_listed o ts) (written_branches m ts) (after_all ts Branch) →
+    WritesTree a b i k m (alt ts) p
+branches_writes a b i j k m ts p e past w =
+    writes_as a b i k _ _ _ _ _ _ (past_writes a b i j k (λ o. needs_all first o ts) _ _ _ past w)
+    (λ o. refl) (λ h. rw e refl) (λ h. rw e refl)
 
 pub concat_in_flag_group : (a b : TextOutput) (i j : code.Context) (m : GroupInfo) (ts : Trees) (p : Precedence) →
     takes_pieces p ≡ false →
-    Writes a b i j (λ o. all_listed o ts) (in_flag_group_unless false (concat ts) (written_all m false ts))
+    Writes a b i j (λ o. needs_listed o (concat ts)) (in_flag_group_unless false (concat ts) (written_all m false ts))
     (past_groups (group_count (concat ts))) →
-    Writes a b i j (λ o. all_listed o ts)
-    (in_flag_group_unless (takes_pieces p) (concat ts) (written_all m false ts))
-    (after (concat ts) p)
+    WritesTree a b i j m (concat ts) p
 concat_in_flag_group a b i j m ts p e w =
     writes_as a b i j _ _ _ _ _ _ w (λ o. refl) (λ h. rw e refl) (λ h. rw e refl)
 
 pub alt_in_flag_group : (a b : TextOutput) (i j : code.Context) (m : GroupInfo) (ts : Trees) (p : Precedence) →
     takes_branches p ≡ false →
-    Writes a b i j (λ o. all_listed o ts) (in_flag_group_unless false (alt ts) (written_branches m ts))
+    Writes a b i j (λ o. needs_listed o (alt ts)) (in_flag_group_unless false (alt ts) (written_branches m ts))
     (past_groups (group_count (alt ts))) →
-    Writes a b i j (λ o. all_listed o ts)
-    (in_flag_group_unless (takes_branches p) (alt ts) (written_branches m ts))
-    (after (alt ts) p)
+    WritesTree a b i j m (alt ts) p
 alt_in_flag_group a b i j m ts p e w =
     writes_as a b i j _ _ _ _ _ _ w (λ o. refl) (λ h. rw e refl) (λ h. rw e refl)

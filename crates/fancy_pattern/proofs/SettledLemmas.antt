@@ -8,21 +8,22 @@ use Rattle.fancy_grammar.specs.GroupInfo.{GroupInfo}
 use Rattle.fancy_grammar.specs.Pattern.{Context, under, past_groups, takes_pieces, is_operand, after_inline_flags}
 use Rattle.fancy_grammar.specs.Pattern.{in_flag_group_unless, as_atom, in_parens, deeper, written}
 use Rattle.fancy_grammar.specs.Pattern.{group_count, flags_after, after, pattern_text}
-use Rattle.fancy_grammar.specs.PatternNeeds.{first, both, needs, with_needs, settled, agreed, inline_flags}
+use Rattle.fancy_grammar.specs.PatternNeeds.{no_needs, first, both, needs, with_needs, settled, agreed, inline_flags}
 use Rattle.fancy_grammar.specs.PatternNeeds.{turns_on, letters_between}
-use Rattle.fancy_grammar.specs.PatternWalk.{needs_listed}
-use Rattle.fancy_grammar.specs.Tree.{Tree, leaf, over, row, empty, is_leaf}
+use Rattle.fancy_grammar.specs.PatternWalk.{needs_listed, all_listed}
+use Rattle.fancy_grammar.specs.Tree.{Tree, leaf, over, row, Trees, empty, is_leaf}
 use Rattle.fancy_grammar.specs.declared.needs.Needs.{Needs}
 use Rattle.fancy_grammar.specs.declared.precedence.Precedence.{Precedence}
 use Rattle.fancy_grammar.specs.declared.precedence.Precedence.TheVariants.{Whole}
 use Rattle.fancy_grammar.proofs.ContextLemmas.{mode_after}
 use Rattle.fancy_pattern.specs.TextOutput.{Added}
 use Rattle.fancy_pattern.specs.ContextViews.{IsContext, leaf_text_of}
-use Rattle.fancy_pattern.specs.Writers.{Writes, WritesSettled, needs_below, takes_inline_flags}
+use Rattle.fancy_pattern.specs.Writers.{Writes, WritesTree, WritesSettled, WritesFlags, Moves, Passes, Leaves}
+use Rattle.fancy_pattern.specs.Writers.{needs_below, takes_inline_flags}
 use Rattle.fancy_pattern.specs.declared.context.Context as code
 use Rattle.fancy_pattern.specs.declared.output.TextOutput.{TextOutput}
 use Rattle.fancy_pattern.proofs.OutputLemmas.{added_as, then_added}
-use Rattle.fancy_pattern.proofs.WritesLemmas.{KeepsMode, writes_as}
+use Rattle.fancy_pattern.proofs.WritesLemmas.{KeepsMode, writes_as, then_writes, past_writes, text_writes}
 
 pub keeps_after : (t : Tree) (p : Precedence) → KeepsMode (after t p)
 keeps_after t p h = mode_after t p h.flags.oniguruma_mode h.flags refl
@@ -146,77 +147,57 @@ leaf_writes a b i j m t p e k w = record {
 
 -- ---- any tree, after the flags that it needs
 
--- the flags that the tree needs are set, and then what follows them is written
-pub settled_writes : (a b c : TextOutput) (i j k : code.Context) (n : Needs) (m : GroupInfo) (t : Tree) (p : Precedence) →
-    takes_inline_flags t ≡ true → n ≡ needs first i.flags.oniguruma_mode t →
-    Added a b (inline_flags i.flags (with_needs i.flags n)) →
-    ((h : Context) (l : List Needs) → IsContext i h l → IsContext j (under (with_needs h.flags n) h) l) →
-    WritesSettled b c j k m t p → Writes a c i k (λ o. needs_below o t) (written m t p) (after t p)
-settled_writes a b c i j k n m t p takes e sets at w = record {
+-- the flags that a node needs are set
+pub flags_set : (a b : TextOutput) (i j k : code.Context) (d : Needs) (text : Flags → Flags → Text)
+    (next : Context → Context) → ((h : Context) (n : Needs) (l : List Needs) → IsContext i h (n ∷ l) →
+    (d ≡ n) × IsContext j h l) → Added a b (text j.flags (with_needs j.flags d)) →
+    Moves j k (λ h. next (under (with_needs h.flags d) h)) → WritesFlags a b i k text next
+flags_set a b i j k d text next passes sets at n = record {
   writes = λ h l is.
-      let o = h.flags.oniguruma_mode in
-      let needed : with_needs h.flags n ≡ settled h.flags t =
-      ap (with_needs h.flags) (e ∙ ap (λ f. needs first f.oniguruma_mode t) is.flags) in
-      let set : inline_flags i.flags (with_needs i.flags n) ≡ inline_flags h.flags (settled h.flags t) =
-      ap (λ f. inline_flags f (with_needs f n)) is.flags ∙ ap (inline_flags h.flags) needed in
-      let done = w.writes.writes (under (settled h.flags t) h) l
-      (subst (λ f. IsContext j (under f h) (needs_below o t ++ l)) needed (at h (needs_below o t ++ l) is)) in (
-        added_as a c _ _
-            (then_added a b c _ _ (added_as a b _ _ sets set) done.0) (sym (w.is h)),
-        subst (λ g. IsContext k g l) (settled_end t p h takes) done.1,
+      let past = passes h (n h.flags.oniguruma_mode) l is in (
+        added_as a b _ _ sets
+            (ap (λ f. text f (with_needs f d)) past.1.flags ∙ ap (λ e. text h.flags (with_needs h.flags e)) past.0),
+        subst (λ e. IsContext k (next (under (with_needs h.flags e) h)) l) past.0 (at h l past.1),
       );
 }
 
--- the node is passed, and then its text is written
-pub node_writes : (a b : TextOutput) (i j k : code.Context) (n : Needs) (m : GroupInfo) (t : Tree) (p : Precedence) →
-    ((h : Context) (d : Needs) (l : List Needs) → IsContext i h (d ∷ l) → (n ≡ d) × IsContext j h l) →
-    (n ≡ needs first j.flags.oniguruma_mode t →
-    Writes a b j k (λ o. needs_below o t) (written m t p) (after t p)) →
-    Writes a b i k (λ o. needs_listed o t) (written m t p) (after t p)
-node_writes a b i j k n m t p next below = record {
-  writes = λ h l is.
-      let o = h.flags.oniguruma_mode in
-      let at = next h (needs first o t) (needs_below o t ++ l)
-      (subst (λ x. IsContext i h (x ++ l)) (listed_node o t) is) in
-      (below (at.0 ∙ ap (λ f. needs first f.oniguruma_mode t) (sym at.1.flags))).writes h l at.1;
-}
+-- the flags that the tree needs are set, and then what follows them is written
+pub settled_writes : (a b c : TextOutput) (i j k : code.Context) (m : GroupInfo) (t : Tree) (p : Precedence) →
+    takes_inline_flags t ≡ true → WritesFlags a b i j inline_flags (λ h. h) → WritesSettled b c j k m t p →
+    WritesTree a c i k m t p
+settled_writes a b c i j k m t p takes sets w =
+    writes_as a c i k _ _ _ _ _ _
+    (then_writes a b c i j k _ _ _ _ _ _ (λ h. refl) (sets (λ o. needs first o t)) w.writes)
+    (λ o. sym (listed_node o t)) (λ h. sym (w.is h)) (λ h. settled_end t p h takes)
 
-pub empty_writes : (a b : TextOutput) (i j : code.Context) (m : GroupInfo) (p : Precedence) →
-    Writes a b i j (λ o. []) (λ h. if takes_pieces p then [] else codes "()") (λ h. h) →
-    Writes a b i j (λ o. needs_below o empty) (written m empty p) (after empty p)
-empty_writes a b i j m p w = writes_as a b i j _ _ _ _ _ _ w (λ o. refl) (λ h. refl) no_more_groups
+pub empty_writes : (a b : TextOutput) (i j : code.Context) (m : GroupInfo) (p : Precedence) → Passes i j →
+    Added a b (if takes_pieces p then [] else codes "()") → WritesTree a b i j m empty p
+empty_writes a b i j m p past w =
+    writes_as a b i j _ _ _ _ _ _ (past_writes a b i j j (λ o. no_needs) _ _ _ past (text_writes a b j _ w))
+    (λ o. refl) (λ h. refl) no_more_groups
 
 -- ---- a row, in a group if it needs one
 
-pub flag_group_writes : (a b c d : TextOutput) (i j k e : code.Context) (n : Needs) (t : Tree) (text : Context → Text)
-    (next : Context → Context) →
-    n ≡ needs first i.flags.oniguruma_mode t →
-    Added a b (codes "(?" ++ (letters_between i.flags (with_needs i.flags n) ++ codes ":")) →
-    ((h : Context) (l : List Needs) → IsContext i h l → IsContext j (deeper (under (with_needs h.flags n) h)) l) →
-    Writes b c j k (λ o. needs_below o t) text next → Added c d (codes ")") →
-    ((h g : Context) (x l : List Needs) → IsContext i h x → IsContext k g l →
-    IsContext e (record h { opened = g.opened }) l) →
-    Writes a d i e (λ o. needs_below o t) (in_flag_group_unless false t text)
-    (λ h. record h { opened = (next (deeper (under (settled h.flags t) h))).opened })
-flag_group_writes a b c d i j k e n t text next is_needed opens at w closes out = record {
+pub flag_group_writes : (a b c d : TextOutput) (i j k e : code.Context) (r : label.Row) (ts : Trees)
+    (text : Context → Text) (next : Context → Context) →
+    WritesFlags a b i j (λ f g. codes "(?" ++ (letters_between f g ++ codes ":")) deeper →
+    Writes b c j k (λ o. all_listed o ts) text next → Added c d (codes ")") → Leaves i k e →
+    Writes a d i e (λ o. needs_listed o (row r ts)) (in_flag_group_unless false (row r ts) text)
+    (λ h. record h { opened = (next (deeper (under (settled h.flags (row r ts)) h))).opened })
+flag_group_writes a b c d i j k e r ts text next opens w closes out = record {
   writes = λ h l is.
       let o = h.flags.oniguruma_mode in
-      let needed : with_needs h.flags n ≡ settled h.flags t =
-      ap (with_needs h.flags) (is_needed ∙ ap (λ f. needs first f.oniguruma_mode t) is.flags) in
-      let letters : letters_between i.flags (with_needs i.flags n) ≡ letters_between h.flags (settled h.flags t) =
-      ap (λ f. letters_between f (with_needs f n)) is.flags ∙ ap (letters_between h.flags) needed in
-      let inside = deeper (under (settled h.flags t) h) in
-      let done = w.writes inside l (subst (λ f. IsContext j (deeper (under f h)) (needs_below o t ++ l)) needed
-      (at h (needs_below o t ++ l) is)) in
-      let opening = codes "?" ++ (letters_between h.flags (settled h.flags t) ++ codes ":") in
-      let opened = added_as a b _ (codes "(" ++ opening) opens
-      (ap (λ x. codes "(?" ++ (x ++ codes ":")) letters) in
+      let g = settled h.flags (row r ts) in
+      let inside = deeper (under g h) in
+      let opening = codes "?" ++ (letters_between h.flags g ++ codes ":") in
+      let one = (opens (λ o. needs first o (row r ts))).writes h (all_listed o ts ++ l) is in
+      let two = w.writes inside l one.1 in
       let all = then_added a c d ((codes "(" ++ opening) ++ text inside) (codes ")")
-      (then_added a b c (codes "(" ++ opening) (text inside) opened done.0) closes in (
+      (then_added a b c (codes "(" ++ opening) (text inside) one.0 two.0) closes in (
         added_as a d _ _ all
             (append_assoc (codes "(" ++ opening) (text inside) (codes ")")
             ∙ append_assoc (codes "(") opening (text inside ++ codes ")")),
-        out h (next inside) (needs_below o t ++ l) l is done.1,
+        out h (next inside) (needs_listed o (row r ts) ++ l) l is two.1,
       );
 }
 
@@ -225,10 +206,8 @@ flag_group_writes a b c d i j k e n t text next is_needed opens at w closes out 
 pub pattern_writes : (a b c : TextOutput) (i j k : code.Context) (n : Needs) (m : GroupInfo) (t : Tree) (f : Flags) →
     n ≡ needs both f.oniguruma_mode t →
     IsContext i (record { flags = f; opened = 0; depth = 0 }) (needs_listed f.oniguruma_mode t) →
-    Added a b (inline_flags i.flags (with_needs i.flags n)) →
-    ((h : Context) (l : List Needs) → IsContext i h l → IsContext j (under (with_needs h.flags n) h) l) →
-    Writes b c j k (λ o. needs_listed o t) (written m t Whole) (after t Whole) →
-    Added a c (pattern_text f t m)
+    Added a b (inline_flags i.flags (with_needs i.flags n)) → Moves i j (λ h. under (with_needs h.flags n) h) →
+    WritesTree b c j k m t Whole → Added a c (pattern_text f t m)
 unfolding pattern_text
 pattern_writes a b c i j k n m t f e is sets at w =
     let start : Context = record { flags = f; opened = 0; depth = 0 } in

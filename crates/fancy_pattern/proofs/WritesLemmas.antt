@@ -8,7 +8,7 @@ use Rattle.fancy_grammar.specs.Pattern.{Context, deeper, in_parens}
 use Rattle.fancy_grammar.specs.declared.needs.Needs.{Needs}
 use Rattle.fancy_pattern.specs.TextOutput.{Added, Changed}
 use Rattle.fancy_pattern.specs.ContextViews.{IsContext}
-use Rattle.fancy_pattern.specs.Writers.{Writes}
+use Rattle.fancy_pattern.specs.Writers.{Writes, Moves, Passes, Leaves}
 use Rattle.fancy_pattern.specs.declared.context.Context as code
 use Rattle.fancy_pattern.specs.declared.output.TextOutput.{TextOutput}
 use Rattle.fancy_pattern.proofs.OutputLemmas.{added_nothing, added_as, then_added}
@@ -24,10 +24,6 @@ on_then r P Q p f = on_ok_weaker r f p
 -- and so do both, if Q holds anyway
 pub on_both : {X E : Type 0} (r : Result X E) (P Q : Type 0) → OnOk r P → Q → OnOk r (P × Q)
 on_both r P Q p q = on_ok_weaker r (λ x. (x, q)) p
-
-pub on_when : {X E N : Type 0} (r : Result X E) (P : Type 0) → (N → OnOk r P) → OnOk r (N → P)
-on_when (Ok x) P f = f
-on_when (Err e) P f = tt
 
 -- if P holds of the value, so does Q, which follows from it
 pub ok_then : {X E : Type 0} (r : Result X E) (P Q : X → Type 0) → IfOk r P → ((x : X) → P x → Q x) → IfOk r Q
@@ -77,8 +73,7 @@ on_positioned (Err e) a b i t p = tt
 
 -- a node is passed for which nothing is written
 pub past_writes : (a b : TextOutput) (i j k : code.Context) (d : Bool → Needs) (l : Bool → List Needs) (t : Context → Text)
-    (n : Context → Context) → ((h : Context) (e : Needs) (r : List Needs) → IsContext i h (e ∷ r) → IsContext j h r) →
-    Writes a b j k l t n → Writes a b i k (λ o. d o ∷ l o) t n
+    (n : Context → Context) → Passes i j → Writes a b j k l t n → Writes a b i k (λ o. d o ∷ l o) t n
 past_writes a b i j k d l t n past p = record {
   writes = λ h r is. p.writes h r (past h (d h.flags.oniguruma_mode) (l h.flags.oniguruma_mode ++ r) is);
 }
@@ -100,11 +95,8 @@ changed_writes a b c i j position change l t n at p q = record {
 
 -- in the parentheses of a group
 pub parens_writes : (a b c d : TextOutput) (i j k e : code.Context) (opening : Text) (l : Bool → List Needs) (t : Context → Text)
-    (n : Context → Context) → Added a b (codes "(" ++ opening) →
-    ((h : Context) (r : List Needs) → IsContext i h r → IsContext j (deeper h) r) → Writes b c j k l t n →
-    Added c d (codes ")") →
-    ((h g : Context) (x r : List Needs) → IsContext i h x → IsContext k g r →
-    IsContext e (record h { opened = g.opened }) r) →
+    (n : Context → Context) → Added a b (codes "(" ++ opening) → Moves i j deeper → Writes b c j k l t n →
+    Added c d (codes ")") → Leaves i k e →
     Writes a d i e l (in_parens opening t) (λ h. record h { opened = (n (deeper h)).opened })
 parens_writes a b c d i j k e opening l t n opens at p closes out = record {
   writes = λ h r is.

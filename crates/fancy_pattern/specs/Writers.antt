@@ -2,7 +2,10 @@
 use Rattle.std.specs.Prelude.{◌≡◌, ◌++◌, Bool, true, false, List, [], ◌∷◌}
 use Rattle.fancy_lex.specs.Text.{Text}
 use Rattle.fancy_grammar.specs.GroupInfo.{GroupInfo}
-use Rattle.fancy_grammar.specs.Pattern.{Context, after_inline_flags, past_groups, group_count, written, after, branches_text}
+use Rattle.fancy_lex.specs.declared.flags.Flags.{Flags}
+use Rattle.fancy_grammar.specs.Pattern.{Context, under, after_inline_flags, past_groups, group_count, written, after}
+use Rattle.fancy_grammar.specs.Pattern.{branches_text}
+use Rattle.fancy_grammar.specs.PatternNeeds.{with_needs}
 use Rattle.fancy_grammar.specs.PatternWalk.{needs_listed, all_listed}
 use Rattle.fancy_grammar.specs.Tree.{Tree, no_trees, more_trees, empty, concat, alt}
 use Rattle.fancy_grammar.specs.declared.needs.Needs.{Needs}
@@ -13,6 +16,24 @@ use Rattle.fancy_pattern.specs.ContextViews.{IsContext}
 use Rattle.fancy_pattern.specs.declared.context.Context as code
 use Rattle.fancy_pattern.specs.declared.output.TextOutput.{TextOutput}
 
+-- ---- how a context changes
+
+-- as `next` says, before the same nodes
+abbrev pub Moves : code.Context → code.Context → (Context → Context) → Type 0
+Moves from to next = (h : Context) (l : List Needs) → IsContext from h l → IsContext to (next h) l
+
+-- past a node
+abbrev pub Passes : code.Context → code.Context → Type 0
+Passes from to = (h : Context) (n : Needs) (l : List Needs) → IsContext from h (n ∷ l) → IsContext to h l
+
+-- out of a group that is at `outside`
+abbrev pub Leaves : code.Context → code.Context → code.Context → Type 0
+Leaves outside from to =
+    (h e : Context) (k l : List Needs) → IsContext outside h k → IsContext from e l →
+    IsContext to (record h { opened = e.opened }) l
+
+-- ---- writers
+
 -- in the first context, a writer wrote this text, passed nodes with these needs in the current mode, and ended in the
 -- context of what follows
 pub record Writes (old new : TextOutput) (from to : code.Context) (needs : Bool → List Needs)
@@ -20,13 +41,27 @@ pub record Writes (old new : TextOutput) (from to : code.Context) (needs : Bool 
   pub writes : (h : Context) (l : List Needs) → IsContext from h (needs h.flags.oniguruma_mode ++ l) →
       Added old new (text h) × IsContext to (next h) l
 
+-- a writer wrote the tree at this precedence, and passed its nodes
+abbrev pub WritesTree : TextOutput → TextOutput → code.Context → code.Context → GroupInfo → Tree → Precedence → Type 0
+WritesTree old new from to m t p = Writes old new from to (λ o. needs_listed o t) (written m t p) (after t p)
+
 -- a writer wrote the branches of a conditional, and passed their nodes
 abbrev pub WritesChoice : TextOutput → TextOutput → code.Context → code.Context → GroupInfo → Tree → Tree → Type 0
 WritesChoice old new from to m t e = Writes old new from to (λ o. all_listed o (more_trees t (more_trees e no_trees)))
     (λ h. branches_text t e (written m t Branch h) (written m e Whole (after t Branch h)))
     (λ h. after e Whole (after t Branch h))
 
--- ---- a tree before which flags are set
+-- ---- flags that are set before a tree
+
+-- the flags with what a node needs
+abbrev pub needed : Flags → (Bool → Needs) → Flags
+needed f n = with_needs f (n f.oniguruma_mode)
+
+-- whatever the next node needs: a writer passed it, and wrote this text, which sets the flags that it needs
+abbrev pub WritesFlags : TextOutput → TextOutput → code.Context → code.Context → (Flags → Flags → Text) →
+    (Context → Context) → Type 0
+WritesFlags old new from to text next = (n : Bool → Needs) → Writes old new from to (λ o. n o ∷ [])
+    (λ h. text h.flags (needed h.flags n)) (λ h. next (under (needed h.flags n) h))
 
 -- whether flags are set before the tree: it is no Empty, no Concat and no Alt
 abbrev pub takes_inline_flags : Tree → Bool

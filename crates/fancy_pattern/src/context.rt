@@ -5,6 +5,7 @@ ghost use Rattle.fancy_grammar.specs.Pattern as spec;
 ghost use Rattle.fancy_grammar.specs.PatternNeeds.{with_needs};
 ghost use Rattle.fancy_grammar.specs.declared.needs.Needs.{Needs};
 ghost use Rattle.fancy_pattern.specs.ContextViews.{IsContext};
+ghost use Rattle.fancy_pattern.specs.Writers.{Moves, Passes, Leaves};
 
 use crate::needs::{no_needs, with_needs};
 use fancy_grammar::depth::MAX_DEPTH;
@@ -54,7 +55,7 @@ impl<'a> Context<'a> {
 
     /// Passes the next node.
     pub(crate) fn pass_node(&mut self)
-        ensures { (h : spec.Context) (n : Needs) (l : List Needs) → IsContext self.old h (n ∷ l) → IsContext self.new h l }
+        ensures { Passes self.old self.new }
     {
         let _needs = self.next_node();
     }
@@ -70,15 +71,14 @@ impl<'a> Context<'a> {
 
     /// Enters a group.
     pub(crate) fn enter(&mut self)
-        ensures { (h : spec.Context) (l : List Needs) → IsContext self.old h l → IsContext self.new (spec.deeper h) l }
+        ensures { Moves self.old self.new spec.deeper }
     {
         self.left = self.left.saturating_sub(1);
     }
 
     /// Counts a group with a number. A word can hold the count: memory has no capacity for more groups.
     pub(crate) fn count_opening(&mut self) -> Result<(), AllocError>
-        ensures { OnOk result ((h : spec.Context) (l : List Needs) → IsContext self.old h l →
-            IsContext self.new (spec.past_groups 1 h) l) }
+        ensures { OnOk result (Moves self.old self.new (spec.past_groups 1)) }
     {
         self.opened = self.opened.checked_add(1).ok_or(AllocError)?;
         Ok(())
@@ -86,8 +86,7 @@ impl<'a> Context<'a> {
 
     /// Leaves a group that is at `outside`: the flags from before are in effect again.
     pub(crate) fn leave(&mut self, outside: &Context)
-        ensures { (h e : spec.Context) (k l : List Needs) → IsContext outside.now h k → IsContext self.old e l →
-            IsContext self.new (record h { opened = e.opened }) l }
+        ensures { Leaves outside.now self.old self.new }
     {
         self.flags = outside.flags;
         self.left = outside.left;

@@ -1,10 +1,9 @@
 //! Groups that set flags.
-ghost use Rattle.std.specs.Prelude.{◌≡◌, ◌∷◌, [], ◌++◌, codes, List, OnOk, if◌then◌else◌};
+ghost use Rattle.std.specs.Prelude.{◌≡◌, ◌∷◌, [], ◌++◌, codes, OnOk, if◌then◌else◌};
 ghost use Rattle.fancy_grammar.specs.Pattern as pattern;
 ghost use Rattle.fancy_grammar.specs.PatternNeeds as spec;
-ghost use Rattle.fancy_grammar.specs.declared.needs.Needs.{Needs};
 ghost use Rattle.fancy_pattern.specs.TextOutput.{Added};
-ghost use Rattle.fancy_pattern.specs.ContextViews.{IsContext};
+ghost use Rattle.fancy_pattern.specs.Writers.{Moves, WritesFlags};
 
 use crate::context::Context;
 use crate::needs::are_met;
@@ -63,13 +62,21 @@ pub(crate) fn put_inline_flags(
 ) -> Result<(), AllocError>
     ensures { OnOk result (Added out.old out.new
         (spec.inline_flags context.old.flags (spec.with_needs context.old.flags needs))
-        × ((h : pattern.Context) (l : List Needs) → IsContext context.old h l →
-        IsContext context.new (pattern.under (spec.with_needs h.flags needs) h) l)) }
+        × Moves context.old context.new (λ h. pattern.under (spec.with_needs h.flags needs) h)) }
 {
     if are_met(context.flags, needs) {
         return Ok(());
     }
     put_new_flags(out, needs, context)
+}
+
+/// Passes the next node, and sets the flags that it needs, if they are not set.
+#[inline(always)]
+pub(crate) fn settle(out: &mut TextOutput, context: &mut Context) -> Result<(), AllocError>
+    ensures { OnOk result (WritesFlags out.old out.new context.old context.new spec.inline_flags (λ h. h)) }
+{
+    let needs = context.next_node();
+    put_inline_flags(out, needs, context)
 }
 
 /// Sets the flags that are needed from here on.
@@ -81,8 +88,7 @@ fn put_new_flags(
 ) -> Result<(), AllocError>
     ensures { OnOk result (Added out.old out.new
         (spec.inline_flags context.old.flags (spec.with_needs context.old.flags needs))
-        × ((h : pattern.Context) (l : List Needs) → IsContext context.old h l →
-        IsContext context.new (pattern.under (spec.with_needs h.flags needs) h) l)) }
+        × Moves context.old context.new (λ h. pattern.under (spec.with_needs h.flags needs) h)) }
 {
     let from = context.flags;
     context.set(needs);
@@ -98,17 +104,12 @@ fn put_flag_group_opening(out: &mut TextOutput, from: Flags, to: Flags) -> Resul
     out.put(':')
 }
 
-/// Opens a group in which the flags that are needed are set, and enters it.
-pub(crate) fn open_flag_group(
-    out: &mut TextOutput,
-    needs: Needs,
-    context: &mut Context,
-) -> Result<(), AllocError>
-    ensures { OnOk result (Added out.old out.new
-        (codes "(?" ++ (spec.letters_between context.old.flags (spec.with_needs context.old.flags needs) ++ codes ":"))
-        × ((h : pattern.Context) (l : List Needs) → IsContext context.old h l →
-        IsContext context.new (pattern.deeper (pattern.under (spec.with_needs h.flags needs) h)) l)) }
+/// Passes the next node, opens a group in which the flags that it needs are set, and enters the group.
+pub(crate) fn open_flag_group(out: &mut TextOutput, context: &mut Context) -> Result<(), AllocError>
+    ensures { OnOk result (WritesFlags out.old out.new context.old context.new
+        (λ f g. codes "(?" ++ (spec.letters_between f g ++ codes ":")) pattern.deeper) }
 {
+    let needs = context.next_node();
     let from = context.flags;
     context.set(needs);
     put_flag_group_opening(out, from, context.flags)?;

@@ -1,10 +1,9 @@
 //! Groups.
-ghost use Rattle.std.specs.Prelude.{◌≡◌, ◌++◌, codes, true, nat_lt, List, OnOk};
+ghost use Rattle.std.specs.Prelude.{◌≡◌, ◌++◌, codes, true, nat_lt, OnOk};
 ghost use Rattle.std.specs.List.{list_all};
 ghost use Rattle.fancy_grammar.specs.Pattern as spec;
-ghost use Rattle.fancy_grammar.specs.declared.needs.Needs.{Needs};
 ghost use Rattle.fancy_pattern.specs.TextOutput.{Added};
-ghost use Rattle.fancy_pattern.specs.ContextViews.{IsContext};
+ghost use Rattle.fancy_pattern.specs.Writers.{Moves, Leaves};
 
 use crate::context::Context;
 use crate::output::{TextOutput, put_ascii};
@@ -19,7 +18,7 @@ pub(crate) fn open(
 ) -> Result<(), AllocError>
     requires { list_all (λ b. nat_lt b 128) opening.now ≡ true }
     ensures { OnOk result (Added out.old out.new (codes "(" ++ opening.now)
-        × ((h : spec.Context) (l : List Needs) → IsContext context.old h l → IsContext context.new (spec.deeper h) l)) }
+        × Moves context.old context.new spec.deeper) }
 {
     context.enter();
     out.put('(')?;
@@ -33,8 +32,7 @@ pub(crate) fn close(
     context: &mut Context,
 ) -> Result<(), AllocError>
     ensures { OnOk result (Added out.old out.new (codes ")")
-        × ((h e : spec.Context) (k l : List Needs) → IsContext outside.now h k → IsContext context.old e l →
-        IsContext context.new (record h { opened = e.opened }) l)) }
+        × Leaves outside.now context.old context.new) }
 {
     context.leave(outside);
     out.put(')')

@@ -7,7 +7,7 @@ ghost use Rattle.fancy_lex.specs.declared.flags.Flags.{Flags};
 ghost use Rattle.fancy_grammar.specs.Join.{is_empty};
 ghost use Rattle.fancy_grammar.specs.GroupInfo.{GroupInfo};
 ghost use Rattle.fancy_grammar.specs.Pattern as spec;
-ghost use Rattle.fancy_grammar.specs.PatternNeeds.{first, both, needs, needs_all};
+ghost use Rattle.fancy_grammar.specs.PatternNeeds.{both, needs};
 ghost use Rattle.fancy_grammar.specs.PatternQuantifier as spec_quantifier;
 ghost use Rattle.fancy_grammar.specs.PatternReference.{group_opening};
 ghost use Rattle.fancy_grammar.specs.Quantified as spec_quantified;
@@ -19,10 +19,10 @@ ghost use Rattle.fancy_grammar.specs.declared.precedence.Precedence.TheVariants.
 ghost use Rattle.fancy_pattern.specs.TextOutput.{Added, Changed};
 ghost use Rattle.fancy_syntax.specs.View.{view, views};
 ghost use Rattle.fancy_pattern.specs.ContextViews.{IsContext, AreGroupNames, leaf_text_of};
-ghost use Rattle.fancy_pattern.specs.Writers.{Writes, WritesSettled, WritesChoice, takes_inline_flags};
+ghost use Rattle.fancy_pattern.specs.Writers.{Writes, WritesTree, WritesSettled, WritesChoice, takes_inline_flags};
 
 use crate::context::Context;
-use crate::flags::{open_flag_group, put_inline_flags};
+use crate::flags::{open_flag_group, put_inline_flags, settle};
 use crate::group_text::{close, look_opening, open};
 use crate::leaf::{put_leaf, put_verb_text};
 use crate::names::GroupNames;
@@ -66,15 +66,16 @@ fn put_tree(
     precedence: Precedence,
     context: &mut Context,
 ) -> Result<(), AllocError>
-    ensures { (m : GroupInfo) → AreGroupNames names.now m → OnOk result (Writes out.old out.new context.old context.new
-        (λ o. needs_listed o (view tree.now)) (spec.written m (view tree.now) precedence)
-        (spec.after (view tree.now) precedence)) }
+    ensures { (m : GroupInfo) → AreGroupNames names.now m → OnOk result
+        (WritesTree out.old out.new context.old context.new m (view tree.now) precedence) }
 {
-    let needs = context.next_node();
     match tree {
-        Expr::Empty => put_empty(out, precedence),
-        Expr::Concat(pieces) => put_concat(out, names, pieces, precedence, needs, context),
-        Expr::Alt(branches) => put_alt(out, names, branches, precedence, needs, context),
+        Expr::Empty => {
+            context.pass_node();
+            put_empty(out, precedence)
+        }
+        Expr::Concat(pieces) => put_concat(out, names, pieces, precedence, context),
+        Expr::Alt(branches) => put_alt(out, names, branches, precedence, context),
         Expr::Any { .. }
         | Expr::Assertion(_)
         | Expr::GeneralNewline { .. }
@@ -96,7 +97,7 @@ fn put_tree(
         | Expr::Absent(_)
         | Expr::DefineGroup { .. }
         | Expr::AstNode(..) => {
-            put_inline_flags(out, needs, context)?;
+            settle(out, context)?;
             put_settled(out, names, tree, precedence, context)
         }
     }
@@ -159,21 +160,17 @@ fn put_concat(
     names: &GroupNames,
     pieces: &[Expr],
     precedence: Precedence,
-    needs: Needs,
     context: &mut Context,
 ) -> Result<(), AllocError>
-    ensures { (m : GroupInfo) → AreGroupNames names.now m →
-        needs ≡ needs_all first context.old.flags.oniguruma_mode (trees_of (views pieces.now)) →
-        OnOk result (Writes out.old out.new context.old context.new (λ o. all_listed o (trees_of (views pieces.now)))
-        (spec.in_flag_group_unless (spec.takes_pieces precedence) (concat (trees_of (views pieces.now)))
-        (spec.written_all m false (trees_of (views pieces.now))))
-        (spec.after (concat (trees_of (views pieces.now))) precedence)) }
+    ensures { (m : GroupInfo) → AreGroupNames names.now m → OnOk result
+        (WritesTree out.old out.new context.old context.new m (concat (trees_of (views pieces.now))) precedence) }
 {
     if takes_pieces(precedence) {
+        context.pass_node();
         return put_pieces(out, names, pieces, context);
     }
     let outside = *context;
-    open_flag_group(out, needs, context)?;
+    open_flag_group(out, context)?;
     put_pieces(out, names, pieces, context)?;
     close(out, &outside, context)
 }
@@ -229,21 +226,17 @@ fn put_alt(
     names: &GroupNames,
     branches: &[Expr],
     precedence: Precedence,
-    needs: Needs,
     context: &mut Context,
 ) -> Result<(), AllocError>
-    ensures { (m : GroupInfo) → AreGroupNames names.now m →
-        needs ≡ needs_all first context.old.flags.oniguruma_mode (trees_of (views branches.now)) →
-        OnOk result (Writes out.old out.new context.old context.new (λ o. all_listed o (trees_of (views branches.now)))
-        (spec.in_flag_group_unless (spec.takes_branches precedence) (alt (trees_of (views branches.now)))
-        (spec.written_branches m (trees_of (views branches.now))))
-        (spec.after (alt (trees_of (views branches.now))) precedence)) }
+    ensures { (m : GroupInfo) → AreGroupNames names.now m → OnOk result
+        (WritesTree out.old out.new context.old context.new m (alt (trees_of (views branches.now))) precedence) }
 {
     if takes_branches(precedence) {
+        context.pass_node();
         return put_branches(out, names, branches, context);
     }
     let outside = *context;
-    open_flag_group(out, needs, context)?;
+    open_flag_group(out, context)?;
     put_branches(out, names, branches, context)?;
     close(out, &outside, context)
 }

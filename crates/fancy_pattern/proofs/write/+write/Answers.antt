@@ -10,14 +10,14 @@ use Rattle.fancy_grammar.specs.Tree.{group, look_around, repeat, atomic_group, d
 use Rattle.fancy_grammar.specs.Tree.{conditional, concat, alt, empty, backref_exists, verb, is_leaf, trees_of}
 use Rattle.fancy_grammar.specs.declared.precedence.Precedence.TheVariants.{Whole}
 use Rattle.fancy_pattern.specs.TextOutput.{Added}
-use Rattle.fancy_pattern.specs.Writers.{Writes, WritesSettled, takes_inline_flags}
+use Rattle.fancy_pattern.specs.Writers.{Writes, WritesTree, WritesSettled, takes_inline_flags}
 use Rattle.fancy_syntax.specs.View.{view, views}
 use Rattle.fancy_syntax.specs.declared.expr.Absent as absent_type
 use Rattle.fancy_syntax.specs.declared.expr.Expr.{the_lemmas}
 use Rattle.fancy_syntax.proofs.PrintLemmas.{left, left_step, left_end}
 use Rattle.fancy_pattern.proofs.OutputLemmas.{added_as}
-use Rattle.fancy_pattern.proofs.WritesLemmas.{on_then, on_when, parens_writes, changed_writes, past_writes, text_writes}
-use Rattle.fancy_pattern.proofs.SettledLemmas.{leaf_writes, settled_writes, node_writes, empty_writes, flag_group_writes}
+use Rattle.fancy_pattern.proofs.WritesLemmas.{on_then, parens_writes, changed_writes, past_writes}
+use Rattle.fancy_pattern.proofs.SettledLemmas.{leaf_writes, settled_writes, empty_writes, flag_group_writes}
 use Rattle.fancy_pattern.proofs.RowLemmas.{pieces_left, all_branches, barred_left, on_starts, on_as, on_piece}
 use Rattle.fancy_pattern.proofs.RowLemmas.{pieces_end, on_first, on_branch, branches_end, no_branches, first_branch}
 use Rattle.fancy_pattern.proofs.NodeLemmas.{look_writes, last_writes, group_writes}
@@ -260,34 +260,32 @@ put_branches-returns t c = λ m names.
     (on_as _ _ _ _ _ _ _ (ap (barred_left m) none) (c.loop-branch.invariant m names))
 
 pub put_concat-returns-then-takes_pieces : goal.put_concat-returns-then-takes_pieces
-put_concat-returns-then-takes_pieces t c = λ m names e. on_then _ _ _ (c.put_pieces.ensures m names)
-    (λ w. pieces_writes _ _ _ _ m (trees_of (views c.args.pieces.now)) c.args.precedence
-    (sym c.takes_pieces.ensures ∙ c.if-takes_pieces.true) w)
+put_concat-returns-then-takes_pieces t c = λ m names. on_then _ _ _ (c.put_pieces.ensures m names)
+    (λ w. pieces_writes _ _ _ _ _ m (trees_of (views c.args.pieces.now)) c.args.precedence
+    (sym c.takes_pieces.ensures ∙ c.if-takes_pieces.true) c.pass_node.ensures w)
 
 pub put_concat-returns : goal.put_concat-returns
-put_concat-returns t c = λ m names e.
+put_concat-returns t c = λ m names.
     let ts = trees_of (views c.args.pieces.now) in
     on_then _ _ _ c.close.ensures
     (λ closed. concat_in_flag_group _ _ _ _ m ts c.args.precedence
     (sym c.takes_pieces.ensures ∙ c.if-takes_pieces.false)
-    (flag_group_writes _ _ _ _ _ _ _ _ c.args.needs (concat ts) (written_all m false ts) _ e
-    c.in_ok-open_flag_group.ensures.0
-    c.in_ok-open_flag_group.ensures.1 (c.in_ok-put_pieces.ensures m names) closed.0 closed.1))
+    (flag_group_writes _ _ _ _ _ _ _ _ label.concat ts (written_all m false ts) _ c.in_ok-open_flag_group.ensures
+    (c.in_ok-put_pieces.ensures m names) closed.0 closed.1))
 
 pub put_alt-returns-then-takes_branches : goal.put_alt-returns-then-takes_branches
-put_alt-returns-then-takes_branches t c = λ m names e. on_then _ _ _ (c.put_branches.ensures m names)
-    (λ w. branches_writes _ _ _ _ m (trees_of (views c.args.branches.now)) c.args.precedence
-    (sym c.takes_branches.ensures ∙ c.if-takes_branches.true) w)
+put_alt-returns-then-takes_branches t c = λ m names. on_then _ _ _ (c.put_branches.ensures m names)
+    (λ w. branches_writes _ _ _ _ _ m (trees_of (views c.args.branches.now)) c.args.precedence
+    (sym c.takes_branches.ensures ∙ c.if-takes_branches.true) c.pass_node.ensures w)
 
 pub put_alt-returns : goal.put_alt-returns
-put_alt-returns t c = λ m names e.
+put_alt-returns t c = λ m names.
     let ts = trees_of (views c.args.branches.now) in
     on_then _ _ _ c.close.ensures
     (λ closed. alt_in_flag_group _ _ _ _ m ts c.args.precedence
     (sym c.takes_branches.ensures ∙ c.if-takes_branches.false)
-    (flag_group_writes _ _ _ _ _ _ _ _ c.args.needs (alt ts) (written_branches m ts) _ e
-    c.in_ok-open_flag_group.ensures.0
-    c.in_ok-open_flag_group.ensures.1 (c.in_ok-put_branches.ensures m names) closed.0 closed.1))
+    (flag_group_writes _ _ _ _ _ _ _ _ label.alt ts (written_branches m ts) _ c.in_ok-open_flag_group.ensures
+    (c.in_ok-put_branches.ensures m names) closed.0 closed.1))
 
 -- ---- any tree
 
@@ -375,41 +373,25 @@ pub put_tree-returns-in-Empty : goal.put_tree-returns-in-Empty
 put_tree-returns-in-Empty t c = λ m names.
     let is : view c.args.tree.now ≡ empty = search (rules, the_lemmas) in
     on_then _ _ _ c.put_empty.ensures
-    (λ w. subst (λ x. Writes c.args.out.now c.put_empty.new.out c.args.context.now
-    c.next_node-needs.new.self
-    (λ o. needs_listed o x) (written m x c.args.precedence) (after x c.args.precedence)) (sym is)
-    (node_writes _ _ _ _ _ c.next_node-needs.result m empty c.args.precedence
-    c.next_node-needs.ensures
-    (λ e. empty_writes _ _ _ _ m c.args.precedence (text_writes _ _ _ _ w))))
+    (λ w. subst (λ x. WritesTree c.args.out.now c.put_empty.new.out c.args.context.now c.pass_node.new.self m x
+    c.args.precedence) (sym is) (empty_writes _ _ _ _ m c.args.precedence c.pass_node.ensures w))
 
 pub put_tree-returns-in-Concat : goal.put_tree-returns-in-Concat
 put_tree-returns-in-Concat t c = λ m names.
-    let ts = trees_of (views c.deref.result.now) in
-    let is : view c.args.tree.now ≡ concat ts = search (rules, the_lemmas) in
-    on_then _ _ _ (on_when _ _ (c.put_concat.ensures m names))
-    (λ w. subst (λ x. Writes c.args.out.now c.put_concat.new.out c.args.context.now
-    c.put_concat.new.context (λ o. needs_listed o x)
-    (written m x c.args.precedence) (after x c.args.precedence)) (sym is)
-    (node_writes _ _ _ _ _ c.next_node-needs.result m (concat ts) c.args.precedence
-    c.next_node-needs.ensures w))
+    let is : view c.args.tree.now ≡ concat (trees_of (views c.deref.result.now)) = search (rules, the_lemmas) in
+    on_then _ _ _ (c.put_concat.ensures m names)
+    (λ w. subst (λ x. WritesTree c.args.out.now c.put_concat.new.out c.args.context.now c.put_concat.new.context m x
+    c.args.precedence) (sym is) w)
 
 pub put_tree-returns-in-Alt : goal.put_tree-returns-in-Alt
 put_tree-returns-in-Alt t c = λ m names.
-    let ts = trees_of (views c.deref-in-Alt.result.now) in
-    let is : view c.args.tree.now ≡ alt ts = search (rules, the_lemmas) in
-    on_then _ _ _ (on_when _ _ (c.put_alt.ensures m names))
-    (λ w. subst (λ x. Writes c.args.out.now c.put_alt.new.out c.args.context.now
-    c.put_alt.new.context (λ o. needs_listed o x)
-    (written m x c.args.precedence) (after x c.args.precedence)) (sym is)
-    (node_writes _ _ _ _ _ c.next_node-needs.result m (alt ts) c.args.precedence
-    c.next_node-needs.ensures w))
+    let is : view c.args.tree.now ≡ alt (trees_of (views c.deref-in-Alt.result.now)) = search (rules, the_lemmas) in
+    on_then _ _ _ (c.put_alt.ensures m names)
+    (λ w. subst (λ x. WritesTree c.args.out.now c.put_alt.new.out c.args.context.now c.put_alt.new.context m x
+    c.args.precedence) (sym is) w)
 
-pub put_tree-returns-in_ok-put_inline_flags-in-Any : goal.put_tree-returns-in_ok-put_inline_flags-in-Any
-put_tree-returns-in_ok-put_inline_flags-in-Any t c = λ m names.
+pub put_tree-returns-in_ok-settle-in-Any : goal.put_tree-returns-in_ok-settle-in-Any
+put_tree-returns-in_ok-settle-in-Any t c = λ m names.
     let takes : takes_inline_flags (view c.args.tree.now) ≡ true = search (rules, the_lemmas) in
     on_then _ _ _ (c.put_settled.ensures m names)
-    (λ w. node_writes _ _ _ _ _ c.next_node-needs.result m (view c.args.tree.now) c.args.precedence
-    c.next_node-needs.ensures
-    (λ e. settled_writes _ _ _ _ _ _ c.next_node-needs.result m (view c.args.tree.now)
-    c.args.precedence takes e
-    c.in_ok-put_inline_flags-in-Any.ensures.0 c.in_ok-put_inline_flags-in-Any.ensures.1 w))
+    (λ w. settled_writes _ _ _ _ _ _ m (view c.args.tree.now) c.args.precedence takes c.in_ok-settle-in-Any.ensures w)
