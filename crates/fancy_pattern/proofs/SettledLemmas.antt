@@ -1,6 +1,7 @@
 -- Writers of trees, before which flags are set.
 use Rattle.std.proofs.Common.{◌≡◌, ◌+◌, Bool, true, false, not, ◌&&◌, List, [], ◌∷◌, ◌++◌, subst, append_assoc}
 use Rattle.std.proofs.Common.{append-nil, sym, refl, ap, ◌∙◌, codes, if◌then◌else◌, arith}
+use Rattle.std.specs.List.{flat_map}
 use Rattle.fancy_lex.specs.Text.{Text}
 use Rattle.fancy_lex.specs.declared.flags.Flags.{Flags}
 use Rattle.fancy_grammar.specs.Label as label
@@ -8,10 +9,11 @@ use Rattle.fancy_grammar.specs.GroupInfo.{GroupInfo}
 use Rattle.fancy_grammar.specs.Pattern.{Context, under, past_groups, takes_pieces, is_operand, after_inline_flags}
 use Rattle.fancy_grammar.specs.Pattern.{in_flag_group_unless, as_atom, in_parens, deeper, written}
 use Rattle.fancy_grammar.specs.Pattern.{group_count, flags_after, after, pattern_text}
+use Rattle.fancy_grammar.specs.PatternLetters.{character}
 use Rattle.fancy_grammar.specs.PatternNeeds.{no_needs, first, both, needs, with_needs, settled, agreed, inline_flags}
 use Rattle.fancy_grammar.specs.PatternNeeds.{turns_on, letters_between}
 use Rattle.fancy_grammar.specs.PatternWalk.{needs_listed, all_listed}
-use Rattle.fancy_grammar.specs.Tree.{Tree, leaf, over, row, Trees, empty, is_leaf}
+use Rattle.fancy_grammar.specs.Tree.{Tree, leaf, over, row, Trees, empty, literal, is_leaf}
 use Rattle.fancy_grammar.specs.declared.needs.Needs.{Needs}
 use Rattle.fancy_grammar.specs.declared.precedence.Precedence.{Precedence}
 use Rattle.fancy_grammar.specs.declared.precedence.Precedence.TheVariants.{Whole}
@@ -24,6 +26,7 @@ use Rattle.fancy_pattern.specs.declared.context.Context as code
 use Rattle.fancy_pattern.specs.declared.output.TextOutput.{TextOutput}
 use Rattle.fancy_pattern.proofs.OutputLemmas.{added_as, then_added}
 use Rattle.fancy_pattern.proofs.WritesLemmas.{KeepsMode, writes_as, then_writes, past_writes, text_writes}
+use Rattle.fancy_pattern.proofs.WritesLemmas.{positioned_writes}
 
 pub keeps_after : (t : Tree) (p : Precedence) → KeepsMode (after t p)
 keeps_after t p h = mode_after t p h.flags.oniguruma_mode h.flags refl
@@ -169,6 +172,16 @@ settled_writes a b c i j k m t p takes sets w =
     writes_as a c i k _ _ _ _ _ _
     (then_writes a b c i j k _ _ _ _ _ _ (λ h. refl) (sets (λ o. needs first o t)) w.writes)
     (λ o. sym (listed_node o t)) (λ h. sym (w.is h)) (λ h. settled_end t p h takes)
+
+-- a Literal is never in a group
+pub literal_writes : (a b c : TextOutput) (i j : code.Context) (m : GroupInfo) (s : Text) (casei : Bool) (p : Precedence) →
+    WritesFlags a b i j inline_flags (λ h. h) → Added b c (flat_map (character j.flags casei) s) →
+    WritesTree a c i j m (literal s casei) p
+literal_writes a b c i j m s casei p sets w =
+    settled_writes a b c i j j m (literal s casei) p refl sets
+    (leaf_writes b c j j m (literal s casei) p refl refl
+    (positioned_writes b c j _ (λ h l is. added_as b c _ _ w (ap (λ f. flat_map (character f casei) s) is.flags
+    ∙ sym (no_atom (is_operand p) (leaf_text_of m (literal s casei)) h)))))
 
 pub empty_writes : (a b : TextOutput) (i j : code.Context) (m : GroupInfo) (p : Precedence) → Passes i j →
     Added a b (if takes_pieces p then [] else codes "()") → WritesTree a b i j m empty p

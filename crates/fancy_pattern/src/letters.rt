@@ -157,6 +157,7 @@ fn is_itself(c: char, casei: bool, flags: Flags) -> bool
 }
 
 /// Writes a character of a Literal.
+#[inline(always)]
 #[tactic(auto, using(crate::proofs::OutputLemmas::added_steps))]
 fn put_character(out: &mut TextOutput, c: char, casei: bool, flags: Flags) -> Result<(), AllocError>
     ensures { OnOk result (Added out.old out.new (spec.character flags casei c)) }
@@ -164,6 +165,16 @@ fn put_character(out: &mut TextOutput, c: char, casei: bool, flags: Flags) -> Re
     if is_itself(c, casei, flags) {
         return out.put(c);
     }
+    put_special(out, c, casei, flags)
+}
+
+/// Writes a character of a Literal, whatever it is. It is a function of its own: inlined, it would cost each letter
+/// registers.
+#[inline(never)]
+#[tactic(auto, using(crate::proofs::OutputLemmas::added_steps))]
+fn put_special(out: &mut TextOutput, c: char, casei: bool, flags: Flags) -> Result<(), AllocError>
+    ensures { OnOk result (Added out.old out.new (spec.character flags casei c)) }
+{
     if casei {
         put_caseless(out, c, flags)
     } else {
@@ -172,6 +183,7 @@ fn put_character(out: &mut TextOutput, c: char, casei: bool, flags: Flags) -> Re
 }
 
 /// Writes a Literal.
+#[inline(always)]
 pub(crate) fn put_literal(
     out: &mut TextOutput,
     val: &str,

@@ -1,4 +1,4 @@
-use Rattle.std.proofs.Common.{◌≡◌, ◌+◌, true, false, [], codes, sym, ap, ◌∙◌, subst, refl, rules, if◌then◌else◌}
+use Rattle.std.proofs.Common.{◌≡◌, ◌+◌, true, false, [], chars, codes, sym, ap, ◌∙◌, subst, refl, rules, if◌then◌else◌}
 use Rattle.fancy_grammar.specs.Label as label
 use Rattle.fancy_grammar.specs.Pattern.{written, written_all, written_branches, condition_text, after, verb_text}
 use Rattle.fancy_grammar.specs.Pattern.{in_parens, past_groups, group_count, look_opening, repeated}
@@ -7,7 +7,7 @@ use Rattle.fancy_grammar.specs.PatternQuantifier.{quantifier_text}
 use Rattle.fancy_grammar.specs.PatternReference.{target_text}
 use Rattle.fancy_grammar.specs.PatternWalk.{needs_listed}
 use Rattle.fancy_grammar.specs.Tree.{group, look_around, repeat, atomic_group, define_group, repeater, stopper, expression}
-use Rattle.fancy_grammar.specs.Tree.{conditional, concat, alt, empty, backref_exists, verb, is_leaf, trees_of}
+use Rattle.fancy_grammar.specs.Tree.{conditional, concat, alt, empty, literal, backref_exists, verb, is_leaf, trees_of}
 use Rattle.fancy_grammar.specs.declared.precedence.Precedence.TheVariants.{Whole}
 use Rattle.fancy_pattern.specs.TextOutput.{Added}
 use Rattle.fancy_pattern.specs.Writers.{Writes, WritesTree, WritesSettled, takes_inline_flags}
@@ -17,7 +17,8 @@ use Rattle.fancy_syntax.specs.declared.expr.Expr.{the_lemmas}
 use Rattle.fancy_syntax.proofs.PrintLemmas.{left, left_step, left_end}
 use Rattle.fancy_pattern.proofs.OutputLemmas.{added_as}
 use Rattle.fancy_pattern.proofs.WritesLemmas.{on_then, parens_writes, changed_writes, past_writes}
-use Rattle.fancy_pattern.proofs.SettledLemmas.{leaf_writes, settled_writes, empty_writes, flag_group_writes}
+use Rattle.fancy_pattern.proofs.SettledLemmas.{leaf_writes, literal_writes, settled_writes, empty_writes}
+use Rattle.fancy_pattern.proofs.SettledLemmas.{flag_group_writes}
 use Rattle.fancy_pattern.proofs.RowLemmas.{pieces_left, all_branches, barred_left, on_starts, on_as, on_piece}
 use Rattle.fancy_pattern.proofs.RowLemmas.{pieces_end, on_first, on_branch, branches_end, no_branches, first_branch}
 use Rattle.fancy_pattern.proofs.NodeLemmas.{look_writes, last_writes, group_writes}
@@ -369,29 +370,38 @@ put_settled-returns-in-Any t c = λ m names.
     on_then _ _ _ (c.put_leaf_at.ensures m names)
     (λ w. leaf_writes _ _ _ _ m (view c.args.tree.now) c.args.precedence is c.requires w)
 
-pub put_tree-returns-in-Empty : goal.put_tree-returns-in-Empty
-put_tree-returns-in-Empty t c = λ m names.
+pub put_node-returns-in-Empty : goal.put_node-returns-in-Empty
+put_node-returns-in-Empty t c = λ m names.
     let is : view c.args.tree.now ≡ empty = search (rules, the_lemmas) in
     on_then _ _ _ c.put_empty.ensures
     (λ w. subst (λ x. WritesTree c.args.out.now c.put_empty.new.out c.args.context.now c.pass_node.new.self m x
     c.args.precedence) (sym is) (empty_writes _ _ _ _ m c.args.precedence c.pass_node.ensures w))
 
-pub put_tree-returns-in-Concat : goal.put_tree-returns-in-Concat
-put_tree-returns-in-Concat t c = λ m names.
+pub put_node-returns-in-Concat : goal.put_node-returns-in-Concat
+put_node-returns-in-Concat t c = λ m names.
     let is : view c.args.tree.now ≡ concat (trees_of (views c.deref.result.now)) = search (rules, the_lemmas) in
     on_then _ _ _ (c.put_concat.ensures m names)
     (λ w. subst (λ x. WritesTree c.args.out.now c.put_concat.new.out c.args.context.now c.put_concat.new.context m x
     c.args.precedence) (sym is) w)
 
-pub put_tree-returns-in-Alt : goal.put_tree-returns-in-Alt
-put_tree-returns-in-Alt t c = λ m names.
+pub put_node-returns-in-Alt : goal.put_node-returns-in-Alt
+put_node-returns-in-Alt t c = λ m names.
     let is : view c.args.tree.now ≡ alt (trees_of (views c.deref-in-Alt.result.now)) = search (rules, the_lemmas) in
     on_then _ _ _ (c.put_alt.ensures m names)
     (λ w. subst (λ x. WritesTree c.args.out.now c.put_alt.new.out c.args.context.now c.put_alt.new.context m x
     c.args.precedence) (sym is) w)
 
-pub put_tree-returns-in_ok-settle-in-Any : goal.put_tree-returns-in_ok-settle-in-Any
-put_tree-returns-in_ok-settle-in-Any t c = λ m names.
+pub put_node-returns-in_ok-settle-in-Any : goal.put_node-returns-in_ok-settle-in-Any
+put_node-returns-in_ok-settle-in-Any t c = λ m names.
     let takes : takes_inline_flags (view c.args.tree.now) ≡ true = search (rules, the_lemmas) in
     on_then _ _ _ (c.put_settled.ensures m names)
     (λ w. settled_writes _ _ _ _ _ _ m (view c.args.tree.now) c.args.precedence takes c.in_ok-settle-in-Any.ensures w)
+
+pub put_tree-returns-in-Literal : goal.put_tree-returns-in-Literal
+put_tree-returns-in-Literal t c = λ m names.
+    let is : view c.args.tree.now ≡ literal (chars c.as_str.result.now) c.in-Literal.casei = search
+    (rules, the_lemmas, c.as_str.ensures.value) in
+    on_then _ _ _ c.put_literal.ensures
+    (λ w. subst (λ x. WritesTree c.args.out.now c.put_literal.new.out c.args.context.now c.settle.new.context m x
+    c.args.precedence) (sym is)
+    (literal_writes _ _ _ _ _ m _ c.in-Literal.casei c.args.precedence c.in_ok-settle.ensures w))
