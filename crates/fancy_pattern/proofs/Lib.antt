@@ -1,6 +1,7 @@
 pub mod OutputLemmas
 mod LetterLemmas
 pub mod SeparatorLemmas
+pub mod KnownLemmas
 pub mod WritesLemmas
 pub mod SettledLemmas
 pub mod RowLemmas

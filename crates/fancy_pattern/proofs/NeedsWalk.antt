@@ -1,15 +1,23 @@
 -- What a tree needs of the flags, child by child.
-use Rattle.std.proofs.Common.{◌≡◌, Bool, List, [], ◌∷◌, ◌++◌, refl, ap, sym, ◌∙◌, append_assoc, append-nil, length}
+use Rattle.std.proofs.Common.{◌≡◌, ℕ, zero, suc, ◌<◌, ◌≤◌, Bool, true, false, if◌then◌else◌, List, [], ◌∷◌, ◌++◌, refl, ap}
+use Rattle.std.proofs.Common.{sym, ◌∙◌, subst, append_assoc, append-nil, length, drop, get_or, arith}
 use Rattle.std.proofs.Math.ListN.{set}
-use Rattle.std.specs.List.{flat_map}
+use Rattle.std.specs.List.{flat_map, list_all}
+use Rattle.fancy_lex.specs.Text.{Text}
+use Rattle.fancy_lex.specs.declared.flags.Flags.{Flags}
+use Rattle.fancy_grammar.specs.Label as label
 use Rattle.fancy_grammar.proofs.NeedsLemmas.{IsJoin, first_joins, both_joins, joined-after}
 use Rattle.fancy_grammar.proofs.NeedsLemmas.{needs_node, needs_next, table_node}
+use Rattle.fancy_grammar.specs.PatternNeeds.{no_needs, needs_case, is_kept_by_backslash, is_hex_class, with_needs}
 use Rattle.fancy_grammar.specs.PatternNeeds.{first, both, joined, needs, needs_all}
-use Rattle.fancy_grammar.specs.PatternWalk.{needs_alone, needs_listed}
-use Rattle.fancy_grammar.specs.Tree.{Tree, children, trees_of}
+use Rattle.fancy_grammar.specs.PatternWalk.{needs_alone, needs_listed, all_listed}
+use Rattle.fancy_grammar.specs.Tree.{Tree, leaf, over, row, Trees, literal, delegate, is_leaf, children, trees_of}
+use Rattle.fancy_grammar.specs.Tree.{levels, levels_all}
 use Rattle.fancy_grammar.specs.declared.needs.Need.{Need}
 use Rattle.fancy_grammar.specs.declared.needs.Need.TheVariants.{Free}
 use Rattle.fancy_grammar.specs.declared.needs.Needs.{Needs}
+use Rattle.fancy_pattern.specs.ContextViews.{AreMet}
+use Rattle.fancy_pattern.proofs.KnownLemmas.{met_both, met_front, met_tree, met_trees, keeps_first}
 use Rattle.fancy_syntax.specs.View.{view, views}
 use Rattle.fancy_syntax.specs.declared.expr.Expr.{Expr}
 
@@ -101,3 +109,68 @@ module _ (o : Bool) (t : Tree) (old : List Needs) where
       p ∙ ap (λ m. old ++ m ∷ []) e
       ∙ ap (λ ts. old ++ needs first o t ∷ flat_map (needs_listed o) ts) (sym none)
       ∙ ap (λ l. old ++ l) (sym (table_node o t))
+
+-- ---- flags as each leaf needs them
+
+module _ (f : Flags) (o : Bool) where
+  -- what needs only the case flag
+  case_met : (b casei : Bool) → casei ≡ f.casei →
+      with_needs f (if b then no_needs else needs_case casei) ≡ f
+  case_met true casei e = refl
+  case_met false casei e = λ i. record f { casei = e i }
+
+  pub literal_met : (s : Text) (casei : Bool) → casei ≡ f.casei → AreMet f (needs_listed o (literal s casei))
+  literal_met s true e = (case_met false true e, tt)
+  literal_met s false e = (case_met (list_all (is_kept_by_backslash o) s) false e, tt)
+
+  pub delegate_met : (s : Text) (casei : Bool) → casei ≡ f.casei → AreMet f (needs_listed o (delegate s casei))
+  delegate_met s true e = (case_met false true e, tt)
+  delegate_met s false e = (case_met (is_hex_class s) false e, tt)
+
+  pub leaf_met : (t : Tree) → is_leaf t ≡ true → with_needs f (needs_alone o t) ≡ f → AreMet f (needs_listed o t)
+  leaf_met (leaf l) e p = (p, tt)
+  leaf_met (over (label.ast_group name position) t) e p = (refl, tt)
+  leaf_met (over label.group t) e p = absurd cc
+  leaf_met (over (label.look_around l) t) e p = absurd cc
+  leaf_met (over (label.repeat lo hi greedy) t) e p = absurd cc
+  leaf_met (over label.atomic_group t) e p = absurd cc
+  leaf_met (over label.define_group t) e p = absurd cc
+  leaf_met (over label.repeater t) e p = absurd cc
+  leaf_met (over label.stopper t) e p = absurd cc
+  leaf_met (row r ts) e p = absurd cc
+
+  pub row_met : (r : label.Row) (ts : Trees) → AreMet f (all_listed o ts) → AreMet f (needs_listed o (row r ts))
+  row_met r ts p = (met_trees first keeps_first f o ts p, p)
+
+  -- a tree that has children
+  pub tree_met : (t : Tree) → is_leaf t ≡ false → AreMet f (flat_map (needs_listed o) (children t)) →
+      AreMet f (needs_listed o t)
+  tree_met (leaf l) e p = absurd cc
+  tree_met (over (label.ast_group name position) t) e p = absurd cc
+  tree_met (over w t) e p =
+      let inside = met_front f (needs_listed o t) [] p in (met_tree first keeps_first f o t inside, inside)
+  tree_met (row r ts) e p = row_met r ts (subst (AreMet f) (sym (ap (drop 1) (table_node o (row r ts)))) p)
+
+  -- with some children left, or some trees of a list
+  pub record MetSoFar (left all : List Needs) : Type 0 where
+    pub if_left : AreMet f left → AreMet f all
+
+  pub met_starts : (left all : List Needs) → left ≡ all → MetSoFar left all
+  met_starts left all e = record { if_left = λ p. subst (AreMet f) e p }
+
+  pub met_next : (left here more all : List Needs) → MetSoFar left all → left ≡ here ++ more → AreMet f here →
+      MetSoFar more all
+  met_next left here more all s e p =
+      record { if_left = λ q. s.if_left (subst (AreMet f) (sym e) (met_both f here more p q)) }
+
+  pub met_ends : (left all : List Needs) → MetSoFar left all → left ≡ [] → AreMet f all
+  met_ends left all s e = s.if_left (subst (AreMet f) (sym e) tt)
+
+-- a tree of a list is not deeper than the list
+pub levels_of_piece : (es : List Expr) (i : ℕ) (e : Expr) → i < length es → e ≡ get_or es i e →
+    levels (view e) ≤ levels_all (trees_of (views es))
+levels_of_piece [] i e h is = absurd (omega arith)
+levels_of_piece (x ∷ es) zero e h is =
+    let same : levels (view e) ≡ levels (view x) = ap (λ d. levels (view d)) is in
+    omega (arith, same)
+levels_of_piece (x ∷ es) (suc i) e h is = omega (arith, levels_of_piece es i e (omega arith) is)

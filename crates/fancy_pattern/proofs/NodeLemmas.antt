@@ -26,7 +26,7 @@ use Rattle.fancy_grammar.specs.declared.needs.Needs.{Needs}
 use Rattle.fancy_grammar.specs.declared.precedence.Precedence.{Precedence}
 use Rattle.fancy_grammar.specs.declared.precedence.Precedence.TheVariants.{Whole, Branch, Piece, Operand}
 use Rattle.fancy_pattern.specs.TextOutput.{Added, Changed, separated}
-use Rattle.fancy_pattern.specs.ContextViews.{IsContext}
+use Rattle.fancy_pattern.specs.ContextViews.{Known, IsContext}
 use Rattle.fancy_pattern.specs.Writers.{Writes, WritesTree, WritesSettled, WritesChoice, Moves, Passes, Leaves, needs_below}
 use Rattle.fancy_pattern.specs.declared.context.Context as code
 use Rattle.fancy_pattern.specs.declared.output.TextOutput.{TextOutput}
@@ -148,8 +148,8 @@ pub atom_writes : (a b : TextOutput) (i j : code.Context) (t : Tree) (p : Preced
     Writes a b i j l (λ h. if choice then in_parens [] text h else text h) n →
     Writes a b i j l (as_atom t p text) n
 atom_writes a b i j t p l text n choice e w = record {
-  writes = λ h r is.
-      let done = w.writes h r is in
+  writes = λ s h r is.
+      let done = w.writes s h r is in
       let same = e ∙ ap (λ f. is_operand p && not (is_repeatable f t)) is.flags in
       (added_as a b _ _ done.0 (ap (λ b. if b then in_parens [] text h else text h) same), done.1);
 }
@@ -178,11 +178,11 @@ pub group_writes : (a b c d e : TextOutput) (i j k o z : code.Context) (m : Grou
     (λ h. in_parens (group_opening m (h.opened + 1)) (written m t Whole) (past_groups 1 h))
     (past_groups (group_count t + 1))
 group_writes a b c d e i j k o z m t opens at next opening w closes out = record {
-  writes = λ h l is.
+  writes = λ s h l is.
       let l0 = needs_listed h.flags.oniguruma_mode t ++ l in
-      let inside = next (deeper h) l0 (at h l0 is) in
+      let inside = next s (deeper h) l0 (at s h l0 is) in
       let name = added_as b c _ _ opening (ap (group_opening m) inside.opened) in
-      let done = w.writes (past_groups 1 (deeper h)) l inside in
+      let done = w.writes s (past_groups 1 (deeper h)) l inside in
       let front = then_added a b c (codes "(" ++ []) (group_opening m (h.opened + 1)) opens name in
       let two = then_added a c d _ _ front done.0 in
       let all = then_added a d e _ _ two closes in
@@ -190,25 +190,25 @@ group_writes a b c d e i j k o z m t opens at next opening w closes out = record
         added_as a e _ _ all
             (append_assoc (codes "(" ++ group_opening m (h.opened + 1)) (written m t Whole (past_groups 1 (deeper h)))
             (codes ")")),
-        subst (λ n. IsContext z (record h { opened = n }) l) groups
-            (out h (after t Whole (past_groups 1 (deeper h))) l0 l is done.1),
+        subst (λ n. IsContext s z (record h { opened = n }) l) groups
+            (out s h (after t Whole (past_groups 1 (deeper h))) l0 l is done.1),
       );
 }
 
 pub quantified_writes : (a b c : TextOutput) (i j k : code.Context) (m : GroupInfo) (t : Tree) (p : Precedence)
     (possessive : Bool)
     (lo hi : ℕ) (greedy : Bool) (left : ℕ) →
-    ((h : Context) (l : List Needs) → IsContext i h l → left ≡ allowed p h) →
+    ((s : Known) (h : Context) (l : List Needs) → IsContext s i h l → left ≡ allowed p h) →
     WritesTree a b i j m t (Operand left) →
     Added b c (quantifier_text i.flags possessive (nat_lt 0 left && is_quantified i.flags t) lo hi greedy) →
     Leaves i j k →
     Writes a c i k (λ o. needs_listed o t) (repeated possessive t lo hi greedy (written m t) p)
     (past_groups (group_count t))
 quantified_writes a b c i j k m t p possessive lo hi greedy left enough w symbol out = record {
-  writes = λ h l is.
+  writes = λ s h l is.
       let l0 = needs_listed h.flags.oniguruma_mode t ++ l in
-      let done = w.writes h l is in
-      let same : left ≡ allowed p h = enough h l0 is in
+      let done = w.writes s h l is in
+      let same : left ≡ allowed p h = enough s h l0 is in
       let all = then_added a b c _ _ done.0 symbol in
       let quantifier_of : (f : Flags) → Text
       = λ f. quantifier_text f possessive (nat_lt 0 left && is_quantified f t) lo hi greedy in (
@@ -216,7 +216,7 @@ quantified_writes a b c i j k m t p possessive lo hi greedy left enough w symbol
             (ap (λ f. written m t (Operand left) h ++ quantifier_of f) is.flags
             ∙ ap (λ n. written m t (Operand n) h
             ++ quantifier_text h.flags possessive (nat_lt 0 n && is_quantified h.flags t) lo hi greedy) same),
-        out h (after t (Operand left) h) l0 l is done.1,
+        out s h (after t (Operand left) h) l0 l is done.1,
       );
 }
 
@@ -233,8 +233,8 @@ atomic_writes a b i j m t lo hi greedy p choice e w = record {
       else repeated true t lo hi greedy (written m t) p h;
   is = λ h. refl;
   writes = record {
-    writes = λ h l is.
-        let done = w.writes h l is in
+    writes = λ s h l is.
+        let done = w.writes s h l is in
         let same = e ∙ ap (λ f. is_last_operand p || not (is_possessive f lo hi)) is.flags in (
           added_as a b _ _ done.0
               (ap (λ b. if b then in_parens (codes "?>") (repeated false t lo hi greedy (written m t) Whole) h
@@ -282,9 +282,9 @@ pub word_writes : (a b : TextOutput) (i j : code.Context) (m : GroupInfo) (l : l
     Writes a b i j (λ o. needs_listed o (leaf l)) (λ h. condition_text m (leaf l) (written m (leaf l) Whole h))
     (after (leaf l) Whole)
 word_writes a b i j m l text e is p past = record {
-  writes = λ h r at. (
+  writes = λ s h r at. (
     added_as a b _ _ p (sym (is (written m (leaf l) Whole h))),
-    subst (λ g. IsContext j g r) (leaf_after l Whole h e) (past h _ r at),
+    subst (λ g. IsContext s j g r) (leaf_after l Whole h e) (past s h _ r at),
   );
 }
 

@@ -10,7 +10,7 @@ use Rattle.fancy_grammar.specs.Pattern.{Context, under, past_groups, takes_piece
 use Rattle.fancy_grammar.specs.Pattern.{in_flag_group_unless, as_atom, in_parens, deeper, written}
 use Rattle.fancy_grammar.specs.Pattern.{group_count, flags_after, after, pattern_text}
 use Rattle.fancy_grammar.specs.PatternLetters.{character}
-use Rattle.fancy_grammar.specs.PatternNeeds.{no_needs, first, both, needs, with_needs, settled, agreed, inline_flags}
+use Rattle.fancy_grammar.specs.PatternNeeds.{no_needs, first, needs, with_needs, settled, agreed, inline_flags}
 use Rattle.fancy_grammar.specs.PatternNeeds.{turns_on, letters_between}
 use Rattle.fancy_grammar.specs.PatternWalk.{needs_listed, all_listed}
 use Rattle.fancy_grammar.specs.Tree.{Tree, leaf, over, row, Trees, empty, literal, is_leaf}
@@ -19,12 +19,13 @@ use Rattle.fancy_grammar.specs.declared.precedence.Precedence.{Precedence}
 use Rattle.fancy_grammar.specs.declared.precedence.Precedence.TheVariants.{Whole}
 use Rattle.fancy_grammar.proofs.ContextLemmas.{mode_after}
 use Rattle.fancy_pattern.specs.TextOutput.{Added}
-use Rattle.fancy_pattern.specs.ContextViews.{IsContext, leaf_text_of}
-use Rattle.fancy_pattern.specs.Writers.{Writes, WritesTree, WritesSettled, WritesFlags, Moves, Passes, Leaves}
+use Rattle.fancy_pattern.specs.ContextViews.{Known, Allows, IsContext, leaf_text_of}
+use Rattle.fancy_pattern.specs.Writers.{Writes, WritesTree, WritesSettled, WritesFlags, Passes, Leaves, Sets}
 use Rattle.fancy_pattern.specs.Writers.{needs_below, takes_inline_flags}
 use Rattle.fancy_pattern.specs.declared.context.Context as code
 use Rattle.fancy_pattern.specs.declared.output.TextOutput.{TextOutput}
-use Rattle.fancy_pattern.proofs.OutputLemmas.{added_as, then_added}
+use Rattle.fancy_pattern.proofs.KnownLemmas.{allowed_next, allowed_whole}
+use Rattle.fancy_pattern.proofs.OutputLemmas.{added_nothing, added_as, then_added}
 use Rattle.fancy_pattern.proofs.WritesLemmas.{KeepsMode, writes_as, then_writes, past_writes, text_writes}
 use Rattle.fancy_pattern.proofs.WritesLemmas.{positioned_writes}
 
@@ -152,17 +153,36 @@ leaf_writes a b i j m t p e k w = record {
 
 -- the flags that a node needs are set
 pub flags_set : (a b : TextOutput) (i j k : code.Context) (d : Needs) (text : Flags → Flags → Text)
-    (next : Context → Context) → ((h : Context) (n : Needs) (l : List Needs) → IsContext i h (n ∷ l) →
-    (d ≡ n) × IsContext j h l) → Added a b (text j.flags (with_needs j.flags d)) →
-    Moves j k (λ h. next (under (with_needs h.flags d) h)) → WritesFlags a b i k text next
+    (next : Context → Context) → ((s : Known) (h : Context) (n : Needs) (l : List Needs) → IsContext s i h (n ∷ l) →
+    (with_needs h.flags d ≡ with_needs h.flags n) × IsContext s j h l) →
+    Added a b (text j.flags (with_needs j.flags d)) → Sets j k d next → WritesFlags a b i k text next
 flags_set a b i j k d text next passes sets at n = record {
-  writes = λ h l is.
-      let past = passes h (n h.flags.oniguruma_mode) l is in (
-        added_as a b _ _ sets
-            (ap (λ f. text f (with_needs f d)) past.1.flags ∙ ap (λ e. text h.flags (with_needs h.flags e)) past.0),
-        subst (λ e. IsContext k (next (under (with_needs h.flags e) h)) l) past.0 (at h l past.1),
+  writes = λ s h l is.
+      let e = n h.flags.oniguruma_mode in
+      let past = passes s h e l is in
+      let allowed = subst (Allows s) (sym past.0) (allowed_next s h.flags i.needs.now e l is.needs) in (
+        added_as a b _ _ sets (ap (λ f. text f (with_needs f d)) past.1.flags ∙ ap (text h.flags) past.0),
+        subst (λ f. IsContext s k (next (under f h)) l) past.0 (at s h l allowed past.1),
       );
 }
+
+-- they are set already
+pub flags_kept : (a : TextOutput) (i j : code.Context) → ((s : Known) (h : Context) (n : Needs) (l : List Needs) →
+    IsContext s i h (n ∷ l) → IsContext s j h l × (h.flags ≡ with_needs h.flags n)) →
+    WritesFlags a a i j inline_flags (λ h. h)
+flags_kept a i j passes n = record {
+  writes = λ s h l is.
+      let (past, same) = passes s h (n h.flags.oniguruma_mode) l is in (
+        added_as a a _ _ (added_nothing a) (sym (nothing_set h.flags) ∙ ap (inline_flags h.flags) same),
+        subst (λ f. IsContext s j (under f h) l) same past,
+      );
+}
+
+-- no flag has to be set
+pub sets_nothing : (i : code.Context) (n : Needs) → with_needs i.flags n ≡ i.flags → Sets i i n (λ h. h)
+sets_nothing i n met s h l allowed is =
+    let same : h.flags ≡ with_needs h.flags n = sym is.flags ∙ sym met ∙ ap (λ f. with_needs f n) is.flags in
+    subst (λ f. IsContext s i (under f h) l) same is
 
 -- the flags that the tree needs are set, and then what follows them is written
 pub settled_writes : (a b c : TextOutput) (i j k : code.Context) (m : GroupInfo) (t : Tree) (p : Precedence) →
@@ -180,7 +200,7 @@ pub literal_writes : (a b c : TextOutput) (i j : code.Context) (m : GroupInfo) (
 literal_writes a b c i j m s casei p sets w =
     settled_writes a b c i j j m (literal s casei) p refl sets
     (leaf_writes b c j j m (literal s casei) p refl refl
-    (positioned_writes b c j _ (λ h l is. added_as b c _ _ w (ap (λ f. flat_map (character f casei) s) is.flags
+    (positioned_writes b c j _ (λ k h l is. added_as b c _ _ w (ap (λ f. flat_map (character f casei) s) is.flags
     ∙ sym (no_atom (is_operand p) (leaf_text_of m (literal s casei)) h)))))
 
 pub empty_writes : (a b : TextOutput) (i j : code.Context) (m : GroupInfo) (p : Precedence) → Passes i j →
@@ -198,36 +218,36 @@ pub flag_group_writes : (a b c d : TextOutput) (i j k e : code.Context) (r : lab
     Writes a d i e (λ o. needs_listed o (row r ts)) (in_flag_group_unless false (row r ts) text)
     (λ h. record h { opened = (next (deeper (under (settled h.flags (row r ts)) h))).opened })
 flag_group_writes a b c d i j k e r ts text next opens w closes out = record {
-  writes = λ h l is.
+  writes = λ s h l is.
       let o = h.flags.oniguruma_mode in
       let g = settled h.flags (row r ts) in
       let inside = deeper (under g h) in
       let opening = codes "?" ++ (letters_between h.flags g ++ codes ":") in
-      let one = (opens (λ o. needs first o (row r ts))).writes h (all_listed o ts ++ l) is in
-      let two = w.writes inside l one.1 in
+      let one = (opens (λ o. needs first o (row r ts))).writes s h (all_listed o ts ++ l) is in
+      let two = w.writes s inside l one.1 in
       let all = then_added a c d ((codes "(" ++ opening) ++ text inside) (codes ")")
       (then_added a b c (codes "(" ++ opening) (text inside) one.0 two.0) closes in (
         added_as a d _ _ all
             (append_assoc (codes "(" ++ opening) (text inside) (codes ")")
             ∙ append_assoc (codes "(") opening (text inside ++ codes ")")),
-        out h (next inside) (needs_listed o (row r ts) ++ l) l is two.1,
+        out s h (next inside) (needs_listed o (row r ts) ++ l) l is two.1,
       );
 }
 
 -- ---- the whole
 
-pub pattern_writes : (a b c : TextOutput) (i j k : code.Context) (n : Needs) (m : GroupInfo) (t : Tree) (f : Flags) →
-    n ≡ needs both f.oniguruma_mode t →
-    IsContext i (record { flags = f; opened = 0; depth = 0 }) (needs_listed f.oniguruma_mode t) →
-    Added a b (inline_flags i.flags (with_needs i.flags n)) → Moves i j (λ h. under (with_needs h.flags n) h) →
+pub pattern_writes : (a b c : TextOutput) (i j k : code.Context) (n : Needs) (m : GroupInfo) (t : Tree) (f : Flags)
+    (s : Known) → with_needs f n ≡ agreed f t →
+    IsContext s i (record { flags = f; opened = 0; depth = 0 }) (needs_listed f.oniguruma_mode t) →
+    Added a b (inline_flags i.flags (with_needs i.flags n)) → Sets i j n (λ h. h) →
     WritesTree b c j k m t Whole → Added a c (pattern_text f t m)
 unfolding pattern_text
-pattern_writes a b c i j k n m t f e is sets at w =
+pattern_writes a b c i j k n m t f s e is sets at w =
     let start : Context = record { flags = f; opened = 0; depth = 0 } in
-    let needed : with_needs f n ≡ agreed f t = ap (with_needs f) e in
+    let nodes = needs_listed f.oniguruma_mode t in
     let set : inline_flags i.flags (with_needs i.flags n) ≡ inline_flags f (agreed f t) =
-    ap (λ g. inline_flags g (with_needs g n)) is.flags ∙ ap (inline_flags f) needed in
-    let context = subst (λ g. IsContext j (under g start) (needs_listed f.oniguruma_mode t ++ [])) needed
-    (at start (needs_listed f.oniguruma_mode t ++ [])
-    (subst (IsContext i start) (sym (append-nil (needs_listed f.oniguruma_mode t))) is)) in
-    then_added a b c _ _ (added_as a b _ _ sets set) (w.writes (under (agreed f t) start) [] context).0
+    ap (λ g. inline_flags g (with_needs g n)) is.flags ∙ ap (inline_flags f) e in
+    let allowed = subst (Allows s) (sym e) (allowed_whole s f i.needs.now t is.needs) in
+    let context = subst (λ g. IsContext s j (under g start) (nodes ++ [])) e
+    (at s start (nodes ++ []) allowed (subst (IsContext s i start) (sym (append-nil nodes)) is)) in
+    then_added a b c _ _ (added_as a b _ _ sets set) (w.writes s (under (agreed f t) start) [] context).0

@@ -1,13 +1,16 @@
 -- How the context of a writer of texts, and what it knows besides the tree, correspond to the definition.
-use Rattle.std.specs.Prelude.{◌≡◌, ℕ, ◌-◌, ◌==◌, List, [], chars, find, Option, Some, None, ⊤}
+use Rattle.std.specs.Prelude.{◌≡◌, ℕ, ◌-◌, ◌==◌, List, [], ◌∷◌, chars, find, Option, Some, None, ⊤}
 use Rattle.std.specs.BTreeMap.{BTreeMap, get}
 use Rattle.std.specs.List.{list_any}
 use Rattle.std.specs.Ordering.{nat_cmp}
 use Rattle.fancy_lex.specs.Text.{Text}
+use Rattle.fancy_lex.specs.declared.flags.Flags.{Flags}
 use Rattle.fancy_grammar.specs.Depth.{max_depth}
 use Rattle.fancy_grammar.specs.GroupInfo.{GroupInfo}
 use Rattle.fancy_grammar.specs.Pattern.{Context, leaf_text}
+use Rattle.fancy_grammar.specs.PatternNeeds.{with_needs, agreed}
 use Rattle.fancy_grammar.specs.PatternReference.{Named, is_plain_name, is_last, is_only}
+use Rattle.fancy_grammar.specs.PatternWalk.{needs_listed}
 use Rattle.fancy_grammar.specs.Tree.{Tree, leaf}
 use Rattle.fancy_grammar.specs.declared.needs.Needs.{Needs}
 use Rattle.fancy_pattern.specs.declared.context.Context as code
@@ -16,12 +19,39 @@ use Rattle.fancy_pattern.specs.declared.names.GroupName as name
 
 -- ---- the context of a text
 
+-- the flags are as each node needs them
+abbrev pub AreMet : Flags → List Needs → Type 0
+AreMet f [] = ⊤
+AreMet f (n ∷ l) = (with_needs f n ≡ f) × AreMet f l
+
+-- what is known of the nodes to come: what each needs is listed, or nothing is, since these flags are as each needs them
+-- and never change
+pub data Known : Type 0 where
+  listed : Known
+  met : Flags → Known
+
+-- the list is for nodes with the needs l, where the flags f hold
+abbrev pub IsListFor : Known → Flags → List Needs → List Needs → Type 0
+IsListFor listed f list l = list ≡ l
+IsListFor (met e) f list l = (list ≡ []) × ((f ≡ e) × AreMet e l)
+
+-- the flags may be set to f
+abbrev pub Allows : Known → Flags → Type 0
+Allows listed f = ⊤
+Allows (met e) f = f ≡ e
+
 -- the same context, before nodes with these needs
-pub record IsContext (i : code.Context) (h : Context) (l : List Needs) : Type 0 where
+pub record IsContext (k : Known) (i : code.Context) (h : Context) (l : List Needs) : Type 0 where
   pub flags : i.flags ≡ h.flags
   pub opened : i.opened ≡ h.opened
   pub left : i.left ≡ max_depth - h.depth
-  pub needs : i.needs.now ≡ l
+  pub needs : IsListFor k h.flags i.needs.now l
+
+-- what is known of a whole tree before it is written: the list for its nodes, and what all its leaves need together
+pub record KnowsNeeds (f : Flags) (t : Tree) (list : List Needs) (common : Needs) : Type 0 where
+  pub known : Known
+  pub nodes : IsListFor known f list (needs_listed f.oniguruma_mode t)
+  pub leaves : with_needs f common ≡ agreed f t
 
 -- ---- names
 

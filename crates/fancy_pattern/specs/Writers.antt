@@ -12,7 +12,7 @@ use Rattle.fancy_grammar.specs.declared.needs.Needs.{Needs}
 use Rattle.fancy_grammar.specs.declared.precedence.Precedence.{Precedence}
 use Rattle.fancy_grammar.specs.declared.precedence.Precedence.TheVariants.{Whole, Branch}
 use Rattle.fancy_pattern.specs.TextOutput.{Added}
-use Rattle.fancy_pattern.specs.ContextViews.{IsContext}
+use Rattle.fancy_pattern.specs.ContextViews.{Known, Allows, IsContext}
 use Rattle.fancy_pattern.specs.declared.context.Context as code
 use Rattle.fancy_pattern.specs.declared.output.TextOutput.{TextOutput}
 
@@ -20,17 +20,22 @@ use Rattle.fancy_pattern.specs.declared.output.TextOutput.{TextOutput}
 
 -- as `next` says, before the same nodes
 abbrev pub Moves : code.Context → code.Context → (Context → Context) → Type 0
-Moves from to next = (h : Context) (l : List Needs) → IsContext from h l → IsContext to (next h) l
+Moves from to next = (k : Known) (h : Context) (l : List Needs) → IsContext k from h l → IsContext k to (next h) l
 
 -- past a node
 abbrev pub Passes : code.Context → code.Context → Type 0
-Passes from to = (h : Context) (n : Needs) (l : List Needs) → IsContext from h (n ∷ l) → IsContext to h l
+Passes from to = (k : Known) (h : Context) (n : Needs) (l : List Needs) → IsContext k from h (n ∷ l) → IsContext k to h l
 
 -- out of a group that is at `outside`
 abbrev pub Leaves : code.Context → code.Context → code.Context → Type 0
 Leaves outside from to =
-    (h e : Context) (k l : List Needs) → IsContext outside h k → IsContext from e l →
-    IsContext to (record h { opened = e.opened }) l
+    (k : Known) (h e : Context) (x l : List Needs) → IsContext k outside h x → IsContext k from e l →
+    IsContext k to (record h { opened = e.opened }) l
+
+-- with the flags set to what is needed, if they may be set so, and then as `next` says
+abbrev pub Sets : code.Context → code.Context → Needs → (Context → Context) → Type 0
+Sets from to n next = (k : Known) (h : Context) (l : List Needs) → Allows k (with_needs h.flags n) →
+    IsContext k from h l → IsContext k to (next (under (with_needs h.flags n) h)) l
 
 -- ---- writers
 
@@ -38,8 +43,8 @@ Leaves outside from to =
 -- context of what follows
 pub record Writes (old new : TextOutput) (from to : code.Context) (needs : Bool → List Needs)
     (text : Context → Text) (next : Context → Context) : Type 0 where
-  pub writes : (h : Context) (l : List Needs) → IsContext from h (needs h.flags.oniguruma_mode ++ l) →
-      Added old new (text h) × IsContext to (next h) l
+  pub writes : (k : Known) (h : Context) (l : List Needs) → IsContext k from h (needs h.flags.oniguruma_mode ++ l) →
+      Added old new (text h) × IsContext k to (next h) l
 
 -- a writer wrote the tree at this precedence, and passed its nodes
 abbrev pub WritesTree : TextOutput → TextOutput → code.Context → code.Context → GroupInfo → Tree → Precedence → Type 0

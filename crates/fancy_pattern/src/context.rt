@@ -1,11 +1,11 @@
 //! The context in which a text is written.
-ghost use Rattle.std.specs.Prelude.{◌≡◌, ◌∷◌, List, OnOk};
+ghost use Rattle.std.specs.Prelude.{◌≡◌, ◌∷◌, List, OnOk, IfSome, IfNone};
 ghost use Rattle.fancy_lex.specs.declared.flags.Flags.{Flags};
 ghost use Rattle.fancy_grammar.specs.Pattern as spec;
 ghost use Rattle.fancy_grammar.specs.PatternNeeds.{with_needs};
 ghost use Rattle.fancy_grammar.specs.declared.needs.Needs.{Needs};
-ghost use Rattle.fancy_pattern.specs.ContextViews.{IsContext};
-ghost use Rattle.fancy_pattern.specs.Writers.{Moves, Passes, Leaves};
+ghost use Rattle.fancy_pattern.specs.ContextViews.{Known, IsListFor, IsContext};
+ghost use Rattle.fancy_pattern.specs.Writers.{Moves, Passes, Leaves, Sets};
 
 use crate::needs::{no_needs, with_needs};
 use fancy_grammar::depth::MAX_DEPTH;
@@ -22,14 +22,15 @@ pub(crate) struct Context<'a> {
     pub(crate) opened: usize,
     /// How many levels are left: one more than the groups that may still open in it.
     pub(crate) left: usize,
-    /// The needs of each node from there on, in preorder.
+    /// The needs of each node from there on, in preorder, or nothing if the flags meet them all.
     pub(crate) needs: &'a [Needs],
 }
 
 impl<'a> Context<'a> {
     /// The context at the start of a pattern.
     pub(crate) fn at_start(flags: Flags, needs: &'a [Needs]) -> Context<'a>
-        ensures { IsContext result (record { flags = flags; opened = 0; depth = 0 }) needs.now }
+        ensures { (k : Known) (l : List Needs) → IsListFor k flags needs.now l →
+            IsContext k result (record { flags = flags; opened = 0; depth = 0 }) l }
     {
         Context {
             flags,
@@ -39,17 +40,32 @@ impl<'a> Context<'a> {
         }
     }
 
-    /// Passes the next node, and returns its needs.
-    pub(crate) fn next_node(&mut self) -> Needs
-        ensures { (h : spec.Context) (n : Needs) (l : List Needs) → IsContext self.old h (n ∷ l) →
-            (result ≡ n) × IsContext self.new h l }
+    /// Passes the next node, and returns its needs, if they are listed. If not, the flags meet them.
+    #[inline(always)]
+    pub(crate) fn next_listed(&mut self) -> Option<&'a Needs>
+        ensures passes { Passes self.old self.new }
+        ensures some { IfSome result (λ needs. (k : Known) (h : spec.Context) (n : Needs) (l : List Needs) →
+            IsContext k self.old h (n ∷ l) → needs.now ≡ n) }
+        ensures none { IfNone result ((k : Known) (h : spec.Context) (n : Needs) (l : List Needs) →
+            IsContext k self.old h (n ∷ l) → h.flags ≡ with_needs h.flags n) }
     {
         match self.needs {
             [first, rest @ ..] => {
                 self.needs = rest;
-                *first
+                Some(first)
             }
-            [] => no_needs(),
+            [] => None,
+        }
+    }
+
+    /// Passes the next node, and returns its needs, or none if the flags meet them.
+    pub(crate) fn next_node(&mut self) -> Needs
+        ensures { (k : Known) (h : spec.Context) (n : Needs) (l : List Needs) → IsContext k self.old h (n ∷ l) →
+            (with_needs h.flags result ≡ with_needs h.flags n) × IsContext k self.new h l }
+    {
+        match self.next_listed() {
+            Some(needs) => *needs,
+            None => no_needs(),
         }
     }
 
@@ -57,14 +73,13 @@ impl<'a> Context<'a> {
     pub(crate) fn pass_node(&mut self)
         ensures { Passes self.old self.new }
     {
-        let _needs = self.next_node();
+        let _listed = self.next_listed();
     }
 
     /// Sets the flags to what is needed.
     pub(crate) fn set(&mut self, needs: Needs)
         ensures flags { self.new.flags ≡ with_needs self.old.flags needs }
-        ensures context { (h : spec.Context) (l : List Needs) → IsContext self.old h l →
-            IsContext self.new (spec.under (with_needs h.flags needs) h) l }
+        ensures context { Sets self.old self.new needs (λ h. h) }
     {
         self.flags = with_needs(self.flags, needs);
     }

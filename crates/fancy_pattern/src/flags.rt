@@ -3,7 +3,7 @@ ghost use Rattle.std.specs.Prelude.{◌≡◌, ◌∷◌, [], ◌++◌, codes, O
 ghost use Rattle.fancy_grammar.specs.Pattern as pattern;
 ghost use Rattle.fancy_grammar.specs.PatternNeeds as spec;
 ghost use Rattle.fancy_pattern.specs.TextOutput.{Added};
-ghost use Rattle.fancy_pattern.specs.Writers.{Moves, WritesFlags};
+ghost use Rattle.fancy_pattern.specs.Writers.{Sets, WritesFlags};
 
 use crate::context::Context;
 use crate::needs::are_met;
@@ -62,7 +62,7 @@ pub(crate) fn put_inline_flags(
 ) -> Result<(), AllocError>
     ensures { OnOk result (Added out.old out.new
         (spec.inline_flags context.old.flags (spec.with_needs context.old.flags needs))
-        × Moves context.old context.new (λ h. pattern.under (spec.with_needs h.flags needs) h)) }
+        × Sets context.old context.new needs (λ h. h)) }
 {
     if are_met(context.flags, needs) {
         return Ok(());
@@ -75,8 +75,10 @@ pub(crate) fn put_inline_flags(
 pub(crate) fn settle(out: &mut TextOutput, context: &mut Context) -> Result<(), AllocError>
     ensures { OnOk result (WritesFlags out.old out.new context.old context.new spec.inline_flags (λ h. h)) }
 {
-    let needs = context.next_node();
-    put_inline_flags(out, needs, context)
+    match context.next_listed() {
+        Some(needs) => put_inline_flags(out, *needs, context),
+        None => Ok(()),
+    }
 }
 
 /// Sets the flags that are needed from here on.
@@ -88,7 +90,7 @@ fn put_new_flags(
 ) -> Result<(), AllocError>
     ensures { OnOk result (Added out.old out.new
         (spec.inline_flags context.old.flags (spec.with_needs context.old.flags needs))
-        × Moves context.old context.new (λ h. pattern.under (spec.with_needs h.flags needs) h)) }
+        × Sets context.old context.new needs (λ h. h)) }
 {
     let from = context.flags;
     context.set(needs);

@@ -8,7 +8,7 @@ ghost use Rattle.fancy_grammar.specs.PatternReference as reference;
 ghost use Rattle.fancy_grammar.specs.declared.needs.Needs.{Needs};
 ghost use Rattle.fancy_pattern.specs.TextOutput.{Added};
 ghost use Rattle.fancy_syntax.specs.View.{view};
-ghost use Rattle.fancy_pattern.specs.ContextViews.{IsContext, AreGroupNames, leaf_text_of};
+ghost use Rattle.fancy_pattern.specs.ContextViews.{Known, IsContext, AreGroupNames, leaf_text_of};
 
 use crate::context::Context;
 use crate::letters::{put_bytes, put_literal};
@@ -125,8 +125,8 @@ pub(crate) fn put_leaf(
     leaf: &Expr,
     context: &Context,
 ) -> Result<(), AllocError>
-    ensures { (m : GroupInfo) (h : spec.Context) (l : List Needs) → AreGroupNames names.now m → IsContext context.now h l →
-        OnOk result (Added out.old out.new (leaf_text_of m (view leaf.now) h)) }
+    ensures { (m : GroupInfo) (k : Known) (h : spec.Context) (l : List Needs) → AreGroupNames names.now m →
+        IsContext k context.now h l → OnOk result (Added out.old out.new (leaf_text_of m (view leaf.now) h)) }
 {
     match leaf {
         Expr::Any { newline, crlf } => put_any(out, *newline, *crlf, context.flags),

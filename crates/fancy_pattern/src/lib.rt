@@ -18,6 +18,7 @@ ghost use Rattle.fancy_grammar.specs.OfPattern.{IsOfPattern};
 ghost use Rattle.fancy_grammar.specs.ReadAs.{IsReadAs};
 ghost use Rattle.fancy_syntax.specs.InfoViews.{info_of};
 ghost use Rattle.fancy_syntax.specs.View.{view};
+ghost use Rattle.fancy_pattern.specs.ContextViews.{KnowsNeeds};
 
 mod context;
 mod flags;
@@ -36,11 +37,13 @@ mod write;
 
 use crate::context::Context;
 use crate::names::GroupNames;
-use crate::needs::push_needs;
+use crate::needs::{are_met_by_leaves, no_needs, push_needs};
 use crate::output::TextOutput;
 use crate::same::is_read_as;
 use crate::write::put_pattern;
+use fancy_grammar::needs::Needs;
 use fancy_lex::flags::Flags;
+use fancy_syntax::expr::Expr;
 use fancy_syntax::tree::ExprTree;
 use std::alloc::{AllocError, Global};
 
@@ -70,19 +73,30 @@ pub fn to_pattern(alloc: Global, tree: &ExprTree, flags: u32) -> Result<Option<S
 }
 
 /// The initial capacity of a list, so that a small one does not grow.
-const FIRST_CAPACITY: usize = 32;
+const FIRST_CAPACITY: usize = 64;
 
-/// The tree's text. It is written to a string with an initial capacity of more than a byte per node, which grows from
-/// there. The returned string owns memory only for the text.
+/// What each node needs, in preorder, and what all leaves need together. Both are empty if the flags are as each leaf
+/// needs them, as they are for most patterns.
+fn needs_of(alloc: Global, tree: &Expr, flags: Flags) -> Result<(Vec<Needs>, Needs), AllocError>
+    ensures { IfOk result (λ r. KnowsNeeds flags (view tree.now) r.0.items r.1) }
+{
+    if are_met_by_leaves(tree, &flags) {
+        return Ok((Vec::new(alloc), no_needs()));
+    }
+    let mut listed = Vec::with_capacity(alloc, FIRST_CAPACITY)?;
+    let needs = push_needs(&mut listed, tree, flags.oniguruma_mode)?;
+    Ok((listed, needs.common))
+}
+
+/// The tree's text. It is written to a string with an initial capacity, which grows from there. The returned string owns
+/// memory only for the text.
 fn text_of_tree(alloc: Global, tree: &ExprTree, flags: Flags) -> Result<String, AllocError>
     ensures { IfOk result (λ s. text_of s ≡ pattern_text flags (view tree.now.expr) (info_of tree.now)) }
 {
     let names = GroupNames::new(alloc, tree)?;
-    let mut listed = Vec::with_capacity(alloc, FIRST_CAPACITY)?;
-    let needs = push_needs(&mut listed, &tree.expr, flags.oniguruma_mode)?;
+    let (listed, agreed) = needs_of(alloc, &tree.expr, flags)?;
     let context = Context::at_start(flags, listed.as_slice());
-    let capacity = listed.len().saturating_add(FIRST_CAPACITY);
-    let mut out = TextOutput::with_capacity(alloc, capacity)?;
-    put_pattern(&mut out, &names, &tree.expr, needs.common, context)?;
+    let mut out = TextOutput::with_capacity(alloc, FIRST_CAPACITY)?;
+    put_pattern(&mut out, &names, &tree.expr, agreed, context)?;
     String::from_str(alloc, out.as_str())
 }

@@ -1,10 +1,13 @@
 //! What a tree needs of the flags that a text sets.
 ghost use Rattle.std.specs.Prelude.{◌≡◌, Bool, chars, ◌++◌, Decides, IfOk, OnOk};
+ghost use Rattle.std.specs.Bool.{OnTrue};
 ghost use Rattle.std.specs.List.{list_all};
 ghost use Rattle.fancy_grammar.specs.Label.{literal, delegate};
 ghost use Rattle.fancy_grammar.specs.PatternNeeds as spec;
-ghost use Rattle.fancy_grammar.specs.PatternWalk.{needs_alone, needs_listed};
-ghost use Rattle.fancy_syntax.specs.View.{view};
+ghost use Rattle.fancy_grammar.specs.PatternWalk.{needs_alone, needs_listed, all_listed};
+ghost use Rattle.fancy_grammar.specs.Tree.{trees_of};
+ghost use Rattle.fancy_syntax.specs.View.{view, views};
+ghost use Rattle.fancy_pattern.specs.ContextViews.{AreMet};
 
 use crate::separator::is_text;
 use fancy_grammar::needs::{Need, Needs};
@@ -307,6 +310,55 @@ pub(crate) fn are_met(flags: Flags, needs: Needs) -> bool
         && is_met(flags.multi, needs.multi)
         && is_met(flags.dotnl, needs.dotnl)
         && is_met(flags.crlf, needs.crlf)
+}
+
+/// Whether the flags have the values that each leaf of the tree needs. Most leaves need only the case flag: this saves a
+/// call for each that needs it as it is.
+#[cycle(are_met)]
+#[inline(always)]
+pub(crate) fn are_met_by_leaves(tree: &Expr, flags: &Flags) -> bool
+    ensures { OnTrue result (AreMet flags.now (needs_listed flags.now.oniguruma_mode (view tree.now))) }
+{
+    match tree {
+        Expr::Literal { casei, .. } if *casei == flags.casei => true,
+        Expr::Delegate { casei, .. } if *casei == flags.casei => true,
+        _ => are_met_by_any(tree, flags),
+    }
+}
+
+/// The same, without the shortcut. The flags are borrowed, so that their bytes are not moved one by one.
+#[cycle(are_met)]
+#[inline(never)]
+fn are_met_by_any(tree: &Expr, flags: &Flags) -> bool
+    ensures { OnTrue result (AreMet flags.now (needs_listed flags.now.oniguruma_mode (view tree.now))) }
+{
+    if tree.is_leaf_node() {
+        return are_met(*flags, leaf_needs(tree, flags.oniguruma_mode));
+    }
+    if let Expr::Concat(pieces) = tree {
+        return are_met_by_all(pieces, flags);
+    }
+    let mut children = tree.children_iter();
+    while let Some(child) = children.next() {
+        if !are_met_by_leaves(child, flags) {
+            return false;
+        }
+    }
+    true
+}
+
+/// The same, for each tree of a list.
+#[cycle(are_met)]
+#[inline(always)]
+fn are_met_by_all(trees: &[Expr], flags: &Flags) -> bool
+    ensures { OnTrue result (AreMet flags.now (all_listed flags.now.oniguruma_mode (trees_of (views trees.now)))) }
+{
+    for tree in trees {
+        if !are_met_by_leaves(tree, flags) {
+            return false;
+        }
+    }
+    true
 }
 
 /// The flags with the values that are needed.

@@ -7,7 +7,8 @@ ghost use Rattle.fancy_lex.specs.declared.flags.Flags.{Flags};
 ghost use Rattle.fancy_grammar.specs.Join.{is_empty};
 ghost use Rattle.fancy_grammar.specs.GroupInfo.{GroupInfo};
 ghost use Rattle.fancy_grammar.specs.Pattern as spec;
-ghost use Rattle.fancy_grammar.specs.PatternNeeds.{both, needs};
+ghost use Rattle.fancy_grammar.specs.PatternNeeds as needs;
+ghost use Rattle.fancy_grammar.specs.PatternNeeds.{with_needs};
 ghost use Rattle.fancy_grammar.specs.PatternQuantifier as spec_quantifier;
 ghost use Rattle.fancy_grammar.specs.PatternReference.{group_opening};
 ghost use Rattle.fancy_grammar.specs.Quantified as spec_quantified;
@@ -18,7 +19,7 @@ ghost use Rattle.fancy_grammar.specs.declared.precedence.Precedence.{Precedence}
 ghost use Rattle.fancy_grammar.specs.declared.precedence.Precedence.TheVariants.{Whole, Branch, Piece};
 ghost use Rattle.fancy_pattern.specs.TextOutput.{Added, Changed};
 ghost use Rattle.fancy_syntax.specs.View.{view, views};
-ghost use Rattle.fancy_pattern.specs.ContextViews.{IsContext, AreGroupNames, leaf_text_of};
+ghost use Rattle.fancy_pattern.specs.ContextViews.{Known, IsContext, AreGroupNames, leaf_text_of};
 ghost use Rattle.fancy_pattern.specs.Writers.{Writes, WritesTree, WritesSettled, WritesChoice, takes_inline_flags};
 
 use crate::context::Context;
@@ -48,9 +49,9 @@ pub(crate) fn put_pattern(
     agreed: Needs,
     context: Context,
 ) -> Result<(), AllocError>
-    ensures { (m : GroupInfo) (f : Flags) → AreGroupNames names.now m →
-        agreed ≡ needs both f.oniguruma_mode (view tree.now) →
-        IsContext context.entry (record { flags = f; opened = 0; depth = 0 }) (needs_listed f.oniguruma_mode (view tree.now)) →
+    ensures { (m : GroupInfo) (f : Flags) (k : Known) → AreGroupNames names.now m →
+        with_needs f agreed ≡ needs.agreed f (view tree.now) →
+        IsContext k context.entry (record { flags = f; opened = 0; depth = 0 }) (needs_listed f.oniguruma_mode (view tree.now)) →
         OnOk result (Added out.old out.new (spec.pattern_text f (view tree.now) m)) }
 {
     let mut context = context;
@@ -168,7 +169,8 @@ fn is_last_operand(precedence: Precedence) -> bool
 
 /// How many quantifiers are allowed before the quantifier of a tree at this precedence.
 fn allowed(precedence: Precedence, context: &Context) -> usize
-    ensures { (h : spec.Context) (l : List Needs) → IsContext context.now h l → result ≡ spec.allowed precedence h }
+    ensures { (k : Known) (h : spec.Context) (l : List Needs) → IsContext k context.now h l →
+        result ≡ spec.allowed precedence h }
 {
     match precedence {
         Precedence::Operand(allowed) if allowed > 0 => allowed - 1,

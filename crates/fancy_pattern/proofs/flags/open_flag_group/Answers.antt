@@ -12,4 +12,4 @@ returns c =
     (subst (λ f. Added c.args.out.now c.put_flag_group_opening.new.out
     (codes "(?" ++ (letters_between c.next_node-needs.new.self.flags f ++ codes ":")))
     c.set.ensures.flags c.in_ok-put_flag_group_opening.ensures)
-    (λ h l is. c.enter.ensures _ _ (c.set.ensures.context h l is))
+    (λ k h l allowed is. c.enter.ensures k _ l (c.set.ensures.context k h l allowed is))

@@ -18,7 +18,7 @@ view_at_level : (n : ℕ) (level : ℤ) (casei : Bool) →
 view_at_level n level casei = search (rules, the_lemmas)
 
 pub returns-in-BackrefWithRelativeRecursionLevel : goal.returns-in-BackrefWithRelativeRecursionLevel
-returns-in-BackrefWithRelativeRecursionLevel c m h l names is =
+returns-in-BackrefWithRelativeRecursionLevel c m k h l names is =
     let b = c.in-BackrefWithRelativeRecursionLevel in
     let fits : SFits w64 b.relative_level = search rules in
     last_as _ _ _ (backref_at_level_text m c.args.context.now.opened b.group b.relative_level) _
@@ -27,7 +27,7 @@ returns-in-BackrefWithRelativeRecursionLevel c m h l names is =
     ∙ ap (λ t. leaf_text_of m t h) (sym (ap view b.is ∙ view_at_level b.group b.relative_level b.casei)))
 
 pub returns-in-SubroutineCall : goal.returns-in-SubroutineCall
-returns-in-SubroutineCall c m h l names is =
+returns-in-SubroutineCall c m k h l names is =
     let b = c.in-SubroutineCall in
     last_as _ _ _ (call_text m c.args.context.now.opened b.group) _ (c.put_call.ensures m names)
     (ap (λ n. call_text m n b.group) is.opened

@@ -11,11 +11,11 @@ returns-then-needs_group c = λ m names. on_then _ _ _ c.close.ensures
     (leaf_text_of m (view c.args.leaf.now)) (λ h. h) true
     (sym c.if-needs_group.true ∙ c.needs_group.ensures)
     (parens_writes _ _ _ _ _ _ _ _ _ _ _ _ c.in_ok-open.ensures.0 c.in_ok-open.ensures.1
-    (positioned_writes _ _ _ _ (λ h l is. c.in_ok-put_leaf.ensures m h l names is))
+    (positioned_writes _ _ _ _ (λ k h l is. c.in_ok-put_leaf.ensures m k h l names is))
     closed.0 closed.1))
 
 pub returns : goal.returns
 returns c = λ m names. on_then _ _ _
-    (on_positioned _ _ _ _ _ (λ h l is. c.put_leaf-2.ensures m h l names is))
+    (on_positioned _ _ _ _ _ (λ k h l is. c.put_leaf-2.ensures m k h l names is))
     (λ w. atom_writes _ _ _ _ (view c.args.leaf.now) c.args.precedence _ _ _ false
     (sym c.if-needs_group.false ∙ c.needs_group.ensures) w)
