@@ -6,7 +6,7 @@ use Rattle.std.proofs.lemmas.Bool.Decides.{nat_tests}
 use Rattle.std.proofs.lemmas.Bool.{cases_eq, false≢true}
 use Rattle.std.specs.Borrow.{Bor}
 use Prim.Native.Char.{code}
-use Rattle.fancy_lex.specs.Text.{Text, LiesIn, beyond, at_end}
+use Rattle.fancy_lex.specs.Text.{Text, EndsWith, LiesIn, beyond, at_end}
 use Rattle.fancy_lex.proofs.LeaveLaws.{lies_at_end}
 use Rattle.fancy_lex.specs.Layout.{InComment, nothing, plain, pair, InLine, end_line, on_line}
 use Rattle.fancy_lex.specs.Views.{skipped_of}
@@ -145,6 +145,9 @@ opened_is [] i e = cc
 opened_is (c ∷ []) i e = grind (arith, nat_tests)
 opened_is (c ∷ d ∷ []) i e = grind (arith, nat_tests)
 opened_is (c ∷ d ∷ f ∷ r) i e = grind (arith, nat_tests)
+
+pub ends_opened : (t i : Text) → after_comment_start t ≡ Some i → EndsWith t i
+ends_opened t i e = (comment_start, opened_is t i e)
 
 opened_cases : (t : Text) → ((i : Text) × (t ≡ comment_start ++ i)) ⊎ (after_comment_start t ≡ None)
 opened_cases t = opened_by t (after_comment_start t) refl where

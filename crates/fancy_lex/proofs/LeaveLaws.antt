@@ -22,6 +22,12 @@ ends_past c t v (w, e) = (c ∷ w, ap (λ s. c ∷ s) e)
 pub ends_twice : (t u v : Text) → Ends t u → Ends u v → Ends t v
 ends_twice t u v (w, e) (z, h) = (w ++ z, e ∙ ap (λ s. w ++ s) h ∙ sym (append_assoc w z v))
 
+pub ends_first : (t r : Text) (c : ℕ) → t ≡ c ∷ r → Ends t r
+ends_first t r c e = (c ∷ [], e)
+
+pub ends_next : (t u r : Text) (c : ℕ) → Ends t u → u ≡ c ∷ r → Ends t r
+ends_next t u r c h e = ends_twice t u r h (ends_first u r c e)
+
 -- ---- positions of errors
 
 module _ {p : ℕ} where

@@ -25,6 +25,7 @@ fn comment(text: &str) -> Result<&str, usize>
         (λ r. comments_from x spec.comment start (chars text.now) ≡
         closed_before start (chars r.now) ∷ comments x (chars r.now))
         (λ _. comments_from x spec.comment start (chars text.now) ≡ []) }
+    ensures cut { IfOk result (λ r. EndsWith (chars text.now) (chars r.now)) }
     ensures shorter { IfOk result (λ r. length r.now < length text.now) }
     ensures position { IfErr result (λ p. p ≤ 1) }
 {
@@ -52,6 +53,7 @@ fn line(text: &str) -> &str
     ensures comments { (x : Bool) (start : ℕ) →
         comments_from x spec.line start (chars text.now) ≡
         line_before start (chars result.now) ∷ comments x (chars result.now) }
+    ensures cut { EndsWith (chars text.now) (chars result.now) }
     ensures within { length result.now ≤ length text.now }
 {
     let mut rest = text;
@@ -202,6 +204,8 @@ pub struct LayoutComment<'a> {
 pub fn first_comment(text: &str, ignore_space: bool) -> Option<LayoutComment<'_>>
     ensures value { MatchOption result (comments ignore_space (chars text.now) ≡ [])
         (λ c. comments ignore_space (chars text.now) ≡ comment_of c ∷ comments ignore_space (chars c.rest.now)) }
+    ensures begins { IfSome result (λ c. EndsWith (chars text.now) (chars c.start.now)) }
+    ensures cut { IfSome result (λ c. EndsWith (chars c.start.now) (chars c.rest.now)) }
     ensures shorter { IfSome result (λ c. length c.rest.now < length text.now) }
 {
     let mut rest = text;

@@ -1,6 +1,7 @@
 use Rattle.std.proofs.Common.{rules, arith, ◌∙◌}
-use Rattle.fancy_lex.proofs.LayoutLemmas.{comment_escape, escaped_step, escaped_end}
-use Rattle.fancy_lex.proofs.CommentLemmas.{comment_pair, escaped_next, escaped_none}
+use Rattle.fancy_lex.proofs.LayoutLemmas.{comment_escape, comment_plain, escaped_step, escaped_end}
+use Rattle.fancy_lex.proofs.CommentLemmas.{comment_on, comment_pair, escaped_next, escaped_none}
+use Rattle.fancy_lex.proofs.LeaveLaws.{ends_next}
 use Rattle.fancy_lex.proofs.layout.comment.Goals as goal
 
 pub returns-in_default-next-clause-value : goal.returns-in_default-next-clause-value
@@ -26,5 +27,23 @@ loop-c-preserved-then-c-eq92 c = record {
       c.loop-c.invariant.comments x start
       ∙ comment_pair _ _ _ _ _ c.in-Some.ensures.value c.if-c-eq92.true
       ∙ escaped_next _ _ _ _ _ c.in-Some-next.ensures.value;
+  cut = ends_next _ _ _ _ (ends_next _ _ _ _ c.loop-c.invariant.cut c.in-Some.ensures.value)
+      c.in-Some-next.ensures.value;
   within = omega (arith, c.in-Some.ensures.shorter, c.in-Some-next.ensures.shorter);
+}
+
+pub returns-then-c-eq41-clause-cut : goal.returns-then-c-eq41-clause-cut
+returns-then-c-eq41-clause-cut c = ends_next _ _ _ _ c.loop-c.invariant.cut c.in-Some.ensures.value
+
+pub loop-c-preserved : goal.loop-c-preserved
+loop-c-preserved c = record {
+  text = search rules;
+  same = λ x.
+      c.loop-c.invariant.same x
+      ∙ comment_plain _ _ _ _ c.in-Some.ensures.value c.if-c-eq41.false c.if-c-eq92.false;
+  comments = λ x start.
+      c.loop-c.invariant.comments x start
+      ∙ comment_on _ _ _ _ _ c.in-Some.ensures.value c.if-c-eq41.false c.if-c-eq92.false;
+  cut = ends_next _ _ _ _ c.loop-c.invariant.cut c.in-Some.ensures.value;
+  within = omega (arith, c.loop-c.invariant.within, c.in-Some.ensures.shorter);
 }

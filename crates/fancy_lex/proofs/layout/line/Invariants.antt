@@ -3,6 +3,7 @@ use denote.Text.{Utf8}
 use denote.Shadow.{shadow}
 use Rattle.fancy_lex.specs.Comments.{comments_from}
 use Rattle.fancy_lex.specs.LayoutSteps as spec
+use Rattle.fancy_lex.specs.Text.{EndsWith}
 use Rattle.fancy_lex.proofs.layout.line.Given as goal
 
 abbrev pub invariant-loop-c : goal.invariant-loop-c
@@ -12,6 +13,7 @@ invariant-loop-c l = record {
       (chars l.rest);
   comments : (x : Bool) (start : ℕ) → comments_from x spec.line start (chars l.text)
       ≡ comments_from x spec.line start (chars l.rest);
+  cut : EndsWith (chars l.text) (chars l.rest);
   within : length l.rest ≤ length l.text;
 }
 
