@@ -1,23 +1,22 @@
 -- What a tree needs of the flags, child by child.
-use Rattle.std.proofs.Common.{◌≡◌, ℕ, zero, suc, ◌<◌, ◌≤◌, Bool, true, false, if◌then◌else◌, List, [], ◌∷◌, ◌++◌, refl, ap}
+use Rattle.std.proofs.Common.{◌≡◌, ℕ, zero, suc, ◌<◌, ◌≤◌, Bool, false, List, [], ◌∷◌, ◌++◌, refl, ap}
 use Rattle.std.proofs.Common.{sym, ◌∙◌, subst, append_assoc, append-nil, length, drop, get_or, arith}
 use Rattle.std.proofs.Math.ListN.{set}
-use Rattle.std.specs.List.{flat_map, list_all}
-use Rattle.fancy_lex.specs.Text.{Text}
+use Rattle.std.specs.Bool.{Decides}
+use Rattle.std.specs.List.{flat_map}
 use Rattle.fancy_lex.specs.declared.flags.Flags.{Flags}
 use Rattle.fancy_grammar.specs.Label as label
 use Rattle.fancy_grammar.proofs.NeedsLemmas.{IsJoin, first_joins, both_joins, joined-after}
 use Rattle.fancy_grammar.proofs.NeedsLemmas.{needs_node, needs_next, table_node}
-use Rattle.fancy_grammar.specs.PatternNeeds.{no_needs, needs_case, is_kept_by_backslash, is_hex_class, with_needs}
-use Rattle.fancy_grammar.specs.PatternNeeds.{first, both, joined, needs, needs_all}
+use Rattle.fancy_grammar.specs.PatternNeeds.{first, both, joined, needs, needs_all, with_needs}
 use Rattle.fancy_grammar.specs.PatternWalk.{needs_alone, needs_listed, all_listed}
-use Rattle.fancy_grammar.specs.Tree.{Tree, leaf, over, row, Trees, literal, delegate, is_leaf, children, trees_of}
+use Rattle.fancy_grammar.specs.Tree.{Tree, leaf, over, row, Trees, is_leaf, children, trees_of}
 use Rattle.fancy_grammar.specs.Tree.{levels, levels_all}
 use Rattle.fancy_grammar.specs.declared.needs.Need.{Need}
 use Rattle.fancy_grammar.specs.declared.needs.Need.TheVariants.{Free}
 use Rattle.fancy_grammar.specs.declared.needs.Needs.{Needs}
 use Rattle.fancy_pattern.specs.ContextViews.{AreMet}
-use Rattle.fancy_pattern.proofs.KnownLemmas.{met_both, met_front, met_tree, met_trees, keeps_first}
+use Rattle.fancy_pattern.proofs.KnownLemmas.{met_both, met_front, met_back, met_tree, met_trees, keeps_first}
 use Rattle.fancy_syntax.specs.View.{view, views}
 use Rattle.fancy_syntax.specs.declared.expr.Expr.{Expr}
 
@@ -113,58 +112,54 @@ module _ (o : Bool) (t : Tree) (old : List Needs) where
 -- ---- flags as each leaf needs them
 
 module _ (f : Flags) (o : Bool) where
-  -- what needs only the case flag
-  case_met : (b casei : Bool) → casei ≡ f.casei →
-      with_needs f (if b then no_needs else needs_case casei) ≡ f
-  case_met true casei e = refl
-  case_met false casei e = λ i. record f { casei = e i }
+  -- a tree without children
+  pub leaf_decides : (b : Bool) (t : Tree) → children t ≡ [] → Decides b (with_needs f (needs_alone o t) ≡ f) →
+      Decides b (AreMet f (needs_listed o t))
+  leaf_decides b t none d =
+      let n = needs_alone o t in
+      let same : n ∷ [] ≡ needs_listed o t =
+      leaf_table o t [] n (n ∷ []) (leaf_joins first first_joins o t n refl none) none refl in
+      (λ e. subst (AreMet f) same (d.0 e, tt), λ p. d.1 (subst (AreMet f) (sym same) p).0)
 
-  pub literal_met : (s : Text) (casei : Bool) → casei ≡ f.casei → AreMet f (needs_listed o (literal s casei))
-  literal_met s true e = (case_met false true e, tt)
-  literal_met s false e = (case_met (list_all (is_kept_by_backslash o) s) false e, tt)
-
-  pub delegate_met : (s : Text) (casei : Bool) → casei ≡ f.casei → AreMet f (needs_listed o (delegate s casei))
-  delegate_met s true e = (case_met false true e, tt)
-  delegate_met s false e = (case_met (is_hex_class s) false e, tt)
-
-  pub leaf_met : (t : Tree) → is_leaf t ≡ true → with_needs f (needs_alone o t) ≡ f → AreMet f (needs_listed o t)
-  leaf_met (leaf l) e p = (p, tt)
-  leaf_met (over (label.ast_group name position) t) e p = (refl, tt)
-  leaf_met (over label.group t) e p = absurd cc
-  leaf_met (over (label.look_around l) t) e p = absurd cc
-  leaf_met (over (label.repeat lo hi greedy) t) e p = absurd cc
-  leaf_met (over label.atomic_group t) e p = absurd cc
-  leaf_met (over label.define_group t) e p = absurd cc
-  leaf_met (over label.repeater t) e p = absurd cc
-  leaf_met (over label.stopper t) e p = absurd cc
-  leaf_met (row r ts) e p = absurd cc
-
-  pub row_met : (r : label.Row) (ts : Trees) → AreMet f (all_listed o ts) → AreMet f (needs_listed o (row r ts))
+  row_met : (r : label.Row) (ts : Trees) → AreMet f (all_listed o ts) → AreMet f (needs_listed o (row r ts))
   row_met r ts p = (met_trees first keeps_first f o ts p, p)
 
+  pub row_decides : (b : Bool) (r : label.Row) (ts : Trees) → Decides b (AreMet f (all_listed o ts)) →
+      Decides b (AreMet f (needs_listed o (row r ts)))
+  row_decides b r ts d = (λ e. row_met r ts (d.0 e), λ p. d.1 p.1)
+
+  abbrev pub children_listed : Tree → List Needs
+  children_listed t = flat_map (needs_listed o) (children t)
+
   -- a tree that has children
-  pub tree_met : (t : Tree) → is_leaf t ≡ false → AreMet f (flat_map (needs_listed o) (children t)) →
-      AreMet f (needs_listed o t)
+  pub tree_met : (t : Tree) → is_leaf t ≡ false → AreMet f (children_listed t) → AreMet f (needs_listed o t)
   tree_met (leaf l) e p = absurd cc
   tree_met (over (label.ast_group name position) t) e p = absurd cc
   tree_met (over w t) e p =
       let inside = met_front f (needs_listed o t) [] p in (met_tree first keeps_first f o t inside, inside)
   tree_met (row r ts) e p = row_met r ts (subst (AreMet f) (sym (ap (drop 1) (table_node o (row r ts)))) p)
 
+  pub children_met : (t : Tree) → AreMet f (needs_listed o t) → AreMet f (children_listed t)
+  children_met t p = (subst (AreMet f) (table_node o t) p).1
+
   -- with some children left, or some trees of a list
   pub record MetSoFar (left all : List Needs) : Type 0 where
     pub if_left : AreMet f left → AreMet f all
-
-  pub met_starts : (left all : List Needs) → left ≡ all → MetSoFar left all
-  met_starts left all e = record { if_left = λ p. subst (AreMet f) e p }
+    pub if_all : AreMet f all → AreMet f left
 
   pub met_next : (left here more all : List Needs) → MetSoFar left all → left ≡ here ++ more → AreMet f here →
       MetSoFar more all
-  met_next left here more all s e p =
-      record { if_left = λ q. s.if_left (subst (AreMet f) (sym e) (met_both f here more p q)) }
+  met_next left here more all s e p = record {
+    if_left = λ q. s.if_left (subst (AreMet f) (sym e) (met_both f here more p q));
+    if_all = λ q. met_back f here more (subst (AreMet f) e (s.if_all q));
+  }
 
   pub met_ends : (left all : List Needs) → MetSoFar left all → left ≡ [] → AreMet f all
   met_ends left all s e = s.if_left (subst (AreMet f) (sym e) tt)
+
+  pub met_here : (left here more all : List Needs) → MetSoFar left all → left ≡ here ++ more → AreMet f all →
+      AreMet f here
+  met_here left here more all s e p = met_front f here more (subst (AreMet f) e (s.if_all p))
 
 -- a tree of a list is not deeper than the list
 pub levels_of_piece : (es : List Expr) (i : ℕ) (e : Expr) → i < length es → e ≡ get_or es i e →

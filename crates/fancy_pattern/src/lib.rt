@@ -72,7 +72,7 @@ pub fn to_pattern(alloc: Global, tree: &ExprTree, flags: u32) -> Result<Option<S
     }
 }
 
-/// The initial capacity of a list, so that a small one does not grow.
+/// The initial capacity of a list and of a text, so that a small one does not grow.
 const FIRST_CAPACITY: usize = 64;
 
 /// What each node needs, in preorder, and what all leaves need together. Both are empty if the flags are as each leaf

@@ -1,6 +1,5 @@
 //! What a tree needs of the flags that a text sets.
 ghost use Rattle.std.specs.Prelude.{◌≡◌, Bool, chars, ◌++◌, Decides, IfOk, OnOk};
-ghost use Rattle.std.specs.Bool.{OnTrue};
 ghost use Rattle.std.specs.List.{list_all};
 ghost use Rattle.fancy_grammar.specs.Label.{literal, delegate};
 ghost use Rattle.fancy_grammar.specs.PatternNeeds as spec;
@@ -317,7 +316,7 @@ pub(crate) fn are_met(flags: Flags, needs: Needs) -> bool
 #[cycle(are_met)]
 #[inline(always)]
 pub(crate) fn are_met_by_leaves(tree: &Expr, flags: &Flags) -> bool
-    ensures { OnTrue result (AreMet flags.now (needs_listed flags.now.oniguruma_mode (view tree.now))) }
+    ensures { Decides result (AreMet flags.now (needs_listed flags.now.oniguruma_mode (view tree.now))) }
 {
     match tree {
         Expr::Literal { casei, .. } if *casei == flags.casei => true,
@@ -330,7 +329,7 @@ pub(crate) fn are_met_by_leaves(tree: &Expr, flags: &Flags) -> bool
 #[cycle(are_met)]
 #[inline(never)]
 fn are_met_by_any(tree: &Expr, flags: &Flags) -> bool
-    ensures { OnTrue result (AreMet flags.now (needs_listed flags.now.oniguruma_mode (view tree.now))) }
+    ensures { Decides result (AreMet flags.now (needs_listed flags.now.oniguruma_mode (view tree.now))) }
 {
     if tree.is_leaf_node() {
         return are_met(*flags, leaf_needs(tree, flags.oniguruma_mode));
@@ -351,7 +350,7 @@ fn are_met_by_any(tree: &Expr, flags: &Flags) -> bool
 #[cycle(are_met)]
 #[inline(always)]
 fn are_met_by_all(trees: &[Expr], flags: &Flags) -> bool
-    ensures { OnTrue result (AreMet flags.now (all_listed flags.now.oniguruma_mode (trees_of (views trees.now)))) }
+    ensures { Decides result (AreMet flags.now (all_listed flags.now.oniguruma_mode (trees_of (views trees.now)))) }
 {
     for tree in trees {
         if !are_met_by_leaves(tree, flags) {

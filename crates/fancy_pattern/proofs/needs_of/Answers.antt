@@ -9,7 +9,7 @@ use Rattle.fancy_pattern.proofs.needs_of.Goals as goal
 pub returns-then-are_met_by_leaves : goal.returns-then-are_met_by_leaves
 returns-then-are_met_by_leaves c =
     let f = c.args.flags in
-    let are = c.if-are_met_by_leaves.ensures in
+    let are = c.are_met_by_leaves.ensures.0 c.if-are_met_by_leaves.true in
     record {
       known = met f;
       nodes = (c.new.ensures.items, (refl, are));
