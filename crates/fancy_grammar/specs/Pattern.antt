@@ -101,7 +101,7 @@ separated_if is t = if is then codes "(?#)" ++ t else t
 
 -- ---- leaves
 
--- a verb, as it stands in parentheses
+-- a verb without its parentheses
 abbrev pub verb_text : BacktrackingControlVerb → Text
 verb_text v = codes "*" ++ word v
 

@@ -89,8 +89,8 @@ abbrev pub may_count : ℕ → ℕ → Bool
 may_count zero d = false
 may_count (suc k) d = nat_lt (d + 1) max_depth
 
--- adjacent quantifiers at depth d, of which k may count: one counts if a byte was read, even of layout alone, and those
--- after it are one level deeper; the error of one that may not count is at the text after it
+-- adjacent quantifiers at depth d, of which k may count: a quantifier counts if a byte was read, even of layout alone, and
+-- the next one is a level deeper; one that may not count, or whose next level is too deep, is an error at the text after it
 unfoldable pub adjacent : ℕ → ℕ → Tree → State → Outcome Tree
 adjacent zero d a s =
     and_then (quant (bytes s.rest) a s) (λ b t.

@@ -51,7 +51,7 @@ property f inside p c (d ∷ t) =
 abbrev pub is_itself : Bool → ℕ → Bool
 is_itself inside c = not (is_ascii_alphanumeric c) && (inside || not (c ∈ "<>"))
 
--- the characters that a letter denotes after a backslash, each with its letter
+-- characters, each with the letter that denotes it after a backslash
 abbrev pub lettered : List (ℕ × ℕ)
 lettered =
     (code "\u{7}", code "a")
@@ -62,7 +62,7 @@ lettered =
     ∷ (code "\u{b}", code "v")
     ∷ (code "\u{1b}", code "e") ∷ []
 
--- the letter that denotes the character after a backslash
+-- the letter that, after a backslash, denotes the character; None if no letter does
 abbrev pub letter_of : ℕ → Option ℕ
 letter_of c = lookup (λ d. c == d) lettered
 

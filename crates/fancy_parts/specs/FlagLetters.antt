@@ -22,7 +22,7 @@ pub data Letters : Type 0 where
 abbrev pub pattern_flags : List Flag
 pattern_flags = Casei ∷ Multi ∷ Dotnl ∷ SwapGreed ∷ IgnoreSpace ∷ Crlf ∷ []
 
--- the flags with the flag of this letter set or cleared; None if it is the letter of none that a pattern can set
+-- the flags with the flag of this letter set or cleared; None if a pattern changes no flag by this letter
 abbrev pub with_letter : Flags → Bool → ℕ → Option Flags
 with_letter f on c = option_map (λ flag. with_flag f flag on) (find (λ flag. c == letter flag) pattern_flags)
 
