@@ -12,6 +12,8 @@ mod SolidLemmas
 mod StepLemmas
 mod PassedLemmas
 mod PassedLaws
+mod ItemsReadLemmas
+mod FoundLemmas
 mod MachineLemmas
 mod PlainLaws
 mod StackLemmas

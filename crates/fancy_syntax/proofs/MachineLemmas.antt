@@ -20,6 +20,7 @@ use Rattle.fancy_grammar.specs.Grammar.{piece_error, Piece, piece, layout_error,
 use Rattle.fancy_grammar.specs.Grammar.{condition_error, two_branches, one_branch, absent_error, closed, not_closed}
 use Rattle.fancy_grammar.specs.Grammar.{more, next, restored, conditional_after, clear_or_stopper}
 use Rattle.fancy_grammar.specs.Grammar as grammar
+use Rattle.fancy_grammar.specs.Items.{Item, items}
 use Rattle.fancy_grammar.specs.Join.{solid, one_or, choice}
 use Rattle.fancy_grammar.specs.Spans.{end_of}
 use Rattle.fancy_syntax.specs.Log.{Log, body_begun, branch_begun, branch_ended, atom_closed}
@@ -33,7 +34,7 @@ use Rattle.fancy_syntax.specs.Log.{leaf_recorded, left_out, pass, layout_passed}
 use Rattle.fancy_syntax.specs.Machine.{IsPlainLeaf}
 use Rattle.fancy_syntax.specs.Machine.{part_recorded}
 use Rattle.fancy_syntax.specs.Machine.{OpenPart, top, group, condition, body, first, second, part_of, holds_one}
-use Rattle.fancy_syntax.specs.Machine.{is_second, opened_by_bar, branches_at_bar, IsErrorOfBar, Part, OpensPart}
+use Rattle.fancy_syntax.specs.Machine.{is_second, items_opening, opened_by_bar, branches_at_bar, IsErrorOfBar, Part, OpensPart}
 use Rattle.fancy_syntax.specs.Machine.{a_group}
 use Rattle.fancy_syntax.specs.Machine.{a_condition, a_body, after_condition, a_branch, after_branch, lacks_body}
 use Rattle.fancy_syntax.specs.Machine.{node_of_part, has_body_next, ended_part, Began, ReadSoFar}
@@ -53,6 +54,9 @@ use Rattle.fancy_grammar.proofs.OutcomeLemmas.{Holds, IsErrorAmong-map, before-n
 use Rattle.fancy_grammar.proofs.OutcomeLemmas.{trees_before, solid-append, piece_as}
 use Rattle.fancy_grammar.proofs.ReadLaws.{piece_read}
 use Rattle.fancy_grammar.proofs.Slices.{current, on, strip_slice}
+use Rattle.fancy_syntax.specs.Found.{items_in}
+use Rattle.fancy_syntax.proofs.ItemsReadLemmas.{items_append, items_one, items_pieces, items_branches_pieces, items_under}
+use Rattle.fancy_syntax.proofs.ItemsReadLemmas.{items_solid, items_choice_pieces, append-same}
 use Rattle.fancy_syntax.proofs.PassedLemmas.{nothing_passed}
 use Rattle.fancy_syntax.proofs.SolidLemmas.{IsSolid, quants_solid}
 use Rattle.fancy_syntax.proofs.TreesLemmas.{push-same}
@@ -413,10 +417,10 @@ reading_error {d} {s} {error} {bs} {l} p h e a = by_part p h.one
 
 -- an error in the innermost part is the error of the whole text
 levels_error : {start : State} {none : Log} {d : ℕ} {s : State} {error : Located} {fs : List Enclosing} {ts : List Tree}
-    {o : OpenPart} {l : Log} (n : Log) → OpenGroups start none fs ts o d s l →
+    {o : OpenPart} {l : Log} {is : List Item} (n : Log) → OpenGroups start none fs ts o d s l is →
     Part o d s (failed error) l n → Alternation 0 start (failed error)
 levels_error n outermost (r, x) = r
-levels_error n (inner f e x l h i m j) r =
+levels_error n (inner f e x l h i m j z) r =
     let (k, y) = reading_error (part_of f.frame.open_group) h m (opens_error n j r) in levels_error k l y
 
 push-not_nil : {A : Type 0} (l : List A) (x : A) → [] ≡ l ++ x ∷ [] → ⊥
@@ -424,36 +428,38 @@ push-not_nil [] x e = cc
 push-not_nil (y ∷ l) x e = cc
 
 levels_none : {start : State} {none : Log} {d : ℕ} {s : State} {fs : List Enclosing} {ts : List Tree} {o : OpenPart}
-    {l : Log} → OpenGroups start none fs ts o d s l →
-    fs ≡ [] → (d ≡ 0) × (s ≡ start) × (o ≡ top) × (l ≡ none)
-levels_none outermost e = (refl, refl, refl, refl)
-levels_none (inner {outer} f i x l h a j k) e = absurd (push-not_nil outer f (sym e ∙ i))
+    {l : Log} {is : List Item} → OpenGroups start none fs ts o d s l is →
+    fs ≡ [] → (d ≡ 0) × (s ≡ start) × (o ≡ top) × (l ≡ none) × (is ≡ [])
+levels_none outermost e = (refl, refl, refl, refl, refl)
+levels_none (inner {outer} f i x l h a j k z) e = absurd (push-not_nil outer f (sym e ∙ i))
 
 -- the group on top of the stack, in which the innermost part was opened, and the trees up to the last of its own
 record Outer (start : State) (none : Log) (gs : List Enclosing) (g : Enclosing) (ts : List Tree) (o : OpenPart)
-    (d : ℕ) (s : State) (l : Log) : Type 0 where
+    (d : ℕ) (s : State) (l : Log) (is : List Item) : Type 0 where
   depth : ℕ
   begin : State
   before : Log
   current : State
   recorded : Log
+  items_before : List Item
   below : List Tree
   branches : List Tree
   pieces : List Tree
   deeper : d ≡ depth + 1
   holds : HoldsTrees g.frame ts below branches pieces
-  levels : OpenGroups start none gs below (part_of g.frame.open_group) depth begin before
+  levels : OpenGroups start none gs below (part_of g.frame.open_group) depth begin before items_before
   reading : ReadSoFar depth (part_of g.frame.open_group) begin before branches pieces current recorded
   began : Began g.piece current
   more : ends current.rest ≡ false
   opens : OpensPart depth current recorded o s l
+  same_items : is ≡ (items_before ++ items_in (branches ++ pieces)) ++ items_opening o
 
 levels_pop : {start : State} {none : Log} (gs : List Enclosing) (g : Enclosing) {d : ℕ} {s : State} {fs : List Enclosing}
-    {ts : List Tree} {o : OpenPart} {l : Log} → OpenGroups start none fs ts o d s l →
-    fs ≡ gs ++ g ∷ [] → Outer start none gs g ts o d s l
+    {ts : List Tree} {o : OpenPart} {l : Log} {is : List Item} → OpenGroups start none fs ts o d s l is →
+    fs ≡ gs ++ g ∷ [] → Outer start none gs g ts o d s l is
 levels_pop gs g outermost e = absurd (push-not_nil gs g e)
-levels_pop {start} {none} gs g {ts} (inner {d} {s} {l = c} {t} {m} {outer} {below} {branches} {pieces} f i x l h a w j)
-    e =
+levels_pop {start} {none} gs g {ts} (inner {d} {s} {l = c} {t} {m} {outer} {below} {branches} {pieces} {is} f i x l h a
+    w j z) e =
     let p = push-same outer gs f g (sym i ∙ e) in
     record {
       depth = d;
@@ -461,17 +467,19 @@ levels_pop {start} {none} gs g {ts} (inner {d} {s} {l = c} {t} {m} {outer} {belo
       before = c;
       current = t;
       recorded = m;
+      items_before = is;
       below = below;
       branches = branches;
       pieces = pieces;
       deeper = refl;
       holds = subst (λ (y : Enclosing). HoldsTrees y.frame ts below branches pieces) p.1 x;
-      levels = subst (λ (y : Enclosing). OpenGroups start none gs below (part_of y.frame.open_group) d s c) p.1
-          (subst (λ y. OpenGroups start none y below (part_of f.frame.open_group) d s c) p.0 l);
+      levels = subst (λ (y : Enclosing). OpenGroups start none gs below (part_of y.frame.open_group) d s c is) p.1
+          (subst (λ y. OpenGroups start none y below (part_of f.frame.open_group) d s c is) p.0 l);
       reading = subst (λ (y : Enclosing). ReadSoFar d (part_of y.frame.open_group) s c branches pieces t m) p.1 h;
       began = subst (λ (y : Enclosing). Began y.piece t) p.1 a;
       more = w;
       opens = j;
+      same_items = z;
     }
 
 -- ---- the loop's state: the stack, the innermost part, the trees and the position
@@ -483,11 +491,13 @@ holds_new g trees i j =
     let n = append-nil trees in (sym (append-nil (trees ++ []) ∙ n), i, j ∙ ap length (sym n))
 
 pub running_start : (start : State) (none : Log) (stack : List Enclosing) (f : Frame) (trees : List Tree) → stack ≡ [] →
-    trees ≡ [] → f.branches ≡ 0 → f.pieces ≡ 0 → part_of f.open_group ≡ top → Running start none stack f trees start none
+    trees ≡ [] → f.branches ≡ 0 → f.pieces ≡ 0 → part_of f.open_group ≡ top →
+    Running start none stack f trees start none []
 running_start start none stack f trees e x i j k = record {
   depth = 0;
   begin = start;
   before = none;
+  items_before = [];
   below = [];
   branches = [];
   pieces = [];
@@ -495,10 +505,11 @@ running_start start none stack f trees e x i j k = record {
   holds = (x, i, j);
   levels = rw (e, k) outermost;
   reading = reading_new 0 _ start none _ _ refl refl;
+  same_items = refl;
 }
 
 pub running_error : {start t : State} {none l : Log} {stack : List Enclosing} {f : Frame} {trees : List Tree}
-    {error : Located} (h : Running start none stack f trees t l) → ends t.rest ≡ false →
+    {error : Located} {is : List Item} (h : Running start none stack f trees t l is) → ends t.rest ≡ false →
     Piece (length stack) t (failed error) → Alternation 0 start (failed error)
 running_error {t} {f} {error} h e a =
     let (n, x) = reading_error (part_of f.open_group) h.reading e
@@ -506,13 +517,14 @@ running_error {t} {f} {error} h e a =
     levels_error n h.levels x
 
 pub running_piece : {start t v : State} {none l m : Log} {stack : List Enclosing} {f : Frame} {trees : List Tree} {r : Tree}
-    (all : List Tree) → Running start none stack f trees t l → ends t.rest ≡ false →
-    PieceTo (length stack) t (done r v) l m → all ≡ trees ++ solid (r ∷ []) →
-    Running start none stack f all v (added r m)
-running_piece {t} {v} {l} {m} {r} all h e a i = record {
+    {is : List Item} (all : List Tree) (js : List Item) → Running start none stack f trees t l is →
+    ends t.rest ≡ false → PieceTo (length stack) t (done r v) l m → all ≡ trees ++ solid (r ∷ []) →
+    js ≡ is ++ items_in (solid (r ∷ [])) → Running start none stack f all v (added r m) js
+running_piece {t} {v} {l} {m} {r} all js h e a i j = record {
   depth = h.depth;
   begin = h.begin;
   before = h.before;
+  items_before = h.items_before;
   below = h.below;
   branches = h.branches;
   pieces = h.pieces ++ solid (r ∷ []);
@@ -524,6 +536,10 @@ running_piece {t} {v} {l} {m} {r} all h e a i = record {
   );
   levels = h.levels;
   reading = reading_piece _ _ h.reading e (subst (λ d. PieceTo d t (done r v) l m) (sym h.is_depth) a) refl refl;
+  same_items = j ∙ ap (λ x. x ++ items_in (solid (r ∷ []))) h.same_items
+      ∙ append_assoc h.items_before (items_in (h.branches ++ h.pieces)) (items_in (solid (r ∷ [])))
+      ∙ ap (λ x. h.items_before ++ x) (sym (items_append (h.branches ++ h.pieces) (solid (r ∷ [])))
+      ∙ ap items_in (append_assoc h.branches h.pieces (solid (r ∷ []))));
 }
 
 -- a leaf that a look ahead reads has no layout before it, and is no inline flags
@@ -535,33 +551,37 @@ leaf_passed {t} {u} {r} l p =
 
 -- a leaf that a look ahead reads, under its quantifiers
 pub running_leaf : {start t u v : State} {none l : Log} {stack : List Enclosing} {f : Frame} {trees : List Tree}
-    {r q : Tree} (all : List Tree) → Running start none stack f trees t l → IsPlainLeaf t r u →
-    quants (length stack) (bytes t.rest) r u ≡ done q v → all ≡ trees ++ q ∷ [] →
-    Running start none stack f all v
-    (quants_recorded (bytes t.rest) (done r u) (leaf_recorded (reach_of t.rest) (reach_of u.rest) l))
-running_leaf {start} {t} {u} {v} {none} {l} {stack} {f} {trees} {r} {q} all h p e i =
+    {r q : Tree} {is : List Item} (all : List Tree) (js : List Item) → Running start none stack f trees t l is →
+    IsPlainLeaf t r u → quants (length stack) (bytes t.rest) r u ≡ done q v → all ≡ trees ++ q ∷ [] →
+    js ≡ is ++ items_in (r ∷ []) → Running start none stack f all v
+    (quants_recorded (bytes t.rest) (done r u) (leaf_recorded (reach_of t.rest) (reach_of u.rest) l)) js
+running_leaf {start} {t} {u} {v} {none} {l} {stack} {f} {trees} {r} {q} {is} all js h p e i j =
     let m = quants_recorded (bytes t.rest) (done r u) (leaf_recorded (reach_of t.rest) (reach_of u.rest) l) in
     let solid = subst (Holds IsSolid) e (quants_solid (length stack) (bytes t.rest) r u p.solid) in
-    subst (Running start none stack f all v) (ap (λ b. if b then left_out m else m) solid)
-    (running_piece all h p.more (piece_to p.no_layout (atom (p.leaf (length stack)) a_read, leaf_passed l p) e refl)
-    (i ∙ ap (λ b. trees ++ (if b then [] else q ∷ [])) (sym solid)))
+    subst (λ m. Running start none stack f all v m js) (ap (λ b. if b then left_out m else m) solid)
+    (running_piece all js h p.more (piece_to p.no_layout (atom (p.leaf (length stack)) a_read, leaf_passed l p) e refl)
+    (i ∙ ap (λ b. trees ++ (if b then [] else q ∷ [])) (sym solid))
+    (j ∙ ap (λ x. is ++ x) (items_one r ∙ sym (items_under _ _ _ _ e) ∙ sym (items_solid q))))
 
 -- an error in its quantifiers is the error of the whole text
 pub running_leaf_error : {start t u : State} {none l : Log} {stack : List Enclosing} {f : Frame} {trees : List Tree}
-    {r : Tree} {error : Located} → Running start none stack f trees t l → IsPlainLeaf t r u →
+    {r : Tree} {error : Located} {is : List Item} → Running start none stack f trees t l is → IsPlainLeaf t r u →
     quants (length stack) (bytes t.rest) r u ≡ failed error → Alternation 0 start (failed error)
 running_leaf_error h p e = running_error h p.more (piece_as p.no_layout (atom (p.leaf _) a_read) e)
 
 -- a part is opened in a piece that begins there
 running_open : {start t v : State} {none l m : Log} {stack : List Enclosing} {f : Frame} {trees : List Tree} {o : OpenPart}
-    (p : PieceStart) (all : List Enclosing) (g : Frame) → Running start none stack f trees t l →
+    {is : List Item} (p : PieceStart) (all : List Enclosing) (g : Frame) (js : List Item) →
+    Running start none stack f trees t l is →
     Began p t → ends t.rest ≡ false → OpensPart (length stack) t l o v m →
     all ≡ stack ++ record { frame = f; piece = p } ∷ [] →
-    part_of g.open_group ≡ o → g.branches ≡ length trees → g.pieces ≡ length trees → Running start none all g trees v m
-running_open {t} {v} {l = c} {m} {stack} {f} {trees} {o} p all g h b e a i j k l = record {
+    part_of g.open_group ≡ o → g.branches ≡ length trees → g.pieces ≡ length trees → js ≡ is ++ items_opening o →
+    Running start none all g trees v m js
+running_open {t} {v} {l = c} {m} {stack} {f} {trees} {o} p all g js h b e a i j k l z = record {
   depth = h.depth + 1;
   begin = v;
   before = m;
+  items_before = js;
   below = trees;
   branches = [];
   pieces = [];
@@ -569,53 +589,58 @@ running_open {t} {v} {l = c} {m} {stack} {f} {trees} {o} p all g h b e a i j k l
   holds = holds_new g trees k l;
   levels = rw j
       (inner (record { frame = f; piece = p }) i h.holds h.levels h.reading b e
-      (subst (λ d. OpensPart d t c o v m) (sym h.is_depth) a));
+      (subst (λ d. OpensPart d t c o v m) (sym h.is_depth) a) (z ∙ ap (λ x. x ++ items_opening o) h.same_items));
   reading = reading_new _ _ v m _ _ refl refl;
+  same_items = sym (append-nil js);
 }
 
 -- a step reads a piece
-pub running_read : {start t v : State} {none l : Log} {stack : List Enclosing} {f : Frame} {trees ts : List Tree} (m : Log) →
-    Running start none stack f trees t l → ends t.rest ≡ false → IsStep (length stack) t l trees None ts v m →
-    Running start none stack f ts v m
-running_read {ts} m h e (r, n, a, i, j) = rw j (running_piece ts h e a i)
+pub running_read : {start t v : State} {none l : Log} {stack : List Enclosing} {f : Frame} {trees ts : List Tree}
+    {is : List Item} (m : Log) (us : List Tree) (js : List Item) →
+    Running start none stack f trees t l is → ends t.rest ≡ false → IsStep (length stack) t l trees None ts v m →
+    ts ≡ trees ++ us → js ≡ is ++ items_in us → Running start none stack f ts v m js
+running_read {trees} {ts} {is} m us js h e (r, n, a, i, j) k z =
+    rw j (running_piece ts js h e a i (z ∙ ap (λ x. is ++ items_in x) (append-same trees (sym k ∙ i))))
 
 -- a step opens a part
 pub running_opened : {start t v : State} {none l : Log} {stack all : List Enclosing} {f g : Frame} {trees ts : List Tree}
-    (m : Log) (open_group : OpenGroup) (p : PieceStart) → Running start none stack f trees t l → Began p t →
+    {is : List Item} (m : Log) (open_group : OpenGroup) (p : PieceStart) (js : List Item) →
+    Running start none stack f trees t l is → Began p t →
     ends t.rest ≡ false → IsStep (length stack) t l trees (Some open_group) ts v m →
     all ≡ stack ++ record { frame = f; piece = p } ∷ [] → g.open_group ≡ open_group → g.branches ≡ length ts →
-    g.pieces ≡ length ts → Running start none all g ts v m
-running_opened {all} {g} m open_group p h b e (a, same) i j k l =
-    rw same (running_open p all g h b e a i (ap part_of j) (k ∙ ap length same) (l ∙ ap length same))
+    g.pieces ≡ length ts → js ≡ is ++ items_opening (part_of open_group) → Running start none all g ts v m js
+running_opened {all} {g} m open_group p js h b e (a, same) i j k l z =
+    rw same (running_open p all g js h b e a i (ap part_of j) (k ∙ ap length same) (l ∙ ap length same) z)
 
 -- after a bar, the second branch of an absent expression is open
 levels_bar : {d : ℕ} {start s t : State} {none l m : Log} {u : Text} {a : Tree} {fs : List Enclosing} {ts : List Tree} →
-    OpenGroups start none fs ts first d s l → BranchTo d s (done a t) l m →
+    {is : List Item} → OpenGroups start none fs ts first d s l is → BranchTo d s (done a t) l m →
     strip (code "|") t.rest ≡ Some u →
-    OpenGroups start none fs ts (second a) d (at t u) (branch_begun (reach_of u) m)
-levels_bar {start} {t} {none} {u} {a} {fs} {ts} (inner {d} f i l h m j x y) (b, z) e =
-    subst (λ m. OpenGroups start none fs ts (second a) (d + 1) (at t u) (branch_begun (reach_of u) m)) z
-    (inner f i l h m j x (after_branch y b e))
+    OpenGroups start none fs ts (second a) d (at t u) (branch_begun (reach_of u) m) (is ++ items a)
+levels_bar {start} {t} {none} {u} {a} {fs} {ts} {is} (inner {d} f i l h m j x y w) (b, z) e =
+    subst (λ m. OpenGroups start none fs ts (second a) (d + 1) (at t u) (branch_begun (reach_of u) m) (is ++ items a)) z
+    (inner f i l h m j x (after_branch y b e) (ap (λ x. x ++ items a) (w ∙ append-nil _)))
 
 pub running_bar : {start t : State} {none l : Log} {u : Text} {stack : List Enclosing} {f : Frame} {trees : List Tree}
-    (all : List Tree) (g : Frame) (h : Running start none stack f trees t l) → ends t.rest ≡ true →
-    strip (code "|") t.rest ≡ Some u → is_second (part_of f.open_group) ≡ false →
+    {is : List Item} (all : List Tree) (g : Frame) (h : Running start none stack f trees t l is) →
+    ends t.rest ≡ true → strip (code "|") t.rest ≡ Some u → is_second (part_of f.open_group) ≡ false →
     part_of g.open_group ≡ opened_by_bar (part_of f.open_group) (joined h.pieces) →
     HoldsTrees g all h.below (branches_at_bar (part_of f.open_group) h.branches (joined h.pieces)) [] →
-    Running start none stack g all (at t u) (branch_begun (reach_of u) (branch_closed h.pieces t l))
-running_bar {start} {t} {none} {l = c} {u} {stack} {f} all g h e b x i j =
+    Running start none stack g all (at t u) (branch_begun (reach_of u) (branch_closed h.pieces t l)) is
+running_bar {start} {t} {none} {l = c} {u} {stack} {f} {is} all g h e b x i j =
     by_open (part_of f.open_group) h.levels h.reading x i j
   where
     n : Log
     n = branch_begun (reach_of u) (branch_closed h.pieces t c)
 
-    ordinary : {p : OpenPart} → holds_one p ≡ false → OpenGroups start none stack h.below p h.depth h.begin h.before →
-        ReadSoFar h.depth p h.begin h.before h.branches h.pieces t c → part_of g.open_group ≡ p →
-        HoldsTrees g all h.below (h.branches ++ joined h.pieces ∷ []) [] → Running start none stack g all (at t u) n
+    ordinary : {p : OpenPart} → holds_one p ≡ false → OpenGroups start none stack h.below p h.depth h.begin h.before
+        h.items_before → ReadSoFar h.depth p h.begin h.before h.branches h.pieces t c → part_of g.open_group ≡ p →
+        HoldsTrees g all h.below (h.branches ++ joined h.pieces ∷ []) [] → Running start none stack g all (at t u) n is
     ordinary z l r i j = record {
       depth = h.depth;
       begin = h.begin;
       before = h.before;
+      items_before = h.items_before;
       below = h.below;
       branches = h.branches ++ joined h.pieces ∷ [];
       pieces = [];
@@ -623,13 +648,16 @@ running_bar {start} {t} {none} {l = c} {u} {stack} {f} all g h e b x i j =
       holds = j;
       levels = rw i l;
       reading = rw i (reading_bar _ _ r z e b refl refl);
+      same_items = h.same_items
+          ∙ ap (λ x. h.items_before ++ x) (sym (items_choice_pieces h.branches h.pieces)
+          ∙ ap items_in (sym (append-nil (h.branches ++ joined h.pieces ∷ []))));
     }
 
-    by_open : (p : OpenPart) → OpenGroups start none stack h.below p h.depth h.begin h.before →
+    by_open : (p : OpenPart) → OpenGroups start none stack h.below p h.depth h.begin h.before h.items_before →
         ReadSoFar h.depth p h.begin h.before h.branches h.pieces t c →
         is_second p ≡ false → part_of g.open_group ≡ opened_by_bar p (joined h.pieces) →
         HoldsTrees g all h.below (branches_at_bar p h.branches (joined h.pieces)) [] →
-        Running start none stack g all (at t u) n
+        Running start none stack g all (at t u) n is
     by_open top l r x i j = ordinary refl l r i j
     by_open (group _ _) l r x i j = ordinary refl l r i j
     by_open condition l r x i j = ordinary refl l r i j
@@ -638,6 +666,7 @@ running_bar {start} {t} {none} {l = c} {u} {stack} {f} all g h e b x i j =
       depth = h.depth;
       begin = at t u;
       before = n;
+      items_before = h.items_before ++ items (joined h.pieces);
       below = h.below;
       branches = h.branches;
       pieces = [];
@@ -645,6 +674,10 @@ running_bar {start} {t} {none} {l = c} {u} {stack} {f} all g h e b x i j =
       holds = j;
       levels = rw i (levels_bar l (reading_one r refl e) b);
       reading = rw i (reading_new _ _ _ _ _ _ (r.one refl).1 refl);
+      same_items = h.same_items
+          ∙ (λ k. h.items_before ++ (ap items_in (ap (λ x. x ++ h.pieces) (r.one refl).1) ∙ sym (items_pieces h.pieces)) k)
+          ∙ sym (append-nil (h.items_before ++ items (joined h.pieces)))
+          ∙ ap (λ x. (h.items_before ++ items (joined h.pieces)) ++ items_in (x ++ [])) (sym (r.one refl).1);
     }
     by_open (second a) l r x i j = absurd (true≢false x)
 
@@ -671,20 +704,20 @@ bar_does_not_close : code "|" ≢ code ")"
 bar_does_not_close e = omega (arith, e)
 
 second_error : {d : ℕ} {start s t : State} {none l m : Log} {error : Located} {a r : Tree} {fs : List Enclosing}
-    {ts : List Tree} → OpenGroups start none fs ts (second a) d s l → BranchTo d s (done r t) l m →
+    {ts : List Tree} {is : List Item} → OpenGroups start none fs ts (second a) d s l is → BranchTo d s (done r t) l m →
     closed (expression a r) t ≡ failed error → Alternation 0 start (failed error)
-second_error {t} {a} {r} (inner f i y l h m j x) b e =
+second_error {t} {a} {r} (inner f i y l h m j x w) b e =
     let (n, z) = reading_error (part_of f.frame.open_group) h j (ended_error _ r t x b (λ _ z. absurd (true≢false z)) e) in
     levels_error n l z
 
 pub running_bar_error : {start t : State} {none l : Log} {u : Text} {stack : List Enclosing} {f : Frame}
-    {trees : List Tree} (o : Outcome Tree) → Running start none stack f trees t l →
+    {trees : List Tree} {is : List Item} (o : Outcome Tree) → Running start none stack f trees t l is →
     ends t.rest ≡ true → strip (code "|") t.rest ≡ Some u → IsErrorOfBar (part_of f.open_group) t.rest o →
     Alternation 0 start o
 running_bar_error {start} {t} {none} {l = c} {u} {stack} {f} o h e b x = by_open (part_of f.open_group) h.levels
     h.reading x
   where
-    by_open : (p : OpenPart) → OpenGroups start none stack h.below p h.depth h.begin h.before →
+    by_open : (p : OpenPart) → OpenGroups start none stack h.below p h.depth h.begin h.before h.items_before →
         ReadSoFar h.depth p h.begin h.before h.branches h.pieces t c →
         IsErrorOfBar p t.rest o → Alternation 0 start o
     by_open (second a) l r x =
@@ -698,37 +731,48 @@ running_bar_error {start} {t} {none} {l = c} {u} {stack} {f} o h e b x = by_open
     by_open (body _ _) l r x = absurd x
     by_open first l r x = absurd x
 
-pub running_end : {start t : State} {none l : Log} {stack : List Enclosing} {f : Frame} {trees : List Tree} (r : Tree)
-    (h : Running start none stack f trees t l) → ends t.rest ≡ true → strip (code "|") t.rest ≡ None →
+pub running_end : {start t : State} {none l : Log} {stack : List Enclosing} {f : Frame} {trees : List Tree}
+    {is : List Item} (r : Tree) (h : Running start none stack f trees t l is) → ends t.rest ≡ true → strip (code "|") t.rest ≡ None →
     r ≡ choice (h.branches ++ joined h.pieces ∷ []) → stack ≡ [] →
     AlternationTo 0 start (done r t) none (choice_closed h.branches h.pieces t l)
 running_end {start} {t} {none} {l} r h e a i j =
-    let (d, s, p, c) = levels_none h.levels j in
+    let (d, s, p, c, none_before) = levels_none h.levels j in
     let whole = choice (h.branches ++ joined h.pieces ∷ []) in
     let n = choice_closed h.branches h.pieces t l in
     rw i (subst (λ c. AlternationTo 0 start (done whole t) c n) c
     (subst (λ s. AlternationTo 0 s (done whole t) h.before n) s
     (subst (λ d. AlternationTo d h.begin (done whole t) h.before n) d (reading_alternation h.reading e a))))
 
+-- its items are all that were read
+pub running_end_items : {start t : State} {none l : Log} {stack : List Enclosing} {f : Frame} {trees : List Tree}
+    {is : List Item} (r : Tree) (h : Running start none stack f trees t l is) →
+    r ≡ choice (h.branches ++ joined h.pieces ∷ []) → stack ≡ [] → is ≡ items r
+running_end_items r h i j =
+    let (d, s, p, c, none_before) = levels_none h.levels j in
+    h.same_items ∙ ap (λ x. x ++ items_in (h.branches ++ h.pieces)) none_before
+    ∙ sym (items_branches_pieces h.branches h.pieces) ∙ ap items (sym i)
+
 -- the context of the part that is to be closed
 pub record Closing (start : State) (none : Log) (stack : List Enclosing) (g : Enclosing) (trees : List Tree)
-    (o : OpenPart) (r : Tree) (t : State) (n : Log) : Type 0 where
+    (o : OpenPart) (r : Tree) (t : State) (n : Log) (is : List Item) : Type 0 where
   pub current : State
   pub recorded : Log
+  pub items_before : List Item
   pub inside : State
   pub before : Log
-  pub outer : Running start none stack g.frame trees current recorded
+  pub outer : Running start none stack g.frame trees current recorded items_before
   pub began : Began g.piece current
   pub more : ends current.rest ≡ false
   pub opens : OpensPart (length stack) current recorded o inside before
   pub whole : Part o (length stack + 1) inside (done r t) before n
+  pub same_items : is ≡ items_before ++ (items_opening o ++ items r)
 
 pub running_closing : {start t : State} {none l : Log} {all : List Enclosing} {f : Frame} {trees : List Tree}
-    (stack : List Enclosing) (g : Enclosing) (q : OpenPart) → q ≡ part_of f.open_group →
-    (h : Running start none all f trees t l) → ends t.rest ≡ true → strip (code "|") t.rest ≡ None →
+    {is : List Item} (stack : List Enclosing) (g : Enclosing) (q : OpenPart) → q ≡ part_of f.open_group →
+    (h : Running start none all f trees t l is) → ends t.rest ≡ true → strip (code "|") t.rest ≡ None →
     all ≡ stack ++ g ∷ [] →
     Closing start none stack g h.below q (choice (h.branches ++ joined h.pieces ∷ [])) t
-    (choice_closed h.branches h.pieces t l)
+    (choice_closed h.branches h.pieces t l) is
 running_closing {t} {l} {f} stack g q z h e a j =
     let o = levels_pop stack g h.levels j in
     let m : o.depth ≡ length stack = omega (arith, o.deeper, h.is_depth, ap length j, length_push stack g) in
@@ -738,12 +782,14 @@ running_closing {t} {l} {f} stack g q z h e a j =
     record {
       current = o.current;
       recorded = o.recorded;
+      items_before = o.items_before ++ items_in (o.branches ++ o.pieces);
       inside = h.begin;
       before = h.before;
       outer = record {
         depth = o.depth;
         begin = o.begin;
         before = o.before;
+        items_before = o.items_before;
         below = o.below;
         branches = o.branches;
         pieces = o.pieces;
@@ -751,6 +797,7 @@ running_closing {t} {l} {f} stack g q z h e a j =
         holds = o.holds;
         levels = o.levels;
         reading = o.reading;
+        same_items = refl;
       };
       began = o.began;
       more = o.more;
@@ -758,4 +805,10 @@ running_closing {t} {l} {f} stack g q z h e a j =
       whole = rw z (subst (λ d. Part (part_of f.open_group) d h.begin
           (done (choice (h.branches ++ joined h.pieces ∷ [])) t) h.before n) (o.deeper ∙ ap (λ d. d + 1) m)
           (reading_end (part_of f.open_group) h.reading e a));
+      same_items =
+          let before = o.items_before ++ items_in (o.branches ++ o.pieces) in
+          h.same_items
+          ∙ (λ k. (o.same_items ∙ ap (λ p. before ++ items_opening p) (sym z)) k
+          ++ sym (items_branches_pieces h.branches h.pieces) k)
+          ∙ append_assoc before (items_opening q) (items (choice (h.branches ++ joined h.pieces ∷ [])));
     }

@@ -1,20 +1,18 @@
 -- The items of the nodes that have several children.
-use Rattle.std.proofs.Common.{◌≡◌, ◌+◌, ◌≤◌, ◌++◌, ◌||◌, List, Bool, arith, length, ap, sym, ◌∙◌, rules, Option, Box}
+use Rattle.std.proofs.Common.{◌≡◌, ◌+◌, ◌≤◌, ◌++◌, List, arith, length, ap, sym, ◌∙◌, rules, Option, Box}
 use Rattle.std.proofs.Common.{Global, Result, append-nil, refl}
 use Rattle.fancy_lex.specs.declared.error.ReadError.{ReadError}
-use Rattle.fancy_parts.specs.Groups.{Groups}
 use Rattle.fancy_grammar.specs.Items.{Item, items, openings_in}
 use Rattle.fancy_grammar.specs.Tree.{conditional, expression}
-use Rattle.fancy_syntax.specs.Records.{has_items, IsErrorRecorded, Walks}
+use Rattle.fancy_syntax.specs.Records.{IsErrorRecorded, Walks}
 use Rattle.fancy_syntax.specs.View.{view, view_absent}
-use Rattle.fancy_grammar.specs.Walk.{Resolver, Progress, groups_after, progress_after, resolved_by}
+use Rattle.fancy_grammar.specs.Walk.{Resolver, Progress, progress_after, resolved_by}
 use Rattle.fancy_syntax.specs.declared.expr.Absent.{Absent, Expression}
 use Rattle.fancy_syntax.specs.declared.expr.Expr.{Expr, Conditional, the_lemmas}
 use Rattle.fancy_syntax.specs.declared.resolve.records.Progress as code
 use Rattle.fancy_syntax.specs.declared.resolve.records.Stopped.{Stopped}
 use Rattle.fancy_grammar.proofs.ItemLemmas.{length_openings, counted}
-use Rattle.fancy_syntax.proofs.NoItems.{met_append}
-use Rattle.fancy_syntax.proofs.WalkLemmas.{found_le, recorded_le, recorded_passed, recorded_append, error_kept, walk_ends}
+use Rattle.fancy_syntax.proofs.WalkLemmas.{recorded_le, recorded_passed, recorded_append, error_kept, walk_ends}
 
 -- the items are those of two trees, or of three
 pub record Two (l : List Item) (x y : Expr) : Type 0 where
@@ -66,23 +64,6 @@ three_count {x} {y} {z} p =
     ∙ ap (λ n. length (openings_in (items (view x))) + n) (length_openings (items (view y)) (items (view z)))
 
 -- a walk over the first part, and one over the second, pass at most as many groups as there are openings
-
-pub two_found : {l : List Item} {x y : Expr} (named : Bool) (r s : Groups) → Two l x y →
-    s ≡ groups_after named r (items (view x)) →
-    s.total + length (openings_in (items (view y))) ≤ r.total + length (openings_in l)
-two_found {x} named r s p e = omega (arith, two_count p, found_le named r s (items (view x)) e)
-
-pub three_found : {l : List Item} {x y z : Expr} (named : Bool) (r s : Groups) → Three l x y z →
-    s ≡ groups_after named r (items (view x)) →
-    s.total + (length (openings_in (items (view y))) + length (openings_in (items (view z)))) ≤ r.total + length
-    (openings_in l)
-three_found {x} named r s p e = omega (arith, three_count p, found_le named r s (items (view x)) e)
-
-pub third_found : {l : List Item} {x y z : Expr} (named : Bool) (r s t : Groups) → Three l x y z →
-    s ≡ groups_after named r (items (view x)) →
-    t ≡ groups_after named s (items (view y)) →
-    t.total + length (openings_in (items (view z))) ≤ r.total + length (openings_in l)
-third_found {x} {y} named r s t p e f = omega (arith, three_found named r s p e, found_le named s t (items (view y)) f)
 
 pub two_recorded : {l : List Item} {x y : Expr} (k : Resolver) (r s : Progress) → Two l x y →
     s ≡ progress_after k r (items (view x)) →
@@ -146,19 +127,3 @@ three_resolved {u} {v} {w} k p q s o after x y z h i j l a b first second rest =
     ((third ∙ ap (λ c. resolved_by k c (view w.value)) two) n))
     ∙ sym (ap (resolved_by k p.passed) (ap view same ∙ view_conditional u v w)))
     (walk_ends o k q s _ (items (view v.value)) (items (view w.value)) after _ _ refl b (λ _ h. h) rest)
-
--- a walk finds an item if one of the parts has one
-
-pub two_met : {l : List Item} {x y : Expr} (r s : Bool) → Two l x y → s ≡ (r || has_items (items (view x))) →
-    (r || has_items l) ≡ (s || has_items (items (view y)))
-two_met {x} {y} r s p e =
-    ap (λ m. r || has_items m) p.is ∙ met_append r (items (view x)) (items (view y))
-    ∙ ap (λ b. b || has_items (items (view y))) (sym e)
-
-pub three_met : {l : List Item} {x y z : Expr} (r s t : Bool) → Three l x y z →
-    s ≡ (r || has_items (items (view x))) → t ≡ (s || has_items (items (view y))) →
-    (r || has_items l) ≡ (t || has_items (items (view z)))
-three_met {x} {y} {z} r s t p e f =
-    ap (λ m. r || has_items m) p.is ∙ met_append r (items (view x)) (items (view y) ++ items (view z))
-    ∙ ap (λ b. b || has_items (items (view y) ++ items (view z))) (sym e)
-    ∙ met_append s (items (view y)) (items (view z)) ∙ ap (λ b. b || has_items (items (view z))) (sym f)

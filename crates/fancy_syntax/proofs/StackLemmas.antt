@@ -15,6 +15,7 @@ use Rattle.fancy_lex.specs.Text.{Text, bytes}
 use Rattle.fancy_grammar.specs.AtomStart.{AtomStart, nothing, read, atom_start, start_of}
 use Rattle.fancy_grammar.specs.AtomStart.{begins_no_atom}
 use Rattle.fancy_grammar.specs.Depth.{max_depth, most_open}
+use Rattle.fancy_grammar.specs.Items.{Item}
 use Rattle.fancy_grammar.specs.Slices.{Slice}
 use Rattle.fancy_grammar.specs.State.{State, at}
 use Rattle.fancy_grammar.specs.Tree.{Tree}
@@ -115,15 +116,15 @@ opened_fewer (after_branch {v} {u} x b e) =
 -- ---- the stack
 
 -- each group that is open has taken one
-groups_fewer : {start : State} {none l : Log} {d : ℕ} {s : State} {fs : List Enclosing} {ts : List Tree} {o : OpenPart} →
-    OpenGroups start none fs ts o d s l → length fs + open_parens s.rest ≤ open_parens start.rest
+groups_fewer : {start : State} {none l : Log} {d : ℕ} {s : State} {fs : List Enclosing} {ts : List Tree} {o : OpenPart}
+    {is : List Item} → OpenGroups start none fs ts o d s l is → length fs + open_parens s.rest ≤ open_parens start.rest
 groups_fewer outermost = omega arith
-groups_fewer (inner {outer} f i x l h a m j) =
+groups_fewer (inner {outer} f i x l h a m j z) =
     omega (arith, groups_fewer l, ap length i, length_push outer f, fewer_after h.slice, opened_fewer j)
 
 -- so the stack has capacity for one more if one opens
 pub capacity_for_one : {start t v : State} {none l m : Log} {stack : List Enclosing} {f : Frame} {trees : List Tree} {o : OpenPart}
-    (reserved : ℕ) → Running start none stack f trees t l → OpensPart (length stack) t l o v m →
+    {is : List Item} (reserved : ℕ) → Running start none stack f trees t l is → OpensPart (length stack) t l o v m →
     length stack + 1 < max_depth →
     groups_at_once start.rest ≤ reserved → length stack < reserved
 capacity_for_one {start} {stack} reserved h opens below fits =

@@ -1,5 +1,5 @@
 -- Walks over parts, one after another.
-use Rattle.std.proofs.Common.{◌≡◌, ℕ, ◌+◌, ◌<◌, ◌≤◌, List, ◌++◌, Bool, true, false, length, refl, ap}
+use Rattle.std.proofs.Common.{◌≡◌, ℕ, ◌+◌, ◌<◌, ◌≤◌, List, ◌++◌, length, refl, ap}
 use Rattle.std.proofs.Common.{◌∙◌, [], ◌∷◌, drop, drop-cons, get_or, add-one, take, set, sym, arith, zero, suc, Option}
 use Rattle.std.proofs.Common.{Some, None, Result, Ok, Err, subst}
 use Rattle.std.proofs.lemmas.Grind.{take-set_at}
@@ -9,7 +9,6 @@ use Rattle.std.proofs.lemmas.List.Sums.{fold-append, length-filter, count_by-le-
 use Rattle.fancy_lex.specs.Located.{Located}
 use Rattle.fancy_lex.specs.declared.error.ReadError.{ReadError}
 use Rattle.fancy_lex.specs.declared.error.ReadError.TheVariants.{At, OutOfMemory}
-use Rattle.fancy_parts.specs.Groups.{Groups, with_opening}
 use Rattle.fancy_parts.specs.Ranks.{Opening, is_counted}
 use Rattle.fancy_grammar.proofs.ItemLemmas.{length_openings, counted, counted_first}
 use Rattle.fancy_grammar.specs.Items.{Item, opening, reference, items, items_all, openings_in}
@@ -19,12 +18,8 @@ use Rattle.fancy_syntax.specs.View.{view, views}
 use Rattle.fancy_syntax.specs.declared.expr.Expr.{Expr}
 use Rattle.fancy_syntax.specs.declared.resolve.records.Progress as code
 use Rattle.fancy_syntax.specs.declared.resolve.records.Stopped.{Stopped}
-use Rattle.fancy_grammar.specs.Walk.{groups_after, find_item, Resolver, Progress, progress_after, record_item, resolved_by}
+use Rattle.fancy_grammar.specs.Walk.{Resolver, Progress, progress_after, record_item, resolved_by}
 use Rattle.fancy_grammar.specs.Walk.{all_resolved_by}
-
-pub found_append : (named : Bool) (s : Groups) (a b : List Item) →
-    groups_after named s (a ++ b) ≡ groups_after named (groups_after named s a) b
-found_append named s a b = fold-append (find_item named) s a b
 
 pub recorded_append : (k : Resolver) (s : Progress) (a b : List Item) →
     progress_after k s (a ++ b) ≡ progress_after k (progress_after k s a) b
@@ -57,25 +52,7 @@ walk_ends (Ok a) k s p l x y after P Q h e f w = (f a w.0, w.1 ∙ same_end k s 
 walk_ends (Err _) k s p l x y after P Q h e f w =
     subst (λ (q : Progress). IsErrorRecorded after.error q.error) (same_end k s p l x y h e) w
 
--- a walk passes at most as many groups as there are openings
-
-opening_total : (named : Bool) (s : Groups) (o : Opening) (b : Bool) → is_counted named o.name ≡ b →
-    (with_opening named s o).total ≤ s.total + 1
-opening_total named s o true e = rw e (omega arith)
-opening_total named s o false e = rw e (omega arith)
-
-total_le : (named : Bool) (s : Groups) (l : List Item) →
-    (groups_after named s l).total ≤ s.total + length (openings_in l)
-total_le named s [] = omega arith
-total_le named s (opening o ∷ l) =
-    omega (arith, total_le named (with_opening named s o) l, opening_total named s o (is_counted named o.name) refl)
-total_le named s (reference r p ∷ l) = total_le named s l
-
-pub found_le : (named : Bool) (s f : Groups) (l : List Item) → f ≡ groups_after named s l →
-    f.total ≤ s.total + length (openings_in l)
-found_le named s f l e = omega (arith, total_le named s l, ap (λ (g : Groups). g.total) e)
-
--- and just as many as have a number
+-- a walk passes just as many groups as have a number
 passed_is : (k : Resolver) (s : Progress) (l : List Item) →
     (progress_after k s l).passed ≡ s.passed + counted k.named l
 passed_is k s [] = omega arith

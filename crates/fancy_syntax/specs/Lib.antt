@@ -40,6 +40,7 @@ pub use Rattle.fancy_grammar.specs.ReadBack
 -- ---- the parser's loop
 pub mod Reads
 pub mod Parsed
+pub mod Found
 pub mod Machine
 pub mod StackCapacity
 pub mod Log

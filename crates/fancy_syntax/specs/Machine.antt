@@ -12,8 +12,10 @@ use Rattle.fancy_grammar.specs.AtomStart as seen
 use Rattle.fancy_grammar.specs.Grammar.{Branch, Piece, Inside, closed, is_condition}
 use Rattle.fancy_grammar.specs.Grammar.{branches_of, conditional_of, clear_or_stopper}
 use Rattle.fancy_grammar.specs.GroupKind.{GroupKind, group_node}
+use Rattle.fancy_grammar.specs.Items.{Item, items}
 use Rattle.fancy_grammar.specs.Join.{solid, is_empty}
 use Rattle.fancy_grammar.specs.Slices.{Slice}
+use Rattle.fancy_syntax.specs.Found.{IsFound, group_opening, items_in}
 use Rattle.fancy_syntax.specs.Log.{Log, opened, group_opened, body_opened, body_begun, branch_begun, atom_closed}
 use Rattle.fancy_syntax.specs.Log.{layout_passed}
 use Rattle.fancy_syntax.specs.Recording.{PieceTo, PiecesTo, BranchTo, BranchesTo, AlternationTo, inside_recorded}
@@ -47,6 +49,17 @@ part_of open_group.Condition = condition
 part_of (open_group.Body c left) = body (view c.value) left
 part_of open_group.First = first
 part_of (open_group.Second a) = second (view a.value)
+
+-- the items that the opening of a part reads: a group, or those of a tree that the part keeps
+abbrev pub items_opening : OpenPart → List Item
+items_opening (group h p) = group_opening h p
+items_opening (body c left) = items c
+items_opening (second a) = items a
+items_opening _ = []
+
+abbrev pub items_opened : Option OpenGroup → List Item
+items_opened None = []
+items_opened (Some open_group) = items_opening (part_of open_group)
 
 -- whether the part holds a single branch, not an alternation
 abbrev pub holds_one : OpenPart → Bool
@@ -180,34 +193,40 @@ HoldsTrees f trees below branches pieces =
     (trees ≡ below ++ branches ++ pieces) × (f.branches ≡ length below) × (f.pieces ≡ length (below ++ branches))
 
 -- the open groups of a text that begins at `start`, with the log `none`, and the trees that they hold. The innermost
--- part begins at s, at depth d, with the log l. Its own trees are not among these.
-pub data OpenGroups (start : State) (none : Log) : List Enclosing → List Tree → OpenPart → ℕ → State → Log → Type 0
+-- part begins at s, at depth d, with the log l, after the items is. Its own trees are not among these.
+pub data OpenGroups (start : State) (none : Log) : List Enclosing → List Tree → OpenPart → ℕ → State → Log →
+    List Item → Type 0
   where
-    outermost : OpenGroups start none [] [] top 0 start none
-    inner : {d s l t m v n p all outer trees below branches pieces : _} (e : Enclosing) → all ≡ outer ++ e ∷ [] →
+    outermost : OpenGroups start none [] [] top 0 start none []
+    inner : {d s l t m v n p all outer trees below branches pieces is js : _} (e : Enclosing) → all ≡ outer ++ e ∷ [] →
         HoldsTrees e.frame trees below branches pieces →
-        OpenGroups start none outer below (part_of e.frame.open_group) d s l →
+        OpenGroups start none outer below (part_of e.frame.open_group) d s l is →
         ReadSoFar d (part_of e.frame.open_group) s l branches pieces t m → Began e.piece t → ends t.rest ≡ false →
-        OpensPart d t m p v n → OpenGroups start none all trees p (d + 1) v n
+        OpensPart d t m p v n → js ≡ (is ++ items_in (branches ++ pieces)) ++ items_opening p →
+        OpenGroups start none all trees p (d + 1) v n js
 
--- what has been read of a text that begins at `start`, up to t: the stack, the trees that all groups hold, and the
--- innermost group; the record goes from `none` to l
+-- what has been read of a text that begins at `start`, up to t: the stack, the trees that all groups hold, the innermost
+-- group, and the items; the record goes from `none` to l
 pub record Running (start : State) (none : Log) (stack : List Enclosing) (f : Frame) (trees : List Tree) (t : State)
-    (l : Log) : Type 0 where
+    (l : Log) (is : List Item) : Type 0 where
   pub depth : ℕ
   pub begin : State
   pub before : Log
+  pub items_before : List Item
   pub below : List Tree
   pub branches : List Tree
   pub pieces : List Tree
   pub is_depth : depth ≡ length stack
   pub holds : HoldsTrees f trees below branches pieces
-  pub levels : OpenGroups start none stack below (part_of f.open_group) depth begin before
+  pub levels : OpenGroups start none stack below (part_of f.open_group) depth begin before items_before
   pub reading : ReadSoFar depth (part_of f.open_group) begin before branches pieces t l
+  pub same_items : is ≡ items_before ++ items_in (branches ++ pieces)
 
--- the same for the fields of the parser
-abbrev pub HasRead : State → Log → Parser → Log → Type 0
-HasRead start none r l = Running start none r.stack.items r.frame (views r.trees.items) (state r.current) l
+-- the same for the fields of the parser, which has found its groups in the items
+pub record HasRead (start : State) (none : Log) (r : Parser) (l : Log) : Type 0 where
+  pub is : List Item
+  pub running : Running start none r.stack.items r.frame (views r.trees.items) (state r.current) l is
+  pub found : IsFound start.flags.ignore_numbered_groups r.found is
 
 -- the same, and P holds of the log
 abbrev pub HasReadTo : State → Log → Parser → (Log → Type 0) → Type 0

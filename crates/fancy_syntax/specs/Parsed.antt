@@ -12,6 +12,7 @@ use Rattle.fancy_grammar.specs.Tree.{Tree}
 use Rattle.fancy_syntax.specs.View.{view}
 use Rattle.fancy_syntax.specs.declared.expr.Expr.{Expr}
 use Rattle.fancy_syntax.specs.declared.grammar.atom_start.AtomStart as declared
+use Rattle.fancy_syntax.specs.declared.grammar.found.Found.{Found}
 use Rattle.fancy_syntax.specs.declared.grammar.atom_start.AtomStart.TheVariants.{Nothing, Read, Group, Condition, Body}
 use Rattle.fancy_syntax.specs.declared.grammar.atom_start.AtomStart.TheVariants.{AbsentBranch}
 use Rattle.fancy_syntax.specs.declared.grammar.group.kind.GroupKind.{GroupKind}
@@ -32,8 +33,8 @@ group_kind code.Atomic = kind.atomic
 group_kind code.Define = kind.define
 group_kind code.Repeater = kind.repeater
 
--- the result, a tree with the state after it or an error, is an outcome
-abbrev pub IsTreeRead : Result (Expr × State) ReadError → (Outcome Tree → Type 0) → Type 0
+-- the result, a tree with the state after it and what was found, or an error, is an outcome
+abbrev pub IsTreeRead : Result (Expr × State × Found) ReadError → (Outcome Tree → Type 0) → Type 0
 IsTreeRead r P = MatchResult r (λ found. P (done (view found.0) (state found.1))) (λ e. IsErrorAmong e P)
 
 -- the outcome is this tree and this state, or the error that the result has

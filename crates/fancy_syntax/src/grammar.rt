@@ -1,20 +1,23 @@
 //! The grammar: a loop over a stack of open groups reads the raw tree of a text.
 ghost use Rattle.std.specs.Prelude.{◌≡◌, ◌<◌, ◌≤◌, length, chars, IfOk};
 ghost use Rattle.fancy_grammar.specs.Grammar as spec;
+ghost use Rattle.fancy_grammar.specs.Items.{items};
 ghost use Rattle.fancy_grammar.specs.State.{done};
 ghost use Rattle.fancy_lex.specs.Text.{reach_of};
+ghost use Rattle.fancy_syntax.specs.Found.{IsFound};
 ghost use Rattle.fancy_syntax.specs.Log.{Log, started};
 ghost use Rattle.fancy_syntax.specs.RecordedWhole.{IsRecordedWhole};
 ghost use Rattle.fancy_syntax.specs.Recording.{AlternationTo};
 ghost use Rattle.fancy_syntax.specs.Parsed.{state, IsTreeRead};
 ghost use Rattle.fancy_syntax.specs.View.{view};
-ghost use Rattle.fancy_syntax.specs.Reads.{ReadsWhole};
+ghost use Rattle.fancy_syntax.specs.Reads.{IsNumbered, ReadsWhole};
 
 mod atom;
 mod atom_start;
 mod conditional;
 mod error;
 mod fast_path;
+mod found;
 mod frame;
 mod group;
 mod parser;
@@ -29,32 +32,36 @@ mod trees;
 
 use crate::expr::Expr;
 use crate::grammar::error::general;
+use crate::grammar::found::Found;
 use crate::grammar::parser::Parser;
 use crate::grammar::spanning::Spanning;
 use crate::grammar::state::{State, is_end};
+use crate::raw_tree::RawTree;
 use fancy_lex::error::ReadError;
 use fancy_lex::flags::Flags;
 use fancy_lex::text::{after, next, reach};
 use std::alloc::Global;
 
-/// Reads a whole text: its raw tree, in which a capturing group is an AstNode with the reach of its parenthesis.
-/// Returns the error of the text, or OutOfMemory.
+/// Reads a whole text: its raw tree. Returns the error of the text, or OutOfMemory.
 #[inline]
 pub(crate) fn parse<S: Spanning>(
     alloc: Global,
     text: &str,
     flags: Flags,
     spans: &mut S,
-) -> Result<Expr, ReadError>
+) -> Result<RawTree, ReadError>
     ensures reads { ReadsWhole result flags (chars text.now) }
+    ensures numbered { IfOk result (λ raw. IsNumbered flags raw) }
     ensures spans { (l : Log) → l ≡ started (reach_of (chars text.now)) → S.records spans.old l →
-        IfOk result (λ e. (m : Log) × S.records spans.new m × IsRecordedWhole flags (chars text.now) (view e) m) }
+        IfOk result (λ raw. (m : Log) × S.records spans.new m
+        × IsRecordedWhole flags (chars text.now) (view raw.expr) m) }
 {
-    let (tree, current) = alternation(alloc, State { flags, rest: text }, spans)?;
+    let (tree, current, found) = alternation(alloc, State { flags, rest: text }, spans)?;
     match next(current.rest) {
-        None => Ok(tree),
+        None => Ok(found.with_tree(tree)),
         Some(_) => {
             drop(tree);
+            drop(found);
             Err(general(alloc, "end of string not reached", reach(current.rest)))
         }
     }
@@ -65,8 +72,9 @@ fn alternation<'a, S: Spanning>(
     alloc: Global,
     start: State<'a>,
     spans: &mut S,
-) -> Result<(Expr, State<'a>), ReadError>
+) -> Result<(Expr, State<'a>, Found), ReadError>
     ensures value { IsTreeRead result (spec.Alternation 0 (state start.entry)) }
+    ensures found { IfOk result (λ p. IsFound start.entry.flags.ignore_numbered_groups p.2 (items (view p.0))) }
     ensures within { IfOk result (λ p. length p.1.rest.now ≤ length start.entry.rest.now) }
     ensures spans { (l : Log) → S.records spans.old l → IfOk result (λ p. (m : Log) × S.records spans.new m
         × AlternationTo 0 (state start.entry) (done (view p.0) (state p.1)) l m) }
@@ -82,7 +90,8 @@ fn alternation<'a, S: Spanning>(
         } else if let Some(tail) = after(rest, '|') {
             parser.bar(alloc, tail, spans)?;
         } else if let Some(tree) = parser.close(alloc, spans)? {
-            return Ok((tree, parser.current));
+            let Parser { current, found, .. } = parser;
+            return Ok((tree, current, found));
         }
     }
 }

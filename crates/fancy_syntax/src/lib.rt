@@ -17,6 +17,7 @@
 pub mod expr;
 mod grammar;
 pub mod print;
+mod raw_tree;
 mod resolve;
 pub mod span;
 pub mod tree;

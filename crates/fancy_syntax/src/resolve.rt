@@ -1,14 +1,14 @@
 //! From a raw tree to the resolved tree: groups get their numbers, and references the numbers that they refer to.
-ghost use Rattle.std.specs.Prelude.{◌≡◌, ◌+◌, ◌<◌, ◌&&◌, chars, length, IfOk, IfErr, None};
-ghost use Rattle.std.specs.List.{list_any};
+ghost use Rattle.std.specs.Prelude.{◌≡◌, ◌+◌, ◌<◌, chars, length, IfOk, IfErr, None};
 ghost use Rattle.fancy_lex.specs.IdReference.{amount_bound};
 ghost use Rattle.fancy_lex.specs.Text.{bytes};
+ghost use Rattle.fancy_lex.specs.declared.flags.Flags.{Flags};
 ghost use Rattle.fancy_parts.specs.Groups.{groups_of};
-ghost use Rattle.fancy_parts.specs.Ranks.{numbered_openings_in, is_named, named_groups};
 ghost use Rattle.fancy_grammar.specs.Items.{items, openings};
 ghost use Rattle.fancy_grammar.specs.GroupInfo.{group_info};
 ghost use Rattle.fancy_grammar.specs.Errors.{IsErrorIn};
 ghost use Rattle.fancy_syntax.specs.InfoViews.{info_of};
+ghost use Rattle.fancy_syntax.specs.Reads.{IsNumbered};
 ghost use Rattle.fancy_syntax.specs.Records.{resolver_of, progress_of, info_found, has_items};
 ghost use Rattle.fancy_grammar.specs.Ordered.{DescendingReaches};
 ghost use Rattle.fancy_grammar.specs.Resolved.{resolved, error_of};
@@ -17,43 +17,40 @@ ghost use Rattle.fancy_syntax.specs.View.{view};
 
 mod records;
 mod rewrite;
-mod survey;
 
 use crate::expr::Expr;
+use crate::raw_tree::RawTree;
 use crate::resolve::records::{Progress, Resolver};
 use crate::resolve::rewrite::rewrite;
-use crate::resolve::survey::{Surveyed, survey};
 use crate::tree::ExprTree;
 use fancy_lex::error::ReadError;
-use fancy_lex::flags::Flags;
 use fancy_parts::ranks::Groups;
-use std::alloc::{AllocError, Global};
+use std::alloc::Global;
 
 /// The raw tree of the pattern resolved in place, with its group information, or the first error of its references.
 #[inline(always)]
-pub(crate) fn resolve(
-    alloc: Global,
-    raw: Expr,
-    pattern: &str,
-    flags: Flags,
-) -> Result<ExprTree, ReadError>
-    requires { DescendingReaches (length pattern.now + 2) 2 (items (view raw)) }
-    ensures tree { IfOk result (λ t. view t.expr ≡ resolved flags (bytes (chars pattern.now)) (view raw)) }
-    ensures group_info { IfOk result (λ t. info_of t ≡ group_info flags (chars pattern.now) (view raw)) }
-    ensures no_error { IfOk result (λ _. error_of flags (view raw) ≡ None) }
-    ensures error { IfErr result (λ e. IsErrorIn e (error_of flags (view raw))) }
+pub(crate) fn resolve(alloc: Global, raw: RawTree, pattern: &str) -> Result<ExprTree, ReadError>
+    requires in_order { DescendingReaches (length pattern.now + 2) 2 (items (view raw.expr)) }
+    requires met { raw.met ≡ has_items (items (view raw.expr)) }
+    ensures tree { (f : Flags) → IsNumbered f raw →
+        IfOk result (λ t. view t.expr ≡ resolved f (bytes (chars pattern.now)) (view raw.expr)) }
+    ensures group_info { (f : Flags) → IsNumbered f raw →
+        IfOk result (λ t. info_of t ≡ group_info f (chars pattern.now) (view raw.expr)) }
+    ensures no_error { (f : Flags) → IsNumbered f raw → IfOk result (λ _. error_of f (view raw.expr) ≡ None) }
+    ensures error { (f : Flags) → IsNumbered f raw → IfErr result (λ e. IsErrorIn e (error_of f (view raw.expr))) }
 {
-    let Ok((named, found)) = find_groups(alloc, &raw, flags.ignore_numbered_groups) else {
-        drop(raw);
-        return Err(ReadError::OutOfMemory);
-    };
-    let Surveyed { groups, met } = found;
+    let RawTree {
+        expr,
+        groups,
+        named,
+        met,
+    } = raw;
     let resolver = Resolver {
         pattern,
         named,
         groups,
     };
-    let mut expr = raw;
+    let mut expr = expr;
     let progress = match walk(alloc, &mut expr, &resolver, met) {
         Ok(progress) => progress,
         Err(error) => {
@@ -117,28 +114,4 @@ fn walk(
         };
     }
     Ok(progress)
-}
-
-/// The groups that have a number, and whether only named groups have one, which the flag may ask for.
-#[inline(always)]
-fn find_groups(alloc: Global, tree: &Expr, ignore: bool) -> Result<(bool, Surveyed), AllocError>
-    requires { length (openings (view tree.now)) < amount_bound }
-    ensures named { IfOk result (λ p. p.0 ≡ (ignore && list_any is_named (openings (view tree.now)))) }
-    ensures total { IfOk result (λ p. p.1.groups.total ≡ length (numbered_openings_in p.0 (openings (view tree.now)))) }
-    ensures names { IfOk result
-        (λ p. (groups_of p.1.groups).names ≡ named_groups (numbered_openings_in p.0 (openings (view tree.now)))) }
-    ensures met { IfOk result (λ p. p.1.met ≡ has_items (items (view tree.now))) }
-{
-    let mut found = Surveyed::new(alloc);
-    survey(alloc, tree, ignore, &mut found)?;
-    // Nothing was met, so no group has a name.
-    if !found.met {
-        return Ok((false, found));
-    }
-    if ignore && found.groups.total == 0 {
-        let mut unnamed = Surveyed::new(alloc);
-        survey(alloc, tree, false, &mut unnamed)?;
-        return Ok((false, unnamed));
-    }
-    Ok((ignore, found))
 }

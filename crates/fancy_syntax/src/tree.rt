@@ -230,7 +230,7 @@ fn read<S: Spanning>(
         × IsTriviaOf flags (chars re.now) (returned_trivia (chars re.now) (info_of t).numbered_groups_ignored m)) }
 {
     let raw = parse(alloc, re, flags, spans)?;
-    resolve(alloc, raw, re, flags)
+    resolve(alloc, raw, re)
 }
 
 /// Reads the pattern: its tree with the spans of its nodes, or its error with a reach.

@@ -1,5 +1,5 @@
 //! The state of the loop that reads the raw tree of a text.
-ghost use Rattle.std.specs.Prelude.{◌≡◌, ◌∷◌, [], ◌++◌, ◌<◌, ◌≤◌, true, false, length, chars, vec_len, vec_capacity};
+ghost use Rattle.std.specs.Prelude.{◌≡◌, ◌∷◌, [], ◌++◌, ◌<◌, ◌≤◌, ◌+◌, ◌^◌, true, false, List, length, chars, vec_len, vec_capacity};
 ghost use Rattle.std.specs.Prelude.{Some, None, IfOk, OnOk, MatchOption, MatchResult, if◌then◌else◌};
 ghost use Rattle.fancy_grammar.specs.Tree.{Tree};
 ghost use Rattle.fancy_lex.specs.Characters.{code};
@@ -7,8 +7,10 @@ ghost use Rattle.fancy_lex.specs.Text.{reach_of, strip};
 ghost use Rattle.fancy_grammar.specs.Depth.{max_depth};
 ghost use Rattle.fancy_grammar.specs.Errors.{IsErrorAmong};
 ghost use Rattle.fancy_grammar.specs.Grammar.{Alternation};
+ghost use Rattle.fancy_grammar.specs.Items.{items};
 ghost use Rattle.fancy_grammar.specs.State.{done, ends};
 ghost use Rattle.fancy_grammar.specs.State as states;
+ghost use Rattle.fancy_syntax.specs.Found.{FindsMore, IsFound, items_in, openings_found};
 ghost use Rattle.fancy_syntax.specs.Log.{Log, leaf_recorded};
 ghost use Rattle.fancy_syntax.specs.Machine.{HasRead, HasReadTo, IsPlainLeaf};
 ghost use Rattle.fancy_syntax.specs.Recording.{AlternationTo};
@@ -19,6 +21,7 @@ ghost use Rattle.fancy_syntax.specs.View.{view, views};
 use crate::expr::Expr;
 use crate::grammar::atom::{leaf_node, literal};
 use crate::grammar::fast_path::{plain, plain_escape};
+use crate::grammar::found::Found;
 use crate::grammar::frame::{Enclosing, Frame, OpenGroup, PieceStart};
 use crate::grammar::spanning::Spanning;
 use crate::grammar::state::State;
@@ -42,6 +45,8 @@ pub(crate) struct Parser<'a> {
     pub(crate) stack: Vec<Enclosing<'a>>,
     /// The trees that are in no other tree yet: those of all open groups, one above the other.
     pub(crate) trees: Vec<Expr>,
+    /// What is found of its groups and references.
+    pub(crate) found: Found,
 }
 
 /// The initial capacity, in trees: a few more than most patterns have side by side.
@@ -58,12 +63,14 @@ impl<'a> Parser<'a> {
         ensures depth { IfOk result (λ r. length r.stack.items < max_depth) }
         ensures reading { (l : Log) → IfOk result (λ r. HasRead (state start.entry) l r l) }
         ensures reserved { IfOk result (λ r. HasStackCapacity r (chars start.entry.rest.now)) }
+        ensures count { IfOk result (λ r. openings_found r.found ≡ 0) }
     {
         let mut parser = Parser {
             current: start,
             frame: Frame::new(OpenGroup::Top, 0),
             stack: Vec::new(alloc),
             trees: Vec::with_capacity(alloc, TREES)?,
+            found: Found::new(alloc, start.flags.ignore_numbered_groups),
         };
         parser.stack.reserve_exact(groups_at_once(start.rest))?;
         Ok(parser)
@@ -83,12 +90,19 @@ impl<'a> Parser<'a> {
             (λ _. HasReadTo start none self.new (λ m. S.records spans.old l → S.records spans.new m))
             (λ e. IsErrorAmong e (Alternation 0 start)) }
         ensures stack { self.new.stack ≡ self.old.stack }
+        ensures count { openings_found self.new.found ≡ openings_found self.old.found }
         ensures within { length self.new.current.rest.now ≤ length self.old.current.rest.now }
         ensures shorter { IfOk result (λ found. found ≡ true →
             length self.new.current.rest.now < length self.old.current.rest.now) }
     {
         let left = byte_len(self.current.rest);
-        if !read_leaf(alloc, &mut self.trees, &mut self.current, spans)? {
+        if !read_leaf(
+            alloc,
+            &mut self.trees,
+            &mut self.current,
+            &mut self.found,
+            spans,
+        )? {
             return Ok(false);
         }
         let depth = self.stack.len();
@@ -111,6 +125,7 @@ impl<'a> Parser<'a> {
         spans: &mut S,
     ) -> Result<(), ReadError>
         requires reserved { IsReserved self.old }
+        requires bound { openings_found self.old.found + length self.old.current.rest.now < 2 ^ 64 }
         requires depth { length self.old.stack.items < max_depth }
         requires more { ends (chars self.old.current.rest.now) ≡ false }
         ensures reading { (start : states.State) (none l : Log) → HasRead start none self.old l →
@@ -120,13 +135,22 @@ impl<'a> Parser<'a> {
         ensures depth { OnOk result (length self.new.stack.items < max_depth) }
         ensures capacity { OnOk result (vec_capacity self.new.stack ≡ vec_capacity self.old.stack) }
         ensures shorter { OnOk result (length self.new.current.rest.now < length self.old.current.rest.now) }
+        ensures count { OnOk result (openings_found self.new.found + length self.new.current.rest.now ≤
+            openings_found self.old.found + length self.old.current.rest.now) }
     {
         let start = PieceStart {
             left: byte_len(self.current.rest),
             flags: self.current.flags,
         };
         let depth = self.stack.len();
-        let opened = read_step(alloc, &mut self.trees, &mut self.current, depth, spans)?;
+        let opened = read_step(
+            alloc,
+            &mut self.trees,
+            &mut self.current,
+            depth,
+            &mut self.found,
+            spans,
+        )?;
         let Some(open_group) = opened else {
             return Ok(());
         };
@@ -151,6 +175,7 @@ impl<'a> Parser<'a> {
             (λ e. IsErrorAmong e (Alternation 0 start)) }
         ensures stack { self.new.stack ≡ self.old.stack }
         ensures rest { OnOk result (self.new.current.rest ≡ rest.entry) }
+        ensures found { OnOk result (self.new.found ≡ self.old.found) }
     {
         let bar = reach(self.current.rest);
         self.frame.bar(alloc, &mut self.trees, bar, spans)?;
@@ -176,8 +201,10 @@ impl<'a> Parser<'a> {
             MatchResult result (λ found. MatchOption found
             (HasReadTo start none self.new (λ m. S.records spans.old l → S.records spans.new m))
             (λ tree. (m : Log) × AlternationTo 0 start (done (view tree) (state self.new.current)) none m
-            × (S.records spans.old l → S.records spans.new m)))
+            × (S.records spans.old l → S.records spans.new m)
+            × IsFound start.flags.ignore_numbered_groups self.new.found (items (view tree))))
             (λ e. IsErrorAmong e (Alternation 0 start)) }
+        ensures found { OnOk result (self.new.found ≡ self.old.found) }
         ensures depth { OnOk result (length self.new.stack.items < max_depth) }
         ensures capacity { OnOk result (vec_capacity self.new.stack ≡ vec_capacity self.old.stack) }
         ensures shorter { IfOk result (λ found. MatchOption found
@@ -218,6 +245,7 @@ impl<'a> Parser<'a> {
         ensures pieces { self.new.frame.pieces ≡ vec_len self.old.trees }
         ensures trees { self.new.trees ≡ self.old.trees }
         ensures current { self.new.current ≡ self.old.current }
+        ensures found { self.new.found ≡ self.old.found }
         ensures capacity { vec_capacity self.new.stack ≡ vec_capacity self.old.stack }
     {
         let inner = Frame::new(open_group, self.trees.len());
@@ -235,17 +263,21 @@ fn read_leaf<S: Spanning>(
     alloc: Global,
     trees: &mut Vec<Expr>,
     current: &mut State,
+    found: &mut Found,
     spans: &mut S,
 ) -> Result<bool, AllocError>
-    ensures leaf { IfOk result (λ found. found ≡ true → (r : Tree) × IsPlainLeaf (state current.old) r (state current.new)
+    ensures leaf { IfOk result (λ is_read. is_read ≡ true → (r : Tree) × IsPlainLeaf (state current.old) r (state current.new)
         × (views trees.new.items ≡ views trees.old.items ++ r ∷ [])) }
-    ensures stays { IfOk result (λ found. found ≡ false →
-        (current.new ≡ current.old) × (views trees.new.items ≡ views trees.old.items)) }
-    ensures spans { (l : Log) → S.records spans.old l → IfOk result (λ found. S.records spans.new
-        (if found then leaf_recorded (reach_of (chars current.old.rest.now)) (reach_of (chars current.new.rest.now)) l
+    ensures stays { IfOk result (λ is_read. is_read ≡ false →
+        (current.new ≡ current.old) × (views trees.new.items ≡ views trees.old.items) × (found.new ≡ found.old)) }
+    ensures spans { (l : Log) → S.records spans.old l → IfOk result (λ is_read. S.records spans.new
+        (if is_read then leaf_recorded (reach_of (chars current.old.rest.now)) (reach_of (chars current.new.rest.now)) l
         else l)) }
+    ensures found { IfOk result (λ _. (us : List Tree) → views trees.new.items ≡ views trees.old.items ++ us →
+        FindsMore found.old found.new (items_in us)) }
+    ensures count { openings_found found.new ≡ openings_found found.old }
     ensures within { length current.new.rest.now ≤ length current.old.rest.now }
-    ensures shorter { IfOk result (λ found. found ≡ true → length current.new.rest.now < length current.old.rest.now) }
+    ensures shorter { IfOk result (λ is_read. is_read ≡ true → length current.new.rest.now < length current.old.rest.now) }
 {
     if let Some((c, rest)) = plain(*current) {
         let leaf = literal(alloc, c, current.flags.casei)?;
@@ -258,6 +290,7 @@ fn read_leaf<S: Spanning>(
         return Ok(false);
     };
     let leaf = leaf_node(alloc, escaped)?;
+    found.record(&leaf);
     spans.record_leaf(reach(current.rest), reach(rest))?;
     push(trees, leaf)?;
     current.rest = rest;

@@ -1,11 +1,13 @@
 //! The steps of the loop that read a piece, or continue with the next part of a group.
-ghost use Rattle.std.specs.Prelude.{◌≡◌, ◌+◌, ◌<◌, ◌≤◌, true, false, List, [], ◌∷◌, ◌++◌, length, chars, vec_len, IfOk, OnOk};
+ghost use Rattle.std.specs.Prelude.{◌≡◌, ◌+◌, ◌^◌, ◌<◌, ◌≤◌, true, false, List, [], ◌∷◌, ◌++◌, length, chars, vec_len, IfOk, OnOk};
 ghost use Rattle.std.specs.Prelude.{IfSome, MatchResult, None};
 ghost use Rattle.fancy_lex.specs.Characters.{code};
 ghost use Rattle.fancy_lex.specs.Text.{bytes, reach_of, strip};
 ghost use Rattle.fancy_grammar.specs.State.{ends};
 ghost use Rattle.fancy_grammar.specs.Depth.{max_depth};
 ghost use Rattle.fancy_grammar.specs.Grammar as spec;
+ghost use Rattle.fancy_grammar.specs.Items.{items};
+ghost use Rattle.fancy_syntax.specs.Found.{FindsMore, items_in, openings_found};
 ghost use Rattle.fancy_syntax.specs.Log.{Log, group_opened};
 ghost use Rattle.fancy_syntax.specs.Machine as machine;
 ghost use Rattle.fancy_syntax.specs.Machine.{OpensPart, Part, GivesStep, EndsPiece, ended_part, part_of};
@@ -26,6 +28,7 @@ use crate::grammar::atom_start::AtomStart;
 use crate::grammar::conditional::{branches_of, clear_or_stopper, conditional, is_condition};
 use crate::grammar::error::general;
 use crate::grammar::fast_path::is_unquantified;
+use crate::grammar::found::Found;
 use crate::grammar::frame::{OpenGroup, PieceStart};
 use crate::grammar::group::kind::{GroupKind, enclose};
 use crate::grammar::quantified::quantify;
@@ -46,12 +49,18 @@ pub(crate) fn read_step<'a, S: Spanning>(
     trees: &mut Vec<Expr>,
     current: &mut State<'a>,
     depth: usize,
+    found: &mut Found,
     spans: &mut S,
 ) -> Result<Option<OpenGroup<'a>>, ReadError>
     requires depth { depth < max_depth }
     requires more { ends (chars current.old.rest.now) ≡ false }
+    requires bound { openings_found found.old + length current.old.rest.now < 2 ^ 64 }
     ensures value { (l : Log) → GivesStep result depth (state current.old) l (views trees.old.items)
         (views trees.new.items) (state current.new) (λ m. S.records spans.old l → S.records spans.new m) }
+    ensures found { IfOk result (λ opened. (us : List Tree) → views trees.new.items ≡ views trees.old.items ++ us →
+        FindsMore found.old found.new (items_in us ++ machine.items_opened opened)) }
+    ensures count { IfOk result (λ _. openings_found found.new + length current.new.rest.now ≤
+        openings_found found.old + length current.old.rest.now) }
     ensures shorter { IfOk result (λ _. length current.new.rest.now < length current.old.rest.now) }
     ensures below { IfOk result (λ opened. IfSome opened (λ _. depth + 1 < max_depth)) }
 {
@@ -69,12 +78,14 @@ pub(crate) fn read_step<'a, S: Spanning>(
         }
         AtomStart::Read(atom) => {
             spans.record_atom(before, &atom, *current)?;
+            found.record(&atom);
             push(trees, atom)?;
             end_piece(alloc, trees, current, left, depth, spans)?;
             Ok(None)
         }
         AtomStart::Group(kind) => {
             open_group(kind, before, *current, spans)?;
+            found.add(alloc, kind)?;
             let paren = reach(before.rest);
             Ok(Some(OpenGroup::Group { kind, reach: paren }))
         }
@@ -84,6 +95,7 @@ pub(crate) fn read_step<'a, S: Spanning>(
         }
         AtomStart::Body(condition) => {
             spans.open_body(before, *current)?;
+            found.record(&condition);
             Ok(Some(OpenGroup::Body {
                 condition,
                 left: byte_len(current.rest),
@@ -220,6 +232,9 @@ pub(crate) fn close<'a, S: Spanning>(
         Part (part_of open_group.entry) (depth + 1) t (states.done inner (state current.old)) m n →
         GivesStep result depth s l below (views trees.new.items) (state current.new)
         (λ k. S.records spans.old n → S.records spans.new k) }
+    ensures items { (below us : List Tree) (inner : Tree) → views trees.old.items ≡ below ++ inner ∷ [] →
+        views trees.new.items ≡ below ++ us → IfOk result (λ opened.
+        items_in us ++ machine.items_opened opened ≡ machine.items_opening (part_of open_group.entry) ++ items inner) }
     ensures shorter { IfOk result (λ _. length current.new.rest.now < length current.old.rest.now) }
 {
     let has_body = has_body_next(&open_group);

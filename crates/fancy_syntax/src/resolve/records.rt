@@ -1,4 +1,4 @@
-//! What the second walk knows, and what it records of each reference.
+//! What the walk knows, and what it records of each reference.
 ghost use Rattle.std.specs.Prelude.{◌≡◌, ◌<◌, IfOk, IfErr, Option, Some};
 ghost use Rattle.fancy_lex.specs.Located.{Located};
 ghost use Rattle.fancy_lex.specs.IdReference.{amount_bound};
@@ -28,7 +28,7 @@ pub(super) struct Resolver<'a> {
     pub(super) groups: Groups,
 }
 
-/// How far the second walk has come, and what it recorded.
+/// How far the walk has come, and what it recorded.
 #[derive(Debug, Drop)]
 pub(super) struct Progress {
     /// How many groups with a number have opened.

@@ -1,6 +1,6 @@
-//! The second walk: each capturing group becomes a `Group`, and each reference the node with its number. It stops at
+//! The walk: each capturing group becomes a `Group`, and each reference the node with its number. It stops at
 //! the first error.
-ghost use Rattle.std.specs.Prelude.{◌≡◌, ℕ, ◌+◌, ◌<◌, length, option_map};
+ghost use Rattle.std.specs.Prelude.{◌≡◌, ℕ, ◌+◌, ◌<◌, [], false, chars, length, option_map};
 ghost use Rattle.fancy_lex.specs.IdReference.{amount_bound};
 ghost use Rattle.fancy_lex.specs.Target.{Target};
 ghost use Rattle.fancy_lex.specs.Text.{text_of};
@@ -9,13 +9,13 @@ ghost use Rattle.fancy_syntax.specs.Records.{Walks, resolver_of, progress_of};
 ghost use Rattle.fancy_grammar.specs.Resolved.{reference_node};
 ghost use Rattle.fancy_grammar.specs.Tree.{trees_of, ast_group};
 ghost use Rattle.fancy_parts.specs.Meaning.{number};
+ghost use Rattle.fancy_parts.specs.Ranks.{is_counted};
 ghost use Rattle.fancy_grammar.specs.Label.{ast_backref};
 ghost use Rattle.fancy_syntax.specs.View.{view, view_absent, view_ast, views};
 ghost use Rattle.fancy_grammar.specs.Walk.{resolved_by, all_resolved_by};
 
 use crate::expr::{Absent, AstNode, Expr};
 use crate::resolve::records::{Progress, Resolver, Stopped, refer};
-use crate::resolve::survey::{is_counted_name, may_hold_items};
 use fancy_lex::name::CaptureGroupTarget;
 use fancy_lex::text::{Reach, position_at};
 use fancy_parts::ranks::Role;
@@ -242,4 +242,31 @@ fn rewrite_all(
         }
     }
     Ok(())
+}
+
+/// Whether a group with that name has a number.
+fn is_counted_name(named: bool, name: Option<&str>) -> bool
+    ensures { result ≡ is_counted named (option_map (λ t. chars t.now) name.entry) }
+{
+    !named || name.is_some()
+}
+
+/// Whether the tree can contain a capturing group or a reference. Most trees are leaves, which need no walk.
+#[inline(always)]
+fn may_hold_items(tree: &Expr) -> bool
+    ensures { result ≡ false → items (view tree.now) ≡ [] }
+{
+    matches!(
+        tree,
+        Expr::Concat(_)
+            | Expr::Alt(_)
+            | Expr::Group(_)
+            | Expr::LookAround(..)
+            | Expr::Repeat { .. }
+            | Expr::AtomicGroup(_)
+            | Expr::Conditional { .. }
+            | Expr::Absent(_)
+            | Expr::DefineGroup { .. }
+            | Expr::AstNode(..)
+    )
 }

@@ -12,7 +12,7 @@ loop-parser-init g c =
       reading = λ none. (none, r.reading none, λ n. n);
       depth = r.depth;
       reserved = r.reserved;
-      within = rw r.current (omega arith);
+      count = rw r.current (omega (arith, r.count));
     }
 
 pub returns-in_err-add_leaf-clause-value : goal.returns-in_err-add_leaf-clause-value
@@ -38,35 +38,42 @@ pub bar-requires-clause-pieces : goal.bar-requires-clause-pieces
 bar-requires-clause-pieces g c =
     let (l, h, n) = c.loop-parser.invariant.reading (started 0) in
     let (m, r, k) = c.in_ok-add_leaf.ensures.reading _ _ l h in
-    let h = holds_below c.add_leaf.new.self.frame r.below r.branches r.pieces r.holds in
+    let h = holds_below c.add_leaf.new.self.frame r.running.below r.running.branches r.running.pieces r.running.holds in
     omega (arith, h.1, c.add_leaf.new.self.trees.ok.0, views_length c.add_leaf.new.self.trees.items)
 
 pub close-requires-clause-branches : goal.close-requires-clause-branches
 close-requires-clause-branches g c =
     let (l, h, n) = c.loop-parser.invariant.reading (started 0) in
     let (m, r, k) = c.in_ok-add_leaf.ensures.reading _ _ l h in
-    (holds_below c.add_leaf.new.self.frame r.below r.branches r.pieces r.holds).0
+    (holds_below c.add_leaf.new.self.frame r.running.below r.running.branches r.running.pieces r.running.holds).0
 
 pub close-requires-clause-pieces : goal.close-requires-clause-pieces
 close-requires-clause-pieces g c =
     let (l, h, n) = c.loop-parser.invariant.reading (started 0) in
     let (m, r, k) = c.in_ok-add_leaf.ensures.reading _ _ l h in
-    let h = holds_below c.add_leaf.new.self.frame r.below r.branches r.pieces r.holds in
+    let h = holds_below c.add_leaf.new.self.frame r.running.below r.running.branches r.running.pieces r.running.holds in
     omega (arith, h.1, c.add_leaf.new.self.trees.ok.0, views_length c.add_leaf.new.self.trees.items)
 
 pub returns-in-Some-2-clause-value : goal.returns-in-Some-2-clause-value
 returns-in-Some-2-clause-value g c =
     let (l, h, n) = c.loop-parser.invariant.reading (started 0) in
     let (m, r, k) = c.in_ok-add_leaf.ensures.reading _ _ l h in
-    let (j, a, i) = rw c.in-Some-2.is at (c.in_ok-tree.ensures.reading _ _ m r) in
+    let (j, a, i, found) = rw c.in-Some-2.is at (c.in_ok-tree.ensures.reading _ _ m r) in
     a.0
 
 pub returns-in-Some-2-clause-spans : goal.returns-in-Some-2-clause-spans
 returns-in-Some-2-clause-spans g c none x =
     let (l, h, n) = c.loop-parser.invariant.reading none in
     let (m, r, k) = c.in_ok-add_leaf.ensures.reading _ _ l h in
-    let (j, a, i) = rw c.in-Some-2.is at (c.in_ok-tree.ensures.reading _ _ m r) in
+    let (j, a, i, found) = rw c.in-Some-2.is at (c.in_ok-tree.ensures.reading _ _ m r) in
     (j, i (k (n x)), a)
+
+pub returns-in-Some-2-clause-found : goal.returns-in-Some-2-clause-found
+returns-in-Some-2-clause-found g c =
+    let (l, h, n) = c.loop-parser.invariant.reading (started 0) in
+    let (m, r, k) = c.in_ok-add_leaf.ensures.reading _ _ l h in
+    let (j, a, i, found) = rw c.in-Some-2.is at (c.in_ok-tree.ensures.reading _ _ m r) in
+    found
 
 pub returns-in_err-bar-clause-value : goal.returns-in_err-bar-clause-value
 returns-in_err-bar-clause-value g c =
@@ -90,7 +97,12 @@ loop-parser-preserved-then-branch g c =
           let (m, r, k) = c.in_ok-add_leaf.ensures.reading _ _ l h in (m, r, λ x. k (n x));
       depth = rw c.in_ok-add_leaf.ensures.stack c.loop-parser.invariant.depth;
       reserved = rw c.in_ok-add_leaf.ensures.stack c.loop-parser.invariant.reserved;
-      within = omega (arith, c.loop-parser.invariant.within, c.in_ok-add_leaf.ensures.within);
+      count = omega (
+        arith,
+        c.loop-parser.invariant.count,
+        c.in_ok-add_leaf.ensures.count,
+        c.in_ok-add_leaf.ensures.within,
+      );
     }
 
 pub loop-parser-preserved-in-Continue-branch-3 : goal.loop-parser-preserved-in-Continue-branch-3
@@ -102,11 +114,12 @@ loop-parser-preserved-in-Continue-branch-3 g c =
           let (j, a, i) = c.in_ok-step.ensures.reading _ _ m r in (j, a, λ x. i (k (n x)));
       depth = c.in_ok-step.ensures.depth;
       reserved = rw (c.in_ok-step.ensures.capacity, c.in_ok-add_leaf.ensures.stack) c.loop-parser.invariant.reserved;
-      within = omega (
+      count = omega (
         arith,
-        c.loop-parser.invariant.within,
+        c.loop-parser.invariant.count,
+        c.in_ok-add_leaf.ensures.count,
         c.in_ok-add_leaf.ensures.within,
-        c.in_ok-step.ensures.shorter,
+        c.in_ok-step.ensures.count,
       );
     }
 
@@ -119,9 +132,10 @@ loop-parser-preserved-in-Continue-branch-4 g c =
           let (j, a, i) = c.in_ok-bar.ensures.reading _ _ m r in (j, a, λ x. i (k (n x)));
       depth = rw (c.in_ok-bar.ensures.stack, c.in_ok-add_leaf.ensures.stack) c.loop-parser.invariant.depth;
       reserved = rw (c.in_ok-bar.ensures.stack, c.in_ok-add_leaf.ensures.stack) c.loop-parser.invariant.reserved;
-      within = rw c.in_ok-bar.ensures.rest (omega (
+      count = rw (c.in_ok-bar.ensures.rest, c.in_ok-bar.ensures.found) (omega (
         arith,
-        c.loop-parser.invariant.within,
+        c.loop-parser.invariant.count,
+        c.in_ok-add_leaf.ensures.count,
         c.in_ok-add_leaf.ensures.within,
         c.in-Some.ensures.shorter,
       ));
@@ -136,10 +150,11 @@ loop-parser-preserved g c =
           let (j, a, i) = rw c.in_default-2.is at (c.in_ok-tree.ensures.reading _ _ m r) in (j, a, λ x. i (k (n x)));
       depth = c.in_ok-tree.ensures.depth;
       reserved = rw (c.in_ok-tree.ensures.capacity, c.in_ok-add_leaf.ensures.stack) c.loop-parser.invariant.reserved;
-      within = omega (
+      count = rw c.in_ok-tree.ensures.found (omega (
         arith,
-        c.loop-parser.invariant.within,
+        c.loop-parser.invariant.count,
+        c.in_ok-add_leaf.ensures.count,
         c.in_ok-add_leaf.ensures.within,
         rw c.in_default-2.is at c.in_ok-tree.ensures.shorter,
-      );
+      ));
     }

@@ -1,7 +1,10 @@
-use Rattle.std.proofs.Common.{subst}
+use Rattle.std.proofs.Common.{ap, ◌∙◌, subst}
 use Rattle.std.proofs.lemmas.Result.{err_from_is_err_and}
 use Rattle.std.specs.Str.{chars}
 use Rattle.fancy_grammar.specs.Grammar.{Alternation, Whole, whole, start}
+use Rattle.fancy_parts.specs.Groups.{groups_in}
+use Rattle.fancy_parts.specs.Ranks.{numbered_openings_in}
+use Rattle.fancy_grammar.specs.Items.{items, openings_in}
 use Rattle.fancy_grammar.specs.State.{done}
 use Rattle.fancy_syntax.specs.Log.{Log}
 use Rattle.fancy_syntax.specs.RecordedWhole.{ShowsWhole}
@@ -22,10 +25,22 @@ returns-in_err-tree-clause-reads g c =
 
 pub returns-in-None-clause-reads : goal.returns-in-None-clause-reads
 returns-in-None-clause-reads g c =
-    let current = state c.in_ok-tree.current in (
+    let current = state c.in_ok-tree.current in
+    rw c.with_tree.ensures.expr (
       current,
       subst (Whole c.args.flags (chars c.args.text.now))
           (ended_done (view c.in_ok-tree.tree) current c.in-None.ensures.value) (whole c.in_ok-tree.ensures.value),
+    )
+
+pub returns-in-None-clause-numbered : goal.returns-in-None-clause-numbered
+returns-in-None-clause-numbered g c =
+    let l = items (view c.in_ok-tree.tree) in
+    let found = c.in_ok-tree.ensures.found in
+    let named = c.with_tree.ensures.named _ l found in
+    rw c.with_tree.ensures.expr (
+      named,
+      c.with_tree.ensures.groups _ l found ∙ ap (λ b. groups_in (numbered_openings_in b (openings_in l))) named,
+      c.with_tree.ensures.met _ l found,
     )
 
 pub returns-in-None-clause-spans : goal.returns-in-None-clause-spans
@@ -33,7 +48,8 @@ returns-in-None-clause-spans g c l is n =
     let current = state c.in_ok-tree.current in
     let (m, k, a) = c.in_ok-tree.ensures.spans l n in
     let from = subst (λ (l : Log). AlternationTo 0 (start c.args.flags (chars c.args.text.now))
-    (done (view c.in_ok-tree.tree) current) l m) is a in (
+    (done (view c.in_ok-tree.tree) current) l m) is a in
+    rw c.with_tree.ensures.expr (
       m,
       k,
       (

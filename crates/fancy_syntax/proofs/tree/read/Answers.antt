@@ -32,9 +32,12 @@ returns-in_err-raw-clause-position g c =
     let e = err_from_is_err_and c.from_residual.result c.from_residual.ensures.1 in
     rw (e.1, e.2) (reading_positioned c.in_err-raw.field-0.0 _ _ c.utf8.re c.in_err-raw.ensures.reads)
 
-pub resolve-requires : goal.resolve-requires
-resolve-requires g c =
-    text_order c.args.flags c.args.re.now (view c.in_ok-raw.raw) c.utf8.re c.in_ok-raw.ensures.reads
+pub resolve-requires-clause-in_order : goal.resolve-requires-clause-in_order
+resolve-requires-clause-in_order g c =
+    text_order c.args.flags c.args.re.now (view c.in_ok-raw.raw.expr) c.utf8.re c.in_ok-raw.ensures.reads
+
+pub resolve-requires-clause-met : goal.resolve-requires-clause-met
+resolve-requires-clause-met g c = c.in_ok-raw.ensures.numbered.2
 
 -- the tree of the text, if its raw tree is this one
 tree_of : {f : Flags} {text : Text} {r : Tree} (o : Result ExprTree ReadError) → DerivesTree f text r →
@@ -46,20 +49,23 @@ tree_of (Err e) reads tree same_info none = tt
 pub returns-clause-found : goal.returns-clause-found
 returns-clause-found g c =
     let ensured = c.resolve.ensures in
-    tree_of c.resolve.result c.in_ok-raw.ensures.reads ensured.tree ensured.group_info ensured.no_error
+    let f = c.args.flags in
+    let numbered = c.in_ok-raw.ensures.numbered in
+    tree_of c.resolve.result c.in_ok-raw.ensures.reads (ensured.tree f numbered) (ensured.group_info f numbered)
+    (ensured.no_error f numbered)
 
 pub returns-clause-error : goal.returns-clause-error
 returns-clause-error g c =
     IfErr-weaker c.resolve.result _ _
-    (λ e first. only_resolving e _ (chars c.args.re.now) (view c.in_ok-raw.raw) c.in_ok-raw.ensures.reads first)
-    c.resolve.ensures.error
+    (λ e first. only_resolving e _ (chars c.args.re.now) (view c.in_ok-raw.raw.expr) c.in_ok-raw.ensures.reads first)
+    (c.resolve.ensures.error c.args.flags c.in_ok-raw.ensures.numbered)
 
 pub returns-clause-position : goal.returns-clause-position
 returns-clause-position g c =
     IfErr-weaker c.resolve.result _ _
-    (λ e first. resolving_positioned e c.args.flags c.args.re.now (view c.in_ok-raw.raw) c.utf8.re
+    (λ e first. resolving_positioned e c.args.flags c.args.re.now (view c.in_ok-raw.raw.expr) c.utf8.re
     c.in_ok-raw.ensures.reads first)
-    c.resolve.ensures.error
+    (c.resolve.ensures.error c.args.flags c.in_ok-raw.ensures.numbered)
 
 -- the spans of the text, if they are those of the nodes of this raw tree
 spans_of_tree : {f : Flags} {text : Text} {r : Tree} {N : Log → Type 0} (o : Result ExprTree ReadError) →
@@ -89,4 +95,5 @@ spans_of_tree (Err e) m same_info = tt
 
 pub returns-clause-spans : goal.returns-clause-spans
 returns-clause-spans g c l is n =
-    spans_of_tree c.resolve.result (c.in_ok-raw.ensures.spans l is n) c.resolve.ensures.group_info
+    spans_of_tree c.resolve.result (c.in_ok-raw.ensures.spans l is n)
+    (c.resolve.ensures.group_info c.args.flags c.in_ok-raw.ensures.numbered)

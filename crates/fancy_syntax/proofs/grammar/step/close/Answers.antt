@@ -1,12 +1,16 @@
-use Rattle.std.proofs.Common.{◌≡◌, ◌+◌, ◌-◌, length, arith, ap, sym, ◌∙◌, subst}
+use Rattle.std.proofs.Common.{◌≡◌, ◌+◌, ◌-◌, [], append-nil, length, arith, ap, sym, ◌∙◌, subst}
 use Rattle.std.proofs.lemmas.Result.{err_from_is_err_and}
 use Rattle.fancy_lex.specs.Text.{reach_of}
 use Rattle.fancy_grammar.specs.Errors.{IsErrorAmong}
 use Rattle.fancy_grammar.specs.Grammar.{Piece}
 use Rattle.fancy_grammar.specs.State.{done}
+use Rattle.fancy_grammar.specs.Items.{items}
+use Rattle.fancy_syntax.specs.Found.{items_in}
+use Rattle.fancy_syntax.specs.Log.{started}
 use Rattle.fancy_syntax.specs.Machine.{part_of, ended_part, part_recorded}
 use Rattle.fancy_syntax.specs.Parsed.{state}
 use Rattle.fancy_syntax.specs.View.{view}
+use Rattle.fancy_syntax.proofs.ItemsReadLemmas.{append-same, ended_items, items_solid, items_under}
 use Rattle.fancy_syntax.proofs.MachineLemmas.{ended_error, closes, closes_error, closes_condition}
 use Rattle.fancy_syntax.proofs.TreesLemmas.{last_is, last_set, last_taken}
 use Rattle.fancy_grammar.proofs.OutcomeLemmas.{IsErrorAmong-map}
@@ -88,3 +92,34 @@ returns-clause-value g c =
       λ h. c.begin_body.ensures _ (subst (λ z. g.S.Spanning.records c.end_part.new.spans
           (part_recorded p z (reach_of s.rest) (reach_of t.rest) n)) here (c.in_ok-end_part.ensures.spans n h)),
     )
+
+pub returns-then-not-has_body-clause-items : goal.returns-then-not-has_body-clause-items
+returns-then-not-has_body-clause-items g c below us inner w all =
+    let es = c.args.trees.now.items in
+    let size : c.len-last.result - 1 + 1 ≡ length es =
+    omega (arith, c.len-last.ensures, c.args.trees.now.ok.0, c.requires.some) in
+    let here = last_is es (c.len-last.result - 1) c.index_mut.result.now below inner w size c.index_mut.ensures.value in
+    let p = part_of c.args.open_group in
+    let s = state c.args.current.now in
+    let t = state c.end_part.new.current in
+    let put = last_set es (c.len-last.result - 1) c.end_part.new.tree below inner w size in
+    let ended = subst (λ x. ended_part p x s ≡ done (view c.end_part.new.tree) t) here c.in_ok-end_part.ensures.value in
+    let (q, is, pushed, recorded) = c.in_ok-end_piece.ensures.value below (view c.end_part.new.tree) (started 0) put in
+    append-nil (items_in us) ∙ ap items_in (append-same below (sym all ∙ pushed)) ∙ items_solid q ∙ items_under _ _ _ _ is
+    ∙ ended_items p inner s ended
+
+pub returns-clause-items : goal.returns-clause-items
+returns-clause-items g c below us inner w all =
+    let es = c.args.trees.now.items in
+    let size : c.len-last.result - 1 + 1 ≡ length es =
+    omega (arith, c.len-last.ensures, c.args.trees.now.ok.0, c.requires.some) in
+    let here = last_is es (c.len-last.result - 1) c.index_mut.result.now below inner w size c.index_mut.ensures.value in
+    let p = part_of c.args.open_group in
+    let s = state c.args.current.now in
+    let t = state c.end_part.new.current in
+    let put = last_set es (c.len-last.result - 1) c.end_part.new.tree below inner w size in
+    let ended = subst (λ x. ended_part p x s ≡ done (view c.end_part.new.tree) t) here c.in_ok-end_part.ensures.value in
+    let taken = last_taken _ c.take_last.new.self.items c.take_last.result below (view c.end_part.new.tree) put
+    c.take_last.ensures.items in
+    let none : us ≡ [] = append-same below (sym all ∙ taken.0 ∙ sym (append-nil below)) in
+    rw (none, c.in_ok-condition.ensures.ok) (ap items taken.1 ∙ ended_items p inner s ended)

@@ -1,4 +1,4 @@
-use Rattle.std.proofs.Common.{◌≡◌, ◌∷◌, [], ◌++◌, chars, refl, ap, subst, sym, ◌∙◌}
+use Rattle.std.proofs.Common.{◌≡◌, ◌∷◌, [], ◌++◌, append-nil, chars, refl, ap, subst, sym, ◌∙◌}
 use Rattle.std.proofs.lemmas.Result.{err_from_is_err_and}
 use Rattle.fancy_grammar.specs.AtomStart.{atom_start, read}
 use Rattle.fancy_grammar.specs.Grammar.{Piece, piece, atom, a_nothing, a_read}
@@ -6,11 +6,15 @@ use Rattle.fancy_grammar.specs.State.{at, done}
 use Rattle.fancy_syntax.specs.Log.{layout_passed, leaf_recorded, opened, started}
 use Rattle.fancy_syntax.specs.Machine.{a_group, a_condition, a_body, a_branch}
 use Rattle.fancy_syntax.specs.Parsed.{state}
-use Rattle.fancy_syntax.specs.View.{views}
+use Rattle.fancy_syntax.specs.Found.{FindsMore, items_in}
+use Rattle.fancy_syntax.specs.View.{view, views}
 use Rattle.fancy_syntax.specs.declared.grammar.state.State.{State}
 use Rattle.fancy_lex.specs.Text.{reach_of}
+use Rattle.fancy_grammar.specs.Items.{items}
 use Rattle.fancy_grammar.specs.Tree.{empty}
 use Rattle.fancy_grammar.specs.Quantified.{quants}
+use Rattle.fancy_syntax.proofs.FoundLemmas.{condition_alone, leaf_alone, nothing_more}
+use Rattle.fancy_syntax.proofs.ItemsReadLemmas.{append-same, items_solid, items_under, none_pushed}
 use Rattle.fancy_syntax.proofs.StepLemmas.{nothing_shorter}
 use Rattle.fancy_syntax.proofs.MachineLemmas.{AtomTo, steps_piece, steps_error, steps_layout}
 use Rattle.fancy_grammar.proofs.OutcomeLemmas.{IsErrorAmong-map}
@@ -94,8 +98,8 @@ returns-in_ok-end_piece-in-Read-clause-value g c l =
           (c.in_ok-pass_layout.ensures l x)),
     )
 
-pub returns-in_ok-open_group-in-Group-clause-value : goal.returns-in_ok-open_group-in-Group-clause-value
-returns-in_ok-open_group-in-Group-clause-value g c l =
+pub returns-in_ok-add-in-Group-clause-value : goal.returns-in_ok-add-in-Group-clause-value
+returns-in_ok-add-in-Group-clause-value g c l =
     let seen = rw c.in-Group.is at c.in_ok-read_atom_start.ensures.value in
     rw c.reach-paren.ensures (
       _,
@@ -133,3 +137,45 @@ returns-in_ok-open-in-AbsentBranch-clause-value g c l =
           (layout_passed (state c.args.current.now) l))
           (c.in_ok-open-in-AbsentBranch.ensures _ (c.in_ok-pass_layout.ensures l x)),
     )
+
+-- ---- what is found
+
+pub returns-in_ok-end_piece-in-Nothing-clause-found : goal.returns-in_ok-end_piece-in-Nothing-clause-found
+returns-in_ok-end_piece-in-Nothing-clause-found g c us all =
+    let (r, is, pushed, recorded) = c.in_ok-end_piece-in-Nothing.ensures.value _ empty (started 0)
+    (c.in_ok-push-in-Nothing.ensures ∙ ap (λ t. views c.args.trees.now.items ++ t ∷ []) view_Empty) in
+    let none : items_in us ++ [] ≡ [] =
+    append-nil (items_in us) ∙ ap items_in (append-same (views c.args.trees.now.items) (sym all ∙ pushed))
+    ∙ items_solid r ∙ items_under _ _ _ _ is in
+    subst (FindsMore c.args.found.now c.args.found.now) (sym none) (nothing_more c.args.found.now)
+
+pub returns-in_ok-end_piece-in-Read-clause-found : goal.returns-in_ok-end_piece-in-Read-clause-found
+returns-in_ok-end_piece-in-Read-clause-found g c us all =
+    let (r, is, pushed, recorded) = c.in_ok-end_piece-in-Read.ensures.value _ _ (started 0) c.in_ok-push-in-Read.ensures in
+    let same : items_in us ++ [] ≡ items (view c.in-Read.atom) =
+    append-nil (items_in us) ∙ ap items_in (append-same (views c.args.trees.now.items) (sym all ∙ pushed))
+    ∙ items_solid r ∙ items_under _ _ _ _ is in
+    subst (FindsMore c.args.found.now c.record.new.self) (sym same) c.record.ensures.found
+
+pub returns-in_ok-add-in-Group-clause-found : goal.returns-in_ok-add-in-Group-clause-found
+returns-in_ok-add-in-Group-clause-found g c us all =
+    rw (none_pushed (views c.args.trees.now.items) us all) (c.in_ok-add-in-Group.ensures.found c.reach-paren.result)
+
+pub returns-in_ok-open-in-Condition-clause-found : goal.returns-in_ok-open-in-Condition-clause-found
+returns-in_ok-open-in-Condition-clause-found g c us all =
+    rw (none_pushed (views c.args.trees.now.items) us all) (nothing_more c.args.found.now)
+
+pub returns-in_ok-open_body-in-Body-clause-found : goal.returns-in_ok-open_body-in-Body-clause-found
+returns-in_ok-open_body-in-Body-clause-found g c us all =
+    rw (none_pushed (views c.args.trees.now.items) us all) (rw c.deref.ensures at c.record-in-Body.ensures.found)
+
+pub returns-in_ok-open-in-AbsentBranch-clause-found : goal.returns-in_ok-open-in-AbsentBranch-clause-found
+returns-in_ok-open-in-AbsentBranch-clause-found g c us all =
+    rw (none_pushed (views c.args.trees.now.items) us all) (nothing_more c.args.found.now)
+
+pub record-requires : goal.record-requires
+record-requires g c = leaf_alone _ _ (rw c.in-Read.is at c.in_ok-read_atom_start.ensures.value)
+
+pub record-requires-in-Body : goal.record-requires-in-Body
+record-requires-in-Body g c =
+    rw c.deref.ensures (condition_alone _ _ (rw c.in-Body.is at c.in_ok-read_atom_start.ensures.value))

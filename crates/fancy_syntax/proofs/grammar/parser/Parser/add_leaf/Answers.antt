@@ -1,9 +1,10 @@
-use Rattle.std.proofs.Common.{◌≡◌, length, arith, ap, ◌∙◌, sym, subst, if◌then◌else◌}
+use Rattle.std.proofs.Common.{◌≡◌, ◌∷◌, [], ◌++◌, refl, length, arith, ap, ◌∙◌, sym, subst, if◌then◌else◌}
 use Rattle.std.proofs.lemmas.Result.{err_from_is_err_and}
 use Rattle.fancy_lex.specs.Text.{bytes, reach_of}
 use Rattle.fancy_grammar.specs.Grammar.{Alternation}
 use Rattle.fancy_grammar.specs.Quantified.{quants}
 use Rattle.fancy_grammar.specs.State.{done}
+use Rattle.fancy_syntax.specs.Found.{items_in}
 use Rattle.fancy_syntax.specs.Log.{leaf_recorded}
 use Rattle.fancy_syntax.specs.Recording.{quants_recorded}
 use Rattle.fancy_syntax.specs.Parsed.{state}
@@ -22,9 +23,25 @@ returns-in_err-quantify_last-clause-reading g c start none l h =
     c.from_residual-in_err-quantify_last.ensures.1 in
     rw (e.1, e.2) (IsErrorAmong-map (λ o. quants c.len-depth.result c.byte_len-left.result r u ≡ o)
     (Alternation 0 start) c.in_err-quantify_last.field-0.0
-    (λ f x. running_leaf_error h p (ap (λ d. quants d (bytes s.rest) r u) (sym n)
+    (λ f x. running_leaf_error h.running p (ap (λ d. quants d (bytes s.rest) r u) (sym n)
     ∙ ap (λ left. quants c.len-depth.result left r u) (sym c.byte_len-left.ensures) ∙ x))
     (c.in_err-quantify_last.ensures.value _ r put))
+
+pub returns-then-not-branch-clause-reading : goal.returns-then-not-branch-clause-reading
+returns-then-not-branch-clause-reading g c start none l h =
+    let none_read = c.if-not-branch.true in
+    let (same, trees, found) = c.in_ok-read_leaf.ensures.stays none_read in
+    let u = state c.read_leaf.new.current in
+    let m = leaf_recorded (reach_of (state c.args.self.now.current).rest) (reach_of u.rest) l in (
+      l,
+      record {
+        is = h.is;
+        running = rw (same, trees) h.running;
+        found = rw found h.found;
+      },
+      λ x. subst (λ b. g.S.Spanning.records c.read_leaf.new.spans (if b then m else l)) none_read
+          (c.in_ok-read_leaf.ensures.spans l x),
+    )
 
 pub returns-clause-reading : goal.returns-clause-reading
 returns-clause-reading g c start none l h =
@@ -37,8 +54,12 @@ returns-clause-reading g c start none l h =
     let (q, all, is) = c.in_ok-quantify_last.ensures.value _ r put in
     let m = leaf_recorded (reach_of s.rest) (reach_of u.rest) l in (
       _,
-      running_leaf _ h p (ap (λ d. quants d (bytes s.rest) r u) (sym n)
-          ∙ ap (λ left. quants c.len-depth.result left r u) (sym c.byte_len-left.ensures) ∙ is) all,
+      record {
+        is = h.is ++ items_in (r ∷ []);
+        running = running_leaf _ _ h.running p (ap (λ d. quants d (bytes s.rest) r u) (sym n)
+            ∙ ap (λ left. quants c.len-depth.result left r u) (sym c.byte_len-left.ensures) ∙ is) all refl;
+        found = c.in_ok-read_leaf.ensures.found (r ∷ []) put _ h.is h.found;
+      },
       λ x. subst (λ left. g.S.Spanning.records c.quantify_last.new.spans (quants_recorded left (done r u) m))
           c.byte_len-left.ensures
           (c.in_ok-quantify_last.ensures.spans _ r _ put

@@ -14,16 +14,21 @@ returns-in_err-bar-clause-reading g c start none l h =
     let rest = (state c.args.self.now.current).rest in
     rw (e.1, e.2) (IsErrorAmong-map (IsErrorOfBar (part_of c.args.self.now.frame.open_group) rest)
     (Alternation 0 start) c.in_err-bar.field-0.0
-    (λ f a. running_bar_error _ h c.requires.last c.requires.bar a)
+    (λ f a. running_bar_error _ h.running c.requires.last c.requires.bar a)
     (c.in_err-bar.ensures.error rest c.reach-bar.ensures))
 
 pub returns-clause-reading : goal.returns-clause-reading
 returns-clause-reading g c start none l h =
-    let f = c.in_ok-bar.ensures in (
+    let f = c.in_ok-bar.ensures in
+    let r = h.running in (
       _,
-      running_bar _ c.bar.new.self h c.requires.last c.requires.bar f.allowed
-          (f.open_group h.below h.branches h.pieces h.holds) (f.trees h.below h.branches h.pieces h.holds),
+      record {
+        is = h.is;
+        running = running_bar _ c.bar.new.self r c.requires.last c.requires.bar f.allowed
+            (f.open_group r.below r.branches r.pieces r.holds) (f.trees r.below r.branches r.pieces r.holds);
+        found = h.found;
+      },
       λ n. subst (g.S.Spanning.records c.next_branch.new.self)
-          (λ i. branch_begun (c.reach.ensures i) (branch_ended (length h.pieces) (c.reach-bar.ensures i) l))
-          (c.next_branch.ensures _ (f.spans h.below h.branches h.pieces l h.holds n)),
+          (λ i. branch_begun (c.reach.ensures i) (branch_ended (length r.pieces) (c.reach-bar.ensures i) l))
+          (c.next_branch.ensures _ (f.spans r.below r.branches r.pieces l r.holds n)),
     )

@@ -1,0 +1,16 @@
+//! What the grammar returns for a text: its raw tree, and the groups in it.
+use crate::expr::Expr;
+use fancy_parts::ranks::Groups;
+
+/// The raw tree of a text, and what was found of its groups and references.
+#[derive(Drop)]
+pub(crate) struct RawTree {
+    /// The tree, in which a capturing group is an AstNode with the reach of its parenthesis.
+    pub(crate) expr: Expr,
+    /// The groups that have a number.
+    pub(crate) groups: Groups,
+    /// Whether groups without a name have no number.
+    pub(crate) named: bool,
+    /// Whether there is something to resolve: a capturing group or a reference.
+    pub(crate) met: bool,
+}
