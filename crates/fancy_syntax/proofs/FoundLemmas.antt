@@ -1,12 +1,12 @@
 -- What the loop has found, with one more item.
 use Rattle.std.proofs.Common.{◌≡◌, ℕ, suc, ◌+◌, Bool, true, false, not, ◌||◌, ◌&&◌, List, [], ◌∷◌, ◌++◌, Option, None, Some, length}
 use Rattle.std.proofs.Common.{refl, sym, ap, ◌∙◌, arith, append-nil, length-append, nat_lt, filter, filter_map, fold, map, subst, is_some}
-use Rattle.std.proofs.Common.{Result, Ok, Err, IfOk, Bor, chars, option_map}
+use Rattle.std.proofs.Common.{Bor, chars, option_map}
 use Rattle.std.proofs.lemmas.List.{nil_from_length}
 use Rattle.std.proofs.lemmas.List.Elements.{filter-append}
 use Rattle.std.specs.BTreeSet.{insert_key}
-use Rattle.std.specs.declared.alloc.AllocError.{AllocError}
 use Rattle.std.specs.List.{list_any}
+use Rattle.std.proofs.lemmas.List.Folds.{list_any-append}
 use Rattle.fancy_lex.specs.Text.{Text}
 use Rattle.fancy_parts.specs.Groups.{Groups, groups_of, groups_in, openings_with}
 use Rattle.fancy_parts.specs.Ranks.{Opening, is_counted, is_named, name_cmp, numbered_openings_in, named_groups, numbers}
@@ -20,11 +20,9 @@ use Rattle.fancy_grammar.proofs.PreorderLaws.{items_at, items_of_nodes, items_of
 use Rattle.fancy_grammar.specs.AtomStart.{atom_start, read, body}
 use Rattle.fancy_grammar.specs.State.{State, done}
 use Rattle.fancy_grammar.proofs.AtomStartLaws.{StartReads, start_reads}
-use Rattle.fancy_syntax.specs.Found.{FindsMore, IsFound, is_item, undecided_in}
+use Rattle.fancy_syntax.specs.Found.{FindsMore, IsFound, has_unresolved, is_reference, is_unresolved, undecided_in}
 use Rattle.fancy_syntax.specs.Machine.{IsPlainLeaf}
-use Rattle.fancy_syntax.specs.Records.{has_items}
 use Rattle.fancy_syntax.specs.declared.grammar.found.Found.{Found}
-use Rattle.fancy_syntax.proofs.NoItems.{met_append}
 
 -- ---- an atom that holds no other node
 
@@ -32,28 +30,23 @@ use Rattle.fancy_syntax.proofs.NoItems.{met_append}
 pub alone_items : (t : Tree) → preorder t ≡ t ∷ [] → items t ≡ items_at t
 alone_items t e = items_of_nodes t ∙ ap items_of_all e ∙ append-nil (items_at t)
 
-never_none : (t : Tree) → preorder t ≡ [] → ⊥
+pub never_none : (t : Tree) → preorder t ≡ [] → ⊥
 never_none (leaf l) e = cc
 never_none (over w t) e = cc
 never_none (row r ts) e = cc
 
--- and it opens no group
-pub alone_openings : (t : Tree) → preorder t ≡ t ∷ [] → openings_in (items t) ≡ []
-alone_openings (leaf (label.ast_node r reach)) e = refl
-alone_openings (leaf l) e = refl
-alone_openings (over w t) e = let none : preorder t ≡ [] = cc in absurd (never_none t none)
-alone_openings (row r ts) e = ap openings_in (alone_items (row r ts) e)
+-- and it opens no group, and is a reference or has no items
+pub record Alone (ignore : Bool) (t : Tree) : Type 0 where
+  pub openings : openings_in (items t) ≡ []
+  pub same : has_unresolved ignore (items t) ≡ is_reference t
 
--- it is an item, or has none
-pub alone_met : (t : Tree) → preorder t ≡ t ∷ [] → has_items (items t) ≡ is_item t
-alone_met t e = ap has_items (alone_items t e) ∙ own t
-  where
-    own : (t : Tree) → has_items (items_at t) ≡ is_item t
-    own (leaf (label.ast_node r reach)) = refl
-    own (leaf l) = refl
-    own (over (label.ast_group name reach) t) = refl
-    own (over w t) = refl
-    own (row r ts) = refl
+pub alone_reference : (ignore : Bool) (t : Tree) → preorder t ≡ t ∷ [] → Alone ignore t
+alone_reference ignore (leaf (label.ast_node r reach)) e = record { openings = refl; same = refl }
+alone_reference ignore (leaf l) e = record { openings = refl; same = refl }
+alone_reference ignore (over w t) e = let none : preorder t ≡ [] = cc in absurd (never_none t none)
+alone_reference ignore (row r ts) e =
+    let none = alone_items (row r ts) e in
+    record { openings = ap openings_in none; same = ap (has_unresolved ignore) none }
 
 -- the atoms that are read at once are such nodes
 
@@ -71,29 +64,26 @@ plain_alone {s} p = leaf_alone 0 s (p.leaf 0)
 pub nothing_more : (f : Found) → FindsMore f f []
 nothing_more f ignore l h = subst (IsFound ignore f) (sym (append-nil l)) h
 
-pub set_met : (a b : Bool) → b ≡ true → true ≡ (a || b)
-set_met true b e = refl
-set_met false b e = sym e
+pub set_unresolved : (a b : Bool) → b ≡ true → true ≡ (a || b)
+set_unresolved true b e = refl
+set_unresolved false b e = sym e
 
-pub kept_met : (a b : Bool) → b ≡ false → a ≡ (a || b)
-kept_met true b e = refl
-kept_met false b e = sym e
+pub kept_unresolved : (a b : Bool) → b ≡ false → a ≡ (a || b)
+kept_unresolved true b e = refl
+kept_unresolved false b e = sym e
 
 -- with no more groups
 pub no_group_more : (f g : Found) (is : List Item) → openings_in is ≡ [] → g.ignore ≡ f.ignore → g.groups ≡ f.groups →
-    g.undecided ≡ f.undecided → g.met ≡ (f.met || has_items is) → FindsMore f g is
+    g.undecided ≡ f.undecided → ((ignore : Bool) → g.unresolved ≡ (f.unresolved || has_unresolved ignore is)) →
+    FindsMore f g is
 no_group_more f g is none i j k m ignore l (a, b, c, d) =
     let same : openings_in (l ++ is) ≡ openings_in l =
     openings_append l is ∙ ap (λ x. openings_in l ++ x) none ∙ append-nil (openings_in l) in (
       i ∙ a,
       ap groups_of j ∙ b ∙ ap (λ x. groups_in (numbered_openings_in ignore x)) (sym same),
       k ∙ c ∙ ap (λ x. length (undecided_in ignore x)) (sym same),
-      m ∙ ap (λ x. x || has_items is) d ∙ sym (met_append false l is),
+      m ignore ∙ ap (λ x. x || has_unresolved ignore is) d ∙ sym (list_any-append (is_unresolved ignore) l is),
     )
-
-has_pushed : (l : List Item) (i : Item) → has_items (l ++ i ∷ []) ≡ true
-has_pushed [] i = refl
-has_pushed (j ∷ l) i = refl
 
 -- the openings of which the test holds, with one more
 chosen_more : (p : Opening → Bool) (l : List Item) (o : Opening) (b : Bool) → p o ≡ b →
@@ -102,7 +92,7 @@ chosen_more p l o b e = ap (filter p) (openings_append l (opening o ∷ [])) ∙
 
 -- with one more group that has a number
 pub numbered_more : (f g : Found) (reach : ℕ) (name : Option Text) → is_counted f.ignore name ≡ true →
-    g.ignore ≡ f.ignore → g.undecided ≡ f.undecided → g.met ≡ true →
+    g.ignore ≡ f.ignore → g.undecided ≡ f.undecided → g.unresolved ≡ f.unresolved →
     ((before : List Opening) → groups_of f.groups ≡ groups_in before →
     groups_of g.groups ≡ groups_in (openings_with before reach name)) →
     FindsMore f g (opening (record { reach = reach; name = name }) ∷ [])
@@ -113,18 +103,9 @@ numbered_more f g reach name is i k m next ignore l (a, b, c, d) =
       next _ b ∙ ap groups_in (sym (chosen_more (λ o. is_counted ignore o.name) l o true here ∙ rw here refl)),
       k ∙ c ∙ ap length (sym (chosen_more (λ o. not (is_counted ignore o.name)) l o false (ap not here)
           ∙ rw here (append-nil (undecided_in ignore (openings_in l))))),
-      m ∙ sym (has_pushed l (opening o)),
+      m ∙ d ∙ kept_unresolved (has_unresolved ignore l) (has_unresolved ignore (opening o ∷ [])) (rw here refl)
+          ∙ sym (list_any-append (is_unresolved ignore) l (opening o ∷ [])),
     )
-
--- the same if memory may run out
-pub if_numbered : (r : Result (Unit {0}) AllocError) (f g : Found) (reach : ℕ) (name : Option Text) →
-    is_counted f.ignore name ≡ true → g.ignore ≡ f.ignore → g.undecided ≡ f.undecided → g.met ≡ true →
-    ((before : List Opening) (reach : ℕ) → groups_of f.groups ≡ groups_in before →
-    IfOk r (λ _. groups_of g.groups ≡ groups_in (openings_with before reach name))) →
-    IfOk r (λ _. FindsMore f g (opening (record { reach = reach; name = name }) ∷ []))
-if_numbered (Ok u) f g reach name is i k m next =
-    numbered_more f g reach name is i k m (λ before e. next before reach e)
-if_numbered (Err e) f g reach name is i k m next = tt
 
 -- which groups have a number whatever follows
 pub counted_all : (ignore : Bool) (name : Option Text) → ignore ≡ false → is_counted ignore name ≡ true
@@ -143,7 +124,7 @@ uncounted ignore (Some t) e h = absurd cc
 
 -- with one more that is undecided
 pub undecided_more : (f g : Found) (reach : ℕ) (name : Option Text) → is_counted f.ignore name ≡ false →
-    g.ignore ≡ f.ignore → g.undecided ≡ f.undecided + 1 → g.met ≡ true → g.groups ≡ f.groups →
+    g.ignore ≡ f.ignore → g.undecided ≡ f.undecided + 1 → g.unresolved ≡ true → g.groups ≡ f.groups →
     FindsMore f g (opening (record { reach = reach; name = name }) ∷ [])
 undecided_more f g reach name is i k m same ignore l (a, b, c, d) =
     let o : Opening = record { reach = reach; name = name } in
@@ -157,7 +138,8 @@ undecided_more f g reach name is i k m same ignore l (a, b, c, d) =
           ∙ ap groups_in (sym (chosen_more (λ o. is_counted ignore o.name) l o false here
           ∙ rw here (append-nil (numbered_openings_in ignore (openings_in l))))),
       omega (arith, k, c, more),
-      m ∙ sym (has_pushed l (opening o)),
+      m ∙ set_unresolved (has_unresolved ignore l) (has_unresolved ignore (opening o ∷ [])) (rw here refl)
+          ∙ sym (list_any-append (is_unresolved ignore) l (opening o ∷ [])),
     )
 
 -- ---- at the end

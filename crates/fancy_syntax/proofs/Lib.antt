@@ -14,6 +14,8 @@ mod PassedLemmas
 mod PassedLaws
 mod ItemsReadLemmas
 mod FoundLemmas
+mod DecidedLemmas
+mod DecidedParts
 mod MachineLemmas
 mod PlainLaws
 mod StackLemmas
@@ -24,6 +26,7 @@ mod RecordingLaws
 mod WholeLaws
 -- ---- the resolver
 pub mod WalkLemmas
+mod RegroupedLemmas
 pub mod NoItems
 pub mod PartLemmas
 -- ---- printing

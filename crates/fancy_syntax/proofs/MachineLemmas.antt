@@ -37,7 +37,7 @@ use Rattle.fancy_syntax.specs.Machine.{OpenPart, top, group, condition, body, fi
 use Rattle.fancy_syntax.specs.Machine.{is_second, items_opening, opened_by_bar, branches_at_bar, IsErrorOfBar, Part, OpensPart}
 use Rattle.fancy_syntax.specs.Machine.{a_group}
 use Rattle.fancy_syntax.specs.Machine.{a_condition, a_body, after_condition, a_branch, after_branch, lacks_body}
-use Rattle.fancy_syntax.specs.Machine.{node_of_part, has_body_next, ended_part, Began, ReadSoFar}
+use Rattle.fancy_syntax.specs.Machine.{has_body_next, ended_part, ended_with, made_of, Began, IsPart, ReadSoFar}
 use Rattle.fancy_syntax.specs.Machine.{OpenGroups, Running}
 use Rattle.fancy_syntax.specs.Machine.{outermost, inner, HoldsTrees, IsStep}
 use Rattle.fancy_grammar.specs.GroupKind.{group_node}
@@ -56,7 +56,7 @@ use Rattle.fancy_grammar.proofs.ReadLaws.{piece_read}
 use Rattle.fancy_grammar.proofs.Slices.{current, on, strip_slice}
 use Rattle.fancy_syntax.specs.Found.{items_in}
 use Rattle.fancy_syntax.proofs.ItemsReadLemmas.{items_append, items_one, items_pieces, items_branches_pieces, items_under}
-use Rattle.fancy_syntax.proofs.ItemsReadLemmas.{items_solid, items_choice_pieces, append-same}
+use Rattle.fancy_syntax.proofs.ItemsReadLemmas.{items_solid, items_choice_pieces}
 use Rattle.fancy_syntax.proofs.PassedLemmas.{nothing_passed}
 use Rattle.fancy_syntax.proofs.SolidLemmas.{IsSolid, quants_solid}
 use Rattle.fancy_syntax.proofs.TreesLemmas.{push-same}
@@ -75,15 +75,17 @@ piece_to {d} {s} {q} {l} {n} i (a, h) e j =
     subst (λ o. PieceTo d s o l n) e (piece i a, ap (quants_recorded (bytes s.rest) q) h ∙ j)
 
 -- so it is a step, after which its tree follows the others unless it is Empty
-pub steps_piece : {d left : ℕ} (s : State) {t v : State} {u : Text} {a r : Tree} {l m : Log} (ts : List Tree)
-    {us : List Tree} → left ≡ bytes s.rest → skipped s ≡ rest u → AtomTo d (at s u) (done a t) (layout_passed s l) m →
-    quants d left a t ≡ done r v → us ≡ ts ++ solid (r ∷ []) →
-    IsStep d s l ts None us v (added r (quants_recorded left (done a t) m))
-steps_piece {d} {left} s {t} {v} {a} {r} {m} ts i k x h j = (
+pub steps_piece : {d left : ℕ} (g : Bool) (s : State) {t v : State} {u : Text} {a r : Tree} {l m : Log} (ts : List Tree) →
+    left ≡ bytes s.rest → skipped s ≡ rest u → AtomTo d (at s u) (done a t) (layout_passed s l) m →
+    quants d left a t ≡ done r v →
+    IsStep g d s l ts None (ts ++ solid (r ∷ [])) v (added r (quants_recorded left (done a t) m))
+    (items_in (solid (r ∷ [])))
+steps_piece {d} {left} g s {t} {v} {a} {r} {m} ts i k x h = (
   r,
   quants_recorded left (done a t) m,
   piece_to k x (subst (λ z. quants d z a t ≡ done r v) i h) (ap (λ z. quants_recorded z (done a t) m) (sym i)),
-  j,
+  refl,
+  refl,
   refl,
 )
 
@@ -113,7 +115,7 @@ opens_error n (a_branch l e) (r, x) = piece l (atom e (absent_error r))
 opens_error n (after_branch (a_branch l e) b f) (r, x) = piece l (atom e (two_branches b f r))
 
 -- a closing parenthesis is taken whatever the tree
-closed_through : (f : Tree → Tree) (r : Tree) (s : State) → mapped f (closed r s) ≡ closed (f r) s
+pub closed_through : (f : Tree → Tree) (r : Tree) (s : State) → mapped f (closed r s) ≡ closed (f r) s
 closed_through f r s = by_paren (strip (code ")") s.rest)
   where
     by_paren : (o : Option Text) →
@@ -122,13 +124,13 @@ closed_through f r s = by_paren (strip (code ")") s.rest)
     by_paren (Some u) = refl
     by_paren None = refl
 
-pub ended_without_body : (p : OpenPart) (r : Tree) (s : State) → lacks_body p s ≡ true →
-    ended_part p r s ≡ failed (body_missing s.rest)
-ended_without_body p r s e = rw e refl
+pub ended_without_body : (g : OpenGroup) (r : Tree) (s : State) → lacks_body (part_of g) s ≡ true →
+    ended_with g r s ≡ failed (body_missing s.rest)
+ended_without_body g r s e = rw e refl
 
-pub ended_closed : (p : OpenPart) (r : Tree) (s : State) → lacks_body p s ≡ false →
-    ended_part p r s ≡ closed (node_of_part p r) s
-ended_closed p r s e = rw e refl
+pub ended_closed : (g : OpenGroup) (r : Tree) (s : State) → lacks_body (part_of g) s ≡ false →
+    ended_with g r s ≡ closed (made_of g r) s
+ended_closed g r s e = rw e refl
 
 -- a bar may end a single-branch part only if it is the second branch of an absent expression, and then it is an error
 abbrev MayEnd : OpenPart → State → Type 0
@@ -235,14 +237,13 @@ part_atom {d} {s} {t} {a} {p} {l} n flags r w x y g f h j =
     )
 
 -- it ends a step, under its quantifiers
-pub closes : {d left : ℕ} {s v t z : State} {a q : Tree} {p : OpenPart} {l m : Log} (ts : List Tree)
-    {us : List Tree} (n : Log) (flags : Flags) (r : Tree) (w : State) → OpensPart d s l p v m → Part p (d + 1) v (done r w) m n →
+pub closes : {d left : ℕ} {s v t z : State} {a q : Tree} {p : OpenPart} {l m : Log} (i : Bool) (ts : List Tree) (n : Log) (flags : Flags) (r : Tree) (w : State) → OpensPart d s l p v m → Part p (d + 1) v (done r w) m n →
     has_body_next p ≡ false → strip (code "|") w.rest ≡ None → ended_part p r w ≡ done a t → left ≡ bytes s.rest →
-    flags ≡ s.flags → quants d left a (record t { flags = flags }) ≡ done q z → us ≡ ts ++ solid (q ∷ []) →
-    IsStep d s l ts None us z (added q (quants_recorded left (done a (record t { flags = flags }))
-    (part_recorded p r (reach_of w.rest) (reach_of t.rest) n)))
-closes {s} ts n flags r w x y g f h i j e k =
-    let (u, c, b) = part_atom n flags r w x y g f h j in steps_piece s ts i c b e k
+    flags ≡ s.flags → quants d left a (record t { flags = flags }) ≡ done q z →
+    IsStep i d s l ts None (ts ++ solid (q ∷ [])) z (added q (quants_recorded left (done a (record t { flags = flags }))
+    (part_recorded p r (reach_of w.rest) (reach_of t.rest) n))) (items_in (solid (q ∷ [])))
+closes {s} k ts n flags r w x y g f h i j e =
+    let (u, c, b) = part_atom n flags r w x y g f h j in steps_piece k s ts i c b e
 
 pub closes_error : {d left : ℕ} {s v t : State} {a : Tree} {p : OpenPart} {l m : Log} (n : Log) (flags : Flags) (r : Tree)
     (w : State) (error : ReadError) → OpensPart d s l p v m → Part p (d + 1) v (done r w) m n →
@@ -420,8 +421,8 @@ levels_error : {start : State} {none : Log} {d : ℕ} {s : State} {error : Locat
     {o : OpenPart} {l : Log} {is : List Item} (n : Log) → OpenGroups start none fs ts o d s l is →
     Part o d s (failed error) l n → Alternation 0 start (failed error)
 levels_error n outermost (r, x) = r
-levels_error n (inner f e x l h i m j z) r =
-    let (k, y) = reading_error (part_of f.frame.open_group) h m (opens_error n j r) in levels_error k l y
+levels_error n (inner {q} f e x w l h i m j z) r =
+    let (k, y) = reading_error q h m (opens_error n j r) in levels_error k l y
 
 push-not_nil : {A : Type 0} (l : List A) (x : A) → [] ≡ l ++ x ∷ [] → ⊥
 push-not_nil [] x e = cc
@@ -431,7 +432,7 @@ levels_none : {start : State} {none : Log} {d : ℕ} {s : State} {fs : List Encl
     {l : Log} {is : List Item} → OpenGroups start none fs ts o d s l is →
     fs ≡ [] → (d ≡ 0) × (s ≡ start) × (o ≡ top) × (l ≡ none) × (is ≡ [])
 levels_none outermost e = (refl, refl, refl, refl, refl)
-levels_none (inner {outer} f i x l h a j k z) e = absurd (push-not_nil outer f (sym e ∙ i))
+levels_none (inner {outer} f i x w l h a j k z) e = absurd (push-not_nil outer f (sym e ∙ i))
 
 -- the group on top of the stack, in which the innermost part was opened, and the trees up to the last of its own
 record Outer (start : State) (none : Log) (gs : List Enclosing) (g : Enclosing) (ts : List Tree) (o : OpenPart)
@@ -447,8 +448,10 @@ record Outer (start : State) (none : Log) (gs : List Enclosing) (g : Enclosing) 
   pieces : List Tree
   deeper : d ≡ depth + 1
   holds : HoldsTrees g.frame ts below branches pieces
-  levels : OpenGroups start none gs below (part_of g.frame.open_group) depth begin before items_before
-  reading : ReadSoFar depth (part_of g.frame.open_group) begin before branches pieces current recorded
+  part : OpenPart
+  is_part : IsPart start.flags.ignore_numbered_groups g.frame.open_group part
+  levels : OpenGroups start none gs below part depth begin before items_before
+  reading : ReadSoFar depth part begin before branches pieces current recorded
   began : Began g.piece current
   more : ends current.rest ≡ false
   opens : OpensPart depth current recorded o s l
@@ -458,8 +461,8 @@ levels_pop : {start : State} {none : Log} (gs : List Enclosing) (g : Enclosing) 
     {ts : List Tree} {o : OpenPart} {l : Log} {is : List Item} → OpenGroups start none fs ts o d s l is →
     fs ≡ gs ++ g ∷ [] → Outer start none gs g ts o d s l is
 levels_pop gs g outermost e = absurd (push-not_nil gs g e)
-levels_pop {start} {none} gs g {ts} (inner {d} {s} {l = c} {t} {m} {outer} {below} {branches} {pieces} {is} f i x l h a
-    w j z) e =
+levels_pop {start} {none} gs g {ts} (inner {d} {s} {l = c} {t} {m} {q} {outer} {below} {branches} {pieces} {is} f i x y l
+    h a w j z) e =
     let p = push-same outer gs f g (sym i ∙ e) in
     record {
       depth = d;
@@ -473,9 +476,10 @@ levels_pop {start} {none} gs g {ts} (inner {d} {s} {l = c} {t} {m} {outer} {belo
       pieces = pieces;
       deeper = refl;
       holds = subst (λ (y : Enclosing). HoldsTrees y.frame ts below branches pieces) p.1 x;
-      levels = subst (λ (y : Enclosing). OpenGroups start none gs below (part_of y.frame.open_group) d s c is) p.1
-          (subst (λ y. OpenGroups start none y below (part_of f.frame.open_group) d s c is) p.0 l);
-      reading = subst (λ (y : Enclosing). ReadSoFar d (part_of y.frame.open_group) s c branches pieces t m) p.1 h;
+      part = q;
+      is_part = subst (λ (y : Enclosing). IsPart start.flags.ignore_numbered_groups y.frame.open_group q) p.1 y;
+      levels = subst (λ y. OpenGroups start none y below q d s c is) p.0 l;
+      reading = h;
       began = subst (λ (y : Enclosing). Began y.piece t) p.1 a;
       more = w;
       opens = j;
@@ -491,7 +495,7 @@ holds_new g trees i j =
     let n = append-nil trees in (sym (append-nil (trees ++ []) ∙ n), i, j ∙ ap length (sym n))
 
 pub running_start : (start : State) (none : Log) (stack : List Enclosing) (f : Frame) (trees : List Tree) → stack ≡ [] →
-    trees ≡ [] → f.branches ≡ 0 → f.pieces ≡ 0 → part_of f.open_group ≡ top →
+    trees ≡ [] → f.branches ≡ 0 → f.pieces ≡ 0 → IsPart start.flags.ignore_numbered_groups f.open_group top →
     Running start none stack f trees start none []
 running_start start none stack f trees e x i j k = record {
   depth = 0;
@@ -503,7 +507,9 @@ running_start start none stack f trees e x i j k = record {
   pieces = [];
   is_depth = rw e;
   holds = (x, i, j);
-  levels = rw (e, k) outermost;
+  part = top;
+  is_part = k;
+  levels = rw e outermost;
   reading = reading_new 0 _ start none _ _ refl refl;
   same_items = refl;
 }
@@ -512,7 +518,7 @@ pub running_error : {start t : State} {none l : Log} {stack : List Enclosing} {f
     {error : Located} {is : List Item} (h : Running start none stack f trees t l is) → ends t.rest ≡ false →
     Piece (length stack) t (failed error) → Alternation 0 start (failed error)
 running_error {t} {f} {error} h e a =
-    let (n, x) = reading_error (part_of f.open_group) h.reading e
+    let (n, x) = reading_error h.part h.reading e
     (subst (λ d. Piece d t (failed error)) (sym h.is_depth) a) in
     levels_error n h.levels x
 
@@ -534,6 +540,8 @@ running_piece {t} {v} {l} {m} {r} all js h e a i j = record {
     h.holds.1,
     h.holds.2,
   );
+  part = h.part;
+  is_part = h.is_part;
   levels = h.levels;
   reading = reading_piece _ _ h.reading e (subst (λ d. PieceTo d t (done r v) l m) (sym h.is_depth) a) refl refl;
   same_items = j ∙ ap (λ x. x ++ items_in (solid (r ∷ []))) h.same_items
@@ -575,7 +583,8 @@ running_open : {start t v : State} {none l m : Log} {stack : List Enclosing} {f 
     Running start none stack f trees t l is →
     Began p t → ends t.rest ≡ false → OpensPart (length stack) t l o v m →
     all ≡ stack ++ record { frame = f; piece = p } ∷ [] →
-    part_of g.open_group ≡ o → g.branches ≡ length trees → g.pieces ≡ length trees → js ≡ is ++ items_opening o →
+    IsPart start.flags.ignore_numbered_groups g.open_group o → g.branches ≡ length trees → g.pieces ≡ length trees →
+    js ≡ is ++ items_opening o →
     Running start none all g trees v m js
 running_open {t} {v} {l = c} {m} {stack} {f} {trees} {o} p all g js h b e a i j k l z = record {
   depth = h.depth + 1;
@@ -587,54 +596,55 @@ running_open {t} {v} {l = c} {m} {stack} {f} {trees} {o} p all g js h b e a i j 
   pieces = [];
   is_depth = omega (arith, h.is_depth, ap length i, length_push stack (record { frame = f; piece = p }));
   holds = holds_new g trees k l;
-  levels = rw j
-      (inner (record { frame = f; piece = p }) i h.holds h.levels h.reading b e
-      (subst (λ d. OpensPart d t c o v m) (sym h.is_depth) a) (z ∙ ap (λ x. x ++ items_opening o) h.same_items));
+  part = o;
+  is_part = j;
+  levels = inner (record { frame = f; piece = p }) i h.holds h.is_part h.levels h.reading b e
+      (subst (λ d. OpensPart d t c o v m) (sym h.is_depth) a) (z ∙ ap (λ x. x ++ items_opening o) h.same_items);
   reading = reading_new _ _ v m _ _ refl refl;
   same_items = sym (append-nil js);
 }
 
 -- a step reads a piece
-pub running_read : {start t v : State} {none l : Log} {stack : List Enclosing} {f : Frame} {trees ts : List Tree}
-    {is : List Item} (m : Log) (us : List Tree) (js : List Item) →
-    Running start none stack f trees t l is → ends t.rest ≡ false → IsStep (length stack) t l trees None ts v m →
-    ts ≡ trees ++ us → js ≡ is ++ items_in us → Running start none stack f ts v m js
-running_read {trees} {ts} {is} m us js h e (r, n, a, i, j) k z =
-    rw j (running_piece ts js h e a i (z ∙ ap (λ x. is ++ items_in x) (append-same trees (sym k ∙ i))))
+pub running_read : {start t v : State} {none l : Log} {stack : List Enclosing} {f : Frame} {trees us : List Tree}
+    {is js : List Item} (i : Bool) (m : Log) → Running start none stack f trees t l is → ends t.rest ≡ false →
+    IsStep i (length stack) t l trees None us v m js → Running start none stack f us v m (is ++ js)
+running_read {us} {is} i m h e (r, n, a, x, j, k) = rw j (running_piece us _ h e a x (ap (λ l. is ++ l) k))
 
 -- a step opens a part
-pub running_opened : {start t v : State} {none l : Log} {stack all : List Enclosing} {f g : Frame} {trees ts : List Tree}
-    {is : List Item} (m : Log) (open_group : OpenGroup) (p : PieceStart) (js : List Item) →
-    Running start none stack f trees t l is → Began p t →
-    ends t.rest ≡ false → IsStep (length stack) t l trees (Some open_group) ts v m →
-    all ≡ stack ++ record { frame = f; piece = p } ∷ [] → g.open_group ≡ open_group → g.branches ≡ length ts →
-    g.pieces ≡ length ts → js ≡ is ++ items_opening (part_of open_group) → Running start none all g ts v m js
-running_opened {all} {g} m open_group p js h b e (a, same) i j k l z =
-    rw same (running_open p all g js h b e a i (ap part_of j) (k ∙ ap length same) (l ∙ ap length same) z)
+pub running_opened : {start t v : State} {none l : Log} {stack all : List Enclosing} {f g : Frame} {trees us : List Tree}
+    {is js : List Item} (m : Log) (open_group : OpenGroup) (p : PieceStart) → Running start none stack f trees t l is →
+    Began p t → ends t.rest ≡ false →
+    IsStep start.flags.ignore_numbered_groups (length stack) t l trees (Some open_group) us v m js →
+    all ≡ stack ++ record { frame = f; piece = p } ∷ [] → g.open_group ≡ open_group → g.branches ≡ length us →
+    g.pieces ≡ length us → Running start none all g us v m (is ++ js)
+running_opened {start} {all} {g} {is} m open_group p h b e (o, is_part, a, same, w) i j k l =
+    rw same (running_open p all g _ h b e a i (subst (λ q. IsPart start.flags.ignore_numbered_groups q o) (sym j) is_part)
+    (k ∙ ap length same) (l ∙ ap length same) (ap (λ x. is ++ x) w))
 
 -- after a bar, the second branch of an absent expression is open
 levels_bar : {d : ℕ} {start s t : State} {none l m : Log} {u : Text} {a : Tree} {fs : List Enclosing} {ts : List Tree} →
     {is : List Item} → OpenGroups start none fs ts first d s l is → BranchTo d s (done a t) l m →
     strip (code "|") t.rest ≡ Some u →
     OpenGroups start none fs ts (second a) d (at t u) (branch_begun (reach_of u) m) (is ++ items a)
-levels_bar {start} {t} {none} {u} {a} {fs} {ts} {is} (inner {d} f i l h m j x y w) (b, z) e =
+levels_bar {start} {t} {none} {u} {a} {fs} {ts} {is} (inner {d} f i l q h m j x y w) (b, z) e =
     subst (λ m. OpenGroups start none fs ts (second a) (d + 1) (at t u) (branch_begun (reach_of u) m) (is ++ items a)) z
-    (inner f i l h m j x (after_branch y b e) (ap (λ x. x ++ items a) (w ∙ append-nil _)))
+    (inner f i l q h m j x (after_branch y b e) (ap (λ x. x ++ items a) (w ∙ append-nil _)))
 
 pub running_bar : {start t : State} {none l : Log} {u : Text} {stack : List Enclosing} {f : Frame} {trees : List Tree}
     {is : List Item} (all : List Tree) (g : Frame) (h : Running start none stack f trees t l is) →
-    ends t.rest ≡ true → strip (code "|") t.rest ≡ Some u → is_second (part_of f.open_group) ≡ false →
-    part_of g.open_group ≡ opened_by_bar (part_of f.open_group) (joined h.pieces) →
-    HoldsTrees g all h.below (branches_at_bar (part_of f.open_group) h.branches (joined h.pieces)) [] →
+    ends t.rest ≡ true → strip (code "|") t.rest ≡ Some u → is_second h.part ≡ false →
+    IsPart start.flags.ignore_numbered_groups g.open_group (opened_by_bar h.part (joined h.pieces)) →
+    HoldsTrees g all h.below (branches_at_bar h.part h.branches (joined h.pieces)) [] →
     Running start none stack g all (at t u) (branch_begun (reach_of u) (branch_closed h.pieces t l)) is
 running_bar {start} {t} {none} {l = c} {u} {stack} {f} {is} all g h e b x i j =
-    by_open (part_of f.open_group) h.levels h.reading x i j
+    by_open h.part h.levels h.reading x i j
   where
     n : Log
     n = branch_begun (reach_of u) (branch_closed h.pieces t c)
 
     ordinary : {p : OpenPart} → holds_one p ≡ false → OpenGroups start none stack h.below p h.depth h.begin h.before
-        h.items_before → ReadSoFar h.depth p h.begin h.before h.branches h.pieces t c → part_of g.open_group ≡ p →
+        h.items_before → ReadSoFar h.depth p h.begin h.before h.branches h.pieces t c →
+        IsPart start.flags.ignore_numbered_groups g.open_group p →
         HoldsTrees g all h.below (h.branches ++ joined h.pieces ∷ []) [] → Running start none stack g all (at t u) n is
     ordinary z l r i j = record {
       depth = h.depth;
@@ -646,8 +656,10 @@ running_bar {start} {t} {none} {l = c} {u} {stack} {f} {is} all g h e b x i j =
       pieces = [];
       is_depth = h.is_depth;
       holds = j;
-      levels = rw i l;
-      reading = rw i (reading_bar _ _ r z e b refl refl);
+      part = _;
+      is_part = i;
+      levels = l;
+      reading = reading_bar _ _ r z e b refl refl;
       same_items = h.same_items
           ∙ ap (λ x. h.items_before ++ x) (sym (items_choice_pieces h.branches h.pieces)
           ∙ ap items_in (sym (append-nil (h.branches ++ joined h.pieces ∷ []))));
@@ -655,7 +667,8 @@ running_bar {start} {t} {none} {l = c} {u} {stack} {f} {is} all g h e b x i j =
 
     by_open : (p : OpenPart) → OpenGroups start none stack h.below p h.depth h.begin h.before h.items_before →
         ReadSoFar h.depth p h.begin h.before h.branches h.pieces t c →
-        is_second p ≡ false → part_of g.open_group ≡ opened_by_bar p (joined h.pieces) →
+        is_second p ≡ false →
+        IsPart start.flags.ignore_numbered_groups g.open_group (opened_by_bar p (joined h.pieces)) →
         HoldsTrees g all h.below (branches_at_bar p h.branches (joined h.pieces)) [] →
         Running start none stack g all (at t u) n is
     by_open top l r x i j = ordinary refl l r i j
@@ -672,8 +685,10 @@ running_bar {start} {t} {none} {l = c} {u} {stack} {f} {is} all g h e b x i j =
       pieces = [];
       is_depth = h.is_depth;
       holds = j;
-      levels = rw i (levels_bar l (reading_one r refl e) b);
-      reading = rw i (reading_new _ _ _ _ _ _ (r.one refl).1 refl);
+      part = second (joined h.pieces);
+      is_part = i;
+      levels = levels_bar l (reading_one r refl e) b;
+      reading = reading_new _ _ _ _ _ _ (r.one refl).1 refl;
       same_items = h.same_items
           ∙ (λ k. h.items_before ++ (ap items_in (ap (λ x. x ++ h.pieces) (r.one refl).1) ∙ sym (items_pieces h.pieces)) k)
           ∙ sym (append-nil (h.items_before ++ items (joined h.pieces)))
@@ -706,16 +721,15 @@ bar_does_not_close e = omega (arith, e)
 second_error : {d : ℕ} {start s t : State} {none l m : Log} {error : Located} {a r : Tree} {fs : List Enclosing}
     {ts : List Tree} {is : List Item} → OpenGroups start none fs ts (second a) d s l is → BranchTo d s (done r t) l m →
     closed (expression a r) t ≡ failed error → Alternation 0 start (failed error)
-second_error {t} {a} {r} (inner f i y l h m j x w) b e =
-    let (n, z) = reading_error (part_of f.frame.open_group) h j (ended_error _ r t x b (λ _ z. absurd (true≢false z)) e) in
+second_error {t} {a} {r} (inner {q} f i y k l h m j x w) b e =
+    let (n, z) = reading_error q h j (ended_error _ r t x b (λ _ z. absurd (true≢false z)) e) in
     levels_error n l z
 
 pub running_bar_error : {start t : State} {none l : Log} {u : Text} {stack : List Enclosing} {f : Frame}
-    {trees : List Tree} {is : List Item} (o : Outcome Tree) → Running start none stack f trees t l is →
-    ends t.rest ≡ true → strip (code "|") t.rest ≡ Some u → IsErrorOfBar (part_of f.open_group) t.rest o →
+    {trees : List Tree} {is : List Item} (o : Outcome Tree) (h : Running start none stack f trees t l is) →
+    ends t.rest ≡ true → strip (code "|") t.rest ≡ Some u → IsErrorOfBar h.part t.rest o →
     Alternation 0 start o
-running_bar_error {start} {t} {none} {l = c} {u} {stack} {f} o h e b x = by_open (part_of f.open_group) h.levels
-    h.reading x
+running_bar_error {start} {t} {none} {l = c} {u} {stack} {f} o h e b x = by_open h.part h.levels h.reading x
   where
     by_open : (p : OpenPart) → OpenGroups start none stack h.below p h.depth h.begin h.before h.items_before →
         ReadSoFar h.depth p h.begin h.before h.branches h.pieces t c →
@@ -768,16 +782,15 @@ pub record Closing (start : State) (none : Log) (stack : List Enclosing) (g : En
   pub same_items : is ≡ items_before ++ (items_opening o ++ items r)
 
 pub running_closing : {start t : State} {none l : Log} {all : List Enclosing} {f : Frame} {trees : List Tree}
-    {is : List Item} (stack : List Enclosing) (g : Enclosing) (q : OpenPart) → q ≡ part_of f.open_group →
-    (h : Running start none all f trees t l is) → ends t.rest ≡ true → strip (code "|") t.rest ≡ None →
+    {is : List Item} (stack : List Enclosing) (g : Enclosing) (h : Running start none all f trees t l is) → ends t.rest ≡ true → strip (code "|") t.rest ≡ None →
     all ≡ stack ++ g ∷ [] →
-    Closing start none stack g h.below q (choice (h.branches ++ joined h.pieces ∷ [])) t
+    Closing start none stack g h.below h.part (choice (h.branches ++ joined h.pieces ∷ [])) t
     (choice_closed h.branches h.pieces t l) is
-running_closing {t} {l} {f} stack g q z h e a j =
+running_closing {t} {l} stack g h e a j =
     let o = levels_pop stack g h.levels j in
     let m : o.depth ≡ length stack = omega (arith, o.deeper, h.is_depth, ap length j, length_push stack g) in
-    let opens : OpensPart (length stack) o.current o.recorded q h.begin h.before =
-    rw z (subst (λ d. OpensPart d o.current o.recorded (part_of f.open_group) h.begin h.before) m o.opens) in
+    let opens : OpensPart (length stack) o.current o.recorded h.part h.begin h.before =
+    subst (λ d. OpensPart d o.current o.recorded h.part h.begin h.before) m o.opens in
     let n = choice_closed h.branches h.pieces t l in
     record {
       current = o.current;
@@ -795,6 +808,8 @@ running_closing {t} {l} {f} stack g q z h e a j =
         pieces = o.pieces;
         is_depth = m;
         holds = o.holds;
+        part = o.part;
+        is_part = o.is_part;
         levels = o.levels;
         reading = o.reading;
         same_items = refl;
@@ -802,13 +817,12 @@ running_closing {t} {l} {f} stack g q z h e a j =
       began = o.began;
       more = o.more;
       opens = opens;
-      whole = rw z (subst (λ d. Part (part_of f.open_group) d h.begin
+      whole = subst (λ d. Part h.part d h.begin
           (done (choice (h.branches ++ joined h.pieces ∷ [])) t) h.before n) (o.deeper ∙ ap (λ d. d + 1) m)
-          (reading_end (part_of f.open_group) h.reading e a));
+          (reading_end h.part h.reading e a);
       same_items =
           let before = o.items_before ++ items_in (o.branches ++ o.pieces) in
           h.same_items
-          ∙ (λ k. (o.same_items ∙ ap (λ p. before ++ items_opening p) (sym z)) k
-          ++ sym (items_branches_pieces h.branches h.pieces) k)
-          ∙ append_assoc before (items_opening q) (items (choice (h.branches ++ joined h.pieces ∷ [])));
+          ∙ (λ k. o.same_items k ++ sym (items_branches_pieces h.branches h.pieces) k)
+          ∙ append_assoc before (items_opening h.part) (items (choice (h.branches ++ joined h.pieces ∷ [])));
     }

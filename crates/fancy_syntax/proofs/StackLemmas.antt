@@ -119,7 +119,7 @@ opened_fewer (after_branch {v} {u} x b e) =
 groups_fewer : {start : State} {none l : Log} {d : ℕ} {s : State} {fs : List Enclosing} {ts : List Tree} {o : OpenPart}
     {is : List Item} → OpenGroups start none fs ts o d s l is → length fs + open_parens s.rest ≤ open_parens start.rest
 groups_fewer outermost = omega arith
-groups_fewer (inner {outer} f i x l h a m j z) =
+groups_fewer (inner {outer} f i x w l h a m j z) =
     omega (arith, groups_fewer l, ap length i, length_push outer f, fewer_after h.slice, opened_fewer j)
 
 -- so the stack has capacity for one more if one opens

@@ -14,6 +14,7 @@ use Rattle.fancy_grammar.proofs.ItemLemmas.{length_openings, counted, counted_fi
 use Rattle.fancy_grammar.specs.Items.{Item, opening, reference, items, items_all, openings_in}
 use Rattle.fancy_grammar.specs.Tree.{Tree, trees_of, more_trees}
 use Rattle.fancy_syntax.specs.Records.{IsErrorRecorded, Walks}
+use Rattle.fancy_syntax.specs.Regrouped.{raw, regrouped, regrouped_all}
 use Rattle.fancy_syntax.specs.View.{view, views}
 use Rattle.fancy_syntax.specs.declared.expr.Expr.{Expr}
 use Rattle.fancy_syntax.specs.declared.resolve.records.Progress as code
@@ -71,10 +72,10 @@ recorded_le k s p l e =
 
 -- the items of the trees from the i-th on
 abbrev pub rest : List Expr → ℕ → List Item
-rest es i = items_all (trees_of (views (drop i es)))
+rest es i = items_all (regrouped_all (trees_of (views (drop i es))))
 
 pub rest_next : (es : List Expr) (i : ℕ) (e : Expr) → i < length es → e ≡ get_or es i e →
-    rest es i ≡ items (view e) ++ rest es (i + 1)
+    rest es i ≡ items (raw e) ++ rest es (i + 1)
 rest_next es i e h k = rw (drop-cons es i e, ← k, add-one) refl
 
 pub rest_none : (es : List Expr) (i : ℕ) → length es ≤ i → rest es i ≡ []
@@ -87,12 +88,13 @@ count_two l x y h = ap (λ m. length (openings_in m)) h ∙ length_openings x y
 -- the trees resolved one after another
 abbrev pub resolved_list : Resolver → ℕ → List Tree → List Tree
 resolved_list k c [] = []
-resolved_list k c (t ∷ ts) = resolved_by k c t ∷ resolved_list k (c + counted k.named (items t)) ts
+resolved_list k c (t ∷ ts) =
+    resolved_by k c (regrouped t) ∷ resolved_list k (c + counted k.named (items (regrouped t))) ts
 
 resolved_trees : (k : Resolver) (ts : List Tree) (c : ℕ) →
-    all_resolved_by k c (trees_of ts) ≡ trees_of (resolved_list k c ts)
+    all_resolved_by k c (regrouped_all (trees_of ts)) ≡ trees_of (resolved_list k c ts)
 resolved_trees k [] c = refl
-resolved_trees k (t ∷ ts) c = ap (more_trees (resolved_by k c t)) (resolved_trees k ts _)
+resolved_trees k (t ∷ ts) c = ap (more_trees (resolved_by k c (regrouped t))) (resolved_trees k ts _)
 
 -- a list whose end from i on is known
 front_next : (l r : List Tree) (i : ℕ) (x : Tree) → drop i l ≡ x ∷ r → take (suc i) l ≡ take i l ++ (x ∷ [])
@@ -115,7 +117,7 @@ views_append (e ∷ a) b = ap (λ l. view e ∷ l) (views_append a b)
 end_cut : (k : Resolver) (c : ℕ) (es : List Expr) (all : List Tree) (i : ℕ) (e : Expr) → i < length es →
     e ≡ get_or es i e → resolved_list k c (views (drop i es)) ≡ drop i all →
     drop i all
-    ≡ resolved_by k c (view e) ∷ resolved_list k (c + counted k.named (items (view e))) (views (drop (i + 1) es))
+    ≡ resolved_by k c (raw e) ∷ resolved_list k (c + counted k.named (items (raw e))) (views (drop (i + 1) es))
 end_cut k c es all i e h g d =
     let es_cut : drop i es ≡ e ∷ drop (i + 1) es = rw (drop-cons es i e, ← g, add-one) refl in
     sym d ∙ ap (λ l. resolved_list k c (views l)) es_cut
@@ -123,7 +125,7 @@ end_cut k c es all i e h g d =
 -- the resolved front, with one more tree
 pub front_resolved : (k : Resolver) (c : ℕ) (es now : List Expr) (all : List Tree) (i : ℕ) (e e2 : Expr) →
     length now ≡ length es → i < length es → e ≡ get_or es i e →
-    view e2 ≡ resolved_by k c (view e) → views (take i now) ≡ take i all →
+    view e2 ≡ resolved_by k c (raw e) → views (take i now) ≡ take i all →
     resolved_list k c (views (drop i es)) ≡ drop i all →
     views (take (i + 1) (set now i e2)) ≡ take (i + 1) all
 front_resolved k c es now all i e e2 n h g v f d =
@@ -134,11 +136,11 @@ front_resolved k c es now all i e e2 n h g v f d =
     ∙ sym (front_next all _ i _ (end_cut k c es all i e h g d)) ∙ ap (λ j. take j all) (sym (add-one i))
 
 pub rest_resolved : (k : Resolver) (s s2 : Progress) (es : List Expr) (all : List Tree) (i : ℕ) (e : Expr) →
-    i < length es → e ≡ get_or es i e → s2 ≡ progress_after k s (items (view e)) →
+    i < length es → e ≡ get_or es i e → s2 ≡ progress_after k s (items (raw e)) →
     resolved_list k s.passed (views (drop i es)) ≡ drop i all →
     resolved_list k s2.passed (views (drop (i + 1) es)) ≡ drop (i + 1) all
 rest_resolved k s s2 es all i e h g n d =
-    ap (λ c. resolved_list k c (views (drop (i + 1) es))) (recorded_passed k s s2 (items (view e)) n)
+    ap (λ c. resolved_list k c (views (drop (i + 1) es))) (recorded_passed k s s2 (items (raw e)) n)
     ∙ sym (drop_next all _ i _ (end_cut k s.passed es all i e h g d)) ∙ ap (λ j. drop j all) (sym (add-one i))
 
 resolved_length : (k : Resolver) (ts : List Tree) (c : ℕ) → length (resolved_list k c ts) ≡ length ts
@@ -152,7 +154,7 @@ views_length (e ∷ es) = ap suc (views_length es)
 -- all are resolved
 pub each_resolved : (k : Resolver) (c : ℕ) (es now : List Expr) (i : ℕ) → length now ≡ length es → length es ≤ i →
     views (take i now) ≡ take i (resolved_list k c (views es)) →
-    trees_of (views now) ≡ all_resolved_by k c (trees_of (views es))
+    trees_of (views now) ≡ all_resolved_by k c (regrouped_all (trees_of (views es)))
 each_resolved k c es now i n h f =
     let a : take i now ≡ now = take_all i now (omega arith) in
     let b : take i (resolved_list k c (views es)) ≡ resolved_list k c (views es)

@@ -41,6 +41,7 @@ pub use Rattle.fancy_grammar.specs.ReadBack
 pub mod Reads
 pub mod Parsed
 pub mod Found
+pub mod Decided
 pub mod Machine
 pub mod StackCapacity
 pub mod Log
@@ -48,4 +49,5 @@ pub mod LogViews
 pub mod Recording
 pub mod RecordedWhole
 -- ---- the resolver's walks
+pub mod Regrouped
 pub mod Records

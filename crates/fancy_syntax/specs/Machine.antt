@@ -15,6 +15,7 @@ use Rattle.fancy_grammar.specs.GroupKind.{GroupKind, group_node}
 use Rattle.fancy_grammar.specs.Items.{Item, items}
 use Rattle.fancy_grammar.specs.Join.{solid, is_empty}
 use Rattle.fancy_grammar.specs.Slices.{Slice}
+use Rattle.fancy_syntax.specs.Decided.{decided, all_decided, made, IsDecidedKind}
 use Rattle.fancy_syntax.specs.Found.{IsFound, group_opening, items_in}
 use Rattle.fancy_syntax.specs.Log.{Log, opened, group_opened, body_opened, body_begun, branch_begun, atom_closed}
 use Rattle.fancy_syntax.specs.Log.{layout_passed}
@@ -26,6 +27,7 @@ use Rattle.fancy_grammar.specs.Errors.{IsErrorAmong}
 use Rattle.fancy_grammar.specs.State.{ends, skipped, State, at, Outcome, done, failed, mapped}
 use Rattle.fancy_grammar.specs.Tree.{Tree, expression}
 use Rattle.fancy_syntax.specs.View.{view, views}
+use Rattle.fancy_syntax.specs.declared.grammar.found.Found.{Found}
 use Rattle.fancy_syntax.specs.declared.grammar.frame.Enclosing.{Enclosing}
 use Rattle.fancy_syntax.specs.declared.grammar.frame.Frame.{Frame}
 use Rattle.fancy_syntax.specs.declared.grammar.frame.OpenGroup.{OpenGroup}
@@ -57,9 +59,15 @@ items_opening (body c left) = items c
 items_opening (second a) = items a
 items_opening _ = []
 
-abbrev pub items_opened : Option OpenGroup → List Item
-items_opened None = []
-items_opened (Some open_group) = items_opening (part_of open_group)
+-- the open part is this part, whose trees are decided
+abbrev pub IsPart : Bool → OpenGroup → OpenPart → Type 0
+IsPart i open_group.Top top = Unit {0}
+IsPart i (open_group.Group kind reach) (group h p) = (h ≡ group_kind kind) × (p ≡ reach) × IsDecidedKind i kind
+IsPart i open_group.Condition condition = Unit {0}
+IsPart i (open_group.Body c left) (body r m) = (view c.value ≡ decided i r) × (left ≡ m)
+IsPart i open_group.First first = Unit {0}
+IsPart i (open_group.Second a) (second r) = view a.value ≡ decided i r
+IsPart i _ _ = ⊥
 
 -- whether the part holds a single branch, not an alternation
 abbrev pub holds_one : OpenPart → Bool
@@ -70,6 +78,11 @@ holds_one _ = false
 abbrev pub is_second : OpenPart → Bool
 is_second (second a) = true
 is_second _ = false
+
+-- the first is open before a bar, and the second after it; the tree is the branch before the bar
+abbrev pub IsOpenedByBar : OpenGroup → OpenGroup → Tree → Type 0
+IsOpenedByBar open_group.First g a = part_of g ≡ second a
+IsOpenedByBar f g a = g ≡ f
 
 -- the part that is open after a bar; the tree is the branch before the bar
 abbrev pub opened_by_bar : OpenPart → Tree → OpenPart
@@ -137,6 +150,14 @@ ended_part p r s =
     if lacks_body p s then failed (body_missing s.rest)
     else closed (node_of_part p r) s
 
+-- the tree that the code makes of the open part, and the outcome when the part ends with that of its contents
+abbrev pub made_of : OpenGroup → Tree → Tree
+made_of (open_group.Group kind reach) r = made kind reach r
+made_of g r = node_of_part (part_of g) r
+
+abbrev pub ended_with : OpenGroup → Tree → State → Outcome Tree
+ended_with g r s = if lacks_body (part_of g) s then failed (body_missing s.rest) else closed (made_of g r) s
+
 -- the log when the part ends with the tree r; its parenthesis begins at the first reach and ends at the second
 abbrev pub part_recorded : OpenPart → Tree → ℕ → ℕ → Log → Log
 part_recorded top r paren end l = l
@@ -147,17 +168,20 @@ part_recorded first r paren end l = stopper_recorded r end l
 part_recorded (second a) r paren end l = atom_closed end false l
 
 -- a step from s to t reads a piece, whose tree follows the trees ts unless it is Empty, or opens a part of a piece; the
--- trees are then us, and the record goes from l to m
-abbrev pub IsStep : ℕ → State → Log → List Tree → Option OpenGroup → List Tree → State → Log → Type 0
-IsStep d s l ts None us t m =
+-- trees are then us, the record goes from l to m, and js are the items that are read
+abbrev pub IsStep : Bool → ℕ → State → Log → List Tree → Option OpenGroup → List Tree → State → Log → List Item → Type 0
+IsStep i d s l ts None us t m js =
     (r : Tree) × (n : Log) × PieceTo d s (done r t) l n × (us ≡ ts ++ solid (r ∷ [])) × (m ≡ added r n)
-IsStep d s l ts (Some open_group) us t m = OpensPart d s l (part_of open_group) t m × (us ≡ ts)
+    × (js ≡ items_in (solid (r ∷ [])))
+IsStep i d s l ts (Some g) us t m js =
+    (p : OpenPart) × IsPart i g p × OpensPart d s l p t m × (us ≡ ts) × (js ≡ items_opening p)
 
--- a step from s to t, with a record from l to one of which P holds, or the error of a piece at s
-abbrev pub GivesStep : Result (Option OpenGroup) ReadError → ℕ → State → Log → (ts us : List Tree) → State →
-    (Log → Type 0) → Type 0
-GivesStep r d s l ts us t P =
-    MatchResult r (λ opened. (m : Log) × IsStep d s l ts opened us t m × P m) (λ e. IsErrorAmong e (Piece d s))
+-- a step from s to t, whose trees are decided, with a log and with items of which P holds, or the error of a piece at s
+abbrev pub GivesStep : Bool → Result (Option OpenGroup) ReadError → ℕ → State → Log → (ts all : List Tree) → State →
+    (Log → List Item → Type 0) → Type 0
+GivesStep i r d s l ts all t P =
+    MatchResult r (λ opened. (m : Log) × (us : List Tree) × (js : List Item) × (all ≡ all_decided i us)
+    × IsStep i d s l ts opened us t m js × P m js) (λ e. IsErrorAmong e (Piece d s))
 
 -- the outcome is a tree, of which P holds, read up to t, and it follows the trees below unless it is Empty; or it is the
 -- error of the result
@@ -192,16 +216,18 @@ abbrev pub HoldsTrees : Frame → (trees below branches pieces : List Tree) → 
 HoldsTrees f trees below branches pieces =
     (trees ≡ below ++ branches ++ pieces) × (f.branches ≡ length below) × (f.pieces ≡ length (below ++ branches))
 
+-- The parts and the trees here are the grammar's. Those of the code are the same with their groups decided.
+
 -- the open groups of a text that begins at `start`, with the log `none`, and the trees that they hold. The innermost
 -- part begins at s, at depth d, with the log l, after the items is. Its own trees are not among these.
 pub data OpenGroups (start : State) (none : Log) : List Enclosing → List Tree → OpenPart → ℕ → State → Log →
     List Item → Type 0
   where
     outermost : OpenGroups start none [] [] top 0 start none []
-    inner : {d s l t m v n p all outer trees below branches pieces is js : _} (e : Enclosing) → all ≡ outer ++ e ∷ [] →
+    inner : {d s l t m v n p q all outer trees below branches pieces is js : _} (e : Enclosing) → all ≡ outer ++ e ∷ [] →
         HoldsTrees e.frame trees below branches pieces →
-        OpenGroups start none outer below (part_of e.frame.open_group) d s l is →
-        ReadSoFar d (part_of e.frame.open_group) s l branches pieces t m → Began e.piece t → ends t.rest ≡ false →
+        IsPart start.flags.ignore_numbered_groups e.frame.open_group q → OpenGroups start none outer below q d s l is →
+        ReadSoFar d q s l branches pieces t m → Began e.piece t → ends t.rest ≡ false →
         OpensPart d t m p v n → js ≡ (is ++ items_in (branches ++ pieces)) ++ items_opening p →
         OpenGroups start none all trees p (d + 1) v n js
 
@@ -218,19 +244,30 @@ pub record Running (start : State) (none : Log) (stack : List Enclosing) (f : Fr
   pub pieces : List Tree
   pub is_depth : depth ≡ length stack
   pub holds : HoldsTrees f trees below branches pieces
-  pub levels : OpenGroups start none stack below (part_of f.open_group) depth begin before items_before
-  pub reading : ReadSoFar depth (part_of f.open_group) begin before branches pieces t l
+  pub part : OpenPart
+  pub is_part : IsPart start.flags.ignore_numbered_groups f.open_group part
+  pub levels : OpenGroups start none stack below part depth begin before items_before
+  pub reading : ReadSoFar depth part begin before branches pieces t l
   pub same_items : is ≡ items_before ++ items_in (branches ++ pieces)
 
--- the same for the fields of the parser, which has found its groups in the items
+-- the same for the fields of the parser, whose trees are decided, and which has found its groups in the items
 pub record HasRead (start : State) (none : Log) (r : Parser) (l : Log) : Type 0 where
   pub is : List Item
-  pub running : Running start none r.stack.items r.frame (views r.trees.items) (state r.current) l is
+  pub trees : List Tree
+  pub same : views r.trees.items ≡ all_decided start.flags.ignore_numbered_groups trees
+  pub running : Running start none r.stack.items r.frame trees (state r.current) l is
   pub found : IsFound start.flags.ignore_numbered_groups r.found is
 
 -- the same, and P holds of the log
 abbrev pub HasReadTo : State → Log → Parser → (Log → Type 0) → Type 0
 HasReadTo start none r P = (l : Log) × HasRead start none r l × P l
+
+-- an alternation that begins at `start` is read up to t: its raw tree, decided, is this tree, and this was found in its
+-- items; the record goes from `none` to a log of which P holds
+abbrev pub IsReadTo : State → Log → Tree → State → Found → (Log → Type 0) → Type 0
+IsReadTo start none tree t found P =
+    (r : Tree) × (m : Log) × AlternationTo 0 start (done r t) none m × P m
+    × (tree ≡ decided start.flags.ignore_numbered_groups r) × IsFound start.flags.ignore_numbered_groups found (items r)
 
 -- the outcome is the last of all trees, read up to the state, and those below it stay; or it is the error of the result
 abbrev pub TurnsLast : Result (Unit {0}) ReadError → (all below : List Tree) → State → Outcome Tree → Type 0

@@ -1,5 +1,5 @@
 -- How the results of the parser's readers correspond to the grammar's.
-use Rattle.std.specs.Prelude.{◌≡◌, ℕ, ◌+◌, ◌<◌, List, option_map, chars, length, Result, MatchResult, ⊤}
+use Rattle.std.specs.Prelude.{◌≡◌, ℕ, ◌+◌, ◌<◌, List, None, option_map, chars, length, Result, MatchResult, ⊤}
 use Rattle.fancy_lex.specs.declared.error.ReadError.{ReadError}
 use Rattle.fancy_grammar.specs.AtomStart.{AtomStart, nothing, read, of_kind, condition, body, absent_branch}
 use Rattle.fancy_grammar.specs.Depth.{max_depth}
@@ -12,7 +12,6 @@ use Rattle.fancy_grammar.specs.Tree.{Tree}
 use Rattle.fancy_syntax.specs.View.{view}
 use Rattle.fancy_syntax.specs.declared.expr.Expr.{Expr}
 use Rattle.fancy_syntax.specs.declared.grammar.atom_start.AtomStart as declared
-use Rattle.fancy_syntax.specs.declared.grammar.found.Found.{Found}
 use Rattle.fancy_syntax.specs.declared.grammar.atom_start.AtomStart.TheVariants.{Nothing, Read, Group, Condition, Body}
 use Rattle.fancy_syntax.specs.declared.grammar.atom_start.AtomStart.TheVariants.{AbsentBranch}
 use Rattle.fancy_syntax.specs.declared.grammar.group.kind.GroupKind.{GroupKind}
@@ -27,15 +26,12 @@ state s = record { flags = s.flags; rest = chars s.rest.now }
 -- the group kind, with its name as a list of characters
 abbrev pub group_kind : GroupKind → kind.GroupKind
 group_kind (code.Capture name) = kind.capture (option_map (λ t. chars t.now) name)
+group_kind code.Undecided = kind.capture None
 group_kind code.FlagGroup = kind.flag_group
 group_kind (code.Look look) = kind.look look
 group_kind code.Atomic = kind.atomic
 group_kind code.Define = kind.define
 group_kind code.Repeater = kind.repeater
-
--- the result, a tree with the state after it and what was found, or an error, is an outcome
-abbrev pub IsTreeRead : Result (Expr × State × Found) ReadError → (Outcome Tree → Type 0) → Type 0
-IsTreeRead r P = MatchResult r (λ found. P (done (view found.0) (state found.1))) (λ e. IsErrorAmong e P)
 
 -- the outcome is this tree and this state, or the error that the result has
 abbrev pub Turns : Result (Unit {0}) ReadError → Tree → spec.State → Outcome Tree → Type 0

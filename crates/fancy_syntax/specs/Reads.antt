@@ -8,18 +8,22 @@ use Rattle.fancy_parts.specs.Ranks.{numbered_openings, only_named}
 use Rattle.fancy_grammar.specs.Errors.{IsErrorAmong}
 use Rattle.fancy_grammar.specs.Grammar.{DerivesTree, Whole}
 use Rattle.fancy_grammar.specs.Items.{items, openings}
-use Rattle.fancy_syntax.specs.Records.{has_items}
+use Rattle.fancy_grammar.specs.Tree.{Tree}
+use Rattle.fancy_syntax.specs.Decided.{decided}
+use Rattle.fancy_syntax.specs.Found.{has_unresolved}
 use Rattle.fancy_syntax.specs.View.{view}
 use Rattle.fancy_syntax.specs.declared.raw_tree.RawTree.{RawTree}
 
--- the raw tree of a whole text, or its error
-abbrev pub ReadsWhole : Result RawTree ReadError → Flags → Text → Type 0
-ReadsWhole r f text = MatchResult r (λ raw. DerivesTree f text (view raw.expr)) (λ e. IsErrorAmong e (Whole f text))
+-- the code's raw tree is r with its groups decided, and what is known of these is true, under the flags that the caller
+-- gives
+pub record IsRawTree (f : Flags) (raw : RawTree) (r : Tree) : Type 0 where
+  pub same : view raw.expr ≡ decided f.ignore_numbered_groups r
+  pub named : raw.named ≡ only_named f (openings r)
+  pub groups : groups_of raw.groups ≡ groups_in (numbered_openings f (openings r))
+  pub unresolved : raw.unresolved ≡ has_unresolved f.ignore_numbered_groups (items r)
 
--- what is known of the groups of the raw tree is true, under the flags that the caller gives
-abbrev pub IsNumbered : Flags → RawTree → Type 0
-IsNumbered f raw =
-    let l = openings (view raw.expr) in
-    (raw.named ≡ only_named f l)
-    × (groups_of raw.groups ≡ groups_in (numbered_openings f l))
-    × (raw.met ≡ has_items (items (view raw.expr)))
+-- the raw tree of a whole text, of which P holds, or its error
+abbrev pub ReadsWhole : Result RawTree ReadError → Flags → Text → (Tree → Type 0) → Type 0
+ReadsWhole result f text P =
+    MatchResult result (λ raw. (r : Tree) × DerivesTree f text r × IsRawTree f raw r × P r)
+    (λ e. IsErrorAmong e (Whole f text))

@@ -1,5 +1,5 @@
 -- How the resolver's own values correspond to the definitions.
-use Rattle.std.specs.Prelude.{◌≡◌, ℕ, ◌||◌, Bool, true, false, List, [], ◌∷◌, Option, Some, None, chars}
+use Rattle.std.specs.Prelude.{◌≡◌, ℕ, ◌||◌, Bool, List, Option, Some, None, chars}
 use Rattle.std.specs.Prelude.{Result, MatchResult}
 use Rattle.fancy_lex.specs.Located.{Located}
 use Rattle.fancy_lex.specs.Text.{bytes, position_at}
@@ -18,11 +18,6 @@ use Rattle.fancy_grammar.specs.Walk as walk
 use Rattle.fancy_syntax.specs.declared.resolve.records.Resolver.{Resolver}
 use Rattle.fancy_syntax.specs.declared.resolve.records.Progress.{Progress}
 use Rattle.fancy_syntax.specs.declared.resolve.records.Stopped.{Stopped}
-
--- whether there is a capturing group or a reference
-abbrev pub has_items : List Item → Bool
-has_items [] = false
-has_items (i ∷ l) = true
 
 abbrev pub resolver_of : Resolver → walk.Resolver
 resolver_of k = record { text = chars k.pattern.now; named = k.named; groups = groups_of k.groups }

@@ -1,16 +1,14 @@
 //! The grammar: a loop over a stack of open groups reads the raw tree of a text.
-ghost use Rattle.std.specs.Prelude.{◌≡◌, ◌<◌, ◌≤◌, length, chars, IfOk};
+ghost use Rattle.std.specs.Prelude.{◌≡◌, ◌<◌, ◌≤◌, length, chars, IfOk, MatchResult};
+ghost use Rattle.fancy_grammar.specs.Errors.{IsErrorAmong};
 ghost use Rattle.fancy_grammar.specs.Grammar as spec;
-ghost use Rattle.fancy_grammar.specs.Items.{items};
-ghost use Rattle.fancy_grammar.specs.State.{done};
 ghost use Rattle.fancy_lex.specs.Text.{reach_of};
-ghost use Rattle.fancy_syntax.specs.Found.{IsFound};
 ghost use Rattle.fancy_syntax.specs.Log.{Log, started};
+ghost use Rattle.fancy_syntax.specs.Machine.{IsReadTo};
+ghost use Rattle.fancy_syntax.specs.Parsed.{state};
+ghost use Rattle.fancy_syntax.specs.Reads.{ReadsWhole};
 ghost use Rattle.fancy_syntax.specs.RecordedWhole.{IsRecordedWhole};
-ghost use Rattle.fancy_syntax.specs.Recording.{AlternationTo};
-ghost use Rattle.fancy_syntax.specs.Parsed.{state, IsTreeRead};
 ghost use Rattle.fancy_syntax.specs.View.{view};
-ghost use Rattle.fancy_syntax.specs.Reads.{IsNumbered, ReadsWhole};
 
 mod atom;
 mod atom_start;
@@ -50,11 +48,8 @@ pub(crate) fn parse<S: Spanning>(
     flags: Flags,
     spans: &mut S,
 ) -> Result<RawTree, ReadError>
-    ensures reads { ReadsWhole result flags (chars text.now) }
-    ensures numbered { IfOk result (λ raw. IsNumbered flags raw) }
-    ensures spans { (l : Log) → l ≡ started (reach_of (chars text.now)) → S.records spans.old l →
-        IfOk result (λ raw. (m : Log) × S.records spans.new m
-        × IsRecordedWhole flags (chars text.now) (view raw.expr) m) }
+    ensures { (l : Log) → l ≡ started (reach_of (chars text.now)) → ReadsWhole result flags (chars text.now) (λ r.
+        S.records spans.old l → (m : Log) × S.records spans.new m × IsRecordedWhole flags (chars text.now) r m) }
 {
     let (tree, current, found) = alternation(alloc, State { flags, rest: text }, spans)?;
     match next(current.rest) {
@@ -73,11 +68,10 @@ fn alternation<'a, S: Spanning>(
     start: State<'a>,
     spans: &mut S,
 ) -> Result<(Expr, State<'a>, Found), ReadError>
-    ensures value { IsTreeRead result (spec.Alternation 0 (state start.entry)) }
-    ensures found { IfOk result (λ p. IsFound start.entry.flags.ignore_numbered_groups p.2 (items (view p.0))) }
+    ensures value { (l : Log) → MatchResult result
+        (λ p. IsReadTo (state start.entry) l (view p.0) (state p.1) p.2 (λ m. S.records spans.old l → S.records spans.new m))
+        (λ e. IsErrorAmong e (spec.Alternation 0 (state start.entry))) }
     ensures within { IfOk result (λ p. length p.1.rest.now ≤ length start.entry.rest.now) }
-    ensures spans { (l : Log) → S.records spans.old l → IfOk result (λ p. (m : Log) × S.records spans.new m
-        × AlternationTo 0 (state start.entry) (done (view p.0) (state p.1)) l m) }
 {
     let mut parser = Parser::new(alloc, start)?;
     loop {

@@ -1,16 +1,18 @@
-//! From a raw tree to the resolved tree: groups get their numbers, and references the numbers that they refer to.
-ghost use Rattle.std.specs.Prelude.{◌≡◌, ◌+◌, ◌<◌, chars, length, IfOk, IfErr, None};
+//! From a raw tree to the resolved tree: references get the numbers that they refer to, and what is undecided is decided.
+ghost use Rattle.std.specs.Prelude.{◌≡◌, ◌<◌, false, true, chars, length, IfOk, IfErr, None};
 ghost use Rattle.fancy_lex.specs.IdReference.{amount_bound};
 ghost use Rattle.fancy_lex.specs.Text.{bytes};
 ghost use Rattle.fancy_lex.specs.declared.flags.Flags.{Flags};
 ghost use Rattle.fancy_parts.specs.Groups.{groups_of};
+ghost use Rattle.fancy_grammar.specs.Grammar.{DerivesTree};
 ghost use Rattle.fancy_grammar.specs.Items.{items, openings};
 ghost use Rattle.fancy_grammar.specs.GroupInfo.{group_info};
 ghost use Rattle.fancy_grammar.specs.Errors.{IsErrorIn};
+ghost use Rattle.fancy_grammar.specs.Tree.{Tree};
 ghost use Rattle.fancy_syntax.specs.InfoViews.{info_of};
-ghost use Rattle.fancy_syntax.specs.Reads.{IsNumbered};
-ghost use Rattle.fancy_syntax.specs.Records.{resolver_of, progress_of, info_found, has_items};
-ghost use Rattle.fancy_grammar.specs.Ordered.{DescendingReaches};
+ghost use Rattle.fancy_syntax.specs.Reads.{IsRawTree};
+ghost use Rattle.fancy_syntax.specs.Records.{resolver_of, progress_of, info_found};
+ghost use Rattle.fancy_syntax.specs.Regrouped.{raw, is_settled};
 ghost use Rattle.fancy_grammar.specs.Resolved.{resolved, error_of};
 ghost use Rattle.fancy_grammar.specs.Walk.{progress_after, nothing_recorded, resolved_by};
 ghost use Rattle.fancy_syntax.specs.View.{view};
@@ -30,20 +32,21 @@ use std::alloc::Global;
 /// The raw tree of the pattern resolved in place, with its group information, or the first error of its references.
 #[inline(always)]
 pub(crate) fn resolve(alloc: Global, raw: RawTree, pattern: &str) -> Result<ExprTree, ReadError>
-    requires in_order { DescendingReaches (length pattern.now + 2) 2 (items (view raw.expr)) }
-    requires met { raw.met ≡ has_items (items (view raw.expr)) }
-    ensures tree { (f : Flags) → IsNumbered f raw →
-        IfOk result (λ t. view t.expr ≡ resolved f (bytes (chars pattern.now)) (view raw.expr)) }
-    ensures group_info { (f : Flags) → IsNumbered f raw →
-        IfOk result (λ t. info_of t ≡ group_info f (chars pattern.now) (view raw.expr)) }
-    ensures no_error { (f : Flags) → IsNumbered f raw → IfOk result (λ _. error_of f (view raw.expr) ≡ None) }
-    ensures error { (f : Flags) → IsNumbered f raw → IfErr result (λ e. IsErrorIn e (error_of f (view raw.expr))) }
+    requires { (f : Flags) × (r : Tree) × DerivesTree f (chars pattern.now) r × IsRawTree f raw r }
+    ensures tree { (f : Flags) (r : Tree) → DerivesTree f (chars pattern.now) r → IsRawTree f raw r →
+        IfOk result (λ t. view t.expr ≡ resolved f (bytes (chars pattern.now)) r) }
+    ensures group_info { (f : Flags) (r : Tree) → DerivesTree f (chars pattern.now) r → IsRawTree f raw r →
+        IfOk result (λ t. info_of t ≡ group_info f (chars pattern.now) r) }
+    ensures no_error { (f : Flags) (r : Tree) → DerivesTree f (chars pattern.now) r → IsRawTree f raw r →
+        IfOk result (λ _. error_of f r ≡ None) }
+    ensures error { (f : Flags) (r : Tree) → DerivesTree f (chars pattern.now) r → IsRawTree f raw r →
+        IfErr result (λ e. IsErrorIn e (error_of f r)) }
 {
     let RawTree {
         expr,
         groups,
         named,
-        met,
+        unresolved,
     } = raw;
     let resolver = Resolver {
         pattern,
@@ -51,7 +54,7 @@ pub(crate) fn resolve(alloc: Global, raw: RawTree, pattern: &str) -> Result<Expr
         groups,
     };
     let mut expr = expr;
-    let progress = match walk(alloc, &mut expr, &resolver, met) {
+    let progress = match walk(alloc, &mut expr, &resolver, unresolved) {
         Ok(progress) => progress,
         Err(error) => {
             drop(resolver);
@@ -97,18 +100,21 @@ fn walk(
     alloc: Global,
     tree: &mut Expr,
     resolver: &Resolver,
-    met: bool,
+    unresolved: bool,
 ) -> Result<Progress, ReadError>
-    requires bound { length (openings (view tree.old)) < amount_bound }
-    requires met { met ≡ has_items (items (view tree.old)) }
-    ensures tree { IfOk result (λ _. view tree.new ≡ resolved_by (resolver_of resolver.now) 0 (view tree.old)) }
-    ensures progress { IfOk result
-        (λ p. progress_of p ≡ progress_after (resolver_of resolver.now) nothing_recorded (items (view tree.old))) }
+    requires bound { length (openings (raw tree.old)) < amount_bound }
+    requires settled { unresolved ≡ false → is_settled (view tree.old) ≡ true }
+    ensures tree { IfOk result (λ _. view tree.new ≡ resolved_by (resolver_of resolver.now) 0 (raw tree.old)) }
+    ensures group_info { IfOk result (λ p. let named = resolver.now.named in let groups = groups_of resolver.now.groups in
+        info_found named groups (progress_of p)
+        ≡ info_found named groups (progress_after (resolver_of resolver.now) nothing_recorded (items (raw tree.old)))) }
+    ensures no_error { IfOk result
+        (λ _. (progress_after (resolver_of resolver.now) nothing_recorded (items (raw tree.old))).error ≡ None) }
     ensures error { IfErr result
-        (λ e. IsErrorIn e (progress_after (resolver_of resolver.now) nothing_recorded (items (view tree.old))).error) }
+        (λ e. IsErrorIn e (progress_after (resolver_of resolver.now) nothing_recorded (items (raw tree.old))).error) }
 {
     let mut progress = Progress::new(alloc);
-    if met {
+    if unresolved {
         let Ok(()) = rewrite(tree, resolver, &mut progress) else {
             return Err(progress.into_error());
         };

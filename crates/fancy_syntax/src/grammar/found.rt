@@ -5,10 +5,10 @@ ghost use Rattle.fancy_parts.specs.Groups.{groups_of, groups_in};
 ghost use Rattle.fancy_parts.specs.Ranks.{Opening, is_named, numbered_openings_in};
 ghost use Rattle.fancy_grammar.specs.Items.{Item, items, openings_in};
 ghost use Rattle.fancy_grammar.specs.Preorder.{preorder};
+ghost use Rattle.fancy_syntax.specs.Decided.{IsDecidedKind};
 ghost use Rattle.fancy_syntax.specs.Found as spec;
-ghost use Rattle.fancy_syntax.specs.Found.{FindsMore, IsFound, group_opening, openings_found, undecided_in};
+ghost use Rattle.fancy_syntax.specs.Found.{FindsMore, IsFound, group_opening, has_unresolved, openings_found, undecided_in};
 ghost use Rattle.fancy_syntax.specs.Parsed.{group_kind};
-ghost use Rattle.fancy_syntax.specs.Records.{has_items};
 ghost use Rattle.fancy_syntax.specs.View.{view};
 
 use crate::expr::Expr;
@@ -26,8 +26,8 @@ pub(crate) struct Found {
     pub(crate) groups: Groups,
     /// How many groups are undecided: they have a number only if no group has a name.
     pub(crate) undecided: usize,
-    /// Whether a capturing group or a reference was read.
-    pub(crate) met: bool,
+    /// Whether there is something to resolve: a reference, or an undecided group.
+    pub(crate) unresolved: bool,
 }
 
 impl Found {
@@ -40,7 +40,7 @@ impl Found {
             ignore,
             groups: Groups::new(alloc),
             undecided: 0,
-            met: false,
+            unresolved: false,
         }
     }
 
@@ -51,28 +51,41 @@ impl Found {
         ensures found { FindsMore self.old self.new (items (view atom.now)) }
         ensures count { openings_found self.new ≡ openings_found self.old }
     {
-        if is_item(atom) {
-            self.met = true;
+        if is_reference(atom) {
+            self.unresolved = true;
         }
     }
 
-    /// Records that a group opens. A capturing group has the next number, or is undecided.
+    /// Records that a group opens, and returns its kind. A capturing group has the next number, or is undecided.
     #[inline(always)]
-    pub(crate) fn add(&mut self, alloc: Global, kind: GroupKind) -> Result<(), AllocError>
+    pub(crate) fn add<'a>(
+        &mut self,
+        alloc: Global,
+        kind: GroupKind<'a>,
+    ) -> Result<GroupKind<'a>, AllocError>
         requires { openings_found self.old + 1 < 2 ^ 64 }
         ensures found { (reach : ℕ) →
             IfOk result (λ _. FindsMore self.old self.new (group_opening (group_kind kind.entry) reach)) }
+        ensures same { IfOk result (λ k. group_kind k ≡ group_kind kind.entry) }
+        ensures decided { IfOk result (λ k. IsDecidedKind self.old.ignore k) }
         ensures count { IfOk result (λ _. openings_found self.new ≤ openings_found self.old + 1) }
     {
-        let GroupKind::Capture(name) = kind else {
-            return Ok(());
+        let name = match kind {
+            GroupKind::Capture(name) => name,
+            GroupKind::Undecided => None,
+            GroupKind::FlagGroup
+            | GroupKind::Look(_)
+            | GroupKind::Atomic
+            | GroupKind::Define
+            | GroupKind::Repeater => return Ok(kind),
         };
-        self.met = true;
         if self.ignore && name.is_none() {
+            self.unresolved = true;
             self.undecided += 1;
-            return Ok(());
+            return Ok(GroupKind::Undecided);
         }
-        self.groups.add(alloc, name)
+        self.groups.add(alloc, name)?;
+        Ok(GroupKind::Capture(name))
     }
 
     /// The raw tree, with what was found in it.
@@ -82,28 +95,30 @@ impl Found {
             result.named ≡ (ignore && list_any is_named (openings_in l)) }
         ensures groups { (ignore : Bool) (l : List Item) → IsFound ignore self l →
             groups_of result.groups ≡ groups_in (numbered_openings_in result.named (openings_in l)) }
-        ensures met { (ignore : Bool) (l : List Item) → IsFound ignore self l → result.met ≡ has_items l }
+        ensures unresolved { (ignore : Bool) (l : List Item) → IsFound ignore self l →
+            result.unresolved ≡ has_unresolved ignore l }
     {
         let Found {
             ignore,
             groups,
             undecided,
-            met,
+            unresolved,
         } = self;
         let (named, groups) = decide(ignore, groups, undecided);
         RawTree {
             expr,
             groups,
             named,
-            met,
+            unresolved,
         }
     }
 }
 
-/// Whether the node is a capturing group or a reference.
+/// Whether the node, which holds no other, is a reference.
 #[inline(always)]
-fn is_item(tree: &Expr) -> bool
-    ensures { result ≡ spec.is_item (view tree.now) }
+fn is_reference(tree: &Expr) -> bool
+    requires { preorder (view tree.now) ≡ view tree.now ∷ [] }
+    ensures { result ≡ spec.is_reference (view tree.now) }
 {
     matches!(tree, Expr::AstNode(..))
 }

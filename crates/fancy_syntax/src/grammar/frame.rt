@@ -61,7 +61,7 @@ pub(crate) struct Enclosing<'a> {
 impl<'a> Frame<'a> {
     ghost use Rattle.std.specs.Prelude.{false, IfErr};
     ghost use Rattle.fancy_lex.specs.Text.{reach_of};
-    ghost use Rattle.fancy_syntax.specs.Machine.{part_of, opened_by_bar, branches_at_bar, is_second, IsErrorOfBar};
+    ghost use Rattle.fancy_syntax.specs.Machine.{part_of, IsOpenedByBar, branches_at_bar, is_second, IsErrorOfBar};
     ghost use Rattle.fancy_grammar.specs.Errors.{IsErrorAmong};
 
     /// A group in which nothing has been read yet, above `height` trees.
@@ -90,7 +90,7 @@ impl<'a> Frame<'a> {
         requires { self.old.pieces ≤ vec_len trees.old }
         ensures open_group { (below branches pieces : List Tree) →
             HoldsTrees self.old (views trees.old.items) below branches pieces →
-            OnOk result (part_of self.new.open_group ≡ opened_by_bar (part_of self.old.open_group) (one_or concat pieces)) }
+            OnOk result (IsOpenedByBar self.old.open_group self.new.open_group (one_or concat pieces)) }
         ensures trees { (below branches pieces : List Tree) →
             HoldsTrees self.old (views trees.old.items) below branches pieces →
             OnOk result (HoldsTrees self.new (views trees.new.items) below

@@ -7,13 +7,11 @@ ghost use Rattle.fancy_lex.specs.Text.{reach_of, strip};
 ghost use Rattle.fancy_grammar.specs.Depth.{max_depth};
 ghost use Rattle.fancy_grammar.specs.Errors.{IsErrorAmong};
 ghost use Rattle.fancy_grammar.specs.Grammar.{Alternation};
-ghost use Rattle.fancy_grammar.specs.Items.{items};
-ghost use Rattle.fancy_grammar.specs.State.{done, ends};
+ghost use Rattle.fancy_grammar.specs.State.{ends};
 ghost use Rattle.fancy_grammar.specs.State as states;
-ghost use Rattle.fancy_syntax.specs.Found.{FindsMore, IsFound, items_in, openings_found};
+ghost use Rattle.fancy_syntax.specs.Found.{FindsMore, items_in, openings_found};
 ghost use Rattle.fancy_syntax.specs.Log.{Log, leaf_recorded};
-ghost use Rattle.fancy_syntax.specs.Machine.{HasRead, HasReadTo, IsPlainLeaf};
-ghost use Rattle.fancy_syntax.specs.Recording.{AlternationTo};
+ghost use Rattle.fancy_syntax.specs.Machine.{HasRead, HasReadTo, IsReadTo, IsPlainLeaf};
 ghost use Rattle.fancy_syntax.specs.Parsed.{state};
 ghost use Rattle.fancy_syntax.specs.StackCapacity.{groups_at_once, HasStackCapacity, IsReserved};
 ghost use Rattle.fancy_syntax.specs.View.{view, views};
@@ -200,9 +198,8 @@ impl<'a> Parser<'a> {
         ensures reading { (start : states.State) (none l : Log) → HasRead start none self.old l →
             MatchResult result (λ found. MatchOption found
             (HasReadTo start none self.new (λ m. S.records spans.old l → S.records spans.new m))
-            (λ tree. (m : Log) × AlternationTo 0 start (done (view tree) (state self.new.current)) none m
-            × (S.records spans.old l → S.records spans.new m)
-            × IsFound start.flags.ignore_numbered_groups self.new.found (items (view tree))))
+            (λ tree. IsReadTo start none (view tree) (state self.new.current) self.new.found
+            (λ m. S.records spans.old l → S.records spans.new m)))
             (λ e. IsErrorAmong e (Alternation 0 start)) }
         ensures found { OnOk result (self.new.found ≡ self.old.found) }
         ensures depth { OnOk result (length self.new.stack.items < max_depth) }

@@ -1,5 +1,5 @@
 //! The steps of the loop that read a piece, or continue with the next part of a group.
-ghost use Rattle.std.specs.Prelude.{◌≡◌, ◌+◌, ◌^◌, ◌<◌, ◌≤◌, true, false, List, [], ◌∷◌, ◌++◌, length, chars, vec_len, IfOk, OnOk};
+ghost use Rattle.std.specs.Prelude.{◌≡◌, ◌+◌, ◌^◌, ◌<◌, ◌≤◌, Bool, true, false, List, [], ◌∷◌, ◌++◌, length, chars, vec_len, IfOk, OnOk};
 ghost use Rattle.std.specs.Prelude.{IfSome, MatchResult, None};
 ghost use Rattle.fancy_lex.specs.Characters.{code};
 ghost use Rattle.fancy_lex.specs.Text.{bytes, reach_of, strip};
@@ -7,10 +7,11 @@ ghost use Rattle.fancy_grammar.specs.State.{ends};
 ghost use Rattle.fancy_grammar.specs.Depth.{max_depth};
 ghost use Rattle.fancy_grammar.specs.Grammar as spec;
 ghost use Rattle.fancy_grammar.specs.Items.{items};
-ghost use Rattle.fancy_syntax.specs.Found.{FindsMore, items_in, openings_found};
+ghost use Rattle.fancy_syntax.specs.Decided.{decided, all_decided};
+ghost use Rattle.fancy_syntax.specs.Found.{FindsMore, openings_found};
 ghost use Rattle.fancy_syntax.specs.Log.{Log, group_opened};
 ghost use Rattle.fancy_syntax.specs.Machine as machine;
-ghost use Rattle.fancy_syntax.specs.Machine.{OpensPart, Part, GivesStep, EndsPiece, ended_part, part_of};
+ghost use Rattle.fancy_syntax.specs.Machine.{OpenPart, OpensPart, Part, IsPart, GivesStep, EndsPiece, ended_with, part_of};
 ghost use Rattle.fancy_syntax.specs.Machine.{TurnsLast, part_recorded};
 ghost use Rattle.fancy_syntax.specs.Recording.{added, body_separated, group_recorded, quants_recorded};
 ghost use Rattle.fancy_syntax.specs.Parsed.{group_kind, state, Turns};
@@ -55,10 +56,9 @@ pub(crate) fn read_step<'a, S: Spanning>(
     requires depth { depth < max_depth }
     requires more { ends (chars current.old.rest.now) ≡ false }
     requires bound { openings_found found.old + length current.old.rest.now < 2 ^ 64 }
-    ensures value { (l : Log) → GivesStep result depth (state current.old) l (views trees.old.items)
-        (views trees.new.items) (state current.new) (λ m. S.records spans.old l → S.records spans.new m) }
-    ensures found { IfOk result (λ opened. (us : List Tree) → views trees.new.items ≡ views trees.old.items ++ us →
-        FindsMore found.old found.new (items_in us ++ machine.items_opened opened)) }
+    ensures value { (i : Bool) (l : Log) (ts : List Tree) → found.old.ignore ≡ i → views trees.old.items ≡ all_decided i ts →
+        GivesStep i result depth (state current.old) l ts (views trees.new.items) (state current.new)
+        (λ m js. (S.records spans.old l → S.records spans.new m) × FindsMore found.old found.new js) }
     ensures count { IfOk result (λ _. openings_found found.new + length current.new.rest.now ≤
         openings_found found.old + length current.old.rest.now) }
     ensures shorter { IfOk result (λ _. length current.new.rest.now < length current.old.rest.now) }
@@ -85,7 +85,7 @@ pub(crate) fn read_step<'a, S: Spanning>(
         }
         AtomStart::Group(kind) => {
             open_group(kind, before, *current, spans)?;
-            found.add(alloc, kind)?;
+            let kind = found.add(alloc, kind)?;
             let paren = reach(before.rest);
             Ok(Some(OpenGroup::Group { kind, reach: paren }))
         }
@@ -126,7 +126,9 @@ fn open_group<S: Spanning>(
     };
     match kind {
         GroupKind::FlagGroup => spans.pass(part_between(start, inside, opening, false)),
-        GroupKind::Capture(None) => spans.pass(part_between(start, inside, opening, true)),
+        GroupKind::Capture(None) | GroupKind::Undecided => {
+            spans.pass(part_between(start, inside, opening, true))
+        }
         GroupKind::Capture(Some(_))
         | GroupKind::Look(_)
         | GroupKind::Atomic
@@ -226,15 +228,12 @@ pub(crate) fn close<'a, S: Spanning>(
     requires some { 0 < vec_len trees.old }
     requires last { ends (chars current.old.rest.now) ≡ true }
     requires no_bar { strip (code "|") (chars current.old.rest.now) ≡ None }
-    ensures value { (below : List Tree) (inner : Tree) (s t : states.State) (l m n : Log) →
-        views trees.old.items ≡ below ++ inner ∷ [] → start.left ≡ bytes s.rest → start.flags ≡ s.flags →
-        OpensPart depth s l (part_of open_group.entry) t m →
-        Part (part_of open_group.entry) (depth + 1) t (states.done inner (state current.old)) m n →
-        GivesStep result depth s l below (views trees.new.items) (state current.new)
-        (λ k. S.records spans.old n → S.records spans.new k) }
-    ensures items { (below us : List Tree) (inner : Tree) → views trees.old.items ≡ below ++ inner ∷ [] →
-        views trees.new.items ≡ below ++ us → IfOk result (λ opened.
-        items_in us ++ machine.items_opened opened ≡ machine.items_opening (part_of open_group.entry) ++ items inner) }
+    ensures value { (i : Bool) (below : List Tree) (inner : Tree) (p : OpenPart) (s t : states.State) (l m n : Log) →
+        views trees.old.items ≡ all_decided i below ++ decided i inner ∷ [] → IsPart i open_group.entry p →
+        start.left ≡ bytes s.rest → start.flags ≡ s.flags → OpensPart depth s l p t m →
+        Part p (depth + 1) t (states.done inner (state current.old)) m n →
+        GivesStep i result depth s l below (views trees.new.items) (state current.new)
+        (λ k js. (S.records spans.old n → S.records spans.new k) × (js ≡ machine.items_opening p ++ items inner)) }
     ensures shorter { IfOk result (λ _. length current.new.rest.now < length current.old.rest.now) }
 {
     let has_body = has_body_next(&open_group);
@@ -271,7 +270,7 @@ fn end_part<S: Spanning>(
     requires last { ends (chars current.old.rest.now) ≡ true }
     requires no_bar { strip (code "|") (chars current.old.rest.now) ≡ None }
     ensures value { Turns result (view tree.new) (state current.new)
-        (ended_part (part_of open_group.entry) (view tree.old) (state current.old)) }
+        (ended_with open_group.entry (view tree.old) (state current.old)) }
     ensures shorter { IfOk result (λ _. length current.new.rest.now < length current.old.rest.now) }
     ensures spans { (l : Log) → S.records spans.old l → OnOk result (S.records spans.new (part_recorded
         (part_of open_group.entry) (view tree.old) (reach_of (chars current.old.rest.now))
@@ -287,9 +286,9 @@ fn read_end(alloc: Global, open_group: &OpenGroup, current: &mut State) -> Resul
     requires last { ends (chars current.old.rest.now) ≡ true }
     requires no_bar { strip (code "|") (chars current.old.rest.now) ≡ None }
     ensures value { (r : Tree) → MatchResult result
-        (λ _. ended_part (part_of open_group.now) r (state current.old) ≡
-        states.done (machine.node_of_part (part_of open_group.now) r) (state current.new))
-        (λ e. IsErrorAmong e (λ o. ended_part (part_of open_group.now) r (state current.old) ≡ o)) }
+        (λ _. ended_with open_group.now r (state current.old) ≡
+        states.done (machine.made_of open_group.now r) (state current.new))
+        (λ e. IsErrorAmong e (λ o. ended_with open_group.now r (state current.old) ≡ o)) }
     ensures shorter { IfOk result (λ _. length current.new.rest.now < length current.old.rest.now) }
 {
     if lacks_body(open_group, current.rest) {
@@ -319,7 +318,7 @@ fn node_of_part<S: Spanning>(
     rest: &str,
     spans: &mut S,
 ) -> Result<(), AllocError>
-    ensures tree { OnOk result (view tree.new ≡ machine.node_of_part (part_of open_group.entry) (view tree.old)) }
+    ensures tree { OnOk result (view tree.new ≡ machine.made_of open_group.entry (view tree.old)) }
     ensures spans { (l : Log) → S.records spans.old l →
         OnOk result (S.records spans.new
         (part_recorded (part_of open_group.entry) (view tree.old) paren (reach_of (chars rest.now)) l)) }
@@ -377,7 +376,7 @@ fn close_group<S: Spanning>(kind: &GroupKind, rest: &str, spans: &mut S) -> Resu
             spans.close_bare();
             Ok(())
         }
-        GroupKind::Capture(None) => {
+        GroupKind::Capture(None) | GroupKind::Undecided => {
             spans.pass(closing_before(rest, true))?;
             spans.close(end, true)
         }

@@ -1,10 +1,11 @@
-//! The walk: each capturing group becomes a `Group`, and each reference the node with its number. It stops at
-//! the first error.
+//! The walk: each reference becomes the node with its number, and each group that was undecided becomes a `Group` or its
+//! contents. It stops at the first error.
 ghost use Rattle.std.specs.Prelude.{◌≡◌, ℕ, ◌+◌, ◌<◌, [], false, chars, length, option_map};
 ghost use Rattle.fancy_lex.specs.IdReference.{amount_bound};
 ghost use Rattle.fancy_lex.specs.Target.{Target};
 ghost use Rattle.fancy_lex.specs.Text.{text_of};
 ghost use Rattle.fancy_grammar.specs.Items.{items, items_all, openings_in};
+ghost use Rattle.fancy_syntax.specs.Regrouped.{raw, regrouped, regrouped_all};
 ghost use Rattle.fancy_syntax.specs.Records.{Walks, resolver_of, progress_of};
 ghost use Rattle.fancy_grammar.specs.Resolved.{reference_node};
 ghost use Rattle.fancy_grammar.specs.Tree.{trees_of, ast_group};
@@ -29,15 +30,18 @@ pub(super) fn rewrite(
     resolver: &Resolver,
     progress: &mut Progress,
 ) -> Result<(), Stopped>
-    requires { progress.old.passed + length (openings_in (items (view tree.old))) < amount_bound }
-    ensures { Walks result (resolver_of resolver.now) (progress_of progress.old) (items (view tree.old))
+    requires { progress.old.passed + length (openings_in (items (raw tree.old))) < amount_bound }
+    ensures { Walks result (resolver_of resolver.now) (progress_of progress.old) (items (raw tree.old))
         progress.new
-        (λ _. view tree.new ≡ resolved_by (resolver_of resolver.now) progress.old.passed (view tree.old)) }
+        (λ _. view tree.new ≡ resolved_by (resolver_of resolver.now) progress.old.passed (raw tree.old)) }
 {
     match tree {
         Expr::Concat(parts) => rewrite_all(parts, resolver, progress),
         Expr::Alt(branches) => rewrite_all(branches, resolver, progress),
-        Expr::Group(child) => rewrite_child(child, resolver, progress),
+        Expr::Group(contents) => {
+            progress.passed += 1;
+            rewrite_child(contents, resolver, progress)
+        }
         Expr::LookAround(child, _) => rewrite_child(child, resolver, progress),
         Expr::Repeat { child, .. } => rewrite_child(child, resolver, progress),
         Expr::AtomicGroup(child) => rewrite_child(child, resolver, progress),
@@ -86,10 +90,10 @@ fn resolve_node(
     resolver: &Resolver,
     progress: &mut Progress,
 ) -> Result<Expr, Stopped>
-    requires { progress.old.passed + length (openings_in (items (view_ast node.old reach))) < amount_bound }
-    ensures { Walks result (resolver_of resolver.now) (progress_of progress.old) (items (view_ast node.old reach))
+    requires { progress.old.passed + length (openings_in (items (regrouped (view_ast node.old reach)))) < amount_bound }
+    ensures { Walks result (resolver_of resolver.now) (progress_of progress.old) (items (regrouped (view_ast node.old reach)))
         progress.new
-        (λ e. view e ≡ resolved_by (resolver_of resolver.now) progress.old.passed (view_ast node.old reach)) }
+        (λ e. view e ≡ resolved_by (resolver_of resolver.now) progress.old.passed (regrouped (view_ast node.old reach))) }
 {
     let node = mem::replace(
         node,
@@ -150,8 +154,8 @@ fn resolve_group(
     resolver: &Resolver,
     progress: &mut Progress,
 ) -> Result<Expr, Stopped>
-    requires { progress.old.passed + 1 + length (openings_in (items (view contents.value))) < amount_bound }
-    ensures { (reach : ℕ) → let group = ast_group (option_map text_of name) reach (view contents.value) in
+    requires { progress.old.passed + 1 + length (openings_in (items (raw contents.value))) < amount_bound }
+    ensures { (reach : ℕ) → let group = ast_group (option_map text_of name) reach (raw contents.value) in
         Walks result (resolver_of resolver.now) (progress_of progress.old) (items group) progress.new
         (λ e. view e ≡ resolved_by (resolver_of resolver.now) progress.old.passed group) }
 {
@@ -189,11 +193,11 @@ fn rewrite_absent(
     resolver: &Resolver,
     progress: &mut Progress,
 ) -> Result<(), Stopped>
-    requires { progress.old.passed + length (openings_in (items (view_absent absent.old))) < amount_bound }
-    ensures { Walks result (resolver_of resolver.now) (progress_of progress.old) (items (view_absent absent.old))
+    requires { progress.old.passed + length (openings_in (items (regrouped (view_absent absent.old)))) < amount_bound }
+    ensures { Walks result (resolver_of resolver.now) (progress_of progress.old) (items (regrouped (view_absent absent.old)))
         progress.new
         (λ _. view_absent absent.new
-        ≡ resolved_by (resolver_of resolver.now) progress.old.passed (view_absent absent.old)) }
+        ≡ resolved_by (resolver_of resolver.now) progress.old.passed (regrouped (view_absent absent.old))) }
 {
     match absent {
         Absent::Repeater(child) => rewrite_child(child, resolver, progress),
@@ -214,10 +218,10 @@ fn rewrite_child(
     resolver: &Resolver,
     progress: &mut Progress,
 ) -> Result<(), Stopped>
-    requires { progress.old.passed + length (openings_in (items (view child.old.value))) < amount_bound }
-    ensures { Walks result (resolver_of resolver.now) (progress_of progress.old) (items (view child.old.value))
+    requires { progress.old.passed + length (openings_in (items (raw child.old.value))) < amount_bound }
+    ensures { Walks result (resolver_of resolver.now) (progress_of progress.old) (items (raw child.old.value))
         progress.new
-        (λ _. view child.new.value ≡ resolved_by (resolver_of resolver.now) progress.old.passed (view child.old.value)) }
+        (λ _. view child.new.value ≡ resolved_by (resolver_of resolver.now) progress.old.passed (raw child.old.value)) }
 {
     rewrite(&mut **child, resolver, progress)
 }
@@ -230,11 +234,11 @@ fn rewrite_all(
     resolver: &Resolver,
     progress: &mut Progress,
 ) -> Result<(), Stopped>
-    requires { progress.old.passed + length (openings_in (items_all (trees_of (views trees.old.items)))) < amount_bound }
+    requires { progress.old.passed + length (openings_in (items_all (regrouped_all (trees_of (views trees.old.items))))) < amount_bound }
     ensures { Walks result (resolver_of resolver.now) (progress_of progress.old)
-        (items_all (trees_of (views trees.old.items))) progress.new
+        (items_all (regrouped_all (trees_of (views trees.old.items)))) progress.new
         (λ _. trees_of (views trees.new.items)
-        ≡ all_resolved_by (resolver_of resolver.now) progress.old.passed (trees_of (views trees.old.items))) }
+        ≡ all_resolved_by (resolver_of resolver.now) progress.old.passed (regrouped_all (trees_of (views trees.old.items)))) }
 {
     for i in 0..trees.len() {
         if may_hold_items(&trees[i]) {
@@ -254,7 +258,7 @@ fn is_counted_name(named: bool, name: Option<&str>) -> bool
 /// Whether the tree can contain a capturing group or a reference. Most trees are leaves, which need no walk.
 #[inline(always)]
 fn may_hold_items(tree: &Expr) -> bool
-    ensures { result ≡ false → items (view tree.now) ≡ [] }
+    ensures { result ≡ false → items (raw tree.now) ≡ [] }
 {
     matches!(
         tree,

@@ -1,5 +1,7 @@
-use Rattle.std.proofs.Common.{arith}
+use Rattle.std.proofs.Common.{ap, arith, length}
+use Rattle.std.proofs.lemmas.List.{length-map}
 use Rattle.std.proofs.lemmas.Result.{err_from_is_err_and}
+use Rattle.fancy_syntax.specs.Decided.{decided}
 use Rattle.fancy_syntax.specs.Log.{started}
 use Rattle.fancy_syntax.specs.Parsed.{state}
 use Rattle.fancy_syntax.proofs.TreesLemmas.{holds_below, views_length}
@@ -16,15 +18,15 @@ loop-parser-init g c =
     }
 
 pub returns-in_err-add_leaf-clause-value : goal.returns-in_err-add_leaf-clause-value
-returns-in_err-add_leaf-clause-value g c =
+returns-in_err-add_leaf-clause-value g c none =
     let e = err_from_is_err_and c.from_residual-in_err-add_leaf.result c.from_residual-in_err-add_leaf.ensures.1 in
-    let (l, h, n) = c.loop-parser.invariant.reading (started 0) in
+    let (l, h, n) = c.loop-parser.invariant.reading none in
     rw (e.1, e.2) (c.in_err-add_leaf.ensures.reading _ _ l h)
 
 pub returns-in_err-step-clause-value : goal.returns-in_err-step-clause-value
-returns-in_err-step-clause-value g c =
+returns-in_err-step-clause-value g c none =
     let e = err_from_is_err_and c.from_residual-in_err-step.result c.from_residual-in_err-step.ensures.1 in
-    let (l, h, n) = c.loop-parser.invariant.reading (started 0) in
+    let (l, h, n) = c.loop-parser.invariant.reading none in
     let (m, r, k) = c.in_ok-add_leaf.ensures.reading _ _ l h in
     rw (e.1, e.2) (c.in_err-step.ensures.reading _ _ m r)
 
@@ -39,7 +41,14 @@ bar-requires-clause-pieces g c =
     let (l, h, n) = c.loop-parser.invariant.reading (started 0) in
     let (m, r, k) = c.in_ok-add_leaf.ensures.reading _ _ l h in
     let h = holds_below c.add_leaf.new.self.frame r.running.below r.running.branches r.running.pieces r.running.holds in
-    omega (arith, h.1, c.add_leaf.new.self.trees.ok.0, views_length c.add_leaf.new.self.trees.items)
+    omega (
+      arith,
+      h.1,
+      c.add_leaf.new.self.trees.ok.0,
+      views_length c.add_leaf.new.self.trees.items,
+      ap length r.same,
+      length-map r.trees (decided c.args.start.flags.ignore_numbered_groups),
+    )
 
 pub close-requires-clause-branches : goal.close-requires-clause-branches
 close-requires-clause-branches g c =
@@ -52,40 +61,33 @@ close-requires-clause-pieces g c =
     let (l, h, n) = c.loop-parser.invariant.reading (started 0) in
     let (m, r, k) = c.in_ok-add_leaf.ensures.reading _ _ l h in
     let h = holds_below c.add_leaf.new.self.frame r.running.below r.running.branches r.running.pieces r.running.holds in
-    omega (arith, h.1, c.add_leaf.new.self.trees.ok.0, views_length c.add_leaf.new.self.trees.items)
+    omega (
+      arith,
+      h.1,
+      c.add_leaf.new.self.trees.ok.0,
+      views_length c.add_leaf.new.self.trees.items,
+      ap length r.same,
+      length-map r.trees (decided c.args.start.flags.ignore_numbered_groups),
+    )
 
 pub returns-in-Some-2-clause-value : goal.returns-in-Some-2-clause-value
-returns-in-Some-2-clause-value g c =
-    let (l, h, n) = c.loop-parser.invariant.reading (started 0) in
-    let (m, r, k) = c.in_ok-add_leaf.ensures.reading _ _ l h in
-    let (j, a, i, found) = rw c.in-Some-2.is at (c.in_ok-tree.ensures.reading _ _ m r) in
-    a.0
-
-pub returns-in-Some-2-clause-spans : goal.returns-in-Some-2-clause-spans
-returns-in-Some-2-clause-spans g c none x =
+returns-in-Some-2-clause-value g c none =
     let (l, h, n) = c.loop-parser.invariant.reading none in
     let (m, r, k) = c.in_ok-add_leaf.ensures.reading _ _ l h in
-    let (j, a, i, found) = rw c.in-Some-2.is at (c.in_ok-tree.ensures.reading _ _ m r) in
-    (j, i (k (n x)), a)
-
-pub returns-in-Some-2-clause-found : goal.returns-in-Some-2-clause-found
-returns-in-Some-2-clause-found g c =
-    let (l, h, n) = c.loop-parser.invariant.reading (started 0) in
-    let (m, r, k) = c.in_ok-add_leaf.ensures.reading _ _ l h in
-    let (j, a, i, found) = rw c.in-Some-2.is at (c.in_ok-tree.ensures.reading _ _ m r) in
-    found
+    let (tree, j, a, i, same, found) = rw c.in-Some-2.is at (c.in_ok-tree.ensures.reading _ _ m r) in
+    (tree, j, a, λ x. i (k (n x)), same, found)
 
 pub returns-in_err-bar-clause-value : goal.returns-in_err-bar-clause-value
-returns-in_err-bar-clause-value g c =
+returns-in_err-bar-clause-value g c none =
     let e = err_from_is_err_and c.from_residual-in_err-bar.result c.from_residual-in_err-bar.ensures.1 in
-    let (l, h, n) = c.loop-parser.invariant.reading (started 0) in
+    let (l, h, n) = c.loop-parser.invariant.reading none in
     let (m, r, k) = c.in_ok-add_leaf.ensures.reading _ _ l h in
     rw (e.1, e.2) (c.in_err-bar.ensures.reading _ _ m r)
 
 pub returns-in_err-tree-clause-value : goal.returns-in_err-tree-clause-value
-returns-in_err-tree-clause-value g c =
+returns-in_err-tree-clause-value g c none =
     let e = err_from_is_err_and c.from_residual-in_err-tree.result c.from_residual-in_err-tree.ensures.1 in
-    let (l, h, n) = c.loop-parser.invariant.reading (started 0) in
+    let (l, h, n) = c.loop-parser.invariant.reading none in
     let (m, r, k) = c.in_ok-add_leaf.ensures.reading _ _ l h in
     rw (e.1, e.2) (c.in_err-tree.ensures.reading _ _ m r)
 

@@ -1,4 +1,4 @@
-use Rattle.std.proofs.Common.{◌≡◌, None, Result, Ok, Err, IfOk, chars, map, ap, ◌∙◌}
+use Rattle.std.proofs.Common.{◌≡◌, refl, None, Result, Ok, Err, IfOk, chars, map, ap, ◌∙◌}
 use Rattle.std.proofs.lemmas.Result.{err_from_is_err_and, IfErr-weaker}
 use Rattle.fancy_lex.specs.Text.{Text, bytes}
 use Rattle.fancy_lex.specs.declared.error.ReadError.{ReadError}
@@ -19,25 +19,21 @@ use Rattle.fancy_syntax.specs.RecordedWhole.{IsRecordedWhole}
 use Rattle.fancy_syntax.specs.View.{view}
 use Rattle.fancy_syntax.specs.declared.tree.ExprTree.{ExprTree}
 use Rattle.fancy_grammar.proofs.Verdict.{only_reading, only_resolving, reading_positioned, resolving_positioned}
-use Rattle.fancy_grammar.proofs.Verdict.{text_order}
 use Rattle.fancy_syntax.proofs.tree.read.Goals as goal
 
 pub returns-in_err-raw-clause-error : goal.returns-in_err-raw-clause-error
 returns-in_err-raw-clause-error g c =
     let e = err_from_is_err_and c.from_residual.result c.from_residual.ensures.1 in
-    rw (e.1, e.2) (only_reading c.in_err-raw.field-0.0 c.args.flags (chars c.args.re.now) c.in_err-raw.ensures.reads)
+    rw (e.1, e.2) (only_reading c.in_err-raw.field-0.0 c.args.flags (chars c.args.re.now) (c.in_err-raw.ensures _ refl))
 
 pub returns-in_err-raw-clause-position : goal.returns-in_err-raw-clause-position
 returns-in_err-raw-clause-position g c =
     let e = err_from_is_err_and c.from_residual.result c.from_residual.ensures.1 in
-    rw (e.1, e.2) (reading_positioned c.in_err-raw.field-0.0 _ _ c.utf8.re c.in_err-raw.ensures.reads)
+    rw (e.1, e.2) (reading_positioned c.in_err-raw.field-0.0 _ _ c.utf8.re (c.in_err-raw.ensures _ refl))
 
-pub resolve-requires-clause-in_order : goal.resolve-requires-clause-in_order
-resolve-requires-clause-in_order g c =
-    text_order c.args.flags c.args.re.now (view c.in_ok-raw.raw.expr) c.utf8.re c.in_ok-raw.ensures.reads
-
-pub resolve-requires-clause-met : goal.resolve-requires-clause-met
-resolve-requires-clause-met g c = c.in_ok-raw.ensures.numbered.2
+pub resolve-requires : goal.resolve-requires
+resolve-requires g c =
+    let (r, reads, is_raw, recorded) = c.in_ok-raw.ensures _ refl in (c.args.flags, r, reads, is_raw)
 
 -- the tree of the text, if its raw tree is this one
 tree_of : {f : Flags} {text : Text} {r : Tree} (o : Result ExprTree ReadError) → DerivesTree f text r →
@@ -48,24 +44,25 @@ tree_of (Err e) reads tree same_info none = tt
 
 pub returns-clause-found : goal.returns-clause-found
 returns-clause-found g c =
+    let (r, reads, is_raw, recorded) = c.in_ok-raw.ensures _ refl in
     let ensured = c.resolve.ensures in
     let f = c.args.flags in
-    let numbered = c.in_ok-raw.ensures.numbered in
-    tree_of c.resolve.result c.in_ok-raw.ensures.reads (ensured.tree f numbered) (ensured.group_info f numbered)
-    (ensured.no_error f numbered)
+    tree_of c.resolve.result reads (ensured.tree f r reads is_raw) (ensured.group_info f r reads is_raw)
+    (ensured.no_error f r reads is_raw)
 
 pub returns-clause-error : goal.returns-clause-error
 returns-clause-error g c =
+    let (r, reads, is_raw, recorded) = c.in_ok-raw.ensures _ refl in
     IfErr-weaker c.resolve.result _ _
-    (λ e first. only_resolving e _ (chars c.args.re.now) (view c.in_ok-raw.raw.expr) c.in_ok-raw.ensures.reads first)
-    (c.resolve.ensures.error c.args.flags c.in_ok-raw.ensures.numbered)
+    (λ e first. only_resolving e _ (chars c.args.re.now) r reads first)
+    (c.resolve.ensures.error c.args.flags r reads is_raw)
 
 pub returns-clause-position : goal.returns-clause-position
 returns-clause-position g c =
+    let (r, reads, is_raw, recorded) = c.in_ok-raw.ensures _ refl in
     IfErr-weaker c.resolve.result _ _
-    (λ e first. resolving_positioned e c.args.flags c.args.re.now (view c.in_ok-raw.raw.expr) c.utf8.re
-    c.in_ok-raw.ensures.reads first)
-    (c.resolve.ensures.error c.args.flags c.in_ok-raw.ensures.numbered)
+    (λ e first. resolving_positioned e c.args.flags c.args.re.now r c.utf8.re reads first)
+    (c.resolve.ensures.error c.args.flags r reads is_raw)
 
 -- the spans of the text, if they are those of the nodes of this raw tree
 spans_of_tree : {f : Flags} {text : Text} {r : Tree} {N : Log → Type 0} (o : Result ExprTree ReadError) →
@@ -95,5 +92,5 @@ spans_of_tree (Err e) m same_info = tt
 
 pub returns-clause-spans : goal.returns-clause-spans
 returns-clause-spans g c l is n =
-    spans_of_tree c.resolve.result (c.in_ok-raw.ensures.spans l is n)
-    (c.resolve.ensures.group_info c.args.flags c.in_ok-raw.ensures.numbered)
+    let (r, reads, is_raw, recorded) = c.in_ok-raw.ensures l is in
+    spans_of_tree c.resolve.result (recorded n) (c.resolve.ensures.group_info c.args.flags r reads is_raw)

@@ -1,8 +1,6 @@
 //! The kinds of group that hold one alternation.
-ghost use Rattle.std.specs.Prelude.{◌≡◌, IfOk, OnOk, option_map, chars};
-ghost use Rattle.fancy_grammar.specs.GroupKind as spec;
-ghost use Rattle.fancy_syntax.specs.Parsed.{group_kind};
-ghost use Rattle.fancy_grammar.specs.Tree.{ast_group};
+ghost use Rattle.std.specs.Prelude.{◌≡◌, OnOk};
+ghost use Rattle.fancy_syntax.specs.Decided.{made};
 ghost use Rattle.fancy_syntax.specs.View.{view};
 
 use crate::expr::{Absent, AstNode, Expr, LookAround};
@@ -13,8 +11,10 @@ use std::mem;
 /// The kind of a group.
 #[derive(Clone, Copy)]
 pub(crate) enum GroupKind<'a> {
-    /// A capturing group, with its name if it has one.
+    /// A capturing group, with its name if it has one. It has a number.
     Capture(Option<&'a str>),
+    /// A capturing group without a name, which has a number only if no group has a name.
+    Undecided,
     /// A group of flags.
     FlagGroup,
     Look(LookAround),
@@ -31,44 +31,28 @@ pub(crate) fn enclose(
     reach: Reach,
     tree: &mut Expr,
 ) -> Result<(), AllocError>
-    ensures { OnOk result (view tree.new ≡ spec.group_node (group_kind kind.entry) reach (view tree.old)) }
+    ensures { OnOk result (view tree.new ≡ made kind.entry reach (view tree.old)) }
 {
     if matches!(kind, GroupKind::FlagGroup) {
         return Ok(());
     }
     let inner = Box::new(alloc, mem::replace(tree, Expr::Empty))?;
     // The replaced tree is Empty, which owns nothing.
-    mem::forget(mem::replace(tree, node(alloc, kind, reach, inner)?));
+    mem::forget(mem::replace(tree, node(kind, reach, inner)));
     Ok(())
 }
 
 /// The node of a group that opens at the reach, around its contents.
-fn node(alloc: Global, kind: GroupKind, reach: Reach, inner: Box<Expr>) -> Result<Expr, AllocError>
-    ensures { IfOk result (λ e. view e ≡ spec.group_node (group_kind kind.entry) reach (view inner.value)) }
+fn node(kind: GroupKind, reach: Reach, inner: Box<Expr>) -> Expr
+    ensures { view result ≡ made kind.entry reach (view inner.value) }
 {
     match kind {
-        GroupKind::Capture(name) => capture(alloc, name, reach, inner),
-        GroupKind::FlagGroup => Ok(Box::into_inner(inner)),
-        GroupKind::Look(look) => Ok(Expr::LookAround(inner, look)),
-        GroupKind::Atomic => Ok(Expr::AtomicGroup(inner)),
-        GroupKind::Define => Ok(Expr::DefineGroup { definitions: inner }),
-        GroupKind::Repeater => Ok(Expr::Absent(Absent::Repeater(inner))),
+        GroupKind::Capture(_) => Expr::Group(inner),
+        GroupKind::Undecided => Expr::AstNode(AstNode::AstGroup { name: None, inner }, reach),
+        GroupKind::FlagGroup => Box::into_inner(inner),
+        GroupKind::Look(look) => Expr::LookAround(inner, look),
+        GroupKind::Atomic => Expr::AtomicGroup(inner),
+        GroupKind::Define => Expr::DefineGroup { definitions: inner },
+        GroupKind::Repeater => Expr::Absent(Absent::Repeater(inner)),
     }
-}
-
-/// The node of a capturing group.
-fn capture(
-    alloc: Global,
-    name: Option<&str>,
-    reach: Reach,
-    inner: Box<Expr>,
-) -> Result<Expr, AllocError>
-    ensures { IfOk result (λ e. view e ≡ ast_group (option_map
-        (λ t. chars t.now) name.entry) reach (view inner.value)) }
-{
-    let Some(name) = name else {
-        return Ok(Expr::AstNode(AstNode::AstGroup { name: None, inner }, reach));
-    };
-    let name = Some(String::from_str(alloc, name)?);
-    Ok(Expr::AstNode(AstNode::AstGroup { name, inner }, reach))
 }

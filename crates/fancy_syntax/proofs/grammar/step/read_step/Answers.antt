@@ -1,20 +1,23 @@
-use Rattle.std.proofs.Common.{◌≡◌, ◌∷◌, [], ◌++◌, append-nil, chars, refl, ap, subst, sym, ◌∙◌}
+use Rattle.std.proofs.Common.{◌≡◌, Bool, List, ◌∷◌, [], ◌++◌, chars, refl, ap, subst, sym, ◌∙◌}
+use Rattle.std.proofs.lemmas.List.{map-append}
 use Rattle.std.proofs.lemmas.Result.{err_from_is_err_and}
 use Rattle.fancy_grammar.specs.AtomStart.{atom_start, read}
 use Rattle.fancy_grammar.specs.Grammar.{Piece, piece, atom, a_nothing, a_read}
+use Rattle.fancy_grammar.specs.Join.{solid}
 use Rattle.fancy_grammar.specs.State.{at, done}
+use Rattle.fancy_syntax.specs.Decided.{decided, all_decided, IsDecidedKind}
+use Rattle.fancy_syntax.specs.Found.{FindsMore}
 use Rattle.fancy_syntax.specs.Log.{layout_passed, leaf_recorded, opened, started}
-use Rattle.fancy_syntax.specs.Machine.{a_group, a_condition, a_body, a_branch}
+use Rattle.fancy_syntax.specs.Machine.{a_group, a_condition, a_body, a_branch, condition, first}
 use Rattle.fancy_syntax.specs.Parsed.{state}
-use Rattle.fancy_syntax.specs.Found.{FindsMore, items_in}
-use Rattle.fancy_syntax.specs.View.{view, views}
+use Rattle.fancy_syntax.specs.View.{views}
 use Rattle.fancy_syntax.specs.declared.grammar.state.State.{State}
 use Rattle.fancy_lex.specs.Text.{reach_of}
-use Rattle.fancy_grammar.specs.Items.{items}
-use Rattle.fancy_grammar.specs.Tree.{empty}
+use Rattle.fancy_grammar.specs.Tree.{Tree, empty}
 use Rattle.fancy_grammar.specs.Quantified.{quants}
+use Rattle.fancy_syntax.proofs.DecidedLemmas.{decided_alone, decided_solid, quants_kept}
 use Rattle.fancy_syntax.proofs.FoundLemmas.{condition_alone, leaf_alone, nothing_more}
-use Rattle.fancy_syntax.proofs.ItemsReadLemmas.{append-same, items_solid, items_under, none_pushed}
+use Rattle.fancy_syntax.proofs.ItemsReadLemmas.{items_solid, items_under}
 use Rattle.fancy_syntax.proofs.StepLemmas.{nothing_shorter}
 use Rattle.fancy_syntax.proofs.MachineLemmas.{AtomTo, steps_piece, steps_error, steps_layout}
 use Rattle.fancy_grammar.proofs.OutcomeLemmas.{IsErrorAmong-map}
@@ -22,15 +25,15 @@ use Rattle.fancy_syntax.proofs.TreeLemmas.{view_Empty}
 use Rattle.fancy_syntax.proofs.grammar.step.read_step.Goals as goal
 
 pub returns-in_err-rest-clause-value : goal.returns-in_err-rest-clause-value
-returns-in_err-rest-clause-value g c l =
-    let e = err_from_is_err_and c.from_residual.result c.from_residual.ensures.1 in
-    let (p, is, layout) = c.in_err-rest.ensures.value in rw (e.1, e.2) (steps_layout _ _ _ is layout)
+returns-in_err-rest-clause-value g c i l ts e w =
+    let x = err_from_is_err_and c.from_residual.result c.from_residual.ensures.1 in
+    let (p, is, layout) = c.in_err-rest.ensures.value in rw (x.1, x.2) (steps_layout _ _ _ is layout)
 
 pub returns-in_err-read_atom_start-clause-value : goal.returns-in_err-read_atom_start-clause-value
-returns-in_err-read_atom_start-clause-value g c l =
-    let e = err_from_is_err_and c.from_residual-in_err-read_atom_start.result
+returns-in_err-read_atom_start-clause-value g c i l ts e w =
+    let x = err_from_is_err_and c.from_residual-in_err-read_atom_start.result
     c.from_residual-in_err-read_atom_start.ensures.1 in
-    rw (e.1, e.2)
+    rw (x.1, x.2)
     (IsErrorAmong-map (λ o. atom_start c.args.depth (at (state c.args.current.now) (chars c.in_ok-rest.rest.now))
     ≡ read o)
     (Piece c.args.depth (state c.args.current.now))
@@ -38,41 +41,55 @@ returns-in_err-read_atom_start-clause-value g c l =
     c.in_err-read_atom_start.ensures.value)
 
 pub returns-in_err-end_piece-in-Nothing-clause-value : goal.returns-in_err-end_piece-in-Nothing-clause-value
-returns-in_err-end_piece-in-Nothing-clause-value g c l =
-    let e = err_from_is_err_and c.from_residual-in_err-end_piece-in-Nothing.result
+returns-in_err-end_piece-in-Nothing-clause-value g c i l ts e w =
+    let x = err_from_is_err_and c.from_residual-in_err-end_piece-in-Nothing.result
     c.from_residual-in_err-end_piece-in-Nothing.ensures.1 in
     let stays = rw c.in-Nothing.is at c.in_ok-read_atom_start.ensures.stays in
     let put = rw view_Empty at c.in_ok-push-in-Nothing.ensures in
-    rw (e.1, e.2) (steps_error (state c.args.current.now) c.in_err-end_piece-in-Nothing.field-0.0
+    rw (x.1, x.2) (steps_error (state c.args.current.now) c.in_err-end_piece-in-Nothing.field-0.0
     c.byte_len-left.ensures c.in_ok-rest.ensures.value
     (atom (rw c.in-Nothing.is at c.in_ok-read_atom_start.ensures.value) a_nothing)
     (rw stays at (c.in_err-end_piece-in-Nothing.ensures.value _ _ l put)))
 
 pub returns-in_err-end_piece-in-Read-clause-value : goal.returns-in_err-end_piece-in-Read-clause-value
-returns-in_err-end_piece-in-Read-clause-value g c l =
-    let e = err_from_is_err_and c.from_residual-in_err-end_piece-in-Read.result
+returns-in_err-end_piece-in-Read-clause-value g c i l ts e w =
+    let x = err_from_is_err_and c.from_residual-in_err-end_piece-in-Read.result
     c.from_residual-in_err-end_piece-in-Read.ensures.1 in
-    rw (e.1, e.2) (steps_error (state c.args.current.now) c.in_err-end_piece-in-Read.field-0.0
+    rw (x.1, x.2) (steps_error (state c.args.current.now) c.in_err-end_piece-in-Read.field-0.0
     c.byte_len-left.ensures c.in_ok-rest.ensures.value
     (atom (rw c.in-Read.is at c.in_ok-read_atom_start.ensures.value) a_read)
     (c.in_err-end_piece-in-Read.ensures.value _ _ l c.in_ok-push-in-Read.ensures))
 
+-- the trees, with one more that stays as it is
+one_more : (i : Bool) (all old : List Tree) (ts : List Tree) (r : Tree) → decided i r ≡ r → old ≡ all_decided i ts →
+    all ≡ old ++ solid (r ∷ []) → all ≡ all_decided i (ts ++ solid (r ∷ []))
+one_more i all old ts r kept w pushed =
+    pushed ∙ (λ j. w j ++ solid (sym kept j ∷ [])) ∙ ap (λ l. all_decided i ts ++ l) (sym (decided_solid i r))
+    ∙ sym (map-append (decided i) ts (solid (r ∷ [])))
+
 pub returns-in_ok-end_piece-in-Nothing-clause-value : goal.returns-in_ok-end_piece-in-Nothing-clause-value
-returns-in_ok-end_piece-in-Nothing-clause-value g c l =
+returns-in_ok-end_piece-in-Nothing-clause-value g c i l ts e w =
     let s = state c.args.current.now in
     let u = chars c.in_ok-rest.rest.now in
     let stays = rw c.in-Nothing.is at c.in_ok-read_atom_start.ensures.stays in
     let m = leaf_recorded (reach_of u) (reach_of u) (layout_passed s l) in
-    let (r, is, all, recorded) = c.in_ok-end_piece-in-Nothing.ensures.value _ empty m
+    let (r, is, pushed, recorded) = c.in_ok-end_piece-in-Nothing.ensures.value _ empty m
     (c.in_ok-push-in-Nothing.ensures ∙ ap (λ t. views c.args.trees.now.items ++ t ∷ []) view_Empty) in (
       _,
-      steps_piece s (views c.args.trees.now.items) c.byte_len-left.ensures c.in_ok-rest.ensures.value
+      _,
+      _,
+      one_more i _ _ ts r (quants_kept i _ _ empty _ refl is) w pushed,
+      steps_piece i s ts c.byte_len-left.ensures c.in_ok-rest.ensures.value
           (subst (λ (w : State). AtomTo c.args.depth (at s u) (done empty (state w)) (layout_passed s l) m) (sym stays)
-          (atom (rw c.in-Nothing.is at c.in_ok-read_atom_start.ensures.value) a_nothing, refl)) is all,
-      λ x. recorded (subst (g.S.Spanning.records c.record_leaf.new.self)
-          (λ i. leaf_recorded (c.reach.ensures i)
-          ((c.reach-in-Nothing.ensures ∙ ap (λ (w : State). reach_of (chars w.rest.now)) stays) i) (layout_passed s l))
-          (c.in_ok-record_leaf-in-Nothing.ensures _ (c.in_ok-pass_layout.ensures l x))),
+          (atom (rw c.in-Nothing.is at c.in_ok-read_atom_start.ensures.value) a_nothing, refl)) is,
+      (
+        λ x. recorded (subst (g.S.Spanning.records c.record_leaf.new.self)
+            (λ i. leaf_recorded (c.reach.ensures i)
+            ((c.reach-in-Nothing.ensures ∙ ap (λ (w : State). reach_of (chars w.rest.now)) stays) i) (layout_passed s l))
+            (c.in_ok-record_leaf-in-Nothing.ensures _ (c.in_ok-pass_layout.ensures l x))),
+        subst (FindsMore c.args.found.now c.args.found.now) (sym (items_solid r ∙ items_under _ _ _ _ is))
+            (nothing_more c.args.found.now),
+      ),
     )
 
 pub returns-in_ok-end_piece-in-Nothing-clause-shorter : goal.returns-in_ok-end_piece-in-Nothing-clause-shorter
@@ -88,90 +105,94 @@ returns-in_ok-end_piece-in-Nothing-clause-shorter g c =
     (rw stays at c.in_ok-end_piece-in-Nothing.ensures.within)
 
 pub returns-in_ok-end_piece-in-Read-clause-value : goal.returns-in_ok-end_piece-in-Read-clause-value
-returns-in_ok-end_piece-in-Read-clause-value g c l =
-    let (r, is, all, recorded) = c.in_ok-end_piece-in-Read.ensures.value _ _ _ c.in_ok-push-in-Read.ensures in (
+returns-in_ok-end_piece-in-Read-clause-value g c i l ts e w =
+    let seen = rw c.in-Read.is at c.in_ok-read_atom_start.ensures.value in
+    let (r, is, pushed, recorded) = c.in_ok-end_piece-in-Read.ensures.value _ _ _ c.in_ok-push-in-Read.ensures in (
       _,
-      steps_piece (state c.args.current.now) (views c.args.trees.now.items) c.byte_len-left.ensures
-          c.in_ok-rest.ensures.value
-          (atom (rw c.in-Read.is at c.in_ok-read_atom_start.ensures.value) a_read, refl) is all,
-      λ x. recorded (c.in_ok-record_atom-in-Read.ensures (layout_passed (state c.args.current.now) l)
-          (c.in_ok-pass_layout.ensures l x)),
+      _,
+      _,
+      one_more i _ _ ts r (quants_kept i _ _ _ _ (decided_alone i _ (leaf_alone _ _ seen)) is) w pushed,
+      steps_piece i (state c.args.current.now) ts c.byte_len-left.ensures c.in_ok-rest.ensures.value
+          (atom seen a_read, refl) is,
+      (
+        λ x. recorded (c.in_ok-record_atom-in-Read.ensures (layout_passed (state c.args.current.now) l)
+            (c.in_ok-pass_layout.ensures l x)),
+        subst (FindsMore c.args.found.now c.record.new.self) (sym (items_solid r ∙ items_under _ _ _ _ is))
+            c.record.ensures.found,
+      ),
     )
 
-pub returns-in_ok-add-in-Group-clause-value : goal.returns-in_ok-add-in-Group-clause-value
-returns-in_ok-add-in-Group-clause-value g c l =
+pub returns-in_ok-kind-in-Group-clause-value : goal.returns-in_ok-kind-in-Group-clause-value
+returns-in_ok-kind-in-Group-clause-value g c i l ts e w =
     let seen = rw c.in-Group.is at c.in_ok-read_atom_start.ensures.value in
-    rw c.reach-paren.ensures (
+    let f = c.in_ok-kind-in-Group.ensures in (
       _,
-      (a_group c.in_ok-rest.ensures.value seen, refl),
-      λ x. c.in_ok-open_group-in-Group.ensures _ (c.in_ok-pass_layout.ensures l x),
+      ts,
+      _,
+      w,
+      (
+        _,
+        (sym f.same, sym c.reach-paren.ensures, subst (λ x. IsDecidedKind x c.in_ok-kind-in-Group.kind) e f.decided),
+        a_group c.in_ok-rest.ensures.value seen,
+        refl,
+        refl,
+      ),
+      (λ x. c.in_ok-open_group-in-Group.ensures _ (c.in_ok-pass_layout.ensures l x), f.found _),
     )
 
 pub returns-in_ok-open-in-Condition-clause-value : goal.returns-in_ok-open-in-Condition-clause-value
-returns-in_ok-open-in-Condition-clause-value g c l =
+returns-in_ok-open-in-Condition-clause-value g c i l ts e w =
     let seen = rw c.in-Condition.is at c.in_ok-read_atom_start.ensures.value in (
       _,
-      (a_condition c.in_ok-rest.ensures.value seen, refl),
-      λ x. subst (g.S.Spanning.records c.open.new.self)
-          (λ i. opened (c.reach-in-Condition.ensures i) (c.reach-in-Condition-2.ensures i)
-          (layout_passed (state c.args.current.now) l))
-          (c.in_ok-open-in-Condition.ensures _ (c.in_ok-pass_layout.ensures l x)),
+      ts,
+      _,
+      w,
+      (condition, tt, a_condition c.in_ok-rest.ensures.value seen, refl, refl),
+      (
+        λ x. subst (g.S.Spanning.records c.open.new.self)
+            (λ i. opened (c.reach-in-Condition.ensures i) (c.reach-in-Condition-2.ensures i)
+            (layout_passed (state c.args.current.now) l))
+            (c.in_ok-open-in-Condition.ensures _ (c.in_ok-pass_layout.ensures l x)),
+        nothing_more c.args.found.now,
+      ),
     )
 
 pub returns-in_ok-open_body-in-Body-clause-value : goal.returns-in_ok-open_body-in-Body-clause-value
-returns-in_ok-open_body-in-Body-clause-value g c l =
-    let seen = rw c.in-Body.is at c.in_ok-read_atom_start.ensures.value in
-    rw c.byte_len.ensures (
+returns-in_ok-open_body-in-Body-clause-value g c i l ts e w =
+    let seen = rw c.in-Body.is at c.in_ok-read_atom_start.ensures.value in (
       _,
-      (a_body c.in_ok-rest.ensures.value seen, refl),
-      λ x. c.in_ok-open_body-in-Body.ensures _ (c.in_ok-pass_layout.ensures l x),
+      ts,
+      _,
+      w,
+      (
+        _,
+        (sym (decided_alone i _ (condition_alone _ _ seen)), c.byte_len.ensures),
+        a_body c.in_ok-rest.ensures.value seen,
+        refl,
+        refl,
+      ),
+      (
+        λ x. c.in_ok-open_body-in-Body.ensures _ (c.in_ok-pass_layout.ensures l x),
+        rw c.deref.ensures at c.record-in-Body.ensures.found,
+      ),
     )
 
 pub returns-in_ok-open-in-AbsentBranch-clause-value : goal.returns-in_ok-open-in-AbsentBranch-clause-value
-returns-in_ok-open-in-AbsentBranch-clause-value g c l =
+returns-in_ok-open-in-AbsentBranch-clause-value g c i l ts e w =
     let seen = rw c.in-AbsentBranch.is at c.in_ok-read_atom_start.ensures.value in (
       _,
-      (a_branch c.in_ok-rest.ensures.value seen, refl),
-      λ x. subst (g.S.Spanning.records c.open-in-AbsentBranch.new.self)
-          (λ i. opened (c.reach-in-AbsentBranch.ensures i) (c.reach-in-AbsentBranch-2.ensures i)
-          (layout_passed (state c.args.current.now) l))
-          (c.in_ok-open-in-AbsentBranch.ensures _ (c.in_ok-pass_layout.ensures l x)),
+      ts,
+      _,
+      w,
+      (first, tt, a_branch c.in_ok-rest.ensures.value seen, refl, refl),
+      (
+        λ x. subst (g.S.Spanning.records c.open-in-AbsentBranch.new.self)
+            (λ i. opened (c.reach-in-AbsentBranch.ensures i) (c.reach-in-AbsentBranch-2.ensures i)
+            (layout_passed (state c.args.current.now) l))
+            (c.in_ok-open-in-AbsentBranch.ensures _ (c.in_ok-pass_layout.ensures l x)),
+        nothing_more c.args.found.now,
+      ),
     )
-
--- ---- what is found
-
-pub returns-in_ok-end_piece-in-Nothing-clause-found : goal.returns-in_ok-end_piece-in-Nothing-clause-found
-returns-in_ok-end_piece-in-Nothing-clause-found g c us all =
-    let (r, is, pushed, recorded) = c.in_ok-end_piece-in-Nothing.ensures.value _ empty (started 0)
-    (c.in_ok-push-in-Nothing.ensures ∙ ap (λ t. views c.args.trees.now.items ++ t ∷ []) view_Empty) in
-    let none : items_in us ++ [] ≡ [] =
-    append-nil (items_in us) ∙ ap items_in (append-same (views c.args.trees.now.items) (sym all ∙ pushed))
-    ∙ items_solid r ∙ items_under _ _ _ _ is in
-    subst (FindsMore c.args.found.now c.args.found.now) (sym none) (nothing_more c.args.found.now)
-
-pub returns-in_ok-end_piece-in-Read-clause-found : goal.returns-in_ok-end_piece-in-Read-clause-found
-returns-in_ok-end_piece-in-Read-clause-found g c us all =
-    let (r, is, pushed, recorded) = c.in_ok-end_piece-in-Read.ensures.value _ _ (started 0) c.in_ok-push-in-Read.ensures in
-    let same : items_in us ++ [] ≡ items (view c.in-Read.atom) =
-    append-nil (items_in us) ∙ ap items_in (append-same (views c.args.trees.now.items) (sym all ∙ pushed))
-    ∙ items_solid r ∙ items_under _ _ _ _ is in
-    subst (FindsMore c.args.found.now c.record.new.self) (sym same) c.record.ensures.found
-
-pub returns-in_ok-add-in-Group-clause-found : goal.returns-in_ok-add-in-Group-clause-found
-returns-in_ok-add-in-Group-clause-found g c us all =
-    rw (none_pushed (views c.args.trees.now.items) us all) (c.in_ok-add-in-Group.ensures.found c.reach-paren.result)
-
-pub returns-in_ok-open-in-Condition-clause-found : goal.returns-in_ok-open-in-Condition-clause-found
-returns-in_ok-open-in-Condition-clause-found g c us all =
-    rw (none_pushed (views c.args.trees.now.items) us all) (nothing_more c.args.found.now)
-
-pub returns-in_ok-open_body-in-Body-clause-found : goal.returns-in_ok-open_body-in-Body-clause-found
-returns-in_ok-open_body-in-Body-clause-found g c us all =
-    rw (none_pushed (views c.args.trees.now.items) us all) (rw c.deref.ensures at c.record-in-Body.ensures.found)
-
-pub returns-in_ok-open-in-AbsentBranch-clause-found : goal.returns-in_ok-open-in-AbsentBranch-clause-found
-returns-in_ok-open-in-AbsentBranch-clause-found g c us all =
-    rw (none_pushed (views c.args.trees.now.items) us all) (nothing_more c.args.found.now)
 
 pub record-requires : goal.record-requires
 record-requires g c = leaf_alone _ _ (rw c.in-Read.is at c.in_ok-read_atom_start.ensures.value)

@@ -6,6 +6,7 @@ use Rattle.fancy_lex.specs.NameViews.{view_target}
 use Rattle.fancy_lex.specs.Text.{bytes}
 use Rattle.fancy_grammar.specs.Items.{items, openings_in}
 use Rattle.fancy_syntax.specs.Records.{resolver_of, progress_of}
+use Rattle.fancy_syntax.specs.Regrouped.{raw}
 use Rattle.fancy_syntax.specs.View.{view, views}
 use Rattle.fancy_grammar.specs.Walk.{progress_after}
 use Rattle.fancy_syntax.specs.declared.expr.Expr.{Expr, the_lemmas}
@@ -59,10 +60,10 @@ rewrite_all-rewrite-requires t c =
     let es = c.args.trees.now.items in let i = c.loop-i.i in let e = c.index_mut.result.now in
     let same = c.loop-i.invariant.0.1 i e (omega arith) in
     let tree : e ≡ get_or es i e = cc in
-    let step : rest es i ≡ items (view e) ++ rest es (i + 1) = rest_next es i e (omega arith) tree in (
+    let step : rest es i ≡ items (raw e) ++ rest es (i + 1) = rest_next es i e (omega arith) tree in (
       search (rules, the_lemmas),
       omega
-          (arith, count_two (rest es i) (items (view e)) (rest es (i + 1)) step, c.loop-i.invariant.2),
+          (arith, count_two (rest es i) (items (raw e)) (rest es (i + 1)) step, c.loop-i.invariant.2),
     )
 
 -- a tree that can contain no item is skipped: it stays, and so does what is recorded
@@ -79,7 +80,7 @@ rewrite_all-loop-i-preserved t c =
           let e = w.index_mut.result.now in
           let same = c.loop-i.invariant.0.1 i e (omega arith) in
           let tree : e ≡ get_or es i e = cc in
-          let step : rest es i ≡ items (view e) ++ rest es (i + 1) = rest_next es i e below tree in
+          let step : rest es i ≡ items (raw e) ++ rest es (i + 1) = rest_next es i e below tree in
           let now_is = w.in_ok-rewrite.ensures in
           rw (w.trees-is, w.progress-is) (
             (
@@ -88,12 +89,12 @@ rewrite_all-loop-i-preserved t c =
                   let apart : j ≢ i = omega arith in rw get_or-set_other (c.loop-i.invariant.0.1 j d (omega arith)),
             ),
             rw now_is.1
-                (sym (recorded_append k s (items (view e)) (rest es (i + 1))) ∙ ap (progress_after k s) (sym step)
+                (sym (recorded_append k s (items (raw e)) (rest es (i + 1))) ∙ ap (progress_after k s) (sym step)
                 ∙ c.loop-i.invariant.1),
-            let passed = recorded_le k s (progress_of w.rewrite.new.progress) (items (view e)) now_is.1 in
+            let passed = recorded_le k s (progress_of w.rewrite.new.progress) (items (raw e)) now_is.1 in
                 omega (
                   arith,
-                  count_two (rest es i) (items (view e)) (rest es (i + 1)) step,
+                  count_two (rest es i) (items (raw e)) (rest es (i + 1)) step,
                   passed,
                   c.loop-i.invariant.2,
                 ),
@@ -106,7 +107,7 @@ rewrite_all-loop-i-preserved t c =
           let e = c.index.result.now in
           let same = c.loop-i.invariant.0.1 i e (omega arith) in
           let tree : e ≡ get_or es i e = cc in
-          let none : items (view e) ≡ [] = c.may_hold_items.ensures w.if-may_hold_items.false in
+          let none : items (raw e) ≡ [] = c.may_hold_items.ensures w.if-may_hold_items.false in
           let step : rest es i ≡ rest es (i + 1) = rest_next es i e below tree ∙ ap (λ l. l ++ rest es (i + 1)) none in
           let put : set now i e ≡ now = ap (set now i) c.index.ensures ∙ set-get_or now i e in
           rw (w.trees-is, w.progress-is) (
@@ -177,7 +178,7 @@ pub rewrite_absent-returns-in_err-rewrite_child-in-Expression :
     goal.rewrite_absent-returns-in_err-rewrite_child-in-Expression
 rewrite_absent-returns-in_err-rewrite_child-in-Expression t c =
     let is = c.in-Expression in let s = progress_of c.args.progress.now in
-    let kept = error_kept (resolver_of c.args.resolver.now) s _ (items (view is.absent.value)) (items (view is.exp.value))
+    let kept = error_kept (resolver_of c.args.resolver.now) s _ (items (raw is.absent.value)) (items (raw is.exp.value))
     c.in_err-rewrite_child-in-Expression.ensures in
     search (rules, the_lemmas)
 
@@ -187,8 +188,8 @@ rewrite_all-returns-in_err-rewrite t c =
     let es = c.args.trees.now.items in let i = c.loop-i.i in let e = c.index_mut.result.now in
     let same = c.loop-i.invariant.0.1 i e (omega arith) in
     let tree : e ≡ get_or es i e = cc in
-    let step : rest es i ≡ items (view e) ++ rest es (i + 1) = rest_next es i e (omega arith) tree in
-    let kept = error_kept k s _ (items (view e)) (rest es (i + 1)) c.in_err-rewrite.ensures in
+    let step : rest es i ≡ items (raw e) ++ rest es (i + 1) = rest_next es i e (omega arith) tree in
+    let kept = error_kept k s _ (items (raw e)) (rest es (i + 1)) c.in_err-rewrite.ensures in
     let all = rw (← step, c.loop-i.invariant.1) at kept in
     search rules
 

@@ -1,5 +1,5 @@
-use Rattle.std.proofs.Common.{[], ap, ◌∙◌}
-use Rattle.fancy_syntax.specs.Machine.{part_of}
+use Rattle.std.proofs.Common.{[], refl, ap, sym, subst, ◌∙◌}
+use Rattle.fancy_syntax.specs.Machine.{IsPart, top}
 use Rattle.fancy_syntax.specs.Parsed.{state}
 use Rattle.fancy_syntax.specs.View.{views}
 use Rattle.fancy_syntax.proofs.MachineLemmas.{running_start}
@@ -10,7 +10,10 @@ returns-clause-reading c l =
     let f = c.new.ensures in
     record {
       is = [];
-      running = running_start (state c.args.start) l _ _ _ (c.reserve_exact.ensures.items ∙ c.new-2.ensures.items)
-          (ap views c.in_ok-with_capacity.ensures.items) f.branches f.pieces (ap part_of f.open_group);
+      trees = [];
+      same = ap views c.in_ok-with_capacity.ensures.items;
+      running = running_start (state c.args.start) l _ _ [] (c.reserve_exact.ensures.items ∙ c.new-2.ensures.items) refl
+          f.branches f.pieces
+          (subst (λ g. IsPart c.args.start.flags.ignore_numbered_groups g top) (sym f.open_group) tt);
       found = c.new-3.ensures.found;
     }
