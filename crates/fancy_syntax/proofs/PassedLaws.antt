@@ -1,12 +1,10 @@
 -- What is passed while a text is read is what the derivation says that no node has.
 use Rattle.std.proofs.Common.{◌≡◌, ℕ, zero, suc, Bool, true, false, ◌||◌, ◌&&◌, ◌==◌, if◌then◌else◌, List, [], ◌∷◌}
-use Rattle.std.proofs.Common.{◌++◌, length, Option, Some, None, refl, sym, ap, ◌∙◌, append-nil, append_assoc, nat_lt}
+use Rattle.std.proofs.Common.{◌++◌, length, Option, Some, None, refl, sym, ap, ◌∙◌, append-nil, append_assoc}
 use Rattle.std.proofs.Common.{◌+◌, min, take, drop, arith, length-append}
 use Rattle.std.specs.Prelude.{insert}
 use Rattle.std.proofs.Math.Seq.{take-append_seam, drop-append_seam}
-use Rattle.std.proofs.lemmas.Bool.{cond_both}
 use Rattle.std.specs.Option.{option_and_then}
-use Rattle.std.specs.List.{slice_get}
 use Rattle.fancy_lex.specs.LayoutSteps.{past_layout}
 use Rattle.fancy_lex.specs.Reading.{choose}
 use Rattle.fancy_lex.specs.Text.{Text, bytes, reach_of}
@@ -23,7 +21,7 @@ use Rattle.fancy_grammar.specs.Label as label
 use Rattle.fancy_grammar.specs.Quantified.{quant, suffix, Suffix, is_repeatable, is_swapped, is_unmoved, max_adjacent}
 use Rattle.fancy_grammar.specs.Spans.{condition_span, end_of, if_done, quantifier_end, alternation_spans}
 use Rattle.fancy_grammar.specs.State.{State, at, Outcome, done, failed}
-use Rattle.fancy_grammar.specs.Tree.{Tree, leaf, over, row, list_of}
+use Rattle.fancy_grammar.specs.Tree.{Tree, leaf, over, row}
 use Rattle.fancy_grammar.specs.Trivia.{Passed, part, dropped, with_dropped, filled, layout_end, comments_at}
 use Rattle.fancy_grammar.specs.Trivia.{closing_of, counted_trivia, quant_trivia, adjacent_trivia, leaves_condition}
 use Rattle.fancy_grammar.specs.Trivia.{quants_trivia, alternation_trivia, branches_trivia, branch_trivia, pieces_trivia}
@@ -31,7 +29,7 @@ use Rattle.fancy_grammar.specs.Trivia.{piece_trivia, atom_trivia, atom_of_trivia
 use Rattle.fancy_grammar.proofs.OutcomeLemmas.{Holds}
 use Rattle.fancy_grammar.proofs.TriviaAppend.{inside_alone, alternation_alone}
 use Rattle.fancy_syntax.specs.Log.{Log, wrapped, layout_passed, opened, group_opened, body_opened, body_begun}
-use Rattle.fancy_syntax.specs.Log.{branch_begun, branch_ended, alt_split, others_put}
+use Rattle.fancy_syntax.specs.Log.{branch_begun, branch_ended}
 use Rattle.fancy_syntax.specs.Log.{part_dropped, left_out, atom_opened, atom_ended, atom_closed, leaf_recorded}
 use Rattle.fancy_syntax.specs.Log.{text_dropped, inserted, body_dropped, conditional_dropped}
 use Rattle.fancy_syntax.specs.Recording.{counted_recorded, quantifier_dropped, quant_recorded, adjacent_recorded}
@@ -41,9 +39,7 @@ use Rattle.fancy_syntax.specs.Recording.{choice_recorded, added, alternation_rec
 use Rattle.fancy_syntax.specs.Recording.{branch_recorded, pieces_recorded, piece_recorded, atom_recorded}
 use Rattle.fancy_syntax.specs.Recording.{atom_of_recorded, inside_recorded, body_recorded}
 use Rattle.fancy_syntax.specs.declared.grammar.recorded.ConditionPart.{ConditionPart}
-use Rattle.fancy_syntax.specs.declared.grammar.recorded.FirstBar.{FirstBar}
 use Rattle.fancy_syntax.specs.declared.grammar.recorded.Open.{Open}
-use Rattle.fancy_syntax.specs.declared.grammar.recorded.RecordedNode.{RecordedNode}
 use Rattle.fancy_syntax.proofs.RecordingLemmas.{put_seam}
 use Rattle.fancy_syntax.proofs.RecordingLaws.{PartBegun, part_begins, body_begins, Kept, PartRecorded, alternation_as}
 use Rattle.fancy_syntax.proofs.RecordingLaws.{inside_as}
@@ -69,17 +65,8 @@ choice_passed [] end l = refl
 choice_passed (r ∷ []) end l = refl
 choice_passed (r ∷ q ∷ rs) end l = refl
 
-others_passed : (k : ℕ) (x : RecordedNode) (b : Option FirstBar) (l : Log) → (others_put k x b l).passed ≡ l.passed
-others_passed k x None l = refl
-others_passed k x (Some b) l = either (nat_lt k 3) l l _ refl refl
-
-split_passed : (k : ℕ) (x : Option RecordedNode) (l : Log) → (alt_split k x l).passed ≡ l.passed
-split_passed k None l = refl
-split_passed k (Some x) l = others_passed k x x.bar _
-
 separated_passed : (r : Tree) (end : ℕ) (l : Log) → (body_separated r end l).passed ≡ l.passed
-separated_passed (row label.alt ts) end l =
-    split_passed (length (list_of ts)) (slice_get l.recorded l.open_atom.branches) l
+separated_passed (row label.alt ts) end l = refl
 separated_passed (leaf a) end l = refl
 separated_passed (over w r) end l = refl
 separated_passed (row label.concat ts) end l = refl
@@ -183,17 +170,7 @@ quants_passed left (done a s) l = by_outcome (quant left a s)
 -- ---- conditionals
 
 separated_open : (r : Tree) (end : ℕ) (l : Log) → (body_separated r end l).open_atom ≡ l.open_atom
-separated_open (row label.alt ts) end l =
-    by_node (slice_get l.recorded l.open_atom.branches)
-  where
-    by_bar : (x : RecordedNode) (b : Option FirstBar) (m : Log) → (others_put (length (list_of ts)) x b m).open_atom ≡ m.open_atom
-    by_bar x None m = refl
-    by_bar x (Some b) m =
-        cond_both (nat_lt (length (list_of ts)) 3) _ _ (λ (n : Log). n.open_atom ≡ m.open_atom) (λ _. refl) (λ _. refl)
-
-    by_node : (x : Option RecordedNode) → (alt_split (length (list_of ts)) x l).open_atom ≡ l.open_atom
-    by_node None = refl
-    by_node (Some x) = by_bar x x.bar _
+separated_open (row label.alt ts) end l = refl
 separated_open (leaf a) end l = refl
 separated_open (over w r) end l = refl
 separated_open (row label.concat ts) end l = refl

@@ -39,9 +39,9 @@ use Rattle.fancy_grammar.proofs.Slices.{Reads}
 use Rattle.fancy_grammar.proofs.SpansCondition.{ConditionLies, condition_lies}
 use Rattle.fancy_grammar.proofs.SpansLemmas.{Lies, row_at, leaf_lies}
 use Rattle.fancy_grammar.proofs.TreeLaws.{list_back}
-use Rattle.fancy_syntax.specs.Log.{Log, plain, put, reaches, shown, started, leaf_recorded, left_out, opened, part_begun}
+use Rattle.fancy_syntax.specs.Log.{Log, own_node, put, shown, started, leaf_recorded, left_out, opened, part_begun}
 use Rattle.fancy_syntax.specs.Log.{body_opened, branch_begun, branch_ended, choice_ended, body_split, branch_lacked}
-use Rattle.fancy_syntax.specs.Log.{part_dropped, atom_closed, atom_ended, first_bar, alt_split, others_put}
+use Rattle.fancy_syntax.specs.Log.{part_dropped, atom_closed, atom_ended, first_bar, with_bar, others_put}
 use Rattle.fancy_syntax.specs.Log.{atom_opened, pass, layout_passed, group_opened, body_begun, conditional_dropped}
 use Rattle.fancy_syntax.specs.Recording.{alternation_recorded, branches_recorded, branch_recorded, pieces_recorded}
 use Rattle.fancy_syntax.specs.Recording.{piece_recorded}
@@ -49,9 +49,10 @@ use Rattle.fancy_syntax.specs.Recording.{atom_recorded, atom_of_recorded, inside
 use Rattle.fancy_syntax.specs.Recording.{quants_recorded, group_recorded, atom_read}
 use Rattle.fancy_syntax.specs.Recording.{body_separated, conditional_recorded, stopper_recorded, choice_recorded, added}
 use Rattle.fancy_syntax.specs.declared.grammar.recorded.FirstBar.{FirstBar}
-use Rattle.fancy_syntax.specs.declared.grammar.recorded.RecordedNode.{RecordedNode}
+use Rattle.fancy_syntax.specs.declared.grammar.recorded.Recorded.{Recorded}
+use Rattle.fancy_syntax.specs.declared.grammar.recorded.Recorded.TheVariants.{Node, Unnamed, Bar}
 use Rattle.fancy_syntax.specs.declared.grammar.recorded.Open.{Open}
-use Rattle.fancy_syntax.proofs.RecordingLemmas.{put_recorded, Beside, one_more, several_more, Barred, Fits, shown_one}
+use Rattle.fancy_syntax.proofs.RecordingLemmas.{put_recorded, slice_get_seam, split_off, Beside, one_more, several_more, Barred, Fits}
 use Rattle.fancy_syntax.proofs.RecordingLemmas.{shown_append, fits_shown, PieceRecorded, quants_recorded_as}
 use Rattle.fancy_syntax.proofs.RecordingLemmas.{passed_before, passed_after}
 use Rattle.fancy_lex.proofs.ReadingLemmas.{choose_both}
@@ -134,12 +135,10 @@ opened_within : (start first : ℕ) (l : Log) → Within start l (opened start f
 opened_within start first l = record { around = refl; start_is = refl; height = refl }
 
 -- a group without a name, with a number and without
-unnamed_group : (named : Bool) (n : RecordedNode) (xs : List RecordedNode) (p : Span) (x : Spans) →
-    shown named xs ≡ in_preorder x →
-    reaches n ≡ p → n.unnamed ≡ true →
-    shown named (n ∷ xs) ≡ in_preorder (if is_counted named None then around p x else x)
-unnamed_group true n xs p x h i k = rw k h
-unnamed_group false n xs p x h i k = λ z. i z ∷ (h ∙ sym (append-nil (in_preorder x))) z
+unnamed_group : (named : Bool) (p : Span) (xs : List Recorded) (x : Spans) → shown named xs ≡ in_preorder x →
+    shown named (Unnamed p.start p.end ∷ xs) ≡ in_preorder (if is_counted named None then around p x else x)
+unnamed_group true p xs x h = h
+unnamed_group false p xs x h = ap (λ l. p ∷ l) (h ∙ sym (append-nil (in_preorder x)))
 
 -- a group with a name
 named_group : (named : Bool) (name : Text) (p : Span) (x : Spans) →
@@ -151,7 +150,7 @@ module _ (named : Bool) where
   -- ---- the end of an atom
 
   module _ (start : ℕ) (l : Log) where
-    ended_as : (m : Log) (r : Tree) (x : Spans) (xs : List RecordedNode) → Within start l m →
+    ended_as : (m : Log) (r : Tree) (x : Spans) (xs : List Recorded) → Within start l m →
         m.recorded ≡ l.recorded ++ xs →
         Fits named r x xs → PieceRecorded named start l (atom_ended m) r x
     ended_as m r x xs h e f =
@@ -167,19 +166,18 @@ module _ (named : Bool) where
         }
 
     -- with a node
-    closed_as : (m : Log) (r : Tree) (x : Spans) (end : ℕ) (unnamed : Bool) (xs : List RecordedNode) → Within start l m →
-        m.recorded ≡ l.recorded ++ xs →
-        ((n : RecordedNode) → reaches n ≡ record { start = start; end = end } → n.unnamed ≡ unnamed →
-        Fits named r x (n ∷ xs)) → PieceRecorded named start l (atom_closed end unnamed m) r x
+    closed_as : (m : Log) (r : Tree) (x : Spans) (end : ℕ) (unnamed : Bool) (xs : List Recorded) → Within start l m →
+        m.recorded ≡ l.recorded ++ xs → Fits named r x (own_node unnamed start end ∷ xs) →
+        PieceRecorded named start l (atom_closed end unnamed m) r x
     closed_as m r x end unnamed xs h e f =
-        let n : RecordedNode = record { start = m.open_atom.start; end = end; unnamed = unnamed; bar = None } in
+        let n = own_node unnamed m.open_atom.start end in
         ended_as (put m.open_atom.height n m) r x (n ∷ xs)
         (record { around = h.around; start_is = h.start_is; height = h.height })
         (put_recorded m m.open_atom.height l.recorded xs n e h.height)
-        (f n (ap (λ s. record { start = s; end = end }) h.start_is) refl)
+        (subst (λ s. Fits named r x (own_node unnamed s end ∷ xs)) (sym h.start_is) f)
 
     -- a group around its contents
-    group_as : (m : Log) (r : Tree) (x : Spans) (h : GroupKind) (position end : ℕ) (xs : List RecordedNode) →
+    group_as : (m : Log) (r : Tree) (x : Spans) (h : GroupKind) (position end : ℕ) (xs : List Recorded) →
         Within start l m →
         m.recorded ≡ l.recorded ++ xs → Fits named r x xs → PieceRecorded named start l (group_recorded h end m)
         (group_node h position r) (group_spans named h (record { start = start; end = end }) x)
@@ -191,10 +189,8 @@ module _ (named : Bool) where
         shows : shown named xs ≡ in_preorder x
         shows = fits_shown named r x xs f
 
-        around_it : (n : RecordedNode) → reaches n ≡ p → n.unnamed ≡ false →
-            shown named (n ∷ xs) ≡ in_preorder (around p x)
-        around_it n i j =
-            shown_one named n xs j ∙ (λ k. i k ∷ (shows ∙ sym (append-nil (in_preorder x))) k)
+        around_it : shown named (Node start end ∷ xs) ≡ in_preorder (around p x)
+        around_it = ap (λ k. p ∷ k) (shows ∙ sym (append-nil (in_preorder x)))
 
         passed_as : (k : GroupKind) → Within start l (pass (closing_of k end) m)
         passed_as k = record { around = w.around; start_is = w.start_is; height = w.height }
@@ -203,9 +199,9 @@ module _ (named : Bool) where
             (group_node h position r) (group_spans named h p x)
         by_kind (capture None) =
             closed_as (pass (closing_of (capture None) end) m) _ _ end true xs (passed_as (capture None)) e
-            (λ n i j. unnamed_group named n xs p x shows i j)
+            (unnamed_group named p xs x shows)
         by_kind (capture (Some name)) =
-            closed_as m _ _ end false xs w e (λ n i j. around_it n i j ∙ ap in_preorder (sym (named_group named name p x)))
+            closed_as m _ _ end false xs w e (around_it ∙ ap in_preorder (sym (named_group named name p x)))
         by_kind flag_group =
             ended_as (pass (closing_of flag_group end) m) r x xs (passed_as flag_group) e f
         by_kind (look k) = closed_as m _ _ end false xs w e around_it
@@ -218,11 +214,7 @@ closed_holds : (P : Outcome Tree → Type 0) (r : Tree) (s : State) → ((u : St
     ((e : Located) → P (failed e)) → P (closed r s)
 closed_holds P r s g f = choose_both P (strip (code ")") s.rest) _ _ (λ u e. g (at s u)) (f _)
 
-slice_get_seam : (A B : List RecordedNode) (n : RecordedNode) → slice_get (A ++ n ∷ B) (length A) ≡ Some n
-slice_get_seam [] B n = refl
-slice_get_seam (a ∷ A) B n = slice_get_seam A B n
-
-remove_seam : (A B : List RecordedNode) (n : RecordedNode) → remove (A ++ n ∷ B) (length A) ≡ A ++ B
+remove_seam : (A B : List Recorded) (n : Recorded) → remove (A ++ n ∷ B) (length A) ≡ A ++ B
 remove_seam A B n =
     let z : length A - length A ≡ 0 = omega arith in
     remove-append_right A (n ∷ B) (length A) (length A) refl (omega arith) ∙ ap (λ k. A ++ remove (n ∷ B) k) z
@@ -230,14 +222,14 @@ remove_seam A B n =
 module _ (named : Bool) where
   -- after the log l, the tree r of a part is recorded
   pub record PartRecorded (l m : Log) (r : Tree) (x : Spans) : Type 0 where
-    pub xs : List RecordedNode
+    pub xs : List Recorded
     pub is_recorded : m.recorded ≡ l.recorded ++ xs
     pub is_kept : Kept l m
     pub fits : Fits named r x xs
 
   -- after the log l, after which the body was recorded up to m, follow the nodes of its branches
   record Separated (l m n : Log) (y z : Spans) : Type 0 where
-    bs : List RecordedNode
+    bs : List Recorded
     is_recorded : n.recorded ≡ l.recorded ++ bs
     is_kept : Kept m n
     shows : shown named bs ≡ in_preorder y ++ in_preorder z
@@ -246,72 +238,74 @@ module _ (named : Bool) where
   same m = kept refl refl
 
   -- the branches after the first bar
-  others_as : (l m n : Log) (k : ℕ) (alt_node : RecordedNode) (b : FirstBar) (others : List Tree) (first : Spans)
-      (f : Forest)
-      (ys zs : List RecordedNode) → Beside others f → k ≡ suc (length others) → Kept m n →
-      n.open_atom.branches ≡ length l.recorded → n.recorded ≡ l.recorded ++ (ys ++ zs) → b.nodes ≡ length ys →
+  others_as : (l m : Log) (k end : ℕ) (b : FirstBar) (others : List Tree) (first : Spans) (f : Forest)
+      (ys zs : List Recorded) → Beside others f → k ≡ suc (length others) → b.before ≡ length ys →
       shown named ys ≡ in_preorder first → shown named zs ≡ all_in_preorder f →
-      Separated l m (others_put k alt_node (Some b) n) first (one_or_node (record { start = b.past; end = alt_node.end }) f)
-  others_as l m n k alt_node b others first f ys zs (one_more {z}) i h j e c p q =
-      subst (λ k. Separated l m (others_put k alt_node (Some b) n) first z) (sym i) (record {
-        bs = ys ++ zs;
-        is_recorded = e;
-        is_kept = h;
-        shows = shown_append named ys zs ∙ (λ i. p i ++ (q ∙ append-nil (in_preorder z)) i);
-      })
-  others_as l m n k alt_node b others first f ys zs (several_more {p = t} {l = us}) i h j e c p q =
+      Separated l m (record m { recorded = others_put (length l.recorded) k b end (l.recorded ++ (ys ++ zs)) }) first
+      (one_or_node (record { start = b.past; end = end }) f)
+  others_as l m k end b others first f ys zs (one_more {z}) i c p q = record {
+    bs = ys ++ zs;
+    is_recorded = ap (λ k. others_put (length l.recorded) k b end (l.recorded ++ (ys ++ zs))) i;
+    is_kept = kept refl refl;
+    shows = shown_append named ys zs ∙ (λ i. p i ++ (q ∙ append-nil (in_preorder z)) i);
+  }
+  others_as l m k end b others first f ys zs (several_more {p = t} {l = us}) i h p q =
       let k_is : k ≡ suc (suc (suc (length us))) = i in
-      let not_few : nat_lt (suc (suc (suc (length us)))) 3 ≡ false = grind (arith, nat_tests) in
-      let rest = plain b.past alt_node.end in
-      let seam : length (l.recorded ++ ys) ≡ n.open_atom.branches + b.nodes =
-      omega (arith, length-append l.recorded ys, j, c) in
-      let w = put (n.open_atom.branches + b.nodes) rest n in
-      subst (λ m'. Separated l m m' first (one_or_node (reaches rest) f))
-      (sym (ap (λ k. others_put k alt_node (Some b) n) k_is
-      ∙ ap (λ t. if t then n else w) not_few)) (record {
+      let not_few : nat_lt k 3 ≡ false = grind (arith, nat_tests) in
+      let rest = Node b.past end in
+      let height = length l.recorded + b.before in
+      let n : Log = record m { recorded = l.recorded ++ (ys ++ zs) } in
+      let seam : height ≡ length (l.recorded ++ ys) = omega (arith, length-append l.recorded ys, h) in
+      record {
         bs = ys ++ rest ∷ zs;
-        is_recorded = put_recorded n (n.open_atom.branches + b.nodes) (l.recorded ++ ys) zs rest
-            (e ∙ sym (append_assoc l.recorded ys zs)) (sym seam) ∙ append_assoc l.recorded ys (rest ∷ zs);
-        is_kept = kept_on h (kept refl refl);
+        is_recorded = ap (λ t. if t then n.recorded else (put height rest n).recorded) not_few
+            ∙ put_recorded n height (l.recorded ++ ys) zs rest (sym (append_assoc l.recorded ys zs)) seam
+            ∙ append_assoc l.recorded ys (rest ∷ zs);
+        is_kept = kept refl refl;
         shows = shown_append named ys (rest ∷ zs)
-            ∙ (λ i. p i ++ (shown_one named rest zs refl ∙ (λ j. reaches rest ∷ q j)) i);
-      })
+            ∙ (λ i. p i ++ record { start = b.past; end = end } ∷ q i);
+      }
 
-  alt_as : (l m : Log) (ts : Trees) (v : State) (x : Spans) (xs : List RecordedNode) → m.recorded ≡ l.recorded ++ xs →
+  alt_as : (l m : Log) (ts : Trees) (v : State) (x : Spans) (xs : List Recorded) → m.recorded ≡ l.recorded ++ xs →
       m.open_atom.branches ≡ length l.recorded → (b : Barred named ts x xs) →
       Separated l m (body_split (length (list_of ts)) m) (body_parts (alt ts) v x).0 (body_parts (alt ts) v x).1
   alt_as l m ts v x xs e j b =
       let all = b.ys ++ b.zs in
-      let there : m.recorded ≡ l.recorded ++ b.alt_node ∷ all = e ∙ ap (λ x. l.recorded ++ x) b.is_recorded in
-      let n : Log = record m { recorded = remove m.recorded m.open_atom.branches } in
-      let found : slice_get m.recorded m.open_atom.branches ≡ Some b.alt_node =
-      rw (there, j) (slice_get_seam l.recorded all b.alt_node) in
-      let bar : FirstBar = record { past = b.bar; nodes = length b.ys } in
-      let k : length (list_of ts) ≡ suc (length b.others) =
+      let alt_node = Node b.span.start b.span.end in
+      let bar : FirstBar = record { past = b.bar; before = length b.ys } in
+      let front = l.recorded ++ alt_node ∷ all in
+      let many = length (list_of ts) in
+      let there : m.recorded ≡ front ++ Bar bar ∷ [] =
+      e ∙ ap (λ x. l.recorded ++ x) b.is_recorded ∙ sym (append_assoc l.recorded (alt_node ∷ all) (Bar bar ∷ [])) in
+      let found : slice_get front m.open_atom.branches ≡ Some alt_node =
+      ap (slice_get front) j ∙ slice_get_seam l.recorded all alt_node in
+      let split : body_split many m
+      ≡ record m { recorded = others_put (length l.recorded) many bar b.span.end (l.recorded ++ all) } =
+      split_off many front bar b.span.start b.span.end m there found
+      ∙ (λ i. record m { recorded = others_put (j i) many bar b.span.end (remove front (j i)) })
+      ∙ ap (λ xs. record m { recorded = others_put (length l.recorded) many bar b.span.end xs })
+      (remove_seam l.recorded all alt_node) in
+      let k : many ≡ suc (length b.others) =
       ap (λ ts. length (list_of ts)) b.is_tree ∙ ap (λ l. suc (length l)) (list_back b.others) in
-      let parts : body_parts (alt ts) v x
-      ≡ (b.first, one_or_node (record { start = b.bar; end = b.alt_node.end }) b.rest) =
+      let parts : body_parts (alt ts) v x ≡ (b.first, one_or_node (record { start = b.bar; end = b.span.end }) b.rest) =
       ap (body_parts (alt ts) v) b.is_spans in
-      subst (λ p. Separated l m (body_split (length (list_of ts)) m) p.0 p.1) (sym parts)
-      (subst (λ w. Separated l m w b.first (one_or_node (record { start = b.bar; end = b.alt_node.end }) b.rest))
-      (sym (ap (λ o. alt_split (length (list_of ts)) o m) found
-      ∙ ap (λ o. others_put (length (list_of ts)) b.alt_node o n) b.has_bar))
-      (others_as l m n (length (list_of ts)) b.alt_node bar b.others b.first b.rest b.ys b.zs b.beside k (kept refl refl) j
-      (rw (there, j) (remove_seam l.recorded all b.alt_node)) refl b.shows_first b.shows_rest))
+      subst (λ p. Separated l m (body_split many m) p.0 p.1) (sym parts)
+      (subst (λ w. Separated l m w b.first (one_or_node (record { start = b.bar; end = b.span.end }) b.rest)) (sym split)
+      (others_as l m many b.span.end bar b.others b.first b.rest b.ys b.zs b.beside k refl b.shows_first b.shows_rest))
 
-  lacked_as : (l m : Log) (r : Tree) (v : State) (x : Spans) (xs : List RecordedNode) → m.recorded ≡ l.recorded ++ xs →
+  lacked_as : (l m : Log) (r : Tree) (v : State) (x : Spans) (xs : List Recorded) → m.recorded ≡ l.recorded ++ xs →
       Fits named r x xs → Separated l m (branch_lacked (reach_of v.rest) m) x (alone (between v (done r v)))
   lacked_as l m r v x xs e f =
-      let n = plain (reach_of v.rest) (reach_of v.rest) in
+      let n = Node (reach_of v.rest) (reach_of v.rest) in
       record {
         bs = xs ++ n ∷ [];
         is_recorded = ap (λ y. y ++ n ∷ []) e ∙ append_assoc l.recorded xs (n ∷ []);
         is_kept = kept refl refl;
         shows = shown_append named xs (n ∷ [])
-            ∙ (λ i. fits_shown named r x xs f i ++ shown_one named n [] refl i);
+            ∙ ap (λ y. y ++ shown named (n ∷ [])) (fits_shown named r x xs f);
       }
 
-  body_separated_as : (l m : Log) (r : Tree) (v : State) (x : Spans) (xs : List RecordedNode) →
+  body_separated_as : (l m : Log) (r : Tree) (v : State) (x : Spans) (xs : List Recorded) →
       m.recorded ≡ l.recorded ++ xs →
       m.open_atom.branches ≡ length l.recorded → Fits named r x xs →
       Separated l m (body_separated r (reach_of v.rest) m) (body_parts r v x).0 (body_parts r v x).1
@@ -323,7 +317,7 @@ module _ (named : Bool) where
   body_separated_as l m (row label.expression ts) v x xs e j f = lacked_as l m (row label.expression ts) v x xs e f
 
   -- a conditional, whose condition is recorded after l, and whose body after n
-  conditional_as : (start : ℕ) (l n m : Log) (c r : Tree) (v : State) (x y : Spans) (ys : List RecordedNode) (end : ℕ) →
+  conditional_as : (start : ℕ) (l n m : Log) (c r : Tree) (v : State) (x y : Spans) (ys : List Recorded) (end : ℕ) →
       Within start l n → n.recorded ≡ l.recorded ++ ys → Fits named c y ys → n.open_atom.branches ≡ length n.recorded →
       PartRecorded n m r x → PieceRecorded named start l (conditional_recorded r (reach_of v.rest) end m)
       (conditional_of c (branches_of r).0 (branches_of r).1)
@@ -361,12 +355,11 @@ module _ (named : Bool) where
           closed_as named start l q (conditional c (branches_of r).0 (branches_of r).1)
           (node p (more_spans y (more_spans parts.0 (more_spans parts.1 no_spans)))) end false (ys ++ b.bs) within
           (b.is_recorded ∙ ap (λ z. z ++ b.bs) e ∙ append_assoc l.recorded ys b.bs)
-          (λ a i k. shown_one named a (ys ++ b.bs) k
-          ∙ (λ z. i z ∷ (shown_append named ys b.bs ∙ (λ z. fits_shown named c y ys f z
-          ++ (b.shows ∙ ap (λ o. in_preorder parts.0 ++ o) (sym (append-nil (in_preorder parts.1)))) z)) z))
+          (ap (λ k. p ∷ k) (shown_append named ys b.bs ∙ (λ z. fits_shown named c y ys f z
+          ++ (b.shows ∙ ap (λ o. in_preorder parts.0 ++ o) (sym (append-nil (in_preorder parts.1)))) z)))
 
   -- the body of a conditional that begins at w
-  body_as : (w : State) (l n m : Log) (c : Tree) (left : ℕ) (x y : Spans) (ys : List RecordedNode) (q : Outcome Tree) →
+  body_as : (w : State) (l n m : Log) (c : Tree) (left : ℕ) (x y : Spans) (ys : List Recorded) (q : Outcome Tree) →
       Within (reach_of w.rest) l n → n.recorded ≡ l.recorded ++ ys → Fits named c y ys →
       n.open_atom.branches ≡ length n.recorded → Holds (λ r v. PartRecorded n m r x) q →
       Holds (λ r v. PieceRecorded named (reach_of w.rest) l (if_done q
@@ -386,14 +379,14 @@ module _ (named : Bool) where
   -- ---- pieces and branches
 
   -- some trees, with their spans and nodes
-  data Row : List Tree → Forest → List RecordedNode → Type 0 where
+  data Row : List Tree → Forest → List Recorded → Type 0 where
     row_ends : Row [] no_spans []
-    row_goes_on : {r rs x f ys zs : _} (xs : List RecordedNode) → Fits named r x xs → Row rs f ys → zs ≡ xs ++ ys →
+    row_goes_on : {r rs x f ys zs : _} (xs : List Recorded) → Fits named r x xs → Row rs f ys → zs ≡ xs ++ ys →
         Row (r ∷ rs) (more_spans x f) zs
 
   -- after the log l, the pieces are recorded
   record PiecesRecorded (l m : Log) (rs : List Tree) (f : Forest) : Type 0 where
-    xs : List RecordedNode
+    xs : List Recorded
     is_recorded : m.recorded ≡ l.recorded ++ xs
     is_around : m.around ≡ l.around
     is_open : m.open_atom ≡ l.open_atom
@@ -435,28 +428,28 @@ module _ (named : Bool) where
 
   -- after the log l, the branch is recorded
   record BranchRecorded (l m : Log) (r : Tree) (x : Spans) : Type 0 where
-    xs : List RecordedNode
+    xs : List Recorded
     is_recorded : m.recorded ≡ l.recorded ++ xs
     is_around : m.around ≡ l.around
     is_open : m.open_atom ≡ l.open_atom
     fits : Fits named r x xs
 
-  row_shown : {rs : List Tree} {f : Forest} {xs : List RecordedNode} → Row rs f xs → shown named xs ≡ all_in_preorder f
+  row_shown : {rs : List Tree} {f : Forest} {xs : List Recorded} → Row rs f xs → shown named xs ≡ all_in_preorder f
   row_shown row_ends = refl
   row_shown (row_goes_on {r} {x} {ys} xs h k e) =
       ap (shown named) e ∙ shown_append named xs ys ∙ (λ i. fits_shown named r x xs h i ++ row_shown k i)
 
   -- the branch is a node of its own
-  branch_node : (s : State) (l m : Log) (r : Tree) (end : ℕ) (k : ℕ) (f : Forest) (xs : List RecordedNode) →
+  branch_node : (s : State) (l m : Log) (r : Tree) (end : ℕ) (k : ℕ) (f : Forest) (xs : List Recorded) →
       (k == 1) ≡ false →
       BranchBegun s l → m.recorded ≡ l.recorded ++ xs → m.around ≡ l.around → m.open_atom ≡ l.open_atom →
       shown named xs ≡ all_in_preorder f →
-      ((ys : List RecordedNode) → shown named ys ≡ in_preorder (node (record { start = reach_of s.rest; end = end }) f) →
+      ((ys : List Recorded) → shown named ys ≡ in_preorder (node (record { start = reach_of s.rest; end = end }) f) →
       Fits named r (node (record { start = reach_of s.rest; end = end }) f) ys) →
       BranchRecorded l (branch_ended k end m) r (node (record { start = reach_of s.rest; end = end }) f)
   branch_node s l m r end k f xs t b e a o h fits =
-      let n = plain m.open_atom.branch end in
-      let p : reaches n ≡ record { start = reach_of s.rest; end = end } =
+      let n = Node m.open_atom.branch end in
+      let p : record { start = m.open_atom.branch; end = end } ≡ record { start = reach_of s.rest; end = end } =
       ap (λ (o : Open). record { start = o.branch; end = end }) o ∙ ap (λ x. record { start = x; end = end }) b.branch in
       subst (λ w. BranchRecorded l w r (node (record { start = reach_of s.rest; end = end }) f))
       (sym (ap (λ t. if t then m else put m.open_atom.pieces n m) t)) (record {
@@ -464,7 +457,7 @@ module _ (named : Bool) where
         is_recorded = put_recorded m m.open_atom.pieces l.recorded xs n e (ap (λ (o : Open). o.pieces) o ∙ b.pieces);
         is_around = a;
         is_open = o;
-        fits = fits (n ∷ xs) (shown_one named n xs refl ∙ (λ i. p i ∷ h i));
+        fits = fits (n ∷ xs) (λ i. p i ∷ h i);
       })
 
   branch_as : (s : State) (l m : Log) (rs : List Tree) (f : Forest) (end : ℕ) → BranchBegun s l →
@@ -472,7 +465,7 @@ module _ (named : Bool) where
       (one_or_node (record { start = reach_of s.rest; end = end }) f)
   branch_as s l m rs f end b h = by_row h.row h.is_recorded
     where
-      by_row : {rs : List Tree} {f : Forest} {xs : List RecordedNode} → Row rs f xs → m.recorded ≡ l.recorded ++ xs →
+      by_row : {rs : List Tree} {f : Forest} {xs : List Recorded} → Row rs f xs → m.recorded ≡ l.recorded ++ xs →
           BranchRecorded l (branch_ended (length rs) end m) (one_or concat rs)
           (one_or_node (record { start = reach_of s.rest; end = end }) f)
       by_row row_ends e =
@@ -495,7 +488,7 @@ module _ (named : Bool) where
 
   -- after the bar that is kept, branches are recorded
   record LaterRecorded (b : FirstBar) (l m : Log) (rs : List Tree) (f : Forest) : Type 0 where
-    xs : List RecordedNode
+    xs : List Recorded
     is_recorded : m.recorded ≡ l.recorded ++ xs
     is_kept : Kept l m
     bar : m.open_atom.bar ≡ Some b
@@ -551,7 +544,7 @@ module _ (named : Bool) where
 
   several_part : (s : State) (l m n : Log) (p end : ℕ) (r : Tree) (x : Spans) (rs : List Tree) (f : Forest) →
       PartBegun s l → BranchRecorded l m r x →
-      LaterRecorded (record { past = p; nodes = length m.recorded - m.open_atom.branches }) (branch_begun p m) n rs f →
+      LaterRecorded (record { past = p; before = length m.recorded - m.open_atom.branches }) (branch_begun p m) n rs f →
       PartRecorded l (choice_recorded (r ∷ rs) end n) (choice (r ∷ rs))
       (node (record { start = reach_of s.rest; end = end }) (more_spans x (after_bar p f)))
   several_part s l m n p end r x rs f g h k = by_beside k.beside k.shows
@@ -559,31 +552,38 @@ module _ (named : Bool) where
       height : n.open_atom.branches ≡ length l.recorded
       height = k.is_kept.branches ∙ ap (λ (o : Open). o.branches) h.is_open ∙ g.branches
 
-      alt : RecordedNode
-      alt = record { start = n.open_atom.part; end = end; unnamed = false; bar = n.open_atom.bar }
+      span : Span
+      span = record { start = n.open_atom.part; end = end }
 
-      reaches_are : reaches alt ≡ record { start = reach_of s.rest; end = end }
-      reaches_are = ap (λ z. record { start = z; end = end })
+      span_is : span ≡ record { start = reach_of s.rest; end = end }
+      span_is = ap (λ z. record { start = z; end = end })
           (k.is_kept.part ∙ ap (λ (o : Open). o.part) h.is_open ∙ g.part)
 
-      nodes : length m.recorded - m.open_atom.branches ≡ length h.xs
-      nodes = omega (
+      bar : FirstBar
+      bar = record { past = p; before = length h.xs }
+
+      has_bar : n.open_atom.bar ≡ Some bar
+      has_bar = k.bar ∙ ap (λ z. Some (record { past = p; before = z })) (omega (
         arith,
         ap length h.is_recorded,
         length-append l.recorded h.xs,
         ap (λ (o : Open). o.branches) h.is_open,
         g.branches,
-      )
+      ))
 
       recorded : n.recorded ≡ l.recorded ++ (h.xs ++ k.xs)
       recorded = k.is_recorded ∙ ap (λ y. y ++ k.xs) h.is_recorded ∙ append_assoc l.recorded h.xs k.xs
+
+      barred : with_bar n.open_atom.bar n.recorded ≡ l.recorded ++ ((h.xs ++ k.xs) ++ Bar bar ∷ [])
+      barred = (λ i. with_bar (has_bar i) (recorded i)) ∙ append_assoc l.recorded (h.xs ++ k.xs) (Bar bar ∷ [])
 
       chosen : (rs : List Tree) (f : Forest) → Beside rs f → shown named k.xs ≡ all_in_preorder f →
           PartRecorded l (choice_ended end n) (row label.alt (trees_of (r ∷ rs)))
           (node (record { start = reach_of s.rest; end = end }) (more_spans x (after_bar p f)))
       chosen rs f b e = record {
-        xs = alt ∷ h.xs ++ k.xs;
-        is_recorded = put_recorded n n.open_atom.branches l.recorded (h.xs ++ k.xs) alt recorded height;
+        xs = Node span.start span.end ∷ (h.xs ++ k.xs) ++ Bar bar ∷ [];
+        is_recorded = put_recorded (record n { recorded = with_bar n.open_atom.bar n.recorded }) n.open_atom.branches
+            l.recorded ((h.xs ++ k.xs) ++ Bar bar ∷ []) (Node span.start span.end) barred height;
         is_kept = kept_on (kept_branch h) (record {
           around = k.is_kept.around;
           start = k.is_kept.start;
@@ -594,7 +594,7 @@ module _ (named : Bool) where
           branches = k.is_kept.branches;
         });
         fits = record {
-          alt_node = alt;
+          span = span;
           bar = p;
           one = r;
           others = rs;
@@ -604,10 +604,8 @@ module _ (named : Bool) where
           zs = k.xs;
           is_tree = refl;
           beside = b;
-          is_spans = ap (λ z. node z (more_spans x (after_bar p f))) (sym reaches_are);
+          is_spans = ap (λ z. node z (more_spans x (after_bar p f))) (sym span_is);
           is_recorded = refl;
-          returned = refl;
-          has_bar = k.bar ∙ ap (λ z. Some (record { past = p; nodes = z })) nodes;
           shows_first = fits_shown named r x h.xs h.fits;
           shows_rest = e;
         };
@@ -623,28 +621,27 @@ module _ (named : Bool) where
   -- ---- the productions
 
   -- a leaf
-  leaf_as : (start end : ℕ) (l : Log) (r : Tree) → ((n : RecordedNode) → n.unnamed ≡ false →
-      reaches n ≡ record { start = start; end = end } →
-      Fits named r (alone (record { start = start; end = end })) (n ∷ [])) →
+  leaf_as : (start end : ℕ) (l : Log) (r : Tree) →
+      Fits named r (alone (record { start = start; end = end })) (Node start end ∷ []) →
       PieceRecorded named start l (leaf_recorded start end l) r (alone (record { start = start; end = end }))
   leaf_as start end l r f = record {
-    xs = plain start end ∷ [];
+    xs = Node start end ∷ [];
     is_recorded = refl;
     is_around = refl;
     is_open = refl;
     is_last = refl;
-    fits = f (plain start end) refl refl;
+    fits = f;
   }
 
   -- a tree that has only its own span is no Alt
-  fits_alone : {t u : Text} {p : Span} (r : Tree) (n : RecordedNode) → Lies named t u r (alone p) → n.unnamed ≡ false →
-      reaches n ≡ p → Fits named r (alone p) (n ∷ [])
-  fits_alone (leaf a) n h e i = shown_one named n [] e ∙ (λ z. i z ∷ [])
-  fits_alone (over w r) n h e i = shown_one named n [] e ∙ (λ z. i z ∷ [])
-  fits_alone (row label.concat ts) n h e i = shown_one named n [] e ∙ (λ z. i z ∷ [])
-  fits_alone (row label.conditional ts) n h e i = shown_one named n [] e ∙ (λ z. i z ∷ [])
-  fits_alone (row label.expression ts) n h e i = shown_one named n [] e ∙ (λ z. i z ∷ [])
-  fits_alone (row label.alt ts) n (row_at label.alt k f h g) e i = absurd cc
+  fits_alone : {t u : Text} (p : Span) (r : Tree) → Lies named t u r (alone p) →
+      Fits named r (alone p) (Node p.start p.end ∷ [])
+  fits_alone p (leaf a) h = refl
+  fits_alone p (over w r) h = refl
+  fits_alone p (row label.concat ts) h = refl
+  fits_alone p (row label.conditional ts) h = refl
+  fits_alone p (row label.expression ts) h = refl
+  fits_alone p (row label.alt ts) (row_at label.alt k f h g) = absurd cc
 
   -- an atom under its quantifiers
   quantified_as : (start : ℕ) (l m : Log) (x : Spans) (d left : ℕ) (q : Outcome Tree) →
@@ -689,9 +686,8 @@ module _ (named : Bool) where
         branches = ap (λ (o : Open). o.branches) g.is_open;
       })))
       (g.is_recorded ∙ ap (λ z. z ++ g.xs) (f.is_recorded ∙ ap (λ z. z ++ f.xs) e) ∙ append_assoc l.recorded f.xs g.xs)
-      (λ c i j. shown_one named c (f.xs ++ g.xs) j ∙ (λ z. i z ∷ (shown_append named f.xs g.xs
-      ∙ (λ z. fits_shown named a x f.xs f.fits z
-      ++ (fits_shown named r y g.xs g.fits ∙ sym (append-nil (in_preorder y))) z)) z))) (λ _. tt)
+      (ap (λ z. between s (done r u) ∷ z) (shown_append named f.xs g.xs ∙ (λ z. fits_shown named a x f.xs f.fits z
+      ++ (fits_shown named r y g.xs g.fits ∙ sym (append-nil (in_preorder y))) z)))) (λ _. tt)
   expression_as s l n m w b a x y (failed error) i e f g = tt
 
   -- a stopper or a clear
@@ -718,13 +714,13 @@ module _ (named : Bool) where
           (record { around = within.around; start_is = within.start_is; height = within.height })
           (rw (f.is_recorded, ap (λ (o : Open). o.branches) f.is_open ∙ b) (take-append_seam n.recorded f.xs)
           ∙ e ∙ sym (append-nil l.recorded))
-          (λ c i j. shown_one named c [] j ∙ (λ z. i z ∷ []))
+          refl
       by_test end false =
           closed_as named (reach_of s.rest) l m (over label.stopper a)
           (node (record { start = reach_of s.rest; end = end }) (more_spans x no_spans)) end false f.xs within
           (f.is_recorded ∙ ap (λ z. z ++ f.xs) e)
-          (λ c i j. shown_one named c f.xs j
-          ∙ (λ z. i z ∷ (fits_shown named a x f.xs f.fits ∙ sym (append-nil (in_preorder x))) z))
+          (ap (λ z. record { start = reach_of s.rest; end = end } ∷ z)
+          (fits_shown named a x f.xs f.fits ∙ sym (append-nil (in_preorder x))))
 
   -- the outcome of the parts decides that of the whole
   alternation_of : (s : State) (l m : Log) (f : Forest) (q : Outcome (List Tree)) →
@@ -747,7 +743,7 @@ module _ (named : Bool) where
       Holds (λ r v. PieceRecorded named (reach_of s.rest) l (atom_read s o l) r (alone (between s o))) o
   read_as s l (done a t) h =
       passed_after named _ (leaf_as (reach_of s.rest) (reach_of t.rest) l a
-      (λ n i j. fits_alone a n (leaf_lies named a h.alone h.span.slice) i j))
+      (fits_alone (between s (done a t)) a (leaf_lies named a h.alone h.span.slice)))
   read_as s l (failed e) h = tt
 
   inside_of : (l m : Log) (x : Spans) (q : Outcome Tree) → Holds (λ r v. PartRecorded l m r x) q →
@@ -769,7 +765,7 @@ module _ (named : Bool) where
     choice_as {s} (more {u} {r} {q} b e m) l g =
         let k = branch_recorded b l in
         let h = branch_as_read b l g.branch in
-        let bar : FirstBar = record { past = reach_of u; nodes = length k.recorded - k.open_atom.branches } in
+        let bar : FirstBar = record { past = reach_of u; before = length k.recorded - k.open_atom.branches } in
         let is_first : (branch_begun (reach_of u) k).open_atom.bar ≡ Some bar =
         ap (λ o. Some (first_bar o (reach_of u) (length k.recorded - k.open_atom.branches)))
         (ap (λ (o : Open). o.bar) h.is_open ∙ g.bar) in
@@ -836,7 +832,7 @@ module _ (named : Bool) where
         StartReads s k → ConditionLies named s k →
         Holds (λ r v. PieceRecorded named (reach_of s.rest) l (atom_of_recorded a l) r (atom_of_spans named a)) o
     atom_of_as {s} a_nothing l h c =
-        leaf_as (reach_of s.rest) (reach_of s.rest) l empty (λ n i j. shown_one named n [] i ∙ (λ z. j z ∷ []))
+        leaf_as (reach_of s.rest) (reach_of s.rest) l empty refl
     atom_of_as {s} {o} a_read l h c = read_as s l o h
     atom_of_as {s} (a_group {t} {h = kind} {q} i) l h c =
         let n = group_opened kind s t l in
@@ -860,9 +856,9 @@ module _ (named : Bool) where
     atom_of_as {s} (a_body {t} {c} b) l h z =
         let p = condition_span s t in
         let w = opened_within (reach_of s.rest) p.start l in
-        body_as_read s b l (body_opened s t l) (alone p) (plain p.start p.end ∷ [])
+        body_as_read s b l (body_opened s t l) (alone p) (Node p.start p.end ∷ [])
         (record { around = w.around; start_is = w.start_is; height = w.height }) refl
-        (fits_alone c (plain p.start p.end) z refl refl)
+        (fits_alone p c z)
         (body_begins t (leaf_recorded p.start p.end (opened (reach_of s.rest) p.start l)))
     atom_of_as {s} (two_branches {t} {v} {u} {a} {q} b e m) l h c =
         let n = opened (reach_of s.rest) (reach_of t.rest) l in
@@ -884,7 +880,7 @@ module _ (named : Bool) where
         inside_of l (alternation_recorded a l) (alternation_spans named a) q (alternation_as a l g)
 
     body_as_read : {d : ℕ} {c : Tree} {t : State} {o : Outcome Tree} (w : State) (a : Body d c t o) (l n : Log)
-        (y : Spans) (ys : List RecordedNode) → Within (reach_of w.rest) l n → n.recorded ≡ l.recorded ++ ys →
+        (y : Spans) (ys : List Recorded) → Within (reach_of w.rest) l n → n.recorded ≡ l.recorded ++ ys →
         Fits named c y ys →
         PartBegun t n →
         Holds (λ r v. PieceRecorded named (reach_of w.rest) l (body_recorded a n) r (body_spans named w y a)) o

@@ -1,11 +1,14 @@
 -- What is recorded for a text shows the spans of its derivation.
-use Rattle.std.proofs.Common.{◌≡◌, ℕ, zero, suc, ◌+◌, ◌-◌, min, Bool, true, false, ◌||◌, ◌&&◌, if◌then◌else◌, List, []}
+use Rattle.std.proofs.Common.{◌≡◌, ℕ, zero, suc, ◌+◌, ◌-◌, min, Bool, true, false, ◌||◌, if◌then◌else◌, List, []}
 use Rattle.std.proofs.Common.{◌∷◌, ◌++◌, length, Option, Some, None, refl, sym, ap, ◌∙◌, arith, append-nil}
-use Rattle.std.proofs.Common.{length-append, nat_lt}
-use Rattle.std.specs.Prelude.{insert}
+use Rattle.std.proofs.Common.{length-append, nat_lt, take}
+use Rattle.std.specs.Prelude.{insert, remove}
+use Rattle.std.specs.List.{slice_get}
 use Rattle.std.specs.Option.{option_and_then}
 use Rattle.std.proofs.lemmas.Bool.{cond_both}
+use Rattle.std.proofs.lemmas.List.{length_push}
 use Rattle.std.proofs.lemmas.List.Edits.{insert-append_right}
+use Rattle.std.proofs.Math.Seq.{take-append_seam}
 use Rattle.fancy_lex.specs.LayoutSteps.{Skipped, rest, rest_of, failed as open_comment}
 use Rattle.fancy_lex.specs.Reading.{choose}
 use Rattle.fancy_lex.specs.Text.{Text, bytes, reach_of}
@@ -24,11 +27,13 @@ use Rattle.fancy_grammar.specs.State.{skipped, after_skipped, State, at, Outcome
 use Rattle.fancy_grammar.specs.Tree.{Tree, leaf, over, row, Trees, trees_of, alt, repeat, atomic_group}
 use Rattle.fancy_grammar.proofs.OutcomeLemmas.{Holds}
 use Rattle.fancy_grammar.specs.Trivia.{Passed, layout_end, with_dropped}
-use Rattle.fancy_syntax.specs.Log.{Log, plain, put, reaches, shown, under_node, wrapped, layout_passed, text_dropped}
+use Rattle.fancy_syntax.specs.Log.{Log, put, others_put, alt_split, bar_split, body_split, shown, under_node, wrapped, layout_passed, text_dropped}
 use Rattle.fancy_syntax.specs.Recording.{counted_recorded, quantifier_dropped, quant_recorded, adjacent_recorded}
 use Rattle.fancy_syntax.specs.Recording.{quants_recorded}
 use Rattle.fancy_syntax.specs.declared.grammar.recorded.Last.{Last}
-use Rattle.fancy_syntax.specs.declared.grammar.recorded.RecordedNode.{RecordedNode}
+use Rattle.fancy_syntax.specs.declared.grammar.recorded.FirstBar.{FirstBar}
+use Rattle.fancy_syntax.specs.declared.grammar.recorded.Recorded.{Recorded}
+use Rattle.fancy_syntax.specs.declared.grammar.recorded.Recorded.TheVariants.{Node, Unnamed, Bar}
 
 -- an element inserted after those of the first list
 pub put_seam : {E : Type 0} (A xs : List E) (x : E) →
@@ -39,9 +44,28 @@ put_seam A xs x =
     ap (λ n. insert (A ++ xs) n x) n ∙ insert-append_right A xs (length A) (length A) x refl (omega arith)
     ∙ ap (λ k. A ++ insert xs k x) z
 
-pub put_recorded : (l : Log) (h : ℕ) (A xs : List RecordedNode) (x : RecordedNode) → l.recorded ≡ A ++ xs → h ≡ length A →
+pub put_recorded : (l : Log) (h : ℕ) (A xs : List Recorded) (x : Recorded) → l.recorded ≡ A ++ xs → h ≡ length A →
     (put h x l).recorded ≡ A ++ x ∷ xs
 put_recorded l h A xs x e i = rw (e, i) (put_seam A xs x)
+
+pub slice_get_seam : (A B : List Recorded) (x : Recorded) → slice_get (A ++ x ∷ B) (length A) ≡ Some x
+slice_get_seam [] B x = refl
+slice_get_seam (a ∷ A) B x = slice_get_seam A B x
+
+-- a body is split, of which the first bar is recorded last and the Alt at the height of the branches
+pub split_off : (branches : ℕ) (front : List Recorded) (b : FirstBar) (start end : ℕ) (l : Log) →
+    l.recorded ≡ front ++ Bar b ∷ [] → slice_get front l.open_atom.branches ≡ Some (Node start end) →
+    body_split branches l ≡ record l {
+      recorded = others_put l.open_atom.branches branches b end (remove front l.open_atom.branches);
+    }
+split_off branches front b start end l e h =
+    let before : length l.recorded - 1 ≡ length front = omega (arith, ap length e, length_push front (Bar b)) in
+    let found : slice_get l.recorded (length l.recorded - 1) ≡ Some (Bar b) =
+    rw (before, e) (slice_get_seam front [] (Bar b)) in
+    let fronts : take (length l.recorded - 1) l.recorded ≡ front =
+    rw (before, e) (take-append_seam front (Bar b ∷ [])) in
+    (λ i. record l { recorded = bar_split l.open_atom.branches branches (found i) (fronts i) })
+    ∙ ap (λ o. record l { recorded = alt_split l.open_atom.branches branches b o front }) h
 
 -- branches after the first, with their spans
 pub data Beside : List Tree → Forest → Type 0 where
@@ -49,56 +73,51 @@ pub data Beside : List Tree → Forest → Type 0 where
   several_more : {q p l z b f : _} → Beside (q ∷ p ∷ l) (more_spans z (after_bar b f))
 
 module _ (named : Bool) where
-  pub shown_one : (n : RecordedNode) (xs : List RecordedNode) → n.unnamed ≡ false →
-      shown named (n ∷ xs) ≡ reaches n ∷ shown named xs
-  shown_one n xs e = by_named named
-    where
-      by_named : (b : Bool) → (if b && n.unnamed then shown named xs else reaches n ∷ shown named xs)
-          ≡ reaches n ∷ shown named xs
-      by_named true = rw e refl
-      by_named false = refl
-
-  pub shown_append : (xs ys : List RecordedNode) → shown named (xs ++ ys) ≡ shown named xs ++ shown named ys
+  pub shown_append : (xs ys : List Recorded) → shown named (xs ++ ys) ≡ shown named xs ++ shown named ys
   shown_append [] ys = refl
-  shown_append (x ∷ xs) ys = by_test (named && x.unnamed) (shown_append xs ys)
+  shown_append (Node start end ∷ xs) ys = ap (λ l. record { start = start; end = end } ∷ l) (shown_append xs ys)
+  shown_append (Unnamed start end ∷ xs) ys = by_test named (shown_append xs ys)
     where
-      by_test : (b : Bool) → shown named (xs ++ ys) ≡ shown named xs ++ shown named ys →
-          (if b then shown named (xs ++ ys) else reaches x ∷ shown named (xs ++ ys))
-          ≡ (if b then shown named xs else reaches x ∷ shown named xs) ++ shown named ys
-      by_test true h = h
-      by_test false h = ap (λ l. reaches x ∷ l) h
+      p : Span
+      p = record { start = start; end = end }
 
-  -- the nodes of an Alt of these branches, whose first bar is kept
-  pub record Barred (ts : Trees) (x : Spans) (xs : List RecordedNode) : Type 0 where
-    pub alt_node : RecordedNode
+      by_test : (b : Bool) → shown named (xs ++ ys) ≡ shown named xs ++ shown named ys →
+          (if b then shown named (xs ++ ys) else p ∷ shown named (xs ++ ys))
+          ≡ (if b then shown named xs else p ∷ shown named xs) ++ shown named ys
+      by_test true h = h
+      by_test false h = ap (λ l. p ∷ l) h
+  shown_append (Bar b ∷ xs) ys = shown_append xs ys
+
+  -- the nodes of an Alt of these branches, and its first bar
+  pub record Barred (ts : Trees) (x : Spans) (xs : List Recorded) : Type 0 where
+    pub span : Span
     pub bar : ℕ
     pub one : Tree
     pub others : List Tree
     pub first : Spans
     pub rest : Forest
-    pub ys : List RecordedNode
-    pub zs : List RecordedNode
+    pub ys : List Recorded
+    pub zs : List Recorded
     pub is_tree : ts ≡ trees_of (one ∷ others)
     pub beside : Beside others rest
-    pub is_spans : x ≡ node (reaches alt_node) (more_spans first (after_bar bar rest))
-    pub is_recorded : xs ≡ alt_node ∷ ys ++ zs
-    pub returned : alt_node.unnamed ≡ false
-    pub has_bar : alt_node.bar ≡ Some (record { past = bar; nodes = length ys })
+    pub is_spans : x ≡ node span (more_spans first (after_bar bar rest))
+    pub is_recorded : xs ≡ Node span.start span.end ∷ (ys ++ zs) ++ Bar (record { past = bar; before = length ys }) ∷ []
     pub shows_first : shown named ys ≡ in_preorder first
     pub shows_rest : shown named zs ≡ all_in_preorder rest
 
   -- the nodes of a tree that has these spans
-  abbrev pub Fits : Tree → Spans → List RecordedNode → Type 0
+  abbrev pub Fits : Tree → Spans → List Recorded → Type 0
   Fits (alt ts) x xs = Barred ts x xs
   Fits _ x xs = shown named xs ≡ in_preorder x
 
-  barred_shows : {ts : Trees} {x : Spans} {xs : List RecordedNode} → Barred ts x xs → shown named xs ≡ in_preorder x
+  barred_shows : {ts : Trees} {x : Spans} {xs : List Recorded} → Barred ts x xs → shown named xs ≡ in_preorder x
   barred_shows h =
-      ap (shown named) h.is_recorded ∙ shown_one h.alt_node (h.ys ++ h.zs) h.returned
-      ∙ ap (λ l. reaches h.alt_node ∷ l)
-      (shown_append h.ys h.zs ∙ (λ i. h.shows_first i ++ h.shows_rest i)) ∙ sym (ap in_preorder h.is_spans)
+      let b : FirstBar = record { past = h.bar; before = length h.ys } in
+      ap (shown named) h.is_recorded
+      ∙ ap (λ l. h.span ∷ l) (shown_append (h.ys ++ h.zs) (Bar b ∷ []) ∙ append-nil (shown named (h.ys ++ h.zs))
+      ∙ shown_append h.ys h.zs ∙ (λ i. h.shows_first i ++ h.shows_rest i)) ∙ sym (ap in_preorder h.is_spans)
 
-  pub fits_shown : (r : Tree) (x : Spans) (xs : List RecordedNode) → Fits r x xs → shown named xs ≡ in_preorder x
+  pub fits_shown : (r : Tree) (x : Spans) (xs : List Recorded) → Fits r x xs → shown named xs ≡ in_preorder x
   fits_shown (leaf l) x xs h = h
   fits_shown (over w t) x xs h = h
   fits_shown (row label.alt ts) x xs h = barred_shows h
@@ -108,7 +127,7 @@ module _ (named : Bool) where
 
   -- after the log l, the tree r is recorded as a piece that begins at the reach
   pub record PieceRecorded (start : ℕ) (l m : Log) (r : Tree) (x : Spans) : Type 0 where
-    pub xs : List RecordedNode
+    pub xs : List Recorded
     pub is_recorded : m.recorded ≡ l.recorded ++ xs
     pub is_around : m.around ≡ l.around
     pub is_open : m.open_atom ≡ l.open_atom
@@ -144,8 +163,8 @@ module _ (named : Bool) where
     once : {m : Log} {a : Tree} {x : Spans} (w : _) (end : ℕ) → PieceRecorded start l m a x →
         PieceRecorded start l (under_node end m) (over w a) (around (record { start = start; end = end }) x)
     once {m} {a} {x} w end h =
-        let n = plain m.last.start end in
-        let p : reaches n ≡ record { start = start; end = end } =
+        let n = Node m.last.start end in
+        let p : record { start = m.last.start; end = end } ≡ record { start = start; end = end } =
         ap (λ (k : Last). record { start = k.start; end = end }) h.is_last in
         record {
           xs = n ∷ h.xs;
@@ -154,8 +173,7 @@ module _ (named : Bool) where
           is_around = h.is_around;
           is_open = h.is_open;
           is_last = h.is_last;
-          fits = shown_one n h.xs refl
-              ∙ (λ i. p i ∷ (fits_shown a x h.xs h.fits ∙ sym (append-nil (in_preorder x))) i);
+          fits = λ i. p i ∷ (fits_shown a x h.xs h.fits ∙ sym (append-nil (in_preorder x))) i;
         }
 
     under_recorded : {m : Log} {a : Tree} {x : Spans} (f : Flags) (c : Counts) (k : Suffix) (end : ℕ) →

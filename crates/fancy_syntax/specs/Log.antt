@@ -1,6 +1,6 @@
 -- What is recorded about the positions of nodes, and of what no node has, while a pattern is read, and how each thing
 -- that is read changes the record.
-use Rattle.std.specs.Prelude.{ℕ, ◌+◌, ◌-◌, ◌==◌, nat_lt, min, Bool, false, ◌&&◌, if◌then◌else◌, List, [], ◌∷◌, ◌++◌}
+use Rattle.std.specs.Prelude.{ℕ, ◌+◌, ◌-◌, ◌==◌, nat_lt, min, Bool, false, if◌then◌else◌, List, [], ◌∷◌, ◌++◌}
 use Rattle.std.specs.Prelude.{length, take, drop, insert, remove, Option, Some, None}
 use Rattle.std.specs.List.{slice_get, slice_index_or}
 use Rattle.fancy_lex.specs.Text.{reach_of}
@@ -11,21 +11,18 @@ use Rattle.fancy_grammar.specs.Trivia.{Passed, part, dropped, comments_at, openi
 use Rattle.fancy_syntax.specs.declared.grammar.recorded.FirstBar.{FirstBar}
 use Rattle.fancy_syntax.specs.declared.grammar.recorded.ConditionPart.{ConditionPart}
 use Rattle.fancy_syntax.specs.declared.grammar.recorded.Last.{Last}
-use Rattle.fancy_syntax.specs.declared.grammar.recorded.RecordedNode.{RecordedNode}
+use Rattle.fancy_syntax.specs.declared.grammar.recorded.Recorded.{Recorded}
+use Rattle.fancy_syntax.specs.declared.grammar.recorded.Recorded.TheVariants.{Node, Unnamed, Bar}
 use Rattle.fancy_syntax.specs.declared.grammar.recorded.Open.{Open}
 
--- the nodes that have been read, each tree in preorder; the open atoms, with the innermost one separate; the last piece;
--- what was passed that may have no node
+-- the nodes that have been read, each tree in preorder, and after those of an Alt its first bar; the open atoms, with the
+-- innermost one separate; the last piece; what was passed that may have no node
 pub record Log : Type 0 where
-  pub recorded : List RecordedNode
+  pub recorded : List Recorded
   pub around : List Open
   pub open_atom : Open
   pub last : Last
   pub passed : List Passed
-
--- a node that is neither a group without a name nor an Alt that the grammar reads
-abbrev pub plain : ℕ → ℕ → RecordedNode
-plain start end = record { start = start; end = end; unnamed = false; bar = None }
 
 -- the log before anything is read of a text that begins at the reach
 abbrev pub started : ℕ → Log
@@ -47,18 +44,21 @@ started start = record {
   passed = [];
 }
 
--- the span of the node, in reaches
-abbrev pub reaches : RecordedNode → Span
-reaches x = record { start = x.start; end = x.end }
-
--- the reaches of the nodes of the parsed tree; if only named groups have a number, the other groups have no node
-abbrev pub shown : Bool → List RecordedNode → List Span
+-- the spans of the nodes of the parsed tree, in reaches; if only named groups have a number, the other groups have no
+-- node
+abbrev pub shown : Bool → List Recorded → List Span
 shown named [] = []
-shown named (x ∷ xs) = if named && x.unnamed then shown named xs else reaches x ∷ shown named xs
+shown named (Node start end ∷ xs) = record { start = start; end = end } ∷ shown named xs
+shown named (Unnamed start end ∷ xs) =
+    if named then shown named xs else record { start = start; end = end } ∷ shown named xs
+shown named (Bar b ∷ xs) = shown named xs
 
--- a node inserted after that many others, or after all if there are fewer
-abbrev pub put : ℕ → RecordedNode → Log → Log
-put height x l = record l { recorded = insert l.recorded (min height (length l.recorded)) x }
+-- a node inserted after that much, or after all if that is less
+abbrev pub put_at : ℕ → Recorded → List Recorded → List Recorded
+put_at height x xs = insert xs (min height (length xs)) x
+
+abbrev pub put : ℕ → Recorded → Log → Log
+put height x l = record l { recorded = put_at height x l.recorded }
 
 -- ---- what no node has
 
@@ -77,7 +77,7 @@ text_dropped start end l = record l { passed = with_dropped start end l.passed }
 
 abbrev pub leaf_recorded : ℕ → ℕ → Log → Log
 leaf_recorded start end l = record l {
-  recorded = l.recorded ++ plain start end ∷ [];
+  recorded = l.recorded ++ Node start end ∷ [];
   last = record { start = start; height = length l.recorded };
 }
 
@@ -86,7 +86,7 @@ left_out l = record l { recorded = take l.last.height l.recorded }
 
 -- the last piece in a node that ends at the reach
 abbrev pub under_node : ℕ → Log → Log
-under_node end l = put l.last.height (plain l.last.start end) l
+under_node end l = put l.last.height (Node l.last.start end) l
 
 abbrev pub wrapped : ℕ → Bool → Log → Log
 wrapped end atomic l = under_node end (if atomic then under_node end l else l)
@@ -166,17 +166,19 @@ atom_ended l =
       passed = l.passed;
     }
 
+abbrev pub own_node : Bool → ℕ → ℕ → Recorded
+own_node unnamed start end = if unnamed then Unnamed start end else Node start end
+
 abbrev pub atom_closed : ℕ → Bool → Log → Log
-atom_closed end unnamed l = atom_ended
-    (put l.open_atom.height (record { start = l.open_atom.start; end = end; unnamed = unnamed; bar = None }) l)
+atom_closed end unnamed l = atom_ended (put l.open_atom.height (own_node unnamed l.open_atom.start end) l)
 
 -- ---- branches
 
 -- the first bar of a part: the earlier one if there is one; else this bar, after which a branch begins at the reach,
--- and before which the branch has that many nodes
+-- and before which that much is recorded of the branch
 abbrev pub first_bar : Option FirstBar → ℕ → ℕ → FirstBar
-first_bar None start nodes = record { past = start; nodes = nodes }
-first_bar (Some b) start nodes = b
+first_bar None start before = record { past = start; before = before }
+first_bar (Some b) start before = b
 
 abbrev pub branch_begun : ℕ → Log → Log
 branch_begun start l = record l {
@@ -195,30 +197,43 @@ branch_begun start l = record l {
 
 abbrev pub branch_ended : ℕ → ℕ → Log → Log
 branch_ended pieces end l =
-    if pieces == 1 then l else put l.open_atom.pieces (plain l.open_atom.branch end) l
+    if pieces == 1 then l else put l.open_atom.pieces (Node l.open_atom.branch end) l
+
+abbrev pub with_bar : Option FirstBar → List Recorded → List Recorded
+with_bar None xs = xs
+with_bar (Some b) xs = xs ++ Bar b ∷ []
 
 abbrev pub choice_ended : ℕ → Log → Log
-choice_ended end l = put l.open_atom.branches
-    (record { start = l.open_atom.part; end = end; unnamed = false; bar = l.open_atom.bar }) l
+choice_ended end l = put l.open_atom.branches (Node l.open_atom.part end)
+    (record l { recorded = with_bar l.open_atom.bar l.recorded })
 
 -- ---- the body of a conditional
 
--- for an Alt of that many branches, which was removed: if several follow its first bar, an Alt of these is inserted
-abbrev pub others_put : ℕ → RecordedNode → Option FirstBar → Log → Log
-others_put branches alt None l = l
-others_put branches alt (Some b) l =
-    if nat_lt branches 3 then l else put (l.open_atom.branches + b.nodes) (plain b.past alt.end) l
+-- an Alt of that many branches, which ends at the reach, was removed from that height: if several branches follow its
+-- first bar, an Alt of these is inserted
+abbrev pub others_put : ℕ → ℕ → FirstBar → ℕ → List Recorded → List Recorded
+others_put height branches b end xs =
+    if nat_lt branches 3 then xs else put_at (height + b.before) (Node b.past end) xs
 
-abbrev pub alt_split : ℕ → Option RecordedNode → Log → Log
-alt_split branches None l = l
-alt_split branches (Some alt) l =
-    others_put branches alt alt.bar (record l { recorded = remove l.recorded l.open_atom.branches })
+-- the Alt at that height, whose first bar was removed, is replaced by its first branch and the choice among the others
+abbrev pub alt_split : ℕ → ℕ → FirstBar → Option Recorded → List Recorded → List Recorded
+alt_split height branches b (Some (Node start end)) xs = others_put height branches b end (remove xs height)
+alt_split height branches b _ xs = xs
 
+abbrev pub bar_split : ℕ → ℕ → Option Recorded → List Recorded → List Recorded
+bar_split height branches (Some (Bar b)) xs = alt_split height branches b (slice_get xs height) xs
+bar_split height branches _ xs = xs
+
+-- the open part is an Alt of that many branches
 abbrev pub body_split : ℕ → Log → Log
-body_split branches l = alt_split branches (slice_get l.recorded l.open_atom.branches) l
+body_split branches l =
+    let before = length l.recorded - 1 in
+    record l {
+      recorded = bar_split l.open_atom.branches branches (slice_get l.recorded before) (take before l.recorded);
+    }
 
 abbrev pub branch_lacked : ℕ → Log → Log
-branch_lacked end l = record l { recorded = l.recorded ++ plain end end ∷ [] }
+branch_lacked end l = record l { recorded = l.recorded ++ Node end end ∷ [] }
 
 abbrev pub part_dropped : Log → Log
 part_dropped l = record l { recorded = take l.open_atom.branches l.recorded }

@@ -281,7 +281,7 @@ fn read_recorded(
     ensures trivia { IfOk result (λ p. IsTriviaOf flags (chars re.now)
         (returned_trivia (chars re.now) (info_of p.0).numbered_groups_ignored (log_of p.1))) }
 {
-    let mut recorded = Spans::new(alloc, reach(re));
+    let mut recorded = Spans::new(alloc, reach(re))?;
     let tree = read(alloc, re, flags, &mut recorded)?;
     Ok((tree, recorded))
 }

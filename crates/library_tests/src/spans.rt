@@ -16,7 +16,7 @@ const ONIGURUMA: u32 = FLAG_UNICODE | FLAG_ONIGURUMA_MODE;
 const SPACED: u32 = FLAG_UNICODE | FLAG_IGNORE_SPACE;
 
 /// Flags, a pattern, and the span of each node of its tree, in preorder.
-static SPANS: [(u32, &str, &str); 49] = [
+static SPANS: [(u32, &str, &str); 51] = [
     (FLAG_UNICODE, "", "0..0"),
     (FLAG_UNICODE, "abc", "0..3 0..1 1..2 2..3"),
     (
@@ -100,6 +100,16 @@ static SPANS: [(u32, &str, &str); 49] = [
         FLAG_UNICODE,
         "(a)(?(1)(?:b|c))",
         "0..16 0..3 1..2 3..16 6..7 11..12 13..14",
+    ),
+    (
+        FLAG_UNICODE,
+        "(a)(?(1)(?:b|c|d)(?()|))",
+        "0..24 0..3 1..2 3..24 6..7 11..12 13..16 13..14 15..16",
+    ),
+    (
+        FLAG_UNICODE,
+        "(a)(?(1)(?(b|c|d)|))",
+        "0..20 0..3 1..2 3..20 6..7 11..12 13..16 13..14 15..16",
     ),
     (FLAG_UNICODE, "(h)(?(1))*", "0..10 0..3 1..2 3..10 6..7"),
     (

@@ -9,15 +9,15 @@ use crate::grammar::state::State;
 use crate::trivium::TriviumKind;
 use fancy_lex::text::reach;
 
-/// A node of the raw tree.
+/// What is recorded of the raw tree: its nodes, and after the nodes of an Alt its first bar.
 #[derive(Clone, Copy)]
-pub(crate) struct RecordedNode {
-    pub(crate) start: usize,
-    pub(crate) end: usize,
-    /// Whether it is a capturing group without a name.
-    pub(crate) unnamed: bool,
-    /// The first bar, if it is an Alt.
-    pub(crate) bar: Option<FirstBar>,
+pub(crate) enum Recorded {
+    /// A node.
+    Node { start: usize, end: usize },
+    /// The node of a capturing group without a name.
+    Unnamed { start: usize, end: usize },
+    /// The first bar of an Alt.
+    Bar(FirstBar),
 }
 
 /// The first bar of a part.
@@ -25,8 +25,8 @@ pub(crate) struct RecordedNode {
 pub(crate) struct FirstBar {
     /// Where the branch after it begins.
     pub(crate) past: usize,
-    /// How many nodes the branch before it has.
-    pub(crate) nodes: usize,
+    /// How much is recorded of the branch before it.
+    pub(crate) before: usize,
 }
 
 /// The condition of a conditional.
@@ -42,13 +42,13 @@ pub(crate) struct ConditionPart {
 /// An open atom, its open part, and the open branch of that part.
 #[derive(Clone, Copy)]
 pub(crate) struct Open {
-    /// Where the atom begins, how many nodes are before its own, and how many parts without a node.
+    /// Where the atom begins, how much is recorded before its nodes, and how many parts without a node.
     pub(crate) start: usize,
     pub(crate) height: usize,
     pub(crate) passed: usize,
     /// Its condition, if it is a conditional and its body is open.
     pub(crate) condition: Option<ConditionPart>,
-    /// Where the part begins, and how many nodes are before its own.
+    /// Where the part begins, and how much is recorded before its nodes.
     pub(crate) part: usize,
     pub(crate) branches: usize,
     pub(crate) bar: Option<FirstBar>,
@@ -57,7 +57,7 @@ pub(crate) struct Open {
     pub(crate) pieces: usize,
 }
 
-/// A piece: where it begins, and how many nodes are before its own.
+/// A piece: where it begins, and how much is recorded before its nodes.
 #[derive(Clone, Copy)]
 pub(crate) struct Last {
     pub(crate) start: usize,

@@ -1,10 +1,11 @@
 //! The spans of the nodes of a raw tree, each tree in preorder, and what no node has.
 ghost use Rattle.std.specs.Prelude.{◌≡◌, [], ◌∷◌, ◌++◌, false, chars, map, option_map, IfOk, OnOk};
+ghost use Rattle.std.specs.Option.{option_to_list};
 ghost use Rattle.fancy_lex.specs.Reading.{choose};
 ghost use Rattle.fancy_lex.specs.Text.{bytes, reach_of};
 ghost use Rattle.fancy_grammar.specs.Spans.{condition_text, positioned};
 ghost use Rattle.fancy_syntax.specs.Log as spec;
-ghost use Rattle.fancy_syntax.specs.Log.{layout_passed, reaches, shown};
+ghost use Rattle.fancy_syntax.specs.Log.{layout_passed, shown};
 ghost use Rattle.fancy_syntax.specs.LogViews.{log_of, returned_trivia};
 ghost use Rattle.fancy_syntax.specs.Parsed.{state};
 ghost use Rattle.fancy_syntax.specs.SpanViews.{span_of, spans_of};
@@ -14,7 +15,7 @@ ghost use Rattle.fancy_lex.specs.CommentViews.{comment_of};
 
 use crate::expr::Expr;
 use crate::grammar::recorded::{
-    ConditionPart, FirstBar, Last, Open, RecordedNode, RecordedTrivium, part_between,
+    ConditionPart, FirstBar, Last, Open, Recorded, RecordedTrivium, part_between,
 };
 use crate::grammar::spanning::Spanning;
 use crate::grammar::state::{State, skip_layout};
@@ -28,7 +29,7 @@ use std::alloc::{AllocError, Global};
 /// The nodes that have been read, the open atoms, and what was passed that no node has.
 #[derive(Drop)]
 pub(crate) struct Spans {
-    pub(crate) recorded: Vec<RecordedNode>,
+    pub(crate) recorded: Vec<Recorded>,
     /// The atoms around the innermost open one.
     pub(crate) around: Vec<Open>,
     pub(crate) open: Open,
@@ -38,13 +39,17 @@ pub(crate) struct Spans {
     pub(crate) passed: Vec<RecordedTrivium>,
 }
 
+/// The initial capacity of the list of nodes: more than most patterns have. A block of more than 1,024 bytes costs more, as
+/// for the parser's list of trees.
+const NODES: usize = 42;
+
 impl Spans {
     /// The spans before anything is read of a text that begins at the reach.
-    pub(crate) fn new(alloc: Global, start: usize) -> Spans
-        ensures { log_of result ≡ spec.started start }
+    pub(crate) fn new(alloc: Global, start: usize) -> Result<Spans, AllocError>
+        ensures { IfOk result (λ s. log_of s ≡ spec.started start) }
     {
-        Spans {
-            recorded: Vec::new(alloc),
+        Ok(Spans {
+            recorded: Vec::with_capacity(alloc, NODES)?,
             around: Vec::new(alloc),
             open: Open {
                 start,
@@ -59,7 +64,7 @@ impl Spans {
             },
             last: Last { start, height: 0 },
             passed: Vec::new(alloc),
-        }
+        })
     }
 
     /// The spans of the parsed tree; with `named`, only named groups have a number, and the others have no node.
@@ -74,7 +79,9 @@ impl Spans {
     {
         let mut spans = Vec::with_capacity(alloc, self.recorded.len())?;
         for recorded in &self.recorded {
-            push_shown(&mut spans, pattern, named, *recorded)?;
+            if let Some(span) = shown_span(pattern, named, *recorded) {
+                spans.push_reserved(span);
+            }
         }
         Ok(spans)
     }
@@ -109,8 +116,8 @@ impl Spans {
         Ok(())
     }
 
-    /// Inserts a node after that many others.
-    fn put(&mut self, height: usize, node: RecordedNode) -> Result<(), AllocError>
+    /// Inserts a node after that much of what is recorded.
+    fn put(&mut self, height: usize, node: Recorded) -> Result<(), AllocError>
         ensures { OnOk result (log_of self.new ≡ spec.put height node (log_of self.old)) }
     {
         let height = height.min(self.recorded.len());
@@ -221,7 +228,7 @@ impl Spanning for Spans {
     fn record_leaf(&mut self, start: usize, end: usize) -> Result<(), AllocError> {
         let height = self.recorded.len();
         self.last = Last { start, height };
-        Ok(self.recorded.push(plain(start, end))?)
+        Ok(self.recorded.push(Recorded::Node { start, end })?)
     }
 
     fn leave_out(&mut self) {
@@ -230,10 +237,11 @@ impl Spanning for Spans {
 
     fn wrap(&mut self, end: usize, atomic: bool) -> Result<(), AllocError> {
         let Last { start, height } = self.last;
+        let node = Recorded::Node { start, end };
         if atomic {
-            self.put(height, plain(start, end))?;
+            self.put(height, node)?;
         }
-        self.put(height, plain(start, end))
+        self.put(height, node)
     }
 
     fn open(&mut self, start: usize, inside: usize) -> Result<(), AllocError> {
@@ -264,7 +272,7 @@ impl Spanning for Spans {
         if self.open.bar.is_none() {
             self.open.bar = Some(FirstBar {
                 past: start,
-                nodes: height.saturating_sub(self.open.branches),
+                before: height.saturating_sub(self.open.branches),
             });
         }
         self.open.branch = start;
@@ -275,36 +283,37 @@ impl Spanning for Spans {
         if pieces == 1 {
             return Ok(());
         }
-        self.put(self.open.pieces, plain(self.open.branch, end))
+        let start = self.open.branch;
+        self.put(self.open.pieces, Recorded::Node { start, end })
     }
 
     fn end_choice(&mut self, end: usize) -> Result<(), AllocError> {
-        let alt = RecordedNode {
-            start: self.open.part,
-            end,
-            unnamed: false,
-            bar: self.open.bar,
-        };
-        self.put(self.open.branches, alt)
+        if let Some(bar) = self.open.bar {
+            self.recorded.push(Recorded::Bar(bar))?;
+        }
+        let start = self.open.part;
+        self.put(self.open.branches, Recorded::Node { start, end })
     }
 
     fn split(&mut self, branches: usize) -> Result<(), AllocError> {
-        let at = self.open.branches;
-        if at >= self.recorded.len() {
-            return Ok(());
-        }
-        let alt = self.recorded.remove(at);
-        let Some(bar) = alt.bar else {
+        let Some(Recorded::Bar(bar)) = self.recorded.pop() else {
             return Ok(());
         };
+        let at = self.open.branches;
+        let Some(Recorded::Node { end, .. }) = self.recorded.get(at) else {
+            return Ok(());
+        };
+        let end = *end;
+        self.recorded.remove(at);
         if branches < 3 {
             return Ok(());
         }
-        self.put(at.saturating_add(bar.nodes), rest_of(alt, bar))
+        let start = bar.past;
+        self.put(at.saturating_add(bar.before), Recorded::Node { start, end })
     }
 
     fn lack_branch(&mut self, end: usize) -> Result<(), AllocError> {
-        Ok(self.recorded.push(plain(end, end))?)
+        Ok(self.recorded.push(Recorded::Node { start: end, end })?)
     }
 
     fn drop_part(&mut self) {
@@ -324,11 +333,11 @@ impl Spanning for Spans {
     }
 
     fn close(&mut self, end: usize, unnamed: bool) -> Result<(), AllocError> {
-        let node = RecordedNode {
-            start: self.open.start,
-            end,
-            unnamed,
-            bar: None,
+        let start = self.open.start;
+        let node = if unnamed {
+            Recorded::Unnamed { start, end }
+        } else {
+            Recorded::Node { start, end }
         };
         self.put(self.open.height, node)?;
         self.end_atom();
@@ -340,30 +349,20 @@ impl Spanning for Spans {
     }
 }
 
-/// Adds the span of the node in the pattern, if the node is in the parsed tree.
-fn push_shown(
-    spans: &mut Vec<Span>,
-    pattern: &str,
-    named: bool,
-    node: RecordedNode,
-) -> Result<(), AllocError>
-    ensures { OnOk result (spans_of spans.new ≡
-        spans_of spans.old ++ map (positioned (bytes (chars pattern.now))) (shown named (node ∷ []))) }
+/// The span in the pattern, if it is that of a node in the parsed tree.
+fn shown_span(pattern: &str, named: bool, recorded: Recorded) -> Option<Span>
+    ensures { option_to_list (option_map span_of result) ≡
+        map (positioned (bytes (chars pattern.now))) (shown named (recorded ∷ [])) }
 {
-    if named && node.unnamed {
-        return Ok(());
-    }
-    Ok(spans.push(span_in(pattern, node))?)
-}
-
-/// The span of the node in the pattern.
-fn span_in(pattern: &str, node: RecordedNode) -> Span
-    ensures { span_of result ≡ positioned (bytes (chars pattern.now)) (reaches node) }
-{
-    Span {
-        start: position_at(pattern, node.start),
-        end: position_at(pattern, node.end),
-    }
+    let (start, end) = match recorded {
+        Recorded::Node { start, end } => (start, end),
+        Recorded::Unnamed { start, end } if !named => (start, end),
+        _ => return None,
+    };
+    Some(Span {
+        start: position_at(pattern, start),
+        end: position_at(pattern, end),
+    })
 }
 
 /// A part that leaves nothing in the tree.
@@ -421,25 +420,6 @@ fn trivium_in(pattern: &str, recorded: RecordedTrivium) -> Trivium
         span: Span { start, end },
         kind: recorded.kind,
     }
-}
-
-/// A node that is neither a group without a name nor an Alt that the grammar reads.
-fn plain(start: usize, end: usize) -> RecordedNode
-    ensures { result ≡ spec.plain start end }
-{
-    RecordedNode {
-        start,
-        end,
-        unnamed: false,
-        bar: None,
-    }
-}
-
-/// The choice among the branches after the first bar of an Alt. Its own first bar is not needed.
-fn rest_of(alt: RecordedNode, bar: FirstBar) -> RecordedNode
-    ensures { result ≡ spec.plain bar.past alt.end }
-{
-    plain(bar.past, alt.end)
 }
 
 /// Where the condition of a conditional begins that begins here: after the parenthesis, layout, a question mark and a

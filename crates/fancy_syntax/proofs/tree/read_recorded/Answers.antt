@@ -10,7 +10,7 @@ pub returns-clause-spans : goal.returns-clause-spans
 returns-clause-spans c =
     let text = chars c.args.re.now in
     let (m, n, a, b) =
-    c.in_ok-tree.ensures.spans (started (reach_of text)) refl (c.new-recorded.ensures ∙ ap started c.reach.ensures) in
+    c.in_ok-tree.ensures.spans (started (reach_of text)) refl (c.in_ok-recorded.ensures ∙ ap started c.reach.ensures) in
     subst (AreSpansOf c.args.flags text)
     (sym (ap (returned_spans text c.in_ok-tree.tree.numbered_groups_ignored) n)) a
 
@@ -18,6 +18,6 @@ pub returns-clause-trivia : goal.returns-clause-trivia
 returns-clause-trivia c =
     let text = chars c.args.re.now in
     let (m, n, a, b) =
-    c.in_ok-tree.ensures.spans (started (reach_of text)) refl (c.new-recorded.ensures ∙ ap started c.reach.ensures) in
+    c.in_ok-tree.ensures.spans (started (reach_of text)) refl (c.in_ok-recorded.ensures ∙ ap started c.reach.ensures) in
     subst (IsTriviaOf c.args.flags text)
     (sym (ap (returned_trivia text c.in_ok-tree.tree.numbered_groups_ignored) n)) b
