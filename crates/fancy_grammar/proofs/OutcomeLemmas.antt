@@ -1,21 +1,20 @@
 -- How facts about the outcome of a part carry over to the whole.
-use Rattle.std.proofs.Common.{◌≡◌, ℕ, Bool, true, false, if◌then◌else◌, List, [], ◌∷◌, ◌++◌, Some, refl, ap, subst}
+use Rattle.std.proofs.Common.{◌≡◌, ℕ, Bool, true, false, if◌then◌else◌, List, [], ◌∷◌, ◌++◌, refl, ap, subst}
 use Rattle.std.proofs.Common.{append_assoc}
 use Rattle.std.specs.List.{AllByRecursion}
-use Prim.Native.Char.{code}
 use Rattle.fancy_lex.specs.Located.{Located}
 use Rattle.fancy_lex.specs.ErrorTable.{comment_not_closed}
 use Rattle.fancy_lex.specs.LayoutSteps.{Skipped, rest, failed as open_comment}
-use Rattle.fancy_lex.specs.Text.{Text, bytes, strip}
+use Rattle.fancy_lex.specs.Text.{Text, bytes}
 use Rattle.fancy_lex.specs.declared.error.ReadError.{ReadError}
 use Rattle.fancy_lex.specs.declared.error.ReadError.TheVariants.{At, OutOfMemory}
 use Rattle.fancy_lex.specs.declared.flags.Flags.{Flags}
 use Rattle.fancy_grammar.specs.AtomStart.{AtomStart, nothing, read, of_kind, condition, body, absent_branch}
-use Rattle.fancy_grammar.specs.Grammar.{restored, after_atom, Branch, Branches, more, Piece, Pieces, next, Atom, piece}
+use Rattle.fancy_grammar.specs.Grammar.{restored, after_atom, Piece, Atom, piece}
 use Rattle.fancy_grammar.specs.Quantified.{quants}
 use Rattle.fancy_grammar.specs.Join.{is_empty, solid}
 use Rattle.fancy_grammar.specs.Errors.{IsErrorAmong, IsThisError}
-use Rattle.fancy_grammar.specs.State.{ends, skipped, after_skipped, State, at, Outcome, done, failed, and_then, mapped}
+use Rattle.fancy_grammar.specs.State.{skipped, after_skipped, State, at, Outcome, done, failed, and_then, mapped}
 use Rattle.fancy_grammar.specs.Tree.{Tree}
 
 -- what holds in both cases holds after layout
@@ -69,10 +68,6 @@ pub IsErrorAmong-is : {A : Type 0} (P : Outcome A → Type 0) (e : ReadError) (f
 IsErrorAmong-is P (At q j) f h d = rw h d
 IsErrorAmong-is P OutOfMemory f h d = tt
 
-pub at_done : {A : Type 0} (P : Outcome A → Type 0) {a b : A} {s t : State} → b ≡ a → t ≡ s → P (done a s) →
-    P (done b t)
-at_done P e f h = rw (e, f) h
-
 -- the trees so far, before the ones that follow
 abbrev pub trees_before : List Tree → Outcome (List Tree) → Outcome (List Tree)
 trees_before l = mapped (l ++◌)
@@ -111,16 +106,6 @@ module _ (P : Tree → Type 0) where
   pub each_solid : (l : List Tree) → AllByRecursion P l → AllByRecursion P (solid l)
   each_solid [] h = tt
   each_solid (t ∷ l) h = each_if (is_empty t) t (solid l) h.0 (each_solid l h.1)
-
-pub more_any : {d : ℕ} {s t : State} {u : Text} {r : Tree} (o : Outcome (List Tree)) → Branch d s (done r t) →
-    strip (code "|") t.rest ≡ Some u →
-    Branches d (at t u) o → Branches d s (trees_before (r ∷ []) o)
-more_any o b e m = more b e m
-
-pub next_any : {d : ℕ} {s t : State} {r : Tree} (o : Outcome (List Tree)) → ends s.rest ≡ false →
-    Piece d s (done r t) → Pieces d t o →
-    Pieces d s (trees_before (r ∷ []) o)
-next_any o e a m = next e a m
 
 -- a piece with this outcome under its quantifiers
 pub piece_as : {d : ℕ} {s : State} {u : Text} {q o : Outcome Tree} → skipped s ≡ rest u → Atom d (at s u) q →

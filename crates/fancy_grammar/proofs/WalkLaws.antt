@@ -1,4 +1,4 @@
--- What the second walk computes from its start, over a raw tree in text order.
+-- What the resolver's walk computes from its start, over a raw tree in text order.
 use Rattle.std.proofs.Common.{◌≡◌, ℕ, Bool, List, nat_le, nat_lt, length, filter, ap, ◌∙◌}
 use Rattle.std.specs.List.{list_any}
 use Rattle.std.specs.Prelude.{find}

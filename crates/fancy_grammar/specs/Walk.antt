@@ -1,11 +1,12 @@
--- What the resolver's two walks compute. They count the groups that they pass.
+-- What the resolver's walk computes: it resolves the references, and records the group information and the first error. It counts
+-- the groups that it passes.
 use Rattle.std.specs.Prelude.{ℕ, ◌+◌, Bool, false, ◌||◌, nat_le, List, [], Option, Some, None, fold, if◌then◌else◌}
 use Rattle.std.specs.BTreeSet.{insert_key}
 use Rattle.std.specs.Ordering.{nat_cmp}
 use Rattle.fancy_lex.specs.Located.{Located}
 use Rattle.fancy_lex.specs.Target.{Target}
 use Rattle.fancy_lex.specs.Text.{Text, bytes, position_at}
-use Rattle.fancy_parts.specs.Groups.{Groups, with_opening, numbers_under}
+use Rattle.fancy_parts.specs.Groups.{Groups, numbers_under}
 use Rattle.fancy_parts.specs.Meaning.{Role, Meaning, number, refers_to, error_or}
 use Rattle.fancy_parts.specs.Ranks.{is_counted}
 use Rattle.fancy_parts.specs.Written.{is_numeric}
@@ -13,19 +14,6 @@ use Rattle.fancy_grammar.specs.Items.{Item, opening, reference, role_of, target_
 use Rattle.fancy_grammar.specs.GroupInfo.{back_number, is_call, is_call_of_all}
 use Rattle.fancy_grammar.specs.Resolved.{resolved_in, resolved_all}
 use Rattle.fancy_grammar.specs.Tree.{Tree, Trees}
-
--- ---- the first walk finds the groups
-
--- a group is added if it has a number; a reference adds nothing
-abbrev pub find_item : Bool → Groups → Item → Groups
-find_item named s (opening o) = with_opening named s o
-find_item named s (reference r reach) = s
-
--- the groups after these items
-abbrev pub groups_after : Bool → Groups → List Item → Groups
-groups_after named s l = fold (find_item named) s l
-
--- ---- the second walk resolves the references, and records the group information and the first error
 
 -- what is known when references are resolved
 pub record Resolver : Type 0 where

@@ -1,5 +1,5 @@
 -- The byte before a position.
-use Rattle.std.proofs.Common.{◌≡◌, ℕ, ◌-◌, ◌<◌, ◌≤◌, List, false, nat_eq, chars, length, arith, get_or}
+use Rattle.std.proofs.Common.{◌≡◌, ℕ, ◌-◌, ◌<◌, List, false, nat_eq, chars, length, arith, get_or}
 use Rattle.std.specs.Str.{IsUtf8}
 use Rattle.std.proofs.lemmas.List.{get_or_past}
 use Rattle.std.proofs.lemmas.Str.{encodes-chars}
@@ -9,9 +9,6 @@ use Rattle.fancy_parts.specs.Written.{is_after_backslash}
 pub after_position : (bs : List ℕ) (position : ℕ) → IsUtf8 bs → 0 < position →
     nat_eq (get_or bs (position - 1) 0) (code "\\") ≡ is_after_backslash (chars bs) position
 after_position bs position u h = rw (encodes-chars bs u) (grind arith)
-
-pub after_start : (bs : List ℕ) (position : ℕ) → position ≤ 0 → false ≡ is_after_backslash (chars bs) position
-after_start bs position h = grind arith
 
 pub after_end : (bs : List ℕ) (position : ℕ) → IsUtf8 bs → length bs < position →
     false ≡ is_after_backslash (chars bs) position

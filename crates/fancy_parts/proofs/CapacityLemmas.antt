@@ -77,9 +77,6 @@ pub record Writing (a b : String Global) (rest whole : Text) : Type 0 where
   pub reserved : HasCapacity b rest
   pub ends : (z : String Global) → Appended b z rest → Appended a z whole
 
-pub writing_starts : (a : String Global) (whole : Text) → HasCapacity a whole → Writing a a whole whole
-writing_starts a whole h = record { reserved = h; ends = λ z p. p }
-
 pub writing_as : (a b : String Global) (rest other whole : Text) → rest ≡ other → Writing a b rest whole →
     Writing a b other whole
 writing_as a b rest other whole e w = subst (λ t. Writing a b t whole) e w

@@ -199,9 +199,6 @@ one_counted (d ∷ f ∷ bs) b u l m e = absurd (omega arith)
 
 -- ---- characters that are printed as themselves
 
-pub run_starts : (t : Text) → AreUnquoted t t
-run_starts t = ([], refl, refl)
-
 quoted_alone : (c : ℕ) (b : Option ℕ) → is_some b ≡ false → quote_as c b ≡ c ∷ []
 quoted_alone c None e = refl
 quoted_alone c (Some b) e = cc

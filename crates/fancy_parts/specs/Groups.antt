@@ -1,13 +1,13 @@
 -- How the code's groups, roles and meanings correspond to the definitions.
-use Rattle.std.specs.Prelude.{ℕ, ◌+◌, Bool, List, [], ◌∷◌, ◌++◌, Option, Some, None, length, map, unwrap_or, bytes_eq}
-use Rattle.std.specs.Prelude.{String, Vec, if◌then◌else◌}
+use Rattle.std.specs.Prelude.{ℕ, ◌+◌, List, [], ◌∷◌, ◌++◌, Option, Some, None, length, map, unwrap_or, bytes_eq}
+use Rattle.std.specs.Prelude.{String, Vec}
 use Rattle.std.specs.Map.{lookup}
 use Rattle.std.specs.Ordering.{match_ordering}
 use Rattle.std.specs.declared.alloc.Global.{Global}
 use Rattle.fancy_lex.specs.ErrorViews.{kind_of}
 use Rattle.fancy_lex.specs.Text.{Text, text_of}
 use Rattle.fancy_parts.specs.Meaning as spec
-use Rattle.fancy_parts.specs.Ranks.{Opening, is_counted, name_cmp, named_groups}
+use Rattle.fancy_parts.specs.Ranks.{Opening, name_cmp, named_groups}
 use Rattle.fancy_parts.specs.declared.ranks.Groups as code
 use Rattle.fancy_parts.specs.declared.ranks.Meaning as meant
 use Rattle.fancy_parts.specs.declared.ranks.Meaning.TheVariants as refers
@@ -44,10 +44,6 @@ with_named (Some t) n es = with_number t n es
 -- the groups with one more, which has the next number
 abbrev pub with_group : Groups → Option Text → Groups
 with_group s name = record { total = s.total + 1; names = with_named name (s.total + 1) s.names }
-
--- the groups after one more opening: its group has the next number, if it has one
-abbrev pub with_opening : Bool → Groups → Opening → Groups
-with_opening named s o = if is_counted named o.name then with_group s o.name else s
 
 -- the numbers of a name, which are none if no group has the name
 abbrev pub numbers_under : List (Text × List ℕ) → Text → List ℕ

@@ -1,6 +1,6 @@
 -- Quantifiers: a Repeat, and a possessive one, reads back if the tree below it does.
 use Rattle.std.proofs.Common.{◌≡◌, ℕ, zero, ◌+◌, ◌-◌, ◌^◌, ◌<◌, Bool, true, false, not}
-use Rattle.std.proofs.Common.{◌∷◌, ◌++◌, codes, refl, sym, ap, ◌∙◌, subst, append_assoc, min}
+use Rattle.std.proofs.Common.{◌∷◌, ◌++◌, codes, refl, sym, ap, ◌∙◌, subst, append_assoc}
 use Rattle.std.proofs.Common.{if◌then◌else◌}
 use Rattle.std.proofs.Common.{suc, arith}
 use Rattle.std.proofs.lemmas.Bool.{false≢true, true≢false}
@@ -18,7 +18,6 @@ use Rattle.fancy_grammar.specs.Pattern.{repeated, allowed}
 use Rattle.fancy_grammar.specs.PatternDepth.{Fits, FitsInParensIf, MaySet, MayOpen}
 use Rattle.fancy_grammar.specs.PatternNeeds.{settled, inline_flags}
 use Rattle.fancy_grammar.specs.PatternQuantifier.{quantifier_text, is_possessive}
-use Rattle.fancy_grammar.specs.Quantified.{max_adjacent}
 use Rattle.fancy_grammar.specs.Tree.{Tree, over}
 use Rattle.fancy_grammar.specs.declared.precedence.Precedence.{Precedence}
 use Rattle.fancy_grammar.specs.declared.precedence.Precedence.TheVariants.{Whole, Branch, Piece, Operand}
@@ -35,9 +34,6 @@ use Rattle.fancy_grammar.proofs.PatternLaws.Rules.{Begins, Ends, begins_by, ends
 use Rattle.fancy_grammar.proofs.PatternLaws.Rules.{reads_only, Follows}
 use Rattle.fancy_grammar.proofs.ReadBack.RuleLemmas.{st}
 use Rattle.fancy_grammar.proofs.PatternLaws.Cases.{ReadsTree}
-
-pub none_allowed : (i : Context) → i.flags.oniguruma_mode ≡ false → allowed Whole i ≡ 0
-none_allowed i o = ap (λ b. (if b then min (max_adjacent + 1) (max_depth - i.depth) else 1) - 1) o
 
 module _ (μ : GroupInfo) where
   -- ---- quantifiers

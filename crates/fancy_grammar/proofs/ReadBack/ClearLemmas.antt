@@ -36,9 +36,6 @@ not_asking s e = rw e refl
 pub no_layout : (s : Text) → after_comment_start s ≡ None → layout false s ≡ rest s
 no_layout s e = between_plain s e
 
-pub clear_layout : (s : Text) → Clear s → layout false s ≡ rest s
-clear_layout s h = no_layout s h.no_comment
-
 -- a character that begins no quantifier
 pub record NoQuantifier (c : ℕ) : Type 0 where
   pub question : (c == code "?") ≡ false
