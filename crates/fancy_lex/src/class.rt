@@ -53,7 +53,7 @@ fn push_byte(out: &mut String, byte: u8) -> Result<(), AllocError>
     push(out, upper_hex_digit(byte % 16))
 }
 
-/// Adds the delegate's text. If memory runs out, the beginning of it may have been added.
+/// Adds the delegate's text. If memory runs out, the string begins with what it held, and some of the text may follow.
 pub fn push_delegate(out: &mut String, text: DelegateText) -> Result<(), AllocError>
     ensures grown { OnOk result (text_of out.new ≡ text_of out.old ++ delegate_text text.entry) }
     ensures kept { BeginsWith (text_of out.new) (text_of out.old) }

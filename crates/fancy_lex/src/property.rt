@@ -241,8 +241,8 @@ fn push_form(out: &mut String, form: Form, negated: bool, inside: bool) -> Resul
     }
 }
 
-/// Adds the text that is written for the property, in a class or outside. If memory runs out, the beginning of it may
-/// have been added.
+/// Adds the text that is written for the property, in a class or outside. If memory runs out, the string begins with
+/// what it held, and some of the text may follow.
 #[tactic(auto, unfolding(crate::specs::Property::property_text))]
 pub(crate) fn push_property(
     out: &mut String,
