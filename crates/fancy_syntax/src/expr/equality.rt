@@ -357,9 +357,26 @@ fn is_same_list(trees: &[Expr], others: &[Expr], with_positions: bool) -> bool
         return false;
     }
     for i in 0..trees.len() {
-        if !is_same(&trees[i], &others[i], with_positions) {
+        if !is_same_piece(&trees[i], &others[i], with_positions) {
             return false;
         }
     }
     true
+}
+
+/// Whether the trees are equal. Most are Literals: this saves a call for each.
+#[cycle(same)]
+#[inline(always)]
+fn is_same_piece(tree: &Expr, other: &Expr, with_positions: bool) -> bool
+    ensures { result ≡ same (positioned with_positions (view tree.now)) (positioned with_positions (view other.now)) }
+{
+    if let Expr::Literal { val, casei } = tree
+        && let Expr::Literal {
+            val: other_val,
+            casei: other_casei,
+        } = other
+    {
+        return is_same_text(val.as_str(), other_val.as_str()) && *casei == *other_casei;
+    }
+    is_same(tree, other, with_positions)
 }

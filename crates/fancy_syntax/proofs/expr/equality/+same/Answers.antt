@@ -9,8 +9,8 @@ pub is_same_list-returns-then-trees-others : goal.is_same_list-returns-then-tree
 is_same_list-returns-then-trees-others t c = same_all_lengths c.args.with_positions c.args.trees.now c.args.others.now
     c.if-trees-others.true
 
-pub is_same_list-returns-then-not-is_same : goal.is_same_list-returns-then-not-is_same
-is_same_list-returns-then-not-is_same t c =
+pub is_same_list-returns-then-not-is_same_piece : goal.is_same_list-returns-then-not-is_same_piece
+is_same_list-returns-then-not-is_same_piece t c =
     same_all_here c.args.with_positions c.args.trees.now c.args.others.now c.loop-i.i c.index-trees-i.result
     c.index-others-i.result
     (omega arith) (omega arith) c.index-trees-i.is c.index-others-i.is (search rules)
