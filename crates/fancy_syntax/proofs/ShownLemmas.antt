@@ -1,6 +1,7 @@
 -- What is shown for nodes, one by one.
 use Rattle.std.proofs.Common.{◌≡◌, ℕ, ◌+◌, ◌<◌, Bool, List, [], ◌∷◌, ◌++◌, ap, sym, ◌∙◌}
-use Rattle.std.proofs.Common.{length, take, map, get_or}
+use Rattle.std.proofs.Common.{length, take, map, get_or, set, zero, suc, refl, arith}
+use Rattle.std.specs.Prelude.{insert}
 use Rattle.std.proofs.lemmas.List.{map-append, take_more}
 use Rattle.fancy_grammar.specs.Spans.{Span}
 use Rattle.fancy_syntax.specs.Log.{shown}
@@ -16,3 +17,13 @@ shown_next f named xs i d ys zs lt before next =
     ∙ sym (map-append f (shown named (take i xs)) (shown named (get_or xs i d ∷ [])))
     ∙ ap (map f) (sym (shown_append named (take i xs) (get_or xs i d ∷ []))
     ∙ ap (shown named) (sym (take_more xs i d lt)))
+
+-- ---- a node inserted before the last one
+
+-- it is put in the place of the last, which then follows
+pub inserted_before_last : {A : Type 0} (xs : List A) (i : ℕ) (x y : A) → length xs ≡ i + 1 → y ≡ get_or xs i y →
+    set xs i x ++ y ∷ [] ≡ insert xs i x
+inserted_before_last [] i x y n is = absurd (grind arith)
+inserted_before_last (a ∷ []) zero x y n is = rw is refl
+inserted_before_last (a ∷ b ∷ xs) zero x y n is = absurd (grind arith)
+inserted_before_last (a ∷ xs) (suc i) x y n is = ap (a ∷◌) (inserted_before_last xs i x y (omega (arith, n)) is)

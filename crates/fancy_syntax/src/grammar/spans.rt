@@ -43,6 +43,9 @@ pub(crate) struct Spans {
 /// for the parser's list of trees.
 const NODES: usize = 42;
 
+/// The first capacity of the list of what no node has: more than most patterns have.
+const PARTS: usize = 16;
+
 impl Spans {
     /// The spans before anything is read of a text that begins at the reach.
     pub(crate) fn new(alloc: Global, start: usize) -> Result<Spans, AllocError>
@@ -124,11 +127,25 @@ impl Spans {
         Ok(self.recorded.insert(height, node)?)
     }
 
+    /// Inserts the node of a quantifier before the nodes of the last piece; with `atomic`, that of an atomic group too.
+    #[inline(never)]
+    fn wrap_nodes(&mut self, end: usize, atomic: bool) -> Result<(), AllocError>
+        ensures { OnOk result (log_of self.new ≡ spec.wrapped end atomic (log_of self.old)) }
+    {
+        let Last { start, height } = self.last;
+        let node = Recorded::Node { start, end };
+        if atomic {
+            self.put(height, node)?;
+        }
+        self.put(height, node)
+    }
+
     /// An atom begins there.
     fn open_atom(&mut self, start: usize) -> Result<(), AllocError>
         ensures { OnOk result (log_of self.new ≡ spec.atom_opened start (log_of self.old)) }
     {
-        self.around.push(self.open)?;
+        self.around.reserve(1)?;
+        self.around.push_reserved(self.open);
         self.open.start = start;
         self.open.height = self.recorded.len();
         self.open.passed = self.passed.len();
@@ -203,6 +220,9 @@ impl Spanning for Spans {
     }
 
     fn pass(&mut self, part: RecordedTrivium) -> Result<(), AllocError> {
+        if self.passed.is_empty() {
+            self.passed.reserve(PARTS)?;
+        }
         Ok(self.passed.push(part)?)
     }
 
@@ -235,13 +255,18 @@ impl Spanning for Spans {
         self.recorded.truncate(self.last.height);
     }
 
+    #[inline(always)]
     fn wrap(&mut self, end: usize, atomic: bool) -> Result<(), AllocError> {
         let Last { start, height } = self.last;
-        let node = Recorded::Node { start, end };
-        if atomic {
-            self.put(height, node)?;
+        if atomic || self.recorded.len() != height.saturating_add(1) {
+            return self.wrap_nodes(end, atomic);
         }
-        self.put(height, node)
+        // Usually the operand is a leaf: its node is moved without a call.
+        self.recorded.reserve(1)?;
+        let leaf = self.recorded[height];
+        self.recorded[height] = Recorded::Node { start, end };
+        self.recorded.push_reserved(leaf);
+        Ok(())
     }
 
     fn open(&mut self, start: usize, inside: usize) -> Result<(), AllocError> {
