@@ -88,8 +88,8 @@ fn needs_of(alloc: Global, tree: &Expr, flags: Flags) -> Result<(Vec<Needs>, Nee
     Ok((listed, needs.common))
 }
 
-/// The tree's text. It is written to a string with an initial capacity, which grows from there. The returned string owns
-/// memory only for the text.
+/// The text of the tree, in a string that began with some capacity and grew from there. Its capacity may be twice its
+/// length.
 fn text_of_tree(alloc: Global, tree: &ExprTree, flags: Flags) -> Result<String, AllocError>
     ensures { IfOk result (λ s. text_of s ≡ pattern_text flags (view tree.now.expr) (info_of tree.now)) }
 {
@@ -98,5 +98,5 @@ fn text_of_tree(alloc: Global, tree: &ExprTree, flags: Flags) -> Result<String, 
     let context = Context::at_start(flags, listed.as_slice());
     let mut out = TextOutput::with_capacity(alloc, FIRST_CAPACITY)?;
     put_pattern(&mut out, &names, &tree.expr, agreed, context)?;
-    String::from_str(alloc, out.as_str())
+    Ok(out.into_string())
 }

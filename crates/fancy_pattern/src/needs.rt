@@ -331,6 +331,12 @@ pub(crate) fn are_met_by_leaves(tree: &Expr, flags: &Flags) -> bool
 fn are_met_by_any(tree: &Expr, flags: &Flags) -> bool
     ensures { Decides result (AreMet flags.now (needs_listed flags.now.oniguruma_mode (view tree.now))) }
 {
+    if let Expr::Repeat { child, .. } = tree {
+        return are_met_by_leaves(child, flags);
+    }
+    if let Expr::Group(child) = tree {
+        return are_met_by_leaves(child, flags);
+    }
     if tree.is_leaf_node() {
         return are_met(*flags, leaf_needs(tree, flags.oniguruma_mode));
     }

@@ -25,11 +25,12 @@ impl TextOutput {
         Ok(TextOutput { text })
     }
 
-    /// What was written.
-    pub(crate) fn as_str(&self) -> &str
-        ensures { chars result.now ≡ text_of self.now.text }
+    /// What was written, as a string.
+    pub(crate) fn into_string(self) -> String
+        ensures { result ≡ self.text }
     {
-        self.text.as_str()
+        let TextOutput { text } = self;
+        text
     }
 
     /// Writes a character.

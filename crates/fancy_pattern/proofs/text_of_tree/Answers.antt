@@ -1,11 +1,10 @@
-use Rattle.std.proofs.Common.{◌≡◌, ◌++◌, subst, ap, sym, ◌∙◌, chars, string_bytes}
+use Rattle.std.proofs.Common.{◌++◌, subst, ap, sym, ◌∙◌}
 use Rattle.fancy_grammar.specs.Pattern.{pattern_text}
 use Rattle.fancy_grammar.specs.PatternWalk.{needs_listed}
 use Rattle.fancy_lex.specs.Text.{text_of}
 use Rattle.fancy_syntax.specs.InfoViews.{info_of}
 use Rattle.fancy_syntax.specs.View.{view}
 use Rattle.fancy_pattern.specs.ContextViews.{IsListFor}
-use Rattle.fancy_pattern.proofs.WritesLemmas.{ok_then}
 use Rattle.fancy_pattern.proofs.text_of_tree.Goals as goal
 
 pub returns : goal.returns
@@ -18,6 +17,4 @@ returns c =
     (subst (λ l. IsListFor knows.known f l nodes) (sym c.as_slice.ensures.value) knows.nodes) in
     let written = (c.in_ok-put_pattern.ensures (info_of c.args.tree.now) f knows.known c.in_ok-names.ensures
     knows.leaves at).after in
-    ok_then c.from_str.result (λ s. string_bytes s ≡ c.as_str.result.now)
-    (λ s. text_of s ≡ pattern_text f tree (info_of c.args.tree.now)) c.from_str.ensures.ok
-    (λ s same. ap chars same ∙ c.as_str.ensures ∙ written ∙ ap (λ t. t ++ pattern_text f tree (info_of c.args.tree.now)) c.in_ok-out.ensures)
+    ap text_of c.into_string.ensures ∙ written ∙ ap (λ t. t ++ pattern_text f tree (info_of c.args.tree.now)) c.in_ok-out.ensures

@@ -27,13 +27,13 @@ pub are_met_by_any-returns-in-Concat : goal.are_met_by_any-returns-in-Concat
 are_met_by_any-returns-in-Concat t c =
     let f = c.args.flags.now in
     let o = f.oniguruma_mode in
-    let ts = trees_of (views c.deref.result.now) in
+    let ts = trees_of (views c.deref-in-Concat.result.now) in
     let is : view c.args.tree.now ≡ concat ts = search (rules, the_lemmas) in
     subst (λ x. Decides c.are_met_by_all.result (AreMet f (needs_listed o x))) (sym is)
     (row_decides f o _ label.concat ts c.are_met_by_all.ensures)
 
-pub are_met_by_any-are_met_by_leaves-requires : goal.are_met_by_any-are_met_by_leaves-requires
-are_met_by_any-are_met_by_leaves-requires t c =
+pub are_met_by_any-are_met_by_leaves-requires-in-Some : goal.are_met_by_any-are_met_by_leaves-requires-in-Some
+are_met_by_any-are_met_by_leaves-requires-in-Some t c =
     let tree = c.args.tree.now in
     let child = c.in-Some.child.now in
     let less : levels (view child) < levels (view tree) =
