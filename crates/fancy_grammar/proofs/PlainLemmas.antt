@@ -5,7 +5,7 @@ use Rattle.std.proofs.lemmas.Bool.Decides.{nat_tests}
 use Prim.Native.Char.{code}
 use Rattle.fancy_lex.specs.Comments.{comments, comments_from}
 use Rattle.fancy_lex.specs.Layout.{is_blank}
-use Rattle.fancy_lex.specs.LayoutSteps.{layout, layout_from, is_layout, rest}
+use Rattle.fancy_lex.specs.LayoutSteps.{layout, layout_from, is_layout, after_comment_start, rest}
 use Rattle.fancy_lex.specs.Escape.{escape}
 use Rattle.fancy_lex.specs.Escaped.{Escape}
 use Rattle.fancy_lex.specs.Reading.{gives}
@@ -105,6 +105,37 @@ pub unquantified : (s : State) (c : ℕ) (t : Text) (d left : ℕ) (a : Tree) �
 unquantified s c t d left a e x h =
     subst (λ u. quants d left a (at s u) ≡ done a (at s u)) (sym e)
     (no_quants d left a (at s (c ∷ t)) (λ l. no_quant l c a s t x h))
+
+-- ---- a parenthesis that begins no comment
+
+pub no_layout_at_paren : (x : Bool) (t : Text) → ◌≡◌ {A = _} (after_comment_start (code "(" ∷ t)) None →
+    layout x (code "(" ∷ t) ≡ rest (code "(" ∷ t)
+unfolding layout_from
+no_layout_at_paren false t e = rw e refl
+no_layout_at_paren true t e = rw e refl
+
+pub no_comments_at_paren : (x : Bool) (t : Text) → ◌≡◌ {A = _} (after_comment_start (code "(" ∷ t)) None →
+    comments x (code "(" ∷ t) ≡ []
+unfolding comments_from
+no_comments_at_paren false t e = rw e refl
+no_comments_at_paren true t e = rw e refl
+
+pub no_counts_at_paren : (x : Bool) (t : Text) → ◌≡◌ {A = _} (counts x (code "(" ∷ t)) None
+unfolding counts
+no_counts_at_paren x t = refl
+
+pub no_quant_at_paren : (left : ℕ) (a : Tree) (s : State) (t : Text) →
+    ◌≡◌ {A = _} (after_comment_start (code "(" ∷ t)) None →
+    quant left a (at s (code "(" ∷ t)) ≡ done a (at s (code "(" ∷ t))
+unfolding quant
+no_quant_at_paren left a s t e =
+    rw (no_layout_at_paren s.flags.ignore_space t e, no_counts_at_paren s.flags.ignore_space t) refl
+
+pub unquantified_at_paren : (s : State) (t : Text) (d left : ℕ) (a : Tree) → s.rest ≡ code "(" ∷ t →
+    ◌≡◌ {A = _} (after_comment_start (code "(" ∷ t)) None → quants d left a s ≡ done a s
+unquantified_at_paren s t d left a e h =
+    subst (λ u. quants d left a (at s u) ≡ done a (at s u)) (sym e)
+    (no_quants d left a (at s (code "(" ∷ t)) (λ l. no_quant_at_paren l a s t h))
 
 pub backslash_no_layout : (x : Bool) → is_layout x (code "\\") ≡ false
 backslash_no_layout true = refl

@@ -1,10 +1,10 @@
 -- A plain character is a leaf, and so is an escape. Where no quantifier follows, none is recorded.
-use Rattle.std.proofs.Common.{◌≡◌, ℕ, Bool, true, false, [], ◌∷◌, refl, sym, ap, ◌∙◌, subst, if◌then◌else◌}
+use Rattle.std.proofs.Common.{◌≡◌, ℕ, Bool, true, false, [], ◌∷◌, None, refl, sym, ap, ◌∙◌, subst, if◌then◌else◌}
 use Prim.Native.Char.{code}
 use Rattle.fancy_lex.specs.Escape.{escape}
 use Rattle.fancy_lex.specs.Escaped.{Escape}
 use Rattle.fancy_lex.specs.Escaped as escaped
-use Rattle.fancy_lex.specs.LayoutSteps.{is_layout}
+use Rattle.fancy_lex.specs.LayoutSteps.{is_layout, after_comment_start}
 use Rattle.fancy_lex.specs.Reading.{gives}
 use Rattle.fancy_lex.specs.Text.{Text, bytes}
 use Rattle.fancy_grammar.specs.AtomStart.{atom_start, leaf_node, read}
@@ -17,6 +17,7 @@ use Rattle.fancy_grammar.specs.Tree.{Tree, literal}
 use Rattle.fancy_grammar.proofs.PlainLemmas.{unmoved, not_open, not_paren, no_layout, no_end, is_leaf, no_counts}
 use Rattle.fancy_grammar.proofs.PlainLemmas.{no_quant, no_layout_at_end, no_counts_at_end, no_quant_at_end}
 use Rattle.fancy_grammar.proofs.PlainLemmas.{backslash_no_layout, is_escape, no_comments, no_comments_at_end}
+use Rattle.fancy_grammar.proofs.PlainLemmas.{no_layout_at_paren, no_comments_at_paren, no_counts_at_paren, no_quant_at_paren}
 use Rattle.fancy_syntax.specs.Log.{Log}
 use Rattle.fancy_syntax.specs.Machine.{IsPlainLeaf}
 use Rattle.fancy_syntax.specs.Recording.{quant_recorded, adjacent_recorded, quants_recorded}
@@ -47,6 +48,17 @@ unquantified_recorded_at_end s left a l e =
       no_layout_at_end s.flags.ignore_space,
       no_counts_at_end s.flags.ignore_space,
       no_comments_at_end s.flags.ignore_space,
+    ) (nothing_passed l)))
+
+pub unquantified_recorded_at_paren : (s : State) (t : Text) (left : ℕ) (a : Tree) (l : Log) → s.rest ≡ code "(" ∷ t →
+    ◌≡◌ {A = _} (after_comment_start (code "(" ∷ t)) None → quants_recorded left (done a s) l ≡ l
+unquantified_recorded_at_paren s t left a l e h =
+    subst (λ u. quants_recorded left (done a (at s u)) l ≡ l) (sym e)
+    (none_recorded left a (at s (code "(" ∷ t)) l (λ k. no_quant_at_paren k a s t h)
+    (rw (
+      no_layout_at_paren s.flags.ignore_space t h,
+      no_counts_at_paren s.flags.ignore_space t,
+      no_comments_at_paren s.flags.ignore_space t h,
     ) (nothing_passed l)))
 
 pub unquantified_recorded : (s : State) (c : ℕ) (t : Text) (left : ℕ) (a : Tree) (l : Log) → s.rest ≡ c ∷ t →

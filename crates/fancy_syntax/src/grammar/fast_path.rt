@@ -3,8 +3,10 @@
 //!
 //! `read_step` reads the same leaves to the same trees. So whatever is here can be deleted with its calls, and each result
 //! stays as it is; what each reader saves is in the measurements.
-ghost use Rattle.std.specs.Prelude.{◌≡◌, ◌<◌, ℕ, true, [], ◌∷◌, length, chars, IfSome};
+ghost use Rattle.std.specs.Prelude.{◌≡◌, ◌<◌, ℕ, true, [], ◌∷◌, length, chars, is_some, IfSome};
+ghost use Rattle.fancy_lex.specs.Characters.{code};
 ghost use Rattle.fancy_lex.specs.EscapeViews.{escape_of};
+ghost use Rattle.fancy_lex.specs.LayoutSteps.{after_comment_start};
 ghost use Rattle.fancy_grammar.specs.AtomStart.{leaf_node};
 ghost use Rattle.fancy_syntax.specs.Log.{Log};
 ghost use Rattle.fancy_syntax.specs.Machine.{IsPlainLeaf};
@@ -50,16 +52,19 @@ pub(crate) fn plain_escape<'a, S: Spanning>(current: State<'a>) -> Option<(Escap
 }
 
 /// Whether one look ahead shows that no quantifier follows, and no layout before one.
-#[inline]
+#[inline(always)]
 pub(crate) fn is_unquantified(current: State) -> bool
     ensures quants { result ≡ true → (d left : ℕ) (a : Tree) →
         quants d left a (state current.entry) ≡ done a (state current.entry) }
     ensures spans { result ≡ true → (left : ℕ) (a : Tree) (l : Log) →
         quants_recorded left (done a (state current.entry)) l ≡ l }
 {
-    let Some((c, _)) = next(current.rest) else {
+    let Some((c, rest)) = next(current.rest) else {
         return true;
     };
+    if c == '(' {
+        return !begins_comment(rest);
+    }
     !is_suffix(c) && !is_layout(current.flags.ignore_space, c)
 }
 
@@ -87,4 +92,16 @@ fn is_suffix(c: char) -> bool
     ensures { result ≡ spec.is_suffix c }
 {
     c == '(' || c == '*' || c == '+' || c == '?' || c == '{'
+}
+
+/// Whether the text, which follows a parenthesis, makes it the start of a comment. It is a function of its own: inlined,
+/// it would cost each leaf registers.
+#[inline(never)]
+fn begins_comment(text: &str) -> bool
+    ensures { result ≡ is_some (after_comment_start (code "(" ∷ chars text.now)) }
+{
+    let Some(rest) = after(text, '?') else {
+        return false;
+    };
+    after(rest, '#').is_some()
 }
