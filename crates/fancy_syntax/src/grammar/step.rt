@@ -309,8 +309,33 @@ fn lacks_body(open_group: &OpenGroup, text: &str) -> bool
 }
 
 /// Makes the tree of the contents of the part the tree of the part. Its closing parenthesis begins at the reach `paren`,
-/// and `rest` follows it.
+/// and `rest` follows it. Most parts are groups: this saves each of them the locals of the others.
+#[inline(always)]
 fn node_of_part<S: Spanning>(
+    alloc: Global,
+    open_group: OpenGroup,
+    tree: &mut Expr,
+    paren: usize,
+    rest: &str,
+    spans: &mut S,
+) -> Result<(), AllocError>
+    ensures tree { OnOk result (view tree.new ≡ machine.made_of open_group.entry (view tree.old)) }
+    ensures spans { (l : Log) → S.records spans.old l →
+        OnOk result (S.records spans.new
+        (part_recorded (part_of open_group.entry) (view tree.old) paren (reach_of (chars rest.now)) l)) }
+{
+    match open_group {
+        OpenGroup::Group { kind, reach } => {
+            close_group(&kind, rest, spans)?;
+            enclose(alloc, kind, reach, tree)
+        }
+        other => node_of_any_part(alloc, other, tree, paren, rest, spans),
+    }
+}
+
+/// The same without the shortcut.
+#[inline(never)]
+fn node_of_any_part<S: Spanning>(
     alloc: Global,
     open_group: OpenGroup,
     tree: &mut Expr,
