@@ -88,8 +88,7 @@ fn needs_of(alloc: Global, tree: &Expr, flags: Flags) -> Result<(Vec<Needs>, Nee
     Ok((listed, needs.common))
 }
 
-/// The text of the tree, in a string that began with some capacity and grew from there. Its capacity may be twice its
-/// length.
+/// The text of the tree. The string begins with an initial capacity, grows from there, and is not shrunk.
 fn text_of_tree(alloc: Global, tree: &ExprTree, flags: Flags) -> Result<String, AllocError>
     ensures { IfOk result (λ s. text_of s ≡ pattern_text flags (view tree.now.expr) (info_of tree.now)) }
 {
