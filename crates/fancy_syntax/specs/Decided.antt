@@ -17,7 +17,7 @@ decided_wrap ignore (label.ast_group name reach) =
 decided_wrap ignore w = w
 
 abbrev mutual
-  -- the tree with these nodes
+  -- the tree in which each capturing group that has a number whatever follows is a Group
   pub decided : Bool → Tree → Tree
   decided ignore (leaf l) = leaf l
   decided ignore (over w t) = over (decided_wrap ignore w) (decided ignore t)
@@ -36,7 +36,7 @@ made (code.Capture name) reach t = group t
 made code.Undecided reach t = ast_group None reach t
 made kind reach t = group_node (group_kind kind) reach t
 
--- a group without a name is undecided just under the flag
+-- a capturing group without a name is undecided exactly if the flag is set
 abbrev pub IsDecidedKind : Bool → GroupKind → Type 0
 IsDecidedKind ignore (code.Capture None) = ignore ≡ false
 IsDecidedKind ignore code.Undecided = ignore ≡ true

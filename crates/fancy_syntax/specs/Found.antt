@@ -39,7 +39,7 @@ has_unresolved ignore l = list_any (is_unresolved ignore) l
 abbrev pub openings_found : Found → ℕ
 openings_found f = f.groups.total + f.undecided
 
--- this was found in these items
+-- this was found in these items, with or without the flag that ignores groups without a name
 abbrev pub IsFound : Bool → Found → List Item → Type 0
 IsFound ignore f l =
     (f.ignore ≡ ignore)
@@ -47,6 +47,6 @@ IsFound ignore f l =
     × (f.undecided ≡ length (undecided_in ignore (openings_in l)))
     × (f.unresolved ≡ has_unresolved ignore l)
 
--- with these items after those in which the first was found, the second is found
+-- if the first was found in some items, then the second is found in those items with these after them
 abbrev pub FindsMore : Found → Found → List Item → Type 0
 FindsMore f g is = (ignore : Bool) (l : List Item) → IsFound ignore f l → IsFound ignore g (l ++ is)

@@ -48,6 +48,6 @@ pub mod Log
 pub mod LogViews
 pub mod Recording
 pub mod RecordedWhole
--- ---- the resolver's walks
+-- ---- the resolver's walk
 pub mod Regrouped
 pub mod Records

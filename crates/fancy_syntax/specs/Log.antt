@@ -53,7 +53,7 @@ shown named (Unnamed start end ∷ xs) =
     if named then shown named xs else record { start = start; end = end } ∷ shown named xs
 shown named (Bar b ∷ xs) = shown named xs
 
--- a node inserted after that much, or after all if that is less
+-- an entry inserted after that many others, or after all if there are fewer
 abbrev pub put_at : ℕ → Recorded → List Recorded → List Recorded
 put_at height x xs = insert xs (min height (length xs)) x
 
@@ -215,7 +215,8 @@ abbrev pub others_put : ℕ → ℕ → FirstBar → ℕ → List Recorded → L
 others_put height branches b end xs =
     if nat_lt branches 3 then xs else put_at (height + b.before) (Node b.past end) xs
 
--- the Alt at that height, whose first bar was removed, is replaced by its first branch and the choice among the others
+-- the Alt at that height, whose first bar was removed, is removed, and if several branches follow its first, an Alt of
+-- these is inserted
 abbrev pub alt_split : ℕ → ℕ → FirstBar → Option Recorded → List Recorded → List Recorded
 alt_split height branches b (Some (Node start end)) xs = others_put height branches b end (remove xs height)
 alt_split height branches b _ xs = xs
@@ -224,7 +225,7 @@ abbrev pub bar_split : ℕ → ℕ → Option Recorded → List Recorded → Lis
 bar_split height branches (Some (Bar b)) xs = alt_split height branches b (slice_get xs height) xs
 bar_split height branches _ xs = xs
 
--- the open part is an Alt of that many branches
+-- the body that ends, an Alt of that many branches, is replaced by its first branch and the choice among the others
 abbrev pub body_split : ℕ → Log → Log
 body_split branches l =
     let before = length l.recorded - 1 in

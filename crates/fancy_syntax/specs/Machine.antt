@@ -59,7 +59,7 @@ items_opening (body c left) = items c
 items_opening (second a) = items a
 items_opening _ = []
 
--- the open part is this part, whose trees are decided
+-- the code's open part is this part of the grammar, with its groups decided
 abbrev pub IsPart : Bool → OpenGroup → OpenPart → Type 0
 IsPart i open_group.Top top = Unit {0}
 IsPart i (open_group.Group kind reach) (group h p) = (h ≡ group_kind kind) × (p ≡ reach) × IsDecidedKind i kind
@@ -150,11 +150,12 @@ ended_part p r s =
     if lacks_body p s then failed (body_missing s.rest)
     else closed (node_of_part p r) s
 
--- the tree that the code makes of the open part, and the outcome when the part ends with that of its contents
+-- the tree that the code makes of its open part, from the tree of the contents
 abbrev pub made_of : OpenGroup → Tree → Tree
 made_of (open_group.Group kind reach) r = made kind reach r
 made_of g r = node_of_part (part_of g) r
 
+-- the outcome in the code's trees when its open part ends with the tree r at s
 abbrev pub ended_with : OpenGroup → Tree → State → Outcome Tree
 ended_with g r s = if lacks_body (part_of g) s then failed (body_missing s.rest) else closed (made_of g r) s
 
@@ -250,7 +251,8 @@ pub record Running (start : State) (none : Log) (stack : List Enclosing) (f : Fr
   pub reading : ReadSoFar depth part begin before branches pieces t l
   pub same_items : is ≡ items_before ++ items_in (branches ++ pieces)
 
--- the same for the fields of the parser, whose trees are decided, and which has found its groups in the items
+-- the same for the fields of the parser: its trees are these with their groups decided, and its groups were found in the
+-- items
 pub record HasRead (start : State) (none : Log) (r : Parser) (l : Log) : Type 0 where
   pub is : List Item
   pub trees : List Tree

@@ -43,7 +43,7 @@ pub(crate) struct Parser<'a> {
     pub(crate) stack: Vec<Enclosing<'a>>,
     /// The trees that are in no other tree yet: those of all open groups, one above the other.
     pub(crate) trees: Vec<Expr>,
-    /// What is found of its groups and references.
+    /// What was found of the groups and references in it.
     pub(crate) found: Found,
 }
 
