@@ -7,15 +7,18 @@ use Rattle.std.specs.Str.{chars as the_chars}
 use Rattle.std.proofs.Common.{zero}
 use Rattle.fancy_lex.proofs.ReadingLemmas.{reports_first}
 use Prim.Native.Char.{code}
+use Rattle.fancy_lex.specs.Layout.{Before}
 use Rattle.fancy_lex.specs.LayoutSteps.{layout}
-use Rattle.fancy_lex.specs.Reading.{Reading, gives, layout_reading, Says, Reports}
+use Rattle.fancy_lex.specs.Located.{Located}
+use Rattle.fancy_lex.specs.Reading.{Reading, gives, fails, layout_reading, Reports}
 use Rattle.fancy_lex.specs.Text.{Text, bytes}
 use Rattle.fancy_lex.specs.Flag.{letter}
 use Rattle.fancy_lex.specs.declared.flags.Flag.{Flag}
 use Rattle.fancy_lex.specs.declared.flags.Flag.TheVariants.{Casei, Multi, Dotnl, SwapGreed, IgnoreSpace, Crlf}
 use Rattle.fancy_lex.specs.declared.flags.Flags.{Flags}
 use Rattle.fancy_lex.specs.declared.error.ReadError.{ReadError}
-use Rattle.fancy_lex.specs.declared.error.ReadError.TheVariants.{At, OutOfMemory}
+use Rattle.fancy_parts.specs.FlagReads.{error_of, failed_step}
+use Rattle.fancy_parts.specs.declared.group_starts.letters.LetterError.{LetterError}
 use Rattle.fancy_parts.specs.FlagLetters.{Letters, with_letter, flags_end, flags_go_on}
 use Rattle.fancy_parts.specs.LetterSteps.{step, letters_in, letters}
 
@@ -29,9 +32,9 @@ front_read t w u e =
 pub after_next : (t h : Text) (c : ℕ) (u : Text) → (w : Text) × (t ≡ w ++ h) → h ≡ c ∷ u → (w : Text) × (t ≡ w ++ u)
 after_next t h c u (w, e) f = (w ++ c ∷ [], e ∙ ap (λ x. w ++ x) f ∙ sym (append_assoc w (c ∷ []) u))
 
--- more is read
-pub after_more : (t h v u : Text) → (w : Text) × (t ≡ w ++ h) → h ≡ v ++ u → (w : Text) × (t ≡ w ++ u)
-after_more t h v u (w, e) f = (w ++ v, e ∙ ap (λ x. w ++ x) f ∙ sym (append_assoc w v u))
+-- layout is read
+pub after_layout : (t h : Text) (x : Bool) (u : Text) → (w : Text) × (t ≡ w ++ h) → Before x h u → (w : Text) × (t ≡ w ++ u)
+after_layout t h x u (w, e) b = (w ++ b.w, e ∙ ap (λ x. w ++ x) b.cut ∙ sym (append_assoc w b.w u))
 
 pub two_chars : chars (code "(" ∷ code "?" ∷ []) ≡ code "(" ∷ code "?" ∷ []
 unfolding the_chars
@@ -50,15 +53,14 @@ module _ (t : Text) (clears : Bool) (f : Flags) (u : Text) where
   abbrev before : Reading (Unit {0})
   before = layout_reading (layout f.ignore_space u)
 
-  layout_error : (k : ℕ) (b : ReadError) → Says b before → Reports b (letters_in t (suc k) clears f u)
+  layout_error : (k : ℕ) (p : Located) → before ≡ fails p → letters_in t (suc k) clears f u ≡ fails p
   unfolding letters_in
-  layout_error k (At p d) e = rw e refl
-  layout_error k OutOfMemory e = absurd e
+  layout_error k p e = rw e refl
 
-  letter_error : (k : ℕ) (v : Text) (b : ReadError) → before ≡ gives tt v → Reports b (step t clears f v) →
-      Reports b (letters_in t (suc k) clears f u)
+  letter_error : (k : ℕ) (v : Text) (p : Located) → before ≡ gives tt v → step t clears f v ≡ fails p →
+      letters_in t (suc k) clears f u ≡ fails p
   unfolding letters_in
-  letter_error k v b e h = rw e (reports_first _ _ b h)
+  letter_error k v p e h = rw (e, h) refl
 
   letters_end : (k : ℕ) (v : Text) (l : Letters) (w : Text) → before ≡ gives tt v →
       step t clears f v ≡ gives (flags_end l) w →
@@ -74,20 +76,20 @@ module _ (t : Text) (clears : Bool) (f : Flags) (u : Text) where
 
   -- the same if more than m steps are left
   module _ (k m : ℕ) (some : m < k) where
-    pub in_layout_error : (b : ReadError) → Says b before → Reports b (letters_in t k clears f u)
-    in_layout_error b e = by_steps k some
+    pub in_layout_error : (p : Located) → before ≡ fails p → letters_in t k clears f u ≡ fails p
+    in_layout_error p e = by_steps k some
       where
-        by_steps : (k : ℕ) → m < k → Reports b (letters_in t k clears f u)
+        by_steps : (k : ℕ) → m < k → letters_in t k clears f u ≡ fails p
         by_steps zero h = absurd (omega arith)
-        by_steps (suc k) h = layout_error k b e
+        by_steps (suc k) h = layout_error k p e
 
     module _ (v : Text) (e : before ≡ gives tt v) where
-      pub in_letter_error : (b : ReadError) → Reports b (step t clears f v) → Reports b (letters_in t k clears f u)
-      in_letter_error b i = by_steps k some
+      pub in_letter_error : (p : Located) → step t clears f v ≡ fails p → letters_in t k clears f u ≡ fails p
+      in_letter_error p i = by_steps k some
         where
-          by_steps : (k : ℕ) → m < k → Reports b (letters_in t k clears f u)
+          by_steps : (k : ℕ) → m < k → letters_in t k clears f u ≡ fails p
           by_steps zero h = absurd (omega arith)
-          by_steps (suc k) h = letter_error k v b e i
+          by_steps (suc k) h = letter_error k v p e i
 
       pub in_end : (l : Letters) (w : Text) → step t clears f v ≡ gives (flags_end l) w →
           letters_in t k clears f u ≡ gives l w
@@ -108,3 +110,8 @@ module _ (t : Text) (clears : Bool) (f : Flags) (u : Text) where
 pub letters_start : (f : Flags) (t : Text) → letters f t ≡ letters_in t (suc (bytes t)) false f t
 unfolding letters
 letters_start f t = refl
+
+-- the error of the letters, with its text
+pub letters_failed : (f : Flags) (t : Text) (e : LetterError) (b : ReadError) → letters f t ≡ fails (error_of t e) →
+    Reports b (failed_step t e) → Reports b (letters f t)
+letters_failed f t e b h r = rw h (reports_first (failed_step t e) (λ _ u. letters f u) b r)

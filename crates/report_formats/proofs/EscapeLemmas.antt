@@ -1,5 +1,5 @@
 -- Texts that are escaped have no line end.
-use Rattle.std.proofs.Common.{◌≡◌, ◌++◌, ◌==◌, ◌&&◌, not, if◌then◌else◌, ℕ, Bool, true, false, List, [], ◌∷◌, codes, refl, ap, append-nil, ◌∙◌}
+use Rattle.std.proofs.Common.{◌≡◌, ◌++◌, ◌==◌, ◌&&◌, if◌then◌else◌, ℕ, Bool, true, false, [], ◌∷◌, codes, refl, ap, append-nil, ◌∙◌}
 use Rattle.std.proofs.lemmas.List.Concat.{flat_map-append, flat_map-cons}
 use Rattle.std.proofs.lemmas.List.Folds.{list_all-append}
 use Prim.Native.Char.{code}

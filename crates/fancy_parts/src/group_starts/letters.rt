@@ -1,18 +1,18 @@
 //! The letters of inline flags and of flag groups.
 ghost use Rattle.std.specs.Prelude.{◌≡◌, ℕ, ◌+◌, ◌<◌, ◌++◌, ◌∷◌, length, chars, codes, ◌||◌, IfErr, IfOk};
-ghost use Rattle.std.specs.Prelude.{IfSome, option_map};
-ghost use Rattle.fancy_lex.specs.Reading.{Reading, Returns, Reports, Derives};
+ghost use Rattle.std.specs.Prelude.{IfSome, MatchResult, option_map};
+ghost use Rattle.fancy_lex.specs.Reading.{Reading, Returns, Reports, Derives, gives, fails};
 ghost use Rattle.fancy_lex.specs.Text.{Text, EndsWith, text_of};
 ghost use Rattle.fancy_lex.specs.ErrorViews.{LiesWithin};
 ghost use Rattle.fancy_parts.specs.FlagLetters as spec;
 ghost use Rattle.fancy_parts.specs.LetterSteps as steps;
-ghost use Rattle.fancy_parts.specs.FlagReads.{letters_of, step_of};
+ghost use Rattle.fancy_parts.specs.FlagReads.{letters_of, step_of, error_of, failed_step, IsErrorIn};
 ghost use Rattle.fancy_parts.specs.NextLetter as parsed;
 
 use fancy_lex::error::{ParseError, ReadError};
 use fancy_lex::flags::{Flag, Flags};
-use fancy_lex::layout::{past_layout, skip};
-use fancy_lex::text::{AT_END, after, front, next};
+use fancy_lex::layout::{layout, past_layout};
+use fancy_lex::text::{AT_END, Reach, after, front, next};
 use std::alloc::{AllocError, Global};
 
 /// Whether the letters are inline flags or those of a flag group, with the flags that they make.
@@ -30,6 +30,18 @@ pub enum Letters {
 enum LetterStep {
     Ends(Letters),
     GoesOn { clears: bool, flags: Flags },
+}
+
+/// Why the letters cannot be parsed. It owns nothing: the error of the pattern, which may own a text, is made of it after
+/// the letters are read.
+#[derive(Clone, Copy)]
+enum LetterError<'a> {
+    /// The character before this text is no flag letter.
+    NoFlag(&'a str),
+    /// The `u` at the front of this text would change the Unicode flag.
+    ModeChanged(&'a str),
+    /// The text ends, or a comment is not closed: the reach of the error.
+    Unclosed(Reach),
 }
 
 /// The flags with the letter's flag set or cleared; None if the letter is no flag.
@@ -72,6 +84,21 @@ fn unknown_flag(alloc: Global, letters: &str, rest: &str) -> ReadError
     }
 }
 
+/// The error of the pattern. It is a function of its own: inlined, it would cost each letter registers.
+#[inline(never)]
+fn error_of(alloc: Global, letters: &str, error: LetterError) -> ReadError
+    requires { IsErrorIn (chars letters.now) error }
+    ensures { Reports result (failed_step (chars letters.now) error.entry) }
+{
+    match error {
+        LetterError::NoFlag(rest) => unknown_flag(alloc, letters, rest),
+        LetterError::ModeChanged(text) => {
+            ReadError::at(text, ParseError::ChangingUnicodeModeUnsupported)
+        }
+        LetterError::Unclosed(reach) => ReadError::At(reach, ParseError::UnclosedOpenParen),
+    }
+}
+
 /// Whether `current` is where the letters begin.
 #[tactic(auto, using(fancy_lex::proofs::TextLemmas::bytes_chars))]
 fn is_first(letters: &str, current: &str) -> bool
@@ -98,35 +125,37 @@ fn has_no_letter(letters: &str, clears: bool, current: &str) -> bool
 
 /// Reads the character at `current`: a flag letter, a minus, or the parenthesis or the colon that ends the letters.
 fn flag_letter<'a>(
-    alloc: Global,
     letters: &str,
     clears: bool,
     flags: Flags,
     current: &'a str,
-) -> Result<(LetterStep, &'a str), ReadError>
+) -> Result<(LetterStep, &'a str), LetterError<'a>>
     requires { (w : Text) × (chars letters.now ≡ w ++ chars current.now) }
-    ensures value { Returns step_of result (steps.step (chars letters.now) clears flags (chars current.now)) }
+    ensures value { MatchResult result
+        (λ p. steps.step (chars letters.now) clears flags (chars current.now) ≡ gives (step_of p.0) (chars p.1.now))
+        (λ e. steps.step (chars letters.now) clears flags (chars current.now) ≡ fails (error_of (chars letters.now) e)) }
+    ensures error_in { IfErr result (λ e. IsErrorIn (chars letters.now) e) }
     ensures one_on { IfOk result (λ p. (c : ℕ) × (chars current.now ≡ c ∷ chars p.1.now)) }
     ensures shorter { IfOk result (λ p. length p.1.now < length current.now) }
 {
     let Some((letter, rest)) = next(current) else {
-        return Err(ReadError::At(AT_END, ParseError::UnclosedOpenParen));
+        return Err(LetterError::Unclosed(AT_END));
     };
     if letter == ')' {
         if has_no_letter(letters, clears, current) {
-            return Err(unknown_flag(alloc, letters, rest));
+            return Err(LetterError::NoFlag(rest));
         }
         return Ok((LetterStep::Ends(Letters::InlineFlags(flags)), rest));
     }
     if letter == ':' {
         if is_after_minus(letters, clears, current) {
-            return Err(unknown_flag(alloc, letters, rest));
+            return Err(LetterError::NoFlag(rest));
         }
         return Ok((LetterStep::Ends(Letters::FlagGroup(flags)), rest));
     }
     if letter == '-' {
         if clears {
-            return Err(unknown_flag(alloc, letters, rest));
+            return Err(LetterError::NoFlag(rest));
         }
         return Ok((
             LetterStep::GoesOn {
@@ -138,27 +167,33 @@ fn flag_letter<'a>(
     }
     if letter == 'u' {
         if clears == flags.unicode {
-            return Err(ReadError::at(current, ParseError::ChangingUnicodeModeUnsupported));
+            return Err(LetterError::ModeChanged(current));
         }
         return Ok((LetterStep::GoesOn { clears, flags }, rest));
     }
     match with_letter(flags, !clears, letter) {
         Some(flags) => Ok((LetterStep::GoesOn { clears, flags }, rest)),
-        None => Err(unknown_flag(alloc, letters, rest)),
+        None => Err(LetterError::NoFlag(rest)),
     }
 }
 
-/// Reads the letters one after another.
-fn read_letters(alloc: Global, text: &str, flags: Flags) -> Result<(Letters, &str), ReadError>
-    ensures value { Returns letters_of result (steps.letters flags (chars text.now)) }
+/// Reads the letters one after another, without the text of an error.
+fn letters_or_error(text: &str, flags: Flags) -> Result<(Letters, &str), LetterError<'_>>
+    ensures value { MatchResult result
+        (λ p. steps.letters flags (chars text.now) ≡ gives (letters_of p.0) (chars p.1.now))
+        (λ e. steps.letters flags (chars text.now) ≡ fails (error_of (chars text.now) e)) }
+    ensures error_in { IfErr result (λ e. IsErrorIn (chars text.now) e) }
     ensures shorter { IfOk result (λ p. length p.1.now < length text.now) }
 {
     let mut clears = false;
     let mut flags = flags;
     let mut rest = text;
     loop {
-        let current = skip(rest, flags.ignore_space)?;
-        let (step, after) = flag_letter(alloc, text, clears, flags, current)?;
+        let current = match layout(rest, flags.ignore_space) {
+            Ok(current) => current,
+            Err(reach) => return Err(LetterError::Unclosed(reach)),
+        };
+        let (step, after) = flag_letter(text, clears, flags, current)?;
         match step {
             LetterStep::Ends(letters) => return Ok((letters, after)),
             LetterStep::GoesOn {
@@ -170,6 +205,17 @@ fn read_letters(alloc: Global, text: &str, flags: Flags) -> Result<(Letters, &st
                 rest = after;
             }
         }
+    }
+}
+
+/// Reads the letters, or their error with its text.
+fn read_letters(alloc: Global, text: &str, flags: Flags) -> Result<(Letters, &str), ReadError>
+    ensures value { Returns letters_of result (steps.letters flags (chars text.now)) }
+    ensures shorter { IfOk result (λ p. length p.1.now < length text.now) }
+{
+    match letters_or_error(text, flags) {
+        Ok(letters) => Ok(letters),
+        Err(error) => Err(error_of(alloc, text, error)),
     }
 }
 

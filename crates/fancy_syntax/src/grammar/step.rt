@@ -405,7 +405,11 @@ fn close_group<S: Spanning>(kind: &GroupKind, rest: &str, spans: &mut S) -> Resu
             spans.pass(closing_before(rest, true))?;
             spans.close(end, true)
         }
-        _ => spans.close(end, false),
+        GroupKind::Capture(Some(_))
+        | GroupKind::Look(_)
+        | GroupKind::Atomic
+        | GroupKind::Define
+        | GroupKind::Repeater => spans.close(end, false),
     }
 }
 

@@ -1,16 +1,14 @@
 use Rattle.fancy_parts.proofs.FlagLemmas.{after_next}
 use Rattle.fancy_parts.proofs.group_starts.letters.flag_letter.Goals as goal
 
-pub unknown_flag-requires : goal.unknown_flag-requires
-unknown_flag-requires c = after_next _ _ _ _ c.requires c.in-Some.ensures.value
+pub returns-then-has_no_letter-clause-error_in : goal.returns-then-has_no_letter-clause-error_in
+returns-then-has_no_letter-clause-error_in c = after_next _ _ _ _ c.requires c.in-Some.ensures.value
 
-pub unknown_flag-requires-then-is_after_minus :
-    goal.unknown_flag-requires-then-is_after_minus
-unknown_flag-requires-then-is_after_minus c =
-    after_next _ _ _ _ c.requires c.in-Some.ensures.value
+pub returns-then-is_after_minus-clause-error_in : goal.returns-then-is_after_minus-clause-error_in
+returns-then-is_after_minus-clause-error_in c = after_next _ _ _ _ c.requires c.in-Some.ensures.value
 
-pub unknown_flag-requires-then-clears : goal.unknown_flag-requires-then-clears
-unknown_flag-requires-then-clears c = after_next _ _ _ _ c.requires c.in-Some.ensures.value
+pub returns-then-clears-clause-error_in : goal.returns-then-clears-clause-error_in
+returns-then-clears-clause-error_in c = after_next _ _ _ _ c.requires c.in-Some.ensures.value
 
-pub unknown_flag-requires-in-None : goal.unknown_flag-requires-in-None
-unknown_flag-requires-in-None c = after_next _ _ _ _ c.requires c.in-Some.ensures.value
+pub returns-in-None-clause-error_in : goal.returns-in-None-clause-error_in
+returns-in-None-clause-error_in c = after_next _ _ _ _ c.requires c.in-Some.ensures.value

@@ -3,7 +3,7 @@ use denote.Text.{Utf8}
 use denote.Shadow.{shadow}
 use Rattle.fancy_lex.specs.Text.{Text}
 use Rattle.fancy_parts.specs.LetterSteps as spec
-use Rattle.fancy_parts.proofs.group_starts.letters.read_letters.Given as goal
+use Rattle.fancy_parts.proofs.group_starts.letters.letters_or_error.Given as goal
 
 abbrev pub invariant-loop-current : goal.invariant-loop-current
 invariant-loop-current l = record {
