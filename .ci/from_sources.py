@@ -10,9 +10,8 @@ import tempfile
 
 HAS_YAML = importlib.util.find_spec("yaml") is not None
 
-ALL = "those of the lines and columns"
-
-# A source, and its records: line, column, pattern, flags, and the lists that are written.
+# A source, and its records: line, column, pattern, flags, and the lists that are written. In the place of where a literal
+# begins and ends is its text.
 SOURCES = {
     "strings.py": (
         b"""\xef\xbb\xbfimport re, regex as rx
@@ -26,21 +25,21 @@ b
 ''', text)
 """,
         [
-            (3, 14, "a\\d(", "imu", {"columns": [14, 15, 16, 17, 18], "offsets": ALL}),
+            (3, 14, "a\\d(", "imu", {"columns": [14, 15, 16, 17, 18], "literals": ['r"a\\d("']}),
             (
                 4, 9, "a\tA\u00e9\u2022A\\q", "-",
                 {
                     "columns": [9, 10, 12, 16, 22, 32, 36, 37, 38],
-                    "offsets": ALL,
+                    "literals": [r"'a\t\x41\u00e9\N{BULLET}\101\q'"],
                 },
             ),
             (
                 5, 7, "\u00e9b", "xu",
-                {"lines": [5, 6, 6], "columns": [7, 7, 8], "offsets": ALL},
+                {"lines": [5, 6, 6], "columns": [7, 7, 8], "literals": ['"\u00e9"', "'b'"]},
             ),
             (
                 7, 13, "ab\n", "u",
-                {"lines": [7, 8, 8, 9], "columns": [13, 1, 2, 1], "offsets": ALL},
+                {"lines": [7, 8, 8, 9], "columns": [13, 1, 2, 1], "literals": ["'''a\\\nb\n'''"]},
             ),
         ],
     ),
@@ -55,11 +54,11 @@ r.search("e", *more)
 r.compile(name); r.compile(f"{name}"); r.escape("f"); other.compile("g"); r.compile(b"\\xff"); r.compile()
 """,
         [
-            (3, 21, "a", "u", {"columns": [21, 22], "offsets": ALL}),
-            (4, 10, "b", "su", {"columns": [10, 11], "offsets": ALL}),
-            (5, 8, "c", None, {"columns": [8, 9], "offsets": ALL}),
-            (6, 13, "d\\", "-", {"columns": [13, 14, 16], "offsets": ALL}),
-            (7, 11, "e", None, {"columns": [11, 12], "offsets": ALL}),
+            (3, 21, "a", "u", {"columns": [21, 22], "literals": ['r"a"']}),
+            (4, 10, "b", "su", {"columns": [10, 11], "literals": ['"b"']}),
+            (5, 8, "c", None, {"columns": [8, 9], "literals": ["'c'"]}),
+            (6, 13, "d\\", "-", {"columns": [13, 14, 16], "literals": ['b"d\\\\"']}),
+            (7, 11, "e", None, {"columns": [11, 12], "literals": ['"e"']}),
         ],
     ),
     "latin.py": (
@@ -68,7 +67,7 @@ r.compile(name); r.compile(f"{name}"); r.escape("f"); other.compile("g"); r.comp
     ),
     "ends.py": (
         b"import re\r\nre.compile('''a\r\nb''')\r\n",
-        [(2, 15, "a\nb", "u", {"lines": [2, 2, 3, 3], "columns": [15, 16, 1, 2], "offsets": ALL})],
+        [(2, 15, "a\nb", "u", {"lines": [2, 2, 3, 3], "columns": [15, 16, 1, 2], "literals": ["'''a\r\nb'''"]})],
     ),
     "strings.rs": (
         b"""// Regex::new("a")
@@ -81,15 +80,15 @@ RegexBuilder::new("g",).case_insensitive(true).size_limit(10 << 20).unicode(fals
 Regex::new(&name); Regex::new(concat!("h"));
 """,
         [
-            (2, 49, 'b"\\d', "u", {"columns": [49, 50, 51, 52, 53], "offsets": ALL}),
+            (2, 49, 'b"\\d', "u", {"columns": [49, 50, 51, 52, 53], "literals": ['r#"b"\\d"#']}),
             (
                 5, 4, "e\u00e9\\Af", "u",
                 {
                     "lines": [5, 5, 5, 5, 6, 6], "columns": [4, 5, 11, 13, 5, 6],
-                    "offsets": ALL,
+                    "literals": ['"e\\u{e9}\\\\\\x41\\\n    f"'],
                 },
             ),
-            (7, 20, "g", "im", {"columns": [20, 21], "offsets": ALL}),
+            (7, 20, "g", "im", {"columns": [20, 21], "literals": ['"g"']}),
         ],
     ),
     "comments.json": (
@@ -101,9 +100,9 @@ Regex::new(&name); Regex::new(concat!("h"));
         [
             (
                 2, 13, 'b"\\d\u00e9\U0001f600', None,
-                {"columns": [13, 14, 16, 18, 19, 25, 37], "offsets": ALL},
+                {"columns": [13, 14, 16, 18, 19, 25, 37], "literals": [r'"b\"\\d\u00e9\ud83d\ude00"']},
             ),
-            (3, 50, "", None, {"columns": [50], "offsets": ALL}),
+            (3, 50, "", None, {"columns": [50], "literals": ['""']}),
         ],
     ),
     "grammar.tmLanguage": (
@@ -118,9 +117,9 @@ Regex::new(&name); Regex::new(concat!("h"));
         [
             (
                 3, 26, "a<\u00e9\nA", None,
-                {"lines": [3, 3, 3, 3, 4, 4], "columns": [26, 27, 31, 32, 1, 6], "offsets": ALL},
+                {"lines": [3, 3, 3, 3, 4, 4], "columns": [26, 27, 31, 32, 1, 6], "literals": ["a&lt;\u00e9\n&#65;"]},
             ),
-            (5, 35, "<c>d", None, {"columns": [35, 36, 37, 41, 42], "offsets": ALL}),
+            (5, 35, "<c>d", None, {"columns": [35, 36, 37, 41, 42], "literals": ["<![CDATA[<c>]]>d"]}),
         ],
     ),
     "syntax.sublime-syntax": (
@@ -140,14 +139,14 @@ contexts:
 """,
         [
             (6, 15, "[a-z]+'(", None, {"columns": [15, 15, 15, 15, 15, 15, 21, 23, 24]}),
-            (7, 15, "a\\d(", None, {"columns": [15, 16, 17, 18, 19], "offsets": ALL}),
-            (8, 15, 'b\\"c', None, {"columns": [15, 16, 18, 20, 21], "offsets": ALL}),
-            (9, 26, "A", None, {}),
+            (7, 15, "a\\d(", None, {"columns": [15, 16, 17, 18, 19], "literals": ["a\\d("]}),
+            (8, 15, 'b\\"c', None, {"columns": [15, 16, 18, 20, 21], "literals": [r'"b\\\"c"']}),
+            (9, 26, "A", None, {"literals": [r'"\x41"']}),
             (
                 11, 9, "(?x)\n  \u00e9\n", None,
                 {
                     "lines": [11, 11, 11, 11, 11, 12, 12, 12, 12, 13], "columns": [9, 10, 11, 12, 13, 9, 10, 11, 12, 1],
-                    "offsets": ALL,
+                    "literals": ["|\n        (?x)\n          \u00e9\n"],
                 },
             ),
         ],
@@ -186,22 +185,24 @@ def extract(folder, *words, variables=()):
     return subprocess.run(command, cwd=folder, env=environment, capture_output=True, text=True, check=False)
 
 
-def offset(content, line, column):
-    """The byte offset of the column of the line, in UTF-8."""
-    rows = content.removeprefix(b"\xef\xbb\xbf").split(b"\n")
-    before = len(content) - len(b"\n".join(rows)) + sum(len(row) + 1 for row in rows[: line - 1])
-    return before + len((rows[line - 1] + b"\n").decode()[: column - 1].encode())
+SYNTAXES = {".py": "python", ".rs": "rust", ".json": "json", ".tmLanguage": "xml", ".sublime-syntax": "yaml"}
 
 
-def record(file, content, line, column, pattern, flags, lists):
+def record(file, line, column, pattern, flags, lists):
     found = {"file": file, "line": line, "column": column, "pattern": pattern}
     if flags is not None:
         found["flags"] = flags
     found.update(lists or {})
-    if "offsets" in found:
-        columns = found["columns"]
-        found["offsets"] = [offset(content, *it) for it in zip(found.get("lines", [line] * len(columns)), columns)]
+    if "literals" in found:
+        found["syntax"] = SYNTAXES[os.path.splitext(file)[1]]
     return found
+
+
+def with_texts(content, found):
+    """The record with the texts of its literals."""
+    ends = found.get("literals", [])
+    texts = [content[start:end].decode() for start, end in zip(ends[::2], ends[1::2])]
+    return {**found, "literals": texts} if ends else found
 
 
 def is_yaml(name):
@@ -228,8 +229,9 @@ def check_sources(folder):
         compare(name, (got.returncode, got.stderr), (0, ""))
         records = [json.loads(line) for line in got.stdout.splitlines()]
         if name == "keys.yaml":
-            records = [{key: it[key] for key in ("file", "line", "column", "pattern")} for it in records]
-        compare(name, records, [record(name, content, *it) for it in wanted])
+            records = [{key: it[key] for key in ("file", "line", "column", "pattern", "syntax")} for it in records]
+            wanted = [(*it[:4], {"syntax": "yaml-flow"}) for it in wanted]
+        compare(name, [with_texts(content, it) for it in records], [record(name, *it) for it in wanted])
 
 
 def check_faults(folder):

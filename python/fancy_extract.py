@@ -90,8 +90,9 @@ class Found:
     pattern: str
     start: int  #: the index of its first character in the source
     indexes: Optional[Sequence[int]] = None  #: that of each of its characters and of its end, if they are known
-    is_exact: bool = True  #: whether each character of the pattern is written where the indexes say
     flags: Optional[str] = None  #: the letters of its flags, or "-"; None if they are not known
+    syntax: Optional[str] = None  #: what its literals are written in; None if they are not known
+    literals: Sequence[Tuple[int, int]] = ()  #: the indexes at which each of them begins and ends
 
     def record(self, file: str, source: Source) -> Dict[str, Any]:
         """The record of the pattern."""
@@ -104,8 +105,9 @@ class Found:
             if any(position[0] != line for position in positions):
                 record["lines"] = [position[0] for position in positions]
             record["columns"] = [position[1] for position in positions]
-            if self.is_exact and source.is_utf8:
-                record["offsets"] = [source.offset(index) for index in self.indexes]
+        if self.syntax is not None and source.is_utf8:
+            record["syntax"] = self.syntax
+            record["literals"] = [source.offset(index) for literal in self.literals for index in literal]
         return record
 
 
@@ -133,10 +135,18 @@ class _Text:
             self.add("\n" if is_pair or source[index] == "\r" else source[index], index)
             index += 2 if is_pair else 1
 
-    def found(self, value: str, start: int, end: int, flags: Optional[str] = None) -> Found:
+    def found(
+        self,
+        value: str,
+        start: int,
+        end: int,
+        flags: Optional[str] = None,
+        syntax: Optional[str] = None,
+        literals: Sequence[Tuple[int, int]] = (),
+    ) -> Found:
         """The pattern with this value, between the indexes. If the text is another, its characters are not known."""
         is_known = "".join(self.characters) == value
-        return Found(value, start, [*self.indexes, end] if is_known else None, True, flags)
+        return Found(value, start, [*self.indexes, end] if is_known else None, flags, syntax, literals)
 
 
 # ---- Python
@@ -203,15 +213,17 @@ def _python_literal(source: Source, node: ast.Constant, flags: Optional[str]) ->
     at = source.index(node.lineno, node.col_offset)
     end = source.index(node.end_lineno or node.lineno, node.end_col_offset or 0)
     value = node.value if isinstance(node.value, str) else node.value.decode("ascii")
-    literal, text = _PYTHON_LITERAL.match(source.text, at), _Text()
+    literal, text, literals = _PYTHON_LITERAL.match(source.text, at), _Text(), []
     start = stop = literal.end() if literal else at
     try:
         while at < end:
+            begin = at
             stop, at = _python_string(source.text, at, text)
+            literals.append((begin, at))
             at = _PYTHON_GAP.match(source.text, at).end()  # type: ignore[union-attr]
     except (ValueError, KeyError, IndexError):
         return Found(value, start, flags=flags)
-    return text.found(value, start, stop, flags)
+    return text.found(value, start, stop, flags, "python", literals)
 
 
 class _Names:
@@ -371,7 +383,8 @@ def find_in_rust(content: bytes, _keys: Set[str]) -> Tuple[Source, List[Found]]:
             is_raw = token["raw"] is not None
             text, end, at = _rust_raw(source.text, at, token["hashes"]) if is_raw else _rust_string(source.text, at)
             if token.start() == argument:
-                found.append(text.found("".join(text.characters), start, end, _rust_flags(source.text, at)))
+                flags, literals = _rust_flags(source.text, at), [(token.start(), at)]
+                found.append(text.found("".join(text.characters), start, end, flags, "rust", literals))
 
 
 # ---- JSON with comments
@@ -391,7 +404,8 @@ def _json_string(token: str, start: int) -> Found:
     text = _Text()
     for part in _JSON_PART.finditer(token, 1, len(token) - 1):
         text.add(json.loads(f'"{part[0]}"', strict=False), start + part.start())
-    return text.found(json.loads(token, strict=False), start + 1, start + len(token) - 1)
+    end = start + len(token)
+    return text.found(json.loads(token, strict=False), start + 1, end - 1, None, "json", [(start, end)])
 
 
 def find_in_json(content: bytes, keys: Set[str]) -> Tuple[Source, List[Found]]:
@@ -425,6 +439,7 @@ class _PropertyList:
         self.found: List[Found] = []
         self.key = ""
         self.text: Optional[_Text] = None
+        self.begin = 0  #: the index after the start tag of the element
         self.parser = xml.parsers.expat.ParserCreate()
         self.parser.buffer_text = False
         self.parser.StartElementHandler = self.start
@@ -438,6 +453,7 @@ class _PropertyList:
 
     def start(self, name: str, _attributes: Dict[str, str]) -> None:
         self.text = _Text() if name in ("key", "string") else None
+        self.begin = self.source.text.find(">", self.at()) + 1
         if self.text is None:
             # what an array has is under no key
             self.key = ""
@@ -457,7 +473,10 @@ class _PropertyList:
         if name == "string" and text is not None and self.key in self.keys:
             end = self.at()
             start = text.indexes[0] if text.indexes else end
-            self.found.append(text.found("".join(text.characters), start, end))
+            # an element without an end tag has no contents
+            syntax = "xml" if self.source.text.startswith("</", end) else None
+            value = "".join(text.characters)
+            self.found.append(text.found(value, start, end, None, syntax, [(self.begin, end)]))
         self.key = ""
 
 
@@ -512,13 +531,24 @@ def _yaml_text(source: str, node: Any) -> Tuple[_Text, int]:
     return text, start
 
 
-def _yaml_found(source: Source, node: Any, variables: Dict[str, str]) -> Found:
+def _yaml_syntax(source: str, node: Any, is_flow: bool) -> Optional[str]:
+    """What the scalar is written in; None if it is folded, or has a tag or an anchor."""
+    start = "" if node.style is None else node.style
+    if start == ">" or not source.startswith(start, node.start_mark.index):
+        return None
+    if not start and source.startswith(("!", "&"), node.start_mark.index):
+        return None
+    return "yaml-flow" if is_flow else "yaml"
+
+
+def _yaml_found(source: Source, node: Any, variables: Dict[str, str], syntax: Optional[str]) -> Found:
     """The pattern of a scalar, in which the variables of a syntax of Sublime are replaced."""
     text, end = _yaml_text(source.text, node)
     start = node.start_mark.index + (1 if node.style in ("'", '"') else 0)
     if node.style == "|" and text.indexes:
         start = text.indexes[0]
-    plain = text.found(node.value, start, end)
+    literals = [(node.start_mark.index, node.end_mark.index)]
+    plain = text.found(node.value, start, end, None, syntax, literals)
     if not any(name in variables for name in _VARIABLE.findall(node.value)):
         return plain
     replaced = _replaced(node.value, variables)
@@ -527,7 +557,7 @@ def _yaml_found(source: Source, node: Any, variables: Dict[str, str]) -> Found:
     whole = _Text()
     for part, at in replaced:
         whole.add(part, plain.indexes[at])
-    return Found("".join(whole.characters), start, [*whole.indexes, end], is_exact=False)
+    return Found("".join(whole.characters), start, [*whole.indexes, end])
 
 
 def _replaced(pattern: str, variables: Dict[str, str], depth: int = 0) -> List[Tuple[str, int]]:
@@ -566,19 +596,25 @@ def find_in_yaml(content: bytes, keys: Set[str]) -> Tuple[Source, List[Found]]:
         raise ExtractError(message, *((mark.line + 1, mark.column + 1) if mark else ())) from error
     except (yaml.YAMLError, RecursionError) as error:
         raise ExtractError("the file is not valid YAML") from error
-    variables = _yaml_variables(root, yaml)
-    ahead, seen = [root], set()
+    variables, scalars, uses = _yaml_variables(root, yaml), [], {}
+    ahead, seen = [(root, False)], set()
     while ahead:
-        node = ahead.pop()
+        node, is_flow = ahead.pop()
+        uses[id(node)] = uses.get(id(node), 0) + 1
         if id(node) in seen:
             continue
         seen.add(id(node))
+        is_flow = is_flow or bool(getattr(node, "flow_style", False))
         if isinstance(node, yaml.SequenceNode):
-            ahead.extend(node.value)
+            ahead.extend((value, is_flow) for value in node.value)
         for key, value in node.value if isinstance(node, yaml.MappingNode) else ():
-            ahead.append(value)
+            ahead.append((value, is_flow))
             if key.value in keys and isinstance(value, yaml.ScalarNode) and value.tag == "tag:yaml.org,2002:str":
-                found.append(_yaml_found(source, value, variables))
+                scalars.append((value, is_flow))
+    for node, is_flow in scalars:
+        # a scalar that several aliases name is not one pattern's alone
+        syntax = _yaml_syntax(source.text, node, is_flow) if uses[id(node)] == 1 else None
+        found.append(_yaml_found(source, node, variables, syntax))
     return source, found
 
 

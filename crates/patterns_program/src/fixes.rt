@@ -1,6 +1,5 @@
 //! Patterns that are changed in their files: their reports are fixed, or they are formatted.
 pub(crate) mod pattern;
-pub(crate) mod source;
 pub(crate) mod spelling;
 
 /// What is done with patterns that change.

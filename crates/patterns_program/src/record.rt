@@ -3,6 +3,8 @@ use crate::source_positions::SourcePositions;
 use crate::values::trail::Tokens;
 use fre_program::flag_word::{FLAG_WORD, flags_named};
 use json::{Scratch, Token};
+use pattern_files::source_change::{LiteralSpan, Spelling};
+use pattern_files::source_syntax::SourceSyntax;
 use patterns_text::position::FilePosition;
 use std::alloc::{AllocError, Global};
 use std::fmt;
@@ -18,7 +20,8 @@ enum Member {
     Column,
     Columns,
     Lines,
-    Offsets,
+    Syntax,
+    Literals,
 }
 
 impl Member {
@@ -32,7 +35,8 @@ impl Member {
             "column" => Some(Member::Column),
             "columns" => Some(Member::Columns),
             "lines" => Some(Member::Lines),
-            "offsets" => Some(Member::Offsets),
+            "syntax" => Some(Member::Syntax),
+            "literals" => Some(Member::Literals),
             _ => None,
         }
     }
@@ -46,17 +50,18 @@ impl Member {
             Member::Column => "column",
             Member::Columns => "columns",
             Member::Lines => "lines",
-            Member::Offsets => "offsets",
+            Member::Syntax => "syntax",
+            Member::Literals => "literals",
         }
     }
 
     /// What its value is.
     fn expected(self) -> &'static str {
         match self {
-            Member::Pattern | Member::Flags | Member::File => "a string",
+            Member::Pattern | Member::Flags | Member::File | Member::Syntax => "a string",
             Member::Line | Member::Column => "a number from 1",
             Member::Columns | Member::Lines => "a list of numbers from 1",
-            Member::Offsets => "a list of numbers from 0",
+            Member::Literals => "a list of numbers from 0",
         }
     }
 
@@ -64,7 +69,7 @@ impl Member {
     fn least(self) -> u64 {
         match self {
             Member::Line | Member::Column | Member::Columns | Member::Lines => 1,
-            Member::Pattern | Member::Flags | Member::File | Member::Offsets => 0,
+            Member::Pattern | Member::Flags | Member::File | Member::Syntax | Member::Literals => 0,
         }
     }
 }
@@ -82,6 +87,8 @@ enum RecordProblem {
     UnknownFlags,
     /// A list has not one entry for each character of the pattern and one for its end.
     WrongLength(Member),
+    /// The numbers of the literals are not pairs, each of a start and an end.
+    OddLiterals,
 }
 
 impl fmt::Display for RecordProblem {
@@ -98,6 +105,9 @@ impl fmt::Display for RecordProblem {
                 "{} must have one entry more than the pattern has characters",
                 member.name()
             ),
+            RecordProblem::OddLiterals => {
+                f.write_str("literals must have a start and an end for each literal")
+            }
         }
     }
 }
@@ -152,7 +162,8 @@ struct Members<'a> {
     column: Option<u64>,
     columns: Option<NumberList>,
     lines: Option<NumberList>,
-    offsets: Option<NumberList>,
+    syntax: Option<SourceSyntax>,
+    literals: Option<NumberList>,
 }
 
 impl Members<'_> {
@@ -166,7 +177,8 @@ impl Members<'_> {
             column: None,
             columns: None,
             lines: None,
-            offsets: None,
+            syntax: None,
+            literals: None,
         }
     }
 }
@@ -180,8 +192,8 @@ pub(crate) struct Record<'a> {
     /// The name of its source, if that is known.
     pub(crate) file: Option<&'a str>,
     pub(crate) positions: SourcePositions,
-    /// The byte offsets of its characters in the source and of its end; nothing if they are not known.
-    pub(crate) offsets: Vec<u64>,
+    /// How its source spells it, if that is known.
+    pub(crate) spelling: Option<Spelling>,
 }
 
 /// Reads a record, whose text is JSON.
@@ -258,7 +270,8 @@ impl<'a> RecordReader<'a> {
             Member::Column => self.members.column = Some(self.number(member)?),
             Member::Columns => self.members.columns = Some(self.numbers(member)?),
             Member::Lines => self.members.lines = Some(self.numbers(member)?),
-            Member::Offsets => self.members.offsets = Some(self.numbers(member)?),
+            Member::Syntax => self.members.syntax = SourceSyntax::named(self.text(member)?),
+            Member::Literals => self.members.literals = Some(self.numbers(member)?),
         }
         Ok(())
     }
@@ -316,6 +329,34 @@ fn positions_of(
     })
 }
 
+/// The spans of literals, of which a list has the starts and the ends.
+fn literals_of(alloc: Global, list: NumberList) -> Result<Vec<LiteralSpan>, RecordError> {
+    let mut literals = Vec::new(alloc);
+    for pair in list.numbers.chunks(2) {
+        let [start, end] = pair else {
+            return Err(refused(list.position, RecordProblem::OddLiterals));
+        };
+        literals.push(LiteralSpan {
+            start: *start as usize,
+            end: *end as usize,
+        })?;
+    }
+    Ok(literals)
+}
+
+/// How the source spells the pattern of a record with these members.
+fn spelling_of(
+    alloc: Global,
+    syntax: Option<SourceSyntax>,
+    literals: Option<NumberList>,
+) -> Result<Option<Spelling>, RecordError> {
+    let Some(list) = literals else {
+        return Ok(None);
+    };
+    let literals = literals_of(alloc, list)?;
+    Ok(syntax.map(|syntax| Spelling { syntax, literals }))
+}
+
 /// The record that has the members, and begins at the position. `line` is its own line.
 fn record_of<'a>(
     alloc: Global,
@@ -329,19 +370,20 @@ fn record_of<'a>(
     let length = pattern.chars().count().saturating_add(1);
     let (flags, file) = (members.flags, members.file);
     let mut members = members;
-    let offsets = numbers_of(alloc, members.offsets.take(), Member::Offsets, length)?;
+    let spelling = spelling_of(alloc, members.syntax, members.literals.take())?;
     Ok(Record {
         pattern,
         flags,
         file,
         positions: positions_of(alloc, members, length, line)?,
-        offsets,
+        spelling,
     })
 }
 
 /// Reads the record that a text of JSON is, which is the line of this number. It is refused if it is no object, has no
-/// pattern, has a member with a value of another type or other letters than those of flags, or a list that has not one
-/// entry for each character and one for the end. Other members are passed over.
+/// pattern, has a member with a value of another type or other letters than those of flags, a list that has not one entry for
+/// each character and one for the end, or literals without an end. Other members are passed over, and a syntax that is not
+/// known.
 pub(crate) fn read_record<'a>(
     alloc: Global,
     text: &'a str,

@@ -1,5 +1,5 @@
 //! Where the characters of a pattern are in the source that it was extracted from.
-use crate::fixes::spelling::CharacterChange;
+use pattern_files::source_change::CharacterChange;
 use patterns_text::position::{FilePosition, Location, Spot};
 use patterns_text::subject::Subject;
 use report_formats::annotation::FilePoint;
@@ -25,9 +25,14 @@ pub(crate) struct SourcePositions {
 impl SourcePositions {
     /// Those of a pattern of which no more is known than that its record is this line.
     pub(crate) fn of_line(alloc: Global, line: u64) -> SourcePositions {
+        SourcePositions::of(alloc, line, 1)
+    }
+
+    /// Those of a pattern of which no more is known than where it is.
+    pub(crate) fn of(alloc: Global, line: u64, column: u64) -> SourcePositions {
         SourcePositions {
             line,
-            column: 1,
+            column,
             has_column: false,
             columns: Vec::new(alloc),
             lines: Vec::new(alloc),

@@ -1,6 +1,7 @@
 //! What a pattern that is fixed or formatted is written as in its file.
 use crate::lines::BOM;
 use crate::printing::breaks_line;
+use pattern_files::source_change::CharacterChange;
 use std::alloc::{AllocError, Global};
 
 /// Whether the text begins with a byte order mark, and the pattern does not.
@@ -47,6 +48,15 @@ fn is_new(rest: &str, c: char) -> bool {
     }
 }
 
+/// Whether a part of a pattern has letters or digits that are no counts in braces.
+fn has_text(part: &str) -> bool {
+    let (before, braced) = part.split_once('{').unwrap_or((part, ""));
+    let (_, after) = braced.split_once('}').unwrap_or(("", braced));
+    [before, after]
+        .iter()
+        .any(|text| text.contains(|c: char| c.is_alphanumeric()))
+}
+
 /// How many bytes of a pattern are searched for a character that its text goes on with.
 const MAX_SKIPPED: usize = 1 << 12;
 
@@ -58,8 +68,7 @@ fn skipped(rest: &str, c: char) -> Option<usize> {
     }
     let near = rest.get(..rest.floor_char_boundary(MAX_SKIPPED))?;
     let bytes = near.find(c)?;
-    let is_blank = matches!(c, ' ' | '\n');
-    if is_blank && near.get(..bytes)?.contains(|c: char| c.is_alphanumeric()) {
+    if matches!(c, ' ' | '\n') && has_text(near.get(..bytes)?) {
         return None;
     }
     Some(bytes)
@@ -74,14 +83,6 @@ fn plain(c: char) -> Option<u8> {
         ' ' => Some(b' '),
         _ => None,
     }
-}
-
-/// What becomes of a character of a pattern.
-#[derive(Debug, Clone, Copy, PartialEq, Eq)]
-pub(crate) struct CharacterChange {
-    pub(crate) is_kept: bool,
-    /// The byte that the text has before it, or instead of it.
-    pub(crate) added: Option<u8>,
 }
 
 /// The changes of the characters of a pattern up to those of its rest.

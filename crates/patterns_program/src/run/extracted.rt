@@ -1,5 +1,4 @@
 //! Runs over records of patterns that were extracted from sources.
-use crate::fixes::source::SourceFix;
 use crate::lines::{Ending, LineRecord, Start, next_record};
 use crate::outcome::Outcome;
 use crate::record::{Record, RecordError, read_record};
@@ -9,6 +8,7 @@ use crate::sources::System;
 use crate::values::is_json;
 use crate::values::refusal::JsonText;
 use json::Scratch;
+use pattern_files::source_change::SourceChange;
 use patterns_text::error::RunError;
 use patterns_text::position::{Location, Spot};
 use patterns_text::shown::Shown;
@@ -31,7 +31,7 @@ impl<S: System, O: Write, E: Write> FileRun<'_, '_, S, O, E> {
         &mut self,
         file: &'r str,
         record: &Record<'r>,
-        fix: &'r SourceFix,
+        fix: &'r SourceChange,
     ) -> Result<Outcome, RunError> {
         let positions = record.positions.changed(self.alloc, &fix.changes)?;
         self.process_at(file, record, fix.text.as_str(), &positions)
@@ -81,7 +81,7 @@ impl<S: System, O: Write, E: Write> FileRun<'_, '_, S, O, E> {
         file: &str,
         line: u64,
         text: &str,
-        fixes: &[SourceFix],
+        fixes: &[SourceChange],
     ) -> Result<Outcome, RunError> {
         let of = JsonText {
             file,
@@ -110,7 +110,7 @@ impl<S: System, O: Write, E: Write> FileRun<'_, '_, S, O, E> {
         file: &str,
         line: u64,
         record: LineRecord<'_>,
-        fixes: &[SourceFix],
+        fixes: &[SourceChange],
     ) -> Result<Outcome, RunError> {
         match str::from_utf8(record.text) {
             Ok(text) => self.process_text(file, line, text, fixes),
@@ -126,7 +126,7 @@ impl<S: System, O: Write, E: Write> FileRun<'_, '_, S, O, E> {
     pub(super) fn process_extracted_lines<R: BufRead>(
         &mut self,
         file: &str,
-        fixes: &[SourceFix],
+        fixes: &[SourceChange],
         reader: &mut R,
     ) -> Result<Outcome, RunError> {
         let mut buffer = Vec::new(self.alloc);
@@ -162,8 +162,8 @@ impl<S: System, O: Write, E: Write> FileRun<'_, '_, S, O, E> {
 }
 
 /// The fix of the pattern whose record is in this line, if it was fixed. The fixes are in the order of their lines.
-fn fix_at(fixes: &[SourceFix], line: u64) -> Option<&SourceFix> {
-    match fixes.binary_search_by_key(&line, |fix| fix.line) {
+fn fix_at(fixes: &[SourceChange], line: u64) -> Option<&SourceChange> {
+    match fixes.binary_search_by_key(&line, |fix| fix.record) {
         Ok(index) => fixes.get(index),
         Err(_) => None,
     }
