@@ -1,4 +1,5 @@
 //! Patterns in one line, without the layout that they have.
+use crate::all_comments::{Comment, all_comments};
 use crate::cut::tokens_of;
 use crate::read_back::reads_back;
 use crate::spelling::{push_flags, push_quantifier, without_blanks};
@@ -66,6 +67,11 @@ struct Line<'p> {
     has_gap: bool,
     loss: Loss,
     oniguruma_mode: bool,
+    pattern: &'p str,
+    /// Where the next token begins in the pattern.
+    position: usize,
+    /// The comments of the pattern from there on.
+    comments: &'p [Comment],
 }
 
 impl<'p> Line<'p> {
@@ -105,21 +111,59 @@ impl<'p> Line<'p> {
         Ok(())
     }
 
-    /// Writes the opening of a group that comments through the ends of their lines follow.
-    fn push_commented(&mut self, text: &str) -> Result<(), AllocError> {
-        let Some(comments) = text.strip_prefix('(') else {
-            return Ok(self.written.push_str(text)?);
+    /// Writes a part of a token, without its blanks but those in the name of a group.
+    fn push_part(&mut self, part: &str) -> Result<(), AllocError> {
+        let name = part.find('?').and_then(|at| part.get(at..)).unwrap_or("");
+        let has_name = ["?<", "?'", "?P"]
+            .iter()
+            .any(|start| name.starts_with(*start));
+        let (opening, name) = if has_name {
+            (
+                part.strip_suffix(name).unwrap_or(part),
+                name.trim_end_matches(is_blank),
+            )
+        } else {
+            (part, "")
         };
-        self.written.push('(')?;
-        for line in comments.split_inclusive('\n') {
-            let comment = line.trim_start_matches(is_blank);
-            if comment.starts_with('#') {
+        let opening = without_blanks(self.alloc, opening)?;
+        self.written.push_str(opening.as_str())?;
+        self.written.push_str(name)?;
+        Ok(())
+    }
+
+    /// Writes a part of a token before a comment. A blank stays after the question mark of flags, since `(?#` and `(?(` are
+    /// something else.
+    fn push_before_comment(&mut self, part: &str, is_line: bool) -> Result<(), AllocError> {
+        self.push_part(part)?;
+        let is_verbose = is_line || part.ends_with(is_blank);
+        if is_verbose && part.trim_end_matches(is_blank).ends_with('?') {
+            self.written.push(' ')?;
+        }
+        Ok(())
+    }
+
+    /// Writes a token with comments in it. Each stays, if it is not empty.
+    fn push_commented(&mut self, text: &str) -> Result<(), AllocError> {
+        if self.loss == Loss::MoreBlanks {
+            return Ok(self.written.push_str(text)?);
+        }
+        let pattern = self.pattern;
+        let end = self.position.saturating_add(text.len());
+        let mut position = self.position;
+        for Comment { span, is_line } in self.comments {
+            if span.start >= end {
+                break;
+            }
+            self.push_before_comment(pattern.get(position..span.start).unwrap_or(""), *is_line)?;
+            let comment = span.text(pattern).unwrap_or("");
+            if *is_line {
                 self.push_line_comment(comment)?;
             } else {
                 self.written.push_str(comment)?;
             }
+            position = span.end;
         }
-        Ok(())
+        self.push_part(pattern.get(position..end).unwrap_or(""))
     }
 
     /// Writes inline flags that are the first token. From them on whitespace is ignored no more if that is a loss.
@@ -224,12 +268,25 @@ impl<'p> Line<'p> {
             }
         }
     }
+
+    /// Passes the text of a token in the pattern, and the comments in it.
+    fn pass(&mut self, text: &str) {
+        self.position = self.position.saturating_add(text.len());
+        for comment in self.comments {
+            if comment.span.start >= self.position {
+                break;
+            }
+            self.comments = self.comments.get(1..).unwrap_or(&[]);
+        }
+    }
 }
 
-/// The tokens in one line, without those that are needless.
+/// The tokens of a pattern with these comments in one line, without those that are needless.
 fn text_of(
     alloc: Global,
+    pattern: &str,
     tokens: &[Token<'_>],
+    comments: &[Comment],
     loss: Loss,
     oniguruma_mode: bool,
 ) -> Result<String, AllocError> {
@@ -240,11 +297,15 @@ fn text_of(
         has_gap: false,
         loss,
         oniguruma_mode,
+        pattern,
+        position: 0,
+        comments,
     };
     for (i, token) in tokens.iter().enumerate() {
         if !token.is_needless || loss == Loss::MoreBlanks {
             line.push(*token, i == 0)?;
         }
+        line.pass(token.text);
     }
     Ok(line.written)
 }
@@ -285,9 +346,10 @@ fn in_line_once(alloc: Global, pattern: &str, flags: u32) -> Result<Option<Strin
         Err(Error::OutOfMemory) => return Err(AllocError),
     };
     let tokens = tokens_of(alloc, pattern, &parsed)?;
+    let comments = all_comments(alloc, pattern, &parsed)?;
     let oniguruma_mode = Flags::from_bits(flags).oniguruma_mode;
     for loss in losses(&tokens) {
-        let text = text_of(alloc, &tokens, *loss, oniguruma_mode)?;
+        let text = text_of(alloc, pattern, &tokens, &comments, *loss, oniguruma_mode)?;
         if reads_back(
             alloc,
             pattern,

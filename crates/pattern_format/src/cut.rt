@@ -225,7 +225,7 @@ pub(crate) fn tokens_of<'p>(
     pattern: &'p str,
     parsed: &SpannedTree,
 ) -> Result<Vec<Token<'p>>, AllocError> {
-    let nodes = nodes_of(alloc, parsed)?;
+    let nodes = nodes_of(alloc, pattern, parsed)?;
     let mut cutter = Cutter {
         pattern,
         position: 0,

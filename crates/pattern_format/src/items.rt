@@ -5,8 +5,10 @@ use std::alloc::{AllocError, Global};
 /// What begins with a piece: a group with all that it holds, or the piece alone, and the quantifiers after it.
 #[derive(Clone, Copy, PartialEq, Eq, Debug)]
 pub(crate) struct Item {
-    /// How many characters it has.
+    /// How many characters it has. A literal character has the run that begins with it.
     pub(crate) width: usize,
+    /// How many characters are after it in its word.
+    pub(crate) word_after: usize,
     /// Whether a line ends in it.
     pub(crate) has_line_end: bool,
     /// Whether it is a group with several branches.
@@ -15,6 +17,7 @@ pub(crate) struct Item {
 
 const EMPTY: Item = Item {
     width: 0,
+    word_after: 0,
     has_line_end: false,
     has_branches: false,
 };
@@ -24,6 +27,7 @@ impl Item {
     fn of(piece: &Piece) -> Item {
         Item {
             width: piece.text.chars().count(),
+            word_after: 0,
             has_line_end: matches!(
                 piece.kind,
                 PieceKind::LineComment { .. } | PieceKind::LineEnd
@@ -36,6 +40,7 @@ impl Item {
     fn with(self, other: Item) -> Item {
         Item {
             width: self.width.saturating_add(other.width),
+            word_after: self.word_after,
             has_line_end: self.has_line_end || other.has_line_end,
             has_branches: self.has_branches,
         }
@@ -51,7 +56,10 @@ struct Items {
     open: Vec<Item>,
     /// The quantifiers after the piece.
     quantifiers: Item,
-    /// How many characters the word has that begins after the piece.
+    /// How many characters the run has that begins after the piece: literal characters, of which only the last may be
+    /// repeated.
+    run: usize,
+    /// How many characters the word has that begins after the piece: runs one after another.
     word: usize,
     /// The pattern.
     whole: Item,
@@ -74,16 +82,29 @@ impl Items {
         Ok(())
     }
 
-    /// Adds an atom with its quantifiers. The item of one that is in a word has the rest of the word too.
-    fn push_atom(&mut self, piece: &Piece, item: Item, word: usize) -> Result<(), AllocError> {
+    /// Adds a literal character with its quantifiers, before a run and a word.
+    fn push_literal(
+        &mut self,
+        item: Item,
+        is_repeated: bool,
+        run: usize,
+        word: usize,
+    ) -> Result<(), AllocError> {
         let around = self.around();
         *around = around.with(item);
-        let mut item = item;
-        if piece.text.chars().all(|c: char| c.is_alphanumeric()) {
-            item.width = item.width.saturating_add(word);
-            self.word = item.width;
-        }
-        self.items.push(item)?;
+        let width = if is_repeated {
+            item.width
+        } else {
+            item.width.saturating_add(run)
+        };
+        let word = item.width.saturating_add(word);
+        self.run = width;
+        self.word = word;
+        self.items.push(Item {
+            width,
+            word_after: word.saturating_sub(width),
+            ..item
+        })?;
         Ok(())
     }
 
@@ -91,8 +112,10 @@ impl Items {
     fn add(&mut self, piece: &Piece) -> Result<bool, AllocError> {
         let item = Item::of(piece);
         let quantifiers = self.quantifiers;
+        let run = self.run;
         let word = self.word;
         self.quantifiers = EMPTY;
+        self.run = 0;
         self.word = 0;
         match piece.kind {
             PieceKind::Quantifier => {
@@ -114,8 +137,14 @@ impl Items {
                 self.push(item)?;
                 self.around().has_branches = true;
             }
-            PieceKind::Atom => self.push_atom(piece, item.with(quantifiers), word)?,
-            PieceKind::Comment | PieceKind::LineComment { .. } | PieceKind::LineEnd => {
+            PieceKind::Literal => {
+                let is_repeated = quantifiers != EMPTY;
+                self.push_literal(item.with(quantifiers), is_repeated, run, word)?;
+            }
+            PieceKind::Atom
+            | PieceKind::Comment
+            | PieceKind::LineComment { .. }
+            | PieceKind::LineEnd => {
                 self.push(item.with(quantifiers))?;
             }
         }
@@ -132,6 +161,7 @@ pub(crate) fn items_of(
         items: Vec::with_capacity(alloc, pieces.len())?,
         open: Vec::new(alloc),
         quantifiers: EMPTY,
+        run: 0,
         word: 0,
         whole: EMPTY,
     };

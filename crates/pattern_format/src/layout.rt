@@ -31,8 +31,10 @@ pub(crate) struct Lines {
     /// How many characters the last line has.
     column: usize,
     gap: Gap,
-    /// Whether the last piece is the end of a line.
-    is_ended: bool,
+    /// What the last piece is.
+    last: Option<PieceKind>,
+    /// Whether the last piece is a literal character or its quantifier.
+    is_in_word: bool,
     /// How many characters a line may have.
     width: usize,
     levels: Vec<Level>,
@@ -60,7 +62,8 @@ impl Lines {
             written: String::from_str(alloc, flags)?,
             column: 0,
             gap: Gap::Line,
-            is_ended: false,
+            last: None,
+            is_in_word: false,
             width,
             levels: Vec::new(alloc),
             level: Level {
@@ -113,18 +116,35 @@ impl Lines {
         column.saturating_add(width) <= self.width
     }
 
-    /// Begins a line if the item does not fit in this one.
-    fn break_before(&mut self, item: Item) {
+    /// Begins a line if so many characters do not fit in this one.
+    fn break_before(&mut self, width: usize) {
         let is_open = !self.level.is_flat && self.gap == Gap::Nothing;
         let is_inside = self.column > self.level.indent;
-        if is_open && is_inside && !self.fits(self.column, item.width) {
+        if is_open && is_inside && !self.fits(self.column, width) {
             self.gap = Gap::Line;
         }
     }
 
+    /// Writes a literal character, after a piece of this kind. A word that fits in a line is not broken, and a run never.
+    fn push_literal(
+        &mut self,
+        text: &str,
+        item: Item,
+        last: Option<PieceKind>,
+    ) -> Result<(), AllocError> {
+        let word = item.width.saturating_add(item.word_after);
+        let is_whole = !self.is_in_word && self.fits(self.level.indent, word);
+        if last != Some(PieceKind::Literal) {
+            self.break_before(if is_whole { word } else { item.width });
+        }
+        self.is_in_word = true;
+        self.write_gap()?;
+        self.write(text)
+    }
+
     /// Writes a piece that nothing is in.
     fn push_atom(&mut self, text: &str, item: Item) -> Result<(), AllocError> {
-        self.break_before(item);
+        self.break_before(item.width);
         self.write_gap()?;
         self.write(text)
     }
@@ -153,7 +173,7 @@ impl Lines {
         item: Item,
         can_break: bool,
     ) -> Result<bool, AllocError> {
-        self.break_before(item);
+        self.break_before(item.width);
         self.write_gap()?;
         let is_short = self.fits(self.column, item.width) || !can_break;
         let is_flat = self.level.is_flat || is_short && !item.has_line_end;
@@ -208,8 +228,12 @@ impl Lines {
     /// Writes a piece, with which the item begins. Returns false if the pattern cannot be written.
     pub(crate) fn push(&mut self, piece: &Piece, item: Item) -> Result<bool, AllocError> {
         let text = piece.text.as_str();
-        self.is_ended = piece.kind == PieceKind::LineEnd;
+        let last = self.last;
+        self.last = Some(piece.kind);
+        self.is_in_word = self.is_in_word
+            && matches!(piece.kind, PieceKind::Literal | PieceKind::Quantifier);
         match piece.kind {
+            PieceKind::Literal => self.push_literal(text, item, last)?,
             PieceKind::Atom | PieceKind::Comment => self.push_atom(text, item)?,
             PieceKind::Opening { can_break } => return self.push_opening(piece, item, can_break),
             PieceKind::Closing => self.push_closing()?,
@@ -223,7 +247,7 @@ impl Lines {
 
     /// The whole text. It ends with a line if the pattern does.
     pub(crate) fn end(mut self) -> Result<String, AllocError> {
-        if self.is_ended && !self.written.is_empty() {
+        if self.last == Some(PieceKind::LineEnd) && !self.written.is_empty() {
             self.begin_line(0)?;
         }
         Ok(self.written)

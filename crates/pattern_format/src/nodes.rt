@@ -1,4 +1,5 @@
 //! The nodes of a tree, as far as formatting needs them.
+use crate::own_part::own_part;
 use fancy_spans::{SpannedNode, SpannedTree};
 use fancy_syntax::expr::Expr;
 use fancy_syntax::span::Span;
@@ -13,6 +14,8 @@ pub(crate) struct Node {
     pub(crate) ignores_case: bool,
     /// Whether a flag group around it, and around nothing else, cannot be left out.
     pub(crate) needs_group: bool,
+    /// The part in which a `#` begins no comment, except in a class.
+    pub(crate) own_part: Option<Span>,
 }
 
 /// Whether a group around the child of the node cannot be left out. In a conditional or an absent form it always stays.
@@ -55,6 +58,7 @@ fn needs_group(node: &Expr, child: &Expr) -> bool {
 /// Adds the node and those below it.
 fn push_nodes(
     nodes: &mut Vec<Node>,
+    pattern: &str,
     node: SpannedNode<'_>,
     needs_group_here: bool,
 ) -> Result<(), AllocError> {
@@ -65,16 +69,21 @@ fn push_nodes(
         is_leaf: expr.is_leaf_node() && !is_empty,
         ignores_case: matches!(expr, Expr::Literal { casei: true, .. }),
         needs_group: needs_group_here || is_empty,
+        own_part: own_part(node, pattern),
     })?;
     for child in node.children() {
-        push_nodes(nodes, child, needs_group(expr, child.expr()))?;
+        push_nodes(nodes, pattern, child, needs_group(expr, child.expr()))?;
     }
     Ok(())
 }
 
-/// The nodes of the tree in preorder.
-pub(crate) fn nodes_of(alloc: Global, parsed: &SpannedTree) -> Result<Vec<Node>, AllocError> {
+/// The nodes of the tree of a pattern in preorder.
+pub(crate) fn nodes_of(
+    alloc: Global,
+    pattern: &str,
+    parsed: &SpannedTree,
+) -> Result<Vec<Node>, AllocError> {
     let mut nodes = Vec::with_capacity(alloc, parsed.spans.len())?;
-    push_nodes(&mut nodes, parsed.root(), false)?;
+    push_nodes(&mut nodes, pattern, parsed.root(), false)?;
     Ok(nodes)
 }

@@ -8,6 +8,8 @@ use std::alloc::{AllocError, Global};
 pub(crate) enum PieceKind {
     /// What no line is broken in.
     Atom,
+    /// A literal character that is written as itself. No line is broken between two of them.
+    Literal,
     /// The opening of a group, which may hold several lines or not.
     Opening { can_break: bool },
     /// The parenthesis that closes a group.
@@ -42,6 +44,11 @@ fn escaped(text: &str, ignores_case: bool) -> Option<&'static str> {
         _ => return None,
     };
     Some(if ignores_case { code } else { letter })
+}
+
+/// Whether the text of a leaf is a literal character that is written as itself.
+fn is_plain(text: &str) -> bool {
+    text.chars().count() == 1 && !matches!(text, "." | "^" | "$")
 }
 
 /// How many more parentheses the text opens than it closes.
@@ -196,7 +203,12 @@ impl<'p> Pieces<'p> {
             TokenKind::Comment => self.push(text, PieceKind::Comment)?,
             TokenKind::Leaf { ignores_case } => {
                 let text = escaped(text, ignores_case).unwrap_or(text);
-                self.push(text, PieceKind::Atom)?;
+                let kind = if is_plain(text) {
+                    PieceKind::Literal
+                } else {
+                    PieceKind::Atom
+                };
+                self.push(text, kind)?;
             }
             TokenKind::Quantifier => return self.push_quantifier(token),
             TokenKind::Flags { .. } => return self.push_flags(token),

@@ -7,13 +7,15 @@ ghost use Rattle.fancy_syntax.specs.View.{view};
 ghost use Rattle.pattern_format.specs.Formatted.{ReadsBack, comments};
 
 use crate::comments::has_same_comments;
+use crate::kept_comments::keeps_all_comments;
 use crate::style::Style;
 use fancy_lex::error::Error;
 use fancy_pattern::same::is_same_result;
 use fancy_spans::SpannedTree;
 use std::alloc::{AllocError, Global};
 
-/// Whether the text is parsed as the pattern is, but for positions, and has its comments, as the style keeps them.
+/// Whether the text is parsed as the pattern is, but for positions, and has its comments, as the style keeps them, those
+/// inside tokens too.
 pub(crate) fn reads_back(
     alloc: Global,
     pattern: &str,
@@ -31,6 +33,9 @@ pub(crate) fn reads_back(
         Err(Error::OutOfMemory) => return Err(AllocError),
     };
     if !is_same_result(&parsed.tree, &new.tree) {
+        return Ok(false);
+    }
+    if !keeps_all_comments(alloc, pattern, parsed, text, &new, style)? {
         return Ok(false);
     }
     let is_same = has_same_comments(alloc, pattern, &parsed.trivia, text, &new.trivia, style)?;
