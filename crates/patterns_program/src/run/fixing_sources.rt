@@ -101,7 +101,7 @@ impl<S: System, O: Write, E: Write> FileRun<'_, '_, S, O, E> {
             writeln!(err, "patterns: {}: {CHANGED}", Shown(file))?;
             return Ok(false);
         };
-        self.replace(file, &fixed)
+        self.replace(file, &bytes, &fixed)
     }
 
     /// Writes the fixes to their sources. Those of a source that cannot be fixed are left out.
