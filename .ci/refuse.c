@@ -1,12 +1,14 @@
 // Refuses one call of the process that it is preloaded into, counted from 1: the REFUSED_REQUEST-th request for memory, or the
-// REFUSED_WRITE-th write, as if the disk were full. A write is a call that writes bytes, brings a file to the disk, or renames
-// it. When the call is made, a byte is written on descriptor 9, so that who runs the process knows. Releasing memory is never
+// REFUSED_WRITE-th write, as if the disk were full. A write is a call that writes bytes, locks a file, changes its permissions,
+// brings it to the disk, or renames it. When the call is made, a byte is written on descriptor 9, so that who runs the process knows. Releasing memory is never
 // refused.
 #define _GNU_SOURCE
 #include <errno.h>
 #include <fcntl.h>
 #include <stdio.h>
 #include <stdlib.h>
+#include <sys/file.h>
+#include <sys/stat.h>
 #include <sys/syscall.h>
 #include <unistd.h>
 
@@ -62,6 +64,10 @@ ssize_t write(int file, const void *bytes, size_t size) { return is_refused_writ
 
 // The name that the C library has for it besides.
 ssize_t __write(int file, const void *bytes, size_t size) { return write(file, bytes, size); }
+
+int flock(int file, int how) { return is_refused_write() ? -1 : (int)syscall(SYS_flock, file, how); }
+
+int fchmod(int file, mode_t mode) { return is_refused_write() ? -1 : (int)syscall(SYS_fchmod, file, mode); }
 
 int fsync(int file) { return is_refused_write() ? -1 : (int)syscall(SYS_fsync, file); }
 

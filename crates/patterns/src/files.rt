@@ -1,6 +1,6 @@
 //! The files of the system, its clock, and what the outputs are.
 use crate::replace::replace;
-use patterns_program::sources::{Sources, System, Terminals};
+use patterns_program::sources::{ReplaceError, Sources, System, Terminals};
 use std::env::Env;
 use std::fs::File;
 use std::io::{BufReader, IsTerminal, Stdin};
@@ -22,8 +22,8 @@ impl Sources for Host<'_> {
         BufReader::new(self.rt.alloc(), fs::open(self.rt, name)?)
     }
 
-    fn replace(&self, name: &str, bytes: &[u8]) -> io::Result<()> {
-        replace(self.rt, name, bytes)
+    fn replace(&self, name: &str, old: &[u8], new: &[u8]) -> Result<(), ReplaceError> {
+        replace(self.rt, name, old, new)
     }
 
     fn input(&self) -> io::Result<BufReader<Stdin>> {

@@ -3,6 +3,7 @@
 
 mod files;
 mod folders;
+mod new_file;
 mod replace;
 
 use files::Host;

@@ -1,53 +1,110 @@
 //! Writes a file in the place of another, so that a name has the old bytes or the new ones at each time.
-use std::alloc::Global;
-use std::fs::{File, OpenFile, OpenOptions, Permissions};
-use std::io::{ErrorKind, Write};
+use crate::new_file::NewFile;
+use patterns_program::sources::ReplaceError;
+use std::fs::{File, Metadata};
+use std::io::{ErrorKind, Read};
+use std::os::unix::fs::MetadataExt;
 use std::{fs, io};
 
-/// How many names are tried for the new file.
-const MAX_NAMES: u32 = 100;
-
-/// A new file beside the one at the path, with its name. Of names that have a file the next one is tried.
-fn create_beside(rt: &HostRuntime, path: &str) -> io::Result<(String, File)> {
-    for number in 0..MAX_NAMES {
-        let name = format!(in rt.alloc(); "{path}.{number}.tmp")?;
-        match OpenOptions::new()
-            .write(true)
-            .create_new(true)
-            .open(rt, name.as_str())
-        {
-            Ok(file) => return Ok((name, file)),
-            Err(error) if error.kind() == ErrorKind::AlreadyExists => {}
-            Err(error) => return Err(error),
-        }
-    }
-    Err(io::Error::from(ErrorKind::AlreadyExists))
+/// The file that is to be replaced.
+#[derive(Drop)]
+struct OldFile {
+    /// Its absolute path, without symbolic links.
+    path: String,
+    file: File,
+    /// What the system said of it when it was opened.
+    metadata: Metadata,
 }
 
-/// Gives the new file the permissions, writes the bytes to it, and sees that they are on the disk.
-fn fill(mut file: File, bytes: &[u8], permissions: Permissions) -> io::Result<()> {
-    file.set_permissions(permissions)?;
-    file.write_all(bytes)?;
-    file.sync_all()
-}
-
-/// Writes the bytes to a new file beside the one of this name, and then renames the new one. Where the name is that of a
-/// link, the file that it leads to is replaced. After an error the file has its old bytes, and no other file is left: where it
-/// is no regular file, or is read-only, or the new one cannot be written.
-pub(crate) fn replace(rt: &HostRuntime, name: &str, bytes: &[u8]) -> io::Result<()> {
-    let path = fs::canonicalize(rt, name)?.into_string();
-    let old = fs::metadata(rt, path.as_str())?;
+/// An error if a file is not one that may be replaced.
+fn check_old(old: &Metadata) -> Result<(), ReplaceError> {
     if !old.is_file() {
-        return Err(io::Error::from(ErrorKind::InvalidInput));
+        return Err(ReplaceError::NotRegular);
     }
     if old.permissions().readonly() {
-        return Err(io::Error::from(ErrorKind::PermissionDenied));
+        return Err(ReplaceError::from(io::Error::from(ErrorKind::PermissionDenied)));
     }
-    let (new, file) = create_beside(rt, path.as_str())?;
-    let filled = fill(file, bytes, old.permissions());
-    let replaced = filled.and_then(|()| fs::rename(rt, new.as_str(), path.as_str()));
+    if old.nlink() > 1 {
+        return Err(ReplaceError::HardLinks);
+    }
+    Ok(())
+}
+
+/// Whether both are of the same file, which was not changed between them.
+fn is_same(one: &Metadata, other: &Metadata) -> bool {
+    one.dev() == other.dev()
+        && one.ino() == other.ino()
+        && one.size() == other.size()
+        && one.mtime() == other.mtime()
+        && one.mtime_nsec() == other.mtime_nsec()
+        && one.ctime() == other.ctime()
+        && one.ctime_nsec() == other.ctime_nsec()
+}
+
+impl OldFile {
+    /// Opens the file that the name leads to.
+    fn open(rt: &HostRuntime, name: &str) -> Result<OldFile, ReplaceError> {
+        let path = fs::canonicalize(rt, name)?.into_string();
+        // A pipe is not opened: that would wait for a writer.
+        check_old(&fs::metadata(rt, path.as_str())?)?;
+        let file = File::open(rt, path.as_str())?;
+        let metadata = file.metadata()?;
+        check_old(&metadata)?;
+        Ok(OldFile {
+            path,
+            file,
+            metadata,
+        })
+    }
+
+    /// Whether it has these bytes, and its path still leads to it, with the same owner and permissions.
+    fn is_unchanged(&mut self, rt: &HostRuntime, bytes: &[u8]) -> io::Result<bool> {
+        let mut found = Vec::with_capacity(rt.alloc(), bytes.len())?;
+        self.file.read_to_end(&mut found)?;
+        if found.as_slice() != bytes {
+            return Ok(false);
+        }
+        match fs::symlink_metadata(rt, self.path.as_str()) {
+            Ok(now) => Ok(is_same(&self.metadata, &now)),
+            Err(error) if error.kind() == ErrorKind::NotFound => Ok(false),
+            Err(error) => Err(error),
+        }
+    }
+}
+
+/// Fills the new file, and renames it if the old one has not changed.
+fn exchange(
+    rt: &HostRuntime,
+    old: &mut OldFile,
+    new: &NewFile,
+    old_bytes: &[u8],
+    new_bytes: &[u8],
+) -> Result<(), ReplaceError> {
+    new.fill(&old.metadata, new_bytes)?;
+    // No call of the system compares and renames at once. What others write between the two calls is lost, and what they
+    // write later to the old file, if they have it open.
+    if !old.is_unchanged(rt, old_bytes)? {
+        return Err(ReplaceError::Changed);
+    }
+    Ok(new.rename(rt, old.path.as_str())?)
+}
+
+/// Writes the new bytes to a new file beside the one of this name, and then renames the new one. Where the name is that of a
+/// symbolic link, the file that it leads to is replaced. The new file has the owner, the group and the permissions of the old
+/// one, of these at most 0777. After an error the file is as it was, and no other one is left. It is an error where the file
+/// is no regular one, is read-only, has several hard links, or has not the old bytes; where owner and group cannot be kept;
+/// where another run writes to it; and where the new file cannot be written.
+pub(crate) fn replace(
+    rt: &HostRuntime,
+    name: &str,
+    old_bytes: &[u8],
+    new_bytes: &[u8],
+) -> Result<(), ReplaceError> {
+    let mut old = OldFile::open(rt, name)?;
+    let new = NewFile::create(rt, old.path.as_str())?;
+    let replaced = exchange(rt, &mut old, &new, old_bytes, new_bytes);
     if replaced.is_err() {
-        let _ = fs::remove_file(rt, new.as_str());
+        let _ = new.remove(rt);
     }
     replaced
 }

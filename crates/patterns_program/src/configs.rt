@@ -1,7 +1,7 @@
 //! The configurations of a run. Each is read once.
 use crate::choices::{ConfigChoice, rule_names};
 use crate::lines::BOM;
-use crate::sources::System;
+use crate::sources::{EntryKind, System};
 use crate::values::refusal::write_not_text;
 use patterns_config::config::{CONFIG_NAME, Config};
 use patterns_config::config_error::ConfigError;
@@ -16,6 +16,9 @@ use std::{io, str};
 
 /// The name of the current folder.
 pub(crate) const HERE: &str = ".";
+
+/// Why a pipe, for example, is not read.
+const NOT_REGULAR: &str = "it is not a regular file";
 
 /// A configuration that was read.
 #[derive(Drop)]
@@ -190,6 +193,14 @@ impl<'a, S: System, E: Write> ConfigFinder<'a, S, E> {
         }
     }
 
+    /// Opens a configuration. It is an error if it is a pipe or a device: reading a pipe waits for a writer.
+    fn open(&self, path: &str) -> io::Result<S::File> {
+        match self.sources.kind(path) {
+            EntryKind::Other => Err(io::Error::new(ErrorKind::InvalidInput, NOT_REGULAR)),
+            EntryKind::File | EntryKind::Folder | EntryKind::FolderLink => self.sources.open(path),
+        }
+    }
+
     /// The configuration that is in the folder itself, given by its absolute path.
     fn in_folder(&mut self, folder: &str) -> Result<FolderConfig, RunError> {
         let path = joined(self.alloc, folder, CONFIG_NAME)?;
@@ -199,7 +210,7 @@ impl<'a, S: System, E: Write> ConfigFinder<'a, S, E> {
                 .strip_prefix(self.here.as_str())
                 .unwrap_or(path.as_str()),
         )?;
-        match self.sources.open(path.as_str()) {
+        match self.open(path.as_str()) {
             Ok(mut opened) => self.read(shown.as_str(), folder, &mut opened),
             Err(error) if error.kind() == ErrorKind::NotFound => Ok(FolderConfig::Absent),
             Err(error) => self.refuse(shown.as_str(), error),
@@ -261,7 +272,7 @@ impl<'a, S: System, E: Write> ConfigFinder<'a, S, E> {
             Ok(folder) => folder,
             Err(error) => return self.refuse(file, error),
         };
-        match self.sources.open(file) {
+        match self.open(file) {
             Ok(mut opened) => self.read(file, folder.as_str(), &mut opened),
             Err(error) => self.refuse(file, error),
         }

@@ -2,6 +2,36 @@
 use std::io;
 use std::io::BufRead;
 use std::time::Clock;
+use thiserror::Error;
+
+/// Why a file is not replaced.
+#[derive(Debug, Drop, Error)]
+pub enum ReplaceError {
+    /// A call of the system failed, or memory ran out.
+    #[error("{0}")]
+    System(io::Error),
+    /// It is a pipe, for example.
+    #[error("it is not a regular file")]
+    NotRegular,
+    /// Its other names would keep the old bytes.
+    #[error("it has several hard links, of which only this one would change; read it as standard input")]
+    HardLinks,
+    /// The system does not let a new file have its owner and its group.
+    #[error("its owner and group cannot be kept; read it as standard input")]
+    Owner,
+    /// It has not the bytes that were read any more.
+    #[error("it has changed since it was read")]
+    Changed,
+    /// Another run is about to replace it.
+    #[error("another run is writing it")]
+    Busy,
+}
+
+impl From<io::Error> for ReplaceError {
+    fn from(error: io::Error) -> ReplaceError {
+        ReplaceError::System(error)
+    }
+}
 
 /// What opens the files of a run.
 pub trait Sources {
@@ -13,8 +43,9 @@ pub trait Sources {
     /// Opens the file of this name.
     fn open(&self, name: &str) -> io::Result<Self::File>;
 
-    /// Writes the bytes to the file of this name, in the place of those that it has. After an error it has those still.
-    fn replace(&self, name: &str, bytes: &[u8]) -> io::Result<()>;
+    /// Writes the new bytes to the file of this name, in the place of the old ones, which were read from it. After an error it
+    /// is as it was. It is an error if it does not have the old bytes any more.
+    fn replace(&self, name: &str, old: &[u8], new: &[u8]) -> Result<(), ReplaceError>;
 
     /// The standard input, from its position on.
     fn input(&self) -> io::Result<Self::Input>;

@@ -1,5 +1,5 @@
 //! Files, and writers, that lie in memory.
-use patterns_program::sources::{EntryKind, Folders, Sources, System, Terminals};
+use patterns_program::sources::{EntryKind, Folders, ReplaceError, Sources, System, Terminals};
 use std::alloc::Global;
 use std::io;
 use std::io::{BufRead, Chain, ErrorKind, Read, Write};
@@ -32,11 +32,12 @@ impl BufRead for End {
 }
 
 /// The names of files, and what they hold.
-static FILES: [(&str, &[u8]); 4] = [
+static FILES: [(&str, &[u8]); 5] = [
     ("mixed", b"a|b\r\n(\n\n\xFFx\na)b\n"),
     ("mixed:5", b"x\n[\n"),
     ("broken", b"(\r\n"),
     ("full", b"a|a\n"),
+    ("moving", b"a|a\n"),
 ];
 
 /// The files above, of which `broken` cannot be read to its end, and none can be written, and a standard input.
@@ -63,8 +64,15 @@ impl<'a> Sources for Memory<'a> {
         Err(io::Error::from(ErrorKind::NotFound))
     }
 
-    fn replace(&self, _name: &str, _bytes: &[u8]) -> io::Result<()> {
-        Err(io::Error::from(ErrorKind::StorageFull))
+    /// The file `moving` has other bytes by now, and for the others there is no space.
+    fn replace(&self, name: &str, old: &[u8], _new: &[u8]) -> Result<(), ReplaceError> {
+        let has_old = FILES
+            .iter()
+            .any(|(known, bytes)| *known == name && *bytes == old);
+        if name == "moving" || !has_old {
+            return Err(ReplaceError::Changed);
+        }
+        Err(ReplaceError::from(io::Error::from(ErrorKind::StorageFull)))
     }
 
     fn input(&self) -> io::Result<&'a [u8]> {

@@ -144,24 +144,39 @@ fn files_that_cannot_be_read(rt: HostRuntime) -> Result<(), Fail> {
     Ok(())
 }
 
-const LEFT: &str = "full:1:3: warning: branch that is equal to branch 1 [duplicate-branch]
+/// What is reported of the pattern `a|a` at a position.
+const LEFT: &str = ":1:3: warning: branch that is equal to branch 1 [duplicate-branch]
 a|a
 - ^
 branch 1
 help: remove it
 ";
 
-const NOT_WRITTEN: &str = "patterns: full: cannot be written: no storage space
-1 pattern, 0 refused, 1 warning
-";
+const COUNTED: &str = "1 pattern, 0 refused, 1 warning\n";
+
+/// Files that cannot be written, and why.
+static NOT_WRITTEN: [(&str, &str); 2] = [
+    (
+        "full",
+        "patterns: full: cannot be written: no storage space\n",
+    ),
+    (
+        "moving",
+        "patterns: moving: cannot be written: it has changed since it was read\n",
+    ),
+];
 
 #[test]
-fn a_file_that_cannot_be_written(rt: HostRuntime) -> Result<(), Fail> {
-    let words = ["patterns", "lint", "--fix", "full"];
-    let run = run(rt.alloc(), Paints::both(Paint::Plain), &words, usize::MAX)?;
-    assert!(rt; run.status == 2);
-    assert!(rt; run.out.text.as_slice() == LEFT.as_bytes());
-    assert!(rt; run.err.text.as_slice() == NOT_WRITTEN.as_bytes());
+fn files_that_cannot_be_written(rt: HostRuntime) -> Result<(), Fail> {
+    for (name, reason) in NOT_WRITTEN.iter() {
+        let words = ["patterns", "lint", "--fix", name];
+        let run = run(rt.alloc(), Paints::both(Paint::Plain), &words, usize::MAX)?;
+        let left = format!(in rt.alloc(); "{name}{LEFT}")?;
+        let said = format!(in rt.alloc(); "{reason}{COUNTED}")?;
+        assert!(rt; run.status == 2, "{name}");
+        assert!(rt; run.out.text.as_slice() == left.as_bytes(), "{name}");
+        assert!(rt; run.err.text.as_slice() == said.as_bytes(), "{name}");
+    }
     Ok(())
 }
 

@@ -10,7 +10,7 @@ use crate::lines::{BOM, Ending, lines_in, next_record};
 use crate::outcome::Outcome;
 use crate::printing::write_change;
 use crate::run::{STANDARD_INPUT, Verb};
-use crate::sources::System;
+use crate::sources::{ReplaceError, System};
 use crate::values::keys::Keys;
 use crate::values::trail::{Tokens, Trail};
 use crate::values::valid_text_of;
@@ -247,9 +247,9 @@ impl<S: System, O: Write, E: Write> FileRun<'_, '_, S, O, E> {
         Ok(fixed)
     }
 
-    /// Writes what a file has become, if patterns are changed: to the file, or to the output for standard input. Returns
-    /// whether that can be done; if not, it is reported.
-    fn write_fixed(&mut self, file: &str, fixed: &FixedFile) -> Result<bool, RunError> {
+    /// Writes what a file that had the old bytes has become, if patterns are changed: to the file, or to the output for
+    /// standard input. Returns whether that can be done; if not, it is reported.
+    fn write_fixed(&mut self, file: &str, old: &[u8], fixed: &FixedFile) -> Result<bool, RunError> {
         if file == STANDARD_INPUT {
             self.screen.out.write_all(&fixed.bytes)?;
             return Ok(true);
@@ -257,15 +257,18 @@ impl<S: System, O: Write, E: Write> FileRun<'_, '_, S, O, E> {
         if fixed.changed == 0 {
             return Ok(true);
         }
-        self.replace(file, &fixed.bytes)
+        self.replace(file, old, &fixed.bytes)
     }
 
-    /// Writes the bytes to the file, and returns whether that can be done; if not, it is reported.
-    pub(super) fn replace(&mut self, file: &str, bytes: &[u8]) -> Result<bool, RunError> {
-        let Err(error) = self.sources.replace(file, bytes) else {
+    /// Writes the new bytes to the file, from which the old ones were read, and returns whether that can be done; if not, it is
+    /// reported.
+    pub(super) fn replace(&mut self, file: &str, old: &[u8], new: &[u8]) -> Result<bool, RunError> {
+        let Err(error) = self.sources.replace(file, old, new) else {
             return Ok(true);
         };
-        if error.kind() == ErrorKind::OutOfMemory {
+        if let ReplaceError::System(error) = &error
+            && error.kind() == ErrorKind::OutOfMemory
+        {
             return Err(RunError::Memory(AllocError));
         }
         writeln!(
@@ -289,7 +292,7 @@ impl<S: System, O: Write, E: Write> FileRun<'_, '_, S, O, E> {
             return unread(file, error, &mut self.screen.err);
         }
         let fixed = self.fixed_file(file, &bytes)?;
-        if mode != FixMode::Show && !self.write_fixed(file, &fixed)? {
+        if mode != FixMode::Show && !self.write_fixed(file, &bytes, &fixed)? {
             let found = self.process_reader(file, &mut bytes.as_slice())?;
             return Ok(found.and(Outcome::Unread));
         }

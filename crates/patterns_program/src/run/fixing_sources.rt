@@ -218,7 +218,7 @@ impl<S: System, O: Write, E: Write> FileRun<'_, '_, S, O, E> {
         if !self.see_unread(changes)? || mode == FixMode::Show {
             return Ok(true);
         }
-        self.replace(file, changed.as_bytes())
+        self.replace(file, &bytes, changed.as_bytes())
     }
 
     /// Changes the patterns in their sources, as the mode says. The changes of a source that cannot be changed, and those that
