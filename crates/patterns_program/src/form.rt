@@ -25,10 +25,10 @@ impl<'a> FileFormat<'a> {
 
     /// The keys that the arguments name, under which texts of JSON are patterns.
     pub(crate) fn named_keys(self) -> &'a [&'a str] {
-        match self {
-            FileFormat::Values(keys) => keys.named,
-            FileFormat::Records(_) | FileFormat::Extracted => &[],
-        }
+        let FileFormat::Values(keys) = self else {
+            return &[];
+        };
+        keys.named
     }
 }
 

@@ -21,7 +21,8 @@ pub fn flags_of_pattern<S: System, E: Write>(
     sources: &S,
     err: &mut E,
 ) -> Result<Option<u32>, RunError>
-    ensures given { IsTrue job.entry.choices.has_flags → IfOk result (λ found. IfSome found (λ flags. flags ≡ job.entry.flags)) }
+    ensures given { IsTrue job.entry.choices.has_flags →
+        IfOk result (λ found. IfSome found (λ flags. flags ≡ job.entry.flags)) }
 {
     let plan = Plan::of(alloc, job, &[file], sources, err)?;
     let Some(planned) = plan.files.first() else {
