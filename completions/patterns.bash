@@ -12,12 +12,12 @@ _patterns() {
         --flags | --keys | --max-warnings | --regexp | -e) return ;;
     esac
     case ${COMP_WORDS[1]} in
-        check) options='--flags -e --regexp -z --null-data --quiet --color --config --no-config --textmate --keys --records --format --json -h --help' ;;
-        tree) options='--flags --ascii --spans --trivia --all --classes --json --file -h --help' ;;
-        picture) options='--flags --html --width --file -h --help' ;;
-        lint) options='--flags -e --regexp -z --null-data --quiet --color --config --no-config --textmate --keys --records --allow --warn --deny --max-warnings --fix --diff --format --json --verbose --rules -h --help' ;;
-        format) options='--flags -e --regexp -z --null-data --quiet --color --config --no-config --textmate --keys --records --write --check --diff --verbose --width --compact --canonical --drop-comments -h --help' ;;
-        groups) options='--flags -e --regexp -z --null-data --quiet --color --config --no-config --textmate --keys --records --classes --json -h --help' ;;
+        check) options='--flags -e --regexp -z --null-data --lines -q --quiet --color --config --no-config --textmate --keys --records --format --json -h --help' ;;
+        tree) options='--flags --ascii --spans --trivia --all --classes --json -e --regexp --file --config --no-config -h --help' ;;
+        picture) options='--flags --html --width -e --regexp --file --config --no-config -h --help' ;;
+        lint) options='--flags -e --regexp -z --null-data --lines -q --quiet --color --config --no-config --textmate --keys --records --allow --warn --deny --max-warnings --fix --diff --format --json -v --verbose --rules -h --help' ;;
+        format) options='--flags -e --regexp -z --null-data --lines -q --quiet --color --config --no-config --textmate --keys --records --write --check --diff -v --verbose --width --compact --canonical --drop-comments -h --help' ;;
+        groups) options='--flags -e --regexp -z --null-data --lines -q --quiet --color --config --no-config --textmate --keys --records --classes --json -h --help' ;;
         help) options='check tree picture lint format groups' ;;
     esac
     case $word in

@@ -2,7 +2,8 @@
 use crate::rules::levels_chosen;
 use crate::words::{
     ReportFormat, canvas_chosen, choices_chosen, command, fixing_chosen, flags_chosen, form_chosen,
-    format_chosen, look_chosen, max_warnings_chosen, paints_chosen, verb_chosen, width_chosen,
+    format_chosen, look_chosen, max_warnings_chosen, paints_chosen, pattern_chosen, verb_chosen,
+    width_chosen,
 };
 use clap::error::ErrorKind;
 use clap::{ArgMatches, Error};
@@ -18,6 +19,7 @@ use patterns_program::fixes::FixMode;
 use patterns_program::form::FileFormat;
 use patterns_program::formatted::PatternForm;
 use patterns_program::lines::Ending;
+use patterns_program::pattern_flags::flags_of_pattern;
 use patterns_program::run::{Job, STANDARD_INPUT, Verb, run};
 use patterns_program::sources::System;
 use patterns_text::error::{RunError, give_up};
@@ -117,6 +119,39 @@ impl<S: System, O: Write, E: Write> ProgramCall<'_, S, O, E> {
         draw_tree(subject, look_chosen(matches), self.out, self.err)
     }
 
+    /// The job that the arguments choose, where no file is changed.
+    fn job_chosen<'m>(
+        &self,
+        verb: Verb,
+        flags: u32,
+        matches: &'m ArgMatches<'_>,
+        levels: &'m [RuleLevel<'m>],
+    ) -> Job<'m> {
+        Job {
+            verb,
+            flags,
+            form: form_chosen(matches),
+            fixing: None,
+            patterns: &[],
+            is_quiet: matches.get_flag("quiet"),
+            max_warnings: max_warnings_chosen(matches),
+            paints: paints_chosen(matches, self.auto),
+            choices: choices_chosen(matches, levels),
+        }
+    }
+
+    /// The flags that a pattern of the file is parsed under, as its configuration and the arguments choose them; none if
+    /// the configuration cannot be read.
+    fn flags_of(
+        &mut self,
+        file: &str,
+        flags: u32,
+        matches: &ArgMatches<'_>,
+    ) -> Result<Option<u32>, RunError> {
+        let job = self.job_chosen(Verb::Check, flags, matches, &[]);
+        flags_of_pattern(self.alloc, job, file, self.sources, self.err)
+    }
+
     /// Draws the tree of the pattern that the arguments give, or choose from a file.
     fn execute_pattern(
         &mut self,
@@ -125,14 +160,20 @@ impl<S: System, O: Write, E: Write> ProgramCall<'_, S, O, E> {
         matches: &ArgMatches<'_>,
     ) -> Result<u8, RunError> {
         let alloc = self.alloc;
-        if let Some(pattern) = matches.get_str("pattern") {
+        if let Some(pattern) = pattern_chosen(matches) {
+            let Some(flags) = self.flags_of(STANDARD_INPUT, flags, matches)? else {
+                return Ok(MISUSED);
+            };
             return Ok(self.draw(name, Subject::of_argument(alloc, flags, pattern), matches));
         }
         let Some(position) = matches.get_str("file") else {
             return Ok(MISUSED);
         };
-        match read_pattern(alloc, position, self.sources, self.err)? {
-            Some(found) => Ok(self.draw(name, found.subject(alloc, flags), matches)),
+        let Some(found) = read_pattern(alloc, position, self.sources, self.err)? else {
+            return Ok(MISUSED);
+        };
+        match self.flags_of(found.file(), flags, matches)? {
+            Some(flags) => Ok(self.draw(name, found.subject(alloc, flags), matches)),
             None => Ok(MISUSED),
         }
     }
@@ -153,21 +194,12 @@ impl<S: System, O: Write, E: Write> ProgramCall<'_, S, O, E> {
         if !can_report(verb, fixing) {
             return explain_fix(self.err);
         }
-        let form = form_chosen(matches);
-        if let Some(misuse) = format_misuse(verb, form, !files.is_empty()) {
+        let mut job = self.job_chosen(verb, flags, matches, levels);
+        job.fixing = fixing;
+        job.patterns = patterns;
+        if let Some(misuse) = format_misuse(verb, job.form, !files.is_empty()) {
             return explain_misuse(misuse, self.err);
         }
-        let job = Job {
-            verb,
-            flags,
-            form,
-            fixing,
-            patterns,
-            is_quiet: matches.get_flag("quiet"),
-            max_warnings: max_warnings_chosen(matches),
-            paints: paints_chosen(matches, self.auto),
-            choices: choices_chosen(matches, levels),
-        };
         Ok(run(self.alloc, job, files, self.sources, self.out, self.err))
     }
 

@@ -53,7 +53,13 @@ patterns.toml, from its folder upwards; options win over it";
 const REGEXP_HELP: &str = "A pattern, which may begin with -; can be given several times. Files
 are read after these patterns, and only if they are named";
 
+const ONE_REGEXP_HELP: &str = "The pattern, which may begin with -";
+
 const NULL_HELP: &str = "A pattern ends with NUL, and not with its line";
+
+const EACH_LINE_HELP: &str = "Each line is a pattern, whatever the file's name. Without this, lines
+are written only to a file without an extension, or with one of txt,
+patterns, regex, regexp, re, lst and list";
 
 const TEXTMATE_HELP: &str = "Each file is JSON, as the grammars of TextMate and VS Code, and
 its texts under the keys match, begin, end, while, firstLineMatch,
@@ -272,8 +278,17 @@ fn null_arg<'a>(alloc: Global) -> Arg<'a> {
         .help(NULL_HELP)
 }
 
+fn each_line_arg<'a>(alloc: Global) -> Result<Arg<'a>, AllocError> {
+    Arg::new(alloc, "lines")
+        .long("lines")
+        .action(ArgAction::SetTrue)
+        .help(EACH_LINE_HELP)
+        .conflicts_with_all(&["null-data", "textmate", "keys", "records"])
+}
+
 fn quiet_arg<'a>(alloc: Global) -> Arg<'a> {
     Arg::new(alloc, "quiet")
+        .short('q')
         .long("quiet")
         .action(ArgAction::SetTrue)
         .help(QUIET_HELP)
@@ -316,6 +331,7 @@ fn over_files<'a>(
         .arg(flags_arg(alloc))?
         .arg(regexp_arg(alloc))?
         .arg(null_arg(alloc))?
+        .arg(each_line_arg(alloc)?)?
         .arg(quiet_arg(alloc))?
         .arg(color_arg(alloc))?;
     with_config(alloc, command)?.arg(files_arg(alloc)?)
@@ -368,19 +384,26 @@ fn json_arg<'a>(alloc: Global) -> Arg<'a> {
         .help(JSON_HELP)
 }
 
-/// The two arguments of which one gives the pattern.
+/// The arguments of which one gives the pattern, and those that choose its configuration.
 fn with_pattern<'a>(alloc: Global, command: Command<'a>) -> Result<Command<'a>, AllocError> {
+    let regexp = Arg::new(alloc, "regexp")
+        .short('e')
+        .long("regexp")
+        .value_name("PATTERN")
+        .allow_hyphen_values(true)
+        .help(ONE_REGEXP_HELP)
+        .conflicts_with("pattern")?;
     let file = Arg::new(alloc, "file")
         .long("file")
         .value_name("POSITION")
         .allow_hyphen_values(true)
         .help(POSITION_HELP)
-        .conflicts_with("pattern")?;
+        .conflicts_with_all(&["pattern", "regexp"])?;
     let pattern = Arg::new(alloc, "pattern")
         .value_name("PATTERN")
-        .required_unless_present("file")?
-        .help("The pattern; put -- before one that begins with -");
-    command.arg(file)?.arg(pattern)
+        .required_unless_present_any(&["file", "regexp"])?
+        .help("The pattern; put -- or -e before one that begins with -");
+    with_config(alloc, command.arg(regexp)?.arg(file)?)?.arg(pattern)
 }
 
 fn classes_arg<'a>(alloc: Global, help: &'a str) -> Result<Arg<'a>, AllocError> {
@@ -472,6 +495,7 @@ fn with_outputs<'a>(alloc: Global, command: Command<'a>) -> Result<Command<'a>, 
 /// The options of `format` on the lines of patterns.
 fn with_lines<'a>(alloc: Global, command: Command<'a>) -> Result<Command<'a>, AllocError> {
     let verbose = Arg::new(alloc, "verbose")
+        .short('v')
         .long("verbose")
         .action(ArgAction::SetTrue)
         .help(LINES_HELP)
@@ -561,6 +585,7 @@ fn lint_command<'a>(alloc: Global, names: &'a [&'a str]) -> Result<Command<'a>, 
         .action(ArgAction::SetTrue)
         .help("Lists the rules with an example of each, and reads no file");
     let verbose = Arg::new(alloc, "verbose")
+        .short('v')
         .long("verbose")
         .action(ArgAction::SetTrue)
         .help(VERBOSE_HELP);
@@ -736,8 +761,8 @@ fn config_chosen<'m>(matches: &'m ArgMatches<'_>) -> ConfigChoice<'m> {
 /// Whether the arguments choose how files have patterns.
 fn has_form(matches: &ArgMatches<'_>) -> bool {
     match form_chosen(matches) {
-        FileFormat::Values(_) | FileFormat::Extracted => true,
-        FileFormat::Records(ending) => ending == Ending::Null,
+        FileFormat::Values(_) | FileFormat::Extracted | FileFormat::Records(Ending::Null) => true,
+        FileFormat::Records(Ending::Line) => matches.get_flag("lines"),
     }
 }
 
@@ -758,6 +783,14 @@ pub(crate) fn choices_chosen<'m>(
 /// How many warnings there may be, if the arguments limit that.
 pub(crate) fn max_warnings_chosen(matches: &ArgMatches<'_>) -> Option<u64> {
     matches.get_one("max-warnings")
+}
+
+/// The pattern that is among the arguments; none if it is one of a file.
+pub(crate) fn pattern_chosen<'m>(matches: &'m ArgMatches<'_>) -> Option<&'m str> {
+    match matches.get_str("regexp") {
+        Some(pattern) => Some(pattern),
+        None => matches.get_str("pattern"),
+    }
 }
 
 /// How the arguments choose a tree to be drawn.

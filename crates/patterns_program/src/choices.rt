@@ -49,7 +49,7 @@ pub struct Choices<'a> {
     pub config: ConfigChoice<'a>,
     /// Whether they choose the flags.
     pub has_flags: bool,
-    /// Whether they choose how files have patterns.
+    /// Whether they choose how files have patterns, whatever the names of the files are.
     pub has_form: bool,
     /// Whether they choose that what `lint` does not search is reported.
     pub is_verbose: bool,

@@ -22,7 +22,12 @@ pub struct FilePattern<'a> {
     pattern: String,
 }
 
-impl FilePattern<'_> {
+impl<'a> FilePattern<'a> {
+    /// The name of the file.
+    pub fn file(&self) -> &'a str {
+        self.file
+    }
+
     /// The pattern, and what is needed to parse it under the flags and to report on it.
     pub fn subject(&self, alloc: Global, flags: u32) -> Subject<'_>
         ensures flags { result.flags ≡ flags }

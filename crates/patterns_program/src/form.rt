@@ -1,7 +1,6 @@
 //! How files have patterns.
 use crate::lines::Ending;
 use crate::values::keys::Keys;
-use std::fmt;
 use std::path::Path;
 
 /// How a file has patterns.
@@ -15,7 +14,7 @@ pub enum FileFormat<'a> {
     Extracted,
 }
 
-impl FileFormat<'_> {
+impl<'a> FileFormat<'a> {
     /// What a pattern ends with that is written. One that is a text of JSON ends with its line.
     pub(crate) fn ending(self) -> Ending {
         match self {
@@ -24,55 +23,88 @@ impl FileFormat<'_> {
         }
     }
 
-    /// The other format that a file has by its name, if it is read as lines of patterns.
-    pub(crate) fn other_format(self, file: &str) -> Option<OtherFormat> {
-        let FileFormat::Records(Ending::Line) = self else {
-            return None;
+    /// The keys that the arguments name, under which texts of JSON are patterns.
+    pub(crate) fn named_keys(self) -> &'a [&'a str] {
+        let FileFormat::Values(keys) = self else {
+            return &[];
         };
-        OtherFormat::of(file)
+        keys.named
     }
 }
 
-/// A format of files that do not consist of lines of patterns.
+/// What the name of a file says of how it has patterns.
 #[derive(Clone, Copy)]
-pub(crate) enum OtherFormat {
+pub(crate) enum NamedFormat {
+    /// Each line is a pattern.
+    Lines,
     Json,
-    /// A property list or YAML, which no option reads.
+    /// It is a property list or YAML, which no option reads.
     Unreadable,
+    /// Nothing: it may be a source.
+    Unknown,
 }
 
-/// How the names of files end that are property lists or YAML.
-static UNREADABLE: [&str; 5] = ["tmLanguage", "plist", "sublime-syntax", "yaml", "yml"];
+/// What names with these extensions say, in capitals or not.
+static EXTENSIONS: [(&str, NamedFormat); 13] = [
+    ("txt", NamedFormat::Lines),
+    ("patterns", NamedFormat::Lines),
+    ("regex", NamedFormat::Lines),
+    ("regexp", NamedFormat::Lines),
+    ("re", NamedFormat::Lines),
+    ("lst", NamedFormat::Lines),
+    ("list", NamedFormat::Lines),
+    ("json", NamedFormat::Json),
+    ("tmLanguage", NamedFormat::Unreadable),
+    ("plist", NamedFormat::Unreadable),
+    ("sublime-syntax", NamedFormat::Unreadable),
+    ("yaml", NamedFormat::Unreadable),
+    ("yml", NamedFormat::Unreadable),
+];
 
-/// Whether an extension is this one, in capitals or not.
-fn is_extension(extension: &str, known: &str) -> bool {
-    extension.eq_ignore_ascii_case(known)
-}
+/// That a file of JSON is read as lines, and how it can be read.
+const ADVICE_ON_JSON: &str =
+    "each line is read as a pattern; with --textmate or --keys, check, lint and groups read JSON";
 
-impl OtherFormat {
-    /// That of a file of this name.
-    fn of(file: &str) -> Option<OtherFormat> {
-        let extension = Path::new(file).extension()?;
-        if is_extension(extension, "json") {
-            return Some(OtherFormat::Json);
+/// That a file is read as lines whose format no option reads.
+const ADVICE_ON_UNREADABLE: &str = "each line is read as a pattern; no option reads this format";
+
+/// Why lines are not written to a file of JSON, and how its patterns can be.
+const REFUSAL_OF_JSON: &str = "not written, since its name is not that of a file of patterns: \
+use --textmate or --keys for the patterns in JSON, or --lines if each line is a pattern";
+
+/// Why lines are not written to a file of another format, and how its patterns can be.
+const REFUSAL_OF_SOURCE: &str = "not written, since its name is not that of a file of patterns: \
+use --records for the patterns in a source, or --lines if each line is a pattern";
+
+impl NamedFormat {
+    /// What the name of a file says. One without an extension is that of a file of patterns.
+    pub(crate) fn of(file: &str) -> NamedFormat {
+        let Some(extension) = Path::new(file).extension() else {
+            return NamedFormat::Lines;
+        };
+        for (known, format) in EXTENSIONS.iter() {
+            if extension.eq_ignore_ascii_case(known) {
+                return *format;
+            }
         }
-        if UNREADABLE
-            .iter()
-            .any(|known| is_extension(extension, known))
-        {
-            return Some(OtherFormat::Unreadable);
-        }
-        None
+        NamedFormat::Unknown
     }
-}
 
-/// How a file of this format is read, and how it can be read.
-impl fmt::Display for OtherFormat {
-    fn fmt<W: fmt::Write>(&self, f: &mut fmt::Formatter<W>) -> fmt::Result {
-        f.write_str("each line is read as a pattern; ")?;
-        f.write_str(match self {
-            OtherFormat::Json => "with --textmate or --keys, check, lint and groups read JSON",
-            OtherFormat::Unreadable => "no option reads this format",
-        })
+    /// What is said of a file with such a name that is read as lines; none if nothing is.
+    pub(crate) fn advice(self) -> Option<&'static str> {
+        match self {
+            NamedFormat::Json => Some(ADVICE_ON_JSON),
+            NamedFormat::Unreadable => Some(ADVICE_ON_UNREADABLE),
+            NamedFormat::Lines | NamedFormat::Unknown => None,
+        }
+    }
+
+    /// Why lines are not written to a file with such a name, unless that is chosen; none if they are.
+    pub(crate) fn refusal(self) -> Option<&'static str> {
+        match self {
+            NamedFormat::Lines => None,
+            NamedFormat::Json => Some(REFUSAL_OF_JSON),
+            NamedFormat::Unreadable | NamedFormat::Unknown => Some(REFUSAL_OF_SOURCE),
+        }
     }
 }

@@ -17,6 +17,7 @@ pub mod lines;
 mod lint;
 pub mod objects;
 mod outcome;
+pub mod pattern_flags;
 mod plan;
 pub mod printing;
 mod progress;

@@ -4,9 +4,8 @@ use crate::configs::{
 };
 use crate::outcome::Outcome;
 use crate::run::{Job, STANDARD_INPUT};
-use crate::settings::FileSettings;
+use crate::settings::{FileSettings, is_listed};
 use crate::sources::{EntryKind, System};
-use patterns_config::config::is_among;
 use patterns_config::glob::PathNames;
 use patterns_text::error::RunError;
 use patterns_text::shown::Shown;
@@ -151,12 +150,7 @@ impl<S: System, E: Write> Planner<'_, S, E> {
             return Ok(());
         };
         let path = found.path_names(self.alloc, entry.path.as_str())?;
-        if !found
-            .config
-            .files
-            .as_ref()
-            .is_some_and(|globs| is_among(globs, &path))
-        {
+        if !is_listed(&found.config, &path) {
             return Ok(());
         }
         self.has_match = true;

@@ -9,7 +9,7 @@ use crate::annotations::{Annotations, annotation_rules};
 use crate::check::check;
 use crate::choices::Choices;
 use crate::fixes::FixMode;
-use crate::form::FileFormat;
+use crate::form::{FileFormat, NamedFormat};
 use crate::formatted::{PatternForm, stays_formatted, write_formatted};
 use crate::groups::list_groups;
 use crate::lines::{BOM, LineRecord, Start, lines_in, next_record};
@@ -19,12 +19,12 @@ use crate::outcome::Outcome;
 use crate::plan::{Plan, PlannedFile};
 use crate::printing::{format_pattern, is_formatted};
 use crate::progress::{STEP, Screen};
-use crate::settings::{flags_with, keys_with, levels_with};
+use crate::settings::{flags_with, is_form_chosen, keys_with, levels_with};
 use crate::source_positions::SourcePositions;
 use crate::sources::System;
 use crate::tally::{Counted, Tally};
 use crate::text::{Stream, Text};
-use crate::values::keys::Keys;
+use crate::values::keys::{Keys, UsedKeys};
 use crate::values::open_rules::OpenRules;
 use crate::values::text_of;
 use crate::values::trail::{Tokens, Trail};
@@ -184,6 +184,14 @@ impl Job<'_> {
         self.verb.is_lint() && keys.has_textmate
     }
 
+    /// Whether it writes patterns that are changed into their files.
+    fn writes_files(self) -> bool {
+        match self.fixing {
+            Some(FixMode::Write { .. }) => true,
+            Some(FixMode::Show) | None => false,
+        }
+    }
+
     /// Whether it writes lines that are formatted, so that it cannot read a file that a configuration says is JSON.
     pub(crate) fn writes_lines(self) -> bool {
         self.verb.writes_patterns() && !self.choices.has_form
@@ -338,6 +346,10 @@ struct FileRun<'a, 'p, S, O, E> {
     job: Job<'a>,
     /// The keys by which the file is JSON, if a configuration says so.
     configured: Option<Keys<'p>>,
+    /// Whether the arguments or a configuration choose how the file has patterns.
+    is_form_chosen: bool,
+    /// Under which keys of the arguments there are patterns.
+    used_keys: UsedKeys<'a>,
     sources: &'a S,
     screen: Screen<'a, S, O, E>,
     log: AnnotationLog,
@@ -512,6 +524,7 @@ impl<'a, S: System, O: Write, E: Write> FileRun<'a, '_, S, O, E> {
         let Some(text) = text_of(self.alloc, file, &bytes, err)? else {
             return Ok(Outcome::Unread);
         };
+        self.used_keys.has_json = true;
         let mut scratch = Scratch::new(self.alloc);
         let mut grammar_scratch = Scratch::new(self.alloc);
         let is_grammar = self.job.reads_rules(keys);
@@ -526,6 +539,7 @@ impl<'a, S: System, O: Write, E: Write> FileRun<'a, '_, S, O, E> {
             };
             let position = tokens.position();
             if let Some((spot, pattern)) = trail.pattern(token, position, keys) {
+                self.used_keys.add(trail.key())?;
                 let at = located(self.job, file, spot);
                 let rule = rules.rule()?;
                 let found = self.process_pattern(pattern, b"\n", at, rule.as_ref())?;
@@ -540,11 +554,11 @@ impl<'a, S: System, O: Write, E: Write> FileRun<'a, '_, S, O, E> {
 
     /// Says how the file is read, if its name is that of a file of another format.
     fn write_other_format(&mut self, file: &str) -> io::Result<()> {
-        if self.job.is_quiet || self.configured.is_some() {
+        if self.job.is_quiet || self.job.choices.has_form || self.configured.is_some() {
             return Ok(());
         }
-        if let Some(format) = self.job.form.other_format(file) {
-            writeln!(self.screen.err, "patterns: {file}: {format}")?;
+        if let Some(advice) = NamedFormat::of(file).advice() {
+            writeln!(self.screen.err, "patterns: {file}: {advice}")?;
         }
         Ok(())
     }
@@ -583,6 +597,7 @@ impl<'a, S: System, O: Write, E: Write> FileRun<'a, '_, S, O, E> {
     fn begin(&mut self, base: Job<'a>, file: &PlannedFile) -> Result<(), AllocError> {
         let settings = self.plan.settings(self.alloc, file)?;
         self.configured = keys_with(base, &settings);
+        self.is_form_chosen = is_form_chosen(base, &settings);
         self.job.flags = flags_with(base, &settings);
         self.job.verb = base.verb.with_levels(levels_with(base, &settings));
         self.see_flags(self.job.flags);
@@ -609,12 +624,23 @@ impl<'a, S: System, O: Write, E: Write> FileRun<'a, '_, S, O, E> {
         self.process_arguments()
     }
 
+    /// Why the file of this name is not read, if the patterns are to be written and cannot be.
+    fn refusal(&self, file: &str) -> Option<&'static str> {
+        if self.job.writes_lines() && self.configured.is_some() {
+            return Some(NO_VALUES);
+        }
+        if self.job.writes_files() && !self.is_form_chosen {
+            return NamedFormat::of(file).refusal();
+        }
+        None
+    }
+
     /// Does the verb's work on each pattern of a file of the plan.
     fn process_planned(&mut self, file: &PlannedFile) -> Result<Outcome, RunError> {
         self.begin(self.base, file)?;
         let name = file.name.as_str();
-        if self.job.writes_lines() && self.configured.is_some() {
-            writeln!(self.screen.err, "patterns: {}: {NO_VALUES}", Shown(name))?;
+        if let Some(refusal) = self.refusal(name) {
+            writeln!(self.screen.err, "patterns: {}: {refusal}", Shown(name))?;
             return Ok(Outcome::Unread);
         }
         self.process_file(name)
@@ -652,6 +678,23 @@ impl<'a, S: System, O: Write, E: Write> FileRun<'a, '_, S, O, E> {
         }
     }
 
+    /// Whether there is a pattern under each key that the arguments name, if a file was read as JSON. The others are
+    /// reported.
+    fn check_keys(&mut self) -> io::Result<Outcome> {
+        let mut outcome = Outcome::Good;
+        for key in self.base.form.named_keys() {
+            if self.used_keys.has_json && !self.used_keys.has(key) {
+                outcome = Outcome::Unread;
+                let key = Shown(key);
+                writeln!(
+                    self.screen.err,
+                    "patterns: no file has a pattern under the key \"{key}\""
+                )?;
+            }
+        }
+        Ok(outcome)
+    }
+
     /// Writes what comes before reports for another tool.
     fn begin_log(&mut self) -> io::Result<()> {
         match self.log.format() {
@@ -677,6 +720,7 @@ impl<'a, S: System, O: Write, E: Write> FileRun<'a, '_, S, O, E> {
         self.log.end(&mut self.screen.out)?;
         self.screen.out.flush()?;
         outcome = outcome.and(self.check_warnings()?);
+        outcome = outcome.and(self.check_keys()?);
         if !self.job.is_quiet {
             writeln!(self.screen.err, "{}", self.tally)?;
         }
@@ -701,6 +745,8 @@ fn run_plan<S: System, O: Write, E: Write>(
         plan,
         job,
         configured: None,
+        is_form_chosen: false,
+        used_keys: UsedKeys::new(alloc, job.form.named_keys()),
         sources,
         screen: Screen::new(sources, job.is_quiet, out, err),
         log: AnnotationLog::new(job.verb.annotations()),
@@ -721,12 +767,14 @@ fn run_plan<S: System, O: Write, E: Write>(
 
 /// Does the job on each pattern of the files, and returns the exit status: 0 if every pattern passes; 1 if one does
 /// not, or there are more warnings than there may be; 2 if a file, a line of one, a folder or a configuration cannot be
-/// read, which is reported on `err` while the others are still read; 3 if memory ran out or a write failed, which is
-/// reported on `err` if that is possible, unless the reader of a pipe closed it, and `out` may then have part of the
-/// output. A pattern of a file of records ends as the job says, and is reported with the number of its first line; a
-/// NUL that ends a pattern ends a line too. A text of JSON is reported with its path. The file `-` is standard input.
-/// Of a folder those files are read that its configuration names, sorted by name. The last line on `err` counts the
-/// patterns and their outcomes, unless the job is quiet or the status is 3.
+/// read, a file is not written, or no file has a pattern under a key that the job names, which is reported on `err` while
+/// the others are still read; 3 if memory ran out or a write failed, which is reported on `err` if that is possible,
+/// unless the reader of a pipe closed it, and `out` may then have part of the output. A pattern of a file of records ends
+/// as the job says, and is reported with the number of its first line; a NUL that ends a pattern ends a line too. A text
+/// of JSON is reported with its path. The file `-` is standard input. Of a folder those files are read that its
+/// configuration names, sorted by name. Lines are written only to a file whose name is that of a file of patterns, unless
+/// the job or a configuration chooses that it has lines. The last line on `err` counts the patterns and their outcomes,
+/// unless the job is quiet or the status is 3.
 ///
 /// The configuration of a file is the nearest `patterns.toml` from its folder upwards, and for what has no file that of
 /// the current folder, unless the job chooses one, or none. What it says counts where the arguments leave it open.

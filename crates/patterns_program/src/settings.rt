@@ -7,6 +7,7 @@ use crate::form::FileFormat;
 use crate::run::Job;
 use crate::values::keys::Keys;
 use fre_program::flag_word::flags_named;
+use patterns_config::config::{Config, is_among};
 use patterns_config::glob::PathNames;
 use patterns_config::settings::Settings;
 use patterns_lint::chosen::{Chosen, Level};
@@ -23,11 +24,21 @@ fn set_rules(chosen: &mut Chosen, names: &[String], level: Level) {
     }
 }
 
+/// Whether the path of a file is that of one of the `files` of a configuration.
+pub(crate) fn is_listed(config: &Config, path: &PathNames) -> bool {
+    config
+        .files
+        .as_ref()
+        .is_some_and(|globs| is_among(globs, path))
+}
+
 /// The settings of one file: what is said of all files, and then what is said of some, this one among them. Of several
 /// for one thing the last one counts.
 #[derive(Drop)]
 pub(crate) struct FileSettings<'a> {
     found: Vec<&'a Settings>,
+    /// Whether the configuration names the file: by its `files`, or by those of an override.
+    is_named: bool,
 }
 
 impl<'a> FileSettings<'a> {
@@ -35,6 +46,7 @@ impl<'a> FileSettings<'a> {
     pub(crate) fn none(alloc: Global) -> FileSettings<'a> {
         FileSettings {
             found: Vec::new(alloc),
+            is_named: false,
         }
     }
 
@@ -47,12 +59,17 @@ impl<'a> FileSettings<'a> {
         let config = &found.config;
         let mut settings = Vec::new(alloc);
         settings.push(&config.settings)?;
+        let mut is_named = path.is_some_and(|path| is_listed(config, path));
         for one in &config.overrides {
             if path.is_some_and(|path| one.is_of(path)) {
                 settings.push(&one.settings)?;
+                is_named = true;
             }
         }
-        Ok(FileSettings { found: settings })
+        Ok(FileSettings {
+            found: settings,
+            is_named,
+        })
     }
 
     /// The flags, if they are set.
@@ -121,6 +138,13 @@ pub(crate) fn keys_with<'s>(job: Job<'_>, settings: &FileSettings<'s>) -> Option
         return None;
     }
     settings.keys()
+}
+
+/// Whether it is chosen how a file with these settings has patterns: by the arguments, or by its configuration.
+pub(crate) fn is_form_chosen(job: Job<'_>, settings: &FileSettings<'_>) -> bool
+    ensures given { IsTrue job.entry.choices.has_form → IsTrue result }
+{
+    job.choices.has_form || settings.is_named || settings.is_json()
 }
 
 /// The levels of rules for a file with these settings: the default ones, then those of the configuration, then those of

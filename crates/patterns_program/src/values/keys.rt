@@ -2,6 +2,8 @@
 ghost use Rattle.std.specs.Prelude.{◌↔◌, IsTrue, Contains};
 ghost use Rattle.patterns_program.specs.Keys.{rule_keys, grammar_keys};
 
+use std::alloc::{AllocError, Global};
+
 /// Under which keys of JSON a text is a pattern.
 #[derive(Clone, Copy)]
 pub struct Keys<'a> {
@@ -41,5 +43,40 @@ impl Keys<'_> {
     /// TextMate's grammars those of `end` and `while` are of the groups of `begin`.
     pub(crate) fn refers_to_begin(self, key: &str) -> bool {
         self.has_textmate && matches!(key, "end" | "while")
+    }
+}
+
+/// Under which of the keys that the arguments name a run has found patterns.
+#[derive(Drop)]
+pub(crate) struct UsedKeys<'a> {
+    /// Whether a file was read as JSON.
+    pub(crate) has_json: bool,
+    named: &'a [&'a str],
+    used: Vec<&'a str>,
+}
+
+impl<'a> UsedKeys<'a> {
+    /// Before the first file of a run.
+    pub(crate) fn new(alloc: Global, named: &'a [&'a str]) -> UsedKeys<'a> {
+        UsedKeys {
+            has_json: false,
+            named,
+            used: Vec::new(alloc),
+        }
+    }
+
+    /// Adds the key of a pattern, if the arguments name it.
+    pub(crate) fn add(&mut self, key: &str) -> Result<(), AllocError> {
+        for name in self.named {
+            if *name == key && !self.has(key) {
+                self.used.push(*name)?;
+            }
+        }
+        Ok(())
+    }
+
+    /// Whether a pattern was found under the key.
+    pub(crate) fn has(&self, key: &str) -> bool {
+        self.used.iter().any(|used| *used == key)
     }
 }

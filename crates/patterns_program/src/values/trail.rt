@@ -93,6 +93,14 @@ impl<'a> Trail<'a> {
         format!(in alloc; "{path}")
     }
 
+    /// The key of the value that the walk has come to; the empty one of a value that has none.
+    pub(crate) fn key(&self) -> &'a str {
+        match self.steps.last() {
+            Some(PathStep::Member(key)) => key,
+            Some(PathStep::Item(_)) | None => "",
+        }
+    }
+
     /// Where the token is that the walk has come to at this position, if it is a text under one of the keys, and that
     /// text.
     pub(crate) fn pattern(
