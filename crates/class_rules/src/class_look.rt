@@ -1,0 +1,105 @@
+//! What a class with needless items is likely meant as.
+use crate::class_items::{ClassItem, push_ranges};
+use crate::class_problem::ClassLook;
+use crate::class_source::ClassSource;
+use crate::mixed_range::is_wide;
+use fancy_syntax::span::Span;
+use regex_class::ClassRange;
+use std::alloc::AllocError;
+
+/// What is likely meant by a class, and the part of the class that shows it.
+#[derive(Clone, Copy)]
+pub(crate) struct LookAt {
+    pub(crate) span: Span,
+    pub(crate) look: ClassLook,
+}
+
+/// The character that the item is, if it is written as itself.
+fn plain_character(item: &ClassItem) -> Option<char> {
+    let (start, end) = item.ends?;
+    let len = item.span.end.saturating_sub(item.span.start);
+    if start == end && len == start.len_utf8() {
+        Some(start)
+    } else {
+        None
+    }
+}
+
+/// Whether the class begins and ends with a colon.
+fn is_between_colons(source: &str) -> bool {
+    let inside = source.strip_prefix('[').unwrap_or(source);
+    let inside = inside.strip_prefix('^').unwrap_or(inside);
+    match inside.strip_prefix(':') {
+        Some(rest) => rest.ends_with(":]"),
+        None => false,
+    }
+}
+
+/// Whether a bar is one of the items.
+fn has_bar(items: &[ClassItem]) -> bool {
+    items.iter().any(|item| plain_character(item) == Some('|'))
+}
+
+/// Whether a letter or a digit is two of the items.
+fn has_twice(items: &[ClassItem]) -> bool {
+    for (index, item) in items.iter().enumerate() {
+        let character = plain_character(item);
+        let before = items.get(..index).unwrap_or(&[]);
+        if character.is_some_and(|c| c.is_alphanumeric())
+            && before
+                .iter()
+                .any(|other| plain_character(other) == character)
+        {
+            return true;
+        }
+    }
+    false
+}
+
+/// The first range over several kinds of characters that has some of these characters.
+fn wide_range(items: &[ClassItem], ranges: &[ClassRange]) -> Option<Span> {
+    for item in items {
+        if let Some((start, end)) = item.ends
+            && is_wide(*item)
+            && ranges
+                .iter()
+                .any(|range| range.0 <= end as u32 && start as u32 <= range.1)
+        {
+            return Some(item.span);
+        }
+    }
+    None
+}
+
+/// What the class is likely meant as, where the last items can be left out; none if it seems to be meant as it is.
+pub(crate) fn class_look(
+    class: ClassSource<'_>,
+    items: &[ClassItem],
+    needless: &[ClassItem],
+) -> Result<Option<LookAt>, AllocError> {
+    let span = Span {
+        start: 0,
+        end: class.source.len(),
+    };
+    if is_between_colons(class.source) {
+        let look = ClassLook::PosixClass;
+        return Ok(Some(LookAt { span, look }));
+    }
+    if has_bar(items) {
+        let look = ClassLook::Alternatives;
+        return Ok(Some(LookAt { span, look }));
+    }
+    let mut ranges = Vec::new(class.alloc);
+    for item in needless {
+        push_ranges(class, *item, &mut ranges)?;
+    }
+    if let Some(span) = wide_range(items, &ranges) {
+        let look = ClassLook::WideRange;
+        return Ok(Some(LookAt { span, look }));
+    }
+    if has_twice(items) {
+        let look = ClassLook::Word;
+        return Ok(Some(LookAt { span, look }));
+    }
+    Ok(None)
+}
