@@ -47,14 +47,9 @@ IsProblemAt f casei source text span problem.Empty =
     (set : CharacterSet) × IsMeaningOf (class_config f.unicode casei) (chars text) (Characters set)
     × ((c : ℕ) → has_character set c ≡ false)
 IsProblemAt f casei source text span problem.DuplicateCharacters = IsNeedless f casei source span
-IsProblemAt f casei source text span (problem.SuspiciousClass look) = (part : Span) × IsNeedless f casei source part
 IsProblemAt f casei source text span (problem.SuspiciousRange first last) = IsMixedRange f source span first last
+IsProblemAt f casei source text span (problem.SuspiciousClass look) = ⊥
 IsProblemAt f casei source text span (problem.SubsumedBranch other branch) = ⊥
-
--- the finding is a problem of each class of which the part at the span can be left out
-abbrev pub IsOfNeedless : Span → ClassFinding → Type 0
-IsOfNeedless span finding = (f : Flags) (casei : Bool) (source text : List ℕ) → IsNeedless f casei source span →
-    IsProblemAt f casei source text finding.span finding.problem
 
 -- each finding is a problem of the class
 abbrev pub AreProblems : Flags → Bool → List ℕ → List ℕ → List ClassFinding → Type 0

@@ -1,6 +1,6 @@
 //! What a class with needless items is likely meant as.
-use crate::class_items::{ClassItem, push_ranges};
-use crate::class_problem::ClassLook;
+use crate::class_items::{ClassItem, items_of, push_ranges};
+use crate::class_problem::{ClassFinding, ClassLook, ClassProblem};
 use crate::class_source::ClassSource;
 use crate::mixed_range::is_wide;
 use fancy_syntax::span::Span;
@@ -71,12 +71,42 @@ fn wide_range(items: &[ClassItem], ranges: &[ClassRange]) -> Option<Span> {
     None
 }
 
-/// What the class is likely meant as, where the last items can be left out; none if it seems to be meant as it is.
-pub(crate) fn class_look(
+/// Whether the item is one that can be left out, by one of the findings.
+fn is_needless(item: ClassItem, findings: &[ClassFinding]) -> bool {
+    findings.iter().any(|one| one.problem == ClassProblem::DuplicateCharacters
+        && one.span == item.span)
+}
+
+/// The ranges of the characters of the items that can be left out.
+fn needless_ranges(
     class: ClassSource<'_>,
     items: &[ClassItem],
-    needless: &[ClassItem],
+    findings: &[ClassFinding],
+) -> Result<Vec<ClassRange>, AllocError> {
+    let mut ranges = Vec::new(class.alloc);
+    for item in items {
+        if is_needless(*item, findings) {
+            push_ranges(class, *item, &mut ranges)?;
+        }
+    }
+    Ok(ranges)
+}
+
+/// What the class is likely meant as, which has these findings. None if none of its items can be left out, or it seems to
+/// be meant as it is.
+pub(crate) fn class_look(
+    class: ClassSource<'_>,
+    findings: &[ClassFinding],
 ) -> Result<Option<LookAt>, AllocError> {
+    if !findings
+        .iter()
+        .any(|one| one.problem == ClassProblem::DuplicateCharacters)
+    {
+        return Ok(None);
+    }
+    let Some(items) = items_of(class)? else {
+        return Ok(None);
+    };
     let span = Span {
         start: 0,
         end: class.source.len(),
@@ -85,19 +115,16 @@ pub(crate) fn class_look(
         let look = ClassLook::PosixClass;
         return Ok(Some(LookAt { span, look }));
     }
-    if has_bar(items) {
+    if has_bar(&items) {
         let look = ClassLook::Alternatives;
         return Ok(Some(LookAt { span, look }));
     }
-    let mut ranges = Vec::new(class.alloc);
-    for item in needless {
-        push_ranges(class, *item, &mut ranges)?;
-    }
-    if let Some(span) = wide_range(items, &ranges) {
+    let ranges = needless_ranges(class, &items, findings)?;
+    if let Some(span) = wide_range(&items, &ranges) {
         let look = ClassLook::WideRange;
         return Ok(Some(LookAt { span, look }));
     }
-    if has_twice(items) {
+    if has_twice(&items) {
         let look = ClassLook::Word;
         return Ok(Some(LookAt { span, look }));
     }

@@ -1,9 +1,8 @@
 //! Items of a class that the others contain.
 ghost use Rattle.std.specs.Prelude.{IfOk, IsTrue, OnOk};
-ghost use Rattle.class_rules.specs.ClassProblems.{IsNeedless, IsOfNeedless, KeepsProblems};
+ghost use Rattle.class_rules.specs.ClassProblems.{IsNeedless, KeepsProblems};
 
 use crate::class_items::{ClassItem, push_ranges};
-use crate::class_look::{LookAt, class_look};
 use crate::class_problem::{ClassFinding, ClassProblem};
 use crate::class_source::{ClassSource, characters_of_source, without};
 use crate::covered::{RangeSets, covered_sets};
@@ -39,8 +38,8 @@ fn is_needless(class: ClassSource<'_>, span: Span) -> Result<bool, AllocError>
     Ok(is_within)
 }
 
-/// The items that seem to be needless, from the last one to the first.
-fn candidates(class: ClassSource<'_>, items: &[ClassItem]) -> Result<Vec<ClassItem>, AllocError> {
+/// The spans of items that seem to be needless.
+fn candidates(class: ClassSource<'_>, items: &[ClassItem]) -> Result<Vec<Span>, AllocError> {
     let alloc = class.alloc;
     let mut sets = RangeSets {
         ranges: Vec::new(alloc),
@@ -50,34 +49,17 @@ fn candidates(class: ClassSource<'_>, items: &[ClassItem]) -> Result<Vec<ClassIt
         push_ranges(class, *item, &mut sets.ranges)?;
         sets.ends.push(sets.ranges.len())?;
     }
-    let mut needless = Vec::new(alloc);
-    for index in &covered_sets(alloc, &sets)? {
+    let mut spans = Vec::new(alloc);
+    for index in covered_sets(alloc, &sets)?.iter().take(MAX_ITEMS) {
         if let Some(item) = items.get(*index) {
-            needless.push(*item)?;
+            spans.push(item.span)?;
         }
     }
-    Ok(needless)
-}
-
-/// The problem of the class, of which the part at the span can be left out: this one, or what the class looks like.
-fn finding(span: Span, look: Option<LookAt>) -> ClassFinding
-    ensures { IsOfNeedless span result }
-{
-    match look {
-        Some(LookAt { span, look }) => ClassFinding {
-            span,
-            problem: ClassProblem::SuspiciousClass(look),
-        },
-        None => ClassFinding {
-            span,
-            problem: ClassProblem::DuplicateCharacters,
-        },
-    }
+    Ok(spans)
 }
 
 /// Adds the items that can be left out: the class has the same characters without any one of them. These are the items
-/// that the others contain; of two with the same characters the later one. If the class looks like something else, that
-/// alone is added.
+/// that the others contain; of two with the same characters the later one.
 pub(crate) fn add_needless(
     class: ClassSource<'_>,
     items: &[ClassItem],
@@ -86,19 +68,14 @@ pub(crate) fn add_needless(
     ensures { OnOk result (KeepsProblems class.entry.flags class.entry.casei class.entry.source.now
         found.old.items found.new.items) }
 {
-    let needless = candidates(class, items)?;
-    if needless.is_empty() {
-        return Ok(());
-    }
-    let look = class_look(class, items, &needless)?;
-    for item in needless.iter().take(MAX_ITEMS) {
-        if !is_needless(class, item.span)? {
+    for span in candidates(class, items)? {
+        if !is_needless(class, span)? {
             continue;
         }
-        found.push(finding(item.span, look))?;
-        if look.is_some() {
-            return Ok(());
-        }
+        found.push(ClassFinding {
+            span,
+            problem: ClassProblem::DuplicateCharacters,
+        })?;
     }
     Ok(())
 }
