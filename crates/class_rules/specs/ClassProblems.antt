@@ -48,6 +48,7 @@ IsProblemAt f casei source text span problem.Empty =
     × ((c : ℕ) → has_character set c ≡ false)
 IsProblemAt f casei source text span problem.DuplicateCharacters = IsNeedless f casei source span
 IsProblemAt f casei source text span (problem.SuspiciousRange first last) = IsMixedRange f source span first last
+IsProblemAt f casei source text span (problem.SuspiciousClass look) = ⊥
 IsProblemAt f casei source text span (problem.SubsumedBranch other branch) = ⊥
 
 -- each finding is a problem of the class

@@ -43,6 +43,52 @@ impl CharacterKind {
     }
 }
 
+/// What a class is likely meant as, which has an item that can be left out.
+#[derive(Debug, Clone, Copy, PartialEq, Eq)]
+pub enum ClassLook {
+    /// Alternatives: the class has a bar, as in `[get|set]`.
+    Alternatives,
+    /// A POSIX class without the brackets around it: the class begins and ends with a colon, as in `[:alpha:]`.
+    PosixClass,
+    /// A set with a range for each kind of character: one range is over several kinds, as in `[0-9a-fA-f]`.
+    WideRange,
+    /// A word: the class has a letter or a digit twice, as in `[http]`.
+    Word,
+}
+
+impl ClassLook {
+    /// What is reported of the class.
+    fn message(self) -> &'static str {
+        match self {
+            ClassLook::Alternatives =>
+                "class with needless characters and a bar, as if for alternatives",
+            ClassLook::PosixClass => {
+                "class that begins and ends with a colon, as a POSIX class without its outer brackets"
+            }
+            ClassLook::WideRange => {
+                "range over several kinds of characters, which contains other parts of the class"
+            }
+            ClassLook::Word => "class with a letter or a digit twice, as in a word",
+        }
+    }
+
+    /// What to do about it.
+    pub fn advice(self) -> &'static str {
+        match self {
+            ClassLook::Alternatives => {
+                "write `(?:..|..)` for alternatives, or each character once without the bar"
+            }
+            ClassLook::PosixClass => "write `[[:..:]]` for a POSIX class, or each character once",
+            ClassLook::WideRange => {
+                "write a range for each kind, as in `A-Za-z`, or a backslash before the hyphen"
+            }
+            ClassLook::Word => {
+                "write the word without brackets if it is meant, or each character once"
+            }
+        }
+    }
+}
+
 /// What is wrong with a class, or with a branch of one character.
 #[derive(Debug, Clone, Copy, PartialEq, Eq)]
 pub enum ClassProblem {
@@ -52,6 +98,8 @@ pub enum ClassProblem {
     Empty,
     /// An item of the class whose characters the others contain.
     DuplicateCharacters,
+    /// An item of the class can be left out, and the class is likely meant as something else.
+    SuspiciousClass(ClassLook),
     /// A range from a character of one kind to one of another.
     SuspiciousRange {
         first: CharacterKind,
@@ -79,6 +127,7 @@ impl fmt::Display for ClassProblem {
             ClassProblem::DuplicateCharacters => {
                 f.write_str("characters that the rest of the class contains already")
             }
+            ClassProblem::SuspiciousClass(look) => f.write_str(look.message()),
             ClassProblem::SuspiciousRange { first, last } => {
                 write!(f, "range from {} to {}", first.name(), last.name())
             }

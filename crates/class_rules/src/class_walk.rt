@@ -1,5 +1,6 @@
 //! The walk over the nodes of a pattern's tree.
-use crate::class_problem::ClassFinding;
+use crate::class_look::{LookAt, class_look};
+use crate::class_problem::{ClassFinding, ClassProblem};
 use crate::known_classes::{ClassText, KnownClasses};
 use crate::subsumed::add_subsumed;
 use fancy_spans::SpannedNode;
@@ -7,7 +8,16 @@ use fancy_syntax::expr::Expr;
 use fancy_syntax::span::Span;
 use std::alloc::{AllocError, Global};
 
-/// Adds what is wrong with the class.
+/// The span in the pattern of a span in a class that begins there.
+fn moved(span: Span, start: usize) -> Span {
+    Span {
+        start: start.saturating_add(span.start),
+        end: start.saturating_add(span.end),
+    }
+}
+
+/// Adds what is wrong with the class. If it looks like something else, that is said in place of the items that can be
+/// left out.
 fn add_of_class(
     node: SpannedNode<'_>,
     pattern: &str,
@@ -18,13 +28,21 @@ fn add_of_class(
         return Ok(());
     };
     let start = node.span().start;
-    for finding in known.findings(class)? {
-        let span = Span {
-            start: start.saturating_add(finding.span.start),
-            end: start.saturating_add(finding.span.end),
-        };
+    let source = known.source_of(class);
+    let findings = known.findings(class)?;
+    let look = class_look(source, findings)?;
+    if let Some(LookAt { span, look }) = look {
         found.push(ClassFinding {
-            span,
+            span: moved(span, start),
+            problem: ClassProblem::SuspiciousClass(look),
+        })?;
+    }
+    for finding in findings {
+        if look.is_some() && finding.problem == ClassProblem::DuplicateCharacters {
+            continue;
+        }
+        found.push(ClassFinding {
+            span: moved(finding.span, start),
             problem: finding.problem,
         })?;
     }

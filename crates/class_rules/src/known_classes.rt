@@ -220,6 +220,16 @@ impl KnownClasses {
         }
     }
 
+    /// The class, as one of a pattern that is parsed under these flags.
+    pub(crate) fn source_of<'c>(&self, class: ClassText<'c>) -> ClassSource<'c> {
+        ClassSource {
+            alloc: self.alloc,
+            source: class.source,
+            casei: class.casei,
+            flags: Flags::from_bits(self.flags),
+        }
+    }
+
     /// The index of the class, if it is known.
     fn find(&self, class: ClassText<'_>) -> Option<usize>
         ensures { IfSome result (λ i. IsSomeAnd (slice_get self.now.classes.items i) (IsOf class.entry self.now.flags)) }

@@ -3,6 +3,7 @@
 
 pub mod beginnings;
 mod class_items;
+mod class_look;
 pub mod class_problem;
 mod class_source;
 pub mod class_walk;

@@ -52,6 +52,16 @@ fn is_plain(span: Span, start: char, end: char) -> bool {
     span.end.saturating_sub(span.start) == ends.saturating_add(1)
 }
 
+/// Whether the item is a range over several kinds of characters, no end of which is written as an escape.
+pub(crate) fn is_wide(item: ClassItem) -> bool {
+    let Some((start, end)) = item.ends else {
+        return false;
+    };
+    let is_mixed = CharacterKind::of(start) != CharacterKind::of(end);
+    let has_kind_inside = ['0', 'A', 'a'].iter().any(|c| start < *c && *c < end);
+    is_plain(item.span, start, end) && (is_mixed || has_kind_inside)
+}
+
 /// The kinds of the ends of the item, if it is a range between characters of different kinds, neither of which is
 /// written as an escape.
 fn mixed_kinds(

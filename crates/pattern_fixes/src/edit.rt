@@ -38,9 +38,46 @@ fn left_out<'p>(start: usize, end: usize) -> Option<Edit<'p>> {
     })
 }
 
-/// The edit that leaves out the branch and the bar before it.
+/// Whether a comment begins here.
+fn is_comment(text: &str) -> bool {
+    text.starts_with('#') || text.starts_with("(?#")
+}
+
+/// Whether a comment follows on the same line, or one through the end of the line after a bar.
+fn has_comment_after(after: &str) -> bool {
+    let line = after.split('\n').next().unwrap_or("").trim_start();
+    match line.strip_prefix('|') {
+        Some(rest) => rest.trim_start().starts_with('#'),
+        None => is_comment(line),
+    }
+}
+
+/// Whether the text ends with the beginning of a line, and the line before is a comment.
+fn has_comment_before(before: &str) -> bool {
+    let mut lines = before.rsplit('\n');
+    let is_beginning = lines.next().unwrap_or("").trim_start().is_empty();
+    is_beginning && is_comment(lines.next().unwrap_or("").trim_start())
+}
+
+/// Whether a line remains of two, each in part, where the text between goes.
+fn joins_lines(before: &str, between: &str, after: &str) -> bool {
+    let first = before.rsplit('\n').next().unwrap_or("");
+    let last = after.split('\n').next().unwrap_or("");
+    between.contains('\n') && !first.trim_start().is_empty() && !last.trim_start().is_empty()
+}
+
+/// The edit that leaves out the branch and the bar before it. None if a comment is beside the branch, which may be about
+/// it, or if parts of two lines would become one line.
 fn without_branch<'p>(pattern: &str, branch: Span) -> Option<Edit<'p>> {
     let before = pattern.get(..branch.start)?.trim_end().strip_suffix('|')?;
+    let between = pattern.get(before.len()..branch.end)?;
+    let after = pattern.get(branch.end..)?;
+    if has_comment_before(before)
+        || has_comment_after(after)
+        || joins_lines(before, between, after)
+    {
+        return None;
+    }
     left_out(before.len(), branch.end)
 }
 

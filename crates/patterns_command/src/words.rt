@@ -189,7 +189,8 @@ warnings than --max-warnings allows, and 1 if not. docs/lint.md says what each r
 when it is silent.
 
 --allow, --warn and --deny take the names of rules, with commas between, or all. Each can be given
-several times. Of those that name a rule the last one counts, and all names every rule.";
+several times. Of those that name a rule the last one counts, and all names every rule; but
+--warn all leaves rules as they are whose reports are errors by default.";
 
 const VERBOSE_HELP: &str = "Writes which parts of patterns are too large to be searched for
 backtracking";

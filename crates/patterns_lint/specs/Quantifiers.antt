@@ -1,5 +1,5 @@
 -- Quantifiers that are surely not meant.
-use Rattle.std.specs.Prelude.{ℕ, Bool, false, ◌&&◌, ◌==◌, not, if◌then◌else◌, Option, Some, None}
+use Rattle.std.specs.Prelude.{ℕ, Bool, false, ◌&&◌, ◌==◌, not, nat_lt, if◌then◌else◌, Option, Some, None}
 use Rattle.fancy_grammar.specs.Tree.{Tree, repeat}
 use Rattle.patterns_lint.specs.declared.problem.Problem.{Problem}
 use Rattle.patterns_lint.specs.declared.problem.Problem.TheVariants as problem
@@ -20,6 +20,11 @@ abbrev pub is_empty_loop : Tree → Bool
 is_empty_loop (repeat t lo hi greedy) = (hi == no_limit) && can_match_empty t && not (matches_only_empty t)
 is_empty_loop _ = false
 
+-- a quantifier whose minimum is above its maximum
+abbrev pub is_invalid_quantifier : Tree → Bool
+is_invalid_quantifier (repeat t lo hi greedy) = nat_lt hi lo
+is_invalid_quantifier _ = false
+
 -- a quantifier that repeats once; where a branch beside it differs from it in the count alone, it shows the difference
 abbrev pub is_useless_quantifier : Bool → Tree → Bool
 is_useless_quantifier has_count_twin (repeat t lo hi greedy) = (lo == 1) && (hi == 1) && not has_count_twin
@@ -33,7 +38,8 @@ is_zero_quantifier _ _ = false
 -- what is wrong with the quantifier of a node, if it has one
 abbrev pub quantifier_problem : Bool → Bool → Tree → Option Problem
 quantifier_problem has_calls has_count_twin t =
-    if is_zero_quantifier has_calls t then Some problem.ZeroQuantifier
+    if is_invalid_quantifier t then Some problem.InvalidQuantifier
+    else if is_zero_quantifier has_calls t then Some problem.ZeroQuantifier
     else if is_useless_quantifier has_count_twin t then Some problem.UselessQuantifier
     else if is_quantified_assertion t then Some problem.QuantifiedAssertion
     else if is_empty_loop t then Some problem.EmptyLoop

@@ -7,12 +7,16 @@ use Rattle.fancy_grammar.specs.Tree.{ast_node, ast_group}
 abbrev pub above : ℕ → ℕ → Option ℕ
 above total n = if nat_lt total n then Some n else None
 
--- the group of a back reference or a condition, where there are fewer groups
+-- the group of a back reference, where there are fewer groups
 abbrev pub missing_group : ℕ → Tree → Option ℕ
 missing_group total (backref n casei) = above total n
 missing_group total (backref_at_level n level casei) = above total n
-missing_group total (backref_exists n level) = above total n
 missing_group _ _ = None
+
+-- the group of a condition, where there are fewer groups
+abbrev pub missing_condition_group : ℕ → Tree → Option ℕ
+missing_condition_group total (backref_exists n level) = above total n
+missing_condition_group _ _ = None
 
 -- a call of a group where there are fewer, or one that was not resolved: no other node of a parsed tree is as it was
 -- read

@@ -77,6 +77,7 @@ pub fn problems<'a>(
         pattern,
         total: tree.total_groups,
         has_calls: tree.contains_subroutines,
+        is_by_name: tree.numbered_groups_ignored,
         is_complete: grammar.is_some(),
         begin_groups: grammar.and_then(|rule| rule.begin_groups),
     };

@@ -3,7 +3,7 @@ use crate::attack_text::AttackText;
 use crate::grammar_rule::CaptureKey;
 use crate::rule::Rule;
 use crate::targets::is_of_digits;
-use class_rules::class_problem::{ClassFinding, ClassProblem};
+use class_rules::class_problem::{ClassFinding, ClassLook, ClassProblem};
 use dialects::difference::Difference;
 use fancy_syntax::span::Span;
 use patterns_text::excerpt::{Label, Related};
@@ -14,8 +14,13 @@ use std::fmt;
 /// What is wrong with a part of a pattern.
 #[derive(Clone, Copy)]
 pub enum Problem<'a> {
-    /// A reference to a group above the number of groups.
+    /// A back reference to a group above the number of groups.
     MissingGroup {
+        group: usize,
+        total: usize,
+    },
+    /// A condition on a group above the number of groups.
+    MissingConditionGroup {
         group: usize,
         total: usize,
     },
@@ -36,6 +41,8 @@ pub enum Problem<'a> {
     },
     /// A call that refers to no group.
     UnresolvedCall,
+    /// A reference by a number where groups without a name are ignored.
+    NumberedReference,
     /// A group with the name of another.
     DuplicateGroupName {
         group: Named<'a>,
@@ -55,6 +62,8 @@ pub enum Problem<'a> {
     EmptyBranch,
     QuantifiedAssertion,
     EmptyLoop,
+    /// A quantifier whose minimum is above its maximum.
+    InvalidQuantifier,
     UselessQuantifier,
     ZeroQuantifier,
     /// A repeat that can match a text in exponentially many ways.
@@ -85,6 +94,7 @@ fn rule_of_class(problem: ClassProblem) -> Rule {
         ClassProblem::Invalid(_) => Rule::InvalidClass,
         ClassProblem::Empty => Rule::EmptyClass,
         ClassProblem::DuplicateCharacters => Rule::DuplicateCharacters,
+        ClassProblem::SuspiciousClass(_) => Rule::SuspiciousClass,
         ClassProblem::SuspiciousRange { .. } => Rule::SuspiciousRange,
         ClassProblem::SubsumedBranch { .. } => Rule::SubsumedBranch,
     }
@@ -108,6 +118,8 @@ pub enum Help {
     Octal(Octal),
     /// About a back reference to group 0.
     WholePattern,
+    /// About a class that is likely meant as something else.
+    Class(ClassLook),
     /// About what other dialects read otherwise.
     Dialect(Difference),
 }
@@ -120,6 +132,7 @@ impl fmt::Display for Help {
             Help::WholePattern => {
                 f.write_str(r"group 0 is the whole match: write `\g<0>` to call the whole pattern")
             }
+            Help::Class(look) => f.write_str(look.advice()),
             Help::Dialect(difference) => f.write_str(difference.advice()),
         }
     }
@@ -146,6 +159,7 @@ impl<'a> Found<'a> {
             ClassProblem::Invalid(_)
             | ClassProblem::Empty
             | ClassProblem::DuplicateCharacters
+            | ClassProblem::SuspiciousClass(_)
             | ClassProblem::SuspiciousRange { .. } => None,
         };
         Found {
@@ -158,7 +172,9 @@ impl<'a> Found<'a> {
     /// Whether it is wrong with the number of a back reference that is a backslash and digits.
     pub fn is_of_digits(&self, pattern: &str) -> bool {
         match self.problem {
-            Problem::MissingGroup { .. } | Problem::UselessBackreference { .. } => {
+            Problem::MissingGroup { .. }
+            | Problem::NumberedReference
+            | Problem::UselessBackreference { .. } => {
                 is_of_digits(self.span.text(pattern).unwrap_or(""))
             }
             _ => false,
@@ -179,6 +195,7 @@ impl<'a> Found<'a> {
                     (None, _) => rule,
                 }
             }
+            Problem::Class(ClassProblem::SuspiciousClass(look)) => Help::Class(look),
             Problem::DialectDifference { difference } => Help::Dialect(difference),
             _ => rule,
         }
@@ -200,10 +217,12 @@ impl Problem<'_> {
     pub fn rule(self) -> Rule {
         match self {
             Problem::MissingGroup { .. } => Rule::MissingGroup,
+            Problem::MissingConditionGroup { .. } => Rule::MissingConditionGroup,
             Problem::MissingBeginGroup { .. } => Rule::MissingBeginGroup,
             Problem::MissingCaptureGroup { .. } => Rule::MissingCaptureGroup,
             Problem::UselessBackreference { .. } => Rule::UselessBackreference,
             Problem::UnresolvedCall => Rule::UnresolvedCall,
+            Problem::NumberedReference => Rule::NumberedReference,
             Problem::DuplicateGroupName { .. } => Rule::DuplicateGroupName,
             Problem::UnusedCapturingGroup { .. } => Rule::UnusedCapturingGroup,
             Problem::DuplicateBranch { .. } => Rule::DuplicateBranch,
@@ -211,6 +230,7 @@ impl Problem<'_> {
             Problem::EmptyBranch => Rule::EmptyBranch,
             Problem::QuantifiedAssertion => Rule::QuantifiedAssertion,
             Problem::EmptyLoop => Rule::EmptyLoop,
+            Problem::InvalidQuantifier => Rule::InvalidQuantifier,
             Problem::UselessQuantifier => Rule::UselessQuantifier,
             Problem::ZeroQuantifier => Rule::ZeroQuantifier,
             Problem::ExponentialBacktracking { .. } => Rule::ExponentialBacktracking,
@@ -248,6 +268,13 @@ impl fmt::Display for Problem<'_> {
                     Total(*total)
                 )
             }
+            Problem::MissingConditionGroup { group, total } => {
+                write!(
+                    f,
+                    "condition on group {group}, but the pattern has {}",
+                    Total(*total)
+                )
+            }
             Problem::MissingBeginGroup { group, total } => {
                 write!(
                     f,
@@ -270,6 +297,9 @@ impl fmt::Display for Problem<'_> {
                 )
             }
             Problem::UnresolvedCall => f.write_str("subroutine call that refers to no group"),
+            Problem::NumberedReference => {
+                f.write_str("reference by a number, beside groups with a name")
+            }
             Problem::DuplicateGroupName { group } => {
                 write!(f, "{group}, has the name of an earlier group")
             }
@@ -290,6 +320,9 @@ impl fmt::Display for Problem<'_> {
             }
             Problem::EmptyLoop => {
                 f.write_str("unlimited quantifier on what can match the empty text")
+            }
+            Problem::InvalidQuantifier => {
+                f.write_str("quantifier whose minimum is above its maximum")
             }
             Problem::UselessQuantifier => f.write_str("quantifier that repeats exactly once"),
             Problem::ZeroQuantifier => f.write_str("quantifier that repeats zero times"),

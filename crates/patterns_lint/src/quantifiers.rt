@@ -32,6 +32,16 @@ fn is_empty_loop(tree: &Expr) -> bool
     }
 }
 
+/// Whether its minimum is above its maximum.
+fn is_invalid_quantifier(tree: &Expr) -> bool
+    ensures { result ≡ spec.is_invalid_quantifier (view tree.now) }
+{
+    match tree {
+        Expr::Repeat { lo, hi, .. } => *hi < *lo,
+        _ => false,
+    }
+}
+
 /// Whether it repeats exactly once. Where a branch beside it differs from it in the count alone, it is no mistake.
 fn is_useless_quantifier(tree: &Expr, has_count_twin: bool) -> bool
     ensures { result ≡ spec.is_useless_quantifier has_count_twin (view tree.now) }
@@ -66,7 +76,9 @@ pub(crate) fn quantifier_problem(
 ) -> Option<Problem<'static>>
     ensures { result ≡ spec.quantifier_problem has_calls has_count_twin (view tree.now) }
 {
-    if is_zero_quantifier(tree, has_calls) {
+    if is_invalid_quantifier(tree) {
+        Some(Problem::InvalidQuantifier)
+    } else if is_zero_quantifier(tree, has_calls) {
         Some(Problem::ZeroQuantifier)
     } else if is_useless_quantifier(tree, has_count_twin) {
         Some(Problem::UselessQuantifier)

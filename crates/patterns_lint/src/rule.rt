@@ -8,16 +8,20 @@ use std::io::Write;
 /// A rule: what may be wrong with a pattern that is accepted.
 #[derive(Debug, Clone, Copy, PartialEq, Eq)]
 pub enum Rule {
-    /// A back reference or a condition on a group that the pattern does not have.
+    /// A back reference to a group that the pattern does not have. The rule is an error by default.
     MissingGroup,
+    /// A condition on a group that the pattern does not have.
+    MissingConditionGroup,
     /// In a grammar, a back reference of `end` or `while` to a group that `begin` does not have.
     MissingBeginGroup,
     /// In a grammar, a number in captures that is above the number of groups.
     MissingCaptureGroup,
     /// A back reference to a group that cannot have matched yet.
     UselessBackreference,
-    /// A subroutine call that refers to no group.
+    /// A subroutine call that refers to no group. The rule is an error by default.
     UnresolvedCall,
+    /// A reference by a number where groups without a name are ignored. The rule is an error by default.
+    NumberedReference,
     /// A name of several groups that can take part in the same match.
     DuplicateGroupName,
     /// A group without a name that nothing refers to, beside groups with a name. The rule is off by default.
@@ -32,6 +36,8 @@ pub enum Rule {
     QuantifiedAssertion,
     /// An unlimited quantifier on what can match the empty text.
     EmptyLoop,
+    /// A quantifier whose minimum is above its maximum. The rule is an error by default.
+    InvalidQuantifier,
     /// A quantifier that repeats exactly once.
     UselessQuantifier,
     /// A quantifier that repeats zero times.
@@ -51,6 +57,8 @@ pub enum Rule {
     EmptyClass,
     /// An item of a class that the others contain.
     DuplicateCharacters,
+    /// A class with needless items that is likely meant as something else.
+    SuspiciousClass,
     /// A range from one kind of character to another. The rule is off by default.
     SuspiciousRange,
     /// A branch of one character that another branch contains.
@@ -60,12 +68,14 @@ pub enum Rule {
 }
 
 /// All rules, in the order in which they are listed.
-pub static RULES: [Rule; 24] = [
+pub static RULES: [Rule; 28] = [
     Rule::MissingGroup,
+    Rule::MissingConditionGroup,
     Rule::MissingBeginGroup,
     Rule::MissingCaptureGroup,
     Rule::UselessBackreference,
     Rule::UnresolvedCall,
+    Rule::NumberedReference,
     Rule::DuplicateGroupName,
     Rule::UnusedCapturingGroup,
     Rule::DuplicateBranch,
@@ -73,6 +83,7 @@ pub static RULES: [Rule; 24] = [
     Rule::EmptyBranch,
     Rule::QuantifiedAssertion,
     Rule::EmptyLoop,
+    Rule::InvalidQuantifier,
     Rule::UselessQuantifier,
     Rule::ZeroQuantifier,
     Rule::ExponentialBacktracking,
@@ -82,6 +93,7 @@ pub static RULES: [Rule; 24] = [
     Rule::InvalidClass,
     Rule::EmptyClass,
     Rule::DuplicateCharacters,
+    Rule::SuspiciousClass,
     Rule::SuspiciousRange,
     Rule::SubsumedBranch,
     Rule::DialectDifference,
@@ -104,9 +116,15 @@ impl Rule {
         match self {
             Rule::MissingGroup => RuleInfo {
                 name: "missing-group",
-                what: "a back reference or a condition on a group that the pattern does not have",
+                what: "a back reference to a group that the pattern does not have",
                 example: r"(a)\2",
-                help: "it never matches: correct the number, or remove it",
+                help: "correct the number, or remove it: no engine is built from a pattern that has it",
+            },
+            Rule::MissingConditionGroup => RuleInfo {
+                name: "missing-condition-group",
+                what: "a condition on a group that the pattern does not have",
+                example: r"(?(2)a|b)(x)",
+                help: "correct the number, or remove the condition",
             },
             Rule::MissingBeginGroup => RuleInfo {
                 name: "missing-begin-group",
@@ -131,6 +149,12 @@ impl Rule {
                 what: "a subroutine call that refers to no group, or is by a name that several groups have",
                 example: r"(?<a>x)\g<b>",
                 help: "call a group by its number, or by a name that one group has",
+            },
+            Rule::NumberedReference => RuleInfo {
+                name: "numbered-reference",
+                what: "under the flag n, a back reference or a call by a number beside groups with a name",
+                example: r"(?<a>x)\1",
+                help: "refer to the group by its name: no engine is built from a pattern that has it",
             },
             Rule::DuplicateGroupName => RuleInfo {
                 name: "duplicate-group-name",
@@ -173,6 +197,12 @@ impl Rule {
                 what: "an unlimited quantifier on what can match the empty text",
                 example: r"(?:a*)*",
                 help: "let each repetition match at least one character",
+            },
+            Rule::InvalidQuantifier => RuleInfo {
+                name: "invalid-quantifier",
+                what: "a quantifier whose minimum is above its maximum",
+                example: r"a{3,2}",
+                help: "write the smaller number first",
             },
             Rule::UselessQuantifier => RuleInfo {
                 name: "useless-quantifier",
@@ -227,6 +257,12 @@ impl Rule {
                 what: "characters in a class that the rest of the class contains already",
                 example: r"[0-9\d]",
                 help: "remove them",
+            },
+            Rule::SuspiciousClass => RuleInfo {
+                name: "suspicious-class",
+                what: "a class with needless characters that looks like alternatives, a word or a POSIX class",
+                example: r"[get|set]",
+                help: "write each character once, or what is meant",
             },
             Rule::SuspiciousRange => RuleInfo {
                 name: "suspicious-range",

@@ -4,7 +4,10 @@ use crate::classes::is_single_character_class;
 use crate::fingerprint::Fingerprint;
 use crate::problem::Problem;
 use crate::quantifiers::quantifier_problem;
-use crate::targets::{is_unresolved_call, missing_begin_group, missing_group};
+use crate::targets::{
+    is_numbered_reference, is_unresolved_call, missing_begin_group, missing_condition_group,
+    missing_group,
+};
 use crate::walk::Walk;
 use class_rules::known_classes::KnownClasses;
 use fancy_spans::SpannedNode;
@@ -22,6 +25,8 @@ pub(crate) struct PatternInfo<'a> {
     pub(crate) total: usize,
     /// Whether it has calls, so that a group may also be matched where it is called.
     pub(crate) has_calls: bool,
+    /// Whether no reference may have a number: groups without a name are ignored.
+    pub(crate) is_by_name: bool,
     /// Whether it is matched as it is: nothing is added to it.
     pub(crate) is_complete: bool,
     /// Where a back reference in digits refers to a group of another pattern, how many groups that has.
@@ -50,9 +55,15 @@ fn reference_problem(tree: &Expr, span: Span, about: PatternInfo<'_>) -> Option<
     {
         return Some(Problem::MissingBeginGroup { group, total });
     }
+    if about.is_by_name && is_numbered_reference(tree, text) {
+        return Some(Problem::NumberedReference);
+    }
     let total = about.total;
-    let group = missing_group(tree, total)?;
-    Some(Problem::MissingGroup { group, total })
+    if let Some(group) = missing_group(tree, total) {
+        return Some(Problem::MissingGroup { group, total });
+    }
+    let group = missing_condition_group(tree, total)?;
+    Some(Problem::MissingConditionGroup { group, total })
 }
 
 /// What is wrong with the node itself.

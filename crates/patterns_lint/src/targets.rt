@@ -5,6 +5,9 @@ ghost use Rattle.patterns_lint.specs.Targets as spec;
 
 use fancy_syntax::expr::Expr;
 
+/// What comes before the number of a call.
+static CALL_OPENINGS: [&str; 4] = [r"\g", r"\g<", r"\g'", "(?P>"];
+
 /// The number, if it is above the number of groups.
 pub(crate) fn above(total: usize, group: usize) -> Option<usize>
     ensures { result ≡ spec.above total group }
@@ -12,13 +15,22 @@ pub(crate) fn above(total: usize, group: usize) -> Option<usize>
     if total < group { Some(group) } else { None }
 }
 
-/// The group of the back reference or the condition, if the pattern does not have it.
+/// The group of the back reference, if the pattern does not have it.
 pub(crate) fn missing_group(tree: &Expr, total: usize) -> Option<usize>
     ensures { result ≡ spec.missing_group total (view tree.now) }
 {
     match tree {
         Expr::Backref { group, .. } => above(total, *group),
         Expr::BackrefWithRelativeRecursionLevel { group, .. } => above(total, *group),
+        _ => None,
+    }
+}
+
+/// The group of the condition, if the pattern does not have it.
+pub(crate) fn missing_condition_group(tree: &Expr, total: usize) -> Option<usize>
+    ensures { result ≡ spec.missing_condition_group total (view tree.now) }
+{
+    match tree {
         Expr::BackrefExistsCondition { group, .. } => above(total, *group),
         _ => None,
     }
@@ -27,6 +39,23 @@ pub(crate) fn missing_group(tree: &Expr, total: usize) -> Option<usize>
 /// Whether the text of a node begins as a back reference that is a backslash and digits.
 pub(crate) fn is_of_digits(text: &str) -> bool {
     matches!(text.as_bytes(), [b'\\', b'0'..=b'9', ..])
+}
+
+/// Whether the text of a call has the group's number: not its name, and not how many groups it is away.
+fn is_call_by_number(text: &str) -> bool {
+    let call = text.trim_end_matches(['>', '\'', ')']);
+    let opening = call.trim_end_matches(|c: char| c.is_ascii_digit());
+    opening.len() < call.len() && CALL_OPENINGS.contains(&opening)
+}
+
+/// Whether the node, which has this text, refers to a group by a number: a call, or a back reference that is a backslash
+/// and digits.
+pub(crate) fn is_numbered_reference(tree: &Expr, text: &str) -> bool {
+    match tree {
+        Expr::Backref { .. } => is_of_digits(text),
+        Expr::SubroutineCall(_) => is_call_by_number(text),
+        _ => false,
+    }
 }
 
 /// The group of the back reference, which has this text, if it is a backslash and digits, and `begin` has fewer groups.

@@ -24,11 +24,16 @@ pub struct RuleLevel<'a> {
 }
 
 impl RuleLevel<'_> {
-    /// Gives the level to the rule of the name, and to all where no rule has it.
+    /// Gives the level to the rule of the name, and to all where no rule has it. For all, a warning lowers no rule that is
+    /// an error by default.
     pub(crate) fn set(self, chosen: &mut Chosen) {
-        match Rule::named(self.name) {
-            Some(rule) => chosen.set(rule, self.level),
-            None => chosen.set_all(self.level),
+        if let Some(rule) = Rule::named(self.name) {
+            chosen.set(rule, self.level);
+            return;
+        }
+        match self.level {
+            Level::Warn => chosen.warn_all(),
+            Level::Allow | Level::Deny => chosen.set_all(self.level),
         }
     }
 }

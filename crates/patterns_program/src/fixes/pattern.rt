@@ -24,6 +24,7 @@ fn kind_of_class(problem: ClassProblem) -> Option<FixKind> {
         ClassProblem::DuplicateCharacters => Some(FixKind::DuplicateCharacters),
         ClassProblem::Invalid(_)
         | ClassProblem::Empty
+        | ClassProblem::SuspiciousClass(_)
         | ClassProblem::SuspiciousRange { .. }
         | ClassProblem::SubsumedBranch { .. } => None,
     }
@@ -38,16 +39,19 @@ fn kind_of(problem: Problem<'_>) -> Option<FixKind> {
         Problem::SingleCharacterClass => Some(FixKind::SingleCharacterClass),
         Problem::Class(problem) => kind_of_class(problem),
         Problem::MissingGroup { .. }
+        | Problem::MissingConditionGroup { .. }
         | Problem::MissingBeginGroup { .. }
         | Problem::MissingCaptureGroup { .. }
         | Problem::UselessBackreference { .. }
         | Problem::UnresolvedCall
+        | Problem::NumberedReference
         | Problem::DuplicateGroupName { .. }
         | Problem::UnusedCapturingGroup { .. }
         | Problem::UnreachableBranch { .. }
         | Problem::EmptyBranch
         | Problem::QuantifiedAssertion
         | Problem::EmptyLoop
+        | Problem::InvalidQuantifier
         | Problem::ZeroQuantifier
         | Problem::ExponentialBacktracking { .. }
         | Problem::PolynomialBacktracking { .. }
