@@ -269,6 +269,11 @@ fancy_result fancy_trivia_nonnull(const char *pattern, size_t length, uint32_t f
 #ifndef FANCY_INLINE
 #define FANCY_INLINE static inline
 #endif
+/* The type of a precedence: one that is wide enough for any int, so that C does not cut it to a byte. The symbols of libfancy
+ * take a byte, as in each version before. */
+#ifndef FANCY_ANY_PRECEDENCE
+#define FANCY_ANY_PRECEDENCE uint32_t
+#endif
 
 /* Returns the version of the library, in the form of FANCY_VERSION. */
 uint32_t fancy_version(void);
@@ -321,8 +326,8 @@ FANCY_INLINE fancy_result fancy_parse(const char *pattern, size_t length, uint32
  * here. Otherwise it returns what fancy_check returns. Unless it returns OK, nothing is written. Above
  * FANCY_PRECEDENCE_WHOLE an alternation is put into a group, above _BRANCH a concatenation too, and above _PIECE a
  * repetition too; above _OPERAND nothing more. */
-FANCY_INLINE fancy_result fancy_print(const char *pattern, size_t length, uint32_t flags, uint32_t precedence, char *buffer,
-                                      size_t capacity) {
+FANCY_INLINE fancy_result fancy_print(const char *pattern, size_t length, uint32_t flags, FANCY_ANY_PRECEDENCE precedence,
+                                      char *buffer, size_t capacity) {
     char none;
     if (precedence > FANCY_PRECEDENCE_OPERAND) precedence = FANCY_PRECEDENCE_OPERAND;
     return fancy_print_nonnull(pattern ? pattern : "", length, flags, (uint8_t)precedence, buffer ? buffer : &none, capacity);
@@ -372,7 +377,7 @@ FANCY_INLINE fancy_result fancy_tree(const char *pattern, size_t length, uint32_
  * node does not use are not read. Returns OK, BUFFER_TOO_SHORT or NOT_PRINTABLE as fancy_print does; NO_TREE if the rows are
  * no tree, or one of more than 832 levels; or OUT_OF_MEMORY. Unless it returns OK, nothing is written. */
 FANCY_INLINE fancy_result fancy_print_nodes(const fancy_node *nodes, size_t node_count, const char *texts, size_t texts_size,
-                                            size_t index, uint32_t precedence, char *buffer, size_t capacity) {
+                                            size_t index, FANCY_ANY_PRECEDENCE precedence, char *buffer, size_t capacity) {
     static fancy_node no_node;
     char none;
     if (precedence > FANCY_PRECEDENCE_OPERAND) precedence = FANCY_PRECEDENCE_OPERAND;
