@@ -263,6 +263,50 @@ static bool are_rows_by_hand_right(void) {
            is_nest(832, FANCY_STATUS_OK) && is_nest(833, FANCY_STATUS_NO_TREE);
 }
 
+// Whether a number above that of an operand is as good as that one, also where its last byte is another precedence.
+static bool are_large_precedences_right(void) {
+    static const uint32_t large[] = {4, 255, 256, 257, 258, 65536, 1u << 24, UINT32_MAX};
+    char text[64];
+    fancy_node nodes[] = {{.kind = FANCY_NODE_ALT, .end = 3}, {.kind = FANCY_NODE_LITERAL, .end = 2, .text_size = 1},
+                          {.kind = FANCY_NODE_LITERAL, .end = 3, .text = 1, .text_size = 1}};
+    bool is_right = true;
+    for (size_t i = 0; i < sizeof large / sizeof *large; i++) {
+        fancy_result got = fancy_print("a|b", 3, 0, large[i], text, sizeof text);
+        is_right = is_right && got.status == FANCY_STATUS_OK && got.size == 7 && memcmp(text, "(?:a|b)", 7) == 0;
+        got = fancy_print_nodes(nodes, 3, "ab", 2, 0, large[i], text, sizeof text);
+        is_right = is_right && got.status == FANCY_STATUS_OK && got.size == 7 && memcmp(text, "(?:a|b)", 7) == 0;
+    }
+    return is_right;
+}
+
+// Whether what is needed is set as the header says where a buffer is too short: a size, or an info or a count and a size of 0.
+static bool is_need_set(void) {
+    fancy_info info = {0};
+    size_t count = 0;
+    fancy_result text = fancy_pattern("a|b", 3, 0, NULL, 0), tree = fancy_parse("a|b", 3, 0, NULL, 0, NULL, 0, NULL, 0, NULL, 0, &info);
+    bool is_right = text.status == FANCY_STATUS_BUFFER_TOO_SHORT && text.size == 3;
+    is_right = is_right && tree.status == FANCY_STATUS_BUFFER_TOO_SHORT && tree.size == 0 && info.node_count == 3;
+    tree = fancy_tree("a|b|c", 5, 0, NULL, 0, NULL, 0, NULL, 0, NULL, 0, &info);
+    is_right = is_right && tree.status == FANCY_STATUS_BUFFER_TOO_SHORT && tree.size == 0 && info.node_count == 4;
+    fancy_result trivia = fancy_trivia("(?i)a(?#b)", 10, 0, NULL, 0, &count);
+    return is_right && trivia.status == FANCY_STATUS_BUFFER_TOO_SHORT && trivia.size == 0 && count == 2;
+}
+
+// Whether bits that are no flags are ignored, but for FANCY_WITHOUT_SPANS, which only fancy_tree takes.
+static bool are_other_bits_ignored(void) {
+    fancy_node nodes[3], again[3];
+    char texts[FANCY_MAX_TEXTS(2)];
+    bool is_right = true;
+    for (uint32_t bit = 512; bit != 0; bit <<= 1) {
+        size_t stop = bit == FANCY_WITHOUT_SPANS ? 0 : 2;
+        fancy_result parsed = fancy_parse("ab", 2, bit, nodes, 3, texts, sizeof texts, NULL, 0, NULL, 0, NULL);
+        fancy_result tree = fancy_tree("ab", 2, bit, again, 3, texts, sizeof texts, NULL, 0, NULL, 0, NULL);
+        is_right = is_right && parsed.status == FANCY_STATUS_OK && nodes[0].stop == 2 && tree.status == FANCY_STATUS_OK &&
+                   again[0].stop == stop;
+    }
+    return is_right;
+}
+
 // What hangs on no pattern: the version; and null pointers, each with a length of 0.
 static bool is_rest_right(void) {
     char text[64];
@@ -277,6 +321,7 @@ static bool is_rest_right(void) {
                     fancy_parse(NULL, 0, 0, &node, 1, NULL, 0, NULL, 0, NULL, 0, &info).status == FANCY_STATUS_OK &&
                     info.node_count == 1 && node.kind == FANCY_NODE_EMPTY && node.start == 0 && node.stop == 0 && node.end == 1;
     is_right = is_right && are_rows_by_hand_right() && are_trivia_by_hand_right() && are_formatted_by_hand_right();
+    is_right = is_right && are_large_precedences_right() && is_need_set() && are_other_bits_ignored();
     for (uint32_t kind = 0; kind < 300; kind++) {
         fancy_result got = fancy_error_text(kind, text, sizeof text);
         is_right = is_right && got.size == strlen(fancy_kind_message(kind)) && memcmp(text, fancy_kind_message(kind), got.size) == 0;

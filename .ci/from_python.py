@@ -306,6 +306,103 @@ def are_formatted_right():
     )
 
 
+def refusal(call):
+    """The type and the message of what a call raises."""
+    try:
+        call()
+    except Exception as error:
+        return type(error), str(error)
+    return None
+
+
+def are_flags_looked_at():
+    """Whether each function that takes flags takes the module's own, and no others."""
+    tree = fancy.parse("a")
+    calls = [
+        fancy.parse, fancy.check, fancy.trivia, fancy.format, fancy.normal_form,
+        lambda pattern, flags: fancy.format(pattern, flags, fancy.Style.KEPT),
+        lambda pattern, flags: dataclasses.replace(tree, flags=flags).format(),
+    ]  # fmt: skip
+    of_re = {
+        re.I: "fancy.CASEI | fancy.UNICODE", re.M | re.X: "fancy.MULTI | fancy.IGNORE_SPACE | fancy.UNICODE",
+        re.S | re.A: "fancy.DOTNL", re.A: "fancy.Flag(0)",
+    }  # fmt: skip
+    other = fancy.Style.VERBOSE
+    refused = {
+        **{it: (TypeError, f"flags are fancy.Flag, not {it!r}: use {names}") for it, names in of_re.items()},
+        other: (TypeError, f"flags are fancy.Flag, such as fancy.UNICODE | fancy.CASEI, not {other!r}"),
+        32 | 65536: (ValueError, "flags 0x10020 have bits that are no fancy.Flag"),
+        512: (ValueError, "flags 0x200 have bits that are no fancy.Flag"),
+        2**32 + 32: (ValueError, "flags 0x100000020 have bits that are no fancy.Flag"),
+        -1: (ValueError, "flags -0x1 have bits that are no fancy.Flag"),
+    }
+    return (
+        all(refusal(lambda: it("a", flags)) == wanted for it in calls for flags, wanted in refused.items())
+        and all(refusal(lambda: it("a", flags))[0] is TypeError for it in calls for flags in (None, "u", 32.0))
+        and all(refusal(lambda: it("a", flags)) is None for it in calls for flags in (0, 33, 511, fancy.Flag(0)))
+        and fancy.parse("A", 33) == fancy.parse("A", fancy.UNICODE | fancy.CASEI)
+        and fancy.parse("A", 33).flags is fancy.UNICODE | fancy.CASEI
+    )
+
+
+def replaced(pattern, **fields):
+    """What raises when the second node of a pattern is written, with other fields."""
+    tree = fancy.parse(pattern)
+    node = dataclasses.replace(tree.root.children[1], **fields)
+    root = dataclasses.replace(tree.root, children=(tree.root.children[0], node))
+    calls = [dataclasses.replace(tree, root=root).format, root.normal_form, node.normal_form]
+    refusals = {refusal(call) for call in calls}
+    return refusals.pop() if len(refusals) == 1 else refusals
+
+
+def out_of_range(what, number, least=0, most=2**64 - 1):
+    return ValueError, f"{what} is {number}, and has to be from {least} to {most}"
+
+
+def are_numbers_looked_at():
+    """Whether each number in a tree that C would cut is refused, and the largest that are not cut are taken."""
+    lowest, highest = -(2**63), 2**63 - 1
+    two, low = 2**64 + 2, -(2**64) + 2  # cut to 64 bits, each is 2
+    named = dataclasses.replace(fancy.parse("(?<n>a)b"), named_groups={"n": (two,)})
+    return (
+        replaced("ba{2}", lo=two) == out_of_range("Repeat.lo", two)
+        and replaced("ba{2}", lo=low) == out_of_range("Repeat.lo", low)
+        and replaced("ba{2}", hi=two) == out_of_range("Repeat.hi", two, most=2**64 - 2)
+        and replaced("ba{2}", hi=-1) == out_of_range("Repeat.hi", -1, most=2**64 - 2)
+        and replaced("ba{2}", hi=2**64 - 1) == out_of_range("Repeat.hi", 2**64 - 1, most=2**64 - 2)
+        and replaced("ba{2}", hi=2.0)[0] is TypeError
+        and replaced("ba{2}", lo=3, hi=2**64 - 2) is replaced("ba{2}", lo=2**64 - 1, hi=None) is None
+        and replaced("b(a)", group=two) == out_of_range("Group.group", two)
+        and replaced(r"(a)\1", group=two) == out_of_range("Backref.group", two)
+        and replaced(r"(a)\k<1+2>", group=two) == out_of_range("BackrefAtLevel.group", two)
+        and replaced(r"(a)\k<1+2>", level=two) == out_of_range("BackrefAtLevel.level", two, lowest, highest)
+        and replaced(r"(a)\k<1+2>", level=lowest - 1) == out_of_range("BackrefAtLevel.level", lowest - 1, lowest, highest)
+        and replaced(r"(a)\k<1+2>", level=lowest) is replaced(r"(a)\k<1+2>", level=highest) is None
+        and replaced(r"(a)\g<1>", group=two) == out_of_range("SubroutineCall.group", two)
+        and replaced("b(?=a)", which=2**32 + 1) == out_of_range("LookAround.which", 2**32 + 1, most=2**32 - 1)
+        and replaced(r"b\g<n>", target=two) == out_of_range("AstNode.target", two)
+        and replaced(r"b\g<n>", target=fancy.Relative(two)) == out_of_range("AstNode.target", two, lowest, highest)
+        and replaced(r"b\g<n>", byte_position=two) == out_of_range("AstNode.byte_position", two)
+        and refusal(named.format) == out_of_range("a group of the name 'n'", two)
+        and fancy.parse("ba{2,3}").root.children[1].normal_form() == "a{2,3}"
+    )
+
+
+def are_choices_looked_at():
+    """Whether a precedence or a style that does not exist is refused, and that of another enum."""
+    node, other = fancy.parse("a|b").root, fancy.Style.COMPACT
+    calls = [lambda given: fancy.normal_form("a|b", precedence=given), lambda given: node.normal_form(given)]
+    refused = {it: (ValueError, f"{it} is not a valid Precedence") for it in (-1, 4, 256, 2**32)}
+    refused[other] = TypeError, f"{other!r} is no fancy.Precedence"
+    return (
+        all(refusal(lambda: it(given)) == wanted for it in calls for given, wanted in refused.items())
+        and all(it(fancy.Precedence.PIECE) == it(2) == "(?:a|b)" for it in calls)
+        and refusal(lambda: fancy.format("a", style=2**32)) == (ValueError, f"{2**32} is not a valid Style")
+        and refusal(lambda: fancy.format("a", style=fancy.MULTI)) == (TypeError, f"{fancy.MULTI!r} is no fancy.Style")
+        and refusal(lambda: fancy.format("a", style=1, width=8.0))[0] is TypeError
+    )
+
+
 def changed(pattern, kind):
     """What is written for the tree of a pattern whose first child is replaced."""
     tree = fancy.parse(pattern)
@@ -370,6 +467,9 @@ def main():
         "trees": are_trees_right(),
         "trivia": are_trivia_right(),
         "formatted patterns": are_formatted_right(),
+        "flags": are_flags_looked_at(),
+        "numbers in a tree": are_numbers_looked_at(),
+        "precedences and styles": are_choices_looked_at(),
         "the command": is_command_right(),
         "null pointers": are_null_pointers_taken(),
         "the numbers": are_numbers_right(pathlib.Path(sys.argv[2]).read_text()),

@@ -81,7 +81,7 @@ static bool is_message_at_once(const char *pattern, size_t length, uint32_t flag
     return is_right;
 }
 
-static fancy_result print_rows(const tree *t, size_t index, uint8_t precedence, char *buffer, size_t capacity) {
+static fancy_result print_rows(const tree *t, size_t index, uint32_t precedence, char *buffer, size_t capacity) {
     return fancy_print_nodes(t->nodes, t->info.node_count, t->texts, t->info.texts_size, index, precedence, buffer, capacity);
 }
 
@@ -101,9 +101,9 @@ static bool is_whole_written(const tree *t, const char *pattern, size_t length, 
     size_t capacity = CAPACITY(length);
     char *x = malloc(capacity), *y = malloc(capacity);
     bool is_right = true;
-    for (unsigned precedence = 0; precedence < 256; precedence += precedence < 5 ? 1 : 50) {
-        fancy_result wanted = fancy_print(pattern, length, flags, precedence < 3 ? (uint8_t)precedence : 3, x, capacity);
-        is_right = is_right && is_same_text(print_rows(t, 0, (uint8_t)precedence, y, capacity), y, wanted, x);
+    for (uint32_t precedence = 0; precedence < 300; precedence += precedence < 5 ? 1 : 50) {
+        fancy_result wanted = fancy_print(pattern, length, flags, precedence < 3 ? precedence : 3, x, capacity);
+        is_right = is_right && is_same_text(print_rows(t, 0, precedence, y, capacity), y, wanted, x);
     }
     fancy_result wanted = fancy_pattern(pattern, length, flags, x, capacity);
     is_right = is_right && wanted.status == FANCY_STATUS_OK && is_same_text(write_rows(t, 0, flags, y, capacity), y, wanted, x);

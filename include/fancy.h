@@ -32,7 +32,7 @@
 extern "C" {
 #endif
 
-/* Flags: bits, of which any may be set. Other bits are ignored. */
+/* Flags: bits, of which any may be set. Other bits are ignored, but for FANCY_WITHOUT_SPANS, which fancy_tree takes. */
 enum {
     FANCY_FLAG_CASEI = 1,        /* case-insensitive */
     FANCY_FLAG_MULTI = 2,        /* ^ and $ match at line breaks too */
@@ -46,7 +46,7 @@ enum {
     FANCY_FLAG_IGNORE_NUMBERED_GROUPS_WHEN_NAMED_GROUPS_EXIST = 256
 };
 
-/* A bit that fancy_tree takes beside the flags: the spans are left out, and each start and stop is 0. */
+/* A bit that fancy_tree takes beside the flags: the spans are left out, and each start and stop is 0. Other calls ignore it. */
 enum { FANCY_WITHOUT_SPANS = 65536 };
 
 /* The status of a call. These numbers, and all those below, never change. */
@@ -55,7 +55,8 @@ enum {
     FANCY_STATUS_REFUSED = 1,          /* the pattern is invalid: kind and position are set */
     FANCY_STATUS_NOT_UTF8 = 2,         /* position is the length of the valid UTF-8 prefix */
     FANCY_STATUS_OUT_OF_MEMORY = 3,    /* the pattern may be valid or not */
-    FANCY_STATUS_BUFFER_TOO_SHORT = 4, /* no buffer was written; the size that is needed is set */
+    FANCY_STATUS_BUFFER_TOO_SHORT = 4, /* no buffer was written; what is needed is set: for a text the size, for a tree *info,
+                                          for trivia *count */
     FANCY_STATUS_NOT_PRINTABLE = 5,    /* of fancy_print and fancy_print_nodes: there is a tree, and it is not printable */
     FANCY_STATUS_NO_PATTERN = 6,       /* of fancy_pattern_nodes: what is written for the tree does not parse back as it */
     FANCY_STATUS_NO_TREE = 7,          /* of fancy_print_nodes and fancy_pattern_nodes: the rows are no tree */
@@ -149,7 +150,7 @@ enum {
 };
 
 /* What a printed text is to be: a whole pattern or the inside of a group, a branch of an alternation, a part of a
- * concatenation, the operand of a quantifier. A number above 3 is as good as FANCY_PRECEDENCE_OPERAND. */
+ * concatenation, the operand of a quantifier. Any number above 3 is as good as FANCY_PRECEDENCE_OPERAND. */
 enum {
     FANCY_PRECEDENCE_WHOLE = 0,
     FANCY_PRECEDENCE_BRANCH = 1,
@@ -170,7 +171,7 @@ typedef struct {
     uint32_t kind;   /* FANCY_ERROR_.., FANCY_ERROR_NONE if no error is reported */
     size_t position; /* of the error, at most one past the end of the pattern; or the length of the valid UTF-8 prefix;
                         else 0 */
-    size_t size;     /* of the text that was to be written, whether or not it fitted; else 0 */
+    size_t size;     /* of the text that was to be written, whether or not it fitted; else 0, also for a tree and for trivia */
 } fancy_result;
 
 /* A node of a tree. What its kind does not use is 0 or false, and text is 0 if text_size is 0. */
@@ -238,7 +239,8 @@ typedef struct {
 #define FANCY_MAX_BACKREFS(length) (2 * (length) + 1)
 #define FANCY_MAX_TRIVIA(length) ((length) + 1)
 
-/* ---- The proved functions. They take no null pointer. The functions below them do, and are the ones to call. */
+/* ---- The proved functions. They take no null pointer, and a precedence only as a byte. The functions below them take null
+ * pointers, and each precedence, and are the ones to call. */
 
 fancy_result fancy_check_nonnull(const char *pattern, size_t length, uint32_t flags);
 fancy_result fancy_message_nonnull(const char *pattern, size_t length, uint32_t flags, char *buffer, size_t capacity);
@@ -266,6 +268,11 @@ fancy_result fancy_trivia_nonnull(const char *pattern, size_t length, uint32_t f
 
 #ifndef FANCY_INLINE
 #define FANCY_INLINE static inline
+#endif
+/* The type of a precedence: one that is wide enough for any int, so that C does not cut it to a byte. The symbols of libfancy
+ * take a byte, as in each version before. */
+#ifndef FANCY_ANY_PRECEDENCE
+#define FANCY_ANY_PRECEDENCE uint32_t
 #endif
 
 /* Returns the version of the library, in the form of FANCY_VERSION. */
@@ -319,10 +326,11 @@ FANCY_INLINE fancy_result fancy_parse(const char *pattern, size_t length, uint32
  * here. Otherwise it returns what fancy_check returns. Unless it returns OK, nothing is written. Above
  * FANCY_PRECEDENCE_WHOLE an alternation is put into a group, above _BRANCH a concatenation too, and above _PIECE a
  * repetition too; above _OPERAND nothing more. */
-FANCY_INLINE fancy_result fancy_print(const char *pattern, size_t length, uint32_t flags, uint8_t precedence, char *buffer,
-                                      size_t capacity) {
+FANCY_INLINE fancy_result fancy_print(const char *pattern, size_t length, uint32_t flags, FANCY_ANY_PRECEDENCE precedence,
+                                      char *buffer, size_t capacity) {
     char none;
-    return fancy_print_nonnull(pattern ? pattern : "", length, flags, precedence, buffer ? buffer : &none, capacity);
+    if (precedence > FANCY_PRECEDENCE_OPERAND) precedence = FANCY_PRECEDENCE_OPERAND;
+    return fancy_print_nonnull(pattern ? pattern : "", length, flags, (uint8_t)precedence, buffer ? buffer : &none, capacity);
 }
 
 /* Writes a pattern that is parsed, under the same flags, as the same tree with the same groups and names. Comments, ignored
@@ -369,11 +377,12 @@ FANCY_INLINE fancy_result fancy_tree(const char *pattern, size_t length, uint32_
  * node does not use are not read. Returns OK, BUFFER_TOO_SHORT or NOT_PRINTABLE as fancy_print does; NO_TREE if the rows are
  * no tree, or one of more than 832 levels; or OUT_OF_MEMORY. Unless it returns OK, nothing is written. */
 FANCY_INLINE fancy_result fancy_print_nodes(const fancy_node *nodes, size_t node_count, const char *texts, size_t texts_size,
-                                            size_t index, uint8_t precedence, char *buffer, size_t capacity) {
+                                            size_t index, FANCY_ANY_PRECEDENCE precedence, char *buffer, size_t capacity) {
     static fancy_node no_node;
     char none;
-    return fancy_print_nodes_nonnull(nodes ? nodes : &no_node, node_count, texts ? texts : "", texts_size, index, precedence,
-                                     buffer ? buffer : &none, capacity);
+    if (precedence > FANCY_PRECEDENCE_OPERAND) precedence = FANCY_PRECEDENCE_OPERAND;
+    return fancy_print_nodes_nonnull(nodes ? nodes : &no_node, node_count, texts ? texts : "", texts_size, index,
+                                     (uint8_t)precedence, buffer ? buffer : &none, capacity);
 }
 
 /* Writes a pattern that is parsed, under the flags, as the tree of rows, with names for its groups. The rows are as

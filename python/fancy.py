@@ -33,7 +33,9 @@ import ctypes
 import ctypes.util
 import enum
 import itertools
+import operator
 import os
+import re
 import sys
 from dataclasses import dataclass, field
 from typing import Callable, ClassVar, Dict, Iterator, List, Optional, Sequence, Tuple, Type, Union
@@ -231,13 +233,14 @@ class Node:
 
     def normal_form(self, precedence: int = Precedence.WHOLE) -> Optional[str]:
         """Returns a text that is parsed as the normal form of this node with its descendants, as the function `normal_form` does
-        for a pattern; or None if they are not printable, or have more than 832 levels. The node may have been made by hand.
+        for a pattern; or None if they are not printable, or have more than 832 levels. The node may have been made by hand. Raises
+        `ValueError` if a number in it is too large for the library.
 
         >>> [node.normal_form() for node in parse("(?=a)(?:b|c)*").root.children]
         [None, '(?:b|c)*']
         """
-        rows = _Rows(self)
-        got, text = _text(lambda buffer, capacity: _library.fancy_print_nodes(*rows.arguments(), precedence, buffer, capacity))
+        rows, number = _Rows(self), _member(Precedence, precedence)
+        got, text = _text(lambda buffer, capacity: _library.fancy_print_nodes(*rows.arguments(), number, buffer, capacity))
         if got.status == _OUT_OF_MEMORY:
             raise MemoryError
         return text.decode() if got.status == _OK else None
@@ -471,7 +474,8 @@ class Tree:
     def format(self) -> Optional[str]:
         """Returns a pattern that is parsed, under the same flags, as this tree with these names; or None if no pattern is, which can
         happen after the tree was changed. Of the group information it needs only the names, by the numbers that groups have in the
-        tree, and the two fields that say whether references are written by numbers.
+        tree, and the two fields that say whether references are written by numbers. Raises `ValueError` if a number in the tree is
+        too large for the library.
 
         >>> from dataclasses import replace
         >>> tree = parse("(?<n>a+)b")
@@ -479,14 +483,14 @@ class Tree:
         >>> replace(tree, root=replace(tree.root, children=(rest, group))).format()
         'b(?<n>a+)'
         """
-        rows = _Rows(self.root)
+        rows, flags = _Rows(self.root), _flags_given(self.flags)
         names = rows.names(self.named_groups)
         info = _Info(
             numeric_capture_group_references=self.numeric_capture_group_references, self_recursive=self.self_recursive
         )
         got, text = _text(
             lambda buffer, capacity: _library.fancy_pattern_nodes(
-                *rows.arguments(), names, len(names), ctypes.byref(info), int(self.flags), buffer, capacity
+                *rows.arguments(), names, len(names), ctypes.byref(info), int(flags), buffer, capacity
             )
         )
         if got.status == _OUT_OF_MEMORY:
@@ -607,16 +611,57 @@ def _text(call: Callable[[Optional[ctypes.Array], int], _Result]) -> Tuple[_Resu
         capacity = got.size
 
 
+# ---- what a caller passes. ctypes cuts a number that is too large, so each is looked at before.
+
+
+_EVERY_FLAG = sum(Flag)
+_OF_RE = {re.IGNORECASE: CASEI, re.MULTILINE: MULTI, re.DOTALL: DOTNL, re.VERBOSE: IGNORE_SPACE}
+
+
+def _flags_given(flags: int) -> Flag:
+    """The flags of a call: members of `Flag`, or a number with no other bits. The flags of `re` have other numbers."""
+    if isinstance(flags, re.RegexFlag):
+        own = [flag for bit, flag in _OF_RE.items() if flags & bit] + [UNICODE] * (not flags & re.ASCII)
+        names = " | ".join(f"fancy.{flag.name}" for flag in own) or "fancy.Flag(0)"
+        raise TypeError(f"flags are fancy.Flag, not {flags!r}: use {names}")
+    if isinstance(flags, enum.Enum) and not isinstance(flags, Flag):
+        raise TypeError(f"flags are fancy.Flag, such as fancy.UNICODE | fancy.CASEI, not {flags!r}")
+    number = operator.index(flags)
+    if number & ~_EVERY_FLAG:
+        raise ValueError(f"flags {number:#x} have bits that are no fancy.Flag")
+    return Flag(number)
+
+
+def _member(kind: Type[enum.IntEnum], value: int) -> enum.IntEnum:
+    """The member of an enum that was passed, as itself or as its number. That of another enum is a mistake."""
+    if isinstance(value, enum.Enum) and not isinstance(value, kind):
+        raise TypeError(f"{value!r} is no fancy.{kind.__name__}")
+    return kind(value)
+
+
+def _number(what: str, value: int, least: int = 0, most: int = _UNBOUNDED) -> int:
+    """A number in a tree, if the library can take it."""
+    number = operator.index(value)
+    if not least <= number <= most:
+        raise ValueError(f"{what} is {number}, and has to be from {least} to {most}")
+    return number
+
+
+def _signed(what: str, value: int) -> int:
+    """A level or a relative number in a tree, if the library can take it."""
+    return _number(what, value, -(2**63), 2**63 - 1)
+
+
 class _Source:
     """A pattern as the library takes it, and its positions."""
 
     def __init__(self, pattern: Pattern, flags: int) -> None:
         if not isinstance(pattern, (str, bytes)):
             raise TypeError(f"a pattern is str or bytes, not {type(pattern).__name__}")
-        self.pattern, self.flags = pattern, Flag(flags)
+        self.pattern, self.flags = pattern, _flags_given(flags)
         # a lone surrogate is handed on, to be refused as what is not UTF-8
         self.bytes = pattern.encode("utf-8", "surrogatepass") if isinstance(pattern, str) else pattern
-        self.arguments = (self.bytes, len(self.bytes), int(flags))
+        self.arguments = (self.bytes, len(self.bytes), int(self.flags))
         self._starts: Optional[List[int]] = None
         if isinstance(pattern, str) and len(self.bytes) != len(pattern):
             sizes = (len(character.encode("utf-8", "surrogatepass")) for character in pattern)
@@ -739,28 +784,33 @@ class _Rows:
         return {"text": start, "text_size": len(self.texts) - start}
 
     def names(self, named: Dict[str, Tuple[int, ...]]) -> ctypes.Array:
-        names = [_Name(group=number, **self.text(name)) for name, numbers in named.items() for number in numbers]
+        pairs = [(name, number) for name, numbers in named.items() for number in numbers]
+        names = [_Name(group=_number(f"a group of the name {name!r}", it), **self.text(name)) for name, it in pairs]
         return (_Name * len(names))(*names)
 
     def row(self, node: Node) -> _Node:
         """The row of a node, but for its end."""
-        row = _Node(kind=node.number)
-        for name in ("which", "lo", "group", "newline", "crlf", "unicode", "casei", "greedy"):
-            setattr(row, name, getattr(node, name, 0))
+        row, kind = _Node(kind=node.number), node.kind
+        for name in ("newline", "crlf", "unicode", "casei", "greedy"):
+            setattr(row, name, getattr(node, name, False))
+        for name in ("lo", "group"):
+            setattr(row, name, _number(f"{kind}.{name}", getattr(node, name, 0)))
+        row.which = _number(f"{kind}.which", getattr(node, "which", 0), most=2**32 - 1)
         text: Union[str, bytes] = b""
         if isinstance(node, (Literal, Delegate)):
             text = node.text
         elif isinstance(node, LiteralBytes):
             text = node.value
         elif isinstance(node, Repeat):
-            row.hi = _UNBOUNDED if node.hi is None else node.hi
+            # the last number stands for no bound
+            row.hi = _UNBOUNDED if node.hi is None else _number(f"{kind}.hi", node.hi, most=_UNBOUNDED - 1)
         elif isinstance(node, (BackrefAtLevel, BackrefExistsCondition)):
-            row.has_level, row.level = node.level is not None, node.level or 0
+            row.has_level, row.level = node.level is not None, _signed(f"{kind}.level", node.level or 0)
         elif isinstance(node, AstNode):
-            row.position, target = node.byte_position, node.target
+            row.position, target = _number(f"{kind}.byte_position", node.byte_position), node.target
             row.which = 1 if isinstance(target, int) else 2 if isinstance(target, str) else 3
-            row.group = target if isinstance(target, int) else 0
-            row.level = target.number if isinstance(target, Relative) else 0
+            row.group = _number(f"{kind}.target", target) if isinstance(target, int) else 0
+            row.level = _signed(f"{kind}.target", target.number) if isinstance(target, Relative) else 0
             text = target if isinstance(target, str) else b""
         for name, value in self.text(text).items():
             setattr(row, name, value)
@@ -859,11 +909,11 @@ def format(pattern: Pattern, flags: int = UNICODE, style: Optional[Style] = None
     proved of the library, this does not happen."""
     source = _Source(pattern, flags)
     if style is not None:
-        style, width = Style(style), min(width, _UNBOUNDED)
-        if width < 0:
+        number, columns = _member(Style, style), min(operator.index(width), _UNBOUNDED)
+        if columns < 0:
             raise ValueError("a width is not negative")
         return source.text(
-            lambda buffer, capacity: _library.fancy_format(*source.arguments, style, width, buffer, capacity)
+            lambda buffer, capacity: _library.fancy_format(*source.arguments, number, columns, buffer, capacity)
         )[1]
     status, text = source.text(
         lambda buffer, capacity: _library.fancy_pattern(*source.arguments, buffer, capacity)
@@ -876,9 +926,9 @@ def format(pattern: Pattern, flags: int = UNICODE, style: Optional[Style] = None
 def normal_form(pattern: Pattern, flags: int = UNICODE, precedence: int = Precedence.WHOLE) -> Optional[str]:
     """Returns a text that is parsed as the normal form of a pattern's tree, or None if the tree is not printable: references,
     look-arounds, atomic groups, calls and the like have no text here. Raises `Error` if the pattern is invalid."""
-    source = _Source(pattern, flags)
+    source, number = _Source(pattern, flags), _member(Precedence, precedence)
     status, text = source.text(
-        lambda buffer, capacity: _library.fancy_print(*source.arguments, precedence, buffer, capacity)
+        lambda buffer, capacity: _library.fancy_print(*source.arguments, number, buffer, capacity)
     )
     return None if status == _NOT_PRINTABLE else text
 

@@ -1,10 +1,19 @@
-//! Finds libfancy: in the folder `FANCY_LIB_DIR`, or else where pkg-config says, or else in `../c/out`.
+//! Finds libfancy: in the folder `FANCY_LIB_DIR`, or else where pkg-config says, or else in `../c/out`. A library that is too old for
+//! the crate is refused, if its version can be found out.
 use std::path::{Path, PathBuf};
 use std::process::{exit, Command};
 use std::{env, fs};
 
+#[allow(dead_code)]
+#[path = "src/numbers.rs"]
+mod numbers;
+#[path = "src/version.rs"]
+mod version;
+
 fn main() {
     println!("cargo:rerun-if-changed=build.rs");
+    println!("cargo:rerun-if-changed=src/numbers.rs");
+    println!("cargo:rerun-if-changed=src/version.rs");
     println!("cargo:rerun-if-env-changed=FANCY_LIB_DIR");
     println!("cargo:rerun-if-env-changed=PKG_CONFIG_PATH");
     let (link, file) = match env::var_os("CARGO_FEATURE_SHARED") {
@@ -16,6 +25,10 @@ fn main() {
         exit(1);
     };
     println!("cargo:rerun-if-changed={}", folder.join(file).display());
+    if let Some(found) = version_of(&folder, link).filter(|found| !version::suffices(*found)) {
+        eprintln!("{}", refusal(&folder.join(file), found));
+        exit(1);
+    }
     println!("cargo:rustc-link-search=native={}", folder.display());
     println!("cargo:rustc-link-lib={link}=fancy");
 }
@@ -39,6 +52,42 @@ fn from_pkg_config() -> Option<PathBuf> {
         .filter(|output| output.status.success())?;
     let folder = String::from_utf8(output.stdout).ok()?;
     Some(PathBuf::from(folder.trim()))
+}
+
+/// Writes the version of the library that it is linked with.
+const PROGRAM: &str = r#"
+unsafe extern "C" { safe fn fancy_version() -> u32; }
+fn main() { println!("{}", fancy_version()); }
+"#;
+
+/// The version of the library in a folder: major, minor and patch. A small program that is linked with the library writes it.
+/// `None` if there is no such program: the crate is built for another machine than this one, say, or the library is not complete.
+/// Then it is looked at in the first call.
+fn version_of(folder: &Path, link: &str) -> Option<(u32, u32, u32)> {
+    if env::var_os("HOST")? != env::var_os("TARGET")? {
+        return None;
+    }
+    let out = PathBuf::from(env::var_os("OUT_DIR")?);
+    let (source, program) = (out.join("version.rs"), out.join("version"));
+    fs::write(&source, PROGRAM).ok()?;
+    let mut rustc = Command::new(env::var_os("RUSTC")?);
+    rustc.args(["--edition=2021", "--crate-name=version", "-l"]).arg(format!("{link}=fancy"));
+    rustc.arg("-L").arg(format!("native={}", folder.display()));
+    // where the loader finds a shared library
+    rustc.arg(format!("-Clink-arg=-Wl,-rpath,{}", folder.display()));
+    rustc.args(env::var("RUSTC_LINKER").map(|linker| format!("-Clinker={linker}")));
+    rustc.arg("-o").arg(&program).arg(&source).output().ok().filter(|output| output.status.success())?;
+    let output = Command::new(&program).output().ok().filter(|output| output.status.success())?;
+    String::from_utf8(output.stdout).ok()?.trim().parse().ok().map(version::parts)
+}
+
+fn refusal(file: &Path, (major, minor, patch): (u32, u32, u32)) -> String {
+    let (needed_major, needed_minor) = version::NEEDED;
+    format!(
+        "{} is libfancy {major}.{minor}.{patch}, and version {needed_major}.{needed_minor} or a later {needed_major} is needed: build the \
+         library of this repository with `make -C c` at its top, and set FANCY_LIB_DIR to the folder that contains it",
+        file.display()
+    )
 }
 
 fn absolute(folder: &Path) -> PathBuf {

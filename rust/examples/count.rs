@@ -29,6 +29,8 @@ fn main() {
             "rows-without-spans" => rows.parse_without_spans(&pattern, flags).is_ok(),
             "tree" => parse(&pattern, flags).is_ok(),
             "tree-without-spans" => parse_without_spans(&pattern, flags).is_ok(),
+            "kept-tree" => parse(&pattern, flags).map(std::mem::forget).is_ok(),
+            "kept-tree-without-spans" => parse_without_spans(&pattern, flags).map(std::mem::forget).is_ok(),
             _ => panic!("no such mode"),
         };
         valid += usize::from(is_valid);

@@ -1,7 +1,7 @@
 //! What the calls of the library share: a version that is known, buffers, and texts that are written.
 
 use crate::ffi::{self, CallResult, Node};
-use crate::{numbers, Error};
+use crate::{numbers, version, Error};
 
 /// The text that a call wrote, or what it returned instead.
 pub(crate) enum Text {
@@ -17,37 +17,56 @@ pub(crate) struct RowsIn<'a> {
     pub index: usize,
 }
 
-/// No text for a pattern of this length is nearly as long. It is only there so that a size that cannot be right is never
-/// allocated.
-fn bound(length: usize) -> usize {
-    length.saturating_mul(512).saturating_add(1024)
+/// What a text is written for, by which it is known how long the text can be.
+#[derive(Clone, Copy)]
+pub(crate) struct Extent {
+    /// About as many bytes as the text has; it may have more.
+    pub usual: usize,
+    /// The nodes, or as many as there can be.
+    pub nodes: usize,
+    /// The bytes of all texts and names, or as many as there can be.
+    pub texts: usize,
+}
+
+impl Extent {
+    /// That of a pattern.
+    pub(crate) fn of_pattern(pattern: &str) -> Extent {
+        let length = pattern.len();
+        Extent { usual: length, nodes: length.saturating_mul(2).saturating_add(1), texts: length.saturating_mul(6) }
+    }
+
+    /// The bytes that no text exceeds. Each reference may write the longest of the names, so they can be as many as the nodes
+    /// times the texts; for all else that is written of a node, sixteen times its text and 512 bytes are enough. It is there so
+    /// that no buffer is made for a size that cannot be right.
+    fn most(self) -> usize {
+        self.nodes.saturating_mul(self.texts.saturating_mul(16).saturating_add(512)).saturating_add(1024)
+    }
 }
 
 /// Returns an error if the library has another major version, since then its structs may be laid out in another way, or is
 /// older than what this crate calls.
 pub(crate) fn ready() -> Result<(), Error> {
-    let version = ffi::version();
-    let (major, minor) = (version / 1_000_000, version / 1000 % 1000);
-    if major == numbers::VERSION_MAJOR && minor >= numbers::VERSION_MINOR {
+    let found = version::parts(ffi::version());
+    if version::suffices(found) {
         Ok(())
     } else {
-        Err(Error::Library("its version is neither 1.4 nor a later 1"))
+        Err(Error::Version { needed: version::NEEDED, found })
     }
 }
 
-/// Makes a call with a buffer for the text of a pattern or a tree that is about so long, and once more with a longer one if
-/// the first is too short. There is a text if the call returns this status.
+/// Makes a call with a buffer for a text, and once more with a longer one if the first is too short. There is a text if the
+/// call returns this status.
 pub(crate) fn written(
-    length: usize,
+    extent: Extent,
     mut call: impl FnMut(&mut [u8]) -> CallResult,
     status: u32,
 ) -> Result<Text, Error> {
     ready()?;
     let mut buffer = Vec::new();
-    grow(&mut buffer, length.saturating_mul(2).saturating_add(64))?;
+    grow(&mut buffer, extent.usual.saturating_mul(2).saturating_add(64))?;
     let mut result = call(&mut buffer);
     if result.status == numbers::STATUS_BUFFER_TOO_SHORT {
-        if result.size > bound(length) {
+        if result.size > extent.most() {
             return Err(Error::Library("a text that is longer than any"));
         }
         grow(&mut buffer, result.size)?;

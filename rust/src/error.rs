@@ -17,8 +17,16 @@ pub enum Error {
     ///
     /// While an owned tree is built, Rust's own allocations abort the process if they fail, as elsewhere in Rust.
     OutOfMemory,
+    /// The library that is linked is older than the crate needs, or has another major version. `build.rs` looks at the
+    /// version too, where it can run a program that is linked with the library.
+    Version {
+        /// The oldest version that the crate works with: major and minor. It works with a later minor version too.
+        needed: (u32, u32),
+        /// The version of the library: major, minor and patch.
+        found: (u32, u32, u32),
+    },
     /// The library returned what `fancy.h` rules out, which the text says. libfancy never does: what is linked is something
-    /// else, or has another major version, or is older than 1.4.
+    /// else.
     Library(&'static str),
 }
 
@@ -70,7 +78,7 @@ impl Error {
     pub fn position(&self) -> Option<usize> {
         match self {
             Error::ParseError(position, _) => Some(*position),
-            Error::OutOfMemory | Error::Library(_) => None,
+            Error::OutOfMemory | Error::Version { .. } | Error::Library(_) => None,
         }
     }
 
@@ -86,7 +94,7 @@ impl Error {
     pub fn kind(&self) -> Option<&ParseError> {
         match self {
             Error::ParseError(_, kind) => Some(kind),
-            Error::OutOfMemory | Error::Library(_) => None,
+            Error::OutOfMemory | Error::Version { .. } | Error::Library(_) => None,
         }
     }
 
@@ -204,6 +212,10 @@ impl fmt::Display for Error {
                 write!(f, "Parsing error at position {position}: {kind}")
             }
             Error::OutOfMemory => f.write_str("Out of memory"),
+            Error::Version { needed: (major, minor), found: (found_major, found_minor, patch) } => write!(
+                f,
+                "libfancy {found_major}.{found_minor}.{patch} is linked, and version {major}.{minor} or a later {major} is needed"
+            ),
             Error::Library(what) => write!(f, "libfancy returned what its header rules out: {what}"),
         }
     }
@@ -235,5 +247,12 @@ mod tests {
         assert_eq!(kind.to_string(), r"Invalid escape: \y");
         let error = Error::ParseError(3, ParseError::InvalidClass);
         assert_eq!(error.to_string(), "Parsing error at position 3: Invalid character class");
+    }
+
+    #[test]
+    fn the_versions_that_meet_are_named() {
+        let error = Error::Version { needed: (1, 4), found: (1, 3, 0) };
+        assert_eq!(error.to_string(), "libfancy 1.3.0 is linked, and version 1.4 or a later 1 is needed");
+        assert_eq!((error.position(), error.kind()), (None, None));
     }
 }

@@ -1,6 +1,6 @@
 //! Patterns formatted.
 
-use crate::call::{self, Text};
+use crate::call::{self, Extent, Text};
 use crate::{error_of, ffi, numbers, Error, Flags};
 
 /// How [`format_pattern`] lays out a pattern.
@@ -50,7 +50,7 @@ impl Style {
 pub fn format_pattern(pattern: &str, flags: Flags, style: Style) -> Result<String, Error> {
     let (style, width) = style.numbers();
     let write = |buffer: &mut [u8]| ffi::format(pattern, flags.bits(), style, width, buffer);
-    match call::written(pattern.len(), write, numbers::STATUS_OK)? {
+    match call::written(Extent::of_pattern(pattern), write, numbers::STATUS_OK)? {
         Text::Written(text) => Ok(text),
         Text::Not(result) => Err(error_of(result, pattern, flags)),
     }

@@ -25,7 +25,8 @@
 //!   for a tree that may have been changed, and [`NodeRef::print`] for a part of one.
 //!
 //! Positions and spans are byte offsets. The functions may be called in several threads at once. What the library returns is
-//! checked, and a library that is something else than libfancy is an error ([`Error::Library`]), not a panic.
+//! checked. A library that is too old for the crate is an error ([`Error::Version`]), and so is one that is something else than
+//! libfancy ([`Error::Library`]); neither is a panic.
 
 #![warn(missing_docs, missing_debug_implementations)]
 #![deny(unsafe_code, unsafe_op_in_unsafe_fn)]
@@ -44,6 +45,7 @@ mod rows;
 mod structs;
 mod tree;
 mod trivia;
+mod version;
 mod written;
 
 pub use error::{Error, ParseError};
@@ -56,7 +58,7 @@ pub use rows::Rows;
 pub use tree::{GroupInfo, Span, Tree};
 pub use trivia::{trivia, Trivium, TriviumKind};
 
-use call::Text;
+use call::{Extent, Text};
 use ffi::CallResult;
 use rows::with_kept;
 
@@ -65,7 +67,8 @@ use rows::with_kept;
 /// # Errors
 ///
 /// [`Error::ParseError`] if the pattern is invalid, with the position and the kind of its error, which is its only one;
-/// [`Error::OutOfMemory`] if an allocation of the library failed; [`Error::Library`] if the library is not libfancy.
+/// [`Error::OutOfMemory`] if an allocation of the library failed; [`Error::Version`] if the library is too old, and
+/// [`Error::Library`] if it is not libfancy.
 ///
 /// ```
 /// use fancy_syntax::{parse, Expr, Flags};
@@ -166,7 +169,7 @@ fn error_of(result: CallResult, pattern: &str, flags: Flags) -> Error {
 /// ```
 pub fn to_pattern(pattern: &str, flags: Flags) -> Result<String, Error> {
     let write = |buffer: &mut [u8]| ffi::pattern(pattern, flags.bits(), buffer);
-    match call::written(pattern.len(), write, numbers::STATUS_OK)? {
+    match call::written(Extent::of_pattern(pattern), write, numbers::STATUS_OK)? {
         Text::Written(text) => Ok(text),
         Text::Not(result) => Err(error_of(result, pattern, flags)),
     }
@@ -205,7 +208,7 @@ pub enum Precedence {
 /// ```
 pub fn print(pattern: &str, flags: Flags, precedence: Precedence) -> Result<Option<String>, Error> {
     let write = |buffer: &mut [u8]| ffi::print(pattern, flags.bits(), precedence as u8, buffer);
-    match call::written(pattern.len(), write, numbers::STATUS_OK)? {
+    match call::written(Extent::of_pattern(pattern), write, numbers::STATUS_OK)? {
         Text::Written(text) => Ok(Some(text)),
         Text::Not(result) if result.status == numbers::STATUS_NOT_PRINTABLE => Ok(None),
         Text::Not(result) => Err(error_of(result, pattern, flags)),
@@ -218,6 +221,5 @@ pub fn print(pattern: &str, flags: Flags, precedence: Precedence) -> Result<Opti
 /// assert_eq!(fancy_syntax::library_version().0, 1);
 /// ```
 pub fn library_version() -> (u32, u32, u32) {
-    let number = ffi::version();
-    (number / 1_000_000, number / 1000 % 1000, number % 1000)
+    version::parts(ffi::version())
 }

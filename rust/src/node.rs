@@ -212,7 +212,7 @@ impl<'a> NodeRef<'a> {
     ///
     /// # Errors
     ///
-    /// [`Error::OutOfMemory`] and [`Error::Library`], as for [`parse`](crate::parse).
+    /// [`Error::OutOfMemory`], [`Error::Version`] and [`Error::Library`], as for [`parse`](crate::parse).
     ///
     /// ```
     /// use fancy_syntax::{Flags, Precedence, Rows};
@@ -231,7 +231,7 @@ impl<'a> NodeRef<'a> {
     ///
     /// # Errors
     ///
-    /// [`Error::OutOfMemory`] and [`Error::Library`], as for [`parse`](crate::parse).
+    /// [`Error::OutOfMemory`], [`Error::Version`] and [`Error::Library`], as for [`parse`](crate::parse).
     ///
     /// ```
     /// use fancy_syntax::{Flags, Rows};

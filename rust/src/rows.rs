@@ -89,8 +89,8 @@ impl Rows {
     /// # Errors
     ///
     /// [`Error::ParseError`] if the pattern is invalid; [`Error::OutOfMemory`] if an allocation of the library failed, or if a
-    /// buffer cannot be made as long as the tree needs; [`Error::Library`] if the library is not libfancy. After an error these
-    /// are the rows of the empty pattern.
+    /// buffer cannot be made as long as the tree needs; [`Error::Version`] if the library is too old, and [`Error::Library`] if
+    /// it is not libfancy. After an error these are the rows of the empty pattern.
     ///
     /// ```
     /// use fancy_syntax::{Flags, Rows};
@@ -159,7 +159,7 @@ impl Rows {
     ///
     /// # Errors
     ///
-    /// [`Error::OutOfMemory`] and [`Error::Library`], as for [`parse`](Rows::parse).
+    /// [`Error::OutOfMemory`], [`Error::Version`] and [`Error::Library`], as for [`parse`](Rows::parse).
     ///
     /// ```
     /// use fancy_syntax::{Flags, Rows};

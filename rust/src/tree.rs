@@ -45,7 +45,7 @@ impl Tree {
     ///
     /// # Errors
     ///
-    /// [`Error::OutOfMemory`] and [`Error::Library`], as for [`parse`](crate::parse).
+    /// [`Error::OutOfMemory`], [`Error::Version`] and [`Error::Library`], as for [`parse`](crate::parse).
     ///
     /// ```
     /// use fancy_syntax::{parse, Expr, Flags};

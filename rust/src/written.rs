@@ -1,6 +1,6 @@
 //! Owned trees written as rows, and the texts that the library writes for rows.
 
-use crate::call::{self, RowsIn, Text};
+use crate::call::{self, Extent, RowsIn, Text};
 use crate::ffi::{self, CallResult, Info, Name, Node};
 use crate::{numbers, Absent, Assertion, AstNode, BacktrackingControlVerb, CaptureGroupTarget};
 use crate::{Error, Expr, Flags, GroupInfo, LookAround, Precedence};
@@ -196,16 +196,17 @@ fn text_of(text: Text) -> Result<Option<String>, Error> {
     }
 }
 
-/// About as much as the text of rows takes; it may take more.
-fn size_of_rows(rows: RowsIn<'_>) -> usize {
+/// What the text of rows is written for.
+fn extent_of_rows(rows: RowsIn<'_>) -> Extent {
     let nodes = rows.nodes.get(rows.index).map_or(0, |root| root.end.saturating_sub(rows.index));
-    nodes.saturating_mul(8).saturating_add(rows.texts.len())
+    let texts = rows.texts.len();
+    Extent { usual: nodes.saturating_mul(8).saturating_add(texts), nodes, texts }
 }
 
 /// Prints the tree of rows.
 pub(crate) fn print_rows(rows: RowsIn<'_>, precedence: Precedence) -> Result<Option<String>, Error> {
     let write = |buffer: &mut [u8]| ffi::print_nodes(rows, precedence as u8, buffer);
-    text_of(call::written(size_of_rows(rows), write, numbers::STATUS_OK)?)
+    text_of(call::written(extent_of_rows(rows), write, numbers::STATUS_OK)?)
 }
 
 /// Writes the tree of rows as a pattern.
@@ -216,7 +217,7 @@ pub(crate) fn pattern_of_rows(
     flags: Flags,
 ) -> Result<Option<String>, Error> {
     let write = |buffer: &mut [u8]| ffi::pattern_nodes(rows, names, info, flags.bits(), buffer);
-    text_of(call::written(size_of_rows(rows), write, numbers::STATUS_OK)?)
+    text_of(call::written(extent_of_rows(rows), write, numbers::STATUS_OK)?)
 }
 
 impl Expr {
@@ -225,7 +226,7 @@ impl Expr {
     ///
     /// # Errors
     ///
-    /// [`Error::OutOfMemory`] and [`Error::Library`], as for [`parse`](crate::parse).
+    /// [`Error::OutOfMemory`], [`Error::Version`] and [`Error::Library`], as for [`parse`](crate::parse).
     ///
     /// ```
     /// use fancy_syntax::{Expr, Precedence};
@@ -251,7 +252,7 @@ impl Expr {
     ///
     /// # Errors
     ///
-    /// [`Error::OutOfMemory`] and [`Error::Library`], as for [`parse`](crate::parse).
+    /// [`Error::OutOfMemory`], [`Error::Version`] and [`Error::Library`], as for [`parse`](crate::parse).
     ///
     /// ```
     /// use fancy_syntax::{Expr, Flags, GroupInfo};
