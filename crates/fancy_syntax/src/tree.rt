@@ -147,10 +147,10 @@ impl Expr {
     }
 
     /// Parses the pattern as `parse_tree_with_spans` does, with the same tree, spans and errors, and also returns what no
-    /// node has, in the order of the pattern: comments, inline flags, and the parentheses of groups that make no node: flag
-    /// groups, such as `(?:` or `(?i:`, and groups that have no number because only those with a name have one. A comment
-    /// inside a token, such as one in the braces of a quantifier or after the parenthesis of a group, is part of the token.
-    /// Not in the list are a quantifier that has no effect, and the parts of a conditional without branches.
+    /// node has, in the order of the pattern: comments; inline flags; the parentheses of groups that make no node, which are
+    /// flag groups, such as `(?:` or `(?i:`, and groups that have no number because only those with a name have one; a
+    /// quantifier that has no effect; and all of a conditional without branches but its condition. A comment inside a token,
+    /// such as one in the braces of a quantifier or after the parenthesis of a group, is part of the token.
     ///
     /// ```rust
     /// let (tree, spans, trivia) = Expr::parse_tree_with_trivia(alloc, "a(?#b)", FLAG_UNICODE)?;
