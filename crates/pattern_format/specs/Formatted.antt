@@ -31,9 +31,14 @@ abbrev pub inside : TriviumKind → Span → Span
 inside comment p = record { start = p.start + 3; end = p.end - 1 }
 inside _ p = record { start = p.start + 1; end = p.end }
 
--- what the style keeps of a comment: its text, or in the style Compact what is inside, without whitespace at the end
+-- what is inside the comment, without whitespace at the end if that is the end of its line
+abbrev pub trimmed : TriviumKind → List ℕ → List ℕ
+trimmed comment text = text
+trimmed _ text = trim_end text
+
+-- what the style keeps of a comment: its text, or in the style Compact what is inside
 abbrev pub kept_text : Style → List ℕ → Trivium → List ℕ
-kept_text style.Compact pattern x = trim_end (text_at pattern (inside x.kind x.span))
+kept_text style.Compact pattern x = trimmed x.kind (text_at pattern (inside x.kind x.span))
 kept_text _ pattern x = text_at pattern x.span
 
 -- whether that may go: it is `(?#)`, or in the style Compact nothing

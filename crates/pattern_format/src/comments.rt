@@ -53,12 +53,26 @@ fn inside(comment: Trivium) -> Option<Span>
     })
 }
 
+/// What is inside a comment, without whitespace at its end if that is the end of its line.
+fn trimmed(comment: Trivium, text: &str) -> &str
+    ensures { result.now ≡ spec.trimmed (trivium_of comment).kind text.now }
+{
+    match comment.kind {
+        TriviumKind::Comment => text,
+        TriviumKind::LineComment
+        | TriviumKind::InlineFlags { .. }
+        | TriviumKind::Opening { .. }
+        | TriviumKind::Closing
+        | TriviumKind::Dropped => text.trim_end(),
+    }
+}
+
 /// What the style keeps of a comment; None if it is not in the pattern.
 fn kept_text<'p>(pattern: &'p str, comment: Trivium, style: Style) -> Option<&'p str>
     ensures { IfSome result (λ text. text.now ≡ spec.kept_text style pattern.now (trivium_of comment)) }
 {
     match style {
-        Style::Compact => Some(inside(comment)?.text(pattern)?.trim_end()),
+        Style::Compact => Some(trimmed(comment, inside(comment)?.text(pattern)?)),
         Style::Kept | Style::Verbose { .. } => comment.span.text(pattern),
     }
 }
