@@ -56,6 +56,19 @@ fn text_of(
     Ok(Some(lines.end()?))
 }
 
+/// The tokens of the pattern; None if it is invalid. Its tree, which is larger, is dropped.
+fn valid_tokens(
+    alloc: Global,
+    pattern: &str,
+    flags: u32,
+) -> Result<Option<Vec<Token<'_>>>, AllocError> {
+    match SpannedTree::parse(alloc, pattern, flags) {
+        Ok(parsed) => Ok(Some(tokens_of(alloc, pattern, &parsed)?)),
+        Err(Error::ParseError(..)) => Ok(None),
+        Err(Error::OutOfMemory) => Err(AllocError),
+    }
+}
+
 /// The pattern, over lines of up to so many characters. None if it is invalid, or cannot be laid out.
 fn laid_out_once(
     alloc: Global,
@@ -63,13 +76,10 @@ fn laid_out_once(
     flags: u32,
     width: usize,
 ) -> Result<Option<String>, AllocError> {
-    let parsed = match SpannedTree::parse(alloc, pattern, flags) {
-        Ok(parsed) => parsed,
-        Err(Error::ParseError(..)) => return Ok(None),
-        Err(Error::OutOfMemory) => return Err(AllocError),
-    };
-    let tokens = tokens_of(alloc, pattern, &parsed)?;
-    text_of(alloc, &tokens, Flags::from_bits(flags), width)
+    match valid_tokens(alloc, pattern, flags)? {
+        Some(tokens) => text_of(alloc, &tokens, Flags::from_bits(flags), width),
+        None => Ok(None),
+    }
 }
 
 /// The pattern, over lines of up to so many characters. None if it cannot be laid out so that it stays so.

@@ -101,12 +101,25 @@ impl NewFile {
     pub(crate) fn create(rt: &HostRuntime, path: &str) -> Result<NewFile, ReplaceError> {
         let name = new_name(rt, path)?;
         let file = create(rt, name.as_str())?;
-        // Before the lock is taken, another run may take the file for one that was left, and remove it.
-        lock(&file)?;
-        if !is_named(rt, &file, name.as_str())? {
+        let new = NewFile { name, file };
+        match new.hold(rt) {
+            Ok(()) => Ok(new),
+            // The name is that of the other run's file.
+            Err(ReplaceError::Busy) => Err(ReplaceError::Busy),
+            Err(error) => {
+                let _ = new.remove(rt);
+                Err(error)
+            }
+        }
+    }
+
+    /// Takes its lock; an error if another run took it for a file that was left, and removes it.
+    fn hold(&self, rt: &HostRuntime) -> Result<(), ReplaceError> {
+        lock(&self.file)?;
+        if !is_named(rt, &self.file, self.name.as_str())? {
             return Err(ReplaceError::Busy);
         }
-        Ok(NewFile { name, file })
+        Ok(())
     }
 
     /// Gives it the owner, the group and the permissions of the old file, and these bytes, and sees that they are on the disk.
