@@ -43,9 +43,25 @@ fn is_comment(text: &str) -> bool {
     text.starts_with('#') || text.starts_with("(?#")
 }
 
+/// The text up to its first line feed.
+fn first_line(text: &str) -> &str {
+    match text.find('\n') {
+        Some(end) => text.get(..end).unwrap_or(text),
+        None => text,
+    }
+}
+
+/// The text after its last line feed.
+fn last_line(text: &str) -> &str {
+    match text.rfind('\n') {
+        Some(end) => text.get(end.saturating_add(1)..).unwrap_or(text),
+        None => text,
+    }
+}
+
 /// Whether a comment follows on the same line, or one through the end of the line after a bar.
 fn has_comment_after(after: &str) -> bool {
-    let line = after.split('\n').next().unwrap_or("").trim_start();
+    let line = first_line(after).trim_start();
     match line.strip_prefix('|') {
         Some(rest) => rest.trim_start().starts_with('#'),
         None => is_comment(line),
@@ -54,16 +70,21 @@ fn has_comment_after(after: &str) -> bool {
 
 /// Whether the text ends with the beginning of a line, and the line before is a comment.
 fn has_comment_before(before: &str) -> bool {
-    let mut lines = before.rsplit('\n');
-    let is_beginning = lines.next().unwrap_or("").trim_start().is_empty();
-    is_beginning && is_comment(lines.next().unwrap_or("").trim_start())
+    let Some(above) = before
+        .trim_end_matches([' ', '\t', '\r'])
+        .strip_suffix('\n')
+    else {
+        return false;
+    };
+    let line = last_line(above).trim_start();
+    is_comment(line)
 }
 
 /// Whether a line remains of two, each in part, where the text between goes.
 fn joins_lines(before: &str, between: &str, after: &str) -> bool {
-    let first = before.rsplit('\n').next().unwrap_or("");
-    let last = after.split('\n').next().unwrap_or("");
-    between.contains('\n') && !first.trim_start().is_empty() && !last.trim_start().is_empty()
+    let first = last_line(before).trim_start();
+    let last = first_line(after).trim_start();
+    between.contains('\n') && !first.is_empty() && !last.is_empty()
 }
 
 /// The edit that leaves out the branch and the bar before it. None if a comment is beside the branch, which may be about
