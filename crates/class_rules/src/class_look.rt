@@ -5,7 +5,7 @@ use crate::class_source::ClassSource;
 use crate::mixed_range::is_wide;
 use fancy_syntax::span::Span;
 use regex_class::ClassRange;
-use std::alloc::AllocError;
+use std::alloc::{AllocError, Global};
 
 /// What is likely meant by a class, and the part of the class that shows it.
 #[derive(Clone, Copy)]
@@ -41,19 +41,23 @@ fn has_bar(items: &[ClassItem]) -> bool {
 }
 
 /// Whether a letter or a digit is two of the items.
-fn has_twice(items: &[ClassItem]) -> bool {
-    for (index, item) in items.iter().enumerate() {
-        let character = plain_character(item);
-        let before = items.get(..index).unwrap_or(&[]);
-        if character.is_some_and(|c| c.is_alphanumeric())
-            && before
-                .iter()
-                .any(|other| plain_character(other) == character)
+fn has_twice(alloc: Global, items: &[ClassItem]) -> Result<bool, AllocError> {
+    let mut characters = Vec::new(alloc);
+    for item in items {
+        if let Some(c) = plain_character(item)
+            && c.is_alphanumeric()
         {
-            return true;
+            characters.push(c)?;
         }
     }
-    false
+    characters.sort_unstable();
+    let after = characters.iter().skip(1);
+    Ok(
+        characters
+            .iter()
+            .zip(after)
+            .any(|(one, other)| one == other),
+    )
 }
 
 /// The first range over several kinds of characters that has some of these characters.
@@ -71,10 +75,16 @@ fn wide_range(items: &[ClassItem], ranges: &[ClassRange]) -> Option<Span> {
     None
 }
 
-/// Whether the item is one that can be left out, by one of the findings.
-fn is_needless(item: ClassItem, findings: &[ClassFinding]) -> bool {
-    findings.iter().any(|one| one.problem == ClassProblem::DuplicateCharacters
-        && one.span == item.span)
+/// Where the items begin that can be left out, in order.
+fn needless_starts(alloc: Global, findings: &[ClassFinding]) -> Result<Vec<usize>, AllocError> {
+    let mut starts = Vec::new(alloc);
+    for one in findings {
+        if one.problem == ClassProblem::DuplicateCharacters {
+            starts.push(one.span.start)?;
+        }
+    }
+    starts.sort_unstable();
+    Ok(starts)
 }
 
 /// The ranges of the characters of the items that can be left out.
@@ -83,9 +93,10 @@ fn needless_ranges(
     items: &[ClassItem],
     findings: &[ClassFinding],
 ) -> Result<Vec<ClassRange>, AllocError> {
+    let starts = needless_starts(class.alloc, findings)?;
     let mut ranges = Vec::new(class.alloc);
     for item in items {
-        if is_needless(*item, findings) {
+        if starts.binary_search(&item.span.start).is_ok() {
             push_ranges(class, *item, &mut ranges)?;
         }
     }
@@ -124,7 +135,7 @@ pub(crate) fn class_look(
         let look = ClassLook::WideRange;
         return Ok(Some(LookAt { span, look }));
     }
-    if has_twice(&items) {
+    if has_twice(class.alloc, &items)? {
         let look = ClassLook::Word;
         return Ok(Some(LookAt { span, look }));
     }
