@@ -172,10 +172,10 @@ fn files_that_cannot_be_written(rt: HostRuntime) -> Result<(), Fail> {
         let words = ["patterns", "lint", "--fix", name];
         let run = run(rt.alloc(), Paints::both(Paint::Plain), &words, usize::MAX)?;
         let left = format!(in rt.alloc(); "{name}{LEFT}")?;
-        let said = format!(in rt.alloc(); "{reason}{COUNTED}")?;
+        let message = format!(in rt.alloc(); "{reason}{COUNTED}")?;
         assert!(rt; run.status == 2, "{name}");
         assert!(rt; run.out.text.as_slice() == left.as_bytes(), "{name}");
-        assert!(rt; run.err.text.as_slice() == said.as_bytes(), "{name}");
+        assert!(rt; run.err.text.as_slice() == message.as_bytes(), "{name}");
     }
     Ok(())
 }
