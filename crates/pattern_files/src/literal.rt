@@ -40,7 +40,7 @@ fn read_pieces<I: Inside>(
     let mut characters = Vec::new(alloc);
     let mut done = bytes;
     for _ in 0..=rest.len() {
-        let Some(piece) = rest.get(done..).and_then(|ahead| inside.piece(ahead)) else {
+        let Some(piece) = rest.get(done..).and_then(|left| inside.piece(left)) else {
             return Ok(None);
         };
         let next = done.saturating_add(piece.bytes);

@@ -200,7 +200,7 @@ fn read_part(
     };
     let rest = text
         .get(done..)
-        .and_then(|ahead| after_characters(ahead, &characters));
+        .and_then(|left| after_characters(left, &characters));
     Ok(rest.map(|rest| text.len().saturating_sub(rest.len())))
 }
 

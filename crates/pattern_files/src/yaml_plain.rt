@@ -27,14 +27,14 @@ fn is_flow_delimiter(c: char) -> bool {
 /// Whether a plain scalar can go on with what is at the front: not at the end of a line or at a tab, not with a comment
 /// after a space, and not with a colon that ends a key.
 fn goes_on(rest: &str, is_after_space: bool, is_flow: bool) -> bool {
-    let mut ahead = rest.chars();
-    let Some(first) = ahead.next() else {
+    let mut characters = rest.chars();
+    let Some(first) = characters.next() else {
         return false;
     };
     if is_break(first) || first == '\t' || (is_flow && is_flow_delimiter(first)) {
         return false;
     }
-    match (first, ahead.next()) {
+    match (first, characters.next()) {
         ('#', _) => !is_after_space,
         (':', None) => false,
         (':', Some(next)) => {
@@ -46,10 +46,10 @@ fn goes_on(rest: &str, is_after_space: bool, is_flow: bool) -> bool {
 
 /// Whether a plain scalar can begin so.
 fn can_begin(rest: &str) -> bool {
-    let mut ahead = rest.chars();
-    match ahead.next() {
+    let mut characters = rest.chars();
+    match characters.next() {
         None => false,
-        Some('-' | '?' | ':') => ahead
+        Some('-' | '?' | ':') => characters
             .next()
             .is_some_and(|next| !is_break(next) && !matches!(next, ' ' | '\t')),
         Some(first) => {
