@@ -194,9 +194,11 @@ impl<S: System, O: Write, E: Write> ProgramCall<'_, S, O, E> {
         if !can_report(verb, fixing) {
             return explain_fix(self.err);
         }
-        let mut job = self.job_chosen(verb, flags, matches, levels);
-        job.fixing = fixing;
-        job.patterns = patterns;
+        let job = Job {
+            fixing,
+            patterns,
+            ..self.job_chosen(verb, flags, matches, levels)
+        };
         if let Some(misuse) = format_misuse(verb, job.form, !files.is_empty()) {
             return explain_misuse(misuse, self.err);
         }

@@ -284,7 +284,10 @@ fn each_line_arg<'a>(alloc: Global) -> Result<Arg<'a>, AllocError> {
         .long("lines")
         .action(ArgAction::SetTrue)
         .help(EACH_LINE_HELP)
-        .conflicts_with_all(&["null-data", "textmate", "keys", "records"])
+        .conflicts_with("null-data")?
+        .conflicts_with("textmate")?
+        .conflicts_with("keys")?
+        .conflicts_with("records")
 }
 
 fn quiet_arg<'a>(alloc: Global) -> Arg<'a> {
@@ -399,10 +402,12 @@ fn with_pattern<'a>(alloc: Global, command: Command<'a>) -> Result<Command<'a>, 
         .value_name("POSITION")
         .allow_hyphen_values(true)
         .help(POSITION_HELP)
-        .conflicts_with_all(&["pattern", "regexp"])?;
+        .conflicts_with("pattern")?
+        .conflicts_with("regexp")?;
     let pattern = Arg::new(alloc, "pattern")
         .value_name("PATTERN")
-        .required_unless_present_any(&["file", "regexp"])?
+        .required_unless_present("file")?
+        .required_unless_present("regexp")?
         .help("The pattern; put -- or -e before one that begins with -");
     with_config(alloc, command.arg(regexp)?.arg(file)?)?.arg(pattern)
 }
