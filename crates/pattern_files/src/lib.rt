@@ -1,14 +1,11 @@
-//! How sources spell patterns: the literals that hold them, and what becomes of these when a pattern changes.
+//! Files that hold patterns: lines, JSON, and records of patterns that were extracted from sources.
 #![tactic(auto)]
 
-mod json;
-pub mod literal;
-mod pieces;
-mod python;
-mod rust;
-pub mod source_change;
-pub mod source_syntax;
-mod xml;
-mod yaml;
-mod yaml_block;
-mod yaml_plain;
+pub mod file_pattern;
+pub mod form;
+pub mod lines;
+pub mod record;
+pub mod source_positions;
+pub mod sources;
+pub mod spelling;
+pub mod values;

@@ -3,4 +3,3 @@ pub mod Quantifiers
 pub mod Branches
 pub mod Rules
 pub mod Targets
-pub mod Captures

@@ -1,7 +1,7 @@
 //! All that the rules find in a pattern.
 use crate::attack_text::AttackText;
+use crate::captures::missing_captures;
 use crate::flags::useless_flags;
-use crate::grammar_rule::{GrammarRule, missing_captures};
 use crate::known::Known;
 use crate::problem::{Found, Problem};
 use crate::references::{Ways, follow};
@@ -11,6 +11,7 @@ use crate::walk::Walk;
 use class_rules::class_walk::class_findings;
 use dialects::spelling::{DifferentSpelling, spellings};
 use fancy_spans::SpannedTree;
+use patterns_text::grammar_rule::GrammarRule;
 use patterns_text::nodes::nodes_of;
 use patterns_text::subject::Subject;
 use std::alloc::AllocError;

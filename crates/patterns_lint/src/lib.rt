@@ -3,13 +3,14 @@
 
 pub mod attack_text;
 mod branches;
+mod captures;
 pub mod chosen;
 mod classes;
 mod empty;
 pub mod find;
 mod fingerprint;
+pub mod fixes;
 mod flags;
-pub mod grammar_rule;
 pub mod known;
 pub mod problem;
 mod quantifiers;

@@ -1,12 +1,12 @@
 //! What `lint` finds in a pattern.
 use crate::attack_text::AttackText;
-use crate::grammar_rule::CaptureKey;
 use crate::rule::Rule;
 use crate::targets::is_of_digits;
 use class_rules::class_problem::{ClassFinding, ClassLook, ClassProblem};
 use dialects::difference::Difference;
 use fancy_syntax::span::Span;
 use patterns_text::excerpt::{Label, Related};
+use patterns_text::grammar_rule::CaptureKey;
 use patterns_text::names::Named;
 use patterns_text::octal::Octal;
 use std::fmt;

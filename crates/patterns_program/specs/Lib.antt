@@ -1,5 +1,2 @@
 pub mod Line
-pub mod Codes
 pub mod Progress
-pub mod Keys
-pub mod HasGroups

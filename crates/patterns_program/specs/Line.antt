@@ -1,7 +1,7 @@
 -- The line that a pattern is written as.
-use Rattle.std.specs.Prelude.{◌≡◌, ◌≢◌, ◌==◌, ◌&&◌, ◌||◌, ◌⊎◌, not, ℕ, Bool, true, false, List, [], ◌∷◌, chars}
+use Rattle.std.specs.Prelude.{◌≡◌, ◌≢◌, ◌==◌, ◌⊎◌, ℕ, Bool, true, false, List, [], ◌∷◌, chars}
 use Rattle.std.specs.Prelude.{encode_utf8_all, IsUtf8}
-use Rattle.std.specs.List.{list_any, ends_with}
+use Rattle.std.specs.List.{list_any}
 use Prim.Native.Char.{code}
 use Rattle.fancy_lex.specs.declared.flags.Flags.{Flags}
 use Rattle.fancy_grammar.specs.Pattern.{pattern_text}
@@ -9,18 +9,9 @@ use Rattle.fancy_grammar.specs.ReadAs.{IsReadAs}
 use Rattle.fancy_syntax.specs.InfoViews.{IsTreeOf}
 use Rattle.fancy_syntax.specs.GroupInfo.{GroupInfo}
 use Rattle.fancy_syntax.specs.Tree.{Tree}
+use Rattle.pattern_files.specs.Line.{breaks_line}
 use Rattle.patterns_program.specs.declared.printing.Comments.{Comments}
 use Rattle.patterns_program.specs.declared.printing.Comments.TheVariants as kept
-
--- whether a byte is in the text, and not in the pattern
-abbrev pub is_new : ℕ → List ℕ → List ℕ → Bool
-is_new byte w pattern = list_any (λ b. b == byte) w && not (list_any (λ b. b == byte) pattern)
-
--- whether the text, in a line of its own, would be read as another: it holds an LF, a CR or a NUL that the pattern does
--- not hold, or ends with a CR, which would belong to the end of the line
-abbrev pub breaks_line : List ℕ → List ℕ → Bool
-breaks_line w pattern = (is_new (code "\n") w pattern || is_new (code "\r") w pattern || is_new 0 w pattern)
-    || ends_with (λ a b. a == b) w (code "\r" ∷ [])
 
 -- comments are to be kept, and the pattern may have one: it holds a `#`
 abbrev pub MayKeep : Comments → List ℕ → Type 0

@@ -2,9 +2,9 @@
 ghost use Rattle.std.specs.Prelude.{◌≡◌, ◌≤◌, ◌⊎◌, Ok, IfOk};
 ghost use Rattle.patterns_text.specs.Subject.{IsAccepted, IsRefused};
 
-use crate::objects::Json;
-use crate::reporter::{TreeReporter, parse};
-use crate::text::Text;
+use pattern_reports::objects::Json;
+use pattern_reports::reporter::{TreeReporter, parse};
+use pattern_reports::text::Text;
 use patterns_listing::drawing::Look;
 use patterns_text::error::{RunError, give_up};
 use patterns_text::subject::Subject;

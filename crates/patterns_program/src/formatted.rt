@@ -3,12 +3,12 @@ ghost use Rattle.std.specs.Prelude.{◌≡◌, Ok, IfOk, OnSome};
 ghost use Rattle.patterns_program.specs.declared.outcome.Outcome.{Outcome};
 ghost use Rattle.patterns_text.specs.Subject.{IsAccepted};
 
-use crate::fixes::spelling::{begins_with_bom, is_record};
+use pattern_files::spelling::{begins_with_bom, is_record};
 use crate::outcome::Outcome;
 use crate::printing::{Comments, canonical_text, write_change, write_ended};
-use crate::reporter::parse;
+use pattern_reports::reporter::parse;
 use crate::tally::Tally;
-use crate::text::Text;
+use pattern_reports::text::Text;
 use fancy_lex::error::Error;
 use pattern_format::extent::Extent;
 use pattern_format::format::format_pattern;

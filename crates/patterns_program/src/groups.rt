@@ -4,7 +4,7 @@ ghost use Rattle.patterns_program.specs.declared.outcome.Outcome.{Outcome};
 ghost use Rattle.patterns_text.specs.Subject.{IsAccepted, IsRefused};
 
 use crate::outcome::Outcome;
-use crate::reporter::{TreeReporter, parse};
+use pattern_reports::reporter::{TreeReporter, parse};
 use patterns_text::error::RunError;
 use patterns_text::subject::Subject;
 

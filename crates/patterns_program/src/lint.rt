@@ -6,7 +6,7 @@ ghost use Rattle.patterns_program.specs.declared.outcome.Outcome.{Outcome};
 ghost use Rattle.patterns_text.specs.Subject.{IsAccepted, IsRefused};
 
 use crate::outcome::Outcome;
-use crate::reporter::{Reporter, parse};
+use pattern_reports::reporter::{Reporter, parse};
 use crate::tally::Tally;
 use patterns_lint::chosen::{Chosen, Level};
 use patterns_lint::find::problems;

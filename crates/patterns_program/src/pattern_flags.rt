@@ -2,10 +2,10 @@
 ghost use Rattle.std.specs.Prelude.{◌≡◌, IsTrue, IfOk, IfSome};
 
 use crate::outcome::Outcome;
-use crate::plan::Plan;
+use patterns_config::plan::Plan;
 use crate::run::Job;
-use crate::settings::flags_with;
-use crate::sources::System;
+use patterns_config::file_settings::flags_with;
+use pattern_files::sources::System;
 use patterns_text::error::RunError;
 use std::alloc::Global;
 use std::io::Write;

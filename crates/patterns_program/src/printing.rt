@@ -10,11 +10,11 @@ ghost use Rattle.patterns_program.specs.declared.outcome.Outcome.{Outcome};
 ghost use Rattle.patterns_program.specs.declared.printing.Comments.{Comments};
 ghost use Rattle.patterns_text.specs.Subject.{IsAccepted, IsRefused};
 
-use crate::first_comment::first_comment;
+use pattern_format::first_comment::first_comment;
 use crate::outcome::Outcome;
-use crate::reporter::parse;
+use pattern_reports::reporter::parse;
 use crate::tally::Tally;
-use crate::text::Text;
+use pattern_reports::text::Text;
 use fancy_pattern::to_pattern;
 use fancy_spans::SpannedTree;
 use fancy_syntax::tree::ExprTree;
@@ -37,24 +37,6 @@ pub enum Comments {
     Keep,
     /// It is written without the comment.
     Drop,
-}
-
-/// Whether a byte is in the text, and not in the pattern.
-fn is_new(byte: u8, text: &str, pattern: &str) -> bool
-    ensures { result ≡ spec.is_new byte text.now pattern.now }
-{
-    text.as_bytes().contains(&byte) && !pattern.as_bytes().contains(&byte)
-}
-
-/// Whether the text, in a line of its own, would be read as another: it holds an end of a line or of a record that the
-/// pattern does not hold, or ends with a CR.
-pub(crate) fn breaks_line(text: &str, pattern: &str) -> bool
-    ensures { result ≡ spec.breaks_line text.now pattern.now }
-{
-    is_new(b'\n', text, pattern)
-        || is_new(b'\r', text, pattern)
-        || is_new(b'\0', text, pattern)
-        || text.as_bytes().ends_with(b"\r")
 }
 
 /// The text of the pattern's tree, for the pattern's line. None if it would break the line: the pattern itself is written

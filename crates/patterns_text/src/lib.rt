@@ -5,6 +5,7 @@ pub mod columns;
 pub mod error;
 pub mod excerpt;
 pub mod flag_letters;
+pub mod grammar_rule;
 pub mod group_info;
 pub mod hints;
 pub mod names;

@@ -1,14 +1,14 @@
 //! Runs over records of patterns that were extracted from sources.
-use crate::lines::{Ending, LineRecord, Start, next_record};
+use pattern_files::lines::{Ending, LineRecord, Start, next_record};
 use crate::outcome::Outcome;
-use crate::record::{Record, RecordError, read_record};
+use pattern_files::record::{Record, RecordError, read_record};
 use crate::run::{FileRun, PatternEntry, located, process_on, unread};
-use crate::source_positions::SourcePositions;
-use crate::sources::System;
-use crate::values::is_json;
-use crate::values::refusal::JsonText;
+use pattern_files::source_positions::SourcePositions;
+use pattern_files::sources::System;
+use pattern_files::values::is_json;
+use pattern_files::values::refusal::JsonText;
 use json::Scratch;
-use pattern_files::source_change::SourceChange;
+use source_literals::source_change::SourceChange;
 use patterns_text::error::RunError;
 use patterns_text::position::{Location, Spot};
 use patterns_text::shown::Shown;

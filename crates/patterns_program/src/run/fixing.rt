@@ -2,18 +2,18 @@
 //! become.
 use super::{FileRun, located, unread};
 use crate::fixes::FixMode;
-use crate::fixes::pattern::fixed_pattern;
-use crate::fixes::spelling::{is_record, respelled, string_contents};
-use crate::form::FileFormat;
+use patterns_lint::fixes::fixed_pattern;
+use pattern_files::spelling::{is_record, respelled, string_contents};
+use pattern_files::form::FileFormat;
 use crate::formatted::changed_pattern;
-use crate::lines::{BOM, Ending, lines_in, next_record};
+use pattern_files::lines::{BOM, Ending, lines_in, next_record};
 use crate::outcome::Outcome;
 use crate::printing::write_change;
 use crate::run::{STANDARD_INPUT, Verb};
-use crate::sources::{ReplaceError, System};
-use crate::values::keys::Keys;
-use crate::values::trail::{Tokens, Trail};
-use crate::values::valid_text_of;
+use pattern_files::sources::{ReplaceError, System};
+use pattern_files::values::keys::Keys;
+use pattern_files::values::trail::{Tokens, Trail};
+use pattern_files::values::valid_text_of;
 use json::Scratch;
 use patterns_text::error::RunError;
 use patterns_text::position::{Location, Spot};

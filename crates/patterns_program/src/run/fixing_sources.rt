@@ -1,19 +1,19 @@
 //! Patterns of records that are changed in their sources. The verb's work is then done on what they have become.
 use super::{FileRun, located, unread};
 use crate::fixes::FixMode;
-use crate::fixes::spelling::changes_of;
+use pattern_files::spelling::changes_of;
 use crate::formatted::PatternForm;
-use crate::lines::{BOM, Ending, next_record};
+use pattern_files::lines::{BOM, Ending, next_record};
 use crate::outcome::Outcome;
 use crate::printing::write_change;
-use crate::record::{Record, RecordError, read_record};
+use pattern_files::record::{Record, RecordError, read_record};
 use crate::run::Verb;
-use crate::source_positions::SourcePositions;
-use crate::sources::System;
-use crate::values::valid_text_of;
+use pattern_files::source_positions::SourcePositions;
+use pattern_files::sources::System;
+use pattern_files::values::valid_text_of;
 use json::Scratch;
-use pattern_files::source_change::{SourceChange, Spelling, changed_source};
-use pattern_files::source_syntax::SourceSyntax;
+use source_literals::source_change::{SourceChange, Spelling, changed_source};
+use source_literals::source_syntax::SourceSyntax;
 use patterns_text::error::RunError;
 use patterns_text::shown::Shown;
 use patterns_text::subject::Subject;

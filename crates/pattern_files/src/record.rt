@@ -1,0 +1,405 @@
+//! Records of patterns that were extracted from sources: each is an object of JSON.
+use crate::source_positions::SourcePositions;
+use crate::values::trail::Tokens;
+use fre_program::flag_word::{FLAG_WORD, flags_named};
+use json::{Scratch, Token};
+use patterns_text::position::FilePosition;
+use source_literals::source_change::{LiteralSpan, Spelling};
+use source_literals::source_syntax::SourceSyntax;
+use std::alloc::{AllocError, Global};
+use std::fmt;
+use thiserror::Error;
+
+/// A member of a record.
+#[derive(Debug, Clone, Copy, PartialEq, Eq)]
+enum Member {
+    Pattern,
+    Flags,
+    File,
+    Line,
+    Column,
+    Columns,
+    Lines,
+    Syntax,
+    Literals,
+}
+
+impl Member {
+    /// That of this name; none if a record has no such member, and it is passed over.
+    fn named(name: &str) -> Option<Member> {
+        match name {
+            "pattern" => Some(Member::Pattern),
+            "flags" => Some(Member::Flags),
+            "file" => Some(Member::File),
+            "line" => Some(Member::Line),
+            "column" => Some(Member::Column),
+            "columns" => Some(Member::Columns),
+            "lines" => Some(Member::Lines),
+            "syntax" => Some(Member::Syntax),
+            "literals" => Some(Member::Literals),
+            _ => None,
+        }
+    }
+
+    fn name(self) -> &'static str {
+        match self {
+            Member::Pattern => "pattern",
+            Member::Flags => "flags",
+            Member::File => "file",
+            Member::Line => "line",
+            Member::Column => "column",
+            Member::Columns => "columns",
+            Member::Lines => "lines",
+            Member::Syntax => "syntax",
+            Member::Literals => "literals",
+        }
+    }
+
+    /// What its value is.
+    fn expected(self) -> &'static str {
+        match self {
+            Member::Pattern | Member::Flags | Member::File | Member::Syntax => "a string",
+            Member::Line | Member::Column => "a number from 1",
+            Member::Columns | Member::Lines => "a list of numbers from 1",
+            Member::Literals => "a list of numbers from 0",
+        }
+    }
+
+    /// The least number that it holds.
+    fn least(self) -> u64 {
+        match self {
+            Member::Line | Member::Column | Member::Columns | Member::Lines => 1,
+            Member::Pattern | Member::Flags | Member::File | Member::Syntax | Member::Literals => 0,
+        }
+    }
+}
+
+/// What is wrong with a record.
+#[derive(Debug, Clone, Copy, PartialEq, Eq)]
+enum RecordProblem {
+    /// The line is JSON, but no object.
+    NoObject,
+    /// It has no pattern.
+    NoPattern,
+    /// A member has a value of another type.
+    WrongType(Member),
+    /// The flags have a character that is no letter of theirs.
+    UnknownFlags,
+    /// A list has not one entry for each character of the pattern and one for its end.
+    WrongLength(Member),
+    /// The numbers of the literals are not pairs, each of a start and an end.
+    OddLiterals,
+}
+
+impl fmt::Display for RecordProblem {
+    fn fmt<W: fmt::Write>(&self, f: &mut fmt::Formatter<W>) -> fmt::Result {
+        match self {
+            RecordProblem::NoObject => f.write_str("a record must be an object"),
+            RecordProblem::NoPattern => f.write_str("the record has no pattern"),
+            RecordProblem::WrongType(member) => {
+                write!(f, "{} must be {}", member.name(), member.expected())
+            }
+            RecordProblem::UnknownFlags => write!(f, "flags must be {FLAG_WORD}"),
+            RecordProblem::WrongLength(member) => write!(
+                f,
+                "{} must have one entry more than the pattern has characters",
+                member.name()
+            ),
+            RecordProblem::OddLiterals => {
+                f.write_str("literals must have a start and an end for each literal")
+            }
+        }
+    }
+}
+
+/// What is wrong with a record, and where in its line.
+#[derive(Debug, Clone, Copy)]
+pub struct RecordRefusal {
+    /// The column of what is wrong in the line, from 1.
+    column: u64,
+    problem: RecordProblem,
+}
+
+impl fmt::Display for RecordRefusal {
+    fn fmt<W: fmt::Write>(&self, f: &mut fmt::Formatter<W>) -> fmt::Result {
+        write!(f, "{}: {}", self.column, self.problem)
+    }
+}
+
+/// Why a record was not read.
+#[derive(Debug, Drop, Error)]
+pub enum RecordError {
+    /// Out of memory.
+    #[error("out of memory")]
+    Memory(#[from(alloc)] AllocError),
+    /// It is refused.
+    #[error("{0}")]
+    Refused(RecordRefusal),
+}
+
+/// That a record is refused for what is at this position.
+fn refused(position: FilePosition, problem: RecordProblem) -> RecordError {
+    RecordError::Refused(RecordRefusal {
+        column: position.column,
+        problem,
+    })
+}
+
+/// A list of numbers, and where it begins in the line.
+#[derive(Drop)]
+struct NumberList {
+    position: FilePosition,
+    numbers: Vec<u64>,
+}
+
+/// The members of a record that were read so far. Of one that comes twice the last value counts.
+#[derive(Drop)]
+struct Members<'a> {
+    pattern: Option<&'a str>,
+    flags: Option<u32>,
+    file: Option<&'a str>,
+    line: Option<u64>,
+    column: Option<u64>,
+    columns: Option<NumberList>,
+    lines: Option<NumberList>,
+    syntax: Option<SourceSyntax>,
+    literals: Option<NumberList>,
+}
+
+impl Members<'_> {
+    /// Before the first one.
+    fn new() -> Self {
+        Members {
+            pattern: None,
+            flags: None,
+            file: None,
+            line: None,
+            column: None,
+            columns: None,
+            lines: None,
+            syntax: None,
+            literals: None,
+        }
+    }
+}
+
+/// A pattern that was extracted from a source.
+#[derive(Drop)]
+pub struct Record<'a> {
+    pub pattern: &'a str,
+    /// The flags that it is parsed under, if they are known.
+    pub flags: Option<u32>,
+    /// The name of its source, if that is known.
+    pub file: Option<&'a str>,
+    pub positions: SourcePositions,
+    /// How its source spells it, if that is known.
+    pub spelling: Option<Spelling>,
+}
+
+/// Reads a record, whose text is JSON.
+#[derive(Drop)]
+struct RecordReader<'a> {
+    alloc: Global,
+    tokens: Tokens<'a>,
+    members: Members<'a>,
+}
+
+impl<'a> RecordReader<'a> {
+    /// That the value of the member has another type. It begins with the last token.
+    fn wrong_type(&mut self, member: Member) -> RecordError {
+        refused(self.tokens.position(), RecordProblem::WrongType(member))
+    }
+
+    /// Reads a text.
+    fn text(&mut self, member: Member) -> Result<&'a str, RecordError> {
+        match self.tokens.next() {
+            Some(Token::String(text)) => Ok(text),
+            _ => Err(self.wrong_type(member)),
+        }
+    }
+
+    /// The number that a text of JSON is, if the member may hold it.
+    fn number_of(&mut self, text: &str, member: Member) -> Result<u64, RecordError> {
+        match text.parse::<u64>() {
+            Ok(number) if number >= member.least() => Ok(number),
+            _ => Err(self.wrong_type(member)),
+        }
+    }
+
+    /// Reads a number.
+    fn number(&mut self, member: Member) -> Result<u64, RecordError> {
+        match self.tokens.next() {
+            Some(Token::Number(text)) => self.number_of(text, member),
+            _ => Err(self.wrong_type(member)),
+        }
+    }
+
+    /// Reads a list of numbers.
+    fn numbers(&mut self, member: Member) -> Result<NumberList, RecordError> {
+        let Some(Token::BeginArray) = self.tokens.next() else {
+            return Err(self.wrong_type(member));
+        };
+        let position = self.tokens.position();
+        let mut numbers = Vec::new(self.alloc);
+        for _ in 0..=self.tokens.text().len() {
+            match self.tokens.next() {
+                Some(Token::EndArray) => break,
+                Some(Token::Number(text)) => numbers.push(self.number_of(text, member)?)?,
+                _ => return Err(self.wrong_type(member)),
+            }
+        }
+        Ok(NumberList { position, numbers })
+    }
+
+    /// Reads the letters of flags.
+    fn flags(&mut self) -> Result<u32, RecordError> {
+        let letters = self.text(Member::Flags)?;
+        match flags_named(letters) {
+            Some(flags) => Ok(flags),
+            None => Err(refused(self.tokens.position(), RecordProblem::UnknownFlags)),
+        }
+    }
+
+    /// Reads the value of a member.
+    fn read_value(&mut self, member: Member) -> Result<(), RecordError> {
+        match member {
+            Member::Pattern => self.members.pattern = Some(self.text(member)?),
+            Member::Flags => self.members.flags = Some(self.flags()?),
+            Member::File => self.members.file = Some(self.text(member)?),
+            Member::Line => self.members.line = Some(self.number(member)?),
+            Member::Column => self.members.column = Some(self.number(member)?),
+            Member::Columns => self.members.columns = Some(self.numbers(member)?),
+            Member::Lines => self.members.lines = Some(self.numbers(member)?),
+            Member::Syntax => self.members.syntax = SourceSyntax::named(self.text(member)?),
+            Member::Literals => self.members.literals = Some(self.numbers(member)?),
+        }
+        Ok(())
+    }
+
+    /// Reads the members up to the end of the record.
+    fn read_members(&mut self) -> Result<(), RecordError> {
+        for _ in 0..=self.tokens.text().len() {
+            let Some(Token::Key(key)) = self.tokens.next() else {
+                break;
+            };
+            match Member::named(key) {
+                Some(member) => self.read_value(member)?,
+                None => self.tokens.skip_value(),
+            }
+        }
+        Ok(())
+    }
+}
+
+/// The numbers of a list; nothing if there is none. It is refused if it has another length.
+fn numbers_of(
+    alloc: Global,
+    list: Option<NumberList>,
+    member: Member,
+    length: usize,
+) -> Result<Vec<u64>, RecordError> {
+    let Some(NumberList { position, numbers }) = list else {
+        return Ok(Vec::new(alloc));
+    };
+    if numbers.len() != length {
+        return Err(refused(position, RecordProblem::WrongLength(member)));
+    }
+    Ok(numbers)
+}
+
+/// The positions of the characters of a pattern whose record has these members, and no more: a pattern of a file that
+/// is not known is where its record is, in this line.
+fn positions_of(
+    alloc: Global,
+    members: Members<'_>,
+    length: usize,
+    own_line: u64,
+) -> Result<SourcePositions, RecordError> {
+    let columns = numbers_of(alloc, members.columns, Member::Columns, length)?;
+    let lines = numbers_of(alloc, members.lines, Member::Lines, length)?;
+    if members.file.is_none() {
+        return Ok(SourcePositions::of_line(alloc, own_line));
+    }
+    Ok(SourcePositions {
+        line: members.line.unwrap_or(1),
+        column: members.column.unwrap_or(1),
+        has_column: members.column.is_some(),
+        columns,
+        lines,
+    })
+}
+
+/// The spans of literals, of which a list has the starts and the ends.
+fn literals_of(alloc: Global, list: NumberList) -> Result<Vec<LiteralSpan>, RecordError> {
+    let mut literals = Vec::new(alloc);
+    for pair in list.numbers.chunks(2) {
+        let [start, end] = pair else {
+            return Err(refused(list.position, RecordProblem::OddLiterals));
+        };
+        literals.push(LiteralSpan {
+            start: *start as usize,
+            end: *end as usize,
+        })?;
+    }
+    Ok(literals)
+}
+
+/// How the source spells the pattern of a record with these members.
+fn spelling_of(
+    alloc: Global,
+    syntax: Option<SourceSyntax>,
+    literals: Option<NumberList>,
+) -> Result<Option<Spelling>, RecordError> {
+    let Some(list) = literals else {
+        return Ok(None);
+    };
+    let literals = literals_of(alloc, list)?;
+    Ok(syntax.map(|syntax| Spelling { syntax, literals }))
+}
+
+/// The record that has the members, and begins at the position. `line` is its own line.
+fn record_of<'a>(
+    alloc: Global,
+    members: Members<'a>,
+    start: FilePosition,
+    line: u64,
+) -> Result<Record<'a>, RecordError> {
+    let Some(pattern) = members.pattern else {
+        return Err(refused(start, RecordProblem::NoPattern));
+    };
+    let length = pattern.chars().count().saturating_add(1);
+    let (flags, file) = (members.flags, members.file);
+    let mut members = members;
+    let spelling = spelling_of(alloc, members.syntax, members.literals.take())?;
+    Ok(Record {
+        pattern,
+        flags,
+        file,
+        positions: positions_of(alloc, members, length, line)?,
+        spelling,
+    })
+}
+
+/// Reads the record that a text of JSON is, which is the line of this number. It is refused if it is no object, has no
+/// pattern, has a member with a value of another type or other letters than those of flags, a list that has not one entry for
+/// each character and one for the end, or literals without an end. Other members are passed over, and a syntax that is not
+/// known.
+pub fn read_record<'a>(
+    alloc: Global,
+    text: &'a str,
+    line: u64,
+    scratch: &'a mut Scratch,
+) -> Result<Record<'a>, RecordError> {
+    let mut reader = RecordReader {
+        alloc,
+        tokens: Tokens::new(text, scratch)?,
+        members: Members::new(),
+    };
+    let token = reader.tokens.next();
+    let start = reader.tokens.position();
+    let Some(Token::BeginObject) = token else {
+        return Err(refused(start, RecordProblem::NoObject));
+    };
+    reader.read_members()?;
+    record_of(alloc, reader.members, start, line)
+}

@@ -1,0 +1,104 @@
+//! What a run asks the system for.
+use patterns_text::error::RunError;
+use patterns_text::shown::Shown;
+use std::alloc::AllocError;
+use std::io;
+use std::io::{BufRead, ErrorKind, Write};
+use std::time::Clock;
+use thiserror::Error;
+
+/// The file name that stands for standard input.
+pub const STANDARD_INPUT: &str = "-";
+
+/// Says that a file cannot be opened, or not be read further; gives up if that is because memory ran out.
+pub fn write_unread<E: Write>(file: &str, error: io::Error, err: &mut E) -> Result<(), RunError> {
+    if error.kind() == ErrorKind::OutOfMemory {
+        return Err(RunError::Memory(AllocError));
+    }
+    writeln!(err, "patterns: {}: {error}", Shown(file))?;
+    Ok(())
+}
+
+/// Why a file is not replaced.
+#[derive(Debug, Drop, Error)]
+pub enum ReplaceError {
+    /// A call of the system failed, or memory ran out.
+    #[error("{0}")]
+    System(io::Error),
+    /// It is a pipe, for example.
+    #[error("it is not a regular file")]
+    NotRegular,
+    /// Its other names would keep the old bytes.
+    #[error("it has several hard links, of which only this one would change; read it as standard input")]
+    HardLinks,
+    /// The system does not let a new file have its owner and its group.
+    #[error("its owner and group cannot be kept; read it as standard input")]
+    Owner,
+    /// It has not the bytes that were read any more.
+    #[error("it has changed since it was read")]
+    Changed,
+    /// Another run is about to replace it.
+    #[error("another run is writing it")]
+    Busy,
+}
+
+impl From<io::Error> for ReplaceError {
+    fn from(error: io::Error) -> ReplaceError {
+        ReplaceError::System(error)
+    }
+}
+
+/// What opens the files of a run.
+pub trait Sources {
+    /// An opened file.
+    type File: BufRead + Drop;
+    /// The standard input.
+    type Input: BufRead + Drop;
+
+    /// Opens the file of this name.
+    fn open(&self, name: &str) -> io::Result<Self::File>;
+
+    /// Writes the new bytes to the file of this name, in the place of the old ones, which were read from it. After an error it
+    /// is as it was. It is an error if it does not have the old bytes any more.
+    fn replace(&self, name: &str, old: &[u8], new: &[u8]) -> Result<(), ReplaceError>;
+
+    /// The standard input, from its position on.
+    fn input(&self) -> io::Result<Self::Input>;
+}
+
+/// What a name is the name of.
+#[derive(Debug, Clone, Copy, PartialEq, Eq)]
+pub enum EntryKind {
+    /// A file; or nothing that is known, and then opening it says why.
+    File,
+    Folder,
+    /// A symbolic link to a folder.
+    FolderLink,
+    /// Anything else, such as a pipe.
+    Other,
+}
+
+/// What knows the folders that files are in.
+pub trait Folders {
+    /// What the name is the name of.
+    fn kind(&self, name: &str) -> EntryKind;
+
+    /// The names of the entries of a folder, in any order.
+    fn entries(&self, folder: &str) -> io::Result<Vec<String>>;
+
+    /// The absolute path of a folder, without symbolic links.
+    fn absolute(&self, folder: &str) -> io::Result<String>;
+}
+
+/// Which of the two outputs are terminals that know escape codes.
+#[derive(Clone, Copy)]
+pub struct Terminals {
+    pub out: bool,
+    pub err: bool,
+}
+
+/// What a run asks the system for: files and folders, the time, and what its outputs are.
+pub trait System: Sources + Folders + Clock {
+    /// Which of the outputs are terminals.
+    fn terminals(&self) -> Terminals;
+}

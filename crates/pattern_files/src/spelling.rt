@@ -1,0 +1,227 @@
+//! What a pattern that is fixed or formatted is written as in its file.
+use crate::lines::{BOM, breaks_line};
+use source_literals::source_change::CharacterChange;
+use std::alloc::{AllocError, Global};
+
+/// Whether the text begins with a byte order mark, and the pattern does not.
+pub fn begins_with_bom(text: &str, pattern: &str) -> bool {
+    text.as_bytes().starts_with(BOM) && !pattern.as_bytes().starts_with(BOM)
+}
+
+/// Whether the text is one record in the place of the pattern, which is one.
+pub fn is_record(text: &str, pattern: &str) -> bool {
+    !begins_with_bom(text, pattern) && !breaks_line(text, pattern)
+}
+
+/// What is between the quotes of the string of JSON that begins with the quote at the offset.
+pub fn string_contents(json: &str, quote: usize) -> &str {
+    let contents = json.get(quote.saturating_add(1)..).unwrap_or("");
+    let mut is_escaped = false;
+    for (i, c) in contents.char_indices() {
+        if c == '"' && !is_escaped {
+            return contents.get(..i).unwrap_or("");
+        }
+        is_escaped = c == '\\' && !is_escaped;
+    }
+    contents
+}
+
+/// How many bytes the character takes that the contents of a string of JSON begin with.
+fn spelled_len(contents: &str, c: char) -> usize {
+    if contents.starts_with("\\u") {
+        c.len_utf16().saturating_mul(6)
+    } else if contents.starts_with('\\') {
+        2
+    } else {
+        c.len_utf8()
+    }
+}
+
+/// Whether a text that goes on with the character has it instead of what the rest of the pattern begins with: an
+/// operator for counts, or a space for another blank.
+fn is_new(rest: &str, c: char) -> bool {
+    match c {
+        '?' | '*' | '+' => rest.starts_with('{'),
+        ' ' => rest.starts_with(|first: char| matches!(first, '\t' | '\n' | '\r')),
+        _ => false,
+    }
+}
+
+/// Whether a part of a pattern has letters or digits that are no counts in braces.
+fn has_text(part: &str) -> bool {
+    let (before, braced) = part.split_once('{').unwrap_or((part, ""));
+    let (_, after) = braced.split_once('}').unwrap_or(("", braced));
+    [before, after]
+        .iter()
+        .any(|text| text.contains(|c: char| c.is_alphanumeric()))
+}
+
+/// How many bytes of a pattern are searched for a character that its text goes on with.
+const MAX_SKIPPED: usize = 1 << 12;
+
+/// How many bytes of the rest of the pattern are before the character that its text goes on with; none if that is new. A
+/// blank is new if it is not the next one of the pattern.
+fn skipped(rest: &str, c: char) -> Option<usize> {
+    if is_new(rest, c) {
+        return None;
+    }
+    let near = rest.get(..rest.floor_char_boundary(MAX_SKIPPED))?;
+    let bytes = near.find(c)?;
+    if matches!(c, ' ' | '\n') && has_text(near.get(..bytes)?) {
+        return None;
+    }
+    Some(bytes)
+}
+
+/// The byte of a character that a text may have and its pattern not, which every source spells as itself.
+fn plain(c: char) -> Option<u8> {
+    match c {
+        '?' => Some(b'?'),
+        '*' => Some(b'*'),
+        '+' => Some(b'+'),
+        ' ' => Some(b' '),
+        _ => None,
+    }
+}
+
+/// The changes of the characters of a pattern up to those of its rest.
+#[derive(Drop)]
+struct Changes<'p> {
+    changes: Vec<CharacterChange>,
+    rest: &'p str,
+    /// The byte that the text has before the rest, and the pattern not.
+    added: Option<u8>,
+}
+
+impl Changes<'_> {
+    /// Passes over so many bytes of the rest, which go.
+    fn skip(&mut self, bytes: usize) -> Result<(), AllocError> {
+        let (gone, rest) = self.rest.split_at_checked(bytes).unwrap_or(("", self.rest));
+        for _ in gone.chars() {
+            let added = self.added;
+            self.added = None;
+            self.changes.push(CharacterChange {
+                is_kept: false,
+                added,
+            })?;
+        }
+        self.rest = rest;
+        Ok(())
+    }
+
+    /// Passes over the first character of the rest, which stays.
+    fn keep(&mut self) -> Result<(), AllocError> {
+        let mut left = self.rest.chars();
+        left.next();
+        self.rest = left.as_str();
+        let added = self.added;
+        self.added = None;
+        self.changes.push(CharacterChange {
+            is_kept: true,
+            added,
+        })?;
+        Ok(())
+    }
+
+    /// Goes on to the next character of the text. Returns false if the text has one there that cannot be added.
+    fn go_on(&mut self, c: char) -> Result<bool, AllocError> {
+        if let Some(bytes) = skipped(self.rest, c) {
+            self.skip(bytes)?;
+            self.keep()?;
+            return Ok(true);
+        }
+        let can_add = self.added.is_none() && !self.rest.is_empty();
+        self.added = plain(c);
+        Ok(can_add && self.added.is_some())
+    }
+}
+
+/// What becomes of each character of the pattern, which becomes the text. None if the text has characters that not every
+/// source spells as themselves, or several at one position.
+pub fn changes_of(
+    alloc: Global,
+    pattern: &str,
+    text: &str,
+) -> Result<Option<Vec<CharacterChange>>, AllocError> {
+    let mut found = Changes {
+        changes: Vec::with_capacity(alloc, pattern.len())?,
+        rest: pattern,
+        added: None,
+    };
+    for c in text.chars() {
+        if !found.go_on(c)? {
+            return Ok(None);
+        }
+    }
+    let rest = found.rest;
+    found.skip(rest.len())?;
+    Ok(Some(found.changes))
+}
+
+/// A part of a pattern, and what spells it in a string of JSON.
+#[derive(Clone, Copy)]
+struct SpelledPart<'a> {
+    pattern: &'a str,
+    contents: &'a str,
+}
+
+impl<'a> SpelledPart<'a> {
+    /// Passes over the first character, and returns its spelling.
+    fn pass(&mut self) -> &'a str {
+        let mut left = self.pattern.chars();
+        let Some(c) = left.next() else {
+            return "";
+        };
+        self.pattern = left.as_str();
+        let contents = self.contents;
+        let (spelling, rest) = contents
+            .split_at_checked(spelled_len(contents, c))
+            .unwrap_or((contents, ""));
+        self.contents = rest;
+        spelling
+    }
+
+    /// Passes over the characters up to the one that its text goes on with, and over that one, and returns its spelling.
+    /// None if it is new.
+    fn take(&mut self, c: char) -> Option<&'a str> {
+        let bytes = skipped(self.pattern, c)?;
+        let (gone, _) = self.pattern.split_at_checked(bytes)?;
+        for _ in gone.chars() {
+            self.pass();
+        }
+        Some(self.pass())
+    }
+}
+
+/// Writes a character of a string of JSON.
+fn push_spelled(alloc: Global, spelled: &mut String, c: char) -> Result<(), AllocError> {
+    match c {
+        '"' => spelled.push_str("\\\"")?,
+        '\\' => spelled.push_str("\\\\")?,
+        '\n' => spelled.push_str("\\n")?,
+        '\r' => spelled.push_str("\\r")?,
+        '\t' => spelled.push_str("\\t")?,
+        c if c < ' ' => spelled.push_str(format!(in alloc; "\\u{:04x}", c as u32)?.as_str())?,
+        c => spelled.push(c)?,
+    }
+    Ok(())
+}
+
+/// The text as the contents of a string of JSON. Each of its characters that the pattern has is spelled as in the contents of
+/// the pattern's string.
+pub fn respelled(
+    alloc: Global,
+    contents: &str,
+    pattern: &str,
+    text: &str,
+) -> Result<String, AllocError> {
+    let mut spelled = String::with_capacity(alloc, contents.len())?;
+    let mut part = SpelledPart { pattern, contents };
+    for c in text.chars() {
+        match part.take(c) {
+            Some(spelling) => spelled.push_str(spelling)?,
+            None => push_spelled(alloc, &mut spelled, c)?,
+        }
+    }
+    Ok(spelled)
+}

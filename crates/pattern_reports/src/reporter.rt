@@ -1,0 +1,62 @@
+//! What writes reports on patterns.
+ghost use Rattle.std.specs.Prelude.{IfOk, IfSome, OnSome, IfNone};
+ghost use Rattle.patterns_text.specs.Subject.{IsAccepted, IsRefused, IsParsedAs};
+
+use fancy_spans::SpannedTree;
+use fancy_syntax::span::Span;
+use patterns_lint::chosen::Chosen;
+use patterns_lint::problem::Found;
+use patterns_text::error::RunError;
+use patterns_text::subject::{Refusal, Subject};
+
+/// What writes reports on patterns.
+pub trait Reporter {
+    /// Writes where and why the pattern is invalid.
+    fn error(&mut self, subject: Subject<'_>, refusal: &Refusal) -> Result<(), RunError>;
+
+    /// Writes the likely mistakes in the pattern, whose tree this is, or the first ones and how many more there are. Each is
+    /// of a rule that is not silent.
+    fn problems(
+        &mut self,
+        subject: Subject<'_>,
+        parsed: &SpannedTree,
+        chosen: &Chosen,
+        found: &[Found<'_>],
+    ) -> Result<(), RunError>;
+
+    /// Writes which parts of the pattern were not searched, since they are too large.
+    fn not_searched(&mut self, subject: Subject<'_>, parts: &[Span]) -> Result<(), RunError>;
+}
+
+/// What writes the trees of patterns too.
+pub trait TreeReporter: Reporter {
+    /// Writes the groups of the pattern, and what its references and calls refer to.
+    fn groups(&mut self, subject: Subject<'_>, parsed: &SpannedTree) -> Result<(), RunError>;
+
+    /// Writes the tree of the pattern, and its group information.
+    fn tree(&mut self, subject: Subject<'_>, parsed: &SpannedTree) -> Result<(), RunError>;
+
+    /// Flushes the output.
+    fn flush(&mut self) -> Result<(), RunError>;
+}
+
+/// How many likely mistakes are reported of a pattern. Each report shows the pattern's line, which may be long.
+pub const MAX_REPORTS: usize = 100;
+
+/// The tree of the pattern; `None` if the pattern is invalid, and then the error is reported.
+pub fn parse<R: Reporter>(
+    subject: Subject<'_>,
+    reporter: &mut R,
+) -> Result<Option<SpannedTree>, RunError>
+    ensures read { IfOk result (λ reading. OnSome reading (IsAccepted subject.entry)) }
+    ensures tree { IfOk result (λ reading. IfSome reading (λ t. IsParsedAs subject.entry t.tree)) }
+    ensures refused { IfOk result (λ reading. IfNone reading (IsRefused subject.entry)) }
+{
+    match subject.parse()? {
+        Ok(parsed) => Ok(Some(parsed)),
+        Err(refusal) => {
+            reporter.error(subject, &refusal)?;
+            Ok(None)
+        }
+    }
+}

@@ -1,0 +1,68 @@
+//! What the arguments choose where a configuration may say otherwise.
+use pattern_files::form::FileFormat;
+use patterns_lint::chosen::{Chosen, Level};
+use patterns_lint::rule::{RULES, Rule};
+use std::alloc::{AllocError, Global};
+
+/// The name for all rules.
+pub const ALL_RULES: &str = "all";
+
+/// The names that a level can be given to: those of the rules, and the one for all.
+pub fn rule_names(alloc: Global) -> Result<Vec<&'static str>, AllocError> {
+    let mut names = Vec::with_capacity(alloc, RULES.len().saturating_add(1))?;
+    for rule in RULES.iter() {
+        names.push(rule.name())?;
+    }
+    names.push(ALL_RULES)?;
+    Ok(names)
+}
+
+/// A level that is given to a rule, or to all.
+#[derive(Clone, Copy)]
+pub struct RuleLevel<'a> {
+    pub name: &'a str,
+    pub level: Level,
+}
+
+impl RuleLevel<'_> {
+    /// Gives the level to the rule of the name, and to all where no rule has it. For all, a warning lowers no rule that is
+    /// an error by default.
+    pub fn set(self, chosen: &mut Chosen) {
+        if let Some(rule) = Rule::named(self.name) {
+            chosen.set(rule, self.level);
+            return;
+        }
+        match self.level {
+            Level::Warn => chosen.warn_all(),
+            Level::Allow | Level::Deny => chosen.set_all(self.level),
+        }
+    }
+}
+
+/// Which configuration a run reads.
+#[derive(Clone, Copy)]
+pub enum ConfigChoice<'a> {
+    /// For each file the nearest one, from the file's folder upwards.
+    Nearest,
+    /// The file of this name.
+    File(&'a str),
+    None,
+}
+
+/// What the arguments choose where a configuration may say otherwise. They win.
+#[derive(Clone, Copy)]
+pub struct Choices<'a> {
+    pub config: ConfigChoice<'a>,
+    /// The flags where no configuration says otherwise.
+    pub flags: u32,
+    /// Whether they choose the flags.
+    pub has_flags: bool,
+    /// How files have patterns where no configuration says otherwise.
+    pub form: FileFormat<'a>,
+    /// Whether they choose how files have patterns, whatever the names of the files are.
+    pub has_form: bool,
+    /// Whether they choose that what `lint` does not search is reported.
+    pub is_verbose: bool,
+    /// The levels that they give to rules, in their order.
+    pub levels: &'a [RuleLevel<'a>],
+}

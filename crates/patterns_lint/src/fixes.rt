@@ -1,0 +1,161 @@
+//! A pattern with its reports fixed.
+use crate::chosen::{Chosen, Level};
+use crate::find::problems;
+use crate::known::Known;
+use crate::problem::{Found, Problem};
+use crate::slow::SlowParts;
+use class_rules::class_problem::ClassProblem;
+use fancy_spans::SpannedTree;
+use fancy_syntax::span::Span;
+use pattern_fixes::edit::{Edit, FixKind, FixableReport};
+use pattern_fixes::fixed::ParsedPattern;
+use pattern_format::first_comment::first_comment;
+use patterns_text::error::RunError;
+use patterns_text::subject::Subject;
+use std::alloc::AllocError;
+
+/// How often reports of a pattern are fixed, the later ones after the earlier. Each time these are up to
+/// `pattern_fixes::fixed::MAX_FIXES`, so that only a pattern with thousands of them has some left.
+const MAX_ROUNDS: usize = 64;
+
+/// What is fixed of a class; none if there is no plain edit.
+fn kind_of_class(problem: ClassProblem) -> Option<FixKind> {
+    match problem {
+        ClassProblem::DuplicateCharacters => Some(FixKind::DuplicateCharacters),
+        ClassProblem::Invalid(_)
+        | ClassProblem::Empty
+        | ClassProblem::SuspiciousClass(_)
+        | ClassProblem::SuspiciousRange { .. }
+        | ClassProblem::SubsumedBranch { .. } => None,
+    }
+}
+
+/// What is fixed; none if there is no plain edit.
+fn kind_of(problem: Problem<'_>) -> Option<FixKind> {
+    match problem {
+        Problem::DuplicateBranch { .. } => Some(FixKind::DuplicateBranch),
+        Problem::UselessQuantifier => Some(FixKind::UselessQuantifier),
+        Problem::UselessFlag { .. } => Some(FixKind::UselessFlag),
+        Problem::SingleCharacterClass => Some(FixKind::SingleCharacterClass),
+        Problem::Class(problem) => kind_of_class(problem),
+        Problem::MissingGroup { .. }
+        | Problem::MissingConditionGroup { .. }
+        | Problem::MissingBeginGroup { .. }
+        | Problem::MissingCaptureGroup { .. }
+        | Problem::UselessBackreference { .. }
+        | Problem::UnresolvedCall
+        | Problem::NumberedReference
+        | Problem::DuplicateGroupName { .. }
+        | Problem::UnusedCapturingGroup { .. }
+        | Problem::UnreachableBranch { .. }
+        | Problem::EmptyBranch
+        | Problem::QuantifiedAssertion
+        | Problem::EmptyLoop
+        | Problem::InvalidQuantifier
+        | Problem::ZeroQuantifier
+        | Problem::ExponentialBacktracking { .. }
+        | Problem::PolynomialBacktracking { .. }
+        | Problem::DialectDifference { .. } => None,
+    }
+}
+
+/// The report, if there may be an edit that fixes it.
+fn fixable(found: &Found<'_>) -> Option<FixableReport> {
+    Some(FixableReport {
+        kind: kind_of(found.problem)?,
+        span: found.span,
+    })
+}
+
+/// Whether a `#` is at the span, which may begin a comment.
+fn has_hash(pattern: &str, span: Span) -> bool {
+    span.text(pattern).unwrap_or("").contains('#')
+}
+
+/// The reports that may be fixed. In a pattern with comments they are not on a part with a `#`, so that no comment is lost.
+fn fixable_reports(
+    subject: Subject<'_>,
+    parsed: &SpannedTree,
+    found: &[Found<'_>],
+) -> Result<Vec<FixableReport>, AllocError> {
+    let mut reports = Vec::new(subject.alloc);
+    for report in found.iter().filter_map(fixable) {
+        reports.push(report)?;
+    }
+    if reports
+        .iter()
+        .any(|one| has_hash(subject.pattern, one.span))
+        && first_comment(subject.alloc, subject.pattern, parsed)?.is_some()
+    {
+        reports.retain(|one| !has_hash(subject.pattern, one.span));
+    }
+    Ok(reports)
+}
+
+/// The pattern, for which fixes are tried.
+fn parsed_pattern<'p, 't>(subject: Subject<'p>, parsed: &'t SpannedTree) -> ParsedPattern<'p, 't> {
+    ParsedPattern {
+        alloc: subject.alloc,
+        flags: subject.flags,
+        pattern: subject.pattern,
+        tree: &parsed.tree,
+    }
+}
+
+/// For each report the edit that fixes it by itself, if there is one.
+pub fn fixes_of<'p>(
+    subject: Subject<'p>,
+    parsed: &SpannedTree,
+    found: &[Found<'_>],
+) -> Result<Vec<Option<Edit<'p>>>, AllocError> {
+    let reports = fixable_reports(subject, parsed, found)?;
+    let pattern = parsed_pattern(subject, parsed);
+    let mut fixes = Vec::new(subject.alloc);
+    for one in found {
+        let fix = match fixable(one) {
+            Some(report) if reports.iter().any(|other| other.span == report.span) => {
+                pattern.fix(report, &reports)?
+            }
+            _ => None,
+        };
+        fixes.push(fix)?;
+    }
+    Ok(fixes)
+}
+
+/// The pattern with reports of rules that are not silent fixed, as many as can be fixed at once; none if none can be, or the
+/// pattern is invalid.
+fn fixed_once(
+    subject: Subject<'_>,
+    chosen: &Chosen,
+    known: &mut Known,
+) -> Result<Option<String>, RunError> {
+    let Ok(parsed) = subject.parse()? else {
+        return Ok(None);
+    };
+    let slow = SlowParts::new(subject.alloc);
+    let mut found = problems(subject, &parsed, None, known, &slow)?;
+    found.retain(|one| chosen.level(one.problem.rule()) != Level::Allow);
+    let reports = fixable_reports(subject, &parsed, &found)?;
+    Ok(parsed_pattern(subject, &parsed).fixed(&reports)?)
+}
+
+/// The pattern with the reports of rules that are not silent fixed, as far as that is possible; none if it stays as it is.
+pub fn fixed_pattern(
+    subject: Subject<'_>,
+    chosen: &Chosen,
+    known: &mut Known,
+) -> Result<Option<String>, RunError> {
+    let mut fixed = fixed_once(subject, chosen, known)?;
+    for _ in 1..MAX_ROUNDS {
+        let Some(text) = &fixed else {
+            return Ok(None);
+        };
+        let pattern = text.as_str();
+        match fixed_once(Subject { pattern, ..subject }, chosen, known)? {
+            Some(next) => fixed = Some(next),
+            None => break,
+        }
+    }
+    Ok(fixed)
+}

@@ -1,0 +1,14 @@
+//! How sources spell patterns: the literals that hold them, and what becomes of these when a pattern changes.
+#![tactic(auto)]
+
+mod json;
+pub mod literal;
+mod pieces;
+mod python;
+mod rust;
+pub mod source_change;
+pub mod source_syntax;
+mod xml;
+mod yaml;
+mod yaml_block;
+mod yaml_plain;
