@@ -63,6 +63,11 @@ impl Job<'_> {
         }
     }
 
+    /// Whether patterns are changed in their files.
+    pub(crate) fn writes_files(self) -> bool {
+        matches!(self.output, Output::Files { .. })
+    }
+
     /// Whether it writes lines, so that it cannot read a file that a configuration says is JSON.
     pub(crate) fn writes_lines(self) -> bool {
         self.output == Output::Patterns && !self.choices.has_form

@@ -3,7 +3,7 @@ use Rattle.fancy_lex.specs.Flags.{flags_of}
 use Rattle.fancy_syntax.specs.InfoViews.{info_of}
 use Rattle.fancy_syntax.specs.View.{view}
 use Rattle.patterns_program.specs.Line.{IsLineOf}
-use Rattle.patterns_program.proofs.printing.is_formatted.Goals as goal
+use Rattle.patterns_program.proofs.canonical.is_formatted.Goals as goal
 
 pub returns-in_default-2-clause-good : goal.returns-in_default-2-clause-good
 returns-in_default-2-clause-good g c =
