@@ -1,6 +1,7 @@
 //! Patterns that change in their sources. Only the bytes of a literal are changed, and only if the literals of the pattern are
 //! then read as its new text.
 use crate::literal::{SpelledCharacter, read_literal};
+use crate::replaced::{ByteSpan, Replacement, replaced};
 use crate::source_syntax::SourceSyntax;
 use std::alloc::{AllocError, Global};
 use std::str;
@@ -13,18 +14,11 @@ pub struct CharacterChange {
     pub added: Option<u8>,
 }
 
-/// Where a literal is in a source, in byte offsets: from where it begins to after it.
-#[derive(Debug, Clone, Copy, PartialEq, Eq)]
-pub struct LiteralSpan {
-    pub start: usize,
-    pub end: usize,
-}
-
 /// How a source spells a pattern: by these literals, one after another.
 #[derive(Drop)]
 pub struct Spelling {
     pub syntax: SourceSyntax,
-    pub literals: Vec<LiteralSpan>,
+    pub literals: Vec<ByteSpan>,
 }
 
 /// A pattern of a source that changes.
@@ -53,11 +47,11 @@ pub struct SourceChange {
 struct ChangedLiteral {
     /// Which change it is of.
     change: usize,
-    old: LiteralSpan,
+    old: ByteSpan,
     /// What is in its place.
     spelling: String,
     /// Where that is.
-    new: LiteralSpan,
+    new: ByteSpan,
 }
 
 /// The characters of the literal of a source. None if it is not read, or ends elsewhere.
@@ -65,7 +59,7 @@ fn characters_of(
     alloc: Global,
     syntax: SourceSyntax,
     source: &str,
-    span: LiteralSpan,
+    span: ByteSpan,
 ) -> Result<Option<Vec<SpelledCharacter>>, AllocError> {
     let read = read_literal(alloc, syntax, source, span.start)?;
     Ok(
@@ -88,7 +82,7 @@ fn push_part(
 fn changed_spelling(
     alloc: Global,
     source: &str,
-    span: LiteralSpan,
+    span: ByteSpan,
     characters: &[SpelledCharacter],
     changes: &[CharacterChange],
 ) -> Result<String, AllocError> {
@@ -191,7 +185,7 @@ fn read_part(
     alloc: Global,
     new: &str,
     change: &SourceChange,
-    span: LiteralSpan,
+    span: ByteSpan,
     done: usize,
 ) -> Result<Option<usize>, AllocError> {
     let text = change.text.as_str();
