@@ -1,9 +1,9 @@
 //! Records of patterns that were extracted from sources: each is an object of JSON.
-use crate::source_positions::SourcePositions;
 use crate::values::trail::Tokens;
 use fre_program::flag_word::{FLAG_WORD, flags_named};
 use json::{Scratch, Token};
 use patterns_text::position::FilePosition;
+use patterns_text::source_positions::SourcePositions;
 use source_literals::source_change::{LiteralSpan, Spelling};
 use source_literals::source_syntax::SourceSyntax;
 use std::alloc::{AllocError, Global};
@@ -318,7 +318,7 @@ fn positions_of(
     let columns = numbers_of(alloc, members.columns, Member::Columns, length)?;
     let lines = numbers_of(alloc, members.lines, Member::Lines, length)?;
     if members.file.is_none() {
-        return Ok(SourcePositions::of_line(alloc, own_line));
+        return Ok(SourcePositions::of(alloc, own_line, 1));
     }
     Ok(SourcePositions {
         line: members.line.unwrap_or(1),

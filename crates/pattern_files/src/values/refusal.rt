@@ -4,7 +4,7 @@ use crate::values::nesting::Nesting;
 use crate::values::strings::{StringError, string_error};
 use json::{MAX_DEPTH, MAX_LEN, Reader, Scratch, Token};
 use patterns_text::error::RunError;
-use patterns_text::position::{Cut, column_after};
+use patterns_text::position::FilePosition;
 use patterns_text::shown::Shown;
 use std::alloc::{AllocError, Global};
 use std::io::Write;
@@ -172,9 +172,9 @@ pub(super) fn write_refusal<E: Write>(
     text: &str,
 ) -> Result<(), RunError> {
     let (end, reason) = end_of_json(alloc, text)?;
-    let Cut { above, before, .. } = Cut::at(text, end);
-    let line = of.line.unwrap_or(1).saturating_add(above as u64);
-    let (file, column) = (Shown(of.file), column_after(before));
+    let FilePosition { line, column, .. } = FilePosition::of(text, end);
+    let line = of.line.unwrap_or(1).saturating_add(line.saturating_sub(1));
+    let file = Shown(of.file);
     writeln!(err, "{file}:{line}:{column}: {}", ReasonOf(reason, of))?;
     Ok(())
 }
