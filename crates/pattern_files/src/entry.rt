@@ -35,6 +35,27 @@ pub struct Entry<'a> {
     pub record: Option<&'a Record<'a>>,
 }
 
+impl<'a> Entry<'a> {
+    /// A pattern that is a line with this end, at the start of what is read. The line has this number, from 1.
+    pub fn of_line(file: &'a str, number: u64, pattern: &'a str, end: &'a [u8]) -> Entry<'a> {
+        Entry {
+            pattern,
+            flags: None,
+            file,
+            spot: Spot::Line(number),
+            span: ByteSpan {
+                start: 0,
+                end: pattern.len(),
+            },
+            contents: pattern,
+            end,
+            key: "",
+            grammar: None,
+            record: None,
+        }
+    }
+}
+
 /// Why something is not read.
 #[derive(Drop)]
 pub enum UnreadReason {

@@ -192,7 +192,7 @@ impl<E: Write> Visitor for Search<'_, '_, E> {
                 Ok(())
             }
             Spot::Value { position, path, .. } => self.see_text(position, path, entry.pattern),
-            Spot::Path { .. } => Ok(()),
+            Spot::Path { .. } | Spot::Source(_) => Ok(()),
         }
     }
 

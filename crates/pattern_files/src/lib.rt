@@ -7,7 +7,6 @@ pub mod form;
 pub mod lines;
 pub mod record;
 pub mod shift;
-pub mod source_positions;
 pub mod sources;
 pub mod spelling;
 pub mod values;

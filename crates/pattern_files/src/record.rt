@@ -1,10 +1,10 @@
 //! Records of patterns that were extracted from sources: each is an object of JSON.
 use crate::entry::Entry;
-use crate::source_positions::SourcePositions;
 use crate::values::trail::Tokens;
 use fre_program::flag_word::{FLAG_WORD, flags_named};
 use json::{Scratch, Token};
 use patterns_text::position::{FilePosition, Spot};
+use patterns_text::source_positions::SourcePositions;
 use source_literals::replaced::ByteSpan;
 use source_literals::source_change::{CharacterChange, Spelling};
 use source_literals::source_syntax::SourceSyntax;
@@ -201,18 +201,13 @@ pub struct Record<'a> {
 }
 
 impl<'a> Record<'a> {
-    /// Where the pattern is in its source.
-    fn spot(&self) -> Spot<'a> {
-        self.positions.spot(self.pattern, 0)
-    }
-
     /// The pattern, as one of the file of records.
     pub(crate) fn entry(&'a self, file: &'a str) -> Entry<'a> {
         Entry {
             pattern: self.pattern,
             flags: self.flags,
             file: self.file.unwrap_or(file),
-            spot: self.spot(),
+            spot: Spot::Source(&self.positions),
             span: ByteSpan { start: 0, end: 0 },
             contents: self.pattern,
             end: b"\n",
@@ -380,7 +375,7 @@ fn positions_of(
     let columns = numbers_of(alloc, members.columns, Member::Columns, length)?;
     let lines = numbers_of(alloc, members.lines, Member::Lines, length)?;
     if members.file.is_none() {
-        return Ok(SourcePositions::of_line(alloc, own_line));
+        return Ok(SourcePositions::of(alloc, own_line, 1));
     }
     Ok(SourcePositions {
         line: members.line.unwrap_or(1),

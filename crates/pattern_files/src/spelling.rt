@@ -4,11 +4,6 @@ use json::{Reader, Scratch, Token};
 use source_literals::source_change::CharacterChange;
 use std::alloc::{AllocError, Global};
 
-/// Whether the text begins with a byte order mark, and the pattern does not.
-fn begins_with_bom(text: &str, pattern: &str) -> bool {
-    text.as_bytes().starts_with(BOM) && !pattern.as_bytes().starts_with(BOM)
-}
-
 /// How many bytes the character takes that the contents of a string of JSON begin with.
 fn spelled_len(contents: &str, c: char) -> usize {
     if contents.starts_with("\\u") {
@@ -229,6 +224,17 @@ pub enum SpelledIn {
     Json,
 }
 
+/// Whether the text can be written in the place of the pattern: in a line, without a line end or a byte order mark at the start
+/// that the pattern does not have.
+pub fn fits(form: SpelledIn, text: &str, pattern: &str) -> bool {
+    let has_new_bom = text.as_bytes().starts_with(BOM) && !pattern.as_bytes().starts_with(BOM);
+    match form {
+        SpelledIn::Line => !has_new_bom && !breaks_line(text, pattern),
+        SpelledIn::Lines => !has_new_bom,
+        SpelledIn::Json => true,
+    }
+}
+
 /// How the text is spelled in the place of a pattern that has these contents there. None if it would be read as another:
 /// in a line, with a line end or a byte order mark at the start that the pattern does not have.
 pub fn spelled(
@@ -245,8 +251,7 @@ pub fn spelled(
             (spelling, is_read)
         }
         SpelledIn::Line | SpelledIn::Lines => {
-            let is_line = form == SpelledIn::Lines || !breaks_line(text, pattern);
-            let is_read = is_line && !begins_with_bom(text, pattern);
+            let is_read = fits(form, text, pattern);
             (String::from_str(alloc, text)?, is_read)
         }
     };

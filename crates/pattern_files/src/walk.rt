@@ -67,20 +67,11 @@ struct FileLine<'a> {
 impl<'a> FileLine<'a> {
     /// The line as a pattern, whose text this is.
     fn entry(self, pattern: &'a str) -> Entry<'a> {
+        let start = self.start;
+        let end = start.saturating_add(pattern.len());
         Entry {
-            pattern,
-            flags: None,
-            file: self.file,
-            spot: Spot::Line(self.number),
-            span: ByteSpan {
-                start: self.start,
-                end: self.start.saturating_add(pattern.len()),
-            },
-            contents: pattern,
-            end: self.end,
-            key: "",
-            grammar: None,
-            record: None,
+            span: ByteSpan { start, end },
+            ..Entry::of_line(self.file, self.number, pattern, self.end)
         }
     }
 

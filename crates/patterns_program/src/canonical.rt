@@ -17,7 +17,7 @@ use fancy_spans::SpannedTree;
 use fancy_syntax::tree::ExprTree;
 use pattern_files::lines::breaks_line;
 use pattern_format::first_comment::first_comment;
-use pattern_reports::reporter::parse;
+use pattern_reports::reporter::{Reporter, parse};
 use pattern_reports::reports::Reports;
 use patterns_text::error::RunError;
 use patterns_text::subject::Subject;

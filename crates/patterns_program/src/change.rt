@@ -7,11 +7,7 @@ use std::io;
 use std::io::Write;
 
 /// Writes that the pattern would change, what it is, and what it would be.
-pub(crate) fn write_change(
-    out: &mut Vec<u8>,
-    subject: Subject<'_>,
-    text: &str,
-) -> io::Result<()> {
+pub(crate) fn write_change(out: &mut Vec<u8>, subject: Subject<'_>, text: &str) -> io::Result<()> {
     let Subject { at, pattern, .. } = subject;
     let (bold, red, green, end) = (
         at.listed.begin(Ink::Position),

@@ -4,10 +4,11 @@ use crate::outcome::Outcome;
 use crate::rewriting::PatternForm;
 use pattern_files::entry::Entry;
 use pattern_files::record::{Record, changed_positions};
-use pattern_files::replaced::{Replacement, Shift, spelled};
-use pattern_files::spelling::changes_of;
-use patterns_text::position::Spot;
+use pattern_files::shift::Shift;
+use pattern_files::spelling::{SpelledIn, changes_of, spelled};
+use patterns_text::position::{FilePosition, Spot};
 use patterns_text::source_positions::SourcePositions;
+use source_literals::replaced::Replacement;
 use source_literals::source_change::{SourceChange, Spelling};
 use source_literals::source_syntax::SourceSyntax;
 use std::alloc::{AllocError, Global};
@@ -51,7 +52,7 @@ pub(crate) struct MovedPattern {
 
 /// What is changed for a pattern that becomes another text.
 #[derive(Drop)]
-pub(crate) enum Placed {
+pub(crate) enum PatternChange {
     /// A part of the file that is read.
     InFile(Replacement),
     /// The literals of a source.
@@ -87,6 +88,18 @@ pub(crate) struct Changes {
     shift: Shift,
 }
 
+/// Where in the file that is read a spot is; none of one in a source.
+fn start_of(spot: Spot<'_>) -> Option<FilePosition> {
+    match spot {
+        Spot::Line(line) => Some(FilePosition {
+            line,
+            ..FilePosition::START
+        }),
+        Spot::Path { position, .. } | Spot::Value { position, .. } => Some(position),
+        Spot::Source(_) => None,
+    }
+}
+
 impl Changes {
     /// None, in a file in which these patterns stay.
     pub(crate) fn none(alloc: Global, kept: Kept) -> Changes {
@@ -94,7 +107,7 @@ impl Changes {
             parts: Vec::new(alloc),
             sources: Vec::new(alloc),
             kept,
-            shift: Shift::new(),
+            shift: Shift::NONE,
         }
     }
 
@@ -111,12 +124,30 @@ impl Changes {
 
     /// Where an entry is with the changes.
     pub(crate) fn spot<'s>(&self, spot: Spot<'s>) -> Spot<'s> {
-        self.shift.spot(spot)
+        let is_line = matches!(spot, Spot::Line(_));
+        match (spot, start_of(spot).map(|start| self.shift.at(start))) {
+            (_, Some(FilePosition { line, .. })) if is_line => Spot::Line(line),
+            (
+                Spot::Value {
+                    path,
+                    refers_to_begin,
+                    ..
+                },
+                Some(position),
+            ) => Spot::Value {
+                position,
+                path,
+                refers_to_begin,
+            },
+            (spot, _) => spot,
+        }
     }
 
     /// Goes on past an entry that becomes the text.
     pub(crate) fn pass(&mut self, entry: Entry<'_>, text: &str) {
-        self.shift.pass(entry, text);
+        if let Some(start) = start_of(entry.spot) {
+            self.shift.past(start, entry.contents, text);
+        }
     }
 
     /// Takes the changes in sources.
@@ -125,13 +156,13 @@ impl Changes {
     }
 
     /// Adds the change of an entry.
-    pub(crate) fn add(&mut self, entry: Entry<'_>, placed: Placed) -> Result<(), AllocError> {
-        match placed {
-            Placed::InFile(part) => {
+    pub(crate) fn add(&mut self, entry: Entry<'_>, change: PatternChange) -> Result<(), AllocError> {
+        match change {
+            PatternChange::InFile(part) => {
                 self.pass(entry, part.text.as_str());
                 self.parts.push(part)?;
             }
-            Placed::InSource(moved) => self.sources.push(moved.change)?,
+            PatternChange::InSource(moved) => self.sources.push(moved.change)?,
         }
         Ok(())
     }
@@ -192,17 +223,22 @@ fn moved(
 }
 
 /// What is changed for the pattern of an entry that becomes the text; or why it stays.
-pub(crate) fn placed(
+pub(crate) fn change_of(
     alloc: Global,
     entry: Entry<'_>,
     command: Command,
     text: &str,
-) -> Result<Result<Placed, Unwritten>, AllocError> {
+) -> Result<Result<PatternChange, Unwritten>, AllocError> {
     if let Some(record) = entry.record {
-        return Ok(moved(alloc, entry, record, command, text)?.map(Placed::InSource));
+        return Ok(moved(alloc, entry, record, command, text)?.map(PatternChange::InSource));
     }
-    match spelled(alloc, entry, text)? {
-        Some(text) => Ok(Ok(Placed::InFile(Replacement {
+    let form = match entry.spot {
+        // A text that may not have several lines was left out before.
+        Spot::Line(_) => SpelledIn::Lines,
+        Spot::Path { .. } | Spot::Value { .. } | Spot::Source(_) => SpelledIn::Json,
+    };
+    match spelled(alloc, form, entry.contents, entry.pattern, text)? {
+        Some(text) => Ok(Ok(PatternChange::InFile(Replacement {
             span: entry.span,
             text,
         }))),

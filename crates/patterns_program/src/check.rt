@@ -10,10 +10,7 @@ use patterns_text::error::RunError;
 use patterns_text::subject::Subject;
 
 /// Reports the error of the pattern, if it is invalid.
-pub(crate) fn check(
-    subject: Subject<'_>,
-    reports: &mut Reports<'_>,
-) -> Result<Outcome, RunError>
+pub(crate) fn check(subject: Subject<'_>, reports: &mut Reports<'_>) -> Result<Outcome, RunError>
     ensures good { result ≡ Ok Outcome.Good → IsAccepted subject.entry }
     ensures refused { result ≡ Ok Outcome.Refused → IsRefused subject.entry }
     ensures read { result ≡ Ok Outcome.Unread → ⊥ }

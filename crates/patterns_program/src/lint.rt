@@ -9,12 +9,11 @@ ghost use Rattle.patterns_text.specs.Subject.{IsAccepted, IsRefused};
 use crate::outcome::Outcome;
 use crate::rewriting::Rewriting;
 use crate::tally::Tally;
-use pattern_files::spelling::is_record;
 use pattern_reports::reporter::{Reporter, parse};
 use pattern_reports::reports::Reports;
 use patterns_lint::chosen::{Chosen, Level};
 use patterns_lint::find::problems;
-use patterns_lint::fixes::fixed;
+use patterns_lint::fixes::{MAX_ROUNDS, fixed};
 use patterns_lint::known::Known;
 use patterns_lint::problem::Found;
 use patterns_lint::slow::SlowParts;
@@ -71,10 +70,7 @@ pub(crate) fn lint(
     let slow = SlowParts::of(subject.alloc, &parsed, chosen, known)?;
     let mut found = problems(subject, &parsed, grammar, known, &slow)?;
     found.retain(|one| chosen.level(one.problem.rule()) != Level::Allow);
-    if has_fixes
-        && let Some(text) = fixed(subject, &parsed, &found)?
-        && is_record(text.as_str(), subject.pattern)
-    {
+    if has_fixes && let Some(text) = fixed(subject, &parsed, &found)? {
         return Ok(Rewriting::Changed(text));
     }
     reports.problems(subject, &parsed, chosen, &found)?;
@@ -86,4 +82,37 @@ pub(crate) fn lint(
         return Ok(Rewriting::Stays(Outcome::Refused));
     }
     Ok(Rewriting::Stays(Outcome::Good))
+}
+
+/// The pattern with reports fixed, as many as can be fixed at once; none if none can be.
+fn fixed_once(
+    subject: Subject<'_>,
+    chosen: &Chosen,
+    known: &mut Known,
+) -> Result<Option<String>, RunError> {
+    let Ok(parsed) = subject.parse()? else {
+        return Ok(None);
+    };
+    let slow = SlowParts::new(subject.alloc);
+    let mut found = problems(subject, &parsed, None, known, &slow)?;
+    found.retain(|one| chosen.level(one.problem.rule()) != Level::Allow);
+    Ok(fixed(subject, &parsed, &found)?)
+}
+
+/// The text that a pattern has become by fixes, with the reports fixed that it has then, and so on.
+pub(crate) fn fixed_further(
+    subject: Subject<'_>,
+    text: String,
+    chosen: &Chosen,
+    known: &mut Known,
+) -> Result<String, RunError> {
+    let mut text = text;
+    for _ in 1..MAX_ROUNDS {
+        let pattern = text.as_str();
+        match fixed_once(Subject { pattern, ..subject }, chosen, known)? {
+            Some(next) => text = next,
+            None => break,
+        }
+    }
+    Ok(text)
 }

@@ -10,7 +10,7 @@ ghost use Rattle.patterns_text.specs.Subject.{IsAccepted};
 use crate::canonical::{Comments, canonical};
 use crate::outcome::Outcome;
 use fancy_lex::error::Error;
-use pattern_files::spelling::{begins_with_bom, is_record};
+use pattern_files::spelling::{SpelledIn, fits};
 use pattern_format::extent::Extent;
 use pattern_format::format::format_pattern;
 use pattern_format::style::Style;
@@ -41,12 +41,11 @@ pub(crate) enum Rewriting {
     Changed(String),
 }
 
-/// Whether the text of a pattern that is formatted in this style can replace it: it is one record, or may have several
-/// lines.
-fn fits(text: &str, pattern: &str, style: Style) -> bool {
+/// How a pattern in this style is written: the style Verbose may give it several lines.
+fn spelled_in(style: Style) -> SpelledIn {
     match style {
-        Style::Kept | Style::Compact => is_record(text, pattern),
-        Style::Verbose { .. } => !begins_with_bom(text, pattern),
+        Style::Kept | Style::Compact => SpelledIn::Line,
+        Style::Verbose { .. } => SpelledIn::Lines,
     }
 }
 
@@ -81,7 +80,7 @@ fn styled(
         return Ok(Rewriting::Stays(Outcome::Refused));
     }
     let text = formatted.text;
-    if text.as_str() == pattern || !fits(text.as_str(), pattern, style) {
+    if text.as_str() == pattern || !fits(spelled_in(style), text.as_str(), pattern) {
         return Ok(Rewriting::Stays(Outcome::Good));
     }
     Ok(Rewriting::Changed(text))

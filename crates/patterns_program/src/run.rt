@@ -10,8 +10,7 @@ use crate::work::Work;
 use pattern_files::entry::{Entry, Unread, Visitor};
 use pattern_files::form::{FileFormat, NamedFormat};
 use pattern_files::lines::lines_in;
-use pattern_files::replaced::replaced;
-use pattern_files::sources::{ReplaceError, STANDARD_INPUT, System, write_unread};
+use pattern_files::sources::{ReplaceError, STANDARD_INPUT, System};
 use pattern_files::values::keys::{Keys, UsedKeys};
 use pattern_files::walk::{FileShape, visit};
 use patterns_config::choices::Choices;
@@ -21,6 +20,7 @@ use patterns_text::error::{RunError, give_up};
 use patterns_text::position::Spot;
 use patterns_text::shown::Shown;
 use patterns_text::subject::ARGUMENT;
+use source_literals::replaced::replaced;
 use std::alloc::{AllocError, Global};
 use std::io;
 use std::io::{BufRead, ErrorKind, Write};
@@ -54,14 +54,15 @@ impl<S: System, O: Write, E: Write> Visitor for FileRun<'_, '_, S, O, E> {
         self.outcome = self.outcome.and(found);
         self.put_unless_held()?;
         self.work.tally.add(found);
-        self.screen.go_on(entry.pattern.len().saturating_add(1), &self.work.tally)?;
+        let bytes = entry.pattern.len().saturating_add(1);
+        self.screen.go_on(bytes, &self.work.tally)?;
         Ok(())
     }
 
     fn unread(&mut self, unread: Unread<'_>) -> Result<(), RunError> {
         self.outcome = Outcome::Unread;
         writeln!(self.work.reported.err, "{unread}")?;
-        if let (Output::Patterns, Some(line)) = (self.work.job.output, unread.line()) {
+        if let (Output::Patterns, Some(line)) = (self.work.job.output, unread.line) {
             self.work.end_last(line.end)?;
             let out = &mut self.work.shown.out;
             out.extend_from_slice(line.text)?;
@@ -95,6 +96,17 @@ impl<'a, S: System, O: Write, E: Write> FileRun<'a, '_, S, O, E> {
             return Ok(());
         }
         self.put()
+    }
+
+    /// Says that a file cannot be opened, or not be read further.
+    pub(crate) fn write_unread(
+        &mut self,
+        file: &str,
+        error: io::Error,
+    ) -> Result<Outcome, RunError> {
+        let unread = Unread::by_system(file, error)?;
+        writeln!(self.screen.err, "{unread}")?;
+        Ok(Outcome::Unread)
     }
 
     /// Does the work on each pattern of a reader, in one pass, and returns the outcome.
@@ -193,8 +205,7 @@ impl<'a, S: System, O: Write, E: Write> FileRun<'a, '_, S, O, E> {
     ) -> Result<Outcome, RunError> {
         let mut bytes = Vec::new(self.work.alloc);
         if let Err(error) = reader.read_to_end(&mut bytes) {
-            write_unread(file, error, &mut self.screen.err)?;
-            return Ok(Outcome::Unread);
+            return self.write_unread(file, error);
         }
         self.is_held = true;
         let outcome = self.pass_and_change(file, &bytes)?;
@@ -299,8 +310,7 @@ impl<'a, S: System, O: Write, E: Write> FileRun<'a, '_, S, O, E> {
                 Err(error) => error,
             }
         };
-        write_unread(file, error, &mut self.screen.err)?;
-        Ok(Outcome::Unread)
+        self.write_unread(file, error)
     }
 
     /// Whether the run has no more warnings than it may have. If it has, that is reported.
@@ -339,7 +349,11 @@ impl<'a, S: System, O: Write, E: Write> FileRun<'a, '_, S, O, E> {
     fn process_files(&mut self) -> Result<Outcome, RunError> {
         self.work.begin_reports()?;
         let plan = self.plan;
-        let mut outcome = if plan.is_complete { Outcome::Good } else { Outcome::Unread };
+        let mut outcome = if plan.is_complete {
+            Outcome::Good
+        } else {
+            Outcome::Unread
+        };
         outcome = outcome.and(self.process_arguments()?);
         for (done, file) in plan.files.iter().enumerate() {
             self.work.tally.done = done;

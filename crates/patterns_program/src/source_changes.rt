@@ -2,7 +2,7 @@
 use crate::changes::{Kept, Left, Unwritten};
 use crate::outcome::Outcome;
 use crate::run::FileRun;
-use pattern_files::sources::{System, write_unread};
+use pattern_files::sources::System;
 use patterns_text::error::RunError;
 use patterns_text::shown::Shown;
 use source_literals::source_change::{SourceChange, changed_source};
@@ -22,7 +22,7 @@ impl<S: System, O: Write, E: Write> FileRun<'_, '_, S, O, E> {
         match found {
             Ok(_) => Ok(Some(bytes)),
             Err(error) => {
-                write_unread(file, error, &mut self.screen.err)?;
+                self.write_unread(file, error)?;
                 Ok(None)
             }
         }

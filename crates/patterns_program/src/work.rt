@@ -1,22 +1,22 @@
 //! The work of a run on one pattern after another, whatever files they are in. What it writes is kept in memory.
 use crate::change::{write_change, write_ended};
-use crate::changes::{Changes, Kept, Placed, placed};
+use crate::changes::{Changes, Kept, PatternChange, change};
 use crate::check::check;
 use crate::groups::list_groups;
 use crate::job::{Command, Job, Output};
-use crate::lint::{LintRequest, lint};
+use crate::lint::{LintRequest, fixed_further, lint};
 use crate::outcome::Outcome;
 use crate::rewriting::{Rewriting, formatted};
 use crate::tally::Tally;
 use pattern_files::entry::Entry;
 use pattern_files::lines::BOM;
-use pattern_files::spelling::is_record;
+use pattern_files::spelling::{SpelledIn, fits};
+use pattern_reports::reporter::Reporter;
 use pattern_reports::reports::{ReportLog, ReportOptions, Reports};
 use pattern_reports::streams::{Stream, Streams};
 use patterns_lint::chosen::Chosen;
-use patterns_lint::fixes::fixed_further;
 use patterns_lint::known::Known;
-use patterns_listing::drawing::Look;
+use patterns_listing::drawing::{Look, Style};
 use patterns_text::error::RunError;
 use patterns_text::grammar_rule::GrammarRule;
 use patterns_text::position::{Location, Spot};
@@ -156,8 +156,11 @@ impl<'a> Work<'a> {
             format: self.job.format,
             stream: self.job.stream(),
             look: Look {
+                style: Style::Lines,
+                has_spans: false,
+                has_each_literal: false,
                 has_classes,
-                ..Look::PLAIN
+                has_trivia: false,
             },
         }
     }
@@ -165,7 +168,8 @@ impl<'a> Work<'a> {
     /// Writes what comes before all reports.
     pub(crate) fn begin_reports(&mut self) -> Result<(), RunError> {
         let options = self.options();
-        Reports::new(options, &mut self.reported, &mut self.log).begin(self.alloc)
+        let is_lint = self.job.command == Command::Lint;
+        Reports::new(options, &mut self.reported, &mut self.log).begin(self.alloc, is_lint)
     }
 
     /// Writes what comes after all reports.
@@ -248,15 +252,15 @@ impl<'a> Work<'a> {
         let mut text = text;
         if command == Command::Lint {
             text = fixed_further(subject, text, &self.levels, &mut self.known)?;
-            if !is_record(text.as_str(), entry.pattern) {
+            if !fits(SpelledIn::Line, text.as_str(), entry.pattern) {
                 return self.leave(subject, entry, text.as_str());
             }
         }
         if !self.has_file {
             return self.write_changed(subject, entry, text.as_str());
         }
-        match placed(self.alloc, entry, command, text.as_str())? {
-            Ok(placed) => self.place(subject, entry, text.as_str(), placed),
+        match change_of(self.alloc, entry, command, text.as_str())? {
+            Ok(change) => self.replace(subject, entry, text.as_str(), change),
             Err(reason) => {
                 let err = &mut self.shown.err;
                 writeln!(err, "{}: {reason}", subject.at.part(entry.pattern, 0))?;
@@ -281,20 +285,20 @@ impl<'a> Work<'a> {
     }
 
     /// Goes on with the pattern of an entry that becomes the text in its file.
-    fn place(
+    fn replace(
         &mut self,
         subject: Subject<'_>,
         entry: Entry<'_>,
         text: &str,
-        placed: Placed,
+        change: PatternChange,
     ) -> Result<Outcome, RunError> {
         self.show(subject, text)?;
         let mut subject = subject;
-        if let Placed::InSource(moved) = &placed {
+        if let PatternChange::InSource(moved) = &change {
             subject.at.spot = Spot::Source(&moved.positions);
         }
         let outcome = self.report_changed(subject, entry.grammar, text)?;
-        self.changes.add(entry, placed)?;
+        self.changes.add(entry, change)?;
         Ok(outcome)
     }
 

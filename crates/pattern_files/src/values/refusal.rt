@@ -2,7 +2,7 @@
 use crate::values::nesting::Nesting;
 use crate::values::strings::{StringError, string_error};
 use json::{MAX_DEPTH, Reader, Scratch, Token};
-use patterns_text::position::{Cut, column_after};
+use patterns_text::position::FilePosition;
 use std::alloc::{AllocError, Global};
 use std::fmt;
 
@@ -65,7 +65,7 @@ impl Reason {
 pub struct JsonRefusal {
     /// The line and the column in the file.
     line: u64,
-    column: usize,
+    column: u64,
     /// Whether the text is a line of the file, and not all of it.
     is_line: bool,
     reason: Reason,
@@ -157,10 +157,14 @@ pub(super) fn refusal_of(
     line: Option<u64>,
 ) -> Result<JsonRefusal, AllocError> {
     let (end, reason) = end_of_json(alloc, text)?;
-    let Cut { above, before, .. } = Cut::at(text, end);
+    let FilePosition {
+        line: own,
+        column,
+        ..
+    } = FilePosition::of(text, end);
     Ok(JsonRefusal {
-        line: line.unwrap_or(1).saturating_add(above as u64),
-        column: column_after(before),
+        line: line.unwrap_or(1).saturating_add(own.saturating_sub(1)),
+        column,
         is_line: line.is_some(),
         reason,
     })
