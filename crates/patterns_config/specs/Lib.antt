@@ -2,3 +2,4 @@
 
 pub mod Wild
 pub mod Globs
+pub mod FileSettings

@@ -4,8 +4,15 @@ use patterns_lint::chosen::{Chosen, Level};
 use patterns_lint::rule::{RULES, Rule};
 use std::alloc::{AllocError, Global};
 
+/// The levels that rules can be given, by the keys and the options that give them, in the order in which keys count.
+pub static LEVELS: [(&str, Level); 3] = [
+    ("allow", Level::Allow),
+    ("warn", Level::Warn),
+    ("deny", Level::Deny),
+];
+
 /// The name for all rules.
-pub const ALL_RULES: &str = "all";
+const ALL_RULES: &str = "all";
 
 /// The names that a level can be given to: those of the rules, and the one for all.
 pub fn rule_names(alloc: Global) -> Result<Vec<&'static str>, AllocError> {

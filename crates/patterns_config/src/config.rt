@@ -1,51 +1,51 @@
 //! The configuration that a file `patterns.toml` has.
 use crate::config_error::{ConfigError, Problem, Refusal, TableError};
 use crate::glob::{Glob, PathNames};
-use crate::settings::Settings;
-use crate::tables::{check_keys, tables_at, texts_at};
+use crate::options::{FileOption, is_option, options_of};
+use crate::tables::{tables_of, texts_of};
 use std::alloc::{AllocError, Global};
 use toml::{Table, table_from_str};
 
 /// The name of the file.
-pub const CONFIG_NAME: &str = "patterns.toml";
+pub(crate) const CONFIG_NAME: &str = "patterns.toml";
 
-/// The keys of the file, and those of an override.
-static KEYS: [&str; 8] = [
-    "allow",
-    "deny",
-    "files",
-    "flags",
-    "keys",
-    "overrides",
-    "textmate",
-    "warn",
-];
+/// The keys of the file, and those of an override, besides those of options.
+static KEYS: [&str; 2] = ["files", "overrides"];
 
-static OVERRIDE_KEYS: [&str; 7] = [
-    "allow", "deny", "files", "flags", "keys", "textmate", "warn",
-];
+static OVERRIDE_KEYS: [&str; 1] = ["files"];
 
 /// What is said of the files that some globs match.
 #[derive(Debug, Drop)]
-pub struct Override {
+pub(crate) struct Override {
     files: Vec<Glob>,
-    pub settings: Settings,
+    pub(crate) options: Vec<FileOption>,
 }
 
 /// A configuration.
 #[derive(Debug, Drop)]
-pub struct Config {
+pub(crate) struct Config {
     /// What is said of all files.
-    pub settings: Settings,
+    pub(crate) options: Vec<FileOption>,
     /// Which files of a folder are read, if that is said.
-    pub files: Option<Vec<Glob>>,
-    /// What is said of some files: for each setting, the last one that has it and matches counts.
-    pub overrides: Vec<Override>,
+    pub(crate) files: Option<Vec<Glob>>,
+    /// What is said of some files: of each option, the last one that has it and matches counts.
+    pub(crate) overrides: Vec<Override>,
 }
 
 /// Whether one of the globs matches the path.
-pub fn is_among(globs: &[Glob], path: &PathNames) -> bool {
+fn is_among(globs: &[Glob], path: &PathNames) -> bool {
     globs.iter().any(|glob| glob.matches(path))
+}
+
+/// Refuses a table with a key that is neither one of an option nor among the others.
+fn check_keys(alloc: Global, table: &Table, others: &[&str]) -> Result<(), TableError> {
+    for key in table.keys() {
+        if !is_option(key.as_str()) && !others.iter().any(|name| *name == key.as_str()) {
+            let key = String::from_str(alloc, key.as_str())?;
+            return Err(TableError::Refused(Problem::UnknownKey(key)));
+        }
+    }
+    Ok(())
 }
 
 impl Override {
@@ -57,24 +57,25 @@ impl Override {
         rules: &[&str],
     ) -> Result<Override, TableError> {
         check_keys(alloc, table, &OVERRIDE_KEYS)?;
-        let settings = Settings::read(alloc, table, rules)?;
+        let options = options_of(alloc, table, rules)?;
         let Some(files) = globs_at(alloc, table)? else {
             return Err(TableError::Refused(Problem::MissingFiles(number)));
         };
-        Ok(Override { files, settings })
+        Ok(Override { files, options })
     }
 
     /// Whether it is of the file.
-    pub fn is_of(&self, path: &PathNames) -> bool {
+    pub(crate) fn is_of(&self, path: &PathNames) -> bool {
         is_among(&self.files, path)
     }
 }
 
 /// The globs of a table, if it has some.
 fn globs_at(alloc: Global, table: &Table) -> Result<Option<Vec<Glob>>, TableError> {
-    let Some(texts) = texts_at(alloc, table, "files")? else {
+    let Some(value) = table.get("files") else {
         return Ok(None);
     };
+    let texts = texts_of(alloc, "files", value)?;
     let mut globs = Vec::with_capacity(alloc, texts.len())?;
     for text in &texts {
         globs.push(Glob::new(alloc, text.as_str())?)?;
@@ -82,19 +83,25 @@ fn globs_at(alloc: Global, table: &Table) -> Result<Option<Vec<Glob>>, TableErro
     Ok(Some(globs))
 }
 
+/// The overrides of a table.
+fn overrides_of(alloc: Global, table: &Table, rules: &[&str]) -> Result<Vec<Override>, TableError> {
+    let mut overrides = Vec::new(alloc);
+    let Some(value) = table.get("overrides") else {
+        return Ok(overrides);
+    };
+    for (number, inner) in tables_of(alloc, "overrides", value)?.iter().enumerate() {
+        overrides.push(Override::read(alloc, inner, number, rules)?)?;
+    }
+    Ok(overrides)
+}
+
 /// The configuration that a table has.
 fn config_of(alloc: Global, table: &Table, rules: &[&str]) -> Result<Config, TableError> {
     check_keys(alloc, table, &KEYS)?;
-    let settings = Settings::read(alloc, table, rules)?;
-    let files = globs_at(alloc, table)?;
-    let mut overrides = Vec::new(alloc);
-    for (number, inner) in tables_at(alloc, table, "overrides")?.iter().enumerate() {
-        overrides.push(Override::read(alloc, inner, number, rules)?)?;
-    }
     Ok(Config {
-        settings,
-        files,
-        overrides,
+        options: options_of(alloc, table, rules)?,
+        files: globs_at(alloc, table)?,
+        overrides: overrides_of(alloc, table, rules)?,
     })
 }
 
@@ -209,10 +216,17 @@ fn refused_table(
 }
 
 impl Config {
+    /// Whether it names a file of a folder, by its `files`.
+    pub(crate) fn has_file(&self, path: &PathNames) -> bool {
+        self.files
+            .as_ref()
+            .is_some_and(|globs| is_among(globs, path))
+    }
+
     /// Reads the text of a configuration. It is refused if it is not TOML of version 1.1; if a table has a key that no
-    /// setting has, or a value of another type than the setting; if a rule or a letter of the flags is unknown; and if an
+    /// option has, or a value of another type than the option's; if a rule or a letter of the flags is unknown; and if an
     /// override has no files. `rules` are the names of all rules.
-    pub fn read(alloc: Global, text: &str, rules: &[&str]) -> Result<Config, ConfigError> {
+    pub(crate) fn read(alloc: Global, text: &str, rules: &[&str]) -> Result<Config, ConfigError> {
         let table = match table_from_str(alloc, text) {
             Ok(table) => table,
             Err(error) => return Err(refused_text(text, error)),

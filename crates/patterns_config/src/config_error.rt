@@ -6,12 +6,12 @@ use thiserror::Error;
 
 /// What is wrong with a file `patterns.toml`.
 #[derive(Debug, PartialEq, Drop)]
-pub enum Problem {
+pub(crate) enum Problem {
     /// It is not TOML.
     Syntax(toml::de::Error),
-    /// It has a key that no setting has.
+    /// It has a key that no option has.
     UnknownKey(String),
-    /// The value of a setting is none of those.
+    /// The value of a key is of another type.
     WrongType {
         key: &'static str,
         expected: &'static str,
@@ -39,12 +39,12 @@ impl fmt::Display for Problem {
 
 /// A problem, and where it is.
 #[derive(Debug, Drop)]
-pub struct Refusal {
+pub(crate) struct Refusal {
     /// The line, from 1.
-    pub line: usize,
+    pub(crate) line: usize,
     /// The column in characters, from 1, of what is not TOML.
-    pub column: Option<usize>,
-    pub problem: Problem,
+    pub(crate) column: Option<usize>,
+    pub(crate) problem: Problem,
 }
 
 /// The line, the column if there is one, and the problem.
@@ -60,7 +60,7 @@ impl fmt::Display for Refusal {
 
 /// Why a configuration was not read.
 #[derive(Debug, Drop, Error)]
-pub enum ConfigError {
+pub(crate) enum ConfigError {
     /// Out of memory.
     #[error("out of memory")]
     Memory(#[from(alloc)] AllocError),

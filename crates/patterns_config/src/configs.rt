@@ -15,23 +15,23 @@ use std::path::Path;
 use std::{io, str};
 
 /// The name of the current folder.
-pub const HERE: &str = ".";
+pub(crate) const HERE: &str = ".";
 
 /// Why a pipe, for example, is not read.
 const NOT_REGULAR: &str = "it is not a regular file";
 
 /// A configuration that was read.
 #[derive(Drop)]
-pub struct FoundConfig {
+pub(crate) struct FoundConfig {
     /// The absolute path of the folder that its globs are relative to.
     folder: String,
-    pub config: Config,
+    pub(crate) config: Config,
 }
 
 impl FoundConfig {
     /// The path of a file, given by its absolute path, in the folder of the configuration; the whole path of a file
     /// that is elsewhere.
-    pub fn path_names(&self, alloc: Global, file: &str) -> Result<PathNames, AllocError> {
+    pub(crate) fn path_names(&self, alloc: Global, file: &str) -> Result<PathNames, AllocError> {
         let rest = match file.strip_prefix(self.folder.as_str()) {
             Some(rest) if self.folder.ends_with('/') || rest.starts_with('/') => rest,
             Some(_) | None => file,
@@ -42,7 +42,7 @@ impl FoundConfig {
 
 /// What is known of the configuration of a folder.
 #[derive(Debug, Clone, Copy, PartialEq, Eq)]
-pub enum FolderConfig {
+pub(crate) enum FolderConfig {
     /// There is none.
     Absent,
     /// It is the one of this index.
@@ -52,13 +52,13 @@ pub enum FolderConfig {
 }
 
 /// The path of an entry of a folder.
-pub fn joined(alloc: Global, folder: &str, entry: &str) -> Result<String, AllocError> {
+pub(crate) fn joined(alloc: Global, folder: &str, entry: &str) -> Result<String, AllocError> {
     let slash = if folder.ends_with('/') { "" } else { "/" };
     format!(in alloc; "{folder}{slash}{entry}")
 }
 
 /// The folder that a file of this name is in.
-pub fn folder_of(file: &str) -> &str {
+pub(crate) fn folder_of(file: &str) -> &str {
     match file.rsplit_once('/') {
         Some(("", _)) => "/",
         Some((folder, _)) => folder,
@@ -67,7 +67,7 @@ pub fn folder_of(file: &str) -> &str {
 }
 
 /// The name of a file in its folder.
-pub fn name_of(file: &str) -> &str {
+pub(crate) fn name_of(file: &str) -> &str {
     match file.rsplit_once('/') {
         Some((_, name)) => name,
         None => file,
@@ -75,7 +75,7 @@ pub fn name_of(file: &str) -> &str {
 }
 
 /// An error of the system; memory that ran out is another error.
-pub fn system_error(error: io::Error) -> Result<io::Error, RunError> {
+pub(crate) fn system_error(error: io::Error) -> Result<io::Error, RunError> {
     if error.kind() == ErrorKind::OutOfMemory {
         return Err(RunError::Memory(AllocError));
     }
@@ -95,21 +95,21 @@ enum Search {
 
 /// Finds the configurations of folders, and reports those that cannot be read.
 #[derive(Drop)]
-pub struct ConfigFinder<'a, S, E> {
-    pub alloc: Global,
-    pub sources: &'a S,
-    pub err: &'a mut E,
+pub(crate) struct ConfigFinder<'a, S, E> {
+    pub(crate) alloc: Global,
+    pub(crate) sources: &'a S,
+    pub(crate) err: &'a mut E,
     search: Search,
     /// The absolute path of the current folder, with a slash, as far as it is known.
     here: String,
     /// What is known of folders, by their absolute paths.
     folders: BTreeMap<String, FolderConfig>,
-    pub found: Vec<FoundConfig>,
+    pub(crate) found: Vec<FoundConfig>,
 }
 
 impl<'a, S: System, E: Write> ConfigFinder<'a, S, E> {
     /// Before the first folder.
-    pub fn new(alloc: Global, sources: &'a S, err: &'a mut E) -> ConfigFinder<'a, S, E> {
+    pub(crate) fn new(alloc: Global, sources: &'a S, err: &'a mut E) -> ConfigFinder<'a, S, E> {
         ConfigFinder {
             alloc,
             sources,
@@ -122,7 +122,7 @@ impl<'a, S: System, E: Write> ConfigFinder<'a, S, E> {
     }
 
     /// The absolute path of a folder; the path as it is, if no configuration is read.
-    pub fn absolute(&self, folder: &str) -> io::Result<String> {
+    pub(crate) fn absolute(&self, folder: &str) -> io::Result<String> {
         match self.search {
             Search::Nothing => Ok(String::from_str(self.alloc, folder)?),
             Search::Upwards | Search::First => self.sources.absolute(folder),
@@ -130,7 +130,7 @@ impl<'a, S: System, E: Write> ConfigFinder<'a, S, E> {
     }
 
     /// Finds out where the current folder is. Files below it are then reported by their paths in it.
-    pub fn find_here(&mut self) -> Result<(), RunError> {
+    fn find_here(&mut self) -> Result<(), RunError> {
         match self.sources.absolute(HERE) {
             Ok(here) => self.here = joined(self.alloc, here.as_str(), "")?,
             Err(error) => {
@@ -255,7 +255,7 @@ impl<'a, S: System, E: Write> ConfigFinder<'a, S, E> {
 
     /// The configuration of a folder, given by its absolute path: the nearest one from there upwards, unless the
     /// arguments choose one.
-    pub fn of_folder(&mut self, folder: &str) -> Result<FolderConfig, RunError> {
+    pub(crate) fn of_folder(&mut self, folder: &str) -> Result<FolderConfig, RunError> {
         match self.search {
             Search::Nothing => Ok(FolderConfig::Absent),
             Search::First => Ok(FolderConfig::Found(0)),
@@ -280,7 +280,7 @@ impl<'a, S: System, E: Write> ConfigFinder<'a, S, E> {
     }
 
     /// Reads the configuration that the arguments choose, if they choose one, and returns whether it is refused.
-    pub fn begin(&mut self, choice: ConfigChoice<'_>) -> Result<bool, RunError> {
+    pub(crate) fn begin(&mut self, choice: ConfigChoice<'_>) -> Result<bool, RunError> {
         match choice {
             ConfigChoice::None => self.search = Search::Nothing,
             ConfigChoice::Nearest => self.find_here()?,

@@ -1,16 +1,134 @@
 //! What a configuration says of the patterns of a file.
-ghost use Rattle.std.specs.Prelude.{◌≡◌, IsTrue, IsNone};
+ghost use Rattle.std.specs.Prelude.{◌≡◌, ◌||◌, ◌⊎◌, [], None, false, IsTrue, IsNone, MatchOption, if◌then◌else◌, unwrap_or};
+ghost use Rattle.patterns_config.specs.FileSettings.{options_of, is_named_in, flags_after, textmate_after, keys_after, is_json, AreKeys};
 
 use crate::choices::{Choices, RuleLevel};
-use crate::config::{Config, is_among};
 use crate::configs::FoundConfig;
 use crate::glob::PathNames;
-use crate::settings::Settings;
-use fre_program::flag_word::flags_named;
+use crate::options::FileOption;
 use pattern_files::form::FileFormat;
 use pattern_files::values::keys::Keys;
 use patterns_lint::chosen::{Chosen, Level};
 use std::alloc::{AllocError, Global};
+
+/// The options of one file: what is said of all files, and then what is said of some, this one among them. Of several
+/// for one thing the last one counts.
+#[derive(Drop)]
+pub struct FileSettings<'a> {
+    found: Vec<&'a FileOption>,
+    /// Whether the configuration names the file: by its `files`, or by those of an override.
+    is_named: bool,
+}
+
+impl<'a> FileSettings<'a> {
+    /// None, of a file without a configuration.
+    pub(crate) fn none(alloc: Global) -> FileSettings<'a> {
+        FileSettings {
+            found: Vec::new(alloc),
+            is_named: false,
+        }
+    }
+
+    /// Those that a configuration has for the path of a file; for patterns without a file those that are of all.
+    pub(crate) fn of(
+        alloc: Global,
+        found: &'a FoundConfig,
+        path: Option<&PathNames>,
+    ) -> Result<FileSettings<'a>, AllocError> {
+        let config = &found.config;
+        let mut settings = FileSettings {
+            found: Vec::new(alloc),
+            is_named: path.is_some_and(|path| config.has_file(path)),
+        };
+        settings.add(&config.options)?;
+        for one in &config.overrides {
+            if path.is_some_and(|path| one.is_of(path)) {
+                settings.add(&one.options)?;
+                settings.is_named = true;
+            }
+        }
+        Ok(settings)
+    }
+
+    /// Adds options after the others.
+    fn add(&mut self, options: &'a [FileOption]) -> Result<(), AllocError> {
+        for option in options {
+            self.found.push(option)?;
+        }
+        Ok(())
+    }
+
+    /// The flags, if they are set.
+    fn flags(&self) -> Option<u32>
+        ensures { result ≡ flags_after None (options_of self.now) }
+    {
+        let mut flags = None;
+        for option in &self.found {
+            if let FileOption::Flags(set) = option {
+                flags = Some(*set);
+            }
+        }
+        flags
+    }
+
+    /// Whether texts under the keys of TextMate's grammars are patterns.
+    fn has_textmate(&self) -> bool
+        ensures { result ≡ textmate_after false (options_of self.now) }
+    {
+        let mut has_textmate = false;
+        for option in &self.found {
+            if let FileOption::Textmate(is_set) = option {
+                has_textmate = *is_set;
+            }
+        }
+        has_textmate
+    }
+
+    /// The other keys under which texts of JSON are patterns.
+    fn other_keys(&self) -> &'a [String]
+        ensures { result.now ≡ keys_after [] (options_of self.now) }
+    {
+        let mut keys: &'a [String] = &[];
+        for option in &self.found {
+            if let FileOption::Keys(set) = option {
+                keys = set;
+            }
+        }
+        keys
+    }
+
+    /// The keys under which texts of JSON are patterns, if some are set.
+    fn keys(&self) -> Option<Keys<'a>>
+        ensures { MatchOption result (is_json (options_of self.now) ≡ false) (AreKeys (options_of self.now)) }
+    {
+        let has_textmate = self.has_textmate();
+        let configured = self.other_keys();
+        if !has_textmate && configured.is_empty() {
+            return None;
+        }
+        Some(Keys {
+            has_textmate,
+            named: &[],
+            configured,
+        })
+    }
+
+    /// Whether the file is JSON.
+    pub(crate) fn is_json(&self) -> bool
+        ensures { result ≡ is_json (options_of self.now) }
+    {
+        self.keys().is_some()
+    }
+
+    /// Gives the rules their levels.
+    fn set_levels(&self, chosen: &mut Chosen) {
+        for option in &self.found {
+            if let FileOption::Rules(level, names) = option {
+                set_rules(chosen, names, *level);
+            }
+        }
+    }
+}
 
 /// Gives a level to the rules of these names.
 fn set_rules(chosen: &mut Chosen, names: &[String], level: Level) {
@@ -23,105 +141,11 @@ fn set_rules(chosen: &mut Chosen, names: &[String], level: Level) {
     }
 }
 
-/// Whether the path of a file is that of one of the `files` of a configuration.
-pub fn is_listed(config: &Config, path: &PathNames) -> bool {
-    config
-        .files
-        .as_ref()
-        .is_some_and(|globs| is_among(globs, path))
-}
-
-/// The settings of one file: what is said of all files, and then what is said of some, this one among them. Of several
-/// for one thing the last one counts.
-#[derive(Drop)]
-pub struct FileSettings<'a> {
-    found: Vec<&'a Settings>,
-    /// Whether the configuration names the file: by its `files`, or by those of an override.
-    is_named: bool,
-}
-
-impl<'a> FileSettings<'a> {
-    /// None, of a file without a configuration.
-    pub fn none(alloc: Global) -> FileSettings<'a> {
-        FileSettings {
-            found: Vec::new(alloc),
-            is_named: false,
-        }
-    }
-
-    /// Those that a configuration has for the path of a file; for patterns without a file those that are of all.
-    pub fn of(
-        alloc: Global,
-        found: &'a FoundConfig,
-        path: Option<&PathNames>,
-    ) -> Result<FileSettings<'a>, AllocError> {
-        let config = &found.config;
-        let mut settings = Vec::new(alloc);
-        settings.push(&config.settings)?;
-        let mut is_named = path.is_some_and(|path| is_listed(config, path));
-        for one in &config.overrides {
-            if path.is_some_and(|path| one.is_of(path)) {
-                settings.push(&one.settings)?;
-                is_named = true;
-            }
-        }
-        Ok(FileSettings {
-            found: settings,
-            is_named,
-        })
-    }
-
-    /// The flags, if they are set.
-    fn flags(&self) -> Option<u32> {
-        let mut flags = None;
-        for settings in &self.found {
-            if let Some(letters) = &settings.flags {
-                flags = flags_named(letters.as_str());
-            }
-        }
-        flags
-    }
-
-    /// The keys under which texts of JSON are patterns, if some are set.
-    fn keys(&self) -> Option<Keys<'a>> {
-        let mut has_textmate = false;
-        let mut configured: &'a [String] = &[];
-        for settings in &self.found {
-            if let Some(is_set) = settings.textmate {
-                has_textmate = is_set;
-            }
-            if let Some(keys) = &settings.keys {
-                configured = keys;
-            }
-        }
-        if !has_textmate && configured.is_empty() {
-            return None;
-        }
-        Some(Keys {
-            has_textmate,
-            named: &[],
-            configured,
-        })
-    }
-
-    /// Whether the file is JSON.
-    pub fn is_json(&self) -> bool {
-        self.keys().is_some()
-    }
-
-    /// Gives the rules their levels.
-    fn set_levels(&self, chosen: &mut Chosen) {
-        for settings in &self.found {
-            set_rules(chosen, &settings.allow, Level::Allow);
-            set_rules(chosen, &settings.warn, Level::Warn);
-            set_rules(chosen, &settings.deny, Level::Deny);
-        }
-    }
-}
-
 /// The flags that the patterns of a file with these settings are parsed under.
 pub fn flags_with(choices: Choices<'_>, settings: &FileSettings<'_>) -> u32
     ensures given { IsTrue choices.entry.has_flags → result ≡ choices.entry.flags }
+    ensures exact { result ≡ (if choices.entry.has_flags then choices.entry.flags
+        else unwrap_or (flags_after None (options_of settings.now)) choices.entry.flags) }
 {
     if choices.has_flags {
         return choices.flags;
@@ -132,6 +156,8 @@ pub fn flags_with(choices: Choices<'_>, settings: &FileSettings<'_>) -> u32
 /// The keys by which a file with these settings is JSON, if the arguments do not choose how files have patterns.
 pub fn keys_with<'s>(choices: Choices<'_>, settings: &FileSettings<'s>) -> Option<Keys<'s>>
     ensures given { IsTrue choices.entry.has_form → IsNone result }
+    ensures exact { IsTrue choices.entry.has_form ⊎
+        MatchOption result (is_json (options_of settings.now) ≡ false) (AreKeys (options_of settings.now)) }
 {
     if choices.has_form {
         return None;
@@ -142,6 +168,7 @@ pub fn keys_with<'s>(choices: Choices<'_>, settings: &FileSettings<'s>) -> Optio
 /// Whether it is chosen how a file with these settings has patterns: by the arguments, or by its configuration.
 pub fn is_form_chosen(choices: Choices<'_>, settings: &FileSettings<'_>) -> bool
     ensures given { IsTrue choices.entry.has_form → IsTrue result }
+    ensures exact { result ≡ choices.entry.has_form || is_named_in settings.now || is_json (options_of settings.now) }
 {
     choices.has_form || settings.is_named || settings.is_json()
 }

@@ -68,13 +68,13 @@ fn names_of(alloc: Global, text: &str) -> Result<Vec<Vec<char>>, AllocError>
 
 /// The path of a file, as names.
 #[derive(Debug, Drop)]
-pub struct PathNames {
+pub(crate) struct PathNames {
     names: Vec<Vec<char>>,
 }
 
 impl PathNames {
     /// Those of a path, with slashes between.
-    pub fn new(alloc: Global, path: &str) -> Result<PathNames, AllocError>
+    pub(crate) fn new(alloc: Global, path: &str) -> Result<PathNames, AllocError>
         ensures names { IfOk result (λ found. path_names found ≡ names (chars path.now)) }
     {
         Ok(PathNames {
@@ -86,13 +86,13 @@ impl PathNames {
 /// A pattern of paths: `*` matches any number of characters of a name, `?` one character, and `**`, as a name, any number
 /// of names. Another character matches itself. A glob of one name matches files of that name in each folder.
 #[derive(Debug, Drop)]
-pub struct Glob {
+pub(crate) struct Glob {
     names: Vec<Vec<char>>,
 }
 
 impl Glob {
     /// That of the text.
-    pub fn new(alloc: Global, text: &str) -> Result<Glob, AllocError>
+    pub(crate) fn new(alloc: Global, text: &str) -> Result<Glob, AllocError>
         ensures names { IfOk result (λ glob. glob_names glob ≡ in_each_folder (names (chars text.now))) }
     {
         let mut names = names_of(alloc, text)?;
@@ -103,7 +103,7 @@ impl Glob {
     }
 
     /// Whether it matches the path. The work is at most the product of their lengths.
-    pub fn matches(&self, path: &PathNames) -> bool
+    pub(crate) fn matches(&self, path: &PathNames) -> bool
         ensures exact { IsTrue result ↔ MatchesPath (glob_names self.now) (path_names path.now) }
     {
         matches(self.names.as_slice(), path.names.as_slice())

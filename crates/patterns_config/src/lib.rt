@@ -3,12 +3,12 @@
 #![tactic(auto)]
 
 pub mod choices;
-pub mod config;
-pub mod config_error;
+mod config;
+mod config_error;
 mod configs;
 pub mod file_settings;
-pub mod glob;
+mod glob;
+mod options;
 pub mod plan;
-pub mod settings;
 mod tables;
 mod wild;

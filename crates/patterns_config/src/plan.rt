@@ -3,7 +3,7 @@ use crate::choices::Choices;
 use crate::configs::{
     ConfigFinder, FolderConfig, FoundConfig, HERE, folder_of, joined, name_of, system_error,
 };
-use crate::file_settings::{FileSettings, is_listed};
+use crate::file_settings::FileSettings;
 use crate::glob::PathNames;
 use pattern_files::sources::{EntryKind, STANDARD_INPUT, System};
 use patterns_text::error::RunError;
@@ -162,7 +162,7 @@ impl<S: System, E: Write> Planner<'_, S, E> {
             return Ok(());
         };
         let path = found.path_names(self.alloc, entry.path.as_str())?;
-        if !is_listed(&found.config, &path) {
+        if !found.config.has_file(&path) {
             return Ok(());
         }
         self.has_match = true;

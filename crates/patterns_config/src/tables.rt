@@ -1,51 +1,29 @@
-//! The values in tables of a configuration.
+//! The values in tables of a configuration. An error names the key of the value.
 use crate::config_error::{Problem, TableError};
 use std::alloc::Global;
 use toml::{Table, Value};
 
 /// That the value of the key is not as expected.
-pub(crate) fn wrong_type(key: &'static str, expected: &'static str) -> TableError {
+fn wrong_type(key: &'static str, expected: &'static str) -> TableError {
     TableError::Refused(Problem::WrongType { key, expected })
 }
 
-/// Refuses a table with a key that is not among those that are known.
-pub(crate) fn check_keys(alloc: Global, table: &Table, known: &[&str]) -> Result<(), TableError> {
-    for key in table.keys() {
-        if !known.iter().any(|name| *name == key.as_str()) {
-            let key = String::from_str(alloc, key.as_str())?;
-            return Err(TableError::Refused(Problem::UnknownKey(key)));
-        }
-    }
-    Ok(())
+/// The text that a value is.
+pub(crate) fn text_of<'t>(key: &'static str, value: &'t Value) -> Result<&'t str, TableError> {
+    value.as_str().ok_or(wrong_type(key, "a string"))
 }
 
-/// The text at the key, if there is one.
-pub(crate) fn text_at<'t>(
-    table: &'t Table,
+/// Whether the value is true.
+pub(crate) fn flag_of(key: &'static str, value: &Value) -> Result<bool, TableError> {
+    value.as_bool().ok_or(wrong_type(key, "true or false"))
+}
+
+/// The texts of a list that the value is.
+pub(crate) fn texts_of(
+    alloc: Global,
     key: &'static str,
-) -> Result<Option<&'t str>, TableError> {
-    let Some(value) = table.get(key) else {
-        return Ok(None);
-    };
-    match value.as_str() {
-        Some(text) => Ok(Some(text)),
-        None => Err(wrong_type(key, "a string")),
-    }
-}
-
-/// Whether the key is set, if it is there.
-pub(crate) fn flag_at(table: &Table, key: &'static str) -> Result<Option<bool>, TableError> {
-    let Some(value) = table.get(key) else {
-        return Ok(None);
-    };
-    match value.as_bool() {
-        Some(is_set) => Ok(Some(is_set)),
-        None => Err(wrong_type(key, "true or false")),
-    }
-}
-
-/// The texts of a list that the key has.
-fn texts_of(alloc: Global, value: &Value, key: &'static str) -> Result<Vec<String>, TableError> {
+    value: &Value,
+) -> Result<Vec<String>, TableError> {
     let Some(items) = value.as_array() else {
         return Err(wrong_type(key, "a list of strings"));
     };
@@ -59,31 +37,16 @@ fn texts_of(alloc: Global, value: &Value, key: &'static str) -> Result<Vec<Strin
     Ok(texts)
 }
 
-/// The list of texts at the key, if there is one.
-pub(crate) fn texts_at(
+/// The tables of a list that the value is.
+pub(crate) fn tables_of<'t>(
     alloc: Global,
-    table: &Table,
     key: &'static str,
-) -> Result<Option<Vec<String>>, TableError> {
-    match table.get(key) {
-        Some(value) => Ok(Some(texts_of(alloc, value, key)?)),
-        None => Ok(None),
-    }
-}
-
-/// The tables of a list that the key has; none if it is not there.
-pub(crate) fn tables_at<'t>(
-    alloc: Global,
-    table: &'t Table,
-    key: &'static str,
+    value: &'t Value,
 ) -> Result<Vec<&'t Table>, TableError> {
-    let mut tables = Vec::new(alloc);
-    let Some(value) = table.get(key) else {
-        return Ok(tables);
-    };
     let Some(items) = value.as_array() else {
         return Err(wrong_type(key, "a list of tables"));
     };
+    let mut tables = Vec::new(alloc);
     for item in items {
         let Some(inner) = item.as_table() else {
             return Err(wrong_type(key, "a list of tables"));

@@ -1,0 +1,43 @@
+-- What a configuration says of a file: of several options for one thing, the last one counts.
+use Rattle.std.specs.Prelude.{◌≡◌, ℕ, Bool, true, false, ◌||◌, ◌==◌, not, List, [], ◌∷◌, length, map, Option, Some, None, String}
+use Rattle.std.specs.declared.alloc.Global.{Global}
+use Rattle.pattern_files.specs.declared.values.keys.Keys.{Keys}
+use Rattle.patterns_config.specs.declared.file_settings.FileSettings.{FileSettings}
+use Rattle.patterns_config.specs.declared.options.FileOption.{FileOption}
+use Rattle.patterns_config.specs.declared.options.FileOption.TheVariants as option
+
+-- the options of a file, in their order
+abbrev pub options_of : FileSettings → List FileOption
+options_of file = map (λ option. option.now) file.found.items
+
+-- whether its configuration names it
+abbrev pub is_named_in : FileSettings → Bool
+is_named_in file = file.is_named
+
+-- the flags after options
+abbrev pub flags_after : Option ℕ → List FileOption → Option ℕ
+flags_after flags [] = flags
+flags_after flags (option.Flags set ∷ others) = flags_after (Some set) others
+flags_after flags (_ ∷ others) = flags_after flags others
+
+-- whether the keys of TextMate's grammars have patterns after options
+abbrev pub textmate_after : Bool → List FileOption → Bool
+textmate_after has_textmate [] = has_textmate
+textmate_after has_textmate (option.Textmate is_set ∷ others) = textmate_after is_set others
+textmate_after has_textmate (_ ∷ others) = textmate_after has_textmate others
+
+-- the keys that have patterns after options
+abbrev pub keys_after : List (String Global) → List FileOption → List (String Global)
+keys_after keys [] = keys
+keys_after keys (option.Keys set ∷ others) = keys_after set.items others
+keys_after keys (_ ∷ others) = keys_after keys others
+
+-- whether some keys have patterns
+abbrev pub is_json : List FileOption → Bool
+is_json options = textmate_after false options || not (length (keys_after [] options) == 0)
+
+-- the keys that options set, which are some
+pub record AreKeys (options : List FileOption) (keys : Keys) : Type 0 where
+  pub json : is_json options ≡ true
+  pub textmate : keys.has_textmate ≡ textmate_after false options
+  pub configured : keys.configured.now ≡ keys_after [] options
