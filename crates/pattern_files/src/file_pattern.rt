@@ -1,17 +1,18 @@
 //! A pattern of a file, chosen by its position as reports write it.
 ghost use Rattle.std.specs.Prelude.{◌≡◌};
 
-use crate::lines::{Ending, Start, next_record};
-use crate::sources::{STANDARD_INPUT, Sources, write_unread};
-use crate::values::text_of;
-use crate::values::trail::{Tokens, Trail};
-use json::{Scratch, Token};
+use crate::entry::{Entry, Unread, UnreadReason, Visitor};
+use crate::form::FileFormat;
+use crate::lines::Ending;
+use crate::sources::{STANDARD_INPUT, Sources};
+use crate::walk::{TextShape, visit_lines, visit_texts};
 use patterns_text::error::RunError;
-use patterns_text::position::{Location, Spot};
+use patterns_text::path::Path;
+use patterns_text::position::{FilePosition, Location, Spot};
 use patterns_text::subject::Subject;
 use std::alloc::Global;
 use std::io::{BufRead, ErrorKind, Write};
-use std::{fmt, io, str};
+use std::{fmt, io};
 
 /// A pattern that was read from a file.
 #[derive(Drop)]
@@ -43,10 +44,12 @@ impl<'a> FilePattern<'a> {
 /// Which pattern of a file is chosen.
 #[derive(Clone, Copy)]
 enum ChosenPattern<'a> {
-    /// Its only line.
-    OnlyLine,
     /// The line with this number, counted from 1.
-    Line(u64),
+    Line {
+        number: u64,
+        /// Whether the file may have no further line.
+        is_only: bool,
+    },
     /// The text of JSON at the path that this begins with.
     Path(&'a str),
 }
@@ -69,16 +72,30 @@ impl<'a> ChosenPattern<'a> {
     /// That of what follows the file's name and a colon.
     fn of(text: &'a str) -> ChosenPattern<'a> {
         if text.is_empty() {
-            return ChosenPattern::OnlyLine;
+            return ChosenPattern::Line {
+                number: 1,
+                is_only: true,
+            };
         }
         let end = text
             .find(|c: char| !c.is_ascii_digit())
             .unwrap_or(text.len());
         match text.split_at_checked(end) {
             Some((digits, rest)) if end > 0 && is_columns(rest) => {
-                ChosenPattern::Line(digits.parse().unwrap_or(u64::MAX))
+                ChosenPattern::Line {
+                    number: digits.parse().unwrap_or(u64::MAX),
+                    is_only: false,
+                }
             }
             _ => ChosenPattern::Path(without_position(text)),
+        }
+    }
+
+    /// That the file does not have it.
+    fn missing(self) -> Missing<'a> {
+        match self {
+            ChosenPattern::Line { number, .. } => Missing::Line(number),
+            ChosenPattern::Path(path) => Missing::Path(path),
         }
     }
 }
@@ -104,129 +121,144 @@ impl fmt::Display for Missing<'_> {
     }
 }
 
-/// Reads the pattern of one file.
+/// What was found of a pattern.
 #[derive(Drop)]
-struct FileReader<'a, 'e, E> {
+enum Found<'a> {
+    Nothing,
+    Pattern(FilePattern<'a>),
+    /// It cannot be read, or is not the only line, which is reported.
+    Refused,
+}
+
+/// Looks for the pattern of one file.
+#[derive(Drop)]
+struct Search<'a, 'e, E> {
     alloc: Global,
     file: &'a str,
+    choice: ChosenPattern<'a>,
+    found: Found<'a>,
     err: &'e mut E,
 }
 
-impl<'a, E: Write> FileReader<'a, '_, E> {
-    /// Says what the file does not have.
-    fn report(&mut self, missing: Missing<'_>) -> Result<Option<FilePattern<'a>>, RunError> {
-        writeln!(self.err, "patterns: {}: {missing}", self.file)?;
-        Ok(None)
-    }
-
-    /// Says that the file cannot be read.
-    fn refuse(&mut self, error: io::Error) -> Result<Option<FilePattern<'a>>, RunError> {
-        write_unread(self.file, error, self.err)?;
-        Ok(None)
-    }
-
-    /// The pattern that is there.
-    fn found(&self, spot: Spot<'a>, pattern: &str) -> Result<Option<FilePattern<'a>>, RunError> {
-        Ok(Some(FilePattern {
+impl<'a, E: Write> Search<'a, '_, E> {
+    /// Takes the pattern that is there.
+    fn find(&mut self, spot: Spot<'a>, pattern: &str) -> Result<(), RunError> {
+        self.found = Found::Pattern(FilePattern {
             file: self.file,
             spot,
             pattern: String::from_str(self.alloc, pattern)?,
-        }))
+        });
+        Ok(())
     }
 
-    /// The line, which has this number.
-    fn line(&mut self, number: u64, line: &[u8]) -> Result<Option<FilePattern<'a>>, RunError> {
-        let spot = Spot::Line(number);
-        match str::from_utf8(line) {
-            Ok(pattern) => self.found(spot, pattern),
-            Err(_) => {
-                let at = Location::at(self.file, spot);
-                writeln!(self.err, "{at}: the line is not valid UTF-8")?;
-                Ok(None)
-            }
-        }
-    }
-
-    /// The line with this number.
-    fn numbered<R: BufRead>(
-        &mut self,
-        reader: &mut R,
-        number: u64,
-    ) -> Result<Option<FilePattern<'a>>, RunError> {
-        let mut buffer = Vec::new(self.alloc);
-        for _ in 1..number {
-            match next_record(reader, Ending::Line, &mut buffer) {
-                Ok(Some(_)) => {}
-                Ok(None) => return self.report(Missing::Line(number)),
-                Err(error) => return self.refuse(error),
-            }
-        }
-        match next_record(reader, Ending::Line, &mut buffer) {
-            Ok(Some(record)) if number > 0 => self.line(number, record.text),
-            Ok(_) => self.report(Missing::Line(number)),
-            Err(error) => self.refuse(error),
-        }
-    }
-
-    /// The only line.
-    fn only<R: BufRead>(&mut self, reader: &mut R) -> Result<Option<FilePattern<'a>>, RunError> {
-        let found = self.numbered(reader, 1)?;
-        let mut buffer = Vec::new(self.alloc);
-        match next_record(reader, Ending::Line, &mut buffer) {
-            Ok(Some(_)) if found.is_some() => self.report(Missing::OnlyLine),
-            Ok(_) => Ok(found),
-            Err(error) => self.refuse(error),
-        }
-    }
-
-    /// The text of JSON at the path that the choice begins with.
-    fn value<R: BufRead>(
-        &mut self,
-        reader: &mut R,
-        choice: &'a str,
-    ) -> Result<Option<FilePattern<'a>>, RunError> {
-        let mut bytes = Vec::new(self.alloc);
-        if let Err(error) = reader.read_to_end(&mut bytes) {
-            return self.refuse(error);
-        }
-        let Some(text) = text_of(self.alloc, self.file, &bytes, self.err)? else {
-            return Ok(None);
+    /// Whether the line of this number is chosen. If it is one after the only one, that is reported.
+    fn takes_line(&mut self, line: u64) -> Result<bool, RunError> {
+        let ChosenPattern::Line { number, is_only } = self.choice else {
+            return Ok(false);
         };
-        let mut scratch = Scratch::new(self.alloc);
-        let mut tokens = Tokens::new(text, &mut scratch)?;
-        let mut trail = Trail::new(self.alloc);
-        for _ in 0..=text.len() {
-            let Some(token) = tokens.next() else {
-                break;
-            };
-            if let Token::String(text) = token {
-                let path = trail.path(self.alloc)?;
-                if choice.strip_prefix(path.as_str()).is_some_and(is_columns) {
-                    let position = tokens.position();
-                    let path = choice.get(..path.len()).unwrap_or(choice);
-                    return self.found(Spot::Path { position, path }, text);
+        if is_only && line > number {
+            writeln!(self.err, "patterns: {}: {}", self.file, Missing::OnlyLine)?;
+            self.found = Found::Refused;
+        }
+        Ok(line == number)
+    }
+
+    /// Takes the text of JSON at the path, if that is chosen.
+    fn see_text(
+        &mut self,
+        position: FilePosition,
+        path: Path<'_>,
+        pattern: &str,
+    ) -> Result<(), RunError> {
+        let ChosenPattern::Path(choice) = self.choice else {
+            return Ok(());
+        };
+        let path = format!(in self.alloc; "{path}")?;
+        if !choice.strip_prefix(path.as_str()).is_some_and(is_columns) {
+            return Ok(());
+        }
+        let path = choice.get(..path.len()).unwrap_or(choice);
+        self.find(Spot::Path { position, path }, pattern)
+    }
+}
+
+impl<E: Write> Visitor for Search<'_, '_, E> {
+    fn pattern(&mut self, entry: Entry<'_>) -> Result<(), RunError> {
+        match entry.spot {
+            Spot::Line(line) => {
+                if self.takes_line(line)? {
+                    self.find(Spot::Line(line), entry.pattern)?;
                 }
+                Ok(())
             }
-            trail.pass(token)?;
+            Spot::Value { position, path, .. } => self.see_text(position, path, entry.pattern),
+            Spot::Path { .. } | Spot::Source(_) => Ok(()),
         }
-        self.report(Missing::Path(choice))
     }
 
-    /// The pattern that the text after the file's name chooses, where a byte order mark is no part of a pattern.
-    fn chosen<R: BufRead>(
-        &mut self,
-        reader: &mut R,
-        rest: &'a str,
-    ) -> Result<Option<FilePattern<'a>>, RunError> {
-        let start = match Start::take(self.alloc, reader) {
-            Ok(start) => start,
-            Err(error) => return self.refuse(error),
+    fn unread(&mut self, unread: Unread<'_>) -> Result<(), RunError> {
+        let is_chosen = match (unread.line, &unread.reason) {
+            (Some(_), UnreadReason::NotText(line)) => self.takes_line(*line)?,
+            _ => true,
         };
-        let mut reader = start.chain(reader);
-        match ChosenPattern::of(rest.strip_prefix(':').unwrap_or(rest)) {
-            ChosenPattern::OnlyLine => self.only(&mut reader),
-            ChosenPattern::Line(number) => self.numbered(&mut reader, number),
-            ChosenPattern::Path(path) => self.value(&mut reader, path),
+        if is_chosen {
+            writeln!(self.err, "{unread}")?;
+            self.found = Found::Refused;
+        }
+        Ok(())
+    }
+
+    fn byte_order_mark(&mut self) -> Result<(), RunError> {
+        Ok(())
+    }
+
+    fn is_done(&self) -> bool {
+        match (&self.found, self.choice) {
+            (Found::Nothing, ChosenPattern::Line { number, .. }) => number == 0,
+            (Found::Nothing, ChosenPattern::Path(_)) => false,
+            (Found::Pattern(_), ChosenPattern::Line { is_only, .. }) => !is_only,
+            (Found::Pattern(_), ChosenPattern::Path(_)) | (Found::Refused, _) => true,
+        }
+    }
+}
+
+/// Looks for the pattern that the text after the file's name chooses.
+fn read_chosen<'a, R: BufRead, E: Write>(
+    alloc: Global,
+    file: &'a str,
+    rest: &'a str,
+    reader: &mut R,
+    err: &mut E,
+) -> Result<Option<FilePattern<'a>>, RunError> {
+    let choice = ChosenPattern::of(rest.strip_prefix(':').unwrap_or(rest));
+    let mut search = Search {
+        alloc,
+        file,
+        choice,
+        found: Found::Nothing,
+        err,
+    };
+    match choice {
+        ChosenPattern::Line { .. } => {
+            visit_lines(
+                alloc,
+                FileFormat::Records(Ending::Line),
+                file,
+                reader,
+                &mut search,
+            )?;
+        }
+        ChosenPattern::Path(_) => {
+            visit_texts(alloc, TextShape::ALL, file, reader, &mut search)?;
+        }
+    }
+    let Search { found, err, .. } = search;
+    match found {
+        Found::Pattern(pattern) => Ok(Some(pattern)),
+        Found::Refused => Ok(None),
+        Found::Nothing => {
+            writeln!(err, "patterns: {file}: {}", choice.missing())?;
+            Ok(None)
         }
     }
 }
@@ -252,6 +284,16 @@ fn after_input(position: &str) -> Option<&str> {
     (rest.is_empty() || rest.starts_with(':')).then_some(rest)
 }
 
+/// Says that the file cannot be opened.
+fn refuse<'a, E: Write>(
+    file: &str,
+    error: io::Error,
+    err: &mut E,
+) -> Result<Option<FilePattern<'a>>, RunError> {
+    writeln!(err, "{}", Unread::by_system(file, error)?)?;
+    Ok(None)
+}
+
 /// Reads the pattern at the position: the only line of `FILE`; or that of `FILE:LINE`; or the text of JSON that is
 /// `FILE:PATH`, with the path as reports write it. Columns may follow. The file `-` is standard input. The name of the
 /// file may have colons: it is the longest beginning that names a file. `None` if there is no such pattern or it cannot be
@@ -263,24 +305,19 @@ pub fn read_pattern<'a, S: Sources, E: Write>(
     err: &mut E,
 ) -> Result<Option<FilePattern<'a>>, RunError> {
     if let Some(rest) = after_input(position) {
-        let mut reader = FileReader {
-            alloc,
-            file: STANDARD_INPUT,
-            err,
-        };
         return match sources.input() {
-            Ok(mut input) => reader.chosen(&mut input, rest),
-            Err(error) => reader.refuse(error),
+            Ok(mut input) => read_chosen(alloc, STANDARD_INPUT, rest, &mut input, err),
+            Err(error) => refuse(STANDARD_INPUT, error, err),
         };
     }
     match open(position, sources) {
         Ok((file, mut opened)) => {
             let rest = position.get(file.len()..).unwrap_or("");
-            FileReader { alloc, file, err }.chosen(&mut opened, rest)
+            read_chosen(alloc, file, rest, &mut opened, err)
         }
         Err(error) => {
             let file = position.split_once(':').map_or(position, |parts| parts.0);
-            FileReader { alloc, file, err }.refuse(error)
+            refuse(file, error, err)
         }
     }
 }

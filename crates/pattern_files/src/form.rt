@@ -38,8 +38,8 @@ pub enum NamedFormat {
     /// Each line is a pattern.
     Lines,
     Json,
-    /// It is a property list or YAML, which no option reads.
-    Unreadable,
+    /// It is a property list or YAML, whose patterns have to be extracted.
+    Extracted,
     /// Nothing: it may be a source.
     Unknown,
 }
@@ -54,19 +54,20 @@ static EXTENSIONS: [(&str, NamedFormat); 13] = [
     ("lst", NamedFormat::Lines),
     ("list", NamedFormat::Lines),
     ("json", NamedFormat::Json),
-    ("tmLanguage", NamedFormat::Unreadable),
-    ("plist", NamedFormat::Unreadable),
-    ("sublime-syntax", NamedFormat::Unreadable),
-    ("yaml", NamedFormat::Unreadable),
-    ("yml", NamedFormat::Unreadable),
+    ("tmLanguage", NamedFormat::Extracted),
+    ("plist", NamedFormat::Extracted),
+    ("sublime-syntax", NamedFormat::Extracted),
+    ("yaml", NamedFormat::Extracted),
+    ("yml", NamedFormat::Extracted),
 ];
 
 /// That a file of JSON is read as lines, and how it can be read.
 const ADVICE_ON_JSON: &str =
-    "each line is read as a pattern; with --textmate or --keys, check, lint and groups read JSON";
+    "each line is read as a pattern; with --textmate or --keys, check, lint, groups and format read JSON";
 
-/// That a file is read as lines whose format no option reads.
-const ADVICE_ON_UNREADABLE: &str = "each line is read as a pattern; no option reads this format";
+/// That a file is read as lines whose format is read as records, and how it can be.
+const ADVICE_ON_EXTRACTED: &str =
+    "each line is read as a pattern; --records reads what python -m fancy extract finds in it";
 
 /// Why lines are not written to a file of JSON, and how its patterns can be.
 const REFUSAL_OF_JSON: &str = "not written, since its name is not that of a file of patterns: \
@@ -94,7 +95,7 @@ impl NamedFormat {
     pub fn advice(self) -> Option<&'static str> {
         match self {
             NamedFormat::Json => Some(ADVICE_ON_JSON),
-            NamedFormat::Unreadable => Some(ADVICE_ON_UNREADABLE),
+            NamedFormat::Extracted => Some(ADVICE_ON_EXTRACTED),
             NamedFormat::Lines | NamedFormat::Unknown => None,
         }
     }
@@ -104,7 +105,7 @@ impl NamedFormat {
         match self {
             NamedFormat::Lines => None,
             NamedFormat::Json => Some(REFUSAL_OF_JSON),
-            NamedFormat::Unreadable | NamedFormat::Unknown => Some(REFUSAL_OF_SOURCE),
+            NamedFormat::Extracted | NamedFormat::Unknown => Some(REFUSAL_OF_SOURCE),
         }
     }
 }

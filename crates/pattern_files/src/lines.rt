@@ -46,8 +46,15 @@ pub struct LineRecord<'b> {
     pub end: &'b [u8],
 }
 
+impl LineRecord<'_> {
+    /// How many bytes it takes, with its end.
+    pub fn len(&self) -> usize {
+        self.text.len().saturating_add(self.end.len())
+    }
+}
+
 /// Reads the next record into the buffer, in the place of what it held; none where nothing is left to read.
-pub fn next_record<'b, R: BufRead>(
+pub(crate) fn next_record<'b, R: BufRead>(
     reader: &mut R,
     ending: Ending,
     buffer: &'b mut Vec<u8>,
@@ -63,14 +70,14 @@ pub fn next_record<'b, R: BufRead>(
 
 /// The start of a reader: whether it is the byte order mark, and if not, its bytes, which are still to be read.
 #[derive(Drop)]
-pub struct Start {
-    pub has_bom: bool,
+pub(crate) struct Start {
+    pub(crate) has_bom: bool,
     unread: Vec<u8>,
 }
 
 impl Start {
     /// Takes the start off the reader. It waits for no more than the first byte, unless that may begin a byte order mark.
-    pub fn take<R: BufRead>(alloc: Global, reader: &mut R) -> io::Result<Start> {
+    pub(crate) fn take<R: BufRead>(alloc: Global, reader: &mut R) -> io::Result<Start> {
         let mut unread = Vec::new(alloc);
         if reader.fill_buf()?.first() == BOM.first() {
             reader.take(BOM.len() as u64).read_to_end(&mut unread)?;
@@ -82,8 +89,13 @@ impl Start {
         Ok(Start { has_bom, unread })
     }
 
+    /// The byte offset up to which it is passed over.
+    pub(crate) fn offset(&self) -> usize {
+        if self.has_bom { BOM.len() } else { 0 }
+    }
+
     /// The reader from its start on, or from past the byte order mark.
-    pub fn chain<'s, R: BufRead>(&'s self, reader: &'s mut R) -> Chain<&'s [u8], &'s mut R> {
+    pub(crate) fn chain<'s, R: BufRead>(&'s self, reader: &'s mut R) -> Chain<&'s [u8], &'s mut R> {
         self.unread.as_slice().chain(reader)
     }
 }

@@ -1,10 +1,12 @@
 //! Records of patterns that were extracted from sources: each is an object of JSON.
-use crate::source_positions::SourcePositions;
+use crate::entry::Entry;
 use crate::values::trail::Tokens;
 use fre_program::flag_word::{FLAG_WORD, flags_named};
 use json::{Scratch, Token};
-use patterns_text::position::FilePosition;
-use source_literals::source_change::{LiteralSpan, Spelling};
+use patterns_text::position::{FilePosition, Spot};
+use patterns_text::source_positions::SourcePositions;
+use source_literals::replaced::ByteSpan;
+use source_literals::source_change::{CharacterChange, Spelling};
 use source_literals::source_syntax::SourceSyntax;
 use std::alloc::{AllocError, Global};
 use std::fmt;
@@ -128,7 +130,7 @@ impl fmt::Display for RecordRefusal {
 
 /// Why a record was not read.
 #[derive(Debug, Drop, Error)]
-pub enum RecordError {
+pub(crate) enum RecordError {
     /// Out of memory.
     #[error("out of memory")]
     Memory(#[from(alloc)] AllocError),
@@ -191,9 +193,64 @@ pub struct Record<'a> {
     pub flags: Option<u32>,
     /// The name of its source, if that is known.
     pub file: Option<&'a str>,
+    /// The line that the record is.
+    pub line: u64,
     pub positions: SourcePositions,
     /// How its source spells it, if that is known.
     pub spelling: Option<Spelling>,
+}
+
+impl<'a> Record<'a> {
+    /// The pattern, as one of the file of records.
+    pub(crate) fn entry(&'a self, file: &'a str) -> Entry<'a> {
+        Entry {
+            pattern: self.pattern,
+            flags: self.flags,
+            file: self.file.unwrap_or(file),
+            spot: Spot::Source(&self.positions),
+            span: ByteSpan { start: 0, end: 0 },
+            contents: self.pattern,
+            end: b"\n",
+            key: "",
+            grammar: None,
+            record: Some(self),
+        }
+    }
+}
+
+/// The numbers of the characters after the changes, and the last number, which is that of the end. A character that is added
+/// has the number of the one after it.
+fn changed_numbers(
+    alloc: Global,
+    numbers: &[u64],
+    changes: &[CharacterChange],
+) -> Result<Vec<u64>, AllocError> {
+    let mut left = Vec::new(alloc);
+    for (index, number) in numbers.iter().enumerate() {
+        let change = changes.get(index);
+        if change.is_some_and(|change| change.added.is_some()) {
+            left.push(*number)?;
+        }
+        if change.is_none_or(|change| change.is_kept) {
+            left.push(*number)?;
+        }
+    }
+    Ok(left)
+}
+
+/// Where the characters of a pattern are after these changes of each of its characters.
+pub fn changed_positions(
+    alloc: Global,
+    positions: &SourcePositions,
+    changes: &[CharacterChange],
+) -> Result<SourcePositions, AllocError> {
+    Ok(SourcePositions {
+        line: positions.line,
+        column: positions.column,
+        has_column: positions.has_column,
+        columns: changed_numbers(alloc, &positions.columns, changes)?,
+        lines: changed_numbers(alloc, &positions.lines, changes)?,
+    })
 }
 
 /// Reads a record, whose text is JSON.
@@ -318,7 +375,7 @@ fn positions_of(
     let columns = numbers_of(alloc, members.columns, Member::Columns, length)?;
     let lines = numbers_of(alloc, members.lines, Member::Lines, length)?;
     if members.file.is_none() {
-        return Ok(SourcePositions::of_line(alloc, own_line));
+        return Ok(SourcePositions::of(alloc, own_line, 1));
     }
     Ok(SourcePositions {
         line: members.line.unwrap_or(1),
@@ -330,13 +387,13 @@ fn positions_of(
 }
 
 /// The spans of literals, of which a list has the starts and the ends.
-fn literals_of(alloc: Global, list: NumberList) -> Result<Vec<LiteralSpan>, RecordError> {
+fn literals_of(alloc: Global, list: NumberList) -> Result<Vec<ByteSpan>, RecordError> {
     let mut literals = Vec::new(alloc);
     for pair in list.numbers.chunks(2) {
         let [start, end] = pair else {
             return Err(refused(list.position, RecordProblem::OddLiterals));
         };
-        literals.push(LiteralSpan {
+        literals.push(ByteSpan {
             start: *start as usize,
             end: *end as usize,
         })?;
@@ -375,6 +432,7 @@ fn record_of<'a>(
         pattern,
         flags,
         file,
+        line,
         positions: positions_of(alloc, members, length, line)?,
         spelling,
     })
@@ -384,7 +442,7 @@ fn record_of<'a>(
 /// pattern, has a member with a value of another type or other letters than those of flags, a list that has not one entry for
 /// each character and one for the end, or literals without an end. Other members are passed over, and a syntax that is not
 /// known.
-pub fn read_record<'a>(
+pub(crate) fn read_record<'a>(
     alloc: Global,
     text: &'a str,
     line: u64,

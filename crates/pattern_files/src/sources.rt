@@ -1,23 +1,11 @@
 //! What a run asks the system for.
-use patterns_text::error::RunError;
-use patterns_text::shown::Shown;
-use std::alloc::AllocError;
 use std::io;
-use std::io::{BufRead, ErrorKind, Write};
+use std::io::BufRead;
 use std::time::Clock;
 use thiserror::Error;
 
 /// The file name that stands for standard input.
 pub const STANDARD_INPUT: &str = "-";
-
-/// Says that a file cannot be opened, or not be read further; gives up if that is because memory ran out.
-pub fn write_unread<E: Write>(file: &str, error: io::Error, err: &mut E) -> Result<(), RunError> {
-    if error.kind() == ErrorKind::OutOfMemory {
-        return Err(RunError::Memory(AllocError));
-    }
-    writeln!(err, "patterns: {}: {error}", Shown(file))?;
-    Ok(())
-}
 
 /// Why a file is not replaced.
 #[derive(Debug, Drop, Error)]

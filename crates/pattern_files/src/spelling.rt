@@ -1,30 +1,8 @@
 //! What a pattern that is fixed or formatted is written as in its file.
 use crate::lines::{BOM, breaks_line};
+use json::{Reader, Scratch, Token};
 use source_literals::source_change::CharacterChange;
 use std::alloc::{AllocError, Global};
-
-/// Whether the text begins with a byte order mark, and the pattern does not.
-pub fn begins_with_bom(text: &str, pattern: &str) -> bool {
-    text.as_bytes().starts_with(BOM) && !pattern.as_bytes().starts_with(BOM)
-}
-
-/// Whether the text is one record in the place of the pattern, which is one.
-pub fn is_record(text: &str, pattern: &str) -> bool {
-    !begins_with_bom(text, pattern) && !breaks_line(text, pattern)
-}
-
-/// What is between the quotes of the string of JSON that begins with the quote at the offset.
-pub fn string_contents(json: &str, quote: usize) -> &str {
-    let contents = json.get(quote.saturating_add(1)..).unwrap_or("");
-    let mut is_escaped = false;
-    for (i, c) in contents.char_indices() {
-        if c == '"' && !is_escaped {
-            return contents.get(..i).unwrap_or("");
-        }
-        is_escaped = c == '\\' && !is_escaped;
-    }
-    contents
-}
 
 /// How many bytes the character takes that the contents of a string of JSON begin with.
 fn spelled_len(contents: &str, c: char) -> usize {
@@ -209,7 +187,7 @@ fn push_spelled(alloc: Global, spelled: &mut String, c: char) -> Result<(), Allo
 
 /// The text as the contents of a string of JSON. Each of its characters that the pattern has is spelled as in the contents of
 /// the pattern's string.
-pub fn respelled(
+fn respelled(
     alloc: Global,
     contents: &str,
     pattern: &str,
@@ -224,4 +202,58 @@ pub fn respelled(
         }
     }
     Ok(spelled)
+}
+
+/// Whether a string of JSON with these contents is read as the text.
+fn is_read_as(alloc: Global, contents: &str, text: &str) -> Result<bool, AllocError> {
+    let json = format!(in alloc; "\"{contents}\"")?;
+    let mut scratch = Scratch::new(alloc);
+    let mut reader = Reader::new(json.as_str(), &mut scratch)?;
+    let is_text = matches!(reader.next(), Some(Token::String(read)) if read == text);
+    Ok(is_text && reader.next().is_none())
+}
+
+/// In what a pattern is spelled.
+#[derive(Clone, Copy, PartialEq, Eq)]
+pub enum SpelledIn {
+    /// A line or a record. The text has no line end that the pattern does not have.
+    Line,
+    /// A line or a record, of which the text may make several lines.
+    Lines,
+    /// A string of JSON.
+    Json,
+}
+
+/// Whether the text can be written in the place of the pattern: in a line, without a line end or a byte order mark at the start
+/// that the pattern does not have.
+pub fn fits(form: SpelledIn, text: &str, pattern: &str) -> bool {
+    let has_new_bom = text.as_bytes().starts_with(BOM) && !pattern.as_bytes().starts_with(BOM);
+    match form {
+        SpelledIn::Line => !has_new_bom && !breaks_line(text, pattern),
+        SpelledIn::Lines => !has_new_bom,
+        SpelledIn::Json => true,
+    }
+}
+
+/// How the text is spelled in the place of a pattern that has these contents there. None if it would be read as another:
+/// in a line, with a line end or a byte order mark at the start that the pattern does not have.
+pub fn spelled(
+    alloc: Global,
+    form: SpelledIn,
+    contents: &str,
+    pattern: &str,
+    text: &str,
+) -> Result<Option<String>, AllocError> {
+    let (spelling, is_read) = match form {
+        SpelledIn::Json => {
+            let spelling = respelled(alloc, contents, pattern, text)?;
+            let is_read = is_read_as(alloc, spelling.as_str(), text)?;
+            (spelling, is_read)
+        }
+        SpelledIn::Line | SpelledIn::Lines => {
+            let is_read = fits(form, text, pattern);
+            (String::from_str(alloc, text)?, is_read)
+        }
+    };
+    Ok(is_read.then_some(spelling))
 }

@@ -1,66 +1,46 @@
 //! Patterns that are texts in a file of JSON.
 pub mod keys;
 mod nesting;
-pub mod open_rules;
-pub mod refusal;
+pub(crate) mod open_rules;
+pub(crate) mod refusal;
 mod strings;
-pub mod trail;
+pub(crate) mod trail;
 
+use crate::entry::UnreadReason;
 use crate::lines::BOM;
-use crate::values::refusal::{JsonText, write_not_text, write_refusal, write_too_long};
+use crate::values::refusal::refusal_of;
 use json::{MAX_LEN, Scratch, is_valid};
-use patterns_text::error::RunError;
 use std::alloc::{AllocError, Global};
-use std::io::Write;
 use std::str;
 
-/// The text of a file of JSON, without a byte order mark; an empty one where it cannot be read as JSON.
-pub fn valid_text_of(alloc: Global, bytes: &[u8]) -> Result<&str, AllocError> {
-    let Ok(text) = str::from_utf8(bytes.strip_prefix(BOM).unwrap_or(bytes)) else {
-        return Ok("");
-    };
-    let mut scratch = Scratch::new(alloc);
-    if text.len() <= MAX_LEN && is_valid(text, &mut scratch)? {
-        return Ok(text);
-    }
-    Ok("")
-}
-
-/// Whether a text is read as JSON. If not, `err` says where and why.
-pub fn is_json<E: Write>(
+/// Why a text is not read as JSON, if it is not: a file, or the line of this number.
+pub(crate) fn json_problem(
     alloc: Global,
-    of: JsonText<'_>,
     text: &str,
-    err: &mut E,
-) -> Result<bool, RunError> {
+    line: Option<u64>,
+) -> Result<Option<UnreadReason>, AllocError> {
     if text.len() > MAX_LEN {
-        write_too_long(err, of.file)?;
-        return Ok(false);
+        return Ok(Some(UnreadReason::TooLong));
     }
     let mut scratch = Scratch::new(alloc);
     if is_valid(text, &mut scratch)? {
-        return Ok(true);
+        return Ok(None);
     }
-    write_refusal(alloc, err, of, text)?;
-    Ok(false)
+    Ok(Some(UnreadReason::NotJson(refusal_of(alloc, text, line)?)))
 }
 
-/// The text of a file of JSON, without a byte order mark; none where it cannot be read as JSON, and then `err` says
-/// where and why.
-pub fn text_of<'a, E: Write>(
+/// The text of a file of JSON, without a byte order mark; or why it is not read.
+pub(crate) fn json_text(
     alloc: Global,
-    file: &str,
-    bytes: &'a [u8],
-    err: &mut E,
-) -> Result<Option<&'a str>, RunError> {
+    bytes: &[u8],
+) -> Result<Result<&str, UnreadReason>, AllocError> {
     let bytes = bytes.strip_prefix(BOM).unwrap_or(bytes);
     let text = match str::from_utf8(bytes) {
         Ok(text) => text,
-        Err(error) => {
-            write_not_text(err, file, bytes, error.valid_up_to())?;
-            return Ok(None);
-        }
+        Err(error) => return Ok(Err(UnreadReason::not_text(bytes, error.valid_up_to()))),
     };
-    let is_read = is_json(alloc, JsonText { file, line: None }, text, err)?;
-    Ok(is_read.then_some(text))
+    Ok(match json_problem(alloc, text, None)? {
+        Some(reason) => Err(reason),
+        None => Ok(text),
+    })
 }

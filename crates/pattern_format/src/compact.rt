@@ -373,6 +373,9 @@ pub(crate) fn in_line(
     let Some(mut text) = in_line_once(alloc, pattern, flags)? else {
         return Ok(None);
     };
+    if text.as_str() == pattern {
+        return Ok(Some(text));
+    }
     for _ in 0..MAX_ROUNDS {
         let Some(again) = in_line_once(alloc, text.as_str(), flags)? else {
             return Ok(None);

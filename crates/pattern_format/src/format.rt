@@ -91,12 +91,34 @@ fn styled(
     }))
 }
 
-/// The pattern formatted in the style to the greatest extent with which it reads back; None if there is no such extent. If it
-/// cannot be laid out, that is tried again when its lines are kept, so that a second formatting changes nothing.
+/// The text that is tried first: in the style Kept with all changes, in the others with its lines new; None if there is none.
+fn first_text(
+    alloc: Global,
+    pattern: &str,
+    parsed: &SpannedTree,
+    flags: u32,
+    style: Style,
+) -> std::result::Result<Option<Formatted>, AllocError> {
+    if style == Style::Kept {
+        let tokens = tokens_of(alloc, pattern, parsed)?;
+        let oniguruma_mode = Flags::from_bits(flags).oniguruma_mode;
+        let extent = Extent::Whole;
+        let text = text_of(alloc, &tokens, extent, oniguruma_mode)?;
+        return Ok(Some(Formatted { text, extent }));
+    }
+    let extent = Extent::Lines;
+    let text = in_lines_of(alloc, pattern, flags, style)?;
+    Ok(text.map(|text| Formatted { text, extent }))
+}
+
+/// The pattern formatted in the style to the greatest extent with which it reads back, where the first text is another one; None
+/// if there is no such extent. If it cannot be laid out, that is tried again when its lines are kept, so that a second formatting
+/// changes nothing.
 fn most_styled(
     alloc: Global,
     pattern: &str,
     parsed: &SpannedTree,
+    first: Option<Formatted>,
     flags: u32,
     style: Style,
 ) -> std::result::Result<Option<Formatted>, AllocError>
@@ -104,7 +126,16 @@ fn most_styled(
         (view parsed.now.tree.expr) (info_of parsed.now.tree)
         (comments style pattern.now (trivia_of parsed.now.trivia)))) }
 {
-    if let Some(formatted) = styled(alloc, pattern, parsed, pattern, flags, style)? {
+    if let Some(formatted) = first
+        && reads_back(
+            alloc,
+            pattern,
+            parsed,
+            formatted.text.as_str(),
+            flags,
+            style,
+        )?
+    {
         return Ok(Some(formatted));
     }
     let Some(kept) = most_formatted(alloc, pattern, parsed, flags, style)? else {
@@ -140,7 +171,11 @@ pub fn format_pattern(alloc: Global, pattern: &str, flags: u32, style: Style) ->
     ensures position { IfErr result (λ e. IsPositionedIn e pattern.now) }
 {
     let parsed = SpannedTree::parse(alloc, pattern, flags)?;
-    if let Some(formatted) = most_styled(alloc, pattern, &parsed, flags, style)? {
+    let first = match first_text(alloc, pattern, &parsed, flags, style)? {
+        Some(formatted) if formatted.text.as_str() == pattern => return Ok(formatted),
+        first => first,
+    };
+    if let Some(formatted) = most_styled(alloc, pattern, &parsed, first, flags, style)? {
         return Ok(formatted);
     }
     Ok(Formatted {

@@ -92,6 +92,9 @@ pub(crate) fn laid_out(
     let Some(mut text) = laid_out_once(alloc, pattern, flags, width)? else {
         return Ok(None);
     };
+    if text.as_str() == pattern {
+        return Ok(Some(text));
+    }
     for _ in 0..MAX_ROUNDS {
         let Some(again) = laid_out_once(alloc, text.as_str(), flags, width)? else {
             return Ok(None);

@@ -1,7 +1,14 @@
-//! Reports on patterns: as text, as JSON, and for other tools.
+//! Reports on patterns: as text, as JSON, as workflow commands of GitHub's actions, and as SARIF.
 #![tactic(auto)]
 
-pub mod annotations;
-pub mod objects;
+mod annotation;
+mod error_kinds;
+pub mod format;
+pub mod github;
+pub mod json_lines;
 pub mod reporter;
+pub mod reports;
+pub mod sarif;
+mod severity;
+pub mod streams;
 pub mod text;

@@ -8,11 +8,27 @@ use patterns_lint::chosen::Chosen;
 use patterns_lint::problem::Found;
 use patterns_text::error::RunError;
 use patterns_text::subject::{Refusal, Subject};
+use std::alloc::Global;
 
-/// What writes reports on patterns.
+/// What writes reports on patterns. An error is that memory ran out.
 pub trait Reporter {
+    /// Writes what comes before the reports. `is_lint` says whether likely mistakes are looked for.
+    fn begin(&mut self, _alloc: Global, _is_lint: bool) -> Result<(), RunError> {
+        Ok(())
+    }
+
     /// Writes where and why the pattern is invalid.
     fn error(&mut self, subject: Subject<'_>, refusal: &Refusal) -> Result<(), RunError>;
+
+    /// Writes why a valid pattern stays as it is, for what is at the position; for other tools nothing.
+    fn refuse(
+        &mut self,
+        _subject: Subject<'_>,
+        _position: usize,
+        _reason: &str,
+    ) -> Result<(), RunError> {
+        Ok(())
+    }
 
     /// Writes the likely mistakes in the pattern, whose tree this is, or the first ones and how many more there are. Each is
     /// of a rule that is not silent.
@@ -26,22 +42,25 @@ pub trait Reporter {
 
     /// Writes which parts of the pattern were not searched, since they are too large.
     fn not_searched(&mut self, subject: Subject<'_>, parts: &[Span]) -> Result<(), RunError>;
-}
 
-/// What writes the trees of patterns too.
-pub trait TreeReporter: Reporter {
-    /// Writes the groups of the pattern, and what its references and calls refer to.
-    fn groups(&mut self, subject: Subject<'_>, parsed: &SpannedTree) -> Result<(), RunError>;
+    /// Writes the groups of the pattern, and what its references and calls refer to; for other tools nothing.
+    fn groups(&mut self, _subject: Subject<'_>, _parsed: &SpannedTree) -> Result<(), RunError> {
+        Ok(())
+    }
 
-    /// Writes the tree of the pattern, and its group information.
-    fn tree(&mut self, subject: Subject<'_>, parsed: &SpannedTree) -> Result<(), RunError>;
+    /// Writes the tree of the pattern, and its group information; for other tools nothing.
+    fn tree(&mut self, _subject: Subject<'_>, _parsed: &SpannedTree) -> Result<(), RunError> {
+        Ok(())
+    }
 
-    /// Flushes the output.
-    fn flush(&mut self) -> Result<(), RunError>;
+    /// Writes what comes after the reports.
+    fn end(&mut self) -> Result<(), RunError> {
+        Ok(())
+    }
 }
 
 /// How many likely mistakes are reported of a pattern. Each report shows the pattern's line, which may be long.
-pub const MAX_REPORTS: usize = 100;
+pub(crate) const MAX_REPORTS: usize = 100;
 
 /// The tree of the pattern; `None` if the pattern is invalid, and then the error is reported.
 pub fn parse<R: Reporter>(

@@ -1,96 +1,73 @@
 //! Reports as lines of text.
-mod problem;
-
-use crate::reporter::{MAX_REPORTS, Reporter, TreeReporter};
-use crate::text::problem::{write_more, write_not_searched, write_report};
+use crate::reporter::{MAX_REPORTS, Reporter};
+use crate::severity::Severity;
+use crate::streams::{Stream, Streams};
 use fancy_spans::SpannedTree;
 use fancy_syntax::span::Span;
-use pattern_files::source_positions::{SourcePositions, subject_at};
 use patterns_lint::chosen::Chosen;
 use patterns_lint::problem::Found;
-use patterns_listing::drawing::{Look, Style, write_tree};
+use patterns_lint::slow::NOT_SEARCHED;
+use patterns_listing::drawing::{Look, write_tree};
 use patterns_listing::listing::{Lead, write_at, write_classes, write_numbered, write_references};
 use patterns_text::columns::ColumnTable;
 use patterns_text::error::RunError;
+use patterns_text::excerpt::{write_excerpt, write_refusal};
 use patterns_text::names::Names;
 use patterns_text::nodes::nodes_of;
+use patterns_text::paint::Ink;
 use patterns_text::shown::ShownLines;
 use patterns_text::subject::{Refusal, Subject};
+use std::io;
 use std::io::Write;
 
-/// One of the two outputs.
-#[derive(Clone, Copy)]
-pub enum Stream {
-    Out,
-    Err,
-}
-
-/// Reports as lines of text on `out`, and errors on `out` or `err`.
+/// Reports as lines of text: errors and likely mistakes on one of the streams, what was not searched on `err`, and groups and
+/// trees on `out`.
 #[derive(Drop)]
-pub struct Text<'a, 's, O, E> {
-    pub out: &'a mut O,
-    pub err: &'a mut E,
-    /// Where errors are written.
-    errors: Stream,
-    /// Where what is neither an error nor a report is written.
-    pub aside: Stream,
-    /// How trees are drawn.
-    pub look: Look,
-    /// Where the pattern is in its source, if it was extracted from one.
-    pub source: Option<&'s SourcePositions>,
+pub struct Text<'a> {
+    pub(crate) streams: &'a mut Streams,
+    pub(crate) stream: Stream,
+    pub(crate) look: Look,
 }
 
-impl<'a, 's, O: Write, E: Write> Text<'a, 's, O, E> {
-    /// Trees are drawn with the characters of Unicode, and without spans.
-    pub fn new(out: &'a mut O, err: &'a mut E, errors: Stream) -> Text<'a, 's, O, E> {
-        Text {
-            out,
-            err,
-            errors,
-            aside: Stream::Err,
-            look: Look {
-                style: Style::Lines,
-                has_spans: false,
-                has_each_literal: false,
-                has_classes: false,
-                has_trivia: false,
-            },
-            source: None,
-        }
-    }
-
-    /// The same, for a pattern that was extracted from a source, if it was.
-    pub fn of(
-        out: &'a mut O,
-        err: &'a mut E,
-        errors: Stream,
-        source: Option<&'s SourcePositions>,
-    ) -> Text<'a, 's, O, E> {
-        let mut text = Text::new(out, err, errors);
-        text.source = source;
-        text
-    }
-
-    /// Trees are drawn so, and errors are written to `err`.
-    pub fn drawn(out: &'a mut O, err: &'a mut E, look: Look) -> Text<'a, 's, O, E> {
-        Text {
-            out,
-            err,
-            errors: Stream::Err,
-            aside: Stream::Err,
-            look,
-            source: None,
-        }
-    }
+/// Writes a likely mistake: where and what, the line of the pattern with the part underlined, and help.
+fn write_problem(
+    out: &mut Vec<u8>,
+    subject: Subject<'_>,
+    severity: Severity,
+    found: Found<'_>,
+) -> io::Result<()> {
+    let Found {
+        span,
+        problem,
+        related,
+    } = found;
+    let subject = subject.part(span.start);
+    let (paint, ink) = (subject.at.reported, severity.ink());
+    let (bold, color, end) = (paint.begin(Ink::Position), paint.begin(ink), paint.end());
+    let position = subject.position(span.start);
+    write!(
+        out,
+        "{bold}{position}:{end} {color}{}{end}",
+        severity.word()
+    )?;
+    writeln!(out, ": {problem} [{}]", problem.rule().name())?;
+    write_excerpt(out, ink, subject, span, related)?;
+    writeln!(out, "help: {}", found.help(subject.pattern))
 }
 
-impl<O: Write, E: Write> Reporter for Text<'_, '_, O, E> {
+impl Reporter for Text<'_> {
     fn error(&mut self, subject: Subject<'_>, refusal: &Refusal) -> Result<(), RunError> {
-        let subject = subject_at(subject, self.source, refusal.position);
-        match self.errors {
-            Stream::Out => refusal.write(self.out, subject)?,
-            Stream::Err => refusal.write(self.err, subject)?,
-        }
+        refusal.write(self.streams.stream(self.stream), subject)
+    }
+
+    fn refuse(
+        &mut self,
+        subject: Subject<'_>,
+        position: usize,
+        reason: &str,
+    ) -> Result<(), RunError> {
+        let out = self.streams.stream(self.stream);
+        write_refusal(out, subject, position, reason, None)?;
         Ok(())
     }
 
@@ -101,28 +78,26 @@ impl<O: Write, E: Write> Reporter for Text<'_, '_, O, E> {
         chosen: &Chosen,
         found: &[Found<'_>],
     ) -> Result<(), RunError> {
+        let out = self.streams.stream(self.stream);
         for one in found.iter().take(MAX_REPORTS) {
-            let level = chosen.level(one.problem.rule());
-            let subject = subject_at(subject, self.source, one.span.start);
-            write_report(self.out, subject, level, *one)?;
+            let severity = Severity::of(chosen.level(one.problem.rule()));
+            write_problem(out, subject, severity, *one)?;
         }
-        write_more(self.out, subject, found.len().saturating_sub(MAX_REPORTS))?;
+        let more = found.len().saturating_sub(MAX_REPORTS);
+        if more > 0 {
+            writeln!(out, "{}: {more} more reports are not shown", subject.at)?;
+        }
         Ok(())
     }
 
     fn not_searched(&mut self, subject: Subject<'_>, parts: &[Span]) -> Result<(), RunError> {
         for span in parts.iter().take(MAX_REPORTS) {
-            let subject = subject_at(subject, self.source, span.start);
-            match self.aside {
-                Stream::Out => write_not_searched(self.out, subject, *span)?,
-                Stream::Err => write_not_searched(self.err, subject, *span)?,
-            }
+            let position = subject.part(span.start).position(span.start);
+            writeln!(self.streams.err, "{position}: note: {NOT_SEARCHED}")?;
         }
         Ok(())
     }
-}
 
-impl<O: Write, E: Write> TreeReporter for Text<'_, '_, O, E> {
     fn groups(&mut self, subject: Subject<'_>, parsed: &SpannedTree) -> Result<(), RunError> {
         let Subject {
             alloc,
@@ -130,30 +105,26 @@ impl<O: Write, E: Write> TreeReporter for Text<'_, '_, O, E> {
             pattern,
             ..
         } = subject;
-        write_at(self.out, at)?;
-        writeln!(self.out, "{}", ShownLines(pattern))?;
+        let out = &mut self.streams.out;
+        write_at(out, at)?;
+        writeln!(out, "{}", ShownLines(pattern))?;
         let names = Names::of(alloc, &parsed.tree)?;
         let nodes = nodes_of(alloc, parsed)?;
         let columns = ColumnTable::of(alloc, pattern, &nodes)?;
         let lead = Lead::At(at, &columns);
-        write_numbered(self.out, lead, &nodes, &names)?;
-        write_references(self.out, lead, &columns, &nodes, &names)?;
+        write_numbered(out, lead, &nodes, &names)?;
+        write_references(out, lead, &columns, &nodes, &names)?;
         if self.look.has_classes {
-            write_classes(self.out, lead, subject, &nodes)?;
+            write_classes(out, lead, subject, &nodes)?;
         }
         if parsed.tree.self_recursive {
-            write_at(self.out, at)?;
-            self.out.write_all(b"the pattern calls itself\n")?;
+            write_at(out, at)?;
+            out.write_all(b"the pattern calls itself\n")?;
         }
         Ok(())
     }
 
     fn tree(&mut self, subject: Subject<'_>, parsed: &SpannedTree) -> Result<(), RunError> {
-        write_tree(subject, self.look, parsed, self.out)
-    }
-
-    fn flush(&mut self) -> Result<(), RunError> {
-        self.out.flush()?;
-        Ok(())
+        write_tree(subject, self.look, parsed, &mut self.streams.out)
     }
 }

@@ -3,9 +3,9 @@ use crate::choices::{ConfigChoice, rule_names};
 use crate::config::{CONFIG_NAME, Config};
 use crate::config_error::ConfigError;
 use crate::glob::PathNames;
+use pattern_files::entry::Unread;
 use pattern_files::lines::BOM;
 use pattern_files::sources::{EntryKind, System};
-use pattern_files::values::refusal::write_not_text;
 use patterns_text::error::RunError;
 use patterns_text::shown::Shown;
 use std::alloc::{AllocError, Global};
@@ -146,7 +146,8 @@ impl<'a, S: System, E: Write> ConfigFinder<'a, S, E> {
         match str::from_utf8(bytes) {
             Ok(text) => Ok(Some(text)),
             Err(error) => {
-                write_not_text(self.err, file, bytes, error.valid_up_to())?;
+                let unread = Unread::not_text(file, bytes, error.valid_up_to());
+                writeln!(self.err, "{unread}")?;
                 Ok(None)
             }
         }

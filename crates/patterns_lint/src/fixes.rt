@@ -1,7 +1,4 @@
 //! A pattern with its reports fixed.
-use crate::chosen::{Chosen, Level};
-use crate::find::problems;
-use crate::known::Known;
 use crate::problem::{Found, Problem};
 use crate::slow::SlowParts;
 use class_rules::class_problem::ClassProblem;
@@ -16,7 +13,7 @@ use std::alloc::AllocError;
 
 /// How often reports of a pattern are fixed, the later ones after the earlier. Each time these are up to
 /// `pattern_fixes::fixed::MAX_FIXES`, so that only a pattern with thousands of them has some left.
-const MAX_ROUNDS: usize = 64;
+pub const MAX_ROUNDS: usize = 64;
 
 /// What is fixed of a class; none if there is no plain edit.
 fn kind_of_class(problem: ClassProblem) -> Option<FixKind> {
@@ -123,39 +120,12 @@ pub fn fixes_of<'p>(
     Ok(fixes)
 }
 
-/// The pattern with reports of rules that are not silent fixed, as many as can be fixed at once; none if none can be, or the
-/// pattern is invalid.
-fn fixed_once(
+/// The pattern with the reports fixed, as many as can be fixed at once, and nothing else changed; none if none can be.
+pub fn fixed(
     subject: Subject<'_>,
-    chosen: &Chosen,
-    known: &mut Known,
-) -> Result<Option<String>, RunError> {
-    let Ok(parsed) = subject.parse()? else {
-        return Ok(None);
-    };
-    let slow = SlowParts::new(subject.alloc);
-    let mut found = problems(subject, &parsed, None, known, &slow)?;
-    found.retain(|one| chosen.level(one.problem.rule()) != Level::Allow);
-    let reports = fixable_reports(subject, &parsed, &found)?;
-    Ok(parsed_pattern(subject, &parsed).fixed(&reports)?)
-}
-
-/// The pattern with the reports of rules that are not silent fixed, as far as that is possible; none if it stays as it is.
-pub fn fixed_pattern(
-    subject: Subject<'_>,
-    chosen: &Chosen,
-    known: &mut Known,
-) -> Result<Option<String>, RunError> {
-    let mut fixed = fixed_once(subject, chosen, known)?;
-    for _ in 1..MAX_ROUNDS {
-        let Some(text) = &fixed else {
-            return Ok(None);
-        };
-        let pattern = text.as_str();
-        match fixed_once(Subject { pattern, ..subject }, chosen, known)? {
-            Some(next) => fixed = Some(next),
-            None => break,
-        }
-    }
-    Ok(fixed)
+    parsed: &SpannedTree,
+    found: &[Found<'_>],
+) -> Result<Option<String>, AllocError> {
+    let reports = fixable_reports(subject, parsed, found)?;
+    parsed_pattern(subject, parsed).fixed(&reports)
 }

@@ -141,7 +141,7 @@ struct Drawing<'a> {
 
 impl Drawing<'_> {
     /// Writes what the node is.
-    fn write_label<O: Write>(&mut self, out: &mut O, node: &Expr) -> io::Result<()> {
+    fn write_label(&mut self, out: &mut Vec<u8>, node: &Expr) -> io::Result<()> {
         if is_reference(node) {
             return write_reference(out, node, &self.names, &self.columns);
         }
@@ -153,7 +153,7 @@ impl Drawing<'_> {
     }
 
     /// Writes what the node contains, if it is a class, and that is written.
-    fn write_class<O: Write>(&self, out: &mut O, node: &Expr) -> Result<(), RunError> {
+    fn write_class(&self, out: &mut Vec<u8>, node: &Expr) -> Result<(), RunError> {
         let Expr::Delegate { .. } = node else {
             return Ok(());
         };
@@ -165,7 +165,7 @@ impl Drawing<'_> {
     }
 
     /// Writes the span and the text there, if spans are written, and ends the line.
-    fn end_line<O: Write>(&self, out: &mut O, span: Span) -> io::Result<()> {
+    fn end_line(&self, out: &mut Vec<u8>, span: Span) -> io::Result<()> {
         if self.look.has_spans {
             let text = span.text(self.pattern).unwrap_or("");
             let colon = if text.is_empty() { "" } else { ": " };
@@ -181,7 +181,7 @@ impl Drawing<'_> {
     }
 
     /// Begins a line; `role` is what its node is to the parent.
-    fn begin_line<O: Write>(&self, out: &mut O, role: &str) -> io::Result<()> {
+    fn begin_line(&self, out: &mut Vec<u8>, role: &str) -> io::Result<()> {
         let branches = BranchLines {
             style: self.look.style,
             lasts: &self.lasts,
@@ -190,9 +190,9 @@ impl Drawing<'_> {
     }
 
     /// Writes the node's line; `role` is what it is to its parent.
-    fn write_line<O: Write>(
+    fn write_line(
         &mut self,
-        out: &mut O,
+        out: &mut Vec<u8>,
         role: &str,
         node: SpannedNode<'_>,
     ) -> Result<(), RunError> {
@@ -204,7 +204,7 @@ impl Drawing<'_> {
     }
 
     /// Writes the line of the run, after which there is none.
-    fn write_run<O: Write>(&mut self, out: &mut O, role: &str) -> io::Result<()> {
+    fn write_run(&mut self, out: &mut Vec<u8>, role: &str) -> io::Result<()> {
         self.begin_line(out, role)?;
         let literal = LiteralWords {
             text: self.run.text.as_str(),
@@ -217,7 +217,7 @@ impl Drawing<'_> {
     }
 
     /// Draws the run, if there is one, below the branches that are drawn.
-    fn end_run<O: Write>(&mut self, out: &mut O, is_last: bool) -> Result<(), RunError> {
+    fn end_run(&mut self, out: &mut Vec<u8>, is_last: bool) -> Result<(), RunError> {
         if self.run.text.is_empty() {
             return Ok(());
         }
@@ -229,9 +229,9 @@ impl Drawing<'_> {
 
     /// Adds the child to the run if it is a literal of a concatenation, and runs are drawn; ends the run if it does not take
     /// the child. Returns whether the child is in the run now.
-    fn add_to_run<O: Write>(
+    fn add_to_run(
         &mut self,
-        out: &mut O,
+        out: &mut Vec<u8>,
         parent: &Expr,
         child: SpannedNode<'_>,
     ) -> Result<bool, RunError> {
@@ -250,9 +250,9 @@ impl Drawing<'_> {
     }
 
     /// Draws the node as one literal if it is a run, and runs are drawn. Returns whether it is drawn.
-    fn draw_as_run<O: Write>(
+    fn draw_as_run(
         &mut self,
-        out: &mut O,
+        out: &mut Vec<u8>,
         role: &str,
         node: SpannedNode<'_>,
     ) -> Result<bool, RunError> {
@@ -304,8 +304,8 @@ pub fn role(parent: &Expr, following: usize) -> &'static str {
 }
 
 /// Draws the node and those below it, below the branches that are drawn.
-fn draw<O: Write>(
-    out: &mut O,
+fn draw(
+    out: &mut Vec<u8>,
     drawing: &mut Drawing<'_>,
     as_what: &str,
     node: SpannedNode<'_>,
@@ -328,11 +328,11 @@ fn draw<O: Write>(
 }
 
 /// Draws the pattern's tree, writes its group information, and lists what no node has, if that is listed.
-pub fn write_tree<O: Write>(
+pub fn write_tree(
     subject: Subject<'_>,
     look: Look,
     parsed: &SpannedTree,
-    out: &mut O,
+    out: &mut Vec<u8>,
 ) -> Result<(), RunError> {
     let Subject { alloc, pattern, .. } = subject;
     let nodes = nodes_of(alloc, parsed)?;
@@ -356,6 +356,5 @@ pub fn write_tree<O: Write>(
     if look.has_trivia {
         write_trivia(out, pattern, &parsed.trivia)?;
     }
-    out.flush()?;
     Ok(())
 }

@@ -16,7 +16,7 @@ use std::io;
 use std::io::Write;
 
 /// Begins a line on the whole pattern with its file and line.
-pub fn write_at<O: Write>(out: &mut O, at: Location<'_>) -> io::Result<()> {
+pub fn write_at(out: &mut Vec<u8>, at: Location<'_>) -> io::Result<()> {
     let (bold, end) = (at.listed.begin(Ink::Position), at.listed.end());
     write!(out, "{bold}{at}:{end} ")
 }
@@ -32,7 +32,7 @@ pub enum Lead<'a> {
 
 impl Lead<'_> {
     /// Begins the line of what has the span.
-    fn write<O: Write>(self, out: &mut O, span: Span) -> io::Result<()> {
+    fn write(self, out: &mut Vec<u8>, span: Span) -> io::Result<()> {
         match self {
             Lead::Indent => out.write_all(b"  "),
             Lead::At(at, columns) => {
@@ -43,7 +43,7 @@ impl Lead<'_> {
     }
 
     /// Begins a line on the whole pattern.
-    fn write_whole<O: Write>(self, out: &mut O) -> io::Result<()> {
+    fn write_whole(self, out: &mut Vec<u8>) -> io::Result<()> {
         match self {
             Lead::Indent => out.write_all(b"  "),
             Lead::At(at, _) => write_at(out, at),
@@ -52,8 +52,8 @@ impl Lead<'_> {
 }
 
 /// Writes the groups that have a number, a line each.
-pub fn write_numbered<O: Write>(
-    out: &mut O,
+pub fn write_numbered(
+    out: &mut Vec<u8>,
     lead: Lead<'_>,
     nodes: &[SpannedNode<'_>],
     names: &Names<'_>,
@@ -74,8 +74,8 @@ pub fn write_numbered<O: Write>(
 }
 
 /// Writes the references and calls in the order of the text, a line each. The table has the columns of the nodes.
-pub fn write_references<O: Write>(
-    out: &mut O,
+pub fn write_references(
+    out: &mut Vec<u8>,
     lead: Lead<'_>,
     columns: &ColumnTable,
     nodes: &[SpannedNode<'_>],
@@ -92,8 +92,8 @@ pub fn write_references<O: Write>(
 }
 
 /// Writes the classes in the order of the text, a line each: what each is, and what it contains.
-pub fn write_classes<O: Write>(
-    out: &mut O,
+pub fn write_classes(
+    out: &mut Vec<u8>,
     lead: Lead<'_>,
     subject: Subject<'_>,
     nodes: &[SpannedNode<'_>],

@@ -34,11 +34,7 @@ impl fmt::Display for KindWords {
 }
 
 /// Writes what no node has, in the order of the text, a line each: what it is, its span, and its text.
-pub(crate) fn write_trivia<O: Write>(
-    out: &mut O,
-    pattern: &str,
-    trivia: &[Trivium],
-) -> io::Result<()> {
+pub(crate) fn write_trivia(out: &mut Vec<u8>, pattern: &str, trivia: &[Trivium]) -> io::Result<()> {
     for Trivium { span, kind } in trivia {
         writeln!(
             out,

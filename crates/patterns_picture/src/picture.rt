@@ -55,7 +55,9 @@ fn draw_or_report<O: Write, E: Write>(
             Ok(0)
         }
         Err(refusal) => {
-            refusal.write(err, subject)?;
+            let mut report = Vec::new(subject.alloc);
+            refusal.write(&mut report, subject)?;
+            err.write_all(&report)?;
             Ok(1)
         }
     }

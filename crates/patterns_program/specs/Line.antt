@@ -10,8 +10,8 @@ use Rattle.fancy_syntax.specs.InfoViews.{IsTreeOf}
 use Rattle.fancy_syntax.specs.GroupInfo.{GroupInfo}
 use Rattle.fancy_syntax.specs.Tree.{Tree}
 use Rattle.pattern_files.specs.Line.{breaks_line}
-use Rattle.patterns_program.specs.declared.printing.Comments.{Comments}
-use Rattle.patterns_program.specs.declared.printing.Comments.TheVariants as kept
+use Rattle.patterns_program.specs.declared.canonical.Comments.{Comments}
+use Rattle.patterns_program.specs.declared.canonical.Comments.TheVariants as kept
 
 -- comments are to be kept, and the pattern may have one: it holds a `#`
 abbrev pub MayKeep : Comments → List ℕ → Type 0
@@ -35,7 +35,7 @@ Stays f pattern =
     (t : Tree) × (m : GroupInfo) × IsTreeOf f (chars pattern) t m
     × (IsLineOf f pattern t m pattern ⊎ HasNoLine f pattern t m)
 
--- the line of the pattern's tree is another: it is written otherwise
-abbrev pub Changes : Flags → List ℕ → Type 0
-Changes f pattern =
-    (t : Tree) × (m : GroupInfo) × (w : List ℕ) × IsTreeOf f (chars pattern) t m × IsLineOf f pattern t m w × (w ≢ pattern)
+-- the bytes are the line of the pattern's tree, and not the pattern
+abbrev pub Changes : Flags → List ℕ → List ℕ → Type 0
+Changes f pattern w =
+    (t : Tree) × (m : GroupInfo) × IsTreeOf f (chars pattern) t m × IsLineOf f pattern t m w × (w ≢ pattern)

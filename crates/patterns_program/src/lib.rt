@@ -1,32 +1,20 @@
-//! What the program `patterns` does: it reads files with one pattern per line, or with patterns in JSON, and does with each
-//! what a subcommand says. The tests of this crate are `patterns_tests`, and the folder `data` of `patterns`, which `.ci/patterns` reads.
+//! The work of the program `patterns`: which files it reads, and what it does with each pattern. The tests of this crate are
+//! `patterns_tests`, and the folder `data` of `patterns`, which `.ci/patterns` reads.
 #![tactic(auto)]
 
-mod annotations;
+pub mod canonical;
+mod change;
+mod changes;
 mod check;
-pub mod choices;
-mod configs;
 pub mod draw;
-pub mod file_pattern;
-mod first_comment;
-pub mod fixes;
-pub mod form;
-pub mod formatted;
 mod groups;
-pub mod lines;
+pub mod job;
 mod lint;
-pub mod objects;
 mod outcome;
 pub mod pattern_flags;
-mod plan;
-pub mod printing;
 mod progress;
-mod record;
-mod reporter;
+pub mod rewriting;
 pub mod run;
-mod settings;
-mod source_positions;
-pub mod sources;
+mod source_changes;
 mod tally;
-mod text;
-pub mod values;
+mod work;

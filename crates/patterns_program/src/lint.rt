@@ -1,21 +1,36 @@
-//! The subcommand `lint`: likely mistakes in patterns that are accepted.
+//! The command `lint`: likely mistakes in patterns that are accepted.
 ghost use Rattle.std.specs.Prelude.{◌≡◌, ◌⊎◌, Ok, Contains};
 ghost use Rattle.std.specs.Bool.{OnTrue};
 ghost use Rattle.patterns_lint.specs.declared.chosen.Level.{Level};
 ghost use Rattle.patterns_program.specs.declared.outcome.Outcome.{Outcome};
+ghost use Rattle.patterns_program.specs.declared.rewriting.Rewriting.TheVariants.{Stays};
 ghost use Rattle.patterns_text.specs.Subject.{IsAccepted, IsRefused};
 
 use crate::outcome::Outcome;
-use pattern_reports::reporter::{Reporter, parse};
+use crate::rewriting::Rewriting;
 use crate::tally::Tally;
+use pattern_reports::reporter::{Reporter, parse};
+use pattern_reports::reports::Reports;
 use patterns_lint::chosen::{Chosen, Level};
 use patterns_lint::find::problems;
-use patterns_lint::grammar_rule::GrammarRule;
+use patterns_lint::fixes::{MAX_ROUNDS, fixed};
 use patterns_lint::known::Known;
 use patterns_lint::problem::Found;
 use patterns_lint::slow::SlowParts;
 use patterns_text::error::RunError;
+use patterns_text::grammar_rule::GrammarRule;
 use patterns_text::subject::Subject;
+
+/// What `lint` looks for in a pattern.
+#[derive(Clone, Copy)]
+pub(crate) struct LintRequest<'a> {
+    /// What the object around it says, if it is a pattern of a grammar.
+    pub(crate) grammar: Option<&'a GrammarRule>,
+    /// The levels of the rules.
+    pub(crate) chosen: &'a Chosen,
+    /// Whether reports are fixed that a plain edit fixes.
+    pub(crate) has_fixes: bool,
+}
 
 /// Counts the likely mistakes, and returns whether the rule of one is denied.
 fn count_denied(found: &[Found<'_>], chosen: &Chosen, tally: &mut Tally) -> bool
@@ -30,33 +45,74 @@ fn count_denied(found: &[Found<'_>], chosen: &Chosen, tally: &mut Tally) -> bool
     is_denied
 }
 
-/// Reports the likely mistakes in the pattern, or its error if it is invalid. `grammar` is what the object around it says, if
-/// it is a pattern of a grammar; `known` has the classes of the run's patterns.
-pub(crate) fn lint<R: Reporter>(
+/// Reports the likely mistakes in the pattern, or its error if it is invalid; or returns the pattern with reports fixed, in
+/// one record. `known` has the classes of the run's patterns.
+pub(crate) fn lint(
     subject: Subject<'_>,
-    grammar: Option<&GrammarRule>,
-    chosen: &Chosen,
-    reporter: &mut R,
+    request: LintRequest<'_>,
+    reports: &mut Reports<'_>,
     known: &mut Known,
     tally: &mut Tally,
-) -> Result<Outcome, RunError>
-    ensures good { result ≡ Ok Outcome.Good → IsAccepted subject.entry }
-    ensures refused { result ≡ Ok Outcome.Refused → IsRefused subject.entry ⊎ Contains chosen.now.levels Level.Deny }
-    ensures read { result ≡ Ok Outcome.Unread → ⊥ }
+) -> Result<Rewriting, RunError>
+    ensures good { result ≡ Ok (Stays Outcome.Good) → IsAccepted subject.entry }
+    ensures refused { result ≡ Ok (Stays Outcome.Refused) →
+        IsRefused subject.entry ⊎ Contains request.chosen.now.levels Level.Deny }
+    ensures read { result ≡ Ok (Stays Outcome.Unread) → ⊥ }
 {
-    let Some(parsed) = parse(subject, reporter)? else {
-        return Ok(Outcome::Refused);
+    let LintRequest {
+        grammar,
+        chosen,
+        has_fixes,
+    } = request;
+    let Some(parsed) = parse(subject, reports)? else {
+        return Ok(Rewriting::Stays(Outcome::Refused));
     };
     let slow = SlowParts::of(subject.alloc, &parsed, chosen, known)?;
     let mut found = problems(subject, &parsed, grammar, known, &slow)?;
     found.retain(|one| chosen.level(one.problem.rule()) != Level::Allow);
-    reporter.problems(subject, &parsed, chosen, &found)?;
+    if has_fixes && let Some(text) = fixed(subject, &parsed, &found)? {
+        return Ok(Rewriting::Changed(text));
+    }
+    reports.problems(subject, &parsed, chosen, &found)?;
     if chosen.is_verbose {
-        reporter.not_searched(subject, &slow.too_large)?;
+        reports.not_searched(subject, &slow.too_large)?;
     }
     if count_denied(&found, chosen, tally) {
         tally.denied = tally.denied.saturating_add(1);
-        return Ok(Outcome::Refused);
+        return Ok(Rewriting::Stays(Outcome::Refused));
     }
-    Ok(Outcome::Good)
+    Ok(Rewriting::Stays(Outcome::Good))
+}
+
+/// The pattern with reports fixed, as many as can be fixed at once; none if none can be.
+fn fixed_once(
+    subject: Subject<'_>,
+    chosen: &Chosen,
+    known: &mut Known,
+) -> Result<Option<String>, RunError> {
+    let Ok(parsed) = subject.parse()? else {
+        return Ok(None);
+    };
+    let slow = SlowParts::new(subject.alloc);
+    let mut found = problems(subject, &parsed, None, known, &slow)?;
+    found.retain(|one| chosen.level(one.problem.rule()) != Level::Allow);
+    Ok(fixed(subject, &parsed, &found)?)
+}
+
+/// The text that a pattern has become by fixes, with the reports fixed that it has then, and so on.
+pub(crate) fn fixed_further(
+    subject: Subject<'_>,
+    text: String,
+    chosen: &Chosen,
+    known: &mut Known,
+) -> Result<String, RunError> {
+    let mut text = text;
+    for _ in 1..MAX_ROUNDS {
+        let pattern = text.as_str();
+        match fixed_once(Subject { pattern, ..subject }, chosen, known)? {
+            Some(next) => text = next,
+            None => break,
+        }
+    }
+    Ok(text)
 }

@@ -4,8 +4,8 @@ ghost use Rattle.std.specs.Io.KnownBytes.{Appends, Keeps};
 ghost use Rattle.std.specs.Time.{instant_nanos};
 ghost use Rattle.patterns_program.specs.Progress.{erasure_if};
 
-use pattern_files::sources::System;
 use crate::tally::{ProgressText, Tally};
+use pattern_files::sources::System;
 use std::io;
 use std::time::{Duration, Instant};
 

@@ -1,18 +1,17 @@
 //! The columns of the parts of a pattern that are listed, counted in one pass over the pattern.
-use crate::position::Point;
+use crate::position::FilePosition;
 use crate::words::is_reference;
 use fancy_spans::SpannedNode;
 use fancy_syntax::expr::Expr;
 use fancy_syntax::span::Span;
 use std::alloc::{AllocError, Global};
 use std::fmt;
-use unicode_width::UnicodeWidthStr;
 
 /// The columns of a part of a pattern, from the first one to the last one.
 #[derive(Clone, Copy)]
 pub struct Columns {
-    first: usize,
-    last: usize,
+    first: u64,
+    last: u64,
 }
 
 impl fmt::Display for Columns {
@@ -21,32 +20,13 @@ impl fmt::Display for Columns {
     }
 }
 
-impl Point {
-    /// What is before the end of the text that follows.
-    fn after(self, text: &str) -> Point {
-        let Point { above, columns } = self;
-        match text.rsplit_once('\n') {
-            Some((lines, line)) => Point {
-                above: above
-                    .saturating_add(lines.matches('\n').count())
-                    .saturating_add(1),
-                columns: line.width(),
-            },
-            None => Point {
-                above,
-                columns: columns.saturating_add(text.width()),
-            },
-        }
-    }
-}
-
-/// The lines of some positions, and their columns in them.
+/// The positions of some byte offsets.
 #[derive(Drop)]
 pub struct ColumnTable {
-    /// The positions, in order.
-    positions: Vec<usize>,
-    /// What is before each of them.
-    points: Vec<Point>,
+    /// The offsets, in order.
+    offsets: Vec<usize>,
+    /// The position of each of them.
+    positions: Vec<FilePosition>,
 }
 
 /// Whether the node has a line in a list: a group, a reference or a class.
@@ -54,21 +34,21 @@ fn is_listed(node: &Expr) -> bool {
     matches!(node, Expr::Group(_) | Expr::Delegate { .. }) || is_reference(node)
 }
 
-/// Where the nodes that are listed begin and end, and the positions of unresolved calls, in the order of the text.
-fn positions_of(alloc: Global, nodes: &[SpannedNode<'_>]) -> Result<Vec<usize>, AllocError> {
-    let mut positions = Vec::new(alloc);
+/// Where the nodes that are listed begin and end, and the offsets of unresolved calls, in the order of the text.
+fn offsets_of(alloc: Global, nodes: &[SpannedNode<'_>]) -> Result<Vec<usize>, AllocError> {
+    let mut offsets = Vec::new(alloc);
     for node in nodes {
         if is_listed(node.expr()) {
             let Span { start, end } = node.span();
-            positions.push(start)?;
-            positions.push(end)?;
+            offsets.push(start)?;
+            offsets.push(end)?;
         }
-        if let Expr::AstNode(_, position) = node.expr() {
-            positions.push(*position)?;
+        if let Expr::AstNode(_, offset) = node.expr() {
+            offsets.push(*offset)?;
         }
     }
-    positions.sort()?;
-    Ok(positions)
+    offsets.sort()?;
+    Ok(offsets)
 }
 
 impl ColumnTable {
@@ -79,35 +59,32 @@ impl ColumnTable {
         pattern: &str,
         nodes: &[SpannedNode<'_>],
     ) -> Result<ColumnTable, AllocError> {
-        let positions = positions_of(alloc, nodes)?;
-        let mut points = Vec::with_capacity(alloc, positions.len())?;
+        let offsets = offsets_of(alloc, nodes)?;
+        let mut positions = Vec::with_capacity(alloc, offsets.len())?;
         let mut counted = 0usize;
-        let mut point = Point {
-            above: 0,
-            columns: 0,
-        };
-        for position in positions.iter() {
-            point = point.after(pattern.get(counted..*position).unwrap_or(""));
-            counted = *position;
-            points.push(point)?;
+        let mut position = FilePosition::START;
+        for offset in offsets.iter() {
+            position = position.after(pattern.get(counted..*offset).unwrap_or(""));
+            counted = *offset;
+            positions.push(position)?;
         }
-        Ok(ColumnTable { positions, points })
+        Ok(ColumnTable { offsets, positions })
     }
 
-    /// The line and the column of the position, which is one of the table.
-    pub(crate) fn point(&self, position: usize) -> Point {
-        let index = self.positions.partition_point(|other| *other < position);
-        self.points.get(index).copied().unwrap_or(Point {
-            above: 0,
-            columns: 0,
-        })
+    /// The position of the offset, which is one of the table.
+    pub(crate) fn position(&self, offset: usize) -> FilePosition {
+        let index = self.offsets.partition_point(|other| *other < offset);
+        self.positions
+            .get(index)
+            .copied()
+            .unwrap_or(FilePosition::START)
     }
 
     /// Those of a part, whose start and end are in the table, each in its line.
     pub fn of_span(&self, span: Span) -> Columns {
         Columns {
-            first: self.point(span.start).columns.saturating_add(1),
-            last: self.point(span.end).columns,
+            first: self.position(span.start).column,
+            last: self.position(span.end).column.saturating_sub(1),
         }
     }
 }

@@ -1,7 +1,7 @@
 //! A line of a pattern, with what a report points at underlined.
 use crate::paint::{Ink, Paint};
-use crate::position::{Cut, Location, column_after};
 use crate::shown::{Blank, Shown, char_width, shown_width};
+use crate::subject::Subject;
 use fancy_syntax::span::Span;
 use std::io::Write;
 use std::{fmt, io};
@@ -58,13 +58,11 @@ struct Line<'a> {
 impl<'a> Line<'a> {
     /// The line of the position.
     fn at(pattern: &'a str, position: usize) -> Line<'a> {
-        let Cut { before, after, .. } = Cut::at(pattern, position);
-        let start = pattern
-            .floor_char_boundary(position)
-            .saturating_sub(before.len());
-        let end = start
-            .saturating_add(before.len())
-            .saturating_add(after.len());
+        let (front, rest) = pattern.split_at(pattern.floor_char_boundary(position));
+        let before = front.rsplit_once('\n').map_or(front, |parts| parts.1);
+        let after = rest.split_once('\n').map_or(rest, |parts| parts.0);
+        let start = front.len().saturating_sub(before.len());
+        let end = front.len().saturating_add(after.len());
         Line {
             start,
             text: pattern.get(start..end).unwrap_or(""),
@@ -177,7 +175,7 @@ struct Underline<'a> {
 
 impl<'a> Underline<'a> {
     /// Begins the line.
-    fn begin<O: Write>(out: &mut O, paint: Paint, window: Window<'a>) -> io::Result<Underline<'a>> {
+    fn begin(out: &mut Vec<u8>, paint: Paint, window: Window<'a>) -> io::Result<Underline<'a>> {
         if window.start > 0 {
             out.write_all(b" ")?;
         }
@@ -189,7 +187,7 @@ impl<'a> Underline<'a> {
     }
 
     /// Goes on up to an offset.
-    fn move_to<O: Write>(&mut self, out: &mut O, offset: usize) -> io::Result<()> {
+    fn move_to(&mut self, out: &mut Vec<u8>, offset: usize) -> io::Result<()> {
         let offset = offset.min(self.window.end).max(self.written);
         let before = self.window.line.slice(self.written, offset);
         self.written = offset;
@@ -197,7 +195,7 @@ impl<'a> Underline<'a> {
     }
 
     /// Underlines the part with as many signs as it takes columns, and at least one.
-    fn draw<O: Write>(&mut self, out: &mut O, part: Part, ink: Ink, sign: u8) -> io::Result<()> {
+    fn draw(&mut self, out: &mut Vec<u8>, part: Part, ink: Ink, sign: u8) -> io::Result<()> {
         self.move_to(out, part.start)?;
         let end = part.end.min(self.window.end).max(self.written);
         let width = shown_width(self.window.line.slice(self.written, end));
@@ -210,9 +208,9 @@ impl<'a> Underline<'a> {
     }
 
     /// Underlines what of the part is between the offsets, if that is something.
-    fn draw_between<O: Write>(
+    fn draw_between(
         &mut self,
-        out: &mut O,
+        out: &mut Vec<u8>,
         part: Part,
         start: usize,
         end: usize,
@@ -227,8 +225,8 @@ impl<'a> Underline<'a> {
 }
 
 /// Writes the window, and below it carets below the part.
-fn write_part<O: Write>(
-    out: &mut O,
+fn write_part(
+    out: &mut Vec<u8>,
     paint: Paint,
     ink: Ink,
     window: Window<'_>,
@@ -241,8 +239,8 @@ fn write_part<O: Write>(
 }
 
 /// Writes the window, carets below the part, and signs and the label below the other part.
-fn write_both<O: Write>(
-    out: &mut O,
+fn write_both(
+    out: &mut Vec<u8>,
     paint: Paint,
     ink: Ink,
     window: Window<'_>,
@@ -261,19 +259,12 @@ fn write_both<O: Write>(
 }
 
 /// Writes where the part is, its label, and its line with carets below it.
-fn write_related<O: Write>(
-    out: &mut O,
-    at: Location<'_>,
-    pattern: &str,
-    related: Related,
-) -> io::Result<()> {
-    let paint = at.reported;
+fn write_related(out: &mut Vec<u8>, subject: Subject<'_>, related: Related) -> io::Result<()> {
+    let paint = subject.at.reported;
     let Related { span, label } = related;
-    let Cut { above, before, .. } = Cut::at(pattern, span.start);
-    let (line, column) = (at.below(above), column_after(before));
     let (bold, end) = (paint.begin(Ink::Position), paint.end());
-    writeln!(out, "{bold}{line}:{column}:{end} {label}")?;
-    let line = Line::at(pattern, span.start);
+    writeln!(out, "{bold}{}:{end} {label}", subject.position(span.start))?;
+    let line = Line::at(subject.pattern, span.start);
     let part = line.part(span);
     write_part(out, paint, Ink::Position, line.window(part), part)
 }
@@ -291,16 +282,15 @@ fn window_of_both(line: Line<'_>, part: Part, other: Part) -> Option<Window<'_>>
 /// Writes the line that the span begins in, cropped if it is long, with carets in the ink below what the line has of the
 /// span, and at least one. The related part is underlined too, with its label below; if it is in another line, or too
 /// far from the span, it is written after that, with its position.
-pub fn write_excerpt<O: Write>(
-    out: &mut O,
+pub fn write_excerpt(
+    out: &mut Vec<u8>,
     ink: Ink,
-    at: Location<'_>,
-    pattern: &str,
+    subject: Subject<'_>,
     span: Span,
     related: Option<Related>,
 ) -> io::Result<()> {
-    let paint = at.reported;
-    let line = Line::at(pattern, span.start);
+    let paint = subject.at.reported;
+    let line = Line::at(subject.pattern, span.start);
     let part = line.part(span);
     let Some(related) = related else {
         return write_part(out, paint, ink, line.window(part), part);
@@ -311,5 +301,25 @@ pub fn write_excerpt<O: Write>(
         return write_both(out, paint, ink, window, part, (other, related.label));
     }
     write_part(out, paint, ink, line.window(part), part)?;
-    write_related(out, at, pattern, related)
+    write_related(out, subject, related)
+}
+
+/// Writes where and why a pattern is invalid, the line of the position, and a caret under the position. A related part is
+/// underlined too.
+pub fn write_refusal(
+    out: &mut Vec<u8>,
+    subject: Subject<'_>,
+    position: usize,
+    message: &str,
+    related: Option<Related>,
+) -> io::Result<()> {
+    let paint = subject.at.reported;
+    let (bold, end) = (paint.begin(Ink::Position), paint.end());
+    let position_words = subject.position(position);
+    writeln!(out, "{bold}{position_words}:{end} {}", Shown(message))?;
+    let span = Span {
+        start: position,
+        end: position,
+    };
+    write_excerpt(out, Ink::Error, subject, span, related)
 }

@@ -4,7 +4,7 @@ use std::io;
 use std::io::Write;
 
 /// Writes the sentence on the number of groups.
-fn write_total<O: Write>(out: &mut O, total: usize) -> io::Result<()> {
+fn write_total(out: &mut Vec<u8>, total: usize) -> io::Result<()> {
     match total {
         0 => writeln!(out, "No numbered groups."),
         1 => writeln!(out, "1 numbered group."),
@@ -13,13 +13,13 @@ fn write_total<O: Write>(out: &mut O, total: usize) -> io::Result<()> {
 }
 
 /// Writes a number of a list, of which so many are written.
-fn write_number<O: Write>(out: &mut O, written: usize, number: usize) -> io::Result<()> {
+fn write_number(out: &mut Vec<u8>, written: usize, number: usize) -> io::Result<()> {
     let comma = if written > 0 { "," } else { "" };
     write!(out, "{comma} {number}")
 }
 
 /// Writes the sentence on the groups of a name.
-fn write_name<O: Write>(out: &mut O, name: &str, numbers: &[usize]) -> io::Result<()> {
+fn write_name(out: &mut Vec<u8>, name: &str, numbers: &[usize]) -> io::Result<()> {
     write!(out, "Name {name:?}: group")?;
     for (i, number) in numbers.iter().enumerate() {
         write_number(out, i, *number)?;
@@ -28,7 +28,7 @@ fn write_name<O: Write>(out: &mut O, name: &str, numbers: &[usize]) -> io::Resul
 }
 
 /// Writes a sentence for each name.
-fn write_names<O: Write>(out: &mut O, tree: &ExprTree) -> io::Result<()> {
+fn write_names(out: &mut Vec<u8>, tree: &ExprTree) -> io::Result<()> {
     for (name, numbers) in &tree.named_groups {
         write_name(out, name.as_str(), numbers)?;
     }
@@ -36,7 +36,7 @@ fn write_names<O: Write>(out: &mut O, tree: &ExprTree) -> io::Result<()> {
 }
 
 /// Writes the sentence on the groups that back references refer to.
-fn write_referred<O: Write>(out: &mut O, tree: &ExprTree) -> io::Result<()> {
+fn write_referred(out: &mut Vec<u8>, tree: &ExprTree) -> io::Result<()> {
     write!(out, "Back references to group")?;
     for (i, number) in tree.backrefs.iter().enumerate() {
         write_number(out, i, *number)?;
@@ -45,7 +45,7 @@ fn write_referred<O: Write>(out: &mut O, tree: &ExprTree) -> io::Result<()> {
 }
 
 /// Writes the sentences on back references.
-fn write_references<O: Write>(out: &mut O, tree: &ExprTree) -> io::Result<()> {
+fn write_references(out: &mut Vec<u8>, tree: &ExprTree) -> io::Result<()> {
     if !tree.backrefs.is_empty() {
         write_referred(out, tree)?;
     }
@@ -62,7 +62,7 @@ fn write_references<O: Write>(out: &mut O, tree: &ExprTree) -> io::Result<()> {
 }
 
 /// Writes what is known of the groups and references, a sentence a line.
-pub fn write_group_info<O: Write>(out: &mut O, tree: &ExprTree) -> io::Result<()> {
+pub fn write_group_info(out: &mut Vec<u8>, tree: &ExprTree) -> io::Result<()> {
     write_total(out, tree.total_groups)?;
     if tree.numbered_groups_ignored {
         writeln!(out, "Groups without a name are not numbered.")?;

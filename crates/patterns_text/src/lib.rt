@@ -16,5 +16,6 @@ pub mod paint;
 pub mod path;
 pub mod position;
 pub mod shown;
+pub mod source_positions;
 pub mod subject;
 pub mod words;

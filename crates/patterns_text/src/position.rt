@@ -1,17 +1,24 @@
-//! Positions in a pattern, as a terminal shows them.
+//! Positions in texts: lines, columns as a terminal shows them, and characters; and where a pattern is in its file.
 ghost use Rattle.std.specs.Prelude.{◌≡◌, ◌+◌, chars, false};
 ghost use Rattle.unicode_width.specs.Width.{str_width};
 
-use crate::excerpt::{Related, write_excerpt};
-use crate::paint::{Ink, Paint};
+use crate::paint::Paint;
 use crate::path::Path;
 use crate::shown::Shown;
-use fancy_syntax::span::Span;
-use std::io::Write;
-use std::{fmt, io};
+use crate::source_positions::SourcePositions;
+use std::alloc::{AllocError, Global};
+use std::fmt;
 use unicode_width::UnicodeWidthStr;
 
-/// A position in a file.
+/// The column after the text in its line, from 1. Each character takes as many columns as on a terminal; a tab or
+/// another control character takes one.
+pub fn column_after(text: &str) -> usize
+    ensures value { result ≡ 1 + str_width false (chars text.now) }
+{
+    text.width() + 1
+}
+
+/// A position in a file, or in a pattern.
 #[derive(Clone, Copy)]
 pub struct FilePosition {
     /// The line, from 1.
@@ -48,6 +55,55 @@ impl FilePosition {
             },
         }
     }
+
+    /// That of a byte offset in a text: of the character that it falls into, or of the end where it is past that.
+    pub fn of(text: &str, offset: usize) -> FilePosition {
+        let (before, _) = text.split_at(text.floor_char_boundary(offset));
+        FilePosition::START.after(before)
+    }
+}
+
+impl fmt::Display for FilePosition {
+    fn fmt<W: fmt::Write>(&self, f: &mut fmt::Formatter<W>) -> fmt::Result {
+        write!(f, "{}:{}", self.line, self.column)
+    }
+}
+
+/// A position in a pattern, in words: its column, and its line where that is not the first.
+#[derive(Clone, Copy)]
+pub struct PositionWords(pub FilePosition);
+
+impl fmt::Display for PositionWords {
+    fn fmt<W: fmt::Write>(&self, f: &mut fmt::Formatter<W>) -> fmt::Result {
+        let FilePosition { line, column, .. } = self.0;
+        if line > 1 {
+            write!(f, "line {line}, ")?;
+        }
+        write!(f, "column {column}")
+    }
+}
+
+/// Where the characters of a text begin.
+#[derive(Drop)]
+pub struct CharacterTable {
+    /// The byte offset of each.
+    starts: Vec<usize>,
+}
+
+impl CharacterTable {
+    /// Those of the text.
+    pub fn of(alloc: Global, text: &str) -> Result<CharacterTable, AllocError> {
+        let mut starts = Vec::new(alloc);
+        for (start, _) in text.char_indices() {
+            starts.push(start)?;
+        }
+        Ok(CharacterTable { starts })
+    }
+
+    /// How many characters begin before a byte offset.
+    pub fn index(&self, offset: usize) -> u64 {
+        self.starts.partition_point(|start| *start < offset) as u64
+    }
 }
 
 /// Where a pattern is in its file.
@@ -69,6 +125,22 @@ pub enum Spot<'a> {
         /// Whether a number in a back reference is that of a group of another pattern, the `begin` beside this one.
         refers_to_begin: bool,
     },
+    /// It was extracted from the file.
+    Source(&'a SourcePositions),
+}
+
+impl<'a> Spot<'a> {
+    /// Where the part of the pattern is that begins at the byte offset. In a source that has a position of its own, under
+    /// the path that the pattern has in its record.
+    fn part(self, pattern: &str, offset: usize) -> Spot<'a> {
+        match self {
+            Spot::Source(positions) => Spot::Path {
+                position: positions.position(pattern, offset),
+                path: "pattern",
+            },
+            Spot::Line(_) | Spot::Path { .. } | Spot::Value { .. } => self,
+        }
+    }
 }
 
 /// Where a pattern is in its file, and the colours of what is written of it.
@@ -99,9 +171,13 @@ impl<'a> Location<'a> {
         Location::at(file, Spot::Line(line))
     }
 
-    /// The line of the pattern that is so many lines below its first.
-    pub fn below(self, lines: usize) -> LineOf<'a> {
-        LineOf { at: self, lines }
+    /// Where the part of the pattern is that begins at the byte offset: of a pattern that was extracted the position of
+    /// that in its source.
+    pub fn part(self, pattern: &str, offset: usize) -> Location<'a> {
+        Location {
+            spot: self.spot.part(pattern, offset),
+            ..self
+        }
     }
 
     /// Whether a number in a back reference is that of a group of another pattern.
@@ -114,141 +190,44 @@ impl<'a> Location<'a> {
             }
         )
     }
+
+    /// Writes the file and a line of the pattern, from 1; of a value of JSON the file, the position there, the path, and
+    /// the line if that is not the first.
+    fn write_line<W: fmt::Write>(self, f: &mut fmt::Formatter<W>, line: u64) -> fmt::Result {
+        let file = Shown(self.file);
+        match self.spot.part("", 0) {
+            Spot::Line(first) => {
+                let number = first.saturating_add(line.saturating_sub(1));
+                return write!(f, "{file}:{number}");
+            }
+            Spot::Path { position, path } => write!(f, "{file}:{position}: {path}")?,
+            Spot::Value { position, path, .. } => write!(f, "{file}:{position}: {path}")?,
+            Spot::Source(_) => {}
+        }
+        if line > 1 {
+            write!(f, ":{line}")?;
+        }
+        Ok(())
+    }
 }
 
 impl fmt::Display for Location<'_> {
     fn fmt<W: fmt::Write>(&self, f: &mut fmt::Formatter<W>) -> fmt::Result {
-        write!(f, "{}", self.below(0))
+        self.write_line(f, 1)
     }
 }
 
-/// A line of a pattern.
+/// A position in a pattern, with where the pattern is: what reports begin with.
 #[derive(Clone, Copy)]
-pub struct LineOf<'a> {
-    at: Location<'a>,
-    /// How many lines of the pattern are above it.
-    lines: usize,
+pub struct PatternPosition<'a> {
+    pub at: Location<'a>,
+    pub position: FilePosition,
 }
 
-impl fmt::Display for FilePosition {
+impl fmt::Display for PatternPosition<'_> {
     fn fmt<W: fmt::Write>(&self, f: &mut fmt::Formatter<W>) -> fmt::Result {
-        write!(f, "{}:{}", self.line, self.column)
+        let FilePosition { line, column, .. } = self.position;
+        self.at.write_line(f, line)?;
+        write!(f, ":{column}")
     }
-}
-
-/// The line in a pattern that is so many lines below its first, after a colon; nothing for the first.
-#[derive(Clone, Copy)]
-struct LineSuffix(usize);
-
-impl fmt::Display for LineSuffix {
-    fn fmt<W: fmt::Write>(&self, f: &mut fmt::Formatter<W>) -> fmt::Result {
-        if self.0 == 0 {
-            return Ok(());
-        }
-        write!(f, ":{}", self.0.saturating_add(1))
-    }
-}
-
-/// The file and the line; of a value of JSON the file, the position there, the path, and the line in the pattern if that is
-/// not the first.
-impl fmt::Display for LineOf<'_> {
-    fn fmt<W: fmt::Write>(&self, f: &mut fmt::Formatter<W>) -> fmt::Result {
-        let file = Shown(self.at.file);
-        match self.at.spot {
-            Spot::Line(line) => write!(f, "{file}:{}", line.saturating_add(self.lines as u64)),
-            Spot::Path { position, path } => {
-                write!(f, "{file}:{position}: {path}{}", LineSuffix(self.lines))
-            }
-            Spot::Value { position, path, .. } => {
-                write!(f, "{file}:{position}: {path}{}", LineSuffix(self.lines))
-            }
-        }
-    }
-}
-
-/// The column after the text in its line, from 1. Each character takes as many columns as on a terminal; a tab or
-/// another control character takes one.
-pub fn column_after(text: &str) -> usize
-    ensures value { result ≡ 1 + str_width false (chars text.now) }
-{
-    text.width() + 1
-}
-
-/// A position of a pattern in its lines.
-#[derive(Clone, Copy)]
-pub(crate) struct Point {
-    /// How many line feeds are before it.
-    pub(crate) above: usize,
-    /// How many columns are before it in its line.
-    pub(crate) columns: usize,
-}
-
-/// The position in words: its column, and its line where that is not the first.
-impl fmt::Display for Point {
-    fn fmt<W: fmt::Write>(&self, f: &mut fmt::Formatter<W>) -> fmt::Result {
-        if self.above > 0 {
-            write!(f, "line {}, ", self.above.saturating_add(1))?;
-        }
-        write!(f, "column {}", self.columns.saturating_add(1))
-    }
-}
-
-/// A line of a pattern, cut at a position.
-#[derive(Clone, Copy)]
-pub struct Cut<'a> {
-    /// How many line feeds are before the line.
-    pub above: usize,
-    pub before: &'a str,
-    pub after: &'a str,
-}
-
-impl Cut<'_> {
-    /// Cuts at a byte offset: before the character that it falls into, and after the last one where it is past the
-    /// end.
-    pub fn at(pattern: &str, position: usize) -> Cut<'_> {
-        let (front, rest) = pattern.split_at(pattern.floor_char_boundary(position));
-        Cut {
-            above: front.matches('\n').count(),
-            before: match front.rsplit_once('\n') {
-                Some((_, line)) => line,
-                None => front,
-            },
-            after: match rest.split_once('\n') {
-                Some((line, _)) => line,
-                None => rest,
-            },
-        }
-    }
-}
-
-/// The position in words: its column, and its line where that is not the first.
-impl fmt::Display for Cut<'_> {
-    fn fmt<W: fmt::Write>(&self, f: &mut fmt::Formatter<W>) -> fmt::Result {
-        let point = Point {
-            above: self.above,
-            columns: self.before.width(),
-        };
-        write!(f, "{point}")
-    }
-}
-
-/// Writes where and why a pattern is invalid, the line of the position, and a caret under the position. A related part is
-/// underlined too.
-pub fn write_refusal<O: Write>(
-    out: &mut O,
-    at: Location<'_>,
-    pattern: &str,
-    position: usize,
-    message: &str,
-    related: Option<Related>,
-) -> io::Result<()> {
-    let Cut { above, before, .. } = Cut::at(pattern, position);
-    let (line, column) = (at.below(above), column_after(before));
-    let (bold, end) = (at.reported.begin(Ink::Position), at.reported.end());
-    writeln!(out, "{bold}{line}:{column}:{end} {}", Shown(message))?;
-    let span = Span {
-        start: position,
-        end: position,
-    };
-    write_excerpt(out, Ink::Error, at, pattern, span, related)
 }

@@ -5,10 +5,10 @@ ghost use Rattle.fre_program.specs.Words.{HasTree, HasError};
 ghost use Rattle.patterns_text.specs.Subject.{IsAccepted, IsRefused, IsParsedAs};
 
 use crate::error::RunError;
-use crate::excerpt::Related;
+use crate::excerpt::{Related, write_refusal};
 use crate::hints::{Hint, hint_for};
 use crate::opening::{Opening, opening_of};
-use crate::position::{Location, write_refusal};
+use crate::position::{FilePosition, Location, PatternPosition};
 use fancy_lex::error::ParseError;
 use fancy_spans::SpannedTree;
 use fancy_syntax::error::Error;
@@ -53,16 +53,11 @@ impl Refusal {
     }
 
     /// Writes where and why the pattern is invalid, its line at the position, a caret under the position, and what helps.
-    pub fn write<O: Write>(&self, out: &mut O, subject: Subject<'_>) -> Result<(), RunError> {
-        let Subject {
-            alloc,
-            at,
-            pattern,
-            ..
-        } = subject;
+    pub fn write(&self, out: &mut Vec<u8>, subject: Subject<'_>) -> Result<(), RunError> {
         let Advice { related, hint } = self.advice(subject)?;
-        let message = format!(in alloc; "{}", self.kind)?;
-        write_refusal(out, at, pattern, self.position, message.as_str(), related)?;
+        let message = format!(in subject.alloc; "{}", self.kind)?;
+        let subject = subject.part(self.position);
+        write_refusal(out, subject, self.position, message.as_str(), related)?;
         if let Some(hint) = hint {
             writeln!(out, "help: {hint}")?;
         }
@@ -86,6 +81,22 @@ impl<'a> Subject<'a> {
             flags,
             at: Location::plain(ARGUMENT, 1),
             pattern,
+        }
+    }
+
+    /// The pattern for a report that begins at the byte offset. One that was extracted is then where that is in its source.
+    pub fn part(self, offset: usize) -> Subject<'a> {
+        Subject {
+            at: self.at.part(self.pattern, offset),
+            ..self
+        }
+    }
+
+    /// Where the byte offset is: of the character that it falls into, or of the end where it is past that.
+    pub fn position(self, offset: usize) -> PatternPosition<'a> {
+        PatternPosition {
+            at: self.at,
+            position: FilePosition::of(self.pattern, offset),
         }
     }
 

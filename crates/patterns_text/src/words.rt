@@ -1,6 +1,7 @@
 //! Nodes described for people.
 use crate::columns::ColumnTable;
 use crate::names::Names;
+use crate::position::PositionWords;
 use crate::shown::{Code, is_hidden};
 use fancy_lex::escape::Assertion;
 use fancy_lex::name::CaptureGroupTarget;
@@ -169,8 +170,8 @@ impl fmt::Display for WrittenTarget<'_> {
 
 /// Writes what a reference or a subroutine call refers to, and the position of a call that is unresolved; nothing for any
 /// other node.
-pub fn write_reference<O: Write>(
-    out: &mut O,
+pub fn write_reference(
+    out: &mut Vec<u8>,
     node: &Expr,
     names: &Names<'_>,
     columns: &ColumnTable,
@@ -203,8 +204,9 @@ pub fn write_reference<O: Write>(
         Expr::SubroutineCall(0) => write!(out, "call of the whole pattern"),
         Expr::SubroutineCall(group) => write!(out, "call of {}", names.group(*group)),
         Expr::AstNode(AstNode::SubroutineCall(target), position) => {
-            let (target, point) = (WrittenTarget(target), columns.point(*position));
-            write!(out, r"unresolved call \g<{target}>, {point}")
+            let target = WrittenTarget(target);
+            let words = PositionWords(columns.position(*position));
+            write!(out, r"unresolved call \g<{target}>, {words}")
         }
         Expr::Empty
         | Expr::Any { .. }

@@ -5,6 +5,7 @@ mod json;
 pub mod literal;
 mod pieces;
 mod python;
+pub mod replaced;
 mod rust;
 pub mod source_change;
 pub mod source_syntax;

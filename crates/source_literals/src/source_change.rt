@@ -1,6 +1,7 @@
 //! Patterns that change in their sources. Only the bytes of a literal are changed, and only if the literals of the pattern are
 //! then read as its new text.
 use crate::literal::{SpelledCharacter, read_literal};
+use crate::replaced::{ByteSpan, Replacement, replaced};
 use crate::source_syntax::SourceSyntax;
 use std::alloc::{AllocError, Global};
 use std::str;
@@ -13,18 +14,11 @@ pub struct CharacterChange {
     pub added: Option<u8>,
 }
 
-/// Where a literal is in a source, in byte offsets: from where it begins to after it.
-#[derive(Debug, Clone, Copy, PartialEq, Eq)]
-pub struct LiteralSpan {
-    pub start: usize,
-    pub end: usize,
-}
-
 /// How a source spells a pattern: by these literals, one after another.
-#[derive(Drop)]
+#[derive(Clone, Drop)]
 pub struct Spelling {
     pub syntax: SourceSyntax,
-    pub literals: Vec<LiteralSpan>,
+    pub literals: Vec<ByteSpan>,
 }
 
 /// A pattern of a source that changes.
@@ -48,16 +42,13 @@ pub struct SourceChange {
     pub is_read_back: bool,
 }
 
-/// A literal of a source, and what it becomes.
+/// A literal of a source, and what is in its place.
 #[derive(Drop)]
 struct ChangedLiteral {
     /// Which change it is of.
     change: usize,
-    old: LiteralSpan,
-    /// What is in its place.
+    span: ByteSpan,
     spelling: String,
-    /// Where that is.
-    new: LiteralSpan,
 }
 
 /// The characters of the literal of a source. None if it is not read, or ends elsewhere.
@@ -65,7 +56,7 @@ fn characters_of(
     alloc: Global,
     syntax: SourceSyntax,
     source: &str,
-    span: LiteralSpan,
+    span: ByteSpan,
 ) -> Result<Option<Vec<SpelledCharacter>>, AllocError> {
     let read = read_literal(alloc, syntax, source, span.start)?;
     Ok(
@@ -88,7 +79,7 @@ fn push_part(
 fn changed_spelling(
     alloc: Global,
     source: &str,
-    span: LiteralSpan,
+    span: ByteSpan,
     characters: &[SpelledCharacter],
     changes: &[CharacterChange],
 ) -> Result<String, AllocError> {
@@ -137,9 +128,8 @@ fn add_literals(
             .unwrap_or((changes, &[]));
         literals.push(ChangedLiteral {
             change: number,
-            old: *span,
+            span: *span,
             spelling: changed_spelling(alloc, source, *span, &characters, of_literal)?,
-            new: *span,
         })?;
         pattern = rest;
         changes = left;
@@ -147,54 +137,42 @@ fn add_literals(
     Ok(pattern.is_empty())
 }
 
-/// Whether each literal begins after the one before it.
-fn are_apart(literals: &[ChangedLiteral]) -> bool {
-    let mut end = 0usize;
-    for one in literals {
-        if one.old.start < end {
-            return false;
-        }
-        end = one.old.end;
-    }
-    true
-}
-
-/// The source with what its literals become; those of changes that are not read back stay.
+/// The source with what its literals become; those of changes that are not read back stay. None if two of the others have a
+/// part in common.
 fn assembled(
     alloc: Global,
     source: &str,
     changes: &[SourceChange],
-    literals: &mut [ChangedLiteral],
-) -> Result<String, AllocError> {
-    let mut new = String::with_capacity(alloc, source.len())?;
-    let mut done = 0usize;
+    literals: &[ChangedLiteral],
+) -> Result<Option<String>, AllocError> {
+    let mut parts = Vec::with_capacity(alloc, literals.len())?;
     for one in literals {
-        push_part(&mut new, source, done, one.old.start)?;
-        one.new.start = new.len();
         if changes
             .get(one.change)
             .is_some_and(|change| change.is_read_back)
         {
-            new.push_str(one.spelling.as_str())?;
-        } else {
-            push_part(&mut new, source, one.old.start, one.old.end)?;
+            parts.push(Replacement {
+                span: one.span,
+                text: one.spelling.clone()?,
+            })?;
         }
-        one.new.end = new.len();
-        done = one.old.end;
     }
-    push_part(&mut new, source, done, source.len())?;
-    Ok(new)
+    let new = replaced(alloc, source.as_bytes(), &parts)?;
+    Ok(new.and_then(|bytes| String::from_utf8(bytes).ok()))
 }
 
-/// The offset in the text of the change up to which it is read, if the literal is read as the part from the offset `done` on.
+/// The offset in the text of the change up to which it is read, if it is read up to `done`, and the literal as the part from
+/// there on.
 fn read_part(
     alloc: Global,
     new: &str,
     change: &SourceChange,
-    span: LiteralSpan,
-    done: usize,
+    span: ByteSpan,
+    done: Option<usize>,
 ) -> Result<Option<usize>, AllocError> {
-    let text = change.text.as_str();
+    let (Some(done), text) = (done, change.text.as_str()) else {
+        return Ok(None);
+    };
     let Some(characters) = characters_of(alloc, change.spelling.syntax, new, span)? else {
         return Ok(None);
     };
@@ -204,27 +182,31 @@ fn read_part(
     Ok(rest.map(|rest| text.len().saturating_sub(rest.len())))
 }
 
-/// Reads the literals of the changes again that are made in the new source: how far each change is read as its text. One
-/// that is not has `is_read_back` false then.
+/// Reads the literals of the changes again that are made in the new source: how far each change is read as its text, if all
+/// of its literals are.
 fn read_parts(
     alloc: Global,
     new: &str,
-    changes: &mut [SourceChange],
+    changes: &[SourceChange],
     literals: &[ChangedLiteral],
-) -> Result<Vec<usize>, AllocError> {
+) -> Result<Vec<Option<usize>>, AllocError> {
     let mut read = Vec::with_capacity(alloc, changes.len())?;
-    for _ in changes.iter() {
-        read.push(0usize)?;
+    for _ in changes {
+        read.push(Some(0usize))?;
     }
+    let (mut added, mut gone) = (0usize, 0usize);
     for one in literals {
-        let (Some(change), Some(done)) = (changes.get_mut(one.change), read.get_mut(one.change))
-        else {
+        let (Some(change), Some(done)) = (changes.get(one.change), read.get_mut(one.change)) else {
             continue;
         };
-        match read_part(alloc, new, change, one.new, *done)? {
-            Some(end) => *done = end,
-            None => change.is_read_back = false,
+        if !change.is_read_back {
+            continue;
         }
+        let start = one.span.start.saturating_add(added).saturating_sub(gone);
+        let end = start.saturating_add(one.spelling.len());
+        *done = read_part(alloc, new, change, ByteSpan { start, end }, *done)?;
+        added = added.saturating_add(one.spelling.len());
+        gone = gone.saturating_add(one.span.end.saturating_sub(one.span.start));
     }
     Ok(read)
 }
@@ -236,16 +218,17 @@ fn read_again(
     changes: &mut [SourceChange],
     literals: &[ChangedLiteral],
 ) -> Result<bool, AllocError> {
-    let made = changes.iter().filter(|change| change.is_read_back).count();
     let read = read_parts(alloc, new, changes, literals)?;
+    let mut are_read = true;
     for (change, done) in changes.iter_mut().zip(&read) {
-        change.is_read_back = change.is_read_back && *done == change.text.len();
+        let is_read = *done == Some(change.text.len());
+        are_read = are_read && (is_read || !change.is_read_back);
+        change.is_read_back = change.is_read_back && is_read;
     }
-    Ok(changes.iter().filter(|change| change.is_read_back).count() == made)
+    Ok(are_read)
 }
 
-/// The literals of the changes, in the order of the source. None if the source does not have the patterns in their literals,
-/// or two of them have the same.
+/// The literals of the changes, in the order of the source. None if the source does not have the patterns in their literals.
 fn literals_of(
     alloc: Global,
     source: &str,
@@ -257,8 +240,8 @@ fn literals_of(
             return Ok(None);
         }
     }
-    literals.sort_unstable_by_key(|one| one.old.start);
-    Ok(are_apart(&literals).then_some(literals))
+    literals.sort_unstable_by_key(|one| one.span.start);
+    Ok(Some(literals))
 }
 
 /// A source with the changes of its patterns. A change after which the literals would not be read as its text is left out, and
@@ -272,17 +255,19 @@ pub fn changed_source(
     let Ok(source) = str::from_utf8(source) else {
         return Ok(None);
     };
-    let Some(mut literals) = literals_of(alloc, source, changes)? else {
+    let Some(literals) = literals_of(alloc, source, changes)? else {
         return Ok(None);
     };
     for change in changes.iter_mut() {
         change.is_read_back = true;
     }
-    let new = assembled(alloc, source, changes, &mut literals)?;
-    if read_again(alloc, new.as_str(), changes, &literals)? {
-        return Ok(Some(new));
+    for _ in 0..2 {
+        let Some(new) = assembled(alloc, source, changes, &literals)? else {
+            return Ok(None);
+        };
+        if read_again(alloc, new.as_str(), changes, &literals)? {
+            return Ok(Some(new));
+        }
     }
-    let new = assembled(alloc, source, changes, &mut literals)?;
-    let are_read = read_again(alloc, new.as_str(), changes, &literals)?;
-    Ok(are_read.then_some(new))
+    Ok(None)
 }

@@ -273,7 +273,7 @@ fn grammar_of<'a>(
 
 /// The values of a grammar that are open where a walk over its nodes is.
 #[derive(Drop)]
-pub struct OpenRules<'a> {
+pub(crate) struct OpenRules<'a> {
     alloc: Global,
     flags: u32,
     /// The values; none if they are of no grammar.
@@ -287,7 +287,7 @@ pub struct OpenRules<'a> {
 impl<'a> OpenRules<'a> {
     /// The walk that begins at the root of a text that is valid JSON, and not too long. The patterns are parsed under these
     /// flags. If it is not read as a grammar, there are no rules.
-    pub fn new(
+    pub(crate) fn new(
         alloc: Global,
         flags: u32,
         text: &'a str,
@@ -312,7 +312,7 @@ impl<'a> OpenRules<'a> {
     }
 
     /// What the object around the text that the walk has come to says of it.
-    pub fn rule(&self) -> Result<Option<GrammarRule>, RunError> {
+    pub(crate) fn rule(&self) -> Result<Option<GrammarRule>, RunError> {
         match self.open.last() {
             Some(Some(object)) => Ok(object.rule(self.alloc, self.nodes())?),
             Some(None) | None => Ok(None),
@@ -320,7 +320,7 @@ impl<'a> OpenRules<'a> {
     }
 
     /// Goes on past the node that it has come to.
-    pub fn pass(&mut self) -> Result<(), RunError> {
+    pub(crate) fn pass(&mut self) -> Result<(), RunError> {
         let node = self.nodes().get(self.index).copied();
         self.index = self.index.saturating_add(1);
         match node {

@@ -1,14 +1,10 @@
 //! Why a file is not read as JSON.
-use crate::lines::lines_in;
 use crate::values::nesting::Nesting;
 use crate::values::strings::{StringError, string_error};
-use json::{MAX_DEPTH, MAX_LEN, Reader, Scratch, Token};
-use patterns_text::error::RunError;
-use patterns_text::position::{Cut, column_after};
-use patterns_text::shown::Shown;
+use json::{MAX_DEPTH, Reader, Scratch, Token};
+use patterns_text::position::FilePosition;
 use std::alloc::{AllocError, Global};
-use std::io::Write;
-use std::{fmt, io};
+use std::fmt;
 
 /// What is wrong with the text of a file.
 #[derive(Clone, Copy)]
@@ -64,35 +60,25 @@ impl Reason {
     }
 }
 
-/// A text that is to be JSON, for reports: a file, or a line of one.
+/// Where and why a text is not read as JSON.
 #[derive(Clone, Copy)]
-pub struct JsonText<'a> {
-    pub file: &'a str,
-    /// The number of the line; none of a whole file.
-    pub line: Option<u64>,
+pub struct JsonRefusal {
+    /// The line and the column in the file.
+    line: u64,
+    column: u64,
+    /// Whether the text is a line of the file, and not all of it.
+    is_line: bool,
+    reason: Reason,
 }
 
-impl JsonText<'_> {
-    /// What it is called.
-    fn noun(self) -> &'static str {
-        match self.line {
-            Some(_) => "line",
-            None => "file",
-        }
-    }
-}
-
-/// Why a text is not read as JSON.
-#[derive(Clone, Copy)]
-struct ReasonOf<'a>(Reason, JsonText<'a>);
-
-impl fmt::Display for ReasonOf<'_> {
+impl fmt::Display for JsonRefusal {
     fn fmt<W: fmt::Write>(&self, f: &mut fmt::Formatter<W>) -> fmt::Result {
-        let ReasonOf(reason, text) = *self;
-        if let Reason::TooDeep = reason {
+        write!(f, "{}:{}: ", self.line, self.column)?;
+        if let Reason::TooDeep = self.reason {
             return write!(f, "the JSON nests deeper than {MAX_DEPTH} levels");
         }
-        write!(f, "the {} is not valid JSON{}", text.noun(), reason.text())
+        let noun = if self.is_line { "line" } else { "file" };
+        write!(f, "the {noun} is not valid JSON{}", self.reason.text())
     }
 }
 
@@ -164,37 +150,22 @@ fn end_of_json(alloc: Global, text: &str) -> Result<(usize, Reason), AllocError>
     Ok((text.trim_end().len(), Reason::Incomplete))
 }
 
-/// Says where and why a text is not read as JSON.
-pub(super) fn write_refusal<E: Write>(
+/// Where and why a text is not read as JSON: that of a file, or of the line of this number.
+pub(super) fn refusal_of(
     alloc: Global,
-    err: &mut E,
-    of: JsonText<'_>,
     text: &str,
-) -> Result<(), RunError> {
+    line: Option<u64>,
+) -> Result<JsonRefusal, AllocError> {
     let (end, reason) = end_of_json(alloc, text)?;
-    let Cut { above, before, .. } = Cut::at(text, end);
-    let line = of.line.unwrap_or(1).saturating_add(above as u64);
-    let (file, column) = (Shown(of.file), column_after(before));
-    writeln!(err, "{file}:{line}:{column}: {}", ReasonOf(reason, of))?;
-    Ok(())
-}
-
-/// Says in which line a file has bytes that are no text: it is one up to the offset.
-pub fn write_not_text<E: Write>(
-    err: &mut E,
-    file: &str,
-    bytes: &[u8],
-    valid_up_to: usize,
-) -> io::Result<()> {
-    let line = lines_in(bytes.get(..valid_up_to).unwrap_or(bytes));
-    writeln!(err, "{}:{line}: the line is not valid UTF-8", Shown(file))
-}
-
-/// Says that a file is too long to be read as JSON.
-pub(super) fn write_too_long<E: Write>(err: &mut E, file: &str) -> io::Result<()> {
-    writeln!(
-        err,
-        "patterns: {}: JSON of more than {MAX_LEN} bytes",
-        Shown(file)
-    )
+    let FilePosition {
+        line: own,
+        column,
+        ..
+    } = FilePosition::of(text, end);
+    Ok(JsonRefusal {
+        line: line.unwrap_or(1).saturating_add(own.saturating_sub(1)),
+        column,
+        is_line: line.is_some(),
+        reason,
+    })
 }

@@ -7,7 +7,7 @@ use std::alloc::{AllocError, Global};
 
 /// The tokens of a text of JSON, and where they begin in the text.
 #[derive(Drop)]
-pub struct Tokens<'a> {
+pub(crate) struct Tokens<'a> {
     text: &'a str,
     reader: Reader<'a>,
     /// The byte offset at which the last token begins.
@@ -20,7 +20,7 @@ pub struct Tokens<'a> {
 
 impl<'a> Tokens<'a> {
     /// Those of the text.
-    pub fn new(text: &'a str, scratch: &'a mut Scratch) -> Result<Tokens<'a>, AllocError> {
+    pub(crate) fn new(text: &'a str, scratch: &'a mut Scratch) -> Result<Tokens<'a>, AllocError> {
         Ok(Tokens {
             text,
             reader: Reader::new(text, scratch)?,
@@ -31,23 +31,23 @@ impl<'a> Tokens<'a> {
     }
 
     /// Goes on to the next token; none at the end of the text.
-    pub fn next(&mut self) -> Option<Token<'a>> {
+    pub(crate) fn next(&mut self) -> Option<Token<'a>> {
         self.start = self.reader.offset();
         self.reader.next()
     }
 
     /// The byte offset at which the last token begins.
-    pub fn start(&self) -> usize {
+    pub(crate) fn start(&self) -> usize {
         self.start
     }
 
     /// The text.
-    pub fn text(&self) -> &'a str {
+    pub(crate) fn text(&self) -> &'a str {
         self.text
     }
 
     /// Goes on past a value, whose first token comes next.
-    pub fn skip_value(&mut self) {
+    pub(crate) fn skip_value(&mut self) {
         let mut depth = 0usize;
         for _ in 0..=self.text.len() {
             match self.next() {
@@ -63,8 +63,21 @@ impl<'a> Tokens<'a> {
         }
     }
 
+    /// What is between the quotes of the last token, which is a string.
+    pub(crate) fn contents(&self) -> &'a str {
+        let contents = self.text.get(self.start.saturating_add(1)..).unwrap_or("");
+        let mut is_escaped = false;
+        for (i, c) in contents.char_indices() {
+            if c == '"' && !is_escaped {
+                return contents.get(..i).unwrap_or("");
+            }
+            is_escaped = c == '\\' && !is_escaped;
+        }
+        contents
+    }
+
     /// Where the last token begins, in lines and columns.
-    pub fn position(&mut self) -> FilePosition {
+    pub(crate) fn position(&mut self) -> FilePosition {
         let passed = self.text.get(self.counted..self.start).unwrap_or("");
         let found = self.position.after(passed);
         self.counted = self.start;
@@ -75,58 +88,46 @@ impl<'a> Tokens<'a> {
 
 /// The steps from the root of a text of JSON to the value that a walk over its tokens has come to.
 #[derive(Drop)]
-pub struct Trail<'a> {
+pub(crate) struct Trail<'a> {
     steps: Vec<PathStep<'a>>,
 }
 
 impl<'a> Trail<'a> {
     /// The walk that begins at the root.
-    pub fn new(alloc: Global) -> Trail<'a> {
+    pub(crate) fn new(alloc: Global) -> Trail<'a> {
         Trail {
             steps: Vec::new(alloc),
         }
     }
 
-    /// The path of the value that the walk has come to, as it is written.
-    pub fn path(&self, alloc: Global) -> Result<String, AllocError> {
-        let path = Path { steps: &self.steps };
-        format!(in alloc; "{path}")
-    }
-
     /// The key of the value that the walk has come to; the empty one of a value that has none.
-    pub fn key(&self) -> &'a str {
+    pub(crate) fn key(&self) -> &'a str {
         match self.steps.last() {
             Some(PathStep::Member(key)) => key,
             Some(PathStep::Item(_)) | None => "",
         }
     }
 
-    /// Where the token is that the walk has come to at this position, if it is a text under one of the keys, and that
-    /// text.
-    pub fn pattern(
-        &self,
-        token: Token<'a>,
-        position: FilePosition,
-        keys: Keys<'_>,
-    ) -> Option<(Spot<'_>, &'a str)> {
-        let Token::String(text) = token else {
-            return None;
-        };
-        match self.steps.last() {
-            Some(PathStep::Member(key)) if keys.has(key) => {
-                let spot = Spot::Value {
-                    position,
-                    path: Path { steps: &self.steps },
-                    refers_to_begin: keys.refers_to_begin(key),
-                };
-                Some((spot, text))
-            }
-            _ => None,
+    /// Whether the walk has come to a value under one of the keys, or to any if there are none.
+    pub(crate) fn is_under(&self, keys: Option<Keys<'_>>) -> bool {
+        match (keys, self.steps.last()) {
+            (None, _) => true,
+            (Some(keys), Some(PathStep::Member(key))) => keys.has(key),
+            (Some(_), Some(PathStep::Item(_)) | None) => false,
+        }
+    }
+
+    /// Where the value is that the walk has come to, which begins at this position.
+    pub(crate) fn spot(&self, position: FilePosition, keys: Option<Keys<'_>>) -> Spot<'_> {
+        Spot::Value {
+            position,
+            path: Path { steps: &self.steps },
+            refers_to_begin: keys.is_some_and(|keys| keys.refers_to_begin(self.key())),
         }
     }
 
     /// Goes on past the token.
-    pub fn pass(&mut self, token: Token<'a>) -> Result<(), AllocError> {
+    pub(crate) fn pass(&mut self, token: Token<'a>) -> Result<(), AllocError> {
         match token {
             Token::BeginObject => self.steps.push(PathStep::Member(""))?,
             Token::BeginArray => self.steps.push(PathStep::Item(0))?,

@@ -1,0 +1,169 @@
+//! The reports of a run, in one of the formats.
+ghost use Rattle.std.specs.Prelude.{◌≡◌, false};
+
+use crate::format::ReportFormat;
+use crate::github::Github;
+use crate::json_lines::JsonLines;
+use crate::reporter::Reporter;
+use crate::sarif::Sarif;
+use crate::streams::{Stream, Streams};
+use crate::text::Text;
+use fancy_spans::SpannedTree;
+use fancy_syntax::span::Span;
+use patterns_lint::chosen::Chosen;
+use patterns_lint::problem::Found;
+use patterns_listing::drawing::Look;
+use patterns_text::error::RunError;
+use patterns_text::subject::{Refusal, Subject};
+use std::alloc::Global;
+
+/// How reports are written.
+#[derive(Clone, Copy)]
+pub struct ReportOptions {
+    pub format: ReportFormat,
+    /// Where errors and likely mistakes are written as text: not among patterns that are written.
+    pub stream: Stream,
+    /// How trees are drawn, and whether groups have classes.
+    pub look: Look,
+}
+
+/// Whether SARIF has had a report.
+#[derive(Clone, Copy)]
+pub struct ReportLog {
+    pub(crate) has_reports: bool,
+}
+
+impl ReportLog {
+    /// None yet.
+    pub fn new() -> ReportLog
+        ensures reports { result.has_reports ≡ false }
+    {
+        ReportLog { has_reports: false }
+    }
+}
+
+/// The reports of a run.
+#[derive(Drop)]
+pub enum Reports<'a> {
+    Text(Text<'a>),
+    Json(JsonLines<'a>),
+    Github(Github<'a>),
+    Sarif(Sarif<'a>),
+}
+
+impl<'a> Reports<'a> {
+    /// Those that are written to the streams.
+    pub fn new(
+        options: ReportOptions,
+        streams: &'a mut Streams,
+        log: &'a mut ReportLog,
+    ) -> Reports<'a> {
+        let ReportOptions {
+            format,
+            stream,
+            look,
+        } = options;
+        match format {
+            ReportFormat::Text => Reports::Text(Text {
+                streams,
+                stream,
+                look,
+            }),
+            ReportFormat::Json => Reports::Json(JsonLines {
+                out: &mut streams.out,
+            }),
+            ReportFormat::Github => Reports::Github(Github {
+                out: &mut streams.out,
+            }),
+            ReportFormat::Sarif => Reports::Sarif(Sarif {
+                out: &mut streams.out,
+                log,
+            }),
+        }
+    }
+}
+
+impl Reporter for Reports<'_> {
+    fn begin(&mut self, alloc: Global, is_lint: bool) -> Result<(), RunError> {
+        match self {
+            Reports::Text(reporter) => reporter.begin(alloc, is_lint),
+            Reports::Json(reporter) => reporter.begin(alloc, is_lint),
+            Reports::Github(reporter) => reporter.begin(alloc, is_lint),
+            Reports::Sarif(reporter) => reporter.begin(alloc, is_lint),
+        }
+    }
+
+    fn error(&mut self, subject: Subject<'_>, refusal: &Refusal) -> Result<(), RunError> {
+        match self {
+            Reports::Text(reporter) => reporter.error(subject, refusal),
+            Reports::Json(reporter) => reporter.error(subject, refusal),
+            Reports::Github(reporter) => reporter.error(subject, refusal),
+            Reports::Sarif(reporter) => reporter.error(subject, refusal),
+        }
+    }
+
+    fn refuse(
+        &mut self,
+        subject: Subject<'_>,
+        position: usize,
+        reason: &str,
+    ) -> Result<(), RunError> {
+        match self {
+            Reports::Text(reporter) => reporter.refuse(subject, position, reason),
+            Reports::Json(reporter) => reporter.refuse(subject, position, reason),
+            Reports::Github(reporter) => reporter.refuse(subject, position, reason),
+            Reports::Sarif(reporter) => reporter.refuse(subject, position, reason),
+        }
+    }
+
+    fn problems(
+        &mut self,
+        subject: Subject<'_>,
+        parsed: &SpannedTree,
+        chosen: &Chosen,
+        found: &[Found<'_>],
+    ) -> Result<(), RunError> {
+        match self {
+            Reports::Text(reporter) => reporter.problems(subject, parsed, chosen, found),
+            Reports::Json(reporter) => reporter.problems(subject, parsed, chosen, found),
+            Reports::Github(reporter) => reporter.problems(subject, parsed, chosen, found),
+            Reports::Sarif(reporter) => reporter.problems(subject, parsed, chosen, found),
+        }
+    }
+
+    fn not_searched(&mut self, subject: Subject<'_>, parts: &[Span]) -> Result<(), RunError> {
+        match self {
+            Reports::Text(reporter) => reporter.not_searched(subject, parts),
+            Reports::Json(reporter) => reporter.not_searched(subject, parts),
+            Reports::Github(reporter) => reporter.not_searched(subject, parts),
+            Reports::Sarif(reporter) => reporter.not_searched(subject, parts),
+        }
+    }
+
+    fn groups(&mut self, subject: Subject<'_>, parsed: &SpannedTree) -> Result<(), RunError> {
+        match self {
+            Reports::Text(reporter) => reporter.groups(subject, parsed),
+            Reports::Json(reporter) => reporter.groups(subject, parsed),
+            Reports::Github(reporter) => reporter.groups(subject, parsed),
+            Reports::Sarif(reporter) => reporter.groups(subject, parsed),
+        }
+    }
+
+    fn tree(&mut self, subject: Subject<'_>, parsed: &SpannedTree) -> Result<(), RunError> {
+        match self {
+            Reports::Text(reporter) => reporter.tree(subject, parsed),
+            Reports::Json(reporter) => reporter.tree(subject, parsed),
+            Reports::Github(reporter) => reporter.tree(subject, parsed),
+            Reports::Sarif(reporter) => reporter.tree(subject, parsed),
+        }
+    }
+
+    fn end(&mut self) -> Result<(), RunError> {
+        match self {
+            Reports::Text(reporter) => reporter.end(),
+            Reports::Json(reporter) => reporter.end(),
+            Reports::Github(reporter) => reporter.end(),
+            Reports::Sarif(reporter) => reporter.end(),
+        }
+    }
+}

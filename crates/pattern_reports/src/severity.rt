@@ -1,0 +1,38 @@
+//! How bad it is what is reported.
+use patterns_lint::chosen::Level;
+use patterns_text::paint::Ink;
+
+/// How bad it is what is reported.
+#[derive(Clone, Copy, PartialEq, Eq)]
+pub(crate) enum Severity {
+    Error,
+    Warning,
+    Note,
+}
+
+impl Severity {
+    /// That of a report of a rule with this level, which is not silent.
+    pub(crate) fn of(level: Level) -> Severity {
+        match level {
+            Level::Deny => Severity::Error,
+            Level::Warn | Level::Allow => Severity::Warning,
+        }
+    }
+
+    /// What it is called.
+    pub(crate) fn word(self) -> &'static str {
+        match self {
+            Severity::Error => "error",
+            Severity::Warning => "warning",
+            Severity::Note => "note",
+        }
+    }
+
+    /// How it is coloured.
+    pub(crate) fn ink(self) -> Ink {
+        match self {
+            Severity::Error => Ink::Error,
+            Severity::Warning | Severity::Note => Ink::Warning,
+        }
+    }
+}

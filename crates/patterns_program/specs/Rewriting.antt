@@ -1,0 +1,9 @@
+-- What becomes of a pattern that is fixed or formatted.
+use Rattle.std.specs.Prelude.{ℕ, List, ⊤, string_bytes}
+use Rattle.patterns_program.specs.declared.rewriting.Rewriting.{Rewriting}
+use Rattle.patterns_program.specs.declared.rewriting.Rewriting.TheVariants.{Stays, Changed}
+
+-- P holds of the bytes of the text that the pattern becomes, if it becomes another
+abbrev pub IfChanged : (List ℕ → Type 0) → Rewriting → Type 0
+IfChanged P (Changed text) = P (string_bytes text)
+IfChanged P (Stays outcome) = ⊤
