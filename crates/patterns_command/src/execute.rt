@@ -1,27 +1,30 @@
 //! What the program does with its arguments.
+ghost use Rattle.std.specs.Prelude.{◌≤◌, IfOk};
+
+use crate::chosen::{canvas_of, choices_of, files_of, job_of, look_of, report_format_of, width_of};
+use crate::command::command;
+use crate::options::{FILE, FLAGS, PATTERN, REGEXP, RULES};
 use crate::rules::levels_chosen;
-use crate::words::{
-    ReportFormat, canvas_chosen, choices_chosen, command, fixing_chosen, flags_chosen, form_chosen,
-    format_chosen, look_chosen, max_warnings_chosen, paints_chosen, pattern_chosen, verb_chosen,
-    width_chosen,
-};
+use crate::subcommands::{PatternVerb, Verb};
+use crate::value_names::ValueNames;
 use clap::error::ErrorKind;
 use clap::{ArgMatches, Error};
-use fre_program::flag_word::FLAG_WORD;
+use fre_program::flag_word::{FLAG_WORD, flags_named};
+use pattern_files::file_pattern::read_pattern;
+use pattern_files::form::FileFormat;
+use pattern_files::lines::Ending;
+use pattern_files::sources::{STANDARD_INPUT, System};
 use pattern_format::style::Style;
-use patterns_lint::chosen::Chosen;
+use pattern_reports::format::ReportFormat;
+use patterns_config::choices::{Choices, RuleLevel};
 use patterns_lint::rule::write_rules;
-use patterns_picture::picture::draw_picture;
-use patterns_program::choices::{RuleLevel, rule_names};
-use patterns_program::draw::{draw_tree, write_tree};
-use patterns_program::file_pattern::read_pattern;
-use patterns_program::fixes::FixMode;
-use patterns_program::form::FileFormat;
-use patterns_program::formatted::PatternForm;
-use patterns_program::lines::Ending;
+use patterns_listing::drawing::Look;
+use patterns_picture::picture::{Canvas, draw_picture};
+use patterns_program::draw::draw_tree;
+use patterns_program::job::{Command, Job, Output};
 use patterns_program::pattern_flags::flags_of_pattern;
-use patterns_program::run::{Job, STANDARD_INPUT, Verb, run};
-use patterns_program::sources::System;
+use patterns_program::rewriting::PatternForm;
+use patterns_program::run::run;
 use patterns_text::error::{RunError, give_up};
 use patterns_text::paint::Paints;
 use patterns_text::subject::Subject;
@@ -31,248 +34,274 @@ use std::io::Write;
 /// The exit status if the arguments are wrong, or the pattern that they choose cannot be read.
 const MISUSED: u8 = 2;
 
-/// Writes the help that was asked for to `out`, or what is wrong with the arguments to `err`.
-fn explain<O: Write, E: Write>(error: &Error, out: &mut O, err: &mut E) -> Result<u8, RunError> {
+/// What is said where standard output would have both reports and patterns that are fixed.
+const NO_REPORTS: &str =
+    "with --json or --format, --fix takes files: it writes other patterns to standard output";
+
+/// What is said where `format` would write to standard output what is in no line.
+const NO_LINES: &str =
+    "with --textmate, --keys or --records, format takes --write, --check or --diff";
+
+/// What is said where a pattern of several lines would be written to a file of lines.
+const NO_RECORDS: &str = "with --verbose, format takes -e, -z, --textmate or --keys";
+
+/// Why the arguments ask for no run.
+#[derive(Drop)]
+enum NoRun {
+    /// They ask for this help.
+    Help(String),
+    /// They ask for the list of rules.
+    Rules,
+    /// They are wrong, for this reason.
+    Misuse(String),
+    /// Out of memory.
+    Memory(AllocError),
+}
+
+impl From<AllocError> for NoRun {
+    fn from(error: AllocError) -> NoRun {
+        NoRun::Memory(error)
+    }
+}
+
+/// What is drawn of one pattern.
+#[derive(Clone, Copy)]
+enum Drawing {
+    Tree(ReportFormat, Look),
+    /// A picture of at most this width.
+    Picture(Canvas, usize),
+}
+
+/// Where the one pattern is.
+#[derive(Clone, Copy)]
+enum PatternSource<'m> {
+    /// It is an argument.
+    Argument(&'m str),
+    /// It is at this position of a file.
+    Position(&'m str),
+}
+
+/// A pattern that is drawn.
+#[derive(Clone, Copy)]
+struct DrawnPattern<'m> {
+    drawing: Drawing,
+    source: PatternSource<'m>,
+    /// What the arguments choose where a configuration may say otherwise.
+    choices: Choices<'m>,
+}
+
+/// What the arguments ask for.
+#[derive(Clone, Copy)]
+enum Request<'m> {
+    /// A job over files.
+    Files(Job<'m>, &'m [&'m str]),
+    Pattern(DrawnPattern<'m>),
+}
+
+/// That the arguments are wrong.
+fn misused(alloc: Global, reason: &str) -> Result<NoRun, AllocError> {
+    Ok(NoRun::Misuse(format!(in alloc; "patterns: {reason}\n")?))
+}
+
+/// What follows from an error of the arguments.
+fn no_run(alloc: Global, error: &Error) -> Result<NoRun, AllocError> {
     if error.kind() == ErrorKind::OutOfMemory {
-        return Err(RunError::Memory(AllocError));
+        return Err(AllocError);
     }
-    if error.use_stderr() {
-        write!(err, "{error}")?;
-        return Ok(MISUSED);
-    }
-    write!(out, "{error}")?;
-    out.flush()?;
-    Ok(0)
+    let text = format!(in alloc; "{error}")?;
+    Ok(if error.use_stderr() {
+        NoRun::Misuse(text)
+    } else {
+        NoRun::Help(text)
+    })
 }
 
-/// Reports letters that are no flags.
-fn explain_flags<E: Write>(err: &mut E) -> Result<u8, RunError> {
-    writeln!(err, "patterns: --flags takes {FLAG_WORD}")?;
-    Ok(MISUSED)
-}
-
-/// Whether standard output has either reports or patterns that are fixed: where it has patterns, reports are text.
-fn can_report(verb: Verb, fixing: Option<FixMode>) -> bool {
-    match fixing {
-        Some(FixMode::Write { has_output: true }) => {
-            matches!(verb, Verb::Lint(_) | Verb::IsFormatted(_))
+/// Why a job cannot be done, if it cannot.
+fn misuse_of(job: Job<'_>, has_files: bool) -> Option<&'static str> {
+    match (job.command, job.output, job.choices.form) {
+        (_, Output::Files { has_output: true }, _) if job.format != ReportFormat::Text => {
+            Some(NO_REPORTS)
         }
-        Some(FixMode::Write { has_output: false } | FixMode::Show) | None => true,
-    }
-}
-
-/// Says that standard output cannot have both.
-fn explain_fix<E: Write>(err: &mut E) -> Result<u8, RunError> {
-    writeln!(
-        err,
-        "patterns: with --json or --format, --fix takes files: it writes other patterns to standard output"
-    )?;
-    Ok(MISUSED)
-}
-
-/// What `format` cannot do with the arguments, if there is something.
-fn format_misuse(verb: Verb, form: FileFormat<'_>, has_files: bool) -> Option<&'static str> {
-    match (verb, form) {
-        (Verb::Format(_), FileFormat::Values(_) | FileFormat::Extracted) => {
-            Some("with --textmate, --keys or --records, format takes --write, --check or --diff")
-        }
+        (_, Output::Patterns, FileFormat::Values(_) | FileFormat::Extracted) => Some(NO_LINES),
         (
-            Verb::Format(PatternForm::Written(Style::Verbose { .. }))
-            | Verb::IsFormatted(PatternForm::Written(Style::Verbose { .. })),
+            Command::Format(PatternForm::Written(Style::Verbose { .. })),
+            _,
             FileFormat::Records(Ending::Line),
-        ) if has_files => Some("with --verbose, format takes -e, -z, --textmate or --keys"),
+        ) if has_files => Some(NO_RECORDS),
         _ => None,
     }
 }
 
-/// Says what is wrong with the arguments.
-fn explain_misuse<E: Write>(misuse: &str, err: &mut E) -> Result<u8, RunError> {
-    writeln!(err, "patterns: {misuse}")?;
-    Ok(MISUSED)
+/// What is drawn of one pattern.
+fn drawing_of(verb: PatternVerb, matches: &ArgMatches<'_>) -> Drawing {
+    match verb {
+        PatternVerb::Tree => Drawing::Tree(report_format_of(matches), look_of(matches)),
+        PatternVerb::Picture => Drawing::Picture(canvas_of(matches), width_of(matches)),
+    }
 }
 
-/// A call of the program: what it reads from and writes to, and the colours where the arguments leave them open.
-#[derive(Drop)]
-struct ProgramCall<'a, S, O, E> {
+/// Where the one pattern is. The command line has one of the three.
+fn source_of<'m>(matches: &'m ArgMatches<'_>) -> Option<PatternSource<'m>> {
+    if let Some(pattern) = matches.get_str(REGEXP.id) {
+        return Some(PatternSource::Argument(pattern));
+    }
+    if let Some(pattern) = matches.get_str(PATTERN.id) {
+        return Some(PatternSource::Argument(pattern));
+    }
+    Some(PatternSource::Position(matches.get_str(FILE.id)?))
+}
+
+/// What the arguments of a subcommand ask for.
+fn request_of<'m>(
     alloc: Global,
     auto: Paints,
-    sources: &'a S,
-    out: &'a mut O,
-    err: &'a mut E,
+    verb: Verb,
+    matches: &'m ArgMatches<'_>,
+    levels: &'m [RuleLevel<'m>],
+) -> Result<Request<'m>, NoRun> {
+    let Some(flags) = matches.get_str(FLAGS.id).and_then(flags_named) else {
+        let text = format!(in alloc; "patterns: --flags takes {FLAG_WORD}\n")?;
+        return Err(NoRun::Misuse(text));
+    };
+    if matches.get_flag(RULES.id) {
+        return Err(NoRun::Rules);
+    }
+    let choices = choices_of(matches, flags, levels);
+    match verb {
+        Verb::Files(verb) => {
+            let job = job_of(verb, auto, matches, choices);
+            let files = files_of(matches);
+            match misuse_of(job, !files.is_empty()) {
+                Some(reason) => Err(misused(alloc, reason)?),
+                None => Ok(Request::Files(job, files)),
+            }
+        }
+        Verb::Pattern(verb) => match source_of(matches) {
+            Some(source) => Ok(Request::Pattern(DrawnPattern {
+                drawing: drawing_of(verb, matches),
+                source,
+                choices,
+            })),
+            None => Err(NoRun::Misuse(String::new(alloc))),
+        },
+    }
 }
 
-impl<S: System, O: Write, E: Write> ProgramCall<'_, S, O, E> {
-    /// Draws the tree of a pattern, in lines of text or as a picture.
-    fn draw(&mut self, name: &str, subject: Subject<'_>, matches: &ArgMatches<'_>) -> u8 {
-        if name == "picture" {
-            return draw_picture(
-                subject,
-                canvas_chosen(matches),
-                width_chosen(matches),
-                self.out,
-                self.err,
-            );
+/// Writes why nothing is run, and returns the exit status.
+fn explain<O: Write, E: Write>(reason: NoRun, out: &mut O, err: &mut E) -> Result<u8, RunError>
+    ensures status { IfOk result (λ status. status ≤ 3) }
+{
+    match reason {
+        NoRun::Help(text) => out.write_all(text.as_bytes())?,
+        NoRun::Rules => write_rules(out)?,
+        NoRun::Misuse(text) => {
+            err.write_all(text.as_bytes())?;
+            return Ok(MISUSED);
         }
-        if matches.get_flag("json") {
-            return write_tree(subject, self.out, self.err);
-        }
-        draw_tree(subject, look_chosen(matches), self.out, self.err)
+        NoRun::Memory(error) => return Err(RunError::Memory(error)),
     }
+    out.flush()?;
+    Ok(0)
+}
 
-    /// The job that the arguments choose, where no file is changed.
-    fn job_chosen<'m>(
-        &self,
-        verb: Verb,
-        flags: u32,
-        matches: &'m ArgMatches<'_>,
-        levels: &'m [RuleLevel<'m>],
-    ) -> Job<'m> {
-        Job {
-            verb,
-            flags,
-            form: form_chosen(matches),
-            fixing: None,
-            patterns: &[],
-            is_quiet: matches.get_flag("quiet"),
-            max_warnings: max_warnings_chosen(matches),
-            paints: paints_chosen(matches, self.auto),
-            choices: choices_chosen(matches, levels),
-        }
+/// Draws a pattern, and returns the exit status.
+fn draw<O: Write, E: Write>(drawing: Drawing, subject: Subject<'_>, out: &mut O, err: &mut E) -> u8
+    ensures status { result ≤ 3 }
+{
+    match drawing {
+        Drawing::Tree(format, look) => draw_tree(subject, format, look, out, err),
+        Drawing::Picture(canvas, width) => draw_picture(subject, canvas, width, out, err),
     }
+}
 
-    /// The flags that a pattern of the file is parsed under, as its configuration and the arguments choose them; none if
-    /// the configuration cannot be read.
-    fn flags_of(
-        &mut self,
-        file: &str,
-        flags: u32,
-        matches: &ArgMatches<'_>,
-    ) -> Result<Option<u32>, RunError> {
-        let job = self.job_chosen(Verb::Check, flags, matches, &[]);
-        flags_of_pattern(self.alloc, job, file, self.sources, self.err)
-    }
-
-    /// Draws the tree of the pattern that the arguments give, or choose from a file.
-    fn execute_pattern(
-        &mut self,
-        name: &str,
-        flags: u32,
-        matches: &ArgMatches<'_>,
-    ) -> Result<u8, RunError> {
-        let alloc = self.alloc;
-        if let Some(pattern) = pattern_chosen(matches) {
-            let Some(flags) = self.flags_of(STANDARD_INPUT, flags, matches)? else {
+/// Draws the pattern, under the flags that its configuration and the arguments choose, and returns the exit status.
+fn draw_chosen<S: System, O: Write, E: Write>(
+    alloc: Global,
+    chosen: DrawnPattern<'_>,
+    sources: &S,
+    out: &mut O,
+    err: &mut E,
+) -> Result<u8, RunError>
+    ensures status { IfOk result (λ status. status ≤ 3) }
+{
+    let choices = chosen.choices;
+    match chosen.source {
+        PatternSource::Argument(pattern) => {
+            let Some(flags) = flags_of_pattern(alloc, choices, STANDARD_INPUT, sources, err)? else {
                 return Ok(MISUSED);
             };
-            return Ok(self.draw(name, Subject::of_argument(alloc, flags, pattern), matches));
+            let subject = Subject::of_argument(alloc, flags, pattern);
+            Ok(draw(chosen.drawing, subject, out, err))
         }
-        let Some(position) = matches.get_str("file") else {
-            return Ok(MISUSED);
-        };
-        let Some(found) = read_pattern(alloc, position, self.sources, self.err)? else {
-            return Ok(MISUSED);
-        };
-        match self.flags_of(found.file(), flags, matches)? {
-            Some(flags) => Ok(self.draw(name, found.subject(alloc, flags), matches)),
-            None => Ok(MISUSED),
+        PatternSource::Position(position) => {
+            let Some(found) = read_pattern(alloc, position, sources, err)? else {
+                return Ok(MISUSED);
+            };
+            let Some(flags) = flags_of_pattern(alloc, choices, found.file(), sources, err)? else {
+                return Ok(MISUSED);
+            };
+            Ok(draw(chosen.drawing, found.subject(alloc, flags), out, err))
         }
     }
+}
 
-    /// Runs a subcommand over files.
-    fn execute_files<'m>(
-        &mut self,
-        verb: Verb,
-        flags: u32,
-        matches: &'m ArgMatches<'_>,
-        levels: &'m [RuleLevel<'m>],
-    ) -> Result<u8, RunError> {
-        let files = matches.get_strs("files").unwrap_or(&[]);
-        let patterns = matches.get_strs("regexp").unwrap_or(&[]);
-        let is_written = !patterns.is_empty() || files.contains(&STANDARD_INPUT);
-        let has_output = is_written && !matches.get_flag("records");
-        let fixing = fixing_chosen(matches, has_output);
-        if !can_report(verb, fixing) {
-            return explain_fix(self.err);
-        }
-        let job = Job {
-            fixing,
-            patterns,
-            ..self.job_chosen(verb, flags, matches, levels)
-        };
-        if let Some(misuse) = format_misuse(verb, job.form, !files.is_empty()) {
-            return explain_misuse(misuse, self.err);
-        }
-        Ok(run(self.alloc, job, files, self.sources, self.out, self.err))
+/// The command line with the arguments.
+fn parsed<'a>(
+    alloc: Global,
+    names: &'a ValueNames,
+    words: &'a [String],
+) -> Result<ArgMatches<'a>, NoRun> {
+    match command(alloc, names)?.try_get_matches_from(words) {
+        Ok(matches) => Ok(matches),
+        Err(error) => Err(no_run(alloc, &error)?),
     }
+}
 
-    /// Lists the rules of `lint`, or reports what they find in files.
-    fn execute_lint(&mut self, flags: u32, matches: &ArgMatches<'_>) -> Result<u8, RunError> {
-        if matches.get_flag("rules") {
-            write_rules(self.out)?;
-            self.out.flush()?;
-            return Ok(0);
-        }
-        let levels = levels_chosen(self.alloc, matches)?;
-        // The run gives them to the rules, for each file after those of its configuration.
-        let chosen = Chosen::new();
-        let verb = match format_chosen(matches) {
-            ReportFormat::Text => Verb::Lint(chosen),
-            ReportFormat::Json => Verb::LintJson(chosen),
-            ReportFormat::Annotations(format) => Verb::LintAnnotate(chosen, format),
-        };
-        self.execute_files(verb, flags, matches, &levels)
-    }
-
-    /// Runs a subcommand.
-    fn execute_verb(&mut self, name: &str, matches: &ArgMatches<'_>) -> Result<u8, RunError> {
-        let Some(flags) = flags_chosen(matches) else {
-            return explain_flags(self.err);
-        };
-        if name == "tree" || name == "picture" {
-            return self.execute_pattern(name, flags, matches);
-        }
-        if name == "lint" {
-            return self.execute_lint(flags, matches);
-        }
-        let Some(verb) = verb_chosen(name, matches) else {
-            return Ok(MISUSED);
-        };
-        self.execute_files(verb, flags, matches, &[])
-    }
-
-    /// Runs the subcommand that the arguments choose, or reports what is wrong with them.
-    fn execute(&mut self, words: &[String]) -> Result<u8, RunError> {
-        let rules = rule_names(self.alloc)?;
-        match command(self.alloc, &rules)?.try_get_matches_from(words) {
-            Ok(matches) => match matches.subcommand() {
-                Some((name, chosen)) => self.execute_verb(name, chosen),
-                None => Ok(MISUSED),
-            },
-            Err(error) => explain(&error, self.out, self.err),
-        }
+/// Does what the arguments ask, and returns the exit status.
+fn execute_words<S: System, O: Write, E: Write>(
+    alloc: Global,
+    auto: Paints,
+    words: &[String],
+    sources: &S,
+    out: &mut O,
+    err: &mut E,
+) -> Result<u8, RunError>
+    ensures status { IfOk result (λ status. status ≤ 3) }
+{
+    let names = ValueNames::new(alloc)?;
+    let matches = match parsed(alloc, &names, words) {
+        Ok(matches) => matches,
+        Err(reason) => return explain(reason, out, err),
+    };
+    let Some((name, chosen)) = matches.subcommand() else {
+        return Ok(MISUSED);
+    };
+    let Some(verb) = Verb::named(name) else {
+        return Ok(MISUSED);
+    };
+    let levels = levels_chosen(alloc, chosen)?;
+    match request_of(alloc, auto, verb, chosen, &levels) {
+        Ok(Request::Files(job, files)) => Ok(run(alloc, job, files, sources, out, err)),
+        Ok(Request::Pattern(pattern)) => draw_chosen(alloc, pattern, sources, out, err),
+        Err(reason) => explain(reason, out, err),
     }
 }
 
 /// Does what the arguments ask, the program's name first, and returns the exit status: that of the run, or 0 if help
 /// was asked for, 2 if the arguments are wrong, and 3 if memory ran out or a write failed. Where the arguments leave it
 /// open, `auto` says which stream has colours.
-pub fn execute<'a, S: System, O: Write, E: Write>(
+pub fn execute<S: System, O: Write, E: Write>(
     alloc: Global,
     auto: Paints,
     words: &[String],
-    sources: &'a S,
-    out: &'a mut O,
-    err: &'a mut E,
-) -> u8 {
-    let mut call = ProgramCall {
-        alloc,
-        auto,
-        sources,
-        out,
-        err,
-    };
-    match call.execute(words) {
+    sources: &S,
+    out: &mut O,
+    err: &mut E,
+) -> u8
+    ensures status { result ≤ 3 }
+{
+    match execute_words(alloc, auto, words, sources, out, err) {
         Ok(status) => status,
-        Err(error) => give_up(call.err, error),
+        Err(error) => give_up(err, error),
     }
 }

@@ -1,15 +1,8 @@
 //! The levels of rules that the arguments choose.
 use clap::ArgMatches;
+use patterns_config::choices::{LEVELS, RuleLevel};
 use patterns_lint::chosen::Level;
-use patterns_program::choices::RuleLevel;
 use std::alloc::{AllocError, Global};
-
-/// The options that give a level to rules.
-static OPTIONS: [(&str, Level); 3] = [
-    ("allow", Level::Allow),
-    ("warn", Level::Warn),
-    ("deny", Level::Deny),
-];
 
 /// A level that the arguments give to a rule, or to all.
 #[derive(Clone, Copy)]
@@ -44,7 +37,7 @@ pub(crate) fn levels_chosen<'a>(
     matches: &ArgMatches<'a>,
 ) -> Result<Vec<RuleLevel<'a>>, AllocError> {
     let mut choices = Vec::new(alloc);
-    for (option, level) in OPTIONS.iter() {
+    for (option, level) in LEVELS.iter() {
         add_choices(&mut choices, matches, option, *level)?;
     }
     choices.sort_unstable_by_key(|choice| choice.index);

@@ -1,0 +1,223 @@
+//! What the arguments choose.
+use crate::options::*;
+use crate::subcommands::FileVerb;
+use crate::value_names::format_named;
+use clap::ArgMatches;
+use clap::parser::ValueSource;
+use pattern_files::form::FileFormat;
+use pattern_files::lines::Ending;
+use pattern_files::sources::STANDARD_INPUT;
+use pattern_files::values::keys::Keys;
+use pattern_format::style::Style;
+use pattern_reports::format::ReportFormat;
+use patterns_config::choices::{Choices, ConfigChoice, RuleLevel};
+use patterns_listing::drawing::{Look, Style as LineStyle};
+use patterns_picture::picture::{Canvas, WIDTH as PICTURE_WIDTH};
+use patterns_program::canonical::Comments;
+use patterns_program::job::{Command, Job, Output};
+use patterns_program::rewriting::PatternForm;
+use patterns_text::paint::{Paint, Paints};
+
+/// How many characters a line of a pattern may have that is laid out, where the arguments leave it open.
+const LINE_WIDTH: usize = 80;
+
+/// The colours of the two streams; `auto` where the arguments leave them open.
+fn paints_of(matches: &ArgMatches<'_>, auto: Paints) -> Paints {
+    match matches.get_str(COLOR.id) {
+        Some("always") => Paints::both(Paint::Colored),
+        Some("never") => Paints::both(Paint::Plain),
+        _ => auto,
+    }
+}
+
+/// The style of patterns that are formatted.
+fn style_of(matches: &ArgMatches<'_>) -> Style {
+    if matches.get_flag(VERBOSE.id) {
+        return Style::Verbose {
+            width: matches.get_one(WIDTH.id).unwrap_or(LINE_WIDTH),
+        };
+    }
+    if matches.get_flag(COMPACT.id) {
+        Style::Compact
+    } else {
+        Style::Kept
+    }
+}
+
+/// The form of patterns that are formatted.
+fn pattern_form_of(matches: &ArgMatches<'_>) -> PatternForm {
+    if !matches.get_flag(CANONICAL.id) {
+        return PatternForm::Written(style_of(matches));
+    }
+    PatternForm::Canonical(if matches.get_flag(DROP_COMMENTS.id) {
+        Comments::Drop
+    } else {
+        Comments::Keep
+    })
+}
+
+/// What is done with each pattern.
+fn command_of(verb: FileVerb, matches: &ArgMatches<'_>) -> Command {
+    match verb {
+        FileVerb::Check => Command::Check,
+        FileVerb::Lint => Command::Lint,
+        FileVerb::Format => Command::Format(pattern_form_of(matches)),
+        FileVerb::Groups => Command::Groups {
+            has_classes: matches.get_flag(CLASSES.id),
+        },
+    }
+}
+
+/// The patterns that are arguments.
+fn patterns_of<'m>(matches: &'m ArgMatches<'_>) -> &'m [&'m str] {
+    matches.get_strs(REGEXP.id).unwrap_or(&[])
+}
+
+/// The files.
+pub(crate) fn files_of<'m>(matches: &'m ArgMatches<'_>) -> &'m [&'m str] {
+    matches.get_strs(FILES.id).unwrap_or(&[])
+}
+
+/// Whether there are patterns, other than records, that are in no file.
+fn has_output(matches: &ArgMatches<'_>) -> bool {
+    let is_read = !patterns_of(matches).is_empty() || files_of(matches).contains(&STANDARD_INPUT);
+    is_read && !matches.get_flag(RECORDS.id)
+}
+
+/// What becomes of patterns that are fixed or formatted.
+fn output_of(verb: FileVerb, matches: &ArgMatches<'_>) -> Output {
+    if matches.get_flag(FIX.id) || matches.get_flag(WRITE.id) {
+        return Output::Files {
+            has_output: has_output(matches),
+        };
+    }
+    if matches.get_flag(DIFF.id) {
+        return Output::Diff;
+    }
+    if matches.get_flag(CHECK.id) {
+        return Output::Check;
+    }
+    match verb {
+        FileVerb::Format => Output::Patterns,
+        FileVerb::Check | FileVerb::Lint | FileVerb::Groups => Output::Reports,
+    }
+}
+
+/// How reports are written.
+pub(crate) fn report_format_of(matches: &ArgMatches<'_>) -> ReportFormat {
+    if matches.get_flag(JSON.id) {
+        return ReportFormat::Json;
+    }
+    match matches.get_str(FORMAT.id) {
+        Some(name) => format_named(name).unwrap_or(ReportFormat::Text),
+        None => ReportFormat::Text,
+    }
+}
+
+/// What a pattern ends with.
+fn ending_of(matches: &ArgMatches<'_>) -> Ending {
+    if matches.get_flag(NULL_DATA.id) {
+        Ending::Null
+    } else {
+        Ending::Line
+    }
+}
+
+/// How the files have patterns.
+fn file_format_of<'m>(matches: &'m ArgMatches<'_>) -> FileFormat<'m> {
+    if matches.get_flag(RECORDS.id) {
+        return FileFormat::Extracted;
+    }
+    let has_textmate = matches.get_flag(TEXTMATE.id);
+    let named = matches.get_strs(KEYS.id);
+    if !has_textmate && named.is_none() {
+        return FileFormat::Records(ending_of(matches));
+    }
+    FileFormat::Values(Keys {
+        has_textmate,
+        named: named.unwrap_or(&[]),
+        configured: &[],
+    })
+}
+
+/// Which configuration is read.
+fn config_of<'m>(matches: &'m ArgMatches<'_>) -> ConfigChoice<'m> {
+    if matches.get_flag(NO_CONFIG.id) {
+        return ConfigChoice::None;
+    }
+    match matches.get_str(CONFIG.id) {
+        Some(file) => ConfigChoice::File(file),
+        None => ConfigChoice::Nearest,
+    }
+}
+
+/// What the arguments choose where a configuration may say otherwise.
+pub(crate) fn choices_of<'m>(
+    matches: &'m ArgMatches<'_>,
+    flags: u32,
+    levels: &'m [RuleLevel<'m>],
+) -> Choices<'m> {
+    let form = file_format_of(matches);
+    Choices {
+        config: config_of(matches),
+        flags,
+        has_flags: matches.value_source(FLAGS.id) == Some(ValueSource::CommandLine),
+        form,
+        has_form: match form {
+            FileFormat::Values(_) | FileFormat::Extracted | FileFormat::Records(Ending::Null) => {
+                true
+            }
+            FileFormat::Records(Ending::Line) => matches.get_flag(LINES.id),
+        },
+        is_verbose: matches.get_flag(VERBOSE.id),
+        levels,
+    }
+}
+
+/// The job over files.
+pub(crate) fn job_of<'m>(
+    verb: FileVerb,
+    auto: Paints,
+    matches: &'m ArgMatches<'_>,
+    choices: Choices<'m>,
+) -> Job<'m> {
+    Job {
+        command: command_of(verb, matches),
+        format: report_format_of(matches),
+        output: output_of(verb, matches),
+        patterns: patterns_of(matches),
+        is_quiet: matches.get_flag(QUIET.id),
+        max_warnings: matches.get_one(MAX_WARNINGS.id),
+        paints: paints_of(matches, auto),
+        choices,
+    }
+}
+
+/// How a tree is drawn.
+pub(crate) fn look_of(matches: &ArgMatches<'_>) -> Look {
+    Look {
+        style: if matches.get_flag(ASCII.id) {
+            LineStyle::Ascii
+        } else {
+            LineStyle::Lines
+        },
+        has_spans: matches.get_flag(SPANS.id),
+        has_each_literal: matches.get_flag(ALL.id),
+        has_classes: matches.get_flag(CLASSES.id),
+        has_trivia: matches.get_flag(TRIVIA.id),
+    }
+}
+
+/// What a picture is written as.
+pub(crate) fn canvas_of(matches: &ArgMatches<'_>) -> Canvas {
+    if matches.get_flag(HTML.id) {
+        Canvas::Page
+    } else {
+        Canvas::Svg
+    }
+}
+
+/// How wide a picture may be, in pixels.
+pub(crate) fn width_of(matches: &ArgMatches<'_>) -> usize {
+    matches.get_one(WIDTH.id).unwrap_or(PICTURE_WIDTH)
+}

@@ -1,0 +1,234 @@
+//! The subcommands: a row for each.
+use crate::option::OptionRow;
+use crate::options::*;
+
+/// What a subcommand does with the patterns of files.
+#[derive(Clone, Copy, PartialEq, Eq)]
+pub(crate) enum FileVerb {
+    Check,
+    Lint,
+    Format,
+    Groups,
+}
+
+/// What a subcommand does with one pattern.
+#[derive(Clone, Copy, PartialEq, Eq)]
+pub(crate) enum PatternVerb {
+    Tree,
+    Picture,
+}
+
+/// What a subcommand does.
+#[derive(Clone, Copy, PartialEq, Eq)]
+pub(crate) enum Verb {
+    Files(FileVerb),
+    Pattern(PatternVerb),
+}
+
+/// All of them, in the order of the help.
+pub(crate) static VERBS: [Verb; 6] = [
+    Verb::Files(FileVerb::Check),
+    Verb::Pattern(PatternVerb::Tree),
+    Verb::Pattern(PatternVerb::Picture),
+    Verb::Files(FileVerb::Lint),
+    Verb::Files(FileVerb::Format),
+    Verb::Files(FileVerb::Groups),
+];
+
+/// A subcommand.
+#[derive(Clone, Copy)]
+pub(crate) struct Subcommand {
+    pub(crate) name: &'static str,
+    /// What it does, in a line.
+    pub(crate) about: &'static str,
+    /// What `--help` says of it, if that is more.
+    pub(crate) long_about: Option<&'static str>,
+    /// What its help begins with.
+    pub(crate) example: &'static str,
+    /// Its options, besides those of all subcommands over files, or of all that read one pattern.
+    pub(crate) options: &'static [OptionRow],
+}
+
+/// The options of subcommands over files.
+static FILE_OPTIONS: [OptionRow; 12] = [
+    FLAGS, REGEXP, NULL_DATA, LINES, QUIET, COLOR, CONFIG, NO_CONFIG, FILES, TEXTMATE, KEYS,
+    RECORDS,
+];
+
+/// The options that choose one pattern and its configuration.
+static PATTERN_OPTIONS: [OptionRow; 5] = [ONE_REGEXP, FILE, CONFIG, NO_CONFIG, PATTERN];
+
+static CHECK_OPTIONS: [OptionRow; 2] = [FORMAT, JSON];
+
+static TREE_OPTIONS: [OptionRow; 7] = [FLAGS, ASCII, SPANS, TRIVIA, ALL, CLASSES, JSON];
+
+static PICTURE_OPTIONS: [OptionRow; 3] = [FLAGS, HTML, WIDTH];
+
+static LINT_OPTIONS: [OptionRow; 10] = [
+    ALLOW,
+    WARN,
+    DENY,
+    MAX_WARNINGS,
+    FIX,
+    DIFF,
+    FORMAT,
+    JSON,
+    VERBOSE,
+    RULES,
+];
+
+static FORMAT_OPTIONS: [OptionRow; 8] = [
+    WRITE,
+    CHECK,
+    FORMAT_DIFF,
+    FORMAT_VERBOSE,
+    FORMAT_WIDTH,
+    COMPACT,
+    CANONICAL,
+    DROP_COMMENTS,
+];
+
+static GROUPS_OPTIONS: [OptionRow; 2] = [LISTED_CLASSES, JSON];
+
+impl FileVerb {
+    /// Its row.
+    fn row(self) -> Subcommand {
+        match self {
+            FileVerb::Check => Subcommand {
+                name: "check",
+                about: "Reports each invalid pattern, with the position and the reason",
+                long_about: None,
+                example: r"Example: patterns check dates.txt
+
+  dates.txt:2:29: Opening parenthesis without closing parenthesis
+  (?<year>\d{4})-(?<month>\d\d
+                 -            ^
+                 opened here",
+                options: &CHECK_OPTIONS,
+            },
+            FileVerb::Lint => Subcommand {
+                name: "lint",
+                about: "Reports likely mistakes in valid patterns",
+                long_about: Some(
+                    "Reports likely mistakes in valid patterns.
+
+The exit status is 0 if every pattern is valid, no denied rule reports, and there are no more
+warnings than --max-warnings allows, and 1 if not. docs/lint.md says what each rule reports, and
+when it is silent.
+
+--allow, --warn and --deny take the names of rules, with commas between, or all. Each can be given
+several times. Of those that name a rule the last one counts, and all names every rule; but
+--warn all leaves rules as they are whose reports are errors by default.",
+                ),
+                example: "Example: patterns lint words.txt
+
+  words.txt:3:5: warning: branch that is equal to branch 1 [duplicate-branch]
+  a|b|a
+  -   ^
+  branch 1
+  help: remove it",
+                options: &LINT_OPTIONS,
+            },
+            FileVerb::Format => Subcommand {
+                name: "format",
+                about: "Formats each pattern, and keeps how it is written, with its comments",
+                long_about: Some(
+                    "Formats each pattern, and keeps how it is written, with its comments. What changes nothing goes:
+groups without a number that the tree does not need, empty comments, and settings of flags.
+{0,1}, {0,} and {1,} become ?, * and +, and {2,2} becomes {2}. Of ignored whitespace within a line
+one space is left. docs/format.md has the rules.
+
+The text that is written for a pattern parses, under the same flags, to the same tree with the
+same groups, names and comments; with --canonical, a pattern that has a comment is written
+unchanged, unless --drop-comments is given. Each line ends as it did.
+
+A pattern that is invalid, or that stays for a comment, is written unchanged; standard error has
+the position and the reason.
+
+Without --write the output must not be a file that is read: for patterns format FILE > FILE the
+shell empties the file before it is read. Texts of JSON and patterns in sources are not written to
+standard output: with --textmate, --keys and --records, use --write, --check or --diff.",
+                ),
+                example: r"Example: patterns format --flags ux words.txt
+
+  writes for the line  (?:\d{1,})   {2,2} # twice
+  the line             \d+ {2} # twice",
+                options: &FORMAT_OPTIONS,
+            },
+            FileVerb::Groups => Subcommand {
+                name: "groups",
+                about: "Lists the groups of each pattern, and what its references and calls refer to",
+                long_about: Some(
+                    "Lists the groups of each pattern, and what its references and calls refer to.
+
+Each pattern is written as FILE:LINE: PATTERN, and below it each group, reference and call as
+FILE:LINE:FIRST-LAST: DESCRIPTION, where FIRST and LAST are the columns of its first and last
+character.",
+                ),
+                example: r#"Example: patterns groups dates.txt
+
+  dates.txt:1: (?<year>\d{4})-(\d\d)
+  dates.txt:1:1-14: group 1, named "year"
+  dates.txt:1:16-21: group 2"#,
+                options: &GROUPS_OPTIONS,
+            },
+        }
+    }
+}
+
+impl PatternVerb {
+    /// Its row.
+    fn row(self) -> Subcommand {
+        match self {
+            PatternVerb::Tree => Subcommand {
+                name: "tree",
+                about: "Draws the tree of a pattern, and describes its groups and references",
+                long_about: None,
+                example: r#"Example: patterns tree '(a|b)+'
+
+  repeat 1 or more times, greedy
+  └─ group 1
+     └─ alternation
+        ├─ literal "a"
+        └─ literal "b"
+  1 numbered group."#,
+                options: &TREE_OPTIONS,
+            },
+            PatternVerb::Picture => Subcommand {
+                name: "picture",
+                about: "Draws the tree of a pattern as a railroad diagram, in SVG",
+                long_about: None,
+                example: r"Example: patterns picture '(?<year>\d{4})-(?<month>\d\d)' >date.svg",
+                options: &PICTURE_OPTIONS,
+            },
+        }
+    }
+}
+
+impl Verb {
+    /// Its row.
+    pub(crate) fn row(self) -> Subcommand {
+        match self {
+            Verb::Files(verb) => verb.row(),
+            Verb::Pattern(verb) => verb.row(),
+        }
+    }
+
+    /// Its options, in the order of the help.
+    pub(crate) fn options(self) -> [&'static [OptionRow]; 2] {
+        match self {
+            Verb::Files(verb) => [&FILE_OPTIONS, verb.row().options],
+            Verb::Pattern(verb) => [verb.row().options, &PATTERN_OPTIONS],
+        }
+    }
+
+    /// What the subcommand of this name does, if there is one.
+    pub(crate) fn named(name: &str) -> Option<Verb> {
+        for verb in VERBS.iter() {
+            if verb.row().name == name {
+                return Some(*verb);
+            }
+        }
+        None
+    }
+}
