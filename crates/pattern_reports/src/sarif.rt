@@ -67,7 +67,7 @@ fn write_rules(writer: &mut Writer, is_lint: bool) -> Result<(), AllocError> {
     }
     if is_lint {
         for rule in RULES.iter() {
-            write_rule(writer, rule.name(), rule.what(), rule.help())?;
+            write_rule(writer, rule.name, rule.what, rule.help)?;
         }
     }
     writer.end_array()

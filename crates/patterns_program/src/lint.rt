@@ -12,7 +12,7 @@ use crate::tally::Tally;
 use pattern_reports::reporter::{Reporter, parse};
 use pattern_reports::reports::Reports;
 use patterns_lint::chosen::{Chosen, Level};
-use patterns_lint::find::problems;
+use patterns_lint::find::reported;
 use patterns_lint::fixes::{MAX_ROUNDS, fixed};
 use patterns_lint::known::Known;
 use patterns_lint::problem::Found;
@@ -68,8 +68,7 @@ pub(crate) fn lint(
         return Ok(Rewriting::Stays(Outcome::Refused));
     };
     let slow = SlowParts::of(subject.alloc, &parsed, chosen, known)?;
-    let mut found = problems(subject, &parsed, grammar, known, &slow)?;
-    found.retain(|one| chosen.level(one.problem.rule()) != Level::Allow);
+    let found = reported(subject, &parsed, grammar, chosen, known, &slow)?;
     if has_fixes && let Some(text) = fixed(subject, &parsed, &found)? {
         return Ok(Rewriting::Changed(text));
     }
@@ -94,8 +93,7 @@ fn fixed_once(
         return Ok(None);
     };
     let slow = SlowParts::new(subject.alloc);
-    let mut found = problems(subject, &parsed, None, known, &slow)?;
-    found.retain(|one| chosen.level(one.problem.rule()) != Level::Allow);
+    let found = reported(subject, &parsed, None, chosen, known, &slow)?;
     Ok(fixed(subject, &parsed, &found)?)
 }
 
