@@ -192,7 +192,7 @@ impl<E: Write> Visitor for Search<'_, '_, E> {
                 Ok(())
             }
             Spot::Value { position, path, .. } => self.see_text(position, path, entry.pattern),
-            Spot::Path { .. } => Ok(()),
+            _ => Ok(()),
         }
     }
 
@@ -208,7 +208,7 @@ impl<E: Write> Visitor for Search<'_, '_, E> {
         Ok(())
     }
 
-    fn byte_order_mark(&mut self) -> Result<(), RunError> {
+    fn bom(&mut self) -> Result<(), RunError> {
         Ok(())
     }
 

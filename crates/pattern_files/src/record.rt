@@ -380,7 +380,7 @@ fn positions_of(
     let columns = numbers_of(alloc, members.columns, Member::Columns, length)?;
     let lines = numbers_of(alloc, members.lines, Member::Lines, length)?;
     if members.file.is_none() {
-        return Ok(SourcePositions::of_line(alloc, own_line));
+        return Ok(SourcePositions::of(alloc, own_line, 1));
     }
     Ok(SourcePositions {
         line: members.line.unwrap_or(1),
