@@ -1,3 +1,4 @@
 pub mod Line
 pub mod Keys
 pub mod HasGroups
+pub mod Spelled

@@ -135,7 +135,7 @@ pub trait Visitor {
     fn unread(&mut self, unread: Unread<'_>) -> Result<(), RunError>;
 
     /// A byte order mark, which begins a file of lines.
-    fn byte_order_mark(&mut self) -> Result<(), RunError>;
+    fn bom(&mut self) -> Result<(), RunError>;
 
     /// Whether the rest need not be visited.
     fn is_done(&self) -> bool;

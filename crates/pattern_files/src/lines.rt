@@ -48,7 +48,7 @@ pub struct LineRecord<'b> {
 
 impl LineRecord<'_> {
     /// How many bytes it takes, with its end.
-    pub fn len(&self) -> usize {
+    pub(crate) fn len(&self) -> usize {
         self.text.len().saturating_add(self.end.len())
     }
 }

@@ -1,8 +1,20 @@
 //! What a pattern that is fixed or formatted is written as in its file.
+ghost use Rattle.std.specs.Bool.{OnTrue};
+ghost use Rattle.std.specs.Prelude.{◌≡◌, ◌∷◌, ◌++◌, [], IfOk, IfSome, string_bytes};
+ghost use Rattle.pattern_files.specs.Spelled as spec;
+ghost use Rattle.pattern_files.specs.Spelled.{IsJsonOf, IsSpelled};
+
 use crate::lines::{BOM, breaks_line};
 use json::{Reader, Scratch, Token};
 use source_literals::source_change::CharacterChange;
 use std::alloc::{AllocError, Global};
+
+/// Whether the text begins with a byte order mark, and the pattern does not.
+fn begins_with_bom(text: &str, pattern: &str) -> bool
+    ensures { result ≡ spec.begins_with_bom text.now pattern.now }
+{
+    text.as_bytes().starts_with(BOM) && !pattern.as_bytes().starts_with(BOM)
+}
 
 /// How many bytes the character takes that the contents of a string of JSON begin with.
 fn spelled_len(contents: &str, c: char) -> usize {
@@ -204,13 +216,28 @@ fn respelled(
     Ok(spelled)
 }
 
+/// The string of JSON with these contents.
+fn quoted(alloc: Global, contents: &str) -> Result<String, AllocError>
+    ensures { IfOk result (λ json. string_bytes json ≡ 34 ∷ contents.now ++ 34 ∷ []) }
+{
+    let mut json = String::with_capacity(alloc, contents.len().saturating_add(2))?;
+    json.push_str("\"")?;
+    json.push_str(contents)?;
+    json.push_str("\"")?;
+    Ok(json)
+}
+
 /// Whether a string of JSON with these contents is read as the text.
-fn is_read_as(alloc: Global, contents: &str, text: &str) -> Result<bool, AllocError> {
-    let json = format!(in alloc; "\"{contents}\"")?;
+fn is_read_as(alloc: Global, contents: &str, text: &str) -> Result<bool, AllocError>
+    ensures { IfOk result (λ is_read. OnTrue is_read (IsJsonOf contents.now text.now)) }
+{
+    let json = quoted(alloc, contents)?;
     let mut scratch = Scratch::new(alloc);
     let mut reader = Reader::new(json.as_str(), &mut scratch)?;
-    let is_text = matches!(reader.next(), Some(Token::String(read)) if read == text);
-    Ok(is_text && reader.next().is_none())
+    match reader.next() {
+        Some(Token::String(read)) if read == text => Ok(reader.next().is_none()),
+        _ => Ok(false),
+    }
 }
 
 /// In what a pattern is spelled.
@@ -227,10 +254,9 @@ pub enum SpelledIn {
 /// Whether the text can be written in the place of the pattern: in a line, without a line end or a byte order mark at the start
 /// that the pattern does not have.
 pub fn fits(form: SpelledIn, text: &str, pattern: &str) -> bool {
-    let has_new_bom = text.as_bytes().starts_with(BOM) && !pattern.as_bytes().starts_with(BOM);
     match form {
-        SpelledIn::Line => !has_new_bom && !breaks_line(text, pattern),
-        SpelledIn::Lines => !has_new_bom,
+        SpelledIn::Line => !begins_with_bom(text, pattern) && !breaks_line(text, pattern),
+        SpelledIn::Lines => !begins_with_bom(text, pattern),
         SpelledIn::Json => true,
     }
 }
@@ -243,17 +269,18 @@ pub fn spelled(
     contents: &str,
     pattern: &str,
     text: &str,
-) -> Result<Option<String>, AllocError> {
-    let (spelling, is_read) = match form {
+) -> Result<Option<String>, AllocError>
+    ensures { IfOk result (λ found. IfSome found (λ spelling.
+        IsSpelled form pattern.now text.now (string_bytes spelling))) }
+{
+    match form {
         SpelledIn::Json => {
             let spelling = respelled(alloc, contents, pattern, text)?;
             let is_read = is_read_as(alloc, spelling.as_str(), text)?;
-            (spelling, is_read)
+            Ok(is_read.then_some(spelling))
         }
-        SpelledIn::Line | SpelledIn::Lines => {
-            let is_read = fits(form, text, pattern);
-            (String::from_str(alloc, text)?, is_read)
-        }
-    };
-    Ok(is_read.then_some(spelling))
+        SpelledIn::Line | SpelledIn::Lines if begins_with_bom(text, pattern) => Ok(None),
+        SpelledIn::Line if breaks_line(text, pattern) => Ok(None),
+        SpelledIn::Line | SpelledIn::Lines => Ok(Some(String::from_str(alloc, text)?)),
+    }
 }

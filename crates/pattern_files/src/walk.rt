@@ -26,9 +26,8 @@ pub struct FileShape<'a> {
     pub has_grammars: bool,
 }
 
-/// Visits the patterns of a file. Lines are read one at a time: no further than the end of the one that is visited, and
-/// than the second byte where the first begins a byte order mark. JSON is read whole. A byte order mark is passed over. An
-/// error if memory runs out, or of the visitor.
+/// Visits the patterns of a file. Each line is read when the one before it has been visited, and JSON is read whole. It is
+/// an error if memory runs out, or of the visitor. A byte order mark is passed over.
 pub fn visit<R: BufRead, V: Visitor>(
     alloc: Global,
     shape: FileShape<'_>,
@@ -171,7 +170,7 @@ pub(crate) fn visit_lines<R: BufRead, V: Visitor>(
         Err(error) => return visitor.unread(Unread::by_system(file, error)?),
     };
     if start.has_bom && matches!(form, FileFormat::Records(_)) {
-        visitor.byte_order_mark()?;
+        visitor.bom()?;
     }
     visit_rest(
         alloc,

@@ -2,7 +2,7 @@
 #![tactic(auto)]
 
 mod json;
-pub mod literal;
+mod literal;
 mod pieces;
 mod python;
 pub mod replaced;

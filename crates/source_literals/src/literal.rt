@@ -10,21 +10,21 @@ use std::alloc::{AllocError, Global};
 
 /// A character of a text, and the bytes of its source that spell it.
 #[derive(Debug, Clone, Copy, PartialEq, Eq)]
-pub struct SpelledCharacter {
+pub(crate) struct SpelledCharacter {
     /// The byte offset in the source at which its spelling begins.
-    pub start: usize,
+    pub(crate) start: usize,
     /// The byte offset after its spelling.
-    pub end: usize,
-    pub character: char,
+    pub(crate) end: usize,
+    pub(crate) character: char,
 }
 
 /// A literal of a source.
 #[derive(Drop)]
-pub struct Literal {
+pub(crate) struct Literal {
     /// The characters of its text, in order.
-    pub characters: Vec<SpelledCharacter>,
+    pub(crate) characters: Vec<SpelledCharacter>,
     /// The byte offset after the literal.
-    pub end: usize,
+    pub(crate) end: usize,
 }
 
 /// Reads the pieces of a literal, which begins at the byte offset of its source; `rest` is the source from there on.
@@ -65,7 +65,7 @@ fn read_pieces<I: Inside>(
 /// with its delimiters. None if no literal begins there, it is not closed, or it has an escape or a form that is not read
 /// here: a character by its name in Python, an entity of XML that is declared, and in YAML what takes several lines, but for
 /// a literal block without an indentation indicator, and what is no text if it is plain.
-pub fn read_literal(
+pub(crate) fn read_literal(
     alloc: Global,
     syntax: SourceSyntax,
     source: &str,
