@@ -315,8 +315,8 @@ pub fn write_refusal(
 ) -> io::Result<()> {
     let paint = subject.at.reported;
     let (bold, end) = (paint.begin(Ink::Position), paint.end());
-    let position_words = subject.position(position);
-    writeln!(out, "{bold}{position_words}:{end} {}", Shown(message))?;
+    let start = subject.position(position);
+    writeln!(out, "{bold}{start}:{end} {}", Shown(message))?;
     let span = Span {
         start: position,
         end: position,

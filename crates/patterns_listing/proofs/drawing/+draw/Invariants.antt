@@ -6,7 +6,7 @@ use Rattle.fancy_syntax.proofs.Descents.{Within}
 use Rattle.patterns_listing.proofs.drawing.+draw.Given as goal
 
 abbrev pub decreases-draw : goal.decreases-draw
-decreases-draw g l = levels (view (spanned_of l.node).expr)
+decreases-draw l = levels (view (spanned_of l.node).expr)
 
 abbrev pub invariant-loop-child : goal.invariant-loop-child
-invariant-loop-child g l = Within (spanned_of l.fn.node).expr (map (λ p. p.expr) (remaining_spanned l.child-iterator))
+invariant-loop-child l = Within (spanned_of l.fn.node).expr (map (λ p. p.expr) (remaining_spanned l.child-iterator))
