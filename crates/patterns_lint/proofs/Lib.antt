@@ -1,2 +1,3 @@
 mod BranchLemmas
 mod NodeLemmas
+pub mod LevelLemmas

@@ -1,6 +1,7 @@
 //! Which rules of `lint` speak, and how.
 ghost use Rattle.std.specs.Prelude.{◌≡◌, Contains, replicate, length, true, false};
-ghost use Rattle.patterns_lint.specs.Chosen.{level_of, default_level, warned};
+ghost use Rattle.patterns_lint.specs.Chosen as spec;
+ghost use Rattle.patterns_lint.specs.Chosen.{level_of, default_level};
 ghost use Rattle.patterns_lint.specs.declared.rule.Rule.{Rule};
 
 use crate::rule::{RULES, Rule, all_rules};
@@ -24,6 +25,16 @@ impl Level {
             Level::Warn => "warning",
             Level::Deny => "error",
         }
+    }
+}
+
+/// A warning; but an error by default that still is one stays an error.
+fn warned(default: Level, level: Level) -> Level
+    ensures { result ≡ spec.warned default level }
+{
+    match (default, level) {
+        (Level::Deny, Level::Deny) => Level::Deny,
+        _ => Level::Warn,
     }
 }
 
@@ -82,13 +93,12 @@ impl Chosen {
 
     /// Makes the reports of every rule warnings. A rule that is an error by default, and still is one, stays an error.
     pub fn warn_all(&mut self)
-        ensures { (rule : Rule) → level_of self.new.levels rule ≡ warned (default_level false rule) (level_of self.old.levels rule) }
+        ensures { (rule : Rule) → level_of self.new.levels rule ≡ spec.warned (default_level false rule) (level_of self.old.levels rule) }
     {
+        let old = *self;
         for row in all_rules() {
             let rule = row.rule;
-            if rule.default_level(false) != Level::Deny || self.level(rule) != Level::Deny {
-                self.set(rule, Level::Warn);
-            }
+            self.set(rule, warned(rule.default_level(false), old.level(rule)));
         }
     }
 

@@ -1,5 +1,5 @@
 //! The rules of `lint`.
-ghost use Rattle.std.specs.Prelude.{◌≡◌, if◌then◌else◌, true, false, IfSome, slice_index_or};
+ghost use Rattle.std.specs.Prelude.{◌≡◌, if◌then◌else◌, true, false, IfSome, ◌<◌, length, slice_index_or};
 ghost use Rattle.patterns_lint.specs.Rules.{rule_name};
 ghost use Rattle.patterns_lint.specs.Chosen.{default_level, number};
 ghost use Rattle.patterns_lint.specs.declared.rule.Rule.{Rule};
@@ -99,7 +99,7 @@ pub static RULES: [RuleRow; 28] = [
         rule: Rule::MissingBeginGroup,
         name: "missing-begin-group",
         what: "in a grammar, a back reference of end or while to a group that begin does not have",
-        example: r#"{"begin": "(a)", "end": "\2"}"#,
+        example: r#"{"begin": "(a)", "end": "\\2"}"#,
         help: "it matches only the empty text: correct the number, or remove it",
         ..WARNS
     },
@@ -319,9 +319,10 @@ pub static RULES: [RuleRow; 28] = [
     },
 ];
 
-/// All rules. Each has a row.
+/// All rules. The row of each is at its number.
 pub(crate) fn all_rules() -> &'static [RuleRow]
-    ensures { (rule : Rule) (d : RuleRow) → (slice_index_or result.now (number rule) d).rule ≡ rule }
+    ensures within { (rule : Rule) → number rule < length result.now }
+    ensures rows { (rule : Rule) (d : RuleRow) → (slice_index_or result.now (number rule) d).rule ≡ rule }
 {
     &RULES
 }
@@ -331,8 +332,8 @@ impl Rule {
     pub fn row(self) -> &'static RuleRow
         ensures rule { result.now.rule ≡ self }
         ensures name { result.now.name.now ≡ rule_name self }
-        ensures level { (if result.now.is_silent_in_json then Level.Allow else result.now.level) ≡ default_level true self }
-        ensures json { result.now.level ≡ default_level false self }
+        ensures in_json { (if result.now.is_silent_in_json then Level.Allow else result.now.level) ≡ default_level true self }
+        ensures level { result.now.level ≡ default_level false self }
     {
         &RULES[self as usize]
     }
