@@ -132,7 +132,13 @@ pub(crate) fn problem_annotations(
     if more > 0 {
         let message = format!(in subject.alloc; "{more} more reports are not shown")?;
         let span = Span { start: 0, end: 0 };
-        annotations.push(part_annotation(subject, Severity::Note, span, None, message.as_str())?)?;
+        annotations.push(part_annotation(
+            subject,
+            Severity::Notice,
+            span,
+            None,
+            message.as_str(),
+        )?)?;
     }
     Ok(annotations)
 }
@@ -144,7 +150,7 @@ pub(crate) fn not_searched_annotations(
 ) -> Result<Vec<Annotation>, AllocError> {
     let mut annotations = Vec::new(subject.alloc);
     for span in parts.iter().take(MAX_REPORTS) {
-        annotations.push(part_annotation(subject, Severity::Note, *span, None, NOT_SEARCHED)?)?;
+        annotations.push(part_annotation(subject, Severity::Notice, *span, None, NOT_SEARCHED)?)?;
     }
     Ok(annotations)
 }

@@ -101,7 +101,7 @@ fn command_name(severity: Severity) -> &'static str {
     match severity {
         Severity::Error => "error",
         Severity::Warning => "warning",
-        Severity::Note => "notice",
+        Severity::Notice => "notice",
     }
 }
 

@@ -155,7 +155,7 @@ impl Reporter for JsonLines<'_> {
     fn not_searched(&mut self, subject: Subject<'_>, parts: &[Span]) -> Result<(), RunError> {
         let characters = CharacterTable::of(subject.alloc, subject.pattern)?;
         for span in parts.iter().take(MAX_REPORTS) {
-            let mut writer = begin(subject, Severity::Note.word(), span.start)?;
+            let mut writer = begin(subject, Severity::Notice.word(), span.start)?;
             write_span(&mut writer, &characters, *span)?;
             write_text(&mut writer, "message", NOT_SEARCHED)?;
             finish(writer, self.out)?;

@@ -7,7 +7,7 @@ use patterns_text::paint::Ink;
 pub(crate) enum Severity {
     Error,
     Warning,
-    Note,
+    Notice,
 }
 
 impl Severity {
@@ -24,7 +24,7 @@ impl Severity {
         match self {
             Severity::Error => "error",
             Severity::Warning => "warning",
-            Severity::Note => "note",
+            Severity::Notice => "note",
         }
     }
 
@@ -32,7 +32,7 @@ impl Severity {
     pub(crate) fn ink(self) -> Ink {
         match self {
             Severity::Error => Ink::Error,
-            Severity::Warning | Severity::Note => Ink::Warning,
+            Severity::Warning | Severity::Notice => Ink::Warning,
         }
     }
 }

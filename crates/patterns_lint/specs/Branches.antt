@@ -4,6 +4,7 @@ use Rattle.std.specs.Prelude.{Option, Some, None}
 use Rattle.std.specs.Str.{bytes_eq}
 use Rattle.patterns_lint.specs.declared.problem.Problem.{Problem}
 use Rattle.patterns_lint.specs.declared.problem.Problem.TheVariants as problem
+use Rattle.patterns_lint.specs.declared.rule.Rule.TheVariants as rule
 use Rattle.fancy_grammar.specs.Tree.{Tree, literal, repeat}
 use Rattle.class_rules.specs.Beginnings.{pieces}
 
@@ -25,7 +26,7 @@ is_unreachable earlier later = begins_with (pieces earlier) (pieces later)
 
 -- what is wrong with an empty branch: nothing if it is the first or the last one, which says "or nothing"
 abbrev pub empty_branch_problem : Bool → Bool → Option Problem
-empty_branch_problem is_first is_last = if is_first || is_last then None else Some problem.EmptyBranch
+empty_branch_problem is_first is_last = if is_first || is_last then None else Some (problem.Plain rule.EmptyBranch)
 
 -- two branches that differ in the count alone: the same operand, quantified with other counts
 abbrev pub DifferInCount : Tree → Tree → Type 0

@@ -2,4 +2,5 @@ pub mod Empty
 pub mod Quantifiers
 pub mod Branches
 pub mod Rules
+pub mod Chosen
 pub mod Targets

@@ -1,8 +1,8 @@
 -- Quantifiers that are surely not meant.
 use Rattle.std.specs.Prelude.{ℕ, Bool, false, ◌&&◌, ◌==◌, not, nat_lt, if◌then◌else◌, Option, Some, None}
 use Rattle.fancy_grammar.specs.Tree.{Tree, repeat}
-use Rattle.patterns_lint.specs.declared.problem.Problem.{Problem}
-use Rattle.patterns_lint.specs.declared.problem.Problem.TheVariants as problem
+use Rattle.patterns_lint.specs.declared.rule.Rule.{Rule}
+use Rattle.patterns_lint.specs.declared.rule.Rule.TheVariants as rule
 use Rattle.patterns_lint.specs.Empty.{matches_only_empty, can_match_empty, has_group}
 
 -- the upper count of a quantifier without a limit
@@ -35,12 +35,12 @@ abbrev pub is_zero_quantifier : Bool → Tree → Bool
 is_zero_quantifier has_calls (repeat t lo hi greedy) = (lo == 0) && (hi == 0) && not (has_calls && has_group t)
 is_zero_quantifier _ _ = false
 
--- what is wrong with the quantifier of a node, if it has one
-abbrev pub quantifier_problem : Bool → Bool → Tree → Option Problem
-quantifier_problem has_calls has_count_twin t =
-    if is_invalid_quantifier t then Some problem.InvalidQuantifier
-    else if is_zero_quantifier has_calls t then Some problem.ZeroQuantifier
-    else if is_useless_quantifier has_count_twin t then Some problem.UselessQuantifier
-    else if is_quantified_assertion t then Some problem.QuantifiedAssertion
-    else if is_empty_loop t then Some problem.EmptyLoop
+-- the rule that reports the quantifier of a node, if one does
+abbrev pub quantifier_rule : Bool → Bool → Tree → Option Rule
+quantifier_rule has_calls has_count_twin t =
+    if is_invalid_quantifier t then Some rule.InvalidQuantifier
+    else if is_zero_quantifier has_calls t then Some rule.ZeroQuantifier
+    else if is_useless_quantifier has_count_twin t then Some rule.UselessQuantifier
+    else if is_quantified_assertion t then Some rule.QuantifiedAssertion
+    else if is_empty_loop t then Some rule.EmptyLoop
     else None

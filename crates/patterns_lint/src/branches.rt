@@ -6,6 +6,7 @@ ghost use Rattle.patterns_lint.specs.declared.problem.Problem.TheVariants as rep
 
 use crate::fingerprint::Fingerprint;
 use crate::problem::Problem;
+use crate::rule::Rule;
 use class_rules::beginnings::{begins_within, operand, pieces};
 use class_rules::known_classes::KnownClasses;
 use fancy_lex::text::is_same_text;
@@ -69,7 +70,7 @@ fn empty_branch_problem(is_first: bool, is_last: bool) -> Option<Problem<'static
     if is_first || is_last {
         None
     } else {
-        Some(Problem::EmptyBranch)
+        Some(Problem::Plain(Rule::EmptyBranch))
     }
 }
 

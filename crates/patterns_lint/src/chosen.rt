@@ -1,7 +1,9 @@
 //! Which rules of `lint` speak, and how.
-ghost use Rattle.std.specs.Prelude.{◌≡◌, Contains, replicate};
+ghost use Rattle.std.specs.Prelude.{◌≡◌, Contains, replicate, length, true, false};
+ghost use Rattle.patterns_lint.specs.Chosen.{level_of, default_level, warned};
+ghost use Rattle.patterns_lint.specs.declared.rule.Rule.{Rule};
 
-use crate::rule::Rule;
+use crate::rule::{RULES, Rule, all_rules};
 
 /// What a report of a rule is.
 #[derive(Debug, Clone, Copy, PartialEq, Eq)]
@@ -14,83 +16,87 @@ pub enum Level {
     Deny,
 }
 
-/// The rules whose reports are errors by default, since no engine is built from a pattern with such a report.
-static DENIED: [Rule; 5] = [
-    Rule::MissingGroup,
-    Rule::UnresolvedCall,
-    Rule::NumberedReference,
-    Rule::InvalidQuantifier,
-    Rule::InvalidClass,
-];
+impl Level {
+    /// What a rule is by default, in the list of rules.
+    pub(crate) fn name(self) -> &'static str {
+        match self {
+            Level::Allow => "off",
+            Level::Warn => "warning",
+            Level::Deny => "error",
+        }
+    }
+}
 
 /// The level of each rule.
 #[derive(Clone, Copy)]
 pub struct Chosen {
-    levels: [Level; 28],
+    /// In the order of the rules.
+    levels: [Level; RULES.len()],
     /// Whether it is reported too which parts of a pattern no rule looks at, since they are too large.
     pub is_verbose: bool,
 }
 
 impl Chosen {
-    /// Every rule warns, with exceptions. `unused-capturing-group`, `suspicious-range` and `dialect-difference` are
-    /// silent, since many patterns mix named and numbered groups, or kinds of characters, on purpose, and are for this
-    /// dialect alone. `polynomial-backtracking` is silent, since it matters only for long texts. The reports of the
-    /// rules in `DENIED` are errors.
-    pub fn new() -> Chosen {
+    /// The level of each rule by default; of patterns that are texts of JSON, if they are such.
+    fn by_default(is_json: bool) -> Chosen
+        ensures { (rule : Rule) → level_of result.levels rule ≡ default_level is_json rule }
+    {
         let mut chosen = Chosen {
-            levels: [Level::Warn; 28],
+            levels: [Level::Warn; RULES.len()],
             is_verbose: false,
         };
-        chosen.set(Rule::UnusedCapturingGroup, Level::Allow);
-        chosen.set(Rule::SuspiciousRange, Level::Allow);
-        chosen.set(Rule::DialectDifference, Level::Allow);
-        chosen.set(Rule::PolynomialBacktracking, Level::Allow);
-        for rule in DENIED.iter() {
-            chosen.set(*rule, Level::Deny);
+        for row in all_rules() {
+            chosen.set(row.rule, row.rule.default_level(is_json));
         }
         chosen
     }
 
-    /// The same, for patterns that are texts of JSON: `useless-flag` is silent too. Such patterns are often put together from
-    /// parts, each of which sets the flags that it needs.
-    pub fn for_values() -> Chosen {
-        let mut chosen = Chosen::new();
-        chosen.set(Rule::UselessFlag, Level::Allow);
-        chosen
+    /// Each rule has the level of its row.
+    pub fn new() -> Chosen
+        ensures { (rule : Rule) → level_of result.levels rule ≡ default_level false rule }
+    {
+        Chosen::by_default(false)
+    }
+
+    /// The same, for patterns that are texts of JSON.
+    pub fn for_values() -> Chosen
+        ensures { (rule : Rule) → level_of result.levels rule ≡ default_level true rule }
+    {
+        Chosen::by_default(true)
     }
 
     /// The level of the rule.
     pub fn level(&self, rule: Rule) -> Level
+        ensures level { result ≡ level_of self.now.levels rule }
         ensures denied { result ≡ Level.Deny → Contains self.now.levels Level.Deny }
     {
-        self.levels
-            .get(rule as usize)
-            .copied()
-            .unwrap_or(Level::Warn)
+        self.levels[rule as usize]
     }
 
     /// Gives every rule this level.
     pub fn set_all(&mut self, level: Level)
-        ensures { self.new.levels ≡ replicate 28 level }
+        ensures { self.new.levels ≡ replicate (length self.old.levels) level }
     {
-        self.levels = [level; 28];
+        self.levels = [level; RULES.len()];
     }
 
     /// Makes the reports of every rule warnings. A rule that is an error by default, and still is one, stays an error.
-    pub fn warn_all(&mut self) {
-        let old = *self;
-        self.set_all(Level::Warn);
-        for rule in DENIED.iter() {
-            if old.level(*rule) == Level::Deny {
-                self.set(*rule, Level::Deny);
+    pub fn warn_all(&mut self)
+        ensures { (rule : Rule) → level_of self.new.levels rule ≡ warned (default_level false rule) (level_of self.old.levels rule) }
+    {
+        for row in all_rules() {
+            let rule = row.rule;
+            if rule.default_level(false) != Level::Deny || self.level(rule) != Level::Deny {
+                self.set(rule, Level::Warn);
             }
         }
     }
 
     /// Gives the rule this level.
-    pub fn set(&mut self, rule: Rule, level: Level) {
-        if let Some(old) = self.levels.get_mut(rule as usize) {
-            *old = level;
-        }
+    pub fn set(&mut self, rule: Rule, level: Level)
+        ensures given { level_of self.new.levels rule ≡ level }
+        ensures others { (other : Rule) → (other ≡ rule → ⊥) → level_of self.new.levels other ≡ level_of self.old.levels other }
+    {
+        self.levels[rule as usize] = level;
     }
 }

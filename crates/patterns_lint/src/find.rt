@@ -1,6 +1,7 @@
 //! All that the rules find in a pattern.
 use crate::attack_text::AttackText;
 use crate::captures::missing_captures;
+use crate::chosen::{Chosen, Level};
 use crate::flags::useless_flags;
 use crate::known::Known;
 use crate::problem::{Found, Problem};
@@ -59,7 +60,7 @@ fn report_slow<'a>(slow: &'a SlowParts, walk: &mut Walk<'a>) -> Result<(), Alloc
 /// All that the rules find, in the order of the text. The tree is that of the pattern; `grammar` is what the object
 /// around it says, if it is a pattern of a grammar. `known` has the classes of the run's patterns, and `slow` what is
 /// slow in this one.
-pub fn problems<'a>(
+fn problems<'a>(
     subject: Subject<'_>,
     parsed: &'a SpannedTree,
     grammar: Option<&GrammarRule>,
@@ -107,5 +108,19 @@ pub fn problems<'a>(
         found.retain(|f| !f.is_of_digits(pattern));
     }
     found.sort_by_key(|f| f.span.start)?;
+    Ok(found)
+}
+
+/// The same of the rules that are not silent.
+pub fn reported<'a>(
+    subject: Subject<'_>,
+    parsed: &'a SpannedTree,
+    grammar: Option<&GrammarRule>,
+    chosen: &Chosen,
+    known: &mut Known,
+    slow: &'a SlowParts,
+) -> Result<Vec<Found<'a>>, AllocError> {
+    let mut found = problems(subject, parsed, grammar, known, slow)?;
+    found.retain(|one| chosen.level(one.problem.rule()) != Level::Allow);
     Ok(found)
 }

@@ -1,65 +1,27 @@
-//! A pattern with its reports fixed.
-use crate::problem::{Found, Problem};
-use crate::slow::SlowParts;
-use class_rules::class_problem::ClassProblem;
+//! The reports of a pattern that an edit fixes.
+ghost use Rattle.std.specs.Prelude.{chars, string_bytes, IfOk, IfSome};
+ghost use Rattle.fancy_lex.specs.Flags.{flags_of};
+ghost use Rattle.fancy_syntax.specs.InfoViews.{info_of};
+ghost use Rattle.fancy_syntax.specs.View.{view};
+ghost use Rattle.pattern_fixes.specs.Fixed.{IsFixedText};
+
+use crate::problem::Found;
 use fancy_spans::SpannedTree;
 use fancy_syntax::span::Span;
-use pattern_fixes::edit::{Edit, FixKind, FixableReport};
+use pattern_fixes::edit::{Edit, FixableReport};
 use pattern_fixes::fixed::ParsedPattern;
 use pattern_format::first_comment::first_comment;
-use patterns_text::error::RunError;
 use patterns_text::subject::Subject;
 use std::alloc::AllocError;
 
-/// How often reports of a pattern are fixed, the later ones after the earlier. Each time these are up to
+/// How often reports of a pattern are to be fixed, the later ones after the earlier. Each time these are up to
 /// `pattern_fixes::fixed::MAX_FIXES`, so that only a pattern with thousands of them has some left.
 pub const MAX_ROUNDS: usize = 64;
-
-/// What is fixed of a class; none if there is no plain edit.
-fn kind_of_class(problem: ClassProblem) -> Option<FixKind> {
-    match problem {
-        ClassProblem::DuplicateCharacters => Some(FixKind::DuplicateCharacters),
-        ClassProblem::Invalid(_)
-        | ClassProblem::Empty
-        | ClassProblem::SuspiciousClass(_)
-        | ClassProblem::SuspiciousRange { .. }
-        | ClassProblem::SubsumedBranch { .. } => None,
-    }
-}
-
-/// What is fixed; none if there is no plain edit.
-fn kind_of(problem: Problem<'_>) -> Option<FixKind> {
-    match problem {
-        Problem::DuplicateBranch { .. } => Some(FixKind::DuplicateBranch),
-        Problem::UselessQuantifier => Some(FixKind::UselessQuantifier),
-        Problem::UselessFlag { .. } => Some(FixKind::UselessFlag),
-        Problem::SingleCharacterClass => Some(FixKind::SingleCharacterClass),
-        Problem::Class(problem) => kind_of_class(problem),
-        Problem::MissingGroup { .. }
-        | Problem::MissingConditionGroup { .. }
-        | Problem::MissingBeginGroup { .. }
-        | Problem::MissingCaptureGroup { .. }
-        | Problem::UselessBackreference { .. }
-        | Problem::UnresolvedCall
-        | Problem::NumberedReference
-        | Problem::DuplicateGroupName { .. }
-        | Problem::UnusedCapturingGroup { .. }
-        | Problem::UnreachableBranch { .. }
-        | Problem::EmptyBranch
-        | Problem::QuantifiedAssertion
-        | Problem::EmptyLoop
-        | Problem::InvalidQuantifier
-        | Problem::ZeroQuantifier
-        | Problem::ExponentialBacktracking { .. }
-        | Problem::PolynomialBacktracking { .. }
-        | Problem::DialectDifference { .. } => None,
-    }
-}
 
 /// The report, if there may be an edit that fixes it.
 fn fixable(found: &Found<'_>) -> Option<FixableReport> {
     Some(FixableReport {
-        kind: kind_of(found.problem)?,
+        kind: found.problem.rule().row().fix?,
         span: found.span,
     })
 }
@@ -125,7 +87,10 @@ pub fn fixed(
     subject: Subject<'_>,
     parsed: &SpannedTree,
     found: &[Found<'_>],
-) -> Result<Option<String>, AllocError> {
+) -> Result<Option<String>, AllocError>
+    ensures { IfOk result (λ o. IfSome o (λ text. IsFixedText (flags_of subject.flags) (chars (string_bytes text))
+        (view parsed.now.tree.expr) (info_of parsed.now.tree))) }
+{
     let reports = fixable_reports(subject, parsed, found)?;
     parsed_pattern(subject, parsed).fixed(&reports)
 }

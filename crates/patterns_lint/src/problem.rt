@@ -14,6 +14,8 @@ use std::fmt;
 /// What is wrong with a part of a pattern.
 #[derive(Clone, Copy)]
 pub enum Problem<'a> {
+    /// What the rule reports. No more is said of it.
+    Plain(Rule),
     /// A back reference to a group above the number of groups.
     MissingGroup {
         group: usize,
@@ -59,13 +61,6 @@ pub enum Problem<'a> {
     UnreachableBranch {
         earlier: usize,
     },
-    EmptyBranch,
-    QuantifiedAssertion,
-    EmptyLoop,
-    /// A quantifier whose minimum is above its maximum.
-    InvalidQuantifier,
-    UselessQuantifier,
-    ZeroQuantifier,
     /// A repeat that can match a text in exponentially many ways.
     ExponentialBacktracking {
         text: AttackText<'a>,
@@ -183,7 +178,7 @@ impl<'a> Found<'a> {
 
     /// What to do about it.
     pub fn help(&self, pattern: &str) -> Help {
-        let rule = Help::Rule(self.problem.rule().help());
+        let rule = Help::Rule(self.problem.rule().row().help);
         match self.problem {
             Problem::MissingGroup { .. } | Problem::UselessBackreference { .. } => {
                 let text = self.span.text(pattern).unwrap_or("");
@@ -216,6 +211,7 @@ impl Problem<'_> {
     /// The rule that reports it.
     pub fn rule(self) -> Rule {
         match self {
+            Problem::Plain(rule) => rule,
             Problem::MissingGroup { .. } => Rule::MissingGroup,
             Problem::MissingConditionGroup { .. } => Rule::MissingConditionGroup,
             Problem::MissingBeginGroup { .. } => Rule::MissingBeginGroup,
@@ -227,12 +223,6 @@ impl Problem<'_> {
             Problem::UnusedCapturingGroup { .. } => Rule::UnusedCapturingGroup,
             Problem::DuplicateBranch { .. } => Rule::DuplicateBranch,
             Problem::UnreachableBranch { .. } => Rule::UnreachableBranch,
-            Problem::EmptyBranch => Rule::EmptyBranch,
-            Problem::QuantifiedAssertion => Rule::QuantifiedAssertion,
-            Problem::EmptyLoop => Rule::EmptyLoop,
-            Problem::InvalidQuantifier => Rule::InvalidQuantifier,
-            Problem::UselessQuantifier => Rule::UselessQuantifier,
-            Problem::ZeroQuantifier => Rule::ZeroQuantifier,
             Problem::ExponentialBacktracking { .. } => Rule::ExponentialBacktracking,
             Problem::PolynomialBacktracking { .. } => Rule::PolynomialBacktracking,
             Problem::UselessFlag { .. } => Rule::UselessFlag,
@@ -257,10 +247,16 @@ impl fmt::Display for Total {
     }
 }
 
+/// The text without the article that it begins with.
+fn without_article(text: &str) -> &str {
+    text.split_once(' ').map_or(text, |(_, rest)| rest)
+}
+
 /// The message of a report.
 impl fmt::Display for Problem<'_> {
     fn fmt<W: fmt::Write>(&self, f: &mut fmt::Formatter<W>) -> fmt::Result {
         match self {
+            Problem::Plain(rule) => f.write_str(without_article(rule.row().what)),
             Problem::MissingGroup { group, total } => {
                 write!(
                     f,
@@ -314,18 +310,6 @@ impl fmt::Display for Problem<'_> {
                 f,
                 "branch that is never reached: whenever it would match, branch {earlier} matches first"
             ),
-            Problem::EmptyBranch => f.write_str("empty branch between others"),
-            Problem::QuantifiedAssertion => {
-                f.write_str("quantifier on what matches only the empty text")
-            }
-            Problem::EmptyLoop => {
-                f.write_str("unlimited quantifier on what can match the empty text")
-            }
-            Problem::InvalidQuantifier => {
-                f.write_str("quantifier whose minimum is above its maximum")
-            }
-            Problem::UselessQuantifier => f.write_str("quantifier that repeats exactly once"),
-            Problem::ZeroQuantifier => f.write_str("quantifier that repeats zero times"),
             Problem::ExponentialBacktracking { text } => {
                 write!(f, "exponential backtracking on {text}")
             }

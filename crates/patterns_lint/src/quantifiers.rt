@@ -4,7 +4,7 @@ ghost use Rattle.fancy_syntax.specs.View.{view};
 ghost use Rattle.patterns_lint.specs.Quantifiers as spec;
 
 use crate::empty::{can_match_empty, has_group, matches_only_empty};
-use crate::problem::Problem;
+use crate::rule::Rule;
 use fancy_syntax::expr::Expr;
 
 /// Whether what is repeated matches nothing but the empty text. An optional one that holds a group is no such case:
@@ -67,25 +67,21 @@ fn is_zero_quantifier(tree: &Expr, has_calls: bool) -> bool
     }
 }
 
-/// What is wrong with the node's quantifier. `has_count_twin` says that a branch beside it differs from it in the count
+/// The rule that reports the node's quantifier. `has_count_twin` says that a branch beside it differs from it in the count
 /// alone.
-pub(crate) fn quantifier_problem(
-    tree: &Expr,
-    has_calls: bool,
-    has_count_twin: bool,
-) -> Option<Problem<'static>>
-    ensures { result ≡ spec.quantifier_problem has_calls has_count_twin (view tree.now) }
+pub(crate) fn quantifier_rule(tree: &Expr, has_calls: bool, has_count_twin: bool) -> Option<Rule>
+    ensures { result ≡ spec.quantifier_rule has_calls has_count_twin (view tree.now) }
 {
     if is_invalid_quantifier(tree) {
-        Some(Problem::InvalidQuantifier)
+        Some(Rule::InvalidQuantifier)
     } else if is_zero_quantifier(tree, has_calls) {
-        Some(Problem::ZeroQuantifier)
+        Some(Rule::ZeroQuantifier)
     } else if is_useless_quantifier(tree, has_count_twin) {
-        Some(Problem::UselessQuantifier)
+        Some(Rule::UselessQuantifier)
     } else if is_quantified_assertion(tree) {
-        Some(Problem::QuantifiedAssertion)
+        Some(Rule::QuantifiedAssertion)
     } else if is_empty_loop(tree) {
-        Some(Problem::EmptyLoop)
+        Some(Rule::EmptyLoop)
     } else {
         None
     }

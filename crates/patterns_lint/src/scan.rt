@@ -3,7 +3,7 @@ use crate::branches::{Earlier, Situation, has_count_twin, is_word_list};
 use crate::classes::is_single_character_class;
 use crate::fingerprint::Fingerprint;
 use crate::problem::Problem;
-use crate::quantifiers::quantifier_problem;
+use crate::quantifiers::quantifier_rule;
 use crate::targets::{
     is_numbered_reference, is_unresolved_call, missing_begin_group, missing_condition_group,
     missing_group,
@@ -80,7 +80,8 @@ fn node_problem(
     if let Some(problem) = reference_problem(tree, span, about) {
         return Some(problem);
     }
-    quantifier_problem(tree, about.has_calls, has_count_twin)
+    let rule = quantifier_rule(tree, about.has_calls, has_count_twin)?;
+    Some(Problem::Plain(rule))
 }
 
 /// Whether nothing follows the child of this index in the pattern, or in a group that is left at its first match, where

@@ -62,14 +62,15 @@ impl<S: System, O: Write, E: Write> FileRun<'_, '_, S, O, E> {
     /// a source that cannot be changed, and those that would not be read back.
     pub(crate) fn change_sources(&mut self) -> Result<Option<Left>, RunError> {
         let mut outcome = Outcome::Good;
-        let mut kept = Vec::new(self.work.alloc);
-        let mut changes = self.work.changes.take_sources(self.work.alloc);
+        let alloc = self.work.alloc;
+        let mut kept = Vec::new(alloc);
+        let mut changes = self.work.changes.take_sources(alloc);
         changes.sort_unstable_by(|one, other| one.file.cmp(&other.file));
         for group in changes.chunk_by_mut(|one, other| one.file == other.file) {
             let Some(first) = group.first() else {
                 continue;
             };
-            let file = String::from_str(self.work.alloc, first.file.as_str())?;
+            let file = String::from_str(alloc, first.file.as_str())?;
             let is_changed = self.change_source(file.as_str(), group)?;
             if !is_changed {
                 outcome = Outcome::Unread;

@@ -1,6 +1,6 @@
 //! The work of a run on one pattern after another, whatever files they are in. What it writes is kept in memory.
 use crate::change::{write_change, write_ended};
-use crate::changes::{Changes, Kept, PatternChange, change};
+use crate::changes::{Changes, Kept, PatternChange, change_of};
 use crate::check::check;
 use crate::groups::list_groups;
 use crate::job::{Command, Job, Output};
@@ -293,10 +293,14 @@ impl<'a> Work<'a> {
         change: PatternChange,
     ) -> Result<Outcome, RunError> {
         self.show(subject, text)?;
-        let mut subject = subject;
-        if let PatternChange::InSource(moved) = &change {
-            subject.at.spot = Spot::Source(&moved.positions);
-        }
+        let spot = match &change {
+            PatternChange::InFile(_) => subject.at.spot,
+            PatternChange::InSource(moved) => Spot::Source(&moved.positions),
+        };
+        let subject = Subject {
+            at: Location { spot, ..subject.at },
+            ..subject
+        };
         let outcome = self.report_changed(subject, entry.grammar, text)?;
         self.changes.add(entry, change)?;
         Ok(outcome)

@@ -12,7 +12,7 @@ use unicode_width::UnicodeWidthStr;
 
 /// The column after the text in its line, from 1. Each character takes as many columns as on a terminal; a tab or
 /// another control character takes one.
-pub fn column_after(text: &str) -> usize
+fn column_after(text: &str) -> usize
     ensures value { result ≡ 1 + str_width false (chars text.now) }
 {
     text.width() + 1
@@ -166,11 +166,6 @@ impl<'a> Location<'a> {
         }
     }
 
-    /// The line where a pattern is, without colours.
-    pub fn plain(file: &'a str, line: u64) -> Location<'a> {
-        Location::at(file, Spot::Line(line))
-    }
-
     /// Where the part of the pattern is that begins at the byte offset: of a pattern that was extracted the position of
     /// that in its source.
     pub fn part(self, pattern: &str, offset: usize) -> Location<'a> {
@@ -220,8 +215,8 @@ impl fmt::Display for Location<'_> {
 /// A position in a pattern, with where the pattern is: what reports begin with.
 #[derive(Clone, Copy)]
 pub struct PatternPosition<'a> {
-    pub at: Location<'a>,
-    pub position: FilePosition,
+    pub(crate) at: Location<'a>,
+    pub(crate) position: FilePosition,
 }
 
 impl fmt::Display for PatternPosition<'_> {

@@ -91,7 +91,7 @@ pub(crate) fn char_width(c: char) -> usize {
 }
 
 /// How many columns `Shown` takes of the text; of a tab one.
-pub fn shown_width(text: &str) -> usize {
+pub(crate) fn shown_width(text: &str) -> usize {
     let mut width = 0usize;
     let mut start = 0usize;
     for (i, c) in text.char_indices() {

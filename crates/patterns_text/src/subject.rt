@@ -8,7 +8,7 @@ use crate::error::RunError;
 use crate::excerpt::{Related, write_refusal};
 use crate::hints::{Hint, hint_for};
 use crate::opening::{Opening, opening_of};
-use crate::position::{FilePosition, Location, PatternPosition};
+use crate::position::{FilePosition, Location, PatternPosition, Spot};
 use fancy_lex::error::ParseError;
 use fancy_spans::SpannedTree;
 use fancy_syntax::error::Error;
@@ -79,7 +79,7 @@ impl<'a> Subject<'a> {
         Subject {
             alloc,
             flags,
-            at: Location::plain(ARGUMENT, 1),
+            at: Location::at(ARGUMENT, Spot::Line(1)),
             pattern,
         }
     }

@@ -1,4 +1,8 @@
 //! Bytes of a file with parts of them replaced.
+ghost use Rattle.std.specs.Prelude.{◌≡◌, ◌↔◌, IsTrue, IfOk, IfSome, IfNone, length};
+ghost use Rattle.source_literals.specs.Replaced as spec;
+ghost use Rattle.source_literals.specs.Replaced.{AreInOrder};
+
 use std::alloc::{AllocError, Global};
 
 /// A part of a file, in byte offsets: from where it begins to after it.
@@ -15,17 +19,19 @@ pub struct Replacement {
     pub text: String,
 }
 
-/// Whether the parts follow one another in so many bytes.
-fn are_in_order(parts: &[Replacement], length: usize) -> bool {
+/// Whether the parts follow one another up to the offset.
+fn are_in_order(parts: &[Replacement], end: usize) -> bool
+    ensures { IsTrue result ↔ AreInOrder 0 parts.now end }
+{
     let mut done = 0usize;
     for part in parts {
-        let ByteSpan { start, end } = part.span;
-        if start < done || end < start {
+        let span = part.span;
+        if span.start < done || span.end < span.start {
             return false;
         }
-        done = end;
+        done = span.end;
     }
-    done <= length
+    done <= end
 }
 
 /// The bytes with the parts replaced; none if the parts do not follow one another, or are not in the bytes.
@@ -33,17 +39,21 @@ pub fn replaced(
     alloc: Global,
     bytes: &[u8],
     parts: &[Replacement],
-) -> Result<Option<Vec<u8>>, AllocError> {
+) -> Result<Option<Vec<u8>>, AllocError>
+    ensures some { IfOk result (λ new. IfSome new (λ v. v.items ≡ spec.replaced bytes.now parts.now)) }
+    ensures ordered { IfOk result (λ new. IfSome new (λ _. AreInOrder 0 parts.now (length bytes.now))) }
+    ensures none { IfOk result (λ new. IfNone new (AreInOrder 0 parts.now (length bytes.now) → ⊥)) }
+{
     if !are_in_order(parts, bytes.len()) {
         return Ok(None);
     }
     let mut new = Vec::with_capacity(alloc, bytes.len())?;
     let mut done = 0usize;
     for part in parts {
-        new.extend_from_slice(bytes.get(done..part.span.start).unwrap_or(b""))?;
+        new.extend_from_slice(&bytes[done..part.span.start])?;
         new.extend_from_slice(part.text.as_bytes())?;
         done = part.span.end;
     }
-    new.extend_from_slice(bytes.get(done..).unwrap_or(b""))?;
+    new.extend_from_slice(&bytes[done..])?;
     Ok(Some(new))
 }
