@@ -18,7 +18,7 @@ const ALL_RULES: &str = "all";
 pub fn rule_names(alloc: Global) -> Result<Vec<&'static str>, AllocError> {
     let mut names = Vec::with_capacity(alloc, RULES.len().saturating_add(1))?;
     for rule in RULES.iter() {
-        names.push(rule.name())?;
+        names.push(rule.name)?;
     }
     names.push(ALL_RULES)?;
     Ok(names)
