@@ -1,7 +1,5 @@
 //! What the arguments choose.
-use crate::options::*;
 use crate::subcommands::FileVerb;
-use crate::value_names::format_named;
 use clap::ArgMatches;
 use clap::parser::ValueSource;
 use pattern_files::form::FileFormat;
@@ -12,7 +10,7 @@ use pattern_format::style::Style;
 use pattern_reports::format::ReportFormat;
 use patterns_config::choices::{Choices, ConfigChoice, RuleLevel};
 use patterns_listing::drawing::{Look, Style as LineStyle};
-use patterns_picture::picture::{Canvas, WIDTH as PICTURE_WIDTH};
+use patterns_picture::picture::{Canvas, WIDTH};
 use patterns_program::canonical::Comments;
 use patterns_program::job::{Command, Job, Output};
 use patterns_program::rewriting::PatternForm;
@@ -23,7 +21,7 @@ const LINE_WIDTH: usize = 80;
 
 /// The colours of the two streams; `auto` where the arguments leave them open.
 fn paints_of(matches: &ArgMatches<'_>, auto: Paints) -> Paints {
-    match matches.get_str(COLOR.id) {
+    match matches.get_str("color") {
         Some("always") => Paints::both(Paint::Colored),
         Some("never") => Paints::both(Paint::Plain),
         _ => auto,
@@ -32,12 +30,12 @@ fn paints_of(matches: &ArgMatches<'_>, auto: Paints) -> Paints {
 
 /// The style of patterns that are formatted.
 fn style_of(matches: &ArgMatches<'_>) -> Style {
-    if matches.get_flag(VERBOSE.id) {
+    if matches.get_flag("verbose") {
         return Style::Verbose {
-            width: matches.get_one(WIDTH.id).unwrap_or(LINE_WIDTH),
+            width: matches.get_one("width").unwrap_or(LINE_WIDTH),
         };
     }
-    if matches.get_flag(COMPACT.id) {
+    if matches.get_flag("compact") {
         Style::Compact
     } else {
         Style::Kept
@@ -46,10 +44,10 @@ fn style_of(matches: &ArgMatches<'_>) -> Style {
 
 /// The form of patterns that are formatted.
 fn pattern_form_of(matches: &ArgMatches<'_>) -> PatternForm {
-    if !matches.get_flag(CANONICAL.id) {
+    if !matches.get_flag("canonical") {
         return PatternForm::Written(style_of(matches));
     }
-    PatternForm::Canonical(if matches.get_flag(DROP_COMMENTS.id) {
+    PatternForm::Canonical(if matches.get_flag("drop-comments") {
         Comments::Drop
     } else {
         Comments::Keep
@@ -63,60 +61,61 @@ fn command_of(verb: FileVerb, matches: &ArgMatches<'_>) -> Command {
         FileVerb::Lint => Command::Lint,
         FileVerb::Format => Command::Format(pattern_form_of(matches)),
         FileVerb::Groups => Command::Groups {
-            has_classes: matches.get_flag(CLASSES.id),
+            has_classes: matches.get_flag("classes"),
         },
     }
 }
 
 /// The patterns that are arguments.
 fn patterns_of<'m>(matches: &'m ArgMatches<'_>) -> &'m [&'m str] {
-    matches.get_strs(REGEXP.id).unwrap_or(&[])
+    matches.get_strs("regexp").unwrap_or(&[])
 }
 
 /// The files.
 pub(crate) fn files_of<'m>(matches: &'m ArgMatches<'_>) -> &'m [&'m str] {
-    matches.get_strs(FILES.id).unwrap_or(&[])
+    matches.get_strs("files").unwrap_or(&[])
 }
 
 /// Whether there are patterns, other than records, that are in no file.
 fn has_output(matches: &ArgMatches<'_>) -> bool {
     let is_read = !patterns_of(matches).is_empty() || files_of(matches).contains(&STANDARD_INPUT);
-    is_read && !matches.get_flag(RECORDS.id)
+    is_read && !matches.get_flag("records")
 }
 
 /// What becomes of patterns that are fixed or formatted.
 fn output_of(verb: FileVerb, matches: &ArgMatches<'_>) -> Output {
-    if matches.get_flag(FIX.id) || matches.get_flag(WRITE.id) {
+    if matches.get_flag("fix") || matches.get_flag("write") {
         return Output::Files {
             has_output: has_output(matches),
         };
     }
-    if matches.get_flag(DIFF.id) {
+    if matches.get_flag("diff") {
         return Output::Diff;
     }
-    if matches.get_flag(CHECK.id) {
+    if matches.get_flag("check") {
         return Output::Check;
     }
-    match verb {
-        FileVerb::Format => Output::Patterns,
-        FileVerb::Check | FileVerb::Lint | FileVerb::Groups => Output::Reports,
+    if verb == FileVerb::Format {
+        Output::Patterns
+    } else {
+        Output::Reports
     }
 }
 
 /// How reports are written.
 pub(crate) fn report_format_of(matches: &ArgMatches<'_>) -> ReportFormat {
-    if matches.get_flag(JSON.id) {
-        return ReportFormat::Json;
-    }
-    match matches.get_str(FORMAT.id) {
-        Some(name) => format_named(name).unwrap_or(ReportFormat::Text),
-        None => ReportFormat::Text,
+    match matches.get_str("format") {
+        Some("json") => ReportFormat::Json,
+        Some("github") => ReportFormat::Github,
+        Some("sarif") => ReportFormat::Sarif,
+        _ if matches.get_flag("json") => ReportFormat::Json,
+        _ => ReportFormat::Text,
     }
 }
 
 /// What a pattern ends with.
 fn ending_of(matches: &ArgMatches<'_>) -> Ending {
-    if matches.get_flag(NULL_DATA.id) {
+    if matches.get_flag("null-data") {
         Ending::Null
     } else {
         Ending::Line
@@ -125,11 +124,11 @@ fn ending_of(matches: &ArgMatches<'_>) -> Ending {
 
 /// How the files have patterns.
 fn file_format_of<'m>(matches: &'m ArgMatches<'_>) -> FileFormat<'m> {
-    if matches.get_flag(RECORDS.id) {
+    if matches.get_flag("records") {
         return FileFormat::Extracted;
     }
-    let has_textmate = matches.get_flag(TEXTMATE.id);
-    let named = matches.get_strs(KEYS.id);
+    let has_textmate = matches.get_flag("textmate");
+    let named = matches.get_strs("keys");
     if !has_textmate && named.is_none() {
         return FileFormat::Records(ending_of(matches));
     }
@@ -142,10 +141,10 @@ fn file_format_of<'m>(matches: &'m ArgMatches<'_>) -> FileFormat<'m> {
 
 /// Which configuration is read.
 fn config_of<'m>(matches: &'m ArgMatches<'_>) -> ConfigChoice<'m> {
-    if matches.get_flag(NO_CONFIG.id) {
+    if matches.get_flag("no-config") {
         return ConfigChoice::None;
     }
-    match matches.get_str(CONFIG.id) {
+    match matches.get_str("config") {
         Some(file) => ConfigChoice::File(file),
         None => ConfigChoice::Nearest,
     }
@@ -161,15 +160,15 @@ pub(crate) fn choices_of<'m>(
     Choices {
         config: config_of(matches),
         flags,
-        has_flags: matches.value_source(FLAGS.id) == Some(ValueSource::CommandLine),
+        has_flags: matches.value_source("flags") == Some(ValueSource::CommandLine),
         form,
         has_form: match form {
             FileFormat::Values(_) | FileFormat::Extracted | FileFormat::Records(Ending::Null) => {
                 true
             }
-            FileFormat::Records(Ending::Line) => matches.get_flag(LINES.id),
+            FileFormat::Records(Ending::Line) => matches.get_flag("lines"),
         },
-        is_verbose: matches.get_flag(VERBOSE.id),
+        is_verbose: matches.get_flag("verbose"),
         levels,
     }
 }
@@ -186,8 +185,8 @@ pub(crate) fn job_of<'m>(
         format: report_format_of(matches),
         output: output_of(verb, matches),
         patterns: patterns_of(matches),
-        is_quiet: matches.get_flag(QUIET.id),
-        max_warnings: matches.get_one(MAX_WARNINGS.id),
+        is_quiet: matches.get_flag("quiet"),
+        max_warnings: matches.get_one("max-warnings"),
         paints: paints_of(matches, auto),
         choices,
     }
@@ -196,21 +195,21 @@ pub(crate) fn job_of<'m>(
 /// How a tree is drawn.
 pub(crate) fn look_of(matches: &ArgMatches<'_>) -> Look {
     Look {
-        style: if matches.get_flag(ASCII.id) {
+        style: if matches.get_flag("ascii") {
             LineStyle::Ascii
         } else {
             LineStyle::Lines
         },
-        has_spans: matches.get_flag(SPANS.id),
-        has_each_literal: matches.get_flag(ALL.id),
-        has_classes: matches.get_flag(CLASSES.id),
-        has_trivia: matches.get_flag(TRIVIA.id),
+        has_spans: matches.get_flag("spans"),
+        has_each_literal: matches.get_flag("all"),
+        has_classes: matches.get_flag("classes"),
+        has_trivia: matches.get_flag("trivia"),
     }
 }
 
 /// What a picture is written as.
 pub(crate) fn canvas_of(matches: &ArgMatches<'_>) -> Canvas {
-    if matches.get_flag(HTML.id) {
+    if matches.get_flag("html") {
         Canvas::Page
     } else {
         Canvas::Svg
@@ -219,5 +218,5 @@ pub(crate) fn canvas_of(matches: &ArgMatches<'_>) -> Canvas {
 
 /// How wide a picture may be, in pixels.
 pub(crate) fn width_of(matches: &ArgMatches<'_>) -> usize {
-    matches.get_one(WIDTH.id).unwrap_or(PICTURE_WIDTH)
+    matches.get_one("width").unwrap_or(WIDTH)
 }

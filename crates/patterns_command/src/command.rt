@@ -1,7 +1,6 @@
 //! The command line, made of the rows.
 use crate::option::with_options;
 use crate::subcommands::{Subcommand, VERBS, Verb};
-use crate::value_names::ValueNames;
 use clap::Command;
 use std::alloc::{AllocError, Global};
 
@@ -42,17 +41,17 @@ fn described<'a>(alloc: Global, row: Subcommand) -> Command<'a> {
 fn subcommand<'a>(
     alloc: Global,
     verb: Verb,
-    names: &'a ValueNames,
+    rules: &'a [&'a str],
 ) -> Result<Command<'a>, AllocError> {
     let mut command = described(alloc, verb.row());
     for rows in verb.options().iter() {
-        command = with_options(alloc, command, rows, names)?;
+        command = with_options(alloc, command, rows, rules)?;
     }
     Ok(command)
 }
 
-/// The command line.
-pub(crate) fn command<'a>(alloc: Global, names: &'a ValueNames) -> Result<Command<'a>, AllocError> {
+/// The command line; `rules` are the names of all rules.
+pub(crate) fn command<'a>(alloc: Global, rules: &'a [&'a str]) -> Result<Command<'a>, AllocError> {
     let mut command = Command::new(alloc, "patterns")
         .bin_name("patterns")?
         .version(VERSION)
@@ -61,7 +60,7 @@ pub(crate) fn command<'a>(alloc: Global, names: &'a ValueNames) -> Result<Comman
         .subcommand_required(true)
         .arg_required_else_help(true);
     for verb in VERBS.iter() {
-        command = command.subcommand(subcommand(alloc, *verb, names)?)?;
+        command = command.subcommand(subcommand(alloc, *verb, rules)?)?;
     }
     Ok(command)
 }

@@ -3,10 +3,8 @@ ghost use Rattle.std.specs.Prelude.{◌≤◌, IfOk};
 
 use crate::chosen::{canvas_of, choices_of, files_of, job_of, look_of, report_format_of, width_of};
 use crate::command::command;
-use crate::options::{FILE, FLAGS, PATTERN, REGEXP, RULES};
 use crate::rules::levels_chosen;
 use crate::subcommands::{PatternVerb, Verb};
-use crate::value_names::ValueNames;
 use clap::error::ErrorKind;
 use clap::{ArgMatches, Error};
 use fre_program::flag_word::{FLAG_WORD, flags_named};
@@ -16,7 +14,7 @@ use pattern_files::lines::Ending;
 use pattern_files::sources::{STANDARD_INPUT, System};
 use pattern_format::style::Style;
 use pattern_reports::format::ReportFormat;
-use patterns_config::choices::{Choices, RuleLevel};
+use patterns_config::choices::{Choices, RuleLevel, rule_names};
 use patterns_lint::rule::write_rules;
 use patterns_listing::drawing::Look;
 use patterns_picture::picture::{Canvas, draw_picture};
@@ -142,13 +140,13 @@ fn drawing_of(verb: PatternVerb, matches: &ArgMatches<'_>) -> Drawing {
 
 /// Where the one pattern is. The command line has one of the three.
 fn source_of<'m>(matches: &'m ArgMatches<'_>) -> Option<PatternSource<'m>> {
-    if let Some(pattern) = matches.get_str(REGEXP.id) {
+    if let Some(pattern) = matches.get_str("regexp") {
         return Some(PatternSource::Argument(pattern));
     }
-    if let Some(pattern) = matches.get_str(PATTERN.id) {
+    if let Some(pattern) = matches.get_str("pattern") {
         return Some(PatternSource::Argument(pattern));
     }
-    Some(PatternSource::Position(matches.get_str(FILE.id)?))
+    Some(PatternSource::Position(matches.get_str("file")?))
 }
 
 /// What the arguments of a subcommand ask for.
@@ -159,11 +157,11 @@ fn request_of<'m>(
     matches: &'m ArgMatches<'_>,
     levels: &'m [RuleLevel<'m>],
 ) -> Result<Request<'m>, NoRun> {
-    let Some(flags) = matches.get_str(FLAGS.id).and_then(flags_named) else {
+    let Some(flags) = matches.get_str("flags").and_then(flags_named) else {
         let text = format!(in alloc; "patterns: --flags takes {FLAG_WORD}\n")?;
         return Err(NoRun::Misuse(text));
     };
-    if matches.get_flag(RULES.id) {
+    if matches.get_flag("rules") {
         return Err(NoRun::Rules);
     }
     let choices = choices_of(matches, flags, levels);
@@ -248,10 +246,10 @@ fn draw_chosen<S: System, O: Write, E: Write>(
 /// The command line with the arguments.
 fn parsed<'a>(
     alloc: Global,
-    names: &'a ValueNames,
+    rules: &'a [&'a str],
     words: &'a [String],
 ) -> Result<ArgMatches<'a>, NoRun> {
-    match command(alloc, names)?.try_get_matches_from(words) {
+    match command(alloc, rules)?.try_get_matches_from(words) {
         Ok(matches) => Ok(matches),
         Err(error) => Err(no_run(alloc, &error)?),
     }
@@ -268,8 +266,8 @@ fn execute_words<S: System, O: Write, E: Write>(
 ) -> Result<u8, RunError>
     ensures status { IfOk result (λ status. status ≤ 3) }
 {
-    let names = ValueNames::new(alloc)?;
-    let matches = match parsed(alloc, &names, words) {
+    let rules = rule_names(alloc)?;
+    let matches = match parsed(alloc, &rules, words) {
         Ok(matches) => matches,
         Err(reason) => return explain(reason, out, err),
     };

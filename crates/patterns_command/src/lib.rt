@@ -8,4 +8,3 @@ mod option;
 mod options;
 mod rules;
 mod subcommands;
-mod value_names;

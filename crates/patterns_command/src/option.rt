@@ -1,5 +1,4 @@
 //! What an option is, and how it is parsed.
-use crate::value_names::ValueNames;
 use clap::builder::{ArgPredicate, ValueParser};
 use clap::{Arg, ArgAction, Command};
 use std::alloc::{AllocError, Global};
@@ -17,8 +16,6 @@ pub(crate) enum Takes {
     List(&'static str),
     /// The same, names of rules.
     Rules,
-    /// A format of reports.
-    Format,
     /// It is no option: the arguments that are files.
     Files,
     /// It is no option: the argument that is the pattern.
@@ -58,19 +55,11 @@ pub(crate) const FLAG: OptionRow = OptionRow {
 impl Takes {
     /// Whether it is given by a name.
     fn is_named(self) -> bool {
-        match self {
-            Takes::Nothing
-            | Takes::One(..)
-            | Takes::Each(_)
-            | Takes::List(_)
-            | Takes::Rules
-            | Takes::Format => true,
-            Takes::Files | Takes::Pattern => false,
-        }
+        !matches!(self, Takes::Files | Takes::Pattern)
     }
 
-    /// The argument with its values.
-    fn add_to<'a>(self, arg: Arg<'a>, names: &'a ValueNames) -> Result<Arg<'a>, AllocError> {
+    /// The argument with its values; `rules` are the names of all rules.
+    fn add_to<'a>(self, arg: Arg<'a>, rules: &'a [&'a str]) -> Result<Arg<'a>, AllocError> {
         let arg = match self {
             Takes::Nothing => arg.action(ArgAction::SetTrue),
             Takes::One(value, parser) => arg.value_name(value).value_parser(parser),
@@ -81,11 +70,10 @@ impl Takes {
                 .action(ArgAction::Append),
             Takes::Rules => arg
                 .value_name("RULE[,RULE..]")
-                .value_parser(names.rules())
+                .value_parser(rules)
                 .hide_possible_values(true)
                 .value_delimiter(',')
                 .action(ArgAction::Append),
-            Takes::Format => arg.value_name("FORMAT").value_parser(names.formats()),
             Takes::Files => arg
                 .value_name("FILE")
                 .action(ArgAction::Append)
@@ -102,11 +90,11 @@ impl Takes {
 
 impl OptionRow {
     /// The argument of the row.
-    fn arg<'a>(self, alloc: Global, names: &'a ValueNames) -> Result<Arg<'a>, AllocError> {
+    fn arg<'a>(self, alloc: Global, rules: &'a [&'a str]) -> Result<Arg<'a>, AllocError> {
         let mut arg = Arg::new(alloc, self.id)
             .help(self.help)
             .allow_hyphen_values(self.is_raw);
-        arg = self.takes.add_to(arg, names)?;
+        arg = self.takes.add_to(arg, rules)?;
         if self.takes.is_named() {
             arg = arg.long(self.id);
         }
@@ -131,11 +119,11 @@ pub(crate) fn with_options<'a>(
     alloc: Global,
     command: Command<'a>,
     rows: &[OptionRow],
-    names: &'a ValueNames,
+    rules: &'a [&'a str],
 ) -> Result<Command<'a>, AllocError> {
     let mut command = command;
     for row in rows {
-        command = command.arg(row.arg(alloc, names)?)?;
+        command = command.arg(row.arg(alloc, rules)?)?;
     }
     Ok(command)
 }

@@ -1,6 +1,6 @@
 //! The subcommands: a row for each.
 use crate::option::OptionRow;
-use crate::options::*;
+use crate::options;
 
 /// What a subcommand does with the patterns of files.
 #[derive(Clone, Copy, PartialEq, Eq)]
@@ -49,52 +49,11 @@ pub(crate) struct Subcommand {
     pub(crate) options: &'static [OptionRow],
 }
 
-/// The options of subcommands over files.
-static FILE_OPTIONS: [OptionRow; 12] = [
-    FLAGS, REGEXP, NULL_DATA, LINES, QUIET, COLOR, CONFIG, NO_CONFIG, FILES, TEXTMATE, KEYS,
-    RECORDS,
-];
-
-/// The options that choose one pattern and its configuration.
-static PATTERN_OPTIONS: [OptionRow; 5] = [ONE_REGEXP, FILE, CONFIG, NO_CONFIG, PATTERN];
-
-static CHECK_OPTIONS: [OptionRow; 2] = [FORMAT, JSON];
-
-static TREE_OPTIONS: [OptionRow; 7] = [FLAGS, ASCII, SPANS, TRIVIA, ALL, CLASSES, JSON];
-
-static PICTURE_OPTIONS: [OptionRow; 3] = [FLAGS, HTML, WIDTH];
-
-static LINT_OPTIONS: [OptionRow; 10] = [
-    ALLOW,
-    WARN,
-    DENY,
-    MAX_WARNINGS,
-    FIX,
-    DIFF,
-    FORMAT,
-    JSON,
-    VERBOSE,
-    RULES,
-];
-
-static FORMAT_OPTIONS: [OptionRow; 8] = [
-    WRITE,
-    CHECK,
-    FORMAT_DIFF,
-    FORMAT_VERBOSE,
-    FORMAT_WIDTH,
-    COMPACT,
-    CANONICAL,
-    DROP_COMMENTS,
-];
-
-static GROUPS_OPTIONS: [OptionRow; 2] = [LISTED_CLASSES, JSON];
-
-impl FileVerb {
+impl Verb {
     /// Its row.
-    fn row(self) -> Subcommand {
+    pub(crate) fn row(self) -> Subcommand {
         match self {
-            FileVerb::Check => Subcommand {
+            Verb::Files(FileVerb::Check) => Subcommand {
                 name: "check",
                 about: "Reports each invalid pattern, with the position and the reason",
                 long_about: None,
@@ -104,9 +63,30 @@ impl FileVerb {
   (?<year>\d{4})-(?<month>\d\d
                  -            ^
                  opened here",
-                options: &CHECK_OPTIONS,
+                options: &options::CHECK_OPTIONS,
             },
-            FileVerb::Lint => Subcommand {
+            Verb::Pattern(PatternVerb::Tree) => Subcommand {
+                name: "tree",
+                about: "Draws the tree of a pattern, and describes its groups and references",
+                long_about: None,
+                example: r#"Example: patterns tree '(a|b)+'
+
+  repeat 1 or more times, greedy
+  └─ group 1
+     └─ alternation
+        ├─ literal "a"
+        └─ literal "b"
+  1 numbered group."#,
+                options: &options::TREE_OPTIONS,
+            },
+            Verb::Pattern(PatternVerb::Picture) => Subcommand {
+                name: "picture",
+                about: "Draws the tree of a pattern as a railroad diagram, in SVG",
+                long_about: None,
+                example: r"Example: patterns picture '(?<year>\d{4})-(?<month>\d\d)' >date.svg",
+                options: &options::PICTURE_OPTIONS,
+            },
+            Verb::Files(FileVerb::Lint) => Subcommand {
                 name: "lint",
                 about: "Reports likely mistakes in valid patterns",
                 long_about: Some(
@@ -127,9 +107,9 @@ several times. Of those that name a rule the last one counts, and all names ever
   -   ^
   branch 1
   help: remove it",
-                options: &LINT_OPTIONS,
+                options: &options::LINT_OPTIONS,
             },
-            FileVerb::Format => Subcommand {
+            Verb::Files(FileVerb::Format) => Subcommand {
                 name: "format",
                 about: "Formats each pattern, and keeps how it is written, with its comments",
                 long_about: Some(
@@ -153,9 +133,9 @@ standard output: with --textmate, --keys and --records, use --write, --check or 
 
   writes for the line  (?:\d{1,})   {2,2} # twice
   the line             \d+ {2} # twice",
-                options: &FORMAT_OPTIONS,
+                options: &options::FORMAT_OPTIONS,
             },
-            FileVerb::Groups => Subcommand {
+            Verb::Files(FileVerb::Groups) => Subcommand {
                 name: "groups",
                 about: "Lists the groups of each pattern, and what its references and calls refer to",
                 long_about: Some(
@@ -170,55 +150,16 @@ character.",
   dates.txt:1: (?<year>\d{4})-(\d\d)
   dates.txt:1:1-14: group 1, named "year"
   dates.txt:1:16-21: group 2"#,
-                options: &GROUPS_OPTIONS,
+                options: &options::GROUPS_OPTIONS,
             },
-        }
-    }
-}
-
-impl PatternVerb {
-    /// Its row.
-    fn row(self) -> Subcommand {
-        match self {
-            PatternVerb::Tree => Subcommand {
-                name: "tree",
-                about: "Draws the tree of a pattern, and describes its groups and references",
-                long_about: None,
-                example: r#"Example: patterns tree '(a|b)+'
-
-  repeat 1 or more times, greedy
-  └─ group 1
-     └─ alternation
-        ├─ literal "a"
-        └─ literal "b"
-  1 numbered group."#,
-                options: &TREE_OPTIONS,
-            },
-            PatternVerb::Picture => Subcommand {
-                name: "picture",
-                about: "Draws the tree of a pattern as a railroad diagram, in SVG",
-                long_about: None,
-                example: r"Example: patterns picture '(?<year>\d{4})-(?<month>\d\d)' >date.svg",
-                options: &PICTURE_OPTIONS,
-            },
-        }
-    }
-}
-
-impl Verb {
-    /// Its row.
-    pub(crate) fn row(self) -> Subcommand {
-        match self {
-            Verb::Files(verb) => verb.row(),
-            Verb::Pattern(verb) => verb.row(),
         }
     }
 
     /// Its options, in the order of the help.
     pub(crate) fn options(self) -> [&'static [OptionRow]; 2] {
         match self {
-            Verb::Files(verb) => [&FILE_OPTIONS, verb.row().options],
-            Verb::Pattern(verb) => [verb.row().options, &PATTERN_OPTIONS],
+            Verb::Files(_) => [&options::FILE_OPTIONS, self.row().options],
+            Verb::Pattern(_) => [self.row().options, &options::PATTERN_OPTIONS],
         }
     }
 
