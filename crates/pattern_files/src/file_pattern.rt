@@ -208,7 +208,7 @@ impl<E: Write> Visitor for Search<'_, '_, E> {
         Ok(())
     }
 
-    fn byte_order_mark(&mut self) -> Result<(), RunError> {
+    fn bom(&mut self) -> Result<(), RunError> {
         Ok(())
     }
 

@@ -71,7 +71,7 @@ impl<S: System, O: Write, E: Write> Visitor for FileRun<'_, '_, S, O, E> {
         self.put_unless_held()
     }
 
-    fn byte_order_mark(&mut self) -> Result<(), RunError> {
+    fn bom(&mut self) -> Result<(), RunError> {
         self.work.write_bom()?;
         Ok(())
     }
