@@ -1,6 +1,6 @@
 //! The files of the system, its clock, and what the outputs are.
 use crate::replace::replace;
-use patterns_program::sources::{ReplaceError, Sources, System, Terminals};
+use pattern_files::sources::{ReplaceError, Sources, System, Terminals};
 use std::env::Env;
 use std::fs::File;
 use std::io::{BufReader, IsTerminal, Stdin};

@@ -1,6 +1,6 @@
 //! The folders of the system.
 use crate::files::Host;
-use patterns_program::sources::{EntryKind, Folders};
+use pattern_files::sources::{EntryKind, Folders};
 use std::fs::{metadata, read_dir, symlink_metadata};
 use std::{fs, io};
 

@@ -7,8 +7,8 @@ mod new_file;
 mod replace;
 
 use files::Host;
+use pattern_files::sources::{System, Terminals};
 use patterns_command::execute::execute;
-use patterns_program::sources::{System, Terminals};
 use patterns_text::error::{RunError, give_up};
 use patterns_text::paint::{Paint, Paints};
 use std::alloc::AllocError;

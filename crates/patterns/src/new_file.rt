@@ -1,6 +1,6 @@
 //! The new file that takes the place of an old one. A run holds its lock as long as it has the name, so that what a killed run
 //! left is known from what another run is writing.
-use patterns_program::sources::ReplaceError;
+use pattern_files::sources::ReplaceError;
 use std::fs::{File, Metadata, OpenOptions, Permissions, TryLockError};
 use std::io::{ErrorKind, Write};
 use std::os::unix::fs::{MetadataExt, OpenOptionsExt, PermissionsExt, fchown};

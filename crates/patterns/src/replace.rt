@@ -1,6 +1,6 @@
 //! Writes a file in the place of another, so that a name has the old bytes or the new ones at each time.
 use crate::new_file::NewFile;
-use patterns_program::sources::ReplaceError;
+use pattern_files::sources::ReplaceError;
 use std::fs::{File, Metadata};
 use std::io::{ErrorKind, Read};
 use std::os::unix::fs::MetadataExt;

@@ -1,5 +1,5 @@
 //! Files, and writers, that lie in memory.
-use patterns_program::sources::{EntryKind, Folders, ReplaceError, Sources, System, Terminals};
+use pattern_files::sources::{EntryKind, Folders, ReplaceError, Sources, System, Terminals};
 use std::alloc::Global;
 use std::io;
 use std::io::{BufRead, Chain, ErrorKind, Read, Write};
