@@ -1,5 +1,5 @@
 -- The levels of the rules.
-use Rattle.std.specs.Prelude.{ℕ, Bool, true, List, length, replicate, slice_index_or, if◌then◌else◌}
+use Rattle.std.specs.Prelude.{ℕ, Bool, List, slice_index_or, if◌then◌else◌}
 use denote.Enum.Declared.{tag_of}
 use Rattle.patterns_lint.specs.declared.chosen.Level.{Level}
 use Rattle.patterns_lint.specs.declared.chosen.Level.TheVariants.{Allow, Warn, Deny}

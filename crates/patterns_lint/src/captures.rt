@@ -2,7 +2,7 @@
 ghost use Rattle.std.specs.Prelude.{◌≡◌};
 ghost use Rattle.patterns_lint.specs.Targets as spec;
 
-use crate::problem::{Found, Problem};
+use crate::problem::{Found, Problem, Total};
 use crate::targets::above;
 use fancy_syntax::span::Span;
 use patterns_text::grammar_rule::Capture;
@@ -29,8 +29,11 @@ pub(crate) fn missing_captures(
     let mut found = Vec::new(alloc);
     for capture in captures {
         if let Some(group) = missing_capture(*capture) {
-            let key = capture.key;
-            let problem = Problem::MissingCaptureGroup { key, group, total };
+            let problem = Problem::MissingCaptureGroup {
+                key: capture.key,
+                group,
+                total: Total(total),
+            };
             found.push(Found {
                 span,
                 problem,

@@ -19,23 +19,23 @@ pub enum Problem<'a> {
     /// A back reference to a group above the number of groups.
     MissingGroup {
         group: usize,
-        total: usize,
+        total: Total,
     },
     /// A condition on a group above the number of groups.
     MissingConditionGroup {
         group: usize,
-        total: usize,
+        total: Total,
     },
     /// A reference to a group above the number of groups of `begin`.
     MissingBeginGroup {
         group: usize,
-        total: usize,
+        total: Total,
     },
     /// A number under a key of captures, above the number of groups.
     MissingCaptureGroup {
         key: CaptureKey,
         group: usize,
-        total: usize,
+        total: Total,
     },
     /// A back reference to a group that cannot have matched.
     UselessBackreference {
@@ -235,7 +235,7 @@ impl Problem<'_> {
 
 /// How many groups there are, in words.
 #[derive(Clone, Copy)]
-struct Total(usize);
+pub struct Total(pub usize);
 
 impl fmt::Display for Total {
     fn fmt<W: fmt::Write>(&self, f: &mut fmt::Formatter<W>) -> fmt::Result {
@@ -258,33 +258,17 @@ impl fmt::Display for Problem<'_> {
         match self {
             Problem::Plain(rule) => f.write_str(without_article(rule.row().what)),
             Problem::MissingGroup { group, total } => {
-                write!(
-                    f,
-                    "reference to group {group}, but the pattern has {}",
-                    Total(*total)
-                )
+                write!(f, "reference to group {group}, but the pattern has {total}")
             }
             Problem::MissingConditionGroup { group, total } => {
-                write!(
-                    f,
-                    "condition on group {group}, but the pattern has {}",
-                    Total(*total)
-                )
+                write!(f, "condition on group {group}, but the pattern has {total}")
             }
             Problem::MissingBeginGroup { group, total } => {
-                write!(
-                    f,
-                    "reference to group {group}, but begin has {}",
-                    Total(*total)
-                )
+                write!(f, "reference to group {group}, but begin has {total}")
             }
             Problem::MissingCaptureGroup { key, group, total } => {
-                write!(
-                    f,
-                    "number {group} in {}, but the pattern has {}",
-                    key.name(),
-                    Total(*total)
-                )
+                let key = key.name();
+                write!(f, "number {group} in {key}, but the pattern has {total}")
             }
             Problem::UselessBackreference { group } => {
                 write!(

@@ -8,7 +8,6 @@ ghost use Rattle.patterns_lint.specs.declared.rule.RuleRow.{RuleRow};
 use crate::chosen::Level;
 use pattern_fixes::edit::FixKind;
 use patterns_text::error::RunError;
-use std::fmt;
 use std::io::Write;
 
 /// A rule: what may be wrong with a pattern that is accepted. Its row in `RULES` says what.
@@ -64,7 +63,7 @@ pub struct RuleRow {
     pub fix: Option<FixKind>,
 }
 
-/// A rule that warns.
+/// What a row has where it says nothing else: the rule warns, and no edit fixes its reports.
 const WARNS: RuleRow = RuleRow {
     rule: Rule::MissingGroup,
     name: "",
@@ -370,30 +369,27 @@ impl Rule {
     }
 }
 
-impl fmt::Display for RuleRow {
-    fn fmt<W: fmt::Write>(&self, f: &mut fmt::Formatter<W>) -> fmt::Result {
+/// Writes the rules to `out`, a line each: the name, what the rule reports, an example, what its reports are by default, and
+/// whether `--fix` fixes them.
+pub fn write_rules<O: Write>(out: &mut O) -> Result<(), RunError> {
+    for row in RULES.iter() {
         let RuleRow {
             name,
             what,
             example,
             ..
-        } = self;
-        write!(f, "{name}: {what}, as in {example} [{}", self.level.name())?;
-        if self.is_silent_in_json {
-            f.write_str(", off in JSON")?;
-        }
-        if self.fix.is_some() {
-            f.write_str(", fixed")?;
-        }
-        f.write_str("]")
-    }
-}
-
-/// Writes the rules to `out`, a line each: the name, what the rule reports, an example, what its reports are by default, and
-/// whether `--fix` fixes them.
-pub fn write_rules<O: Write>(out: &mut O) -> Result<(), RunError> {
-    for row in RULES.iter() {
-        writeln!(out, "{row}")?;
+        } = row;
+        let level = row.level.name();
+        let in_json = if row.is_silent_in_json {
+            ", off in JSON"
+        } else {
+            ""
+        };
+        let fixed = if row.fix.is_some() { ", fixed" } else { "" };
+        writeln!(
+            out,
+            "{name}: {what}, as in {example} [{level}{in_json}{fixed}]"
+        )?;
     }
     Ok(())
 }

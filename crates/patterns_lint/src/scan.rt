@@ -2,7 +2,7 @@
 use crate::branches::{Earlier, Situation, has_count_twin, is_word_list};
 use crate::classes::is_single_character_class;
 use crate::fingerprint::Fingerprint;
-use crate::problem::Problem;
+use crate::problem::{Problem, Total};
 use crate::quantifiers::quantifier_rule;
 use crate::targets::{
     is_numbered_reference, is_unresolved_call, missing_begin_group, missing_condition_group,
@@ -53,16 +53,17 @@ fn reference_problem(tree: &Expr, span: Span, about: PatternInfo<'_>) -> Option<
     if let Some(total) = about.begin_groups
         && let Some(group) = missing_begin_group(tree, text, total)
     {
+        let total = Total(total);
         return Some(Problem::MissingBeginGroup { group, total });
     }
     if about.is_by_name && is_numbered_reference(tree, text) {
         return Some(Problem::NumberedReference);
     }
-    let total = about.total;
-    if let Some(group) = missing_group(tree, total) {
+    let total = Total(about.total);
+    if let Some(group) = missing_group(tree, about.total) {
         return Some(Problem::MissingGroup { group, total });
     }
-    let group = missing_condition_group(tree, total)?;
+    let group = missing_condition_group(tree, about.total)?;
     Some(Problem::MissingConditionGroup { group, total })
 }
 
