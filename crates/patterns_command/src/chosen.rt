@@ -71,6 +71,14 @@ fn patterns_of<'m>(matches: &'m ArgMatches<'_>) -> &'m [&'m str] {
     matches.get_strs("regexp").unwrap_or(&[])
 }
 
+/// The one pattern, if it is an argument.
+pub(crate) fn pattern_of<'m>(matches: &'m ArgMatches<'_>) -> Option<&'m str> {
+    match matches.get_str("regexp") {
+        Some(pattern) => Some(pattern),
+        None => matches.get_str("pattern"),
+    }
+}
+
 /// The files.
 pub(crate) fn files_of<'m>(matches: &'m ArgMatches<'_>) -> &'m [&'m str] {
     matches.get_strs("files").unwrap_or(&[])

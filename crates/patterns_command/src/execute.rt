@@ -1,7 +1,9 @@
 //! What the program does with its arguments.
 ghost use Rattle.std.specs.Prelude.{◌≤◌, IfOk};
 
-use crate::chosen::{canvas_of, choices_of, files_of, job_of, look_of, report_format_of, width_of};
+use crate::chosen::{
+    canvas_of, choices_of, files_of, job_of, look_of, pattern_of, report_format_of, width_of,
+};
 use crate::command::command;
 use crate::rules::levels_chosen;
 use crate::subcommands::{PatternVerb, Verb};
@@ -16,8 +18,7 @@ use pattern_format::style::Style;
 use pattern_reports::format::ReportFormat;
 use patterns_config::choices::{Choices, RuleLevel, rule_names};
 use patterns_lint::rule::write_rules;
-use patterns_listing::drawing::Look;
-use patterns_picture::picture::{Canvas, draw_picture};
+use patterns_picture::picture::draw_picture;
 use patterns_program::draw::draw_tree;
 use patterns_program::job::{Command, Job, Output};
 use patterns_program::pattern_flags::flags_of_pattern;
@@ -62,38 +63,13 @@ impl From<AllocError> for NoRun {
     }
 }
 
-/// What is drawn of one pattern.
-#[derive(Clone, Copy)]
-enum Drawing {
-    Tree(ReportFormat, Look),
-    /// A picture of at most this width.
-    Picture(Canvas, usize),
-}
-
-/// Where the one pattern is.
-#[derive(Clone, Copy)]
-enum PatternSource<'m> {
-    /// It is an argument.
-    Argument(&'m str),
-    /// It is at this position of a file.
-    Position(&'m str),
-}
-
-/// A pattern that is drawn.
-#[derive(Clone, Copy)]
-struct DrawnPattern<'m> {
-    drawing: Drawing,
-    source: PatternSource<'m>,
-    /// What the arguments choose where a configuration may say otherwise.
-    choices: Choices<'m>,
-}
-
 /// What the arguments ask for.
 #[derive(Clone, Copy)]
 enum Request<'m> {
     /// A job over files.
     Files(Job<'m>, &'m [&'m str]),
-    Pattern(DrawnPattern<'m>),
+    /// One pattern, which is drawn.
+    Pattern(PatternVerb, Choices<'m>),
 }
 
 /// That the arguments are wrong.
@@ -130,25 +106,6 @@ fn misuse_of(job: Job<'_>, has_files: bool) -> Option<&'static str> {
     }
 }
 
-/// What is drawn of one pattern.
-fn drawing_of(verb: PatternVerb, matches: &ArgMatches<'_>) -> Drawing {
-    match verb {
-        PatternVerb::Tree => Drawing::Tree(report_format_of(matches), look_of(matches)),
-        PatternVerb::Picture => Drawing::Picture(canvas_of(matches), width_of(matches)),
-    }
-}
-
-/// Where the one pattern is. The command line has one of the three.
-fn source_of<'m>(matches: &'m ArgMatches<'_>) -> Option<PatternSource<'m>> {
-    if let Some(pattern) = matches.get_str("regexp") {
-        return Some(PatternSource::Argument(pattern));
-    }
-    if let Some(pattern) = matches.get_str("pattern") {
-        return Some(PatternSource::Argument(pattern));
-    }
-    Some(PatternSource::Position(matches.get_str("file")?))
-}
-
 /// What the arguments of a subcommand ask for.
 fn request_of<'m>(
     alloc: Global,
@@ -174,14 +131,7 @@ fn request_of<'m>(
                 None => Ok(Request::Files(job, files)),
             }
         }
-        Verb::Pattern(verb) => match source_of(matches) {
-            Some(source) => Ok(Request::Pattern(DrawnPattern {
-                drawing: drawing_of(verb, matches),
-                source,
-                choices,
-            })),
-            None => Err(NoRun::Misuse(String::new(alloc))),
-        },
+        Verb::Pattern(verb) => Ok(Request::Pattern(verb, choices)),
     }
 }
 
@@ -203,44 +153,58 @@ fn explain<O: Write, E: Write>(reason: NoRun, out: &mut O, err: &mut E) -> Resul
 }
 
 /// Draws a pattern, and returns the exit status.
-fn draw<O: Write, E: Write>(drawing: Drawing, subject: Subject<'_>, out: &mut O, err: &mut E) -> u8
+fn draw<O: Write, E: Write>(
+    verb: PatternVerb,
+    subject: Subject<'_>,
+    matches: &ArgMatches<'_>,
+    out: &mut O,
+    err: &mut E,
+) -> u8
     ensures status { result ≤ 3 }
 {
-    match drawing {
-        Drawing::Tree(format, look) => draw_tree(subject, format, look, out, err),
-        Drawing::Picture(canvas, width) => draw_picture(subject, canvas, width, out, err),
+    match verb {
+        PatternVerb::Tree => {
+            let format = report_format_of(matches);
+            draw_tree(subject, format, look_of(matches), out, err)
+        }
+        PatternVerb::Picture => {
+            let width = width_of(matches);
+            draw_picture(subject, canvas_of(matches), width, out, err)
+        }
     }
 }
 
-/// Draws the pattern, under the flags that its configuration and the arguments choose, and returns the exit status.
+/// Draws the pattern that the arguments give, or choose from a file, under the flags that its configuration and they choose,
+/// and returns the exit status.
 fn draw_chosen<S: System, O: Write, E: Write>(
     alloc: Global,
-    chosen: DrawnPattern<'_>,
+    verb: PatternVerb,
+    choices: Choices<'_>,
+    matches: &ArgMatches<'_>,
     sources: &S,
     out: &mut O,
     err: &mut E,
 ) -> Result<u8, RunError>
     ensures status { IfOk result (λ status. status ≤ 3) }
 {
-    let choices = chosen.choices;
-    match chosen.source {
-        PatternSource::Argument(pattern) => {
-            let Some(flags) = flags_of_pattern(alloc, choices, STANDARD_INPUT, sources, err)? else {
-                return Ok(MISUSED);
-            };
-            let subject = Subject::of_argument(alloc, flags, pattern);
-            Ok(draw(chosen.drawing, subject, out, err))
-        }
-        PatternSource::Position(position) => {
-            let Some(found) = read_pattern(alloc, position, sources, err)? else {
-                return Ok(MISUSED);
-            };
-            let Some(flags) = flags_of_pattern(alloc, choices, found.file(), sources, err)? else {
-                return Ok(MISUSED);
-            };
-            Ok(draw(chosen.drawing, found.subject(alloc, flags), out, err))
-        }
+    if let Some(pattern) = pattern_of(matches) {
+        let Some(flags) = flags_of_pattern(alloc, choices, STANDARD_INPUT, sources, err)? else {
+            return Ok(MISUSED);
+        };
+        let subject = Subject::of_argument(alloc, flags, pattern);
+        return Ok(draw(verb, subject, matches, out, err));
     }
+    let Some(position) = matches.get_str("file") else {
+        return Ok(MISUSED);
+    };
+    let Some(found) = read_pattern(alloc, position, sources, err)? else {
+        return Ok(MISUSED);
+    };
+    let Some(flags) = flags_of_pattern(alloc, choices, found.file(), sources, err)? else {
+        return Ok(MISUSED);
+    };
+    let subject = found.subject(alloc, flags);
+    Ok(draw(verb, subject, matches, out, err))
 }
 
 /// The command line with the arguments.
@@ -280,7 +244,9 @@ fn execute_words<S: System, O: Write, E: Write>(
     let levels = levels_chosen(alloc, chosen)?;
     match request_of(alloc, auto, verb, chosen, &levels) {
         Ok(Request::Files(job, files)) => Ok(run(alloc, job, files, sources, out, err)),
-        Ok(Request::Pattern(pattern)) => draw_chosen(alloc, pattern, sources, out, err),
+        Ok(Request::Pattern(verb, choices)) => {
+            draw_chosen(alloc, verb, choices, chosen, sources, out, err)
+        }
         Err(reason) => explain(reason, out, err),
     }
 }
