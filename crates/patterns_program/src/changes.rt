@@ -156,7 +156,11 @@ impl Changes {
     }
 
     /// Adds the change of an entry.
-    pub(crate) fn add(&mut self, entry: Entry<'_>, change: PatternChange) -> Result<(), AllocError> {
+    pub(crate) fn add(
+        &mut self,
+        entry: Entry<'_>,
+        change: PatternChange,
+    ) -> Result<(), AllocError> {
         match change {
             PatternChange::InFile(part) => {
                 self.pass(entry, part.text.as_str());

@@ -1,6 +1,6 @@
 //! The work of a run on one pattern after another, whatever files they are in. What it writes is kept in memory.
 use crate::change::{write_change, write_ended};
-use crate::changes::{Changes, Kept, PatternChange, change_of};
+use crate::changes::{Changes, Kept, PatternChange, Unwritten, change_of};
 use crate::check::check;
 use crate::groups::list_groups;
 use crate::job::{Command, Job, Output};
@@ -20,8 +20,10 @@ use patterns_listing::drawing::{Look, Style};
 use patterns_text::error::RunError;
 use patterns_text::grammar_rule::GrammarRule;
 use patterns_text::position::{Location, Spot};
+use patterns_text::shown::Shown;
 use patterns_text::subject::Subject;
 use std::alloc::{AllocError, Global};
+use std::io;
 use std::io::Write;
 
 /// What has been written of the patterns that are formatted.
@@ -262,9 +264,23 @@ impl<'a> Work<'a> {
         match change_of(self.alloc, entry, command, text.as_str())? {
             Ok(change) => self.replace(subject, entry, text.as_str(), change),
             Err(reason) => {
-                let err = &mut self.shown.err;
-                writeln!(err, "{}: {reason}", subject.at.part(entry.pattern, 0))?;
+                self.write_unwritten(subject, reason)?;
                 self.leave(subject, entry, text.as_str())
+            }
+        }
+    }
+
+    /// Says why a pattern stays as it is.
+    fn write_unwritten(&mut self, subject: Subject<'_>, reason: Unwritten) -> io::Result<()> {
+        let Location { file, spot, .. } = subject.at;
+        let err = &mut self.shown.err;
+        match spot {
+            Spot::Source(positions) => {
+                let start = positions.position(subject.pattern, 0);
+                writeln!(err, "{}:{start}: {reason}", Shown(file))
+            }
+            Spot::Line(_) | Spot::Path { .. } | Spot::Value { .. } => {
+                writeln!(err, "{}: {reason}", subject.at)
             }
         }
     }
