@@ -1,5 +1,5 @@
 //! The reports of a pattern that an edit fixes.
-ghost use Rattle.std.specs.Prelude.{chars, string_bytes, IfOk, IfSome};
+ghost use Rattle.std.specs.Prelude.{◌≡◌, chars, string_bytes, IfOk, IfSome};
 ghost use Rattle.fancy_lex.specs.Flags.{flags_of};
 ghost use Rattle.fancy_syntax.specs.InfoViews.{info_of};
 ghost use Rattle.fancy_syntax.specs.View.{view};
@@ -52,7 +52,10 @@ fn fixable_reports(
 }
 
 /// The pattern, for which fixes are tried.
-fn parsed_pattern<'p, 't>(subject: Subject<'p>, parsed: &'t SpannedTree) -> ParsedPattern<'p, 't> {
+fn parsed_pattern<'p, 't>(subject: Subject<'p>, parsed: &'t SpannedTree) -> ParsedPattern<'p, 't>
+    ensures flags { result.flags ≡ subject.entry.flags }
+    ensures tree { result.tree.now ≡ parsed.now.tree }
+{
     ParsedPattern {
         alloc: subject.alloc,
         flags: subject.flags,
@@ -88,7 +91,7 @@ pub fn fixed(
     parsed: &SpannedTree,
     found: &[Found<'_>],
 ) -> Result<Option<String>, AllocError>
-    ensures { IfOk result (λ o. IfSome o (λ text. IsFixedText (flags_of subject.flags) (chars (string_bytes text))
+    ensures { IfOk result (λ o. IfSome o (λ text. IsFixedText (flags_of subject.entry.flags) (chars (string_bytes text))
         (view parsed.now.tree.expr) (info_of parsed.now.tree))) }
 {
     let reports = fixable_reports(subject, parsed, found)?;
