@@ -56,7 +56,7 @@ pub(crate) fn lint(
 ) -> Result<Rewriting, RunError>
     ensures good { result ≡ Ok (Stays Outcome.Good) → IsAccepted subject.entry }
     ensures refused { result ≡ Ok (Stays Outcome.Refused) →
-        IsRefused subject.entry ⊎ Contains request.chosen.now.levels Level.Deny }
+        IsRefused subject.entry ⊎ Contains request.entry.chosen.now.levels Level.Deny }
     ensures read { result ≡ Ok (Stays Outcome.Unread) → ⊥ }
 {
     let LintRequest {

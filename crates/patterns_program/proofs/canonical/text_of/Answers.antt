@@ -3,7 +3,7 @@ use Rattle.std.specs.Prelude.{encode_utf8_all}
 use Rattle.std.proofs.lemmas.Str.{encodes-chars, IsUtf8-string_bytes}
 use Rattle.fancy_lex.proofs.TextLemmas.{bytes_chars}
 use Rattle.fancy_lex.specs.Text.{Text, bytes, text_of}
-use Rattle.patterns_program.specs.Line.{breaks_line}
+use Rattle.pattern_files.specs.Line.{breaks_line}
 use Rattle.patterns_program.proofs.canonical.text_of.Goals as goal
 
 -- the bytes of a text break the line where a string of that text does
