@@ -264,7 +264,7 @@ impl<'a, S: System, O: Write, E: Write> FileRun<'a, '_, S, O, E> {
         let mut line = 1u64;
         self.outcome = Outcome::Good;
         self.work.has_file = false;
-        for pattern in job.patterns {
+        for pattern in self.work.job.patterns {
             self.pattern(Entry::of_line(ARGUMENT, line, pattern, &end))?;
             line = line.saturating_add(lines_in(pattern.as_bytes()));
         }
