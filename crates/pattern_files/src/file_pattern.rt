@@ -264,7 +264,7 @@ fn read_chosen<'a, R: BufRead, E: Write>(
 }
 
 /// The longest beginning of a position, up to a colon or the end, that is the name of a file, and the opened file. If
-/// there is none, the error of the shortest.
+/// no beginning names one, the error of the shortest.
 fn open<'a, S: Sources>(position: &'a str, sources: &S) -> io::Result<(&'a str, S::File)> {
     let mut name = position;
     for _ in 0..position.len() {

@@ -91,7 +91,8 @@ fn styled(
     }))
 }
 
-/// The text that is tried first: in the style Kept with all changes, in the others with its lines new; None if there is none.
+/// The text that is tried first: in the style Kept with all changes, in the others with its lines new. None if it
+/// cannot be laid out so.
 fn first_text(
     alloc: Global,
     pattern: &str,
