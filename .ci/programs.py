@@ -6,10 +6,12 @@ with each other byte as a surrogate.
 import errno
 import os
 import re
+import shlex
 import shutil
 import subprocess
 import sys
 import tempfile
+import threading
 import time
 from concurrent.futures import ThreadPoolExecutor
 from contextlib import contextmanager
@@ -94,8 +96,8 @@ TRIED = {}
 READING = {"patterns": ("check",), "conformance": ()}
 
 
-def pipe_writer(process: subprocess.Popen, pipe: Path) -> int:
-    """The writer of a pipe that a program of the process has begun to read."""
+def pipe_writer(process: subprocess.Popen, pipe: Path) -> Optional[int]:
+    """The writer of a pipe that a program of the process has begun to read, unless the process ends before."""
     while process.poll() is None:
         try:
             return os.open(pipe, os.O_WRONLY | os.O_NONBLOCK)
@@ -103,37 +105,45 @@ def pipe_writer(process: subprocess.Popen, pipe: Path) -> int:
             if error.errno != errno.ENXIO:
                 raise
         time.sleep(0.02)
-    sys.exit(f"rt try does not run the program:\n{decoded(process.stderr.read())}")
+    return None
 
 
-def reader_of(pipe: Path) -> Path:
-    """The program that reads from a pipe, as /proc names it."""
+def reader_of(pipe: Path) -> list:
+    """The command of the process that reads from a pipe."""
     while True:
         for file in Path("/proc").glob("[0-9]*/fd/*"):
             try:
                 if int(file.parts[2]) != os.getpid() and os.readlink(file) == str(pipe):
-                    return Path(*file.parts[:3]) / "exe"
+                    return os.fsdecode(Path(*file.parts[:3], "cmdline").read_bytes()).split("\0")[:-1]
             except OSError:
                 pass
 
 
 def caught(program: str, folder: Path) -> Path:
-    """A copy of the program that `rt try` builds, which is made while that waits for a pipe."""
-    pipe, copy = folder / f"{program}.pipe", folder / program
+    """A script that runs a copy of the program that `rt try` builds. It is copied while it waits for a pipe."""
+    pipe, copy, script, log = (folder / f"{program}{it}" for it in (".pipe", ".copy", "", ".log"))
     os.mkfifo(pipe)
-    command = ["rt", "try", "--seconds", "300", "--", *READING[program], pipe]
-    process = subprocess.Popen(command, cwd=CRATES / program, stdout=subprocess.DEVNULL, stderr=subprocess.PIPE)
+    words = [*READING[program], str(pipe)]
+    command = ["rt", "try", "--seconds", "300", "--", *words]
+    with log.open("wb") as out:
+        process = subprocess.Popen(command, cwd=CRATES / program, stdout=out, stderr=out)
     writer = pipe_writer(process, pipe)
-    shutil.copy(reader_of(pipe), copy)
+    if writer is None:
+        sys.exit(f"rt try does not run {program}:\n{decoded(log.read_bytes())}")
+    *loader, file = reader_of(pipe)[:-len(words)]
+    shutil.copy(file, copy)
     os.close(writer)
-    process.communicate()
-    return copy
+    process.wait()
+    script.write_text(f'#!/bin/sh\nexec {shlex.join([*loader, str(copy)])} "$@"\n', encoding="utf-8")
+    script.chmod(0o755)
+    return script
 
 
 @contextmanager
 def tried(*programs) -> Iterator[None]:
     """Inside it, these programs are built without proof; so is `fre`, for runs that have only words."""
     with tempfile.TemporaryDirectory() as name, ThreadPoolExecutor() as pool:
+        Path(name).chmod(0o755)
         TRIED.update(zip(programs, pool.map(lambda it: caught(it, Path(name)), programs)))
         try:
             yield
@@ -159,9 +169,13 @@ def outputs_of_cases(program: str, runs: list) -> list:
 # ---- runs
 
 
+BUILDING = threading.Lock()
+
+
 def path_of(program: str) -> Path:
     """The program, which is tried or built."""
-    return TRIED.get(program) or build(program)
+    with BUILDING:
+        return TRIED.get(program) or build(program)
 
 
 def output_of(run: Run) -> Output:
@@ -181,7 +195,5 @@ def outputs_of(runs: list) -> list:
     plain = [it for it in runs if isinstance(it, Run)]
     cases = [it for it in plain if TRIED and it.program not in TRIED]
     known = dict(zip(cases, outputs_of_cases("fre", cases))) if cases else {}
-    for program in {it.program for it in plain if it not in known}:
-        path_of(program)
     with ThreadPoolExecutor(os.cpu_count()) as pool:
         return list(pool.map(lambda it: known.get(it) or (output_of(it) if isinstance(it, Run) else it()), runs))
