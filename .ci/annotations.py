@@ -1,4 +1,4 @@
-"""The reports that `patterns` writes for other tools, as lines to compare, for `.ci/patterns`.
+"""The reports that `patterns` writes for other tools, as lines to compare, for `.ci/runs`.
 
 A line has the severity, the file, the line and column of the start and of the end, the rule and the message, which has
 `\\n` for a line end. A log of SARIF is checked against what the schema of 2.1.0 requires first.

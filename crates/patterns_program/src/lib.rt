@@ -1,5 +1,5 @@
 //! The work of the program `patterns`: which files it reads, and what it does with each pattern. The tests of this crate are
-//! `patterns_tests`, and the folder `data` of `patterns`, which `.ci/patterns` reads.
+//! `patterns_tests`, and the folder `data` of `patterns`, which `.ci/runs` reads.
 #![tactic(auto)]
 
 pub mod canonical;

@@ -1,4 +1,4 @@
-//! The line on a terminal that says how far a run is. `.ci/patterns` tests it on one.
+//! The line on a terminal that says how far a run is. `.ci/runs` tests it on one.
 ghost use Rattle.std.specs.Prelude.{◌≡◌, ◌+◌, ◌++◌, ◌≤◌, ◌↔◌, IsTrue, IsNone, IfSome, OnOk, false};
 ghost use Rattle.std.specs.Io.KnownBytes.{Appends, Keeps};
 ghost use Rattle.std.specs.Time.{instant_nanos};

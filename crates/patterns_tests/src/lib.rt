@@ -1,5 +1,5 @@
 //! Tests of what no run of `patterns` from outside shows: a reader and writers that fail, and colours on one terminal only.
-//! What the program writes is compared by `.ci/patterns` with the folder `data` of `patterns`.
+//! What the program writes is compared by `.ci/runs` with the folder `data` of `patterns`.
 #![tactic(auto)]
 
 #[cfg(test)]
