@@ -58,7 +58,7 @@ def is_old(program: Path) -> bool:
 def build(program: str) -> Path:
     """The program of a crate, which is proved and built anew where that is needed."""
     path = CRATES / program / "out" / program
-    words = {"patterns": ["--help"], "fre": ["u", "a"], "conformance": ["data/numbered.tsv"]}[program]
+    words = {"patterns": ["--help"], "fre": ["u", "a"], "conformance": ["replay", "data/numbered.tsv"]}[program]
     if is_old(path):
         subprocess.run(["rt", "run", "--", *words], cwd=path.parent.parent, stdout=sys.stderr, check=True)
     return path
