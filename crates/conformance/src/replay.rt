@@ -1,14 +1,18 @@
 //! Recorded results of the original's program: each line of a file is replayed, what is written now is compared byte by
 //! byte, and for each file it is written how many results are the same.
 mod comparison;
+mod formatted;
 mod nodes;
 mod record;
+mod spans;
 mod texts;
 
 use crate::replay::comparison::{OUT_OF_MEMORY, RunResult};
+use crate::replay::formatted::is_formatted;
 use crate::replay::nodes::read_tree;
-use crate::replay::record::{Printing, Reading, Record};
-use crate::replay::texts::{is_written, replay_writing};
+use crate::replay::record::{Printing, Reading, Record, Writing, WritingKind};
+use crate::replay::spans::are_spans;
+use crate::replay::texts::{is_text, is_written};
 use anyhow::{Context, Result, bail, ensure};
 use fancy_syntax::error::Error;
 use fancy_syntax::expr::Expr;
@@ -77,6 +81,24 @@ fn replay_printing(alloc: Global, record: &Printing) -> Result<bool> {
     let tree = read_tree(alloc, record.lines.as_str())?;
     let copy = tree.clone(alloc)?;
     Ok(copy == tree && text_now(alloc, &copy, record.precedence)? == record.text)
+}
+
+/// Whether what is written for a pattern is as recorded.
+fn replay_writing(alloc: Global, record: &Writing) -> Result<bool> {
+    let [word, pattern] = &record.words;
+    let flags = flags_named(word.as_str()).context("no flags")?;
+    let wanted = record.text.as_str();
+    match record.kind {
+        WritingKind::Text => is_text(alloc, pattern.as_str(), flags, wanted),
+        WritingKind::Spans => are_spans(alloc, pattern.as_str(), flags, wanted),
+        WritingKind::Formatted(style) => is_formatted(
+            alloc,
+            pattern.as_str(),
+            flags,
+            style,
+            wanted,
+        ),
+    }
 }
 
 /// Whether the result for a line of a file is as recorded.

@@ -1,7 +1,8 @@
 //! Recorded results: the lines of the files.
 use crate::fields::{bytes, parts, text};
 use crate::replay::comparison::RunResult;
-use anyhow::{Result, bail};
+use anyhow::{Context, Result, bail};
+use pattern_format::style::Style;
 use std::alloc::Global;
 
 /// Flags, a pattern, and the result: the status, standard output and standard error.
@@ -12,9 +13,18 @@ pub(crate) struct Reading {
     pub(crate) run_result: RunResult,
 }
 
-/// Flags, a pattern, and what `to_pattern` writes for its tree.
+/// What is written for a pattern: the text of its tree, the spans of the nodes, or the pattern formatted in a style.
+#[derive(Clone, Copy)]
+pub(crate) enum WritingKind {
+    Text,
+    Spans,
+    Formatted(Style),
+}
+
+/// Flags, a pattern, and what is written for it.
 #[derive(Drop)]
 pub(crate) struct Writing {
+    pub(crate) kind: WritingKind,
     /// The flags and the pattern.
     pub(crate) words: [String; 2],
     pub(crate) text: String,
@@ -35,6 +45,23 @@ pub(crate) enum Record {
     Printing(Printing),
 }
 
+impl WritingKind {
+    /// The kind of a line that begins with the word; the style `Verbose` is named with its width.
+    fn named(word: &str) -> Result<WritingKind> {
+        Ok(match word {
+            "text" => WritingKind::Text,
+            "spans" => WritingKind::Spans,
+            "kept" => WritingKind::Formatted(Style::Kept),
+            "compact" => WritingKind::Formatted(Style::Compact),
+            _ => {
+                let width = word.strip_prefix("verbose:").context("no such kind")?;
+                let width = width.parse::<usize>()?;
+                WritingKind::Formatted(Style::Verbose { width })
+            }
+        })
+    }
+}
+
 impl Record {
     pub(crate) fn read(alloc: Global, line: &str) -> Result<Record> {
         let fields = parts(alloc, line, '\t')?;
@@ -47,7 +74,8 @@ impl Record {
                     err: bytes(alloc, err)?,
                 },
             }),
-            ["text", flags, pattern, written] => Record::Writing(Writing {
+            [kind, flags, pattern, written] => Record::Writing(Writing {
+                kind: WritingKind::named(kind)?,
                 words: [String::from_str(alloc, flags)?, text(alloc, pattern)?],
                 text: text(alloc, written)?,
             }),

@@ -1,11 +1,9 @@
 //! Texts that are written for trees.
-use crate::replay::record::Writing;
-use anyhow::{Context, Result, bail};
+use anyhow::{Result, bail};
 use fancy_pattern::to_pattern;
 use fancy_syntax::error::Error;
 use fancy_syntax::expr::Expr;
 use fancy_syntax::tree::ExprTree;
-use fre_program::flag_word::flags_named;
 use std::alloc::Global;
 
 /// The tree of a pattern, none where it is invalid.
@@ -32,15 +30,13 @@ pub(crate) fn is_written(alloc: Global, tree: &ExprTree, flags: u32) -> Result<b
     )
 }
 
-/// Whether the text of the pattern's tree is the recorded one.
-pub(crate) fn replay_writing(alloc: Global, record: &Writing) -> Result<bool> {
-    let [word, pattern] = &record.words;
-    let flags = flags_named(word.as_str()).context("no flags")?;
-    let Some(tree) = tree_of(alloc, pattern.as_str(), flags)? else {
+/// Whether the pattern's tree is written as this text.
+pub(crate) fn is_text(alloc: Global, pattern: &str, flags: u32, wanted: &str) -> Result<bool> {
+    let Some(tree) = tree_of(alloc, pattern, flags)? else {
         return Ok(false);
     };
     Ok(match to_pattern(alloc, &tree, flags)? {
-        Some(text) => text == record.text,
+        Some(text) => text.as_str() == wanted,
         None => false,
     })
 }
