@@ -1,5 +1,6 @@
 //! Recorded results of the original's program: each line of a file is replayed, what is written now is compared byte by
 //! byte, and for each file it is written how many results are the same.
+mod characters;
 mod comparison;
 mod formatted;
 mod nodes;
@@ -7,6 +8,7 @@ mod record;
 mod spans;
 mod texts;
 
+use crate::replay::characters::are_characters;
 use crate::replay::comparison::{OUT_OF_MEMORY, RunResult};
 use crate::replay::formatted::is_formatted;
 use crate::replay::nodes::read_tree;
@@ -91,6 +93,7 @@ fn replay_writing(alloc: Global, record: &Writing) -> Result<bool> {
     match record.kind {
         WritingKind::Text => is_text(alloc, pattern.as_str(), flags, wanted),
         WritingKind::Spans => are_spans(alloc, pattern.as_str(), flags, wanted),
+        WritingKind::Characters => are_characters(alloc, pattern.as_str(), flags, wanted),
         WritingKind::Formatted(style) => is_formatted(
             alloc,
             pattern.as_str(),

@@ -13,11 +13,13 @@ pub(crate) struct Reading {
     pub(crate) run_result: RunResult,
 }
 
-/// What is written for a pattern: the text of its tree, the spans of the nodes, or the pattern formatted in a style.
+/// What is written for a pattern: the text of its tree, the spans of the nodes, the characters that it matches, or the
+/// pattern formatted in a style.
 #[derive(Clone, Copy)]
 pub(crate) enum WritingKind {
     Text,
     Spans,
+    Characters,
     Formatted(Style),
 }
 
@@ -51,6 +53,7 @@ impl WritingKind {
         Ok(match word {
             "text" => WritingKind::Text,
             "spans" => WritingKind::Spans,
+            "characters" => WritingKind::Characters,
             "kept" => WritingKind::Formatted(Style::Kept),
             "compact" => WritingKind::Formatted(Style::Compact),
             _ => {

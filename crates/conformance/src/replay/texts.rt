@@ -7,7 +7,7 @@ use fancy_syntax::tree::ExprTree;
 use std::alloc::Global;
 
 /// The tree of a pattern, none where it is invalid.
-fn tree_of(alloc: Global, pattern: &str, flags: u32) -> Result<Option<ExprTree>> {
+pub(crate) fn tree_of(alloc: Global, pattern: &str, flags: u32) -> Result<Option<ExprTree>> {
     match Expr::parse_tree_with_flags(alloc, pattern, flags) {
         Ok(tree) => Ok(Some(tree)),
         Err(Error::OutOfMemory) => bail!("out of memory"),
