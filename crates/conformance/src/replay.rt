@@ -89,17 +89,17 @@ fn replay_printing(alloc: Global, record: &Printing) -> Result<bool> {
 fn replay_writing(alloc: Global, record: &Writing) -> Result<bool> {
     let [word, pattern] = &record.words;
     let flags = flags_named(word.as_str()).context("no flags")?;
-    let wanted = record.text.as_str();
+    let expected = record.text.as_str();
     match record.kind {
-        WritingKind::Text => is_text(alloc, pattern.as_str(), flags, wanted),
-        WritingKind::Spans => are_spans(alloc, pattern.as_str(), flags, wanted),
-        WritingKind::Characters => are_characters(alloc, pattern.as_str(), flags, wanted),
+        WritingKind::Text => is_text(alloc, pattern.as_str(), flags, expected),
+        WritingKind::Spans => are_spans(alloc, pattern.as_str(), flags, expected),
+        WritingKind::Characters => are_characters(alloc, pattern.as_str(), flags, expected),
         WritingKind::Formatted(style) => is_formatted(
             alloc,
             pattern.as_str(),
             flags,
             style,
-            wanted,
+            expected,
         ),
     }
 }

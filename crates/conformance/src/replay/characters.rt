@@ -29,12 +29,12 @@ fn has_characters(
     alloc: Global,
     node: &Expr,
     unicode: bool,
-    wanted: &str,
+    expected: &str,
 ) -> Result<bool, AllocError> {
     match characters_of(alloc, node, unicode)? {
-        ClassMeaning::Characters(set) => Ok(line_of(alloc, &set)?.as_str() == wanted),
-        ClassMeaning::Refused(error) => Ok(text_of(alloc, &error)?.as_str() == wanted),
-        ClassMeaning::NotOneCharacter => Ok(wanted == "not one character"),
+        ClassMeaning::Characters(set) => Ok(line_of(alloc, &set)?.as_str() == expected),
+        ClassMeaning::Refused(error) => Ok(text_of(alloc, &error)?.as_str() == expected),
+        ClassMeaning::NotOneCharacter => Ok(expected == "not one character"),
     }
 }
 
@@ -43,11 +43,11 @@ pub(crate) fn are_characters(
     alloc: Global,
     pattern: &str,
     flags: u32,
-    wanted: &str,
+    expected: &str,
 ) -> Result<bool> {
     let Some(tree) = tree_of(alloc, pattern, flags)? else {
         return Ok(false);
     };
     let unicode = flags & FLAG_UNICODE != 0;
-    Ok(has_characters(alloc, &tree.expr, unicode, wanted)?)
+    Ok(has_characters(alloc, &tree.expr, unicode, expected)?)
 }

@@ -7,11 +7,11 @@ use pattern_format::style::Style;
 use std::alloc::Global;
 
 /// Whether all of the pattern is formatted, as this text.
-fn becomes(alloc: Global, pattern: &str, flags: u32, style: Style, wanted: &str) -> Result<bool> {
+fn becomes(alloc: Global, pattern: &str, flags: u32, style: Style, expected: &str) -> Result<bool> {
     match format_pattern(alloc, pattern, flags, style) {
         Ok(formatted) => {
             let is_whole = matches!(formatted.extent, Extent::Lines | Extent::Whole);
-            Ok(is_whole && formatted.text.as_str() == wanted)
+            Ok(is_whole && formatted.text.as_str() == expected)
         }
         Err(Error::OutOfMemory) => bail!("out of memory"),
         Err(Error::ParseError(..)) => Ok(false),
@@ -24,10 +24,10 @@ pub(crate) fn is_formatted(
     pattern: &str,
     flags: u32,
     style: Style,
-    wanted: &str,
+    expected: &str,
 ) -> Result<bool> {
     Ok(
-        becomes(alloc, pattern, flags, style, wanted)?
-            && becomes(alloc, wanted, flags, style, wanted)?,
+        becomes(alloc, pattern, flags, style, expected)?
+            && becomes(alloc, expected, flags, style, expected)?,
     )
 }

@@ -18,9 +18,9 @@ fn line_of(alloc: Global, spans: &[Span]) -> Result<String, AllocError> {
 }
 
 /// Whether the nodes of the pattern's tree have these spans, in preorder.
-pub(crate) fn are_spans(alloc: Global, pattern: &str, flags: u32, wanted: &str) -> Result<bool> {
+pub(crate) fn are_spans(alloc: Global, pattern: &str, flags: u32, expected: &str) -> Result<bool> {
     match Expr::parse_tree_with_spans(alloc, pattern, flags) {
-        Ok((_, spans)) => Ok(line_of(alloc, &spans)?.as_str() == wanted),
+        Ok((_, spans)) => Ok(line_of(alloc, &spans)?.as_str() == expected),
         Err(Error::OutOfMemory) => bail!("out of memory"),
         Err(Error::ParseError(..)) => Ok(false),
     }

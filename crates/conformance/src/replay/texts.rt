@@ -31,12 +31,12 @@ pub(crate) fn is_written(alloc: Global, tree: &ExprTree, flags: u32) -> Result<b
 }
 
 /// Whether the pattern's tree is written as this text.
-pub(crate) fn is_text(alloc: Global, pattern: &str, flags: u32, wanted: &str) -> Result<bool> {
+pub(crate) fn is_text(alloc: Global, pattern: &str, flags: u32, expected: &str) -> Result<bool> {
     let Some(tree) = tree_of(alloc, pattern, flags)? else {
         return Ok(false);
     };
     Ok(match to_pattern(alloc, &tree, flags)? {
-        Some(text) => text.as_str() == wanted,
+        Some(text) => text.as_str() == expected,
         None => false,
     })
 }
