@@ -1,6 +1,6 @@
 //! Does one thing with each pattern of a corpus, so that its cost can be counted: `count MODE FILE`, where a line of the file begins with flags and a
-//! pattern in hexadecimal, as in `crates/bench/data`. `tools/speed-rust` runs it. What is returned is dropped, except in the modes whose names begin
-//! with `kept`.
+//! pattern in hexadecimal, as in `crates/conformance/data`. `tools/speed rust` runs it. What is returned is dropped, except in the modes whose names
+//! begin with `kept`.
 use fancy_syntax::{check, parse, parse_without_spans, Flags, Rows};
 
 /// The flags and the pattern of a line.
