@@ -49,7 +49,7 @@ enum {
 /* A bit that fancy_tree takes beside the flags: the spans are left out, and each start and stop is 0. Other calls ignore it. */
 enum { FANCY_WITHOUT_SPANS = 65536 };
 
-/* The status of a call. These numbers, and all those below, never change. */
+/* The status of a call. These numbers, and all those below, never change; a later minor version may return new ones. */
 enum {
     FANCY_STATUS_OK = 0,
     FANCY_STATUS_REFUSED = 1,          /* the pattern is invalid: kind and position are set */
@@ -141,7 +141,7 @@ enum { FANCY_TARGET_BY_NUMBER = 1, FANCY_TARGET_BY_NAME = 2, FANCY_TARGET_RELATI
 /* Kinds of what no node of a tree has. */
 enum {
     FANCY_TRIVIUM_COMMENT = 1,      /* (?#..) */
-    FANCY_TRIVIUM_LINE_COMMENT = 2, /* from # through the end of its line */
+    FANCY_TRIVIUM_LINE_COMMENT = 2, /* from # through its line feed, or through the end of the pattern */
     FANCY_TRIVIUM_INLINE_FLAGS = 3, /* inline flags, as (?i): flags_before, flags_after */
     FANCY_TRIVIUM_OPENING = 4,      /* of a flag group, as (?: or (?i: : flags_before, flags_after */
     FANCY_TRIVIUM_CLOSING = 5,      /* the closing parenthesis of such a group */
@@ -162,14 +162,15 @@ enum {
 enum {
     FANCY_STYLE_KEPT = 0,    /* its lines stay, with their indentation */
     FANCY_STYLE_VERBOSE = 1, /* over several lines; the pattern begins with (?x) unless FANCY_FLAG_IGNORE_SPACE is set */
-    FANCY_STYLE_COMPACT = 2  /* in one line: ignored whitespace goes, (?x) at the beginning, and # one becomes (?# one) */
+    FANCY_STYLE_COMPACT = 2  /* in one line: ignored whitespace, (?x) at the beginning and empty comments go, and # one
+                                becomes (?# one) */
 };
 
 /* What a call returns. */
 typedef struct {
     uint32_t status; /* FANCY_STATUS_.. */
     uint32_t kind;   /* FANCY_ERROR_.., FANCY_ERROR_NONE if no error is reported */
-    size_t position; /* of the error, at most one past the end of the pattern; or the length of the valid UTF-8 prefix;
+    size_t position; /* of the error, at most the length of the pattern + 1; or the length of the valid UTF-8 prefix;
                         else 0 */
     size_t size;     /* of the text that was to be written, whether or not it fitted; else 0, also for a tree and for trivia */
 } fancy_result;
@@ -344,10 +345,11 @@ FANCY_INLINE fancy_result fancy_pattern(const char *pattern, size_t length, uint
 /* Formats a pattern, and keeps how it is written: escapes, classes, names, comments, and the flags that it sets. What
  * changes is what has a simpler form: quantifiers such as {0,1}, groups and flags that are not needed, and ignored
  * whitespace. The text is parsed, under the same flags, as the same tree with the same groups and names, and has the same
- * comments except (?#). A pattern that cannot be formatted so is written as it is. The style is FANCY_STYLE_..; width says
- * how many characters a line may have under FANCY_STYLE_VERBOSE, and is not read under another style. Returns OK or
- * BUFFER_TOO_SHORT, each with the size of the text; or UNKNOWN_STYLE if no style has the number, whatever the pattern is.
- * Otherwise it returns what fancy_check returns. Unless it returns OK, nothing is written. */
+ * comments except (?#); under FANCY_STYLE_COMPACT, comments with the same text inside. A pattern that cannot be formatted so
+ * is written as it is, and the status is OK too. The style is FANCY_STYLE_..; width says how many characters a line may have
+ * under FANCY_STYLE_VERBOSE, and is not read under another style. Returns OK or BUFFER_TOO_SHORT, each with the size of the
+ * text; or UNKNOWN_STYLE if no style has the number, whatever the pattern is. Otherwise it returns what fancy_check returns.
+ * Unless it returns OK, nothing is written. */
 FANCY_INLINE fancy_result fancy_format(const char *pattern, size_t length, uint32_t flags, uint32_t style, size_t width,
                                        char *buffer, size_t capacity) {
     char none;
@@ -356,8 +358,8 @@ FANCY_INLINE fancy_result fancy_format(const char *pattern, size_t length, uint3
 
 /* Parses a pattern as fancy_parse does, with two differences. The flag FANCY_WITHOUT_SPANS leaves the spans out, which is
  * faster. If the pattern is invalid, the message of its error is written to texts: returns REFUSED, with the kind, the
- * position, and the size of the message; or BUFFER_TOO_SHORT with all of these, if the message does not fit. If it is the
- * tree that does not fit, the kind is FANCY_ERROR_NONE, and *info says how much is needed. */
+ * position, and the size of the message; or BUFFER_TOO_SHORT with all of these, if the message does not fit, and *info is
+ * unchanged. If it is the tree that does not fit, the kind is FANCY_ERROR_NONE, and *info says how much is needed. */
 FANCY_INLINE fancy_result fancy_tree(const char *pattern, size_t length, uint32_t flags, fancy_node *nodes,
                                      size_t node_capacity, char *texts, size_t texts_capacity, fancy_name *names,
                                      size_t name_capacity, size_t *backrefs, size_t backref_capacity, fancy_info *info) {
@@ -411,7 +413,7 @@ FANCY_INLINE fancy_result fancy_pattern_nodes(const fancy_node *nodes, size_t no
  * parenthesis of a group, is part of the token. Ignored whitespace is not listed. The parentheses of a group without a name
  * are listed if it has no number, since only groups with a name have one. Returns OK if all of them fit: then they are in
  * the buffer, in the order of the pattern. Returns BUFFER_TOO_SHORT if they do not. Otherwise it returns what fancy_check
- * returns. Unless it returns OK, no trivium is written. */
+ * returns: an invalid pattern has no trivia. Unless it returns OK, no trivium is written. */
 FANCY_INLINE fancy_result fancy_trivia(const char *pattern, size_t length, uint32_t flags, fancy_trivium *trivia,
                                        size_t capacity, size_t *count) {
     fancy_trivium no_trivium;
