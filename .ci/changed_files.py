@@ -159,7 +159,7 @@ def changed_sources() -> Iterator[Check]:
     for options, name, text, said in rows("kept_sources.tsv"):
         if HAS_YAML or not name.endswith(".yaml"):
             run = partial(changed_source, name, json.loads(text), (*WRITING, *options.split()))
-            yield Check(f"kept_sources.tsv: {name}: {said}", run, all_of(1, json.loads(text), said + "\n"))
+            yield Check(f"kept_sources.tsv: {options} {name}: {text}", run, all_of(1, json.loads(text), said + "\n"))
 
 
 def other_records() -> Iterator[Check]:

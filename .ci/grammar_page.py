@@ -70,13 +70,13 @@ def writing(flags: str, pattern: str, said: str, _: str):
     return Run("patterns", words), said + "\n", lambda got: got.out + got.err
 
 
-def cell_checks(name: str, patterns: list, cell: str, flags: str, kind: Callable) -> Iterator[Check]:
+def cell_checks(where: str, patterns: list, cell: str, flags: str, kind: Callable) -> Iterator[Check]:
     """The examples of a cell."""
     found = spans(cell)
-    assert found, f"{name}: nothing is said: {cell}"
+    assert found, f"{where}: nothing is said: {cell}"
     own = found if len(found) == len(patterns) else found[:1] * len(patterns)
     for pattern, said in zip(patterns, own):
-        yield Check(f"{name}: {pattern}", *kind(flags, pattern, said, cell))
+        yield Check(f"{where}: {pattern} {flags}", *kind(flags, pattern, said, cell))
 
 
 def example_checks() -> Iterator[Check]:
