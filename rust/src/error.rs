@@ -90,7 +90,7 @@ impl Error {
     pub(crate) fn of_status(status: u32) -> Error {
         match status {
             numbers::STATUS_OUT_OF_MEMORY => Error::OutOfMemory,
-            _ if status > numbers::STATUS_UNKNOWN_STYLE => Error::unknown("a status", status),
+            _ if status > numbers::LAST_STATUS => Error::unknown("a status", status),
             _ => Error::Library("a status that the call does not have"),
         }
     }

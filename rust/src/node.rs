@@ -329,8 +329,8 @@ impl<'a> Kind<'a> {
             numbers::NODE_LOOK_AROUND => ("a look-around", LookAround::numbered(row.which).is_some()),
             numbers::NODE_VERB => ("a verb", BacktrackingControlVerb::numbered(row.which).is_some()),
             numbers::NODE_ABSENT => ("an absent form", AbsentKind::numbered(row.which).is_some()),
-            numbers::NODE_AST_NODE => ("a target", row.which <= numbers::TARGET_RELATIVE),
-            kind => return (kind > numbers::NODE_AST_NODE).then_some(("a kind of node", kind)),
+            numbers::NODE_AST_NODE => ("a target", row.which <= numbers::LAST_TARGET),
+            kind => return (kind > numbers::LAST_NODE).then_some(("a kind of node", kind)),
         };
         (!is_known).then_some((what, row.which))
     }

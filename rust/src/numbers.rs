@@ -115,6 +115,21 @@ pub(crate) const STYLE_KEPT: u32 = 0;
 pub(crate) const STYLE_VERBOSE: u32 = 1;
 pub(crate) const STYLE_COMPACT: u32 = 2;
 
+// the largest number of a group
+pub(crate) const LAST_FLAG: u32 = 256;
+pub(crate) const LAST_WITHOUT: u32 = 65536;
+pub(crate) const LAST_STATUS: u32 = 8;
+pub(crate) const LAST_ERROR: u32 = 16;
+pub(crate) const LAST_NODE: u32 = 24;
+pub(crate) const LAST_ASSERTION: u32 = 12;
+pub(crate) const LAST_LOOK: u32 = 4;
+pub(crate) const LAST_VERB: u32 = 5;
+pub(crate) const LAST_ABSENT: u32 = 4;
+pub(crate) const LAST_TARGET: u32 = 3;
+pub(crate) const LAST_TRIVIUM: u32 = 6;
+pub(crate) const LAST_PRECEDENCE: u32 = 3;
+pub(crate) const LAST_STYLE: u32 = 2;
+
 /// The letters of the flags, in the order of their bits.
 pub(crate) const FLAG_LETTERS: &str = "imsUxuRon";
 

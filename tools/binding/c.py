@@ -72,7 +72,10 @@ def messages(table: Table) -> list:
 
 def symbols(table: Table) -> list:
     """The file `c/fancy.map`."""
-    lines = ["# The symbols of the shared library. A new call gets a version of its own, which inherits from the one before."]
+    lines = [
+        "# The symbols of the shared library, made by tools/bindings from include/fancy.toml. A new call gets a version of its own,",
+        "# which inherits from the one before.",
+    ]
     before = ""
     for since, names in table.calls.items():
         if since == "alone":

@@ -17,6 +17,8 @@ def numbers(table: Table) -> list:
     lines = [f"//! The numbers of `fancy.h`. {MADE}", "#![allow(dead_code)] // some are for other languages"]
     for group in table.groups:
         lines += ["", *(f"pub(crate) const {it.full_name}: u32 = {it.number};" for it in group.values)]
+    lines += ["", "// the largest number of a group"]
+    lines += [f"pub(crate) const LAST_{it.key.upper()}: u32 = {it.values[-1].number};" for it in table.groups]
     version = [f"pub(crate) const VERSION_{name}: u32 = {number};" for name, number in table.version_numbers().items()]
     letters = ["/// The letters of the flags, in the order of their bits.", f'pub(crate) const FLAG_LETTERS: &str = "{table.letters}";']
     return [*lines, "", *letters, "", *version]
