@@ -20,7 +20,8 @@ that it can be used as an index. `byte_position` and `byte_span` are the same in
 The work is done by the shared library libfancy, whose functions are proved to meet their contracts. It is the file that
 the environment variable FANCY_LIBRARY names; or else `libfancy.so.1` or `libfancy.so` beside this file; or else the one that
 `make -C c` built in this source tree; or else the one that is installed. Its functions may be called in several threads at
-once. Python 3.8 or later.
+once. A library that is newer than the module may have a kind that this does not know: then `RuntimeError` is raised. Python
+3.8 or later.
 
 On the command line, `python -m fancy check FILE` reports each line of a file that is not a valid pattern, and
 `python -m fancy extract FILE` writes the patterns of source files as records in JSON.
