@@ -201,7 +201,7 @@ impl<'a> NodeRef<'a> {
     ///
     /// # Errors
     ///
-    /// [`Error::OutOfMemory`], [`Error::Version`] and [`Error::Library`], as for [`parse`](crate::parse).
+    /// Those of [`parse`](crate::parse) but [`Error::ParseError`].
     ///
     /// ```
     /// use fancy_syntax::{Flags, Precedence, Rows};
@@ -220,7 +220,7 @@ impl<'a> NodeRef<'a> {
     ///
     /// # Errors
     ///
-    /// [`Error::OutOfMemory`], [`Error::Version`] and [`Error::Library`], as for [`parse`](crate::parse).
+    /// Those of [`parse`](crate::parse) but [`Error::ParseError`].
     ///
     /// ```
     /// use fancy_syntax::{Flags, Rows};

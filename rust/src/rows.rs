@@ -88,9 +88,8 @@ impl Rows {
     ///
     /// # Errors
     ///
-    /// [`Error::ParseError`] if the pattern is invalid; [`Error::OutOfMemory`] if an allocation of the library failed, or if a
-    /// buffer cannot be made as long as the tree needs; [`Error::Version`] if the library is too old, and [`Error::Library`] if
-    /// it is not libfancy. After an error these are the rows of the empty pattern.
+    /// Those of [`parse`](crate::parse); also [`Error::OutOfMemory`] if a buffer cannot be made as long as the tree needs. After an
+    /// error these are the rows of the empty pattern.
     ///
     /// ```
     /// use fancy_syntax::{Flags, Rows};
@@ -168,7 +167,7 @@ impl Rows {
     ///
     /// # Errors
     ///
-    /// [`Error::OutOfMemory`], [`Error::Version`] and [`Error::Library`], as for [`parse`](Rows::parse).
+    /// Those of [`parse`](Rows::parse) but [`Error::ParseError`].
     ///
     /// ```
     /// use fancy_syntax::{Flags, Rows};

@@ -196,7 +196,7 @@ impl Expr {
     ///
     /// # Errors
     ///
-    /// [`Error::OutOfMemory`], [`Error::Version`] and [`Error::Library`], as for [`parse`](crate::parse).
+    /// Those of [`parse`](crate::parse) but [`Error::ParseError`].
     ///
     /// ```
     /// use fancy_syntax::{Expr, Precedence};
@@ -222,7 +222,7 @@ impl Expr {
     ///
     /// # Errors
     ///
-    /// [`Error::OutOfMemory`], [`Error::Version`] and [`Error::Library`], as for [`parse`](crate::parse).
+    /// Those of [`parse`](crate::parse) but [`Error::ParseError`].
     ///
     /// ```
     /// use fancy_syntax::{Expr, Flags, GroupInfo};
