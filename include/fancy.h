@@ -23,15 +23,18 @@
 
 /* The version of this header. fancy_version returns that of the library. CHANGELOG.md says what a change of each number
  * means. */
+/* ---- version: made by tools/bindings from fancy.toml */
 #define FANCY_VERSION_MAJOR 1
 #define FANCY_VERSION_MINOR 4
 #define FANCY_VERSION_PATCH 0
+/* ---- end of version */
 #define FANCY_VERSION (FANCY_VERSION_MAJOR * 1000000 + FANCY_VERSION_MINOR * 1000 + FANCY_VERSION_PATCH)
 
 #ifdef __cplusplus
 extern "C" {
 #endif
 
+/* ---- numbers and structs: made by tools/bindings from fancy.toml */
 /* Flags: bits, of which any may be set. Other bits are ignored, but for FANCY_WITHOUT_SPANS, which fancy_tree takes. */
 enum {
     FANCY_FLAG_CASEI = 1,        /* case-insensitive */
@@ -179,8 +182,8 @@ typedef struct {
 typedef struct {
     uint32_t kind;    /* FANCY_NODE_.. */
     uint32_t which;
-    size_t end;       /* one past the index of its last descendant. Its first child, if it has one, is the next node, and
-                         each further child is at the index that is the end of the child before */
+    size_t end;       /* one past the index of its last descendant. Its first child, if it has one, is the next node, and each
+                         further child is at the index that is the end of the child before */
     size_t text;      /* where its text begins in the buffer of texts */
     size_t text_size; /* the size of its text, in bytes */
     size_t lo;        /* the lower bound of a repetition */
@@ -208,12 +211,12 @@ typedef struct {
 
 /* The sizes of a tree, and the group information of its pattern. */
 typedef struct {
-    size_t node_count;    /* at most FANCY_MAX_NODES */
-    size_t texts_size;    /* in bytes; at most FANCY_MAX_TEXTS */
-    size_t name_count;    /* at most FANCY_MAX_NAMES */
-    size_t backref_count; /* at most FANCY_MAX_BACKREFS */
-    size_t total_groups; /* the k-th FANCY_NODE_GROUP of the nodes has the number k */
-    size_t out_of_range_backref; /* the number of the first back reference above total_groups */
+    size_t node_count;                     /* at most FANCY_MAX_NODES */
+    size_t texts_size;                     /* in bytes; at most FANCY_MAX_TEXTS */
+    size_t name_count;                     /* at most FANCY_MAX_NAMES */
+    size_t backref_count;                  /* at most FANCY_MAX_BACKREFS */
+    size_t total_groups;                   /* the k-th FANCY_NODE_GROUP of the nodes has the number k */
+    size_t out_of_range_backref;           /* the number of the first back reference above total_groups */
     bool has_out_of_range_backref;
     bool numeric_capture_group_references; /* the pattern has a back reference in digits, or a call by number */
     bool contains_subroutines;             /* the pattern has a subroutine call */
@@ -229,6 +232,7 @@ typedef struct {
     uint32_t flags_before; /* the flags that hold before inline flags, or around a flag group */
     uint32_t flags_after;  /* the flags that hold after inline flags, or in a flag group */
 } fancy_trivium;
+/* ---- end of numbers and structs */
 
 /* Capacities that suffice for a pattern of this length in bytes, so that one call of fancy_parse or fancy_tree is enough. This
  * is proved for trees, whose texts have at most 6 * length bytes, and whose names at most length rows. FANCY_MAX_TEXTS also
@@ -426,6 +430,7 @@ FANCY_INLINE fancy_result fancy_trivia(const char *pattern, size_t length, uint3
  * error, what follows it is the text that depends on the pattern. It is empty for a number that no kind has. */
 FANCY_INLINE const char *fancy_kind_message(uint32_t kind) {
     switch (kind) {
+/* ---- messages: made by tools/bindings from fancy.toml */
     case FANCY_ERROR_GENERAL_PARSE_ERROR: return "General parsing error: ";
     case FANCY_ERROR_UNCLOSED_OPEN_PAREN: return "Opening parenthesis without closing parenthesis";
     case FANCY_ERROR_INVALID_REPEAT: return "Invalid repeat syntax";
@@ -442,6 +447,7 @@ FANCY_INLINE const char *fancy_kind_message(uint32_t kind) {
     case FANCY_ERROR_TARGET_NOT_REPEATABLE: return "Target of repeat operator is invalid";
     case FANCY_ERROR_INVALID_GROUP_NAME: return "Could not parse group name";
     case FANCY_ERROR_INVALID_GROUP_NAME_BACKREF: return "Invalid group name in back reference: ";
+/* ---- end of messages */
     default: return "";
     }
 }
