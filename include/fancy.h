@@ -165,16 +165,15 @@ enum {
 enum {
     FANCY_STYLE_KEPT = 0,    /* its lines stay, with their indentation */
     FANCY_STYLE_VERBOSE = 1, /* over several lines; the pattern begins with (?x) unless FANCY_FLAG_IGNORE_SPACE is set */
-    FANCY_STYLE_COMPACT = 2  /* in one line: ignored whitespace, (?x) at the beginning and empty comments go, and # one
-                                becomes (?# one) */
+    FANCY_STYLE_COMPACT = 2  /* in one line: ignored whitespace, (?x) at the beginning and empty comments go, and # one becomes
+                                (?# one) */
 };
 
 /* What a call returns. */
 typedef struct {
     uint32_t status; /* FANCY_STATUS_.. */
     uint32_t kind;   /* FANCY_ERROR_.., FANCY_ERROR_NONE if no error is reported */
-    size_t position; /* of the error, at most the length of the pattern + 1; or the length of the valid UTF-8 prefix;
-                        else 0 */
+    size_t position; /* of the error, at most the length of the pattern + 1; or the length of the valid UTF-8 prefix; else 0 */
     size_t size;     /* of the text that was to be written, whether or not it fitted; else 0, also for a tree and for trivia */
 } fancy_result;
 

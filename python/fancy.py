@@ -171,7 +171,7 @@ class TriviumKind(enum.IntEnum):
     """What a `Trivium` is."""
 
     COMMENT = 1  #: a comment, `(?#..)`
-    LINE_COMMENT = 2  #: a comment from `#` through the end of its line
+    LINE_COMMENT = 2  #: a comment from `#` through its line feed, or through the end of the pattern
     INLINE_FLAGS = 3  #: inline flags, `(?i)`
     OPENING = 4  #: the opening of a flag group, as `(?:` or `(?i:`
     CLOSING = 5  #: the closing parenthesis of such a group
@@ -193,7 +193,7 @@ class Style(enum.IntEnum):
 
     KEPT = 0  #: its lines stay, with their indentation
     VERBOSE = 1  #: over several lines; the pattern begins with `(?x)` unless `IGNORE_SPACE` is set
-    COMPACT = 2  #: in one line: ignored whitespace goes, `(?x)` at the beginning, and `# one` becomes `(?# one)`
+    COMPACT = 2  #: in one line: ignored whitespace, `(?x)` at the beginning and empty comments go, and `# one` becomes `(?# one)`
 # ---- end of numbers
 
 
