@@ -26,7 +26,7 @@ const LETTERS: &str = "The letters of --flags:
   n  if some group has a name, groups without a name have no number";
 
 /// A subcommand without its options.
-fn described<'a>(alloc: Global, row: &Subcommand) -> Command<'a> {
+fn described<'a>(alloc: Global, row: Subcommand) -> Command<'a> {
     let command = Command::new(alloc, row.name)
         .about(row.about)
         .before_help(row.example)
