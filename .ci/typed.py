@@ -56,7 +56,7 @@ def looked_at() -> None:
 
 PATTERNS = {
     "(?i)a": "A in any case", "a": "a", r"\d": r"\d", "a{2,}?": "a 2 to None times, lazy", "(?<n>a)": "group 1 n", r"\b": "boundary", "(?=a)": "AHEAD",
-    r"\g<+1>": "call 1 at 0", r"\g<n>": "call n", "(?(1)a|b)": "if BackrefExistsCondition", "ab|c": "2", r"\K": "KeepOut", "(*SKIP)": "SKIP",
+    r"\g<-3>": "call -3 at 2", r"\g<n>": "call n", "(?(1)a|b)": "if BackrefExistsCondition", "ab|c": "2", r"\K": "KeepOut", "(*SKIP)": "SKIP",
 }  # fmt: skip
 
 looked_at()
