@@ -173,7 +173,6 @@ impl Assertion {
         }
     }
 
-    #[inline]
     pub(crate) fn numbered(number: u32, crlf: bool) -> Option<Assertion> {
         Some(match number {
             numbers::ASSERTION_START_TEXT => Assertion::StartText,
@@ -217,7 +216,6 @@ impl LookAround {
         }
     }
 
-    #[inline]
     pub(crate) fn numbered(number: u32) -> Option<LookAround> {
         Some(match number {
             numbers::LOOK_AHEAD => LookAround::LookAhead,
@@ -256,7 +254,6 @@ impl BacktrackingControlVerb {
         }
     }
 
-    #[inline]
     pub(crate) fn numbered(number: u32) -> Option<BacktrackingControlVerb> {
         Some(match number {
             numbers::VERB_FAIL => BacktrackingControlVerb::Fail,
@@ -293,7 +290,6 @@ impl AbsentKind {
         }
     }
 
-    #[inline]
     pub(crate) fn numbered(number: u32) -> Option<AbsentKind> {
         Some(match number {
             numbers::ABSENT_REPEATER => AbsentKind::Repeater,

@@ -155,7 +155,12 @@ impl Rows {
 
     /// The spans of the nodes, if each is a part of the pattern.
     pub(crate) fn checked_spans(&self, pattern: &str) -> Result<Vec<Span>, Error> {
-        self.nodes[..self.info.node_count].iter().map(|row| checked_span(row, pattern)).collect()
+        let rows = &self.nodes[..self.info.node_count];
+        let mut spans = Vec::with_capacity(rows.len());
+        for row in rows {
+            spans.push(checked_span(row, pattern)?);
+        }
+        Ok(spans)
     }
 
     pub(crate) fn builder_at(&self, index: usize) -> Builder<'_> {

@@ -67,7 +67,7 @@ def which(group: Group) -> list:
         "", f"/// {group.given['rust']['doc']}", "#[derive(Debug, Clone, Copy, PartialEq, Eq)]", "#[non_exhaustive]",
         f"pub enum {name} {{", *variants, "}", "", f"impl {name} {{",
         "    pub(crate) fn number(self) -> u32 {", "        match self {", *to, "        }", "    }", "",
-        "    #[inline]", f"    pub(crate) fn numbered(number: u32{', crlf: bool' if has_crlf else ''}) -> Option<{name}> {{",
+        f"    pub(crate) fn numbered(number: u32{', crlf: bool' if has_crlf else ''}) -> Option<{name}> {{",
         "        Some(match number {", *back, "            _ => return None,", "        })", "    }", "}",
     ]  # fmt: skip
 
