@@ -131,11 +131,12 @@ def caught(program: str, folder: Path) -> Path:
     if writer is None:
         sys.exit(f"rt try does not run {program}:\n{decoded(log.read_bytes())}")
     *loader, file = reader_of(pipe)[:-len(words)]
-    shutil.copy(file, copy)
+    shutil.copyfile(file, copy)
     os.close(writer)
     process.wait()
     script.write_text(f'#!/bin/sh\nexec {shlex.join([*loader, str(copy)])} "$@"\n', encoding="utf-8")
-    script.chmod(0o755)
+    for it in (copy, script):
+        it.chmod(0o755)
     return script
 
 
