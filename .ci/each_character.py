@@ -10,7 +10,7 @@ import sys
 
 import fancy
 
-LETTERS = "imsUxuRon"
+LETTERS = fancy._LETTERS
 BLANKS = "\t\n\r "
 # what has no children, and may hold parts that no node has: an empty branch, and `(?~|)`
 HOLDERS = "Empty", "Absent"

@@ -297,7 +297,7 @@ static bool are_other_bits_ignored(void) {
     fancy_node nodes[3], again[3];
     char texts[FANCY_MAX_TEXTS(2)];
     bool is_right = true;
-    for (uint32_t bit = 512; bit != 0; bit <<= 1) {
+    for (uint32_t bit = (uint32_t)1 << strlen(flag_letters); bit != 0; bit <<= 1) {
         size_t stop = bit == FANCY_WITHOUT_SPANS ? 0 : 2;
         fancy_result parsed = fancy_parse("ab", 2, bit, nodes, 3, texts, sizeof texts, NULL, 0, NULL, 0, NULL);
         fancy_result tree = fancy_tree("ab", 2, bit, again, 3, texts, sizeof texts, NULL, 0, NULL, 0, NULL);

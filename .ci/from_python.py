@@ -1,13 +1,15 @@
-"""Compares what Python gets with recorded answers: `from_python.py FOLDER HEADER`, where the folder holds rows.tsv,
-numbered.tsv and texts.tsv. From the nodes and fields of `fancy.parse` it writes what `fre` writes. Besides, it runs the
-examples of the module's docstring, compares its numbers with those of the header, and positions and spans, in characters and
-in bytes, with those written here."""
+"""Compares what Python gets with recorded answers: `from_python.py FOLDER`, where the folder holds rows.tsv, numbered.tsv and
+texts.tsv. From the nodes and fields of `fancy.parse` it writes what `fre` writes. Besides, it runs the examples of the
+module's docstring, and compares positions and spans, in characters and in bytes, with those written here. FANCY_LIBRARY names
+the library."""
 
 import dataclasses
 import doctest
+import os
 import pathlib
 import pickle
 import re
+import shutil
 import subprocess
 import sys
 import tempfile
@@ -15,7 +17,7 @@ import tempfile
 import fancy
 
 NAMES = {"BackrefAtLevel": "BackrefWithRelativeRecursionLevel", "Verb": "BacktrackingControlVerb"}
-LETTERS = "imsUxuRon"
+LETTERS = fancy._LETTERS
 
 
 def flags_named(letters):
@@ -411,20 +413,46 @@ def changed(pattern, kind):
     return dataclasses.replace(tree, root=dataclasses.replace(tree.root, children=children)).format()
 
 
-def are_numbers_right(header):
-    """Whether the module's numbers are those of the header, each of them."""
-    enums = {
-        "FLAG": fancy.Flag, "ERROR": fancy.ErrorKind, "ASSERTION": fancy.AssertionKind, "LOOK": fancy.LookKind,
-        "VERB": fancy.VerbKind, "ABSENT": fancy.AbsentKind, "PRECEDENCE": fancy.Precedence, "TRIVIUM": fancy.TriviumKind,
-        "STYLE": fancy.Style,
-    }  # fmt: skip
-    numbers = {f"{prefix}_{it.name}": int(it) for prefix, enum in enums.items() for it in enum}
-    numbers["ERROR_NONE"] = numbers.pop("ERROR_NOT_UTF8")
-    for kind in fancy.Node.__subclasses__():
-        numbers["NODE" + re.sub("[A-Z]", lambda letter: f"_{letter[0]}", kind.__name__).upper()] = kind.number
-    written = dict(re.findall(r"FANCY_([A-Z_0-9]+) = (\d+)", header))
-    elsewhere = {name for name in written if name.startswith(("STATUS_", "TARGET_", "WITHOUT_"))}
-    return numbers == {name: int(number) for name, number in written.items() if name not in elsewhere}
+def are_names_public():
+    """Whether `__all__` has what the module defines, and nothing else; and whether a pattern of `match` begins with a node's own fields."""
+    names = {name for name, it in vars(fancy).items() if name[0] != "_" and getattr(it, "__module__", "") == "fancy"}
+    kinds = [fancy.Node, *fancy.Node.__subclasses__()]
+    shared = ("children", "span", "byte_span")
+    own = {kind: tuple(it.name for it in dataclasses.fields(kind) if it.name not in shared) for kind in kinds}
+    return (
+        sorted(fancy.__all__) == sorted(names | {"Pattern", "Span"})
+        and all(kind.__match_args__ == fields + shared for kind, fields in own.items())
+        and [kind.number for kind in kinds] == list(range(len(kinds)))
+    )
+
+
+def loaded(folder, **variables):
+    """The file of the library that a copy of the module in a folder loads."""
+    code = "import fancy; print(fancy._library._name)"
+    environment = {key: it for key, it in os.environ.items() if not key.startswith(("FANCY_", "PYTHONPATH", "LD_"))}
+    command = [sys.executable, "-W", "error", "-c", code]
+    got = subprocess.run(command, cwd=folder, env={**environment, **variables}, capture_output=True, text=True)
+    return os.path.realpath(got.stdout.strip()) if "/" in got.stdout else got.stdout.strip() or got.stderr
+
+
+def is_library_found():
+    """Whether the library is looked for in this order: FANCY_LIBRARY, beside the module under either name, where `make -C c`
+    builds it, where the loader looks. A file that was found is removed, so that the next one is found."""
+    library = os.environ["FANCY_LIBRARY"]
+    with tempfile.TemporaryDirectory() as top:
+        top = os.path.realpath(top)
+        folder, built, system = (os.path.join(top, it) for it in ("python", "c/out", "system"))
+        files = [f"{folder}/libfancy.so.1", f"{folder}/libfancy.so", f"{built}/libfancy.so.1"]
+        for it in (folder, built, system):
+            os.makedirs(it)
+        shutil.copy(fancy.__file__, folder)
+        for file in [*files, f"{system}/libfancy.so.1"]:
+            shutil.copy(library, file)
+        is_right = loaded(folder, FANCY_LIBRARY=library) == os.path.realpath(library)
+        for file in files:
+            is_right = is_right and loaded(folder, FANCY_LIBRARY="") == file
+            os.remove(file)
+        return is_right and loaded(folder, LD_LIBRARY_PATH=system) == "libfancy.so.1"
 
 
 def are_null_pointers_taken():
@@ -472,7 +500,8 @@ def main():
         "precedences and styles": are_choices_looked_at(),
         "the command": is_command_right(),
         "null pointers": are_null_pointers_taken(),
-        "the numbers": are_numbers_right(pathlib.Path(sys.argv[2]).read_text()),
+        "the names": are_names_public(),
+        "finding the library": is_library_found(),
         "the recorded answers": all([replay(folder / f"{name}.tsv") for name in ("rows", "numbered", "texts")]),
     }
     failed = [name for name, is_right in results.items() if not is_right]

@@ -1,12 +1,15 @@
 """Compares the records that `python -m fancy extract` writes of small sources with those written here: `from_sources.py`.
-PYTHONPATH names the folder of the module. Without PyYAML, what it would read is left out."""
+PYTHONPATH names the folder of the module. Without PyYAML, what it would read is left out. It also runs the example of the module's docstring."""
 
+import doctest
 import importlib.util
 import json
 import os
 import subprocess
 import sys
 import tempfile
+
+import fancy_extract
 
 HAS_YAML = importlib.util.find_spec("yaml") is not None
 
@@ -251,6 +254,7 @@ def check_without_yaml(folder):
     compare("without PyYAML", (got.returncode, got.stdout, got.stderr), wanted)
 
 
+compare("the docstring", tuple(doctest.testmod(fancy_extract)), (0, 2))
 with tempfile.TemporaryDirectory() as top:
     write(top, {name: content for name, (content, _) in {**SOURCES, **FAULTS, **YAML_FAULTS}.items()})
     check_sources(top)

@@ -148,7 +148,7 @@ def print_checks() -> Iterator[Check]:
             level = re.search(r"` at (\d)$", part)
             written = "none" if text is None else text.encode().hex() or "-"
             record = f"{level[1] if level else 0}\t{lines.encode().hex()}\t{written}\n"
-            run = Run("conformance", ("trees",), files=(("trees", record),))
+            run = Run("conformance", ("replay", "trees"), files=(("trees", record),))
             yield Check(f"{where}: {part}", run, SAME, lambda got: got.out[-len(SAME):])
             if text is None:
                 continue

@@ -2,8 +2,8 @@
 
 - Each command in a block ```console of PAGES, with the output below it, as in a transcript. A page need not show the exit status.
 - The errors in the table of docs/library.md, and the rules in docs/lint.md.
-- That the code on these pages is the text of crates/guide_examples, and any other output that of its `stdout`. In a block ```rs, which
-  is a file of another repository, each line is one of crates/guide_examples. A block ```txt is in crates.txt.
+- That the code on these pages is that of the examples of crates/conformance, and any other output in its `stdout`. In a block ```rs, which
+  is a file of another repository, each line is one of these examples. A block ```txt is in crates.txt.
 
 Blocks of other languages, such as ```sh and ```yaml, are not run. The examples of docs/c.md and docs/python.md are run by `.ci/from-c`.
 """
@@ -70,10 +70,10 @@ def page_checks(page: str) -> Iterator[Check]:
 
 
 def misquoted(page: str) -> Iterator[str]:
-    """The blocks of a page that quote crates/guide_examples or crates.txt, and are not there."""
-    examples = CRATES / "guide_examples"
+    """The blocks of a page that quote crates/conformance or crates.txt, and are not there."""
+    examples = CRATES / "conformance"
     sources = {
-        "rust": [text_of(it) for it in examples.glob("src/*.rt")],
+        "rust": [text_of(it) for it in examples.glob("src/examples/*.rt")],
         "antt": [text_of(it) for it in [*examples.glob("specs/*.antt"), *examples.glob("proofs/*.antt")]],
         "text": [text_of(examples / "stdout")],
         "txt": [text_of(TOP / "crates.txt")],
@@ -81,9 +81,9 @@ def misquoted(page: str) -> Iterator[str]:
     known = {line for source in sources["rust"] for line in source.split("\n")}
     for _, line, language, text in transcripts.blocks(text_of(TOP / page)):
         if language in sources and not any(text in it for it in sources[language]):
-            yield f"{page}:{line}: not in crates/guide_examples or crates.txt\n"
+            yield f"{page}:{line}: not in crates/conformance or crates.txt\n"
         if language == "rs" and not known.issuperset(text.split("\n")):
-            yield f"{page}:{line}: a line is not in crates/guide_examples\n"
+            yield f"{page}:{line}: a line is not in crates/conformance\n"
 
 
 def quotations() -> Iterator[Check]:

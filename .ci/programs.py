@@ -82,7 +82,7 @@ def is_old(program: Path) -> bool:
 def build(program: str) -> Path:
     """The program of a crate, which is proved and built anew where that is needed."""
     path = CRATES / program / "out" / program
-    words = {"patterns": ["--help"], "fre": ["u", "a"], "conformance": ["data/numbered.tsv"]}[program]
+    words = {"patterns": ["--help"], "fre": ["u", "a"], "conformance": ["replay", "data/numbered.tsv"]}[program]
     if is_old(path):
         subprocess.run(["rt", "run", "--", *words], cwd=path.parent.parent, stdout=sys.stderr, check=True)
     return path
@@ -93,7 +93,7 @@ def build(program: str) -> Path:
 # Programs that were built without proof, by their names. `fre` reads nothing, so its runs are cases of `rt try`, and it has no path.
 TRIED = {}
 # What makes a program read the file that is named after these words.
-READING = {"patterns": ("check",), "conformance": ()}
+READING = {"patterns": ("check",), "conformance": ("replay",)}
 
 
 def pipe_writer(process: subprocess.Popen, pipe: Path) -> Optional[int]:

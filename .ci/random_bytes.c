@@ -101,8 +101,8 @@ static bool is_written(const char *pattern, size_t length, uint32_t flags) {
 
 static void write_flags(FILE *file, uint32_t flags) {
     if (flags == 0) fputc('-', file);
-    for (int i = 0; i < 9; i++)
-        if (flags >> i & 1) fputc("imsUxuRon"[i], file);
+    for (size_t i = 0; flag_letters[i]; i++)
+        if (flags >> i & 1) fputc(flag_letters[i], file);
 }
 
 static void write_record(FILE *file, const char *pattern, size_t length, uint32_t flags) {
@@ -132,7 +132,7 @@ int main(int argument_count, char **arguments) {
     for (size_t i = 0; i < count; i++) {
         unsigned char bytes[128];
         size_t length = make(bytes, sizeof bytes);
-        uint32_t flags = (uint32_t)below(512);
+        uint32_t flags = (uint32_t)below((size_t)1 << strlen(flag_letters));
         // in memory of just its size, so that a read past the end is seen
         char *pattern = malloc(length ? length : 1);
         memcpy(pattern, bytes, length);

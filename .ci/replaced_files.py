@@ -6,7 +6,6 @@ not read as a configuration. Only root tries what needs another owner.
 """
 import fcntl
 import os
-import shutil
 import signal
 import stat
 import subprocess
@@ -60,7 +59,9 @@ def replaced(prepare: Callable, user: int) -> Output:
         folder.mkdir()
         for it in (folder.parent, folder):
             it.chmod(0o777)
-        program = shutil.copy(path_of("patterns"), name)
+        program = Path(name) / "patterns"
+        # by a process of its own: a file that another thread's process still has open for writing cannot be run
+        subprocess.run(["cp", path_of("patterns"), program], check=True)
         file = folder / "file"
         file.write_bytes(b"a|a")
         file.chmod(0o644)

@@ -152,8 +152,8 @@ static bool is_damage_found(tree *t, size_t index) {
     bool is_right = true;
     for (int i = 0; i < 4; i++) node->end = ends[i], is_right = is_right && are_refused(t);
     *node = old;
-    uint32_t kinds[] = {0, 25, UINT32_MAX};
-    for (int i = 0; i < 3; i++) node->kind = kinds[i], is_right = is_right && are_refused(t);
+    uint32_t none[] = {0, sizeof kinds / sizeof *kinds, UINT32_MAX};
+    for (int i = 0; i < 3; i++) node->kind = none[i], is_right = is_right && are_refused(t);
     *node = old;
     if (old.which != 0) node->which = 99, is_right = is_right && are_refused(t), *node = old;
     if (old.text_size == 0) return is_right;

@@ -34,7 +34,7 @@ static fancy_result result(uint32_t status, uint32_t kind, size_t position, size
 }
 
 static fancy_result any_result(size_t size) {
-    return result((uint32_t)below(9), (uint32_t)(below(20) ? below(20) : draw()), number(size), number(size));
+    return result((uint32_t)below(FANCY_STATUS_UNKNOWN_STYLE + 1), (uint32_t)(below(20) ? below(20) : draw()), number(size), number(size));
 }
 
 static void write_noise(void *buffer, size_t size) {
@@ -167,14 +167,14 @@ static void grow_deep(tree *t) {
 
 static void spoil(fancy_node *node, size_t count) {
     switch (below(9)) {
-    case 0: node->kind = (uint32_t)number(24); break;
-    case 1: node->which = (uint32_t)number(12); break;
+    case 0: node->kind = (uint32_t)number(FANCY_NODE_AST_NODE); break;
+    case 1: node->which = (uint32_t)number(FANCY_ASSERTION_NOT_WORD_BOUNDARY); break;
     case 2: node->end = number(count); break;
     case 3: node->text = number(64); break;
     case 4: node->text_size = number(64); break;
     case 5: node->start = number(8); break;
     case 6: node->stop = number(8); break;
-    case 7: node->kind = 1 + (uint32_t)below(24); break;
+    case 7: node->kind = 1 + (uint32_t)below(FANCY_NODE_AST_NODE); break;
     default: memset(&node->newline, (int)draw(), 6); break;
     }
 }

@@ -13,6 +13,7 @@ typedef struct {
     fancy_info info;
 } tree;
 
+/* ---- names: made by tools/bindings from include/fancy.toml */
 static const char *const kinds[] = {
     "", "Empty", "Any", "Assertion", "GeneralNewline", "Literal", "LiteralBytes", "Concat", "Alt", "Group", "LookAround",
     "Repeat", "Delegate", "Backref", "BackrefWithRelativeRecursionLevel", "AtomicGroup", "KeepOut",
@@ -25,6 +26,8 @@ static const char *const assertions[] = {
 static const char *const looks[] = {"", "LookAhead", "LookAheadNeg", "LookBehind", "LookBehindNeg"};
 static const char *const verbs[] = {"", "Fail", "Accept", "Commit", "Skip", "Prune"};
 static const char *const absents[] = {"", "Repeater", "Expression", "Stopper", "Clear"};
+static const char flag_letters[] = "imsUxuRon";
+/* ---- end of names */
 
 static const char *boolean(bool is) { return is ? "true" : "false"; }
 
@@ -186,13 +189,12 @@ static uint32_t write_pattern(FILE *out, FILE *err, const char *pattern, size_t 
 
 /* The flags that an argument names: whether it names any. */
 static bool read_flags(const char *letters, uint32_t *flags) {
-    static const char all[] = "imsUxuRon";
     *flags = 0;
     if (strcmp(letters, "-") == 0) return true;
     for (const char *at = letters; *at; at++) {
-        const char *letter = strchr(all, *at);
+        const char *letter = strchr(flag_letters, *at);
         if (!letter) return false;
-        *flags |= (uint32_t)1 << (letter - all);
+        *flags |= (uint32_t)1 << (letter - flag_letters);
     }
     return *letters != 0;
 }

@@ -23,15 +23,18 @@
 
 /* The version of this header. fancy_version returns that of the library. CHANGELOG.md says what a change of each number
  * means. */
+/* ---- version: made by tools/bindings from fancy.toml */
 #define FANCY_VERSION_MAJOR 1
 #define FANCY_VERSION_MINOR 4
 #define FANCY_VERSION_PATCH 0
+/* ---- end of version */
 #define FANCY_VERSION (FANCY_VERSION_MAJOR * 1000000 + FANCY_VERSION_MINOR * 1000 + FANCY_VERSION_PATCH)
 
 #ifdef __cplusplus
 extern "C" {
 #endif
 
+/* ---- numbers and structs: made by tools/bindings from fancy.toml */
 /* Flags: bits, of which any may be set. Other bits are ignored, but for FANCY_WITHOUT_SPANS, which fancy_tree takes. */
 enum {
     FANCY_FLAG_CASEI = 1,        /* case-insensitive */
@@ -49,7 +52,7 @@ enum {
 /* A bit that fancy_tree takes beside the flags: the spans are left out, and each start and stop is 0. Other calls ignore it. */
 enum { FANCY_WITHOUT_SPANS = 65536 };
 
-/* The status of a call. These numbers, and all those below, never change. */
+/* The status of a call. These numbers, and all those below, never change; a later minor version may return new ones. */
 enum {
     FANCY_STATUS_OK = 0,
     FANCY_STATUS_REFUSED = 1,          /* the pattern is invalid: kind and position are set */
@@ -141,7 +144,7 @@ enum { FANCY_TARGET_BY_NUMBER = 1, FANCY_TARGET_BY_NAME = 2, FANCY_TARGET_RELATI
 /* Kinds of what no node of a tree has. */
 enum {
     FANCY_TRIVIUM_COMMENT = 1,      /* (?#..) */
-    FANCY_TRIVIUM_LINE_COMMENT = 2, /* from # through the end of its line */
+    FANCY_TRIVIUM_LINE_COMMENT = 2, /* from # through its line feed, or through the end of the pattern */
     FANCY_TRIVIUM_INLINE_FLAGS = 3, /* inline flags, as (?i): flags_before, flags_after */
     FANCY_TRIVIUM_OPENING = 4,      /* of a flag group, as (?: or (?i: : flags_before, flags_after */
     FANCY_TRIVIUM_CLOSING = 5,      /* the closing parenthesis of such a group */
@@ -162,15 +165,15 @@ enum {
 enum {
     FANCY_STYLE_KEPT = 0,    /* its lines stay, with their indentation */
     FANCY_STYLE_VERBOSE = 1, /* over several lines; the pattern begins with (?x) unless FANCY_FLAG_IGNORE_SPACE is set */
-    FANCY_STYLE_COMPACT = 2  /* in one line: ignored whitespace goes, (?x) at the beginning, and # one becomes (?# one) */
+    FANCY_STYLE_COMPACT = 2  /* in one line: ignored whitespace, (?x) at the beginning and empty comments go, and # one becomes
+                                (?# one) */
 };
 
 /* What a call returns. */
 typedef struct {
     uint32_t status; /* FANCY_STATUS_.. */
     uint32_t kind;   /* FANCY_ERROR_.., FANCY_ERROR_NONE if no error is reported */
-    size_t position; /* of the error, at most one past the end of the pattern; or the length of the valid UTF-8 prefix;
-                        else 0 */
+    size_t position; /* of the error, at most the length of the pattern + 1; or the length of the valid UTF-8 prefix; else 0 */
     size_t size;     /* of the text that was to be written, whether or not it fitted; else 0, also for a tree and for trivia */
 } fancy_result;
 
@@ -178,8 +181,8 @@ typedef struct {
 typedef struct {
     uint32_t kind;    /* FANCY_NODE_.. */
     uint32_t which;
-    size_t end;       /* one past the index of its last descendant. Its first child, if it has one, is the next node, and
-                         each further child is at the index that is the end of the child before */
+    size_t end;       /* one past the index of its last descendant. Its first child, if it has one, is the next node, and each
+                         further child is at the index that is the end of the child before */
     size_t text;      /* where its text begins in the buffer of texts */
     size_t text_size; /* the size of its text, in bytes */
     size_t lo;        /* the lower bound of a repetition */
@@ -207,12 +210,12 @@ typedef struct {
 
 /* The sizes of a tree, and the group information of its pattern. */
 typedef struct {
-    size_t node_count;    /* at most FANCY_MAX_NODES */
-    size_t texts_size;    /* in bytes; at most FANCY_MAX_TEXTS */
-    size_t name_count;    /* at most FANCY_MAX_NAMES */
-    size_t backref_count; /* at most FANCY_MAX_BACKREFS */
-    size_t total_groups; /* the k-th FANCY_NODE_GROUP of the nodes has the number k */
-    size_t out_of_range_backref; /* the number of the first back reference above total_groups */
+    size_t node_count;                     /* at most FANCY_MAX_NODES */
+    size_t texts_size;                     /* in bytes; at most FANCY_MAX_TEXTS */
+    size_t name_count;                     /* at most FANCY_MAX_NAMES */
+    size_t backref_count;                  /* at most FANCY_MAX_BACKREFS */
+    size_t total_groups;                   /* the k-th FANCY_NODE_GROUP of the nodes has the number k */
+    size_t out_of_range_backref;           /* the number of the first back reference above total_groups */
     bool has_out_of_range_backref;
     bool numeric_capture_group_references; /* the pattern has a back reference in digits, or a call by number */
     bool contains_subroutines;             /* the pattern has a subroutine call */
@@ -228,6 +231,7 @@ typedef struct {
     uint32_t flags_before; /* the flags that hold before inline flags, or around a flag group */
     uint32_t flags_after;  /* the flags that hold after inline flags, or in a flag group */
 } fancy_trivium;
+/* ---- end of numbers and structs */
 
 /* Capacities that suffice for a pattern of this length in bytes, so that one call of fancy_parse or fancy_tree is enough. This
  * is proved for trees, whose texts have at most 6 * length bytes, and whose names at most length rows. FANCY_MAX_TEXTS also
@@ -344,10 +348,11 @@ FANCY_INLINE fancy_result fancy_pattern(const char *pattern, size_t length, uint
 /* Formats a pattern, and keeps how it is written: escapes, classes, names, comments, and the flags that it sets. What
  * changes is what has a simpler form: quantifiers such as {0,1}, groups and flags that are not needed, and ignored
  * whitespace. The text is parsed, under the same flags, as the same tree with the same groups and names, and has the same
- * comments except (?#). A pattern that cannot be formatted so is written as it is. The style is FANCY_STYLE_..; width says
- * how many characters a line may have under FANCY_STYLE_VERBOSE, and is not read under another style. Returns OK or
- * BUFFER_TOO_SHORT, each with the size of the text; or UNKNOWN_STYLE if no style has the number, whatever the pattern is.
- * Otherwise it returns what fancy_check returns. Unless it returns OK, nothing is written. */
+ * comments except (?#); under FANCY_STYLE_COMPACT, comments with the same text inside. A pattern that cannot be formatted so
+ * is written as it is, and the status is OK too. The style is FANCY_STYLE_..; width says how many characters a line may have
+ * under FANCY_STYLE_VERBOSE, and is not read under another style. Returns OK or BUFFER_TOO_SHORT, each with the size of the
+ * text; or UNKNOWN_STYLE if no style has the number, whatever the pattern is. Otherwise it returns what fancy_check returns.
+ * Unless it returns OK, nothing is written. */
 FANCY_INLINE fancy_result fancy_format(const char *pattern, size_t length, uint32_t flags, uint32_t style, size_t width,
                                        char *buffer, size_t capacity) {
     char none;
@@ -356,8 +361,8 @@ FANCY_INLINE fancy_result fancy_format(const char *pattern, size_t length, uint3
 
 /* Parses a pattern as fancy_parse does, with two differences. The flag FANCY_WITHOUT_SPANS leaves the spans out, which is
  * faster. If the pattern is invalid, the message of its error is written to texts: returns REFUSED, with the kind, the
- * position, and the size of the message; or BUFFER_TOO_SHORT with all of these, if the message does not fit. If it is the
- * tree that does not fit, the kind is FANCY_ERROR_NONE, and *info says how much is needed. */
+ * position, and the size of the message; or BUFFER_TOO_SHORT with all of these, if the message does not fit, and *info is
+ * unchanged. If it is the tree that does not fit, the kind is FANCY_ERROR_NONE, and *info says how much is needed. */
 FANCY_INLINE fancy_result fancy_tree(const char *pattern, size_t length, uint32_t flags, fancy_node *nodes,
                                      size_t node_capacity, char *texts, size_t texts_capacity, fancy_name *names,
                                      size_t name_capacity, size_t *backrefs, size_t backref_capacity, fancy_info *info) {
@@ -411,7 +416,7 @@ FANCY_INLINE fancy_result fancy_pattern_nodes(const fancy_node *nodes, size_t no
  * parenthesis of a group, is part of the token. Ignored whitespace is not listed. The parentheses of a group without a name
  * are listed if it has no number, since only groups with a name have one. Returns OK if all of them fit: then they are in
  * the buffer, in the order of the pattern. Returns BUFFER_TOO_SHORT if they do not. Otherwise it returns what fancy_check
- * returns. Unless it returns OK, no trivium is written. */
+ * returns: an invalid pattern has no trivia. Unless it returns OK, no trivium is written. */
 FANCY_INLINE fancy_result fancy_trivia(const char *pattern, size_t length, uint32_t flags, fancy_trivium *trivia,
                                        size_t capacity, size_t *count) {
     fancy_trivium no_trivium;
@@ -424,6 +429,7 @@ FANCY_INLINE fancy_result fancy_trivia(const char *pattern, size_t length, uint3
  * error, what follows it is the text that depends on the pattern. It is empty for a number that no kind has. */
 FANCY_INLINE const char *fancy_kind_message(uint32_t kind) {
     switch (kind) {
+/* ---- messages: made by tools/bindings from fancy.toml */
     case FANCY_ERROR_GENERAL_PARSE_ERROR: return "General parsing error: ";
     case FANCY_ERROR_UNCLOSED_OPEN_PAREN: return "Opening parenthesis without closing parenthesis";
     case FANCY_ERROR_INVALID_REPEAT: return "Invalid repeat syntax";
@@ -440,6 +446,7 @@ FANCY_INLINE const char *fancy_kind_message(uint32_t kind) {
     case FANCY_ERROR_TARGET_NOT_REPEATABLE: return "Target of repeat operator is invalid";
     case FANCY_ERROR_INVALID_GROUP_NAME: return "Could not parse group name";
     case FANCY_ERROR_INVALID_GROUP_NAME_BACKREF: return "Invalid group name in back reference: ";
+/* ---- end of messages */
     default: return "";
     }
 }

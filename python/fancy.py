@@ -18,8 +18,10 @@ A pattern is a `str`, or `bytes` that are UTF-8. A position or a span counts cha
 that it can be used as an index. `byte_position` and `byte_span` are the same in bytes of the UTF-8.
 
 The work is done by the shared library libfancy, whose functions are proved to meet their contracts. It is the file that
-the environment variable FANCY_LIBRARY names; or else the one that `make -C c` built in this source tree; or else the one
-that is installed. Its functions may be called in several threads at once. Python 3.8 or later.
+the environment variable FANCY_LIBRARY names; or else `libfancy.so.1` or `libfancy.so` beside this file; or else the one that
+`make -C c` built in this source tree; or else the one that is installed. Its functions may be called in several threads at
+once. A library that is newer than the module may have a kind that this does not know: then `RuntimeError` is raised. Python
+3.8 or later.
 
 On the command line, `python -m fancy check FILE` reports each line of a file that is not a valid pattern, and
 `python -m fancy extract FILE` writes the patterns of source files as records in JSON.
@@ -38,27 +40,51 @@ import os
 import re
 import sys
 from dataclasses import dataclass, field
-from typing import Callable, ClassVar, Dict, Iterator, List, Optional, Sequence, Tuple, Type, Union
+from typing import ClassVar, Dict, Iterator, List, Mapping, Optional, Sequence, Tuple, Type, TypeVar, Union
+
+__all__ = [
+    "Error", "Node", "Pattern", "Relative", "Span", "Tree", "Trivium", "check", "format", "normal_form", "parse", "trivia",
+]  # fmt: skip
 
 Pattern = Union[str, bytes]
 Span = Tuple[int, int]
+_Kind = TypeVar("_Kind", bound=enum.IntEnum)
 
 
 # ---- flags, and kinds of things. The numbers are those of fancy.h.
 
 
+class _KindWithText(enum.IntEnum):
+    @property
+    def text(self) -> str:
+        """The message of this kind. Four messages end with a text that depends on the pattern: of these, what comes
+        before that text, as `Invalid escape: `."""
+        if self is ErrorKind.NOT_UTF8:
+            return "Not UTF-8"
+        message: bytes = _library.fancy_kind_message(self)
+        return message.decode()
+
+
+# ---- numbers: made by tools/bindings from include/fancy.toml
+__all__ += [
+    "CASEI", "MULTI", "DOTNL", "SWAP_GREED", "IGNORE_SPACE", "UNICODE", "CRLF", "ONIGURUMA_MODE",
+    "IGNORE_NUMBERED_GROUPS_WHEN_NAMED_GROUPS_EXIST", "Flag", "ErrorKind", "AssertionKind", "LookKind", "VerbKind",
+    "AbsentKind", "TriviumKind", "Precedence", "Style",
+]
+
+
 class Flag(enum.IntFlag):
     """Flags of a pattern, to be combined by `|`."""
 
-    CASEI = 1
-    MULTI = 2
-    DOTNL = 4
-    SWAP_GREED = 8
-    IGNORE_SPACE = 16
-    UNICODE = 32
-    CRLF = 64
-    ONIGURUMA_MODE = 128
-    IGNORE_NUMBERED_GROUPS_WHEN_NAMED_GROUPS_EXIST = 256
+    CASEI = 1  #: case-insensitive
+    MULTI = 2  #: `^` and `$` match at line breaks too
+    DOTNL = 4  #: `.` matches a line feed too
+    SWAP_GREED = 8  #: quantifiers are lazy, and greedy with a `?` after them
+    IGNORE_SPACE = 16  #: whitespace and comments from `#` to the end of a line are ignored
+    UNICODE = 32  #: `\p{alnum}` and the like, `\x80` to `\xFF` and `\R` are those of Unicode
+    CRLF = 64  #: CR is a line terminator too, and CR LF a single one
+    ONIGURUMA_MODE = 128  #: the pattern is in Oniguruma's syntax
+    IGNORE_NUMBERED_GROUPS_WHEN_NAMED_GROUPS_EXIST = 256  #: if some group has a name, groups without a name have no number
 
 
 CASEI = Flag.CASEI
@@ -74,86 +100,78 @@ IGNORE_NUMBERED_GROUPS_WHEN_NAMED_GROUPS_EXIST = Flag.IGNORE_NUMBERED_GROUPS_WHE
 _LETTERS = "imsUxuRon"  # of the flags, in the order of their bits
 
 
-class ErrorKind(enum.IntEnum):
+class ErrorKind(_KindWithText):
     """Kinds of errors."""
 
     NOT_UTF8 = 0  #: the pattern is `bytes` that are not UTF-8, or a `str` with a lone surrogate
-    GENERAL_PARSE_ERROR = 1
-    UNCLOSED_OPEN_PAREN = 2
-    INVALID_REPEAT = 3
-    RECURSION_EXCEEDED = 4
-    TRAILING_BACKSLASH = 5
-    INVALID_ESCAPE = 6
-    UNCLOSED_UNICODE_NAME = 7
-    INVALID_HEX = 8
-    INVALID_CODEPOINT_VALUE = 9
-    INVALID_CLASS = 10
-    UNKNOWN_FLAG = 11
-    CHANGING_UNICODE_MODE_UNSUPPORTED = 12
-    INVALID_BACKREF = 13
-    TARGET_NOT_REPEATABLE = 14
-    INVALID_GROUP_NAME = 15
-    INVALID_GROUP_NAME_BACKREF = 16
-
-    @property
-    def text(self) -> str:
-        """The message of this kind. Four messages end with a text that depends on the pattern: of these, what comes
-        before that text, as `Invalid escape: `."""
-        if self is ErrorKind.NOT_UTF8:
-            return "Not UTF-8"
-        return _library.fancy_kind_message(self).decode()
+    GENERAL_PARSE_ERROR = 1  #: something else than what the other kinds say: `a)`
+    UNCLOSED_OPEN_PAREN = 2  #: a group is not closed: `(a`
+    INVALID_REPEAT = 3  #: it is never returned: braces that are not a quantifier are literals
+    RECURSION_EXCEEDED = 4  #: groups nest 64 deep, or too many quantifiers follow one another in Oniguruma mode
+    TRAILING_BACKSLASH = 5  #: a backslash at the end: `a\`
+    INVALID_ESCAPE = 6  #: an escape that does not exist: `\q`
+    UNCLOSED_UNICODE_NAME = 7  #: a property that is not closed: `\p{L`
+    INVALID_HEX = 8  #: no digits where an escape needs them: `\xg`
+    INVALID_CODEPOINT_VALUE = 9  #: a number that no character has: `\u{D800}`
+    INVALID_CLASS = 10  #: a class that is not closed, or that cannot be read: `[a`
+    UNKNOWN_FLAG = 11  #: a flag that does not exist: `(?q)`
+    CHANGING_UNICODE_MODE_UNSUPPORTED = 12  #: `(?u)` without `UNICODE`, or `(?-u)` with it
+    INVALID_BACKREF = 13  #: a reference to a group that does not exist: `\k<n>`
+    TARGET_NOT_REPEATABLE = 14  #: a quantifier without an operand, or after something that cannot be repeated: `a**`
+    INVALID_GROUP_NAME = 15  #: the name of a group cannot be read: `(?<a`
+    INVALID_GROUP_NAME_BACKREF = 16  #: a reference to a name whose group opens after it: `\k<n>(?<n>a)`
 
 
 class AssertionKind(enum.IntEnum):
     """Which assertion an `Assertion` is."""
 
-    START_TEXT = 1
-    END_TEXT = 2
-    END_TEXT_IGNORE_TRAILING_NEWLINES = 3
-    START_LINE = 4
-    START_LINE_ONIGURUMA = 5
-    END_LINE = 6
-    LEFT_WORD_BOUNDARY = 7
-    LEFT_WORD_HALF_BOUNDARY = 8
-    RIGHT_WORD_BOUNDARY = 9
-    RIGHT_WORD_HALF_BOUNDARY = 10
-    WORD_BOUNDARY = 11
-    NOT_WORD_BOUNDARY = 12
+    START_TEXT = 1  #: `\A`, or `^` without `MULTI`
+    END_TEXT = 2  #: `\z`, or `$` without `MULTI`
+    END_TEXT_IGNORE_TRAILING_NEWLINES = 3  #: `\Z`
+    START_LINE = 4  #: `^` with `MULTI`
+    START_LINE_ONIGURUMA = 5  #: `^` with `MULTI` in Oniguruma mode
+    END_LINE = 6  #: `$` with `MULTI`
+    LEFT_WORD_BOUNDARY = 7  #: `\<`, `\b{start}`
+    LEFT_WORD_HALF_BOUNDARY = 8  #: `\b{start-half}`
+    RIGHT_WORD_BOUNDARY = 9  #: `\>`, `\b{end}`
+    RIGHT_WORD_HALF_BOUNDARY = 10  #: `\b{end-half}`
+    WORD_BOUNDARY = 11  #: `\b`
+    NOT_WORD_BOUNDARY = 12  #: `\B`
 
 
 class LookKind(enum.IntEnum):
     """Which look-around a `LookAround` is."""
 
-    AHEAD = 1
-    AHEAD_NEG = 2
-    BEHIND = 3
-    BEHIND_NEG = 4
+    AHEAD = 1  #: `(?=a)`
+    AHEAD_NEG = 2  #: `(?!a)`
+    BEHIND = 3  #: `(?<=a)`
+    BEHIND_NEG = 4  #: `(?<!a)`
 
 
 class VerbKind(enum.IntEnum):
     """Which verb a `Verb` is."""
 
-    FAIL = 1
-    ACCEPT = 2
-    COMMIT = 3
-    SKIP = 4
-    PRUNE = 5
+    FAIL = 1  #: `(*FAIL)`
+    ACCEPT = 2  #: `(*ACCEPT)`
+    COMMIT = 3  #: `(*COMMIT)`
+    SKIP = 4  #: `(*SKIP)`
+    PRUNE = 5  #: `(*PRUNE)`
 
 
 class AbsentKind(enum.IntEnum):
     """Which absent expression an `Absent` is."""
 
-    REPEATER = 1
-    EXPRESSION = 2
-    STOPPER = 3
-    CLEAR = 4
+    REPEATER = 1  #: `(?~a)`: any text that does not contain a match of the child
+    EXPRESSION = 2  #: `(?~|a|b)`: a match of the second child in a text that does not contain a match of the first
+    STOPPER = 3  #: `(?~|a)`: from here on the text must not contain a match of the child
+    CLEAR = 4  #: `(?~|)`: ends the effect of a stopper
 
 
 class TriviumKind(enum.IntEnum):
     """What a `Trivium` is."""
 
     COMMENT = 1  #: a comment, `(?#..)`
-    LINE_COMMENT = 2  #: a comment from `#` through the end of its line
+    LINE_COMMENT = 2  #: a comment from `#` through its line feed, or through the end of the pattern
     INLINE_FLAGS = 3  #: inline flags, `(?i)`
     OPENING = 4  #: the opening of a flag group, as `(?:` or `(?i:`
     CLOSING = 5  #: the closing parenthesis of such a group
@@ -174,8 +192,9 @@ class Style(enum.IntEnum):
     """How `format` lays out a pattern that it keeps as it is written."""
 
     KEPT = 0  #: its lines stay, with their indentation
-    VERBOSE = 1  #: over several lines; the pattern begins with `(?x)` unless the flags have `IGNORE_SPACE`
-    COMPACT = 2  #: in one line; ignored whitespace goes, `(?x)` at the beginning, and `# one` becomes `(?# one)`
+    VERBOSE = 1  #: over several lines; the pattern begins with `(?x)` unless `IGNORE_SPACE` is set
+    COMPACT = 2  #: in one line: ignored whitespace, `(?x)` at the beginning and empty comments go, and `# one` becomes `(?# one)`
+# ---- end of numbers
 
 
 # ---- errors
@@ -196,9 +215,11 @@ class Error(ValueError):
         super().__init__(f"{message} at position {position}")
         self.pattern, self.kind, self.message = pattern, kind, message
         self.position, self.byte_position = position, byte_position
-        newline, before = ("\n", pattern[:position]) if isinstance(pattern, str) else (b"\n", pattern[:position])
-        self.lineno = before.count(newline) + 1  # type: ignore[arg-type]
-        self.colno = position - before.rfind(newline)  # type: ignore[arg-type]
+        if isinstance(pattern, str):
+            newlines, newline = pattern.count("\n", 0, position), pattern.rfind("\n", 0, position)
+        else:
+            newlines, newline = pattern.count(b"\n", 0, position), pattern.rfind(b"\n", 0, position)
+        self.lineno, self.colno = newlines + 1, position - newline
 
     def __reduce__(self) -> Tuple[Type[Error], Tuple[Pattern, ErrorKind, str, int, int]]:
         return Error, (self.pattern, self.kind, self.message, self.position, self.byte_position)
@@ -225,6 +246,7 @@ class Node:
     byte_span: Span = field(compare=False)  #: the same in bytes of the UTF-8
     children: Tuple[Node, ...]
     number: ClassVar[int] = 0  #: of the kind, in fancy.h
+    __match_args__ = ("children", "span", "byte_span")
 
     @property
     def kind(self) -> str:
@@ -240,7 +262,7 @@ class Node:
         [None, '(?:b|c)*']
         """
         rows, number = _Rows(self), _member(Precedence, precedence)
-        got, text = _text(lambda buffer, capacity: _library.fancy_print_nodes(*rows.arguments(), number, buffer, capacity))
+        got, text = _text("fancy_print_nodes", *rows.arguments(), number)
         if got.status == _OUT_OF_MEMORY:
             raise MemoryError
         return text.decode() if got.status == _OK else None
@@ -254,17 +276,31 @@ class Node:
             ahead.extend(reversed(node.children))
 
 
+# ---- nodes: made by tools/bindings from include/fancy.toml
+__all__ += [
+    "Empty", "Any", "Assertion", "GeneralNewline", "Literal", "LiteralBytes", "Concat", "Alt", "Group", "LookAround",
+    "Repeat", "Delegate", "Backref", "BackrefAtLevel", "AtomicGroup", "KeepOut", "ContinueFromPreviousMatchEnd",
+    "BackrefExistsCondition", "Conditional", "SubroutineCall", "Verb", "Absent", "DefineGroup", "AstNode",
+]
+
+
 @dataclass(frozen=True)
 class Empty(Node):
     """Nothing, as between the bars of `a||b`."""
 
+    number: ClassVar[int] = 1
+    __match_args__ = ("children", "span", "byte_span")
+
 
 @dataclass(frozen=True)
 class Any(Node):
-    """Any character: `.`"""
+    """Any character: `.`."""
 
     newline: bool  #: it matches a line break too
     crlf: bool  #: CR is a line terminator too, and CR LF a single one
+
+    number: ClassVar[int] = 2
+    __match_args__ = ("newline", "crlf", "children", "span", "byte_span")
 
 
 @dataclass(frozen=True)
@@ -274,12 +310,18 @@ class Assertion(Node):
     which: AssertionKind
     crlf: bool  #: CR is a line terminator too, and CR LF a single one
 
+    number: ClassVar[int] = 3
+    __match_args__ = ("which", "crlf", "children", "span", "byte_span")
+
 
 @dataclass(frozen=True)
 class GeneralNewline(Node):
-    """A line break: `\\R`"""
+    """A line break: `\\R`."""
 
     unicode: bool  #: the line breaks of Unicode count too
+
+    number: ClassVar[int] = 4
+    __match_args__ = ("unicode", "children", "span", "byte_span")
 
 
 @dataclass(frozen=True)
@@ -287,7 +329,10 @@ class Literal(Node):
     """A text: of a parsed pattern, one character."""
 
     text: str
-    casei: bool
+    casei: bool  #: case-insensitive
+
+    number: ClassVar[int] = 5
+    __match_args__ = ("text", "casei", "children", "span", "byte_span")
 
 
 @dataclass(frozen=True)
@@ -296,15 +341,24 @@ class LiteralBytes(Node):
 
     value: bytes
 
+    number: ClassVar[int] = 6
+    __match_args__ = ("value", "children", "span", "byte_span")
+
 
 @dataclass(frozen=True)
 class Concat(Node):
     """Its children one after another."""
 
+    number: ClassVar[int] = 7
+    __match_args__ = ("children", "span", "byte_span")
+
 
 @dataclass(frozen=True)
 class Alt(Node):
-    """One of its children: `a|b`"""
+    """One of its children: `a|b`."""
+
+    number: ClassVar[int] = 8
+    __match_args__ = ("children", "span", "byte_span")
 
 
 @dataclass(frozen=True)
@@ -314,6 +368,9 @@ class Group(Node):
     group: int  #: its number, from 1
     name: Optional[str]
 
+    number: ClassVar[int] = 9
+    __match_args__ = ("group", "name", "children", "span", "byte_span")
+
 
 @dataclass(frozen=True)
 class LookAround(Node):
@@ -321,14 +378,20 @@ class LookAround(Node):
 
     which: LookKind
 
+    number: ClassVar[int] = 10
+    __match_args__ = ("which", "children", "span", "byte_span")
+
 
 @dataclass(frozen=True)
 class Repeat(Node):
     """Its child, repeated."""
 
-    lo: int
-    hi: Optional[int]  #: None for no bound
+    lo: int  #: the lower bound of a repetition
+    hi: Optional[int]  #: the upper bound; None for no bound
     greedy: bool
+
+    number: ClassVar[int] = 11
+    __match_args__ = ("lo", "hi", "greedy", "children", "span", "byte_span")
 
 
 @dataclass(frozen=True)
@@ -336,7 +399,10 @@ class Delegate(Node):
     """A character class, a class escape or a property, as its text."""
 
     text: str
-    casei: bool
+    casei: bool  #: case-insensitive
+
+    number: ClassVar[int] = 12
+    __match_args__ = ("text", "casei", "children", "span", "byte_span")
 
 
 @dataclass(frozen=True)
@@ -344,7 +410,10 @@ class Backref(Node):
     """A back reference to a group."""
 
     group: int
-    casei: bool
+    casei: bool  #: case-insensitive
+
+    number: ClassVar[int] = 13
+    __match_args__ = ("group", "casei", "children", "span", "byte_span")
 
 
 @dataclass(frozen=True)
@@ -353,22 +422,34 @@ class BackrefAtLevel(Node):
 
     group: int
     level: int  #: relative to the current one
-    casei: bool
+    casei: bool  #: case-insensitive
+
+    number: ClassVar[int] = 14
+    __match_args__ = ("group", "level", "casei", "children", "span", "byte_span")
 
 
 @dataclass(frozen=True)
 class AtomicGroup(Node):
-    """An atomic group: `(?>a)`"""
+    """An atomic group: `(?>a)`."""
+
+    number: ClassVar[int] = 15
+    __match_args__ = ("children", "span", "byte_span")
 
 
 @dataclass(frozen=True)
 class KeepOut(Node):
     """`\\K`"""
 
+    number: ClassVar[int] = 16
+    __match_args__ = ("children", "span", "byte_span")
+
 
 @dataclass(frozen=True)
 class ContinueFromPreviousMatchEnd(Node):
     """`\\G`"""
+
+    number: ClassVar[int] = 17
+    __match_args__ = ("children", "span", "byte_span")
 
 
 @dataclass(frozen=True)
@@ -378,10 +459,16 @@ class BackrefExistsCondition(Node):
     group: int
     level: Optional[int]  #: relative to the current one; None if the condition has no level
 
+    number: ClassVar[int] = 18
+    __match_args__ = ("group", "level", "children", "span", "byte_span")
+
 
 @dataclass(frozen=True)
 class Conditional(Node):
     """A conditional. It has three children: the condition, the branch taken if it holds, and the other branch."""
+
+    number: ClassVar[int] = 19
+    __match_args__ = ("children", "span", "byte_span")
 
 
 @dataclass(frozen=True)
@@ -390,12 +477,18 @@ class SubroutineCall(Node):
 
     group: int
 
+    number: ClassVar[int] = 20
+    __match_args__ = ("group", "children", "span", "byte_span")
+
 
 @dataclass(frozen=True)
 class Verb(Node):
     """A verb, as `(*FAIL)`."""
 
     which: VerbKind
+
+    number: ClassVar[int] = 21
+    __match_args__ = ("which", "children", "span", "byte_span")
 
 
 @dataclass(frozen=True)
@@ -404,17 +497,16 @@ class Absent(Node):
 
     which: AbsentKind
 
+    number: ClassVar[int] = 22
+    __match_args__ = ("which", "children", "span", "byte_span")
+
 
 @dataclass(frozen=True)
 class DefineGroup(Node):
     """`(?(DEFINE)..)`"""
 
-
-@dataclass(frozen=True)
-class Relative:
-    """A relative number of a group, in an unresolved call."""
-
-    number: int
+    number: ClassVar[int] = 23
+    __match_args__ = ("children", "span", "byte_span")
 
 
 @dataclass(frozen=True)
@@ -425,14 +517,19 @@ class AstNode(Node):
     position: int  #: the position of the call, as an index into the pattern
     byte_position: int  #: the same in bytes of the UTF-8
 
+    number: ClassVar[int] = 24
+    __match_args__ = ("target", "position", "byte_position", "children", "span", "byte_span")
+# ---- end of nodes
 
-_KINDS: List[Type[Node]] = [
-    Empty, Any, Assertion, GeneralNewline, Literal, LiteralBytes, Concat, Alt, Group, LookAround, Repeat, Delegate, Backref,
-    BackrefAtLevel, AtomicGroup, KeepOut, ContinueFromPreviousMatchEnd, BackrefExistsCondition, Conditional, SubroutineCall,
-    Verb, Absent, DefineGroup, AstNode,
-]  # fmt: skip
-for _number, _kind in enumerate(_KINDS, 1):
-    _kind.number = _number
+
+_KINDS: Dict[int, Type[Node]] = {kind.number: kind for kind in Node.__subclasses__()}
+
+
+@dataclass(frozen=True)
+class Relative:
+    """A relative number of a group, in an unresolved call."""
+
+    number: int
 
 
 @dataclass(frozen=True)
@@ -489,9 +586,7 @@ class Tree:
             numeric_capture_group_references=self.numeric_capture_group_references, self_recursive=self.self_recursive
         )
         got, text = _text(
-            lambda buffer, capacity: _library.fancy_pattern_nodes(
-                *rows.arguments(), names, len(names), ctypes.byref(info), int(flags), buffer, capacity
-            )
+            "fancy_pattern_nodes", *rows.arguments(), names, len(names), ctypes.byref(info), int(flags)
         )
         if got.status == _OUT_OF_MEMORY:
             raise MemoryError
@@ -500,56 +595,147 @@ class Tree:
 
 # ---- the library
 
-
+# ---- structs and statuses: made by tools/bindings from include/fancy.toml
 class _Result(ctypes.Structure):
+    status: int
+    kind: int
+    position: int
+    size: int
     _fields_ = [
-        ("status", ctypes.c_uint32), ("kind", ctypes.c_uint32), ("position", ctypes.c_size_t), ("size", ctypes.c_size_t),
-    ]  # fmt: skip
+        ("status", ctypes.c_uint32),
+        ("kind", ctypes.c_uint32),
+        ("position", ctypes.c_size_t),
+        ("size", ctypes.c_size_t),
+    ]
 
 
 class _Node(ctypes.Structure):
+    kind: int
+    which: int
+    end: int
+    text: int
+    text_size: int
+    lo: int
+    hi: int
+    group: int
+    level: int
+    position: int
+    start: int
+    stop: int
+    newline: bool
+    crlf: bool
+    unicode: bool
+    casei: bool
+    greedy: bool
+    has_level: bool
     _fields_ = [
-        ("kind", ctypes.c_uint32), ("which", ctypes.c_uint32), ("end", ctypes.c_size_t), ("text", ctypes.c_size_t),
-        ("text_size", ctypes.c_size_t), ("lo", ctypes.c_size_t), ("hi", ctypes.c_size_t), ("group", ctypes.c_size_t),
-        ("level", ctypes.c_ssize_t), ("position", ctypes.c_size_t), ("start", ctypes.c_size_t), ("stop", ctypes.c_size_t),
-        ("newline", ctypes.c_bool), ("crlf", ctypes.c_bool), ("unicode", ctypes.c_bool), ("casei", ctypes.c_bool),
-        ("greedy", ctypes.c_bool), ("has_level", ctypes.c_bool),
-    ]  # fmt: skip
+        ("kind", ctypes.c_uint32),
+        ("which", ctypes.c_uint32),
+        ("end", ctypes.c_size_t),
+        ("text", ctypes.c_size_t),
+        ("text_size", ctypes.c_size_t),
+        ("lo", ctypes.c_size_t),
+        ("hi", ctypes.c_size_t),
+        ("group", ctypes.c_size_t),
+        ("level", ctypes.c_ssize_t),
+        ("position", ctypes.c_size_t),
+        ("start", ctypes.c_size_t),
+        ("stop", ctypes.c_size_t),
+        ("newline", ctypes.c_bool),
+        ("crlf", ctypes.c_bool),
+        ("unicode", ctypes.c_bool),
+        ("casei", ctypes.c_bool),
+        ("greedy", ctypes.c_bool),
+        ("has_level", ctypes.c_bool),
+    ]
 
 
 class _Name(ctypes.Structure):
-    _fields_ = [("text", ctypes.c_size_t), ("text_size", ctypes.c_size_t), ("group", ctypes.c_size_t)]
-
-
-class _Trivium(ctypes.Structure):
+    text: int
+    text_size: int
+    group: int
     _fields_ = [
-        ("start", ctypes.c_size_t), ("stop", ctypes.c_size_t), ("kind", ctypes.c_uint32), ("flags_before", ctypes.c_uint32),
-        ("flags_after", ctypes.c_uint32),
-    ]  # fmt: skip
+        ("text", ctypes.c_size_t),
+        ("text_size", ctypes.c_size_t),
+        ("group", ctypes.c_size_t),
+    ]
 
 
 class _Info(ctypes.Structure):
+    node_count: int
+    texts_size: int
+    name_count: int
+    backref_count: int
+    total_groups: int
+    out_of_range_backref: int
+    has_out_of_range_backref: bool
+    numeric_capture_group_references: bool
+    contains_subroutines: bool
+    self_recursive: bool
+    numbered_groups_ignored: bool
     _fields_ = [
-        ("node_count", ctypes.c_size_t), ("texts_size", ctypes.c_size_t), ("name_count", ctypes.c_size_t),
-        ("backref_count", ctypes.c_size_t), ("total_groups", ctypes.c_size_t), ("out_of_range_backref", ctypes.c_size_t),
-        ("has_out_of_range_backref", ctypes.c_bool), ("numeric_capture_group_references", ctypes.c_bool),
-        ("contains_subroutines", ctypes.c_bool), ("self_recursive", ctypes.c_bool),
+        ("node_count", ctypes.c_size_t),
+        ("texts_size", ctypes.c_size_t),
+        ("name_count", ctypes.c_size_t),
+        ("backref_count", ctypes.c_size_t),
+        ("total_groups", ctypes.c_size_t),
+        ("out_of_range_backref", ctypes.c_size_t),
+        ("has_out_of_range_backref", ctypes.c_bool),
+        ("numeric_capture_group_references", ctypes.c_bool),
+        ("contains_subroutines", ctypes.c_bool),
+        ("self_recursive", ctypes.c_bool),
         ("numbered_groups_ignored", ctypes.c_bool),
-    ]  # fmt: skip
+    ]
 
 
-_OK, _REFUSED, _NOT_UTF8, _OUT_OF_MEMORY, _BUFFER_TOO_SHORT, _NOT_PRINTABLE, _NO_PATTERN, _NO_TREE = range(8)
-_UNBOUNDED = ctypes.c_size_t(-1).value
+class _Trivium(ctypes.Structure):
+    start: int
+    stop: int
+    kind: int
+    flags_before: int
+    flags_after: int
+    _fields_ = [
+        ("start", ctypes.c_size_t),
+        ("stop", ctypes.c_size_t),
+        ("kind", ctypes.c_uint32),
+        ("flags_before", ctypes.c_uint32),
+        ("flags_after", ctypes.c_uint32),
+    ]
+
+
+_OK = 0
+_REFUSED = 1
+_NOT_UTF8 = 2
+_OUT_OF_MEMORY = 3
+_BUFFER_TOO_SHORT = 4
+_NOT_PRINTABLE = 5
+_NO_PATTERN = 6
+_NO_TREE = 7
+_UNKNOWN_STYLE = 8
+_BY_NUMBER = 1
+_BY_NAME = 2
+_RELATIVE = 3
 _MAJOR, _MINOR = 1, 4
+# ---- end of structs and statuses
+
+
+_UNBOUNDED = 2**64 - 1  #: `SIZE_MAX`
+
+
+def _file() -> str:
+    """The file of the library, or the name by which the loader looks for it."""
+    folder, name = os.path.dirname(os.path.abspath(__file__)), f"libfancy.so.{_MAJOR}"
+    beside = [os.path.join(folder, it) for it in (name, "libfancy.so", os.path.join("..", "c", "out", name))]
+    found = [os.environ.get("FANCY_LIBRARY", "")] + [it for it in beside if os.path.exists(it)] + [name]
+    return next(filter(None, found))
 
 
 def _load() -> ctypes.CDLL:
-    built = os.path.join(os.path.dirname(os.path.abspath(__file__)), "..", "c", "out", f"libfancy.so.{_MAJOR}")
-    name = os.environ.get("FANCY_LIBRARY") or (built if os.path.exists(built) else f"libfancy.so.{_MAJOR}")
+    name = _file()
     try:
         library = ctypes.CDLL(name)
     except OSError as error:
-        found = ctypes.util.find_library("fancy") if "FANCY_LIBRARY" not in os.environ else None
+        found = None if os.environ.get("FANCY_LIBRARY") else ctypes.util.find_library("fancy")
         if found is None:
             raise ImportError(f"the library libfancy cannot be loaded: {error}") from error
         library = ctypes.CDLL(found)
@@ -600,15 +786,33 @@ def _version() -> str:
 __version__ = _version()  #: of the library
 
 
-def _text(call: Callable[[Optional[ctypes.Array], int], _Result]) -> Tuple[_Result, bytes]:
-    """What a call returns, and the text that it writes, into a buffer that is large enough."""
+def _called(name: str, *arguments: object) -> _Result:
+    """What a call of the library returns."""
+    result: _Result = getattr(_library, name)(*arguments)
+    return result
+
+
+def _text(name: str, *arguments: object) -> Tuple[_Result, bytes]:
+    """What a call returns, and the text that it writes, into a buffer that is large enough: its last two arguments."""
     capacity = 256
     while True:
         buffer = ctypes.create_string_buffer(capacity)
-        got = call(buffer, capacity)
+        got = _called(name, *arguments, buffer, capacity)
         if got.status != _BUFFER_TOO_SHORT:
             return got, buffer.raw[: got.size]
         capacity = got.size
+
+
+def _member_of(kind: Type[_Kind], number: int) -> _Kind:
+    """The member of an enum whose number the library wrote. A library that is newer may have more."""
+    try:
+        return kind(number)
+    except ValueError:
+        raise _unknown(kind.__name__, number) from None
+
+
+def _unknown(what: str, number: int) -> RuntimeError:
+    return RuntimeError(f"libfancy {__version__} has the {what} {number}, which this module does not know")
 
 
 # ---- what a caller passes. ctypes cuts a number that is too large, so each is looked at before.
@@ -632,7 +836,7 @@ def _flags_given(flags: int) -> Flag:
     return Flag(number)
 
 
-def _member(kind: Type[enum.IntEnum], value: int) -> enum.IntEnum:
+def _member(kind: Type[_Kind], value: int) -> _Kind:
     """The member of an enum that was passed, as itself or as its number. That of another enum is a mistake."""
     if isinstance(value, enum.Enum) and not isinstance(value, kind):
         raise TypeError(f"{value!r} is no fancy.{kind.__name__}")
@@ -678,27 +882,27 @@ class _Source:
         return self.index(node.start), self.index(node.stop)
 
     def trivium(self, row: _Trivium) -> Trivium:
-        kind = TriviumKind(row.kind)
+        kind = _member_of(TriviumKind, row.kind)
         has_flags = kind in (TriviumKind.INLINE_FLAGS, TriviumKind.OPENING)
         before, after = (Flag(row.flags_before), Flag(row.flags_after)) if has_flags else (None, None)
         return Trivium(kind, self.span(row), (row.start, row.stop), before, after)
 
     def error(self, got: _Result, message: str) -> Error:
-        kind = ErrorKind(got.kind)
+        kind = _member_of(ErrorKind, got.kind)
         return Error(self.pattern, kind, message, self.index(got.position), got.position)
 
     def refusal(self) -> Optional[Error]:
         """The error of the pattern, if it has one."""
-        got, message = _text(lambda buffer, capacity: _library.fancy_message(*self.arguments, buffer, capacity))
+        got, message = _text("fancy_message", *self.arguments)
         if got.status == _OK:
             return None
         if got.status == _OUT_OF_MEMORY:
             raise MemoryError
         return self.error(got, message.decode() if got.status == _REFUSED else ErrorKind.NOT_UTF8.text)
 
-    def text(self, call: Callable[[Optional[ctypes.Array], int], _Result]) -> Tuple[int, str]:
+    def text(self, name: str, *arguments: object) -> Tuple[int, str]:
         """The status of a call, and the text that it writes. Raises the error of a pattern that is not valid."""
-        got, text = _text(call)
+        got, text = _text(name, *self.arguments, *arguments)
         if got.status == _OUT_OF_MEMORY:
             raise MemoryError
         if got.status in (_REFUSED, _NOT_UTF8):
@@ -716,15 +920,18 @@ class _Builder:
         """The node of the first row, with all the others below it."""
         apart: List[Tuple[int, Node]] = []  # nodes without a parent as yet, with their indices, the first on top
         for at in range(len(self.rows) - 1, -1, -1):
-            row, children = self.rows[at], []
+            row = self.rows[at]
+            children: List[Node] = []
             while apart and apart[-1][0] < row.end:
                 children.append(apart.pop()[1])
-            kind = _KINDS[row.kind - 1]
+            kind = _KINDS.get(row.kind)
+            if kind is None:
+                raise _unknown("kind of node", row.kind)
             fields = self.fields(row, kind)
             apart.append((at, kind(self.source.span(row), (row.start, row.stop), tuple(children), *fields)))
         return apart[0][1]
 
-    def fields(self, row: _Node, kind: Type[Node]) -> tuple:
+    def fields(self, row: _Node, kind: Type[Node]) -> Tuple[object, ...]:
         """The fields that a node has beside those of each, in order."""
         text = self.texts[row.text : row.text + row.text_size]
         if kind is Group:
@@ -738,11 +945,11 @@ class _Builder:
         if kind is Any:
             return row.newline, row.crlf
         if kind is Assertion:
-            return AssertionKind(row.which), row.crlf
+            return _member_of(AssertionKind, row.which), row.crlf
         if kind is GeneralNewline:
             return (row.unicode,)
         if kind in _WHICH:
-            return (_WHICH[kind](row.which),)
+            return (_member_of(_WHICH[kind], row.which),)
         if kind is Backref:
             return row.group, row.casei
         if kind is BackrefAtLevel:
@@ -752,9 +959,18 @@ class _Builder:
         if kind is SubroutineCall:
             return (row.group,)
         if kind is AstNode:
-            target = (row.group, text.decode(), Relative(row.level))[row.which - 1]
-            return target, self.source.index(row.position), row.position
+            return self.target(row, text), self.source.index(row.position), row.position
         return ()
+
+    def target(self, row: _Node, text: bytes) -> Union[int, str, Relative]:
+        """What an unresolved call names."""
+        if row.which == _BY_NUMBER:
+            return row.group
+        if row.which == _BY_NAME:
+            return text.decode()
+        if row.which == _RELATIVE:
+            return Relative(row.level)
+        raise _unknown("kind of target", row.which)
 
 
 class _Rows:
@@ -775,7 +991,7 @@ class _Rows:
                 rows.append(self.row(node))
         self.nodes = (_Node * len(rows))(*rows)
 
-    def arguments(self) -> tuple:
+    def arguments(self) -> Tuple[object, ...]:
         return self.nodes, len(self.nodes), bytes(self.texts), len(self.texts), 0
 
     def text(self, text: Union[str, bytes]) -> Dict[str, int]:
@@ -783,7 +999,7 @@ class _Rows:
         self.texts += text.encode() if isinstance(text, str) else text
         return {"text": start, "text_size": len(self.texts) - start}
 
-    def names(self, named: Dict[str, Tuple[int, ...]]) -> ctypes.Array:
+    def names(self, named: Mapping[str, Tuple[int, ...]]) -> ctypes.Array[_Name]:
         pairs = [(name, number) for name, numbers in named.items() for number in numbers]
         names = [_Name(group=_number(f"a group of the name {name!r}", it), **self.text(name)) for name, it in pairs]
         return (_Name * len(names))(*names)
@@ -808,7 +1024,7 @@ class _Rows:
             row.has_level, row.level = node.level is not None, _signed(f"{kind}.level", node.level or 0)
         elif isinstance(node, AstNode):
             row.position, target = _number(f"{kind}.byte_position", node.byte_position), node.target
-            row.which = 1 if isinstance(target, int) else 2 if isinstance(target, str) else 3
+            row.which = _BY_NUMBER if isinstance(target, int) else _BY_NAME if isinstance(target, str) else _RELATIVE
             row.group = _number(f"{kind}.target", target) if isinstance(target, int) else 0
             row.level = _signed(f"{kind}.target", target.number) if isinstance(target, Relative) else 0
             text = target if isinstance(target, str) else b""
@@ -820,7 +1036,7 @@ class _Rows:
 _WHICH: Dict[Type[Node], Type[enum.IntEnum]] = {LookAround: LookKind, Verb: VerbKind, Absent: AbsentKind}
 
 
-def _named_groups(names: ctypes.Array, texts: bytes) -> Dict[str, Tuple[int, ...]]:
+def _named_groups(names: Sequence[_Name], texts: bytes) -> Dict[str, Tuple[int, ...]]:
     named: Dict[str, Tuple[int, ...]] = {}
     for row in names:
         name = texts[row.text : row.text + row.text_size].decode()
@@ -838,8 +1054,8 @@ def parse(pattern: Pattern, flags: int = UNICODE) -> Tree:
     count = 2 * len(source.bytes) + 1
     nodes, names, backrefs = (_Node * count)(), (_Name * count)(), (ctypes.c_size_t * count)()
     texts = ctypes.create_string_buffer(6 * len(source.bytes) + 128)
-    got = _library.fancy_tree(
-        *source.arguments, nodes, count, texts, len(texts), names, count, backrefs, count, ctypes.byref(info)
+    got = _called(
+        "fancy_tree", *source.arguments, nodes, count, texts, len(texts), names, count, backrefs, count, ctypes.byref(info)
     )
     if got.status == _OUT_OF_MEMORY:
         raise MemoryError
@@ -876,7 +1092,7 @@ def trivia(pattern: Pattern, flags: int = UNICODE) -> Tuple[Trivium, ...]:
     source, count = _Source(pattern, flags), ctypes.c_size_t()
     capacity = len(source.bytes) + 1
     rows = (_Trivium * capacity)()
-    got = _library.fancy_trivia(*source.arguments, rows, capacity, ctypes.byref(count))
+    got = _called("fancy_trivia", *source.arguments, rows, capacity, ctypes.byref(count))
     if got.status == _OUT_OF_MEMORY:
         raise MemoryError
     if got.status != _OK:
@@ -912,12 +1128,8 @@ def format(pattern: Pattern, flags: int = UNICODE, style: Optional[Style] = None
         number, columns = _member(Style, style), min(operator.index(width), _UNBOUNDED)
         if columns < 0:
             raise ValueError("a width is not negative")
-        return source.text(
-            lambda buffer, capacity: _library.fancy_format(*source.arguments, number, columns, buffer, capacity)
-        )[1]
-    status, text = source.text(
-        lambda buffer, capacity: _library.fancy_pattern(*source.arguments, buffer, capacity)
-    )
+        return source.text("fancy_format", number, columns)[1]
+    status, text = source.text("fancy_pattern")
     if status == _NO_PATTERN:
         raise RuntimeError("what is written for the tree does not parse back as it")
     return text
@@ -927,9 +1139,7 @@ def normal_form(pattern: Pattern, flags: int = UNICODE, precedence: int = Preced
     """Returns a text that is parsed as the normal form of a pattern's tree, or None if the tree is not printable: references,
     look-arounds, atomic groups, calls and the like have no text here. Raises `Error` if the pattern is invalid."""
     source, number = _Source(pattern, flags), _member(Precedence, precedence)
-    status, text = source.text(
-        lambda buffer, capacity: _library.fancy_print(*source.arguments, number, buffer, capacity)
-    )
+    status, text = source.text("fancy_print", number)
     return None if status == _NOT_PRINTABLE else text
 
 

@@ -7,6 +7,12 @@
 - In property lists, JSON (with comments or without) and YAML it finds the texts under the keys of TextMate's grammars and
   Sublime's syntaxes, and under those that `--keys` names.
 
+A program calls `records` with the name of a file and its content:
+
+    >>> from fancy_extract import records
+    >>> [(it["column"], it["pattern"]) for it in records("a.py", b"import re; re.compile('a+')")]
+    [(24, 'a+')]
+
 The library libfancy is not needed. YAML is read by PyYAML, if that is installed. Python 3.8 or later.
 """
 
@@ -15,6 +21,7 @@ from __future__ import annotations
 import argparse
 import ast
 import bisect
+import importlib
 import itertools
 import json
 import os
@@ -27,6 +34,8 @@ import warnings
 import xml.parsers.expat
 from dataclasses import dataclass
 from typing import Any, Callable, Dict, Iterator, List, Optional, Sequence, Set, Tuple
+
+__all__ = ["GRAMMAR_KEYS", "ExtractError", "main", "records"]
 
 _LETTERS = "imsUxuRon"  # of the flags, as `patterns --flags` takes them
 
@@ -366,7 +375,8 @@ def _rust_flags(source: str, at: int) -> str:
 
 def find_in_rust(content: bytes, _keys: Set[str]) -> Tuple[Source, List[Found]]:
     """The patterns of a source file of Rust."""
-    source, found, at, argument = Source(content), [], 0, -1
+    source, at, argument = Source(content), 0, -1
+    found: List[Found] = []
     while True:
         token = _RUST_TOKEN.search(source.text, at)
         if token is None:
@@ -584,7 +594,7 @@ def _yaml_variables(root: Any, yaml: Any) -> Dict[str, str]:
 def find_in_yaml(content: bytes, keys: Set[str]) -> Tuple[Source, List[Found]]:
     """The patterns of a file of YAML."""
     try:
-        import yaml
+        yaml: Any = importlib.import_module("yaml")
     except ImportError as error:
         raise ExtractError("PyYAML, which reads YAML, is not installed") from error
     source, found = Source(content), []
@@ -596,7 +606,8 @@ def find_in_yaml(content: bytes, keys: Set[str]) -> Tuple[Source, List[Found]]:
         raise ExtractError(message, *((mark.line + 1, mark.column + 1) if mark else ())) from error
     except (yaml.YAMLError, RecursionError) as error:
         raise ExtractError("the file is not valid YAML") from error
-    variables, scalars, uses = _yaml_variables(root, yaml), [], {}
+    variables, scalars = _yaml_variables(root, yaml), []
+    uses: Dict[int, int] = {}
     ahead, seen = [(root, False)], set()
     while ahead:
         node, is_flow = ahead.pop()
@@ -632,7 +643,9 @@ _FINDERS: Dict[str, _Finder] = {
 
 
 def records(file: str, content: bytes, keys: Sequence[str] = ()) -> Iterator[Dict[str, Any]]:
-    """The records of the patterns of a file, in the order of the text. `keys` are names of keys beside those of grammars."""
+    """The records of the patterns of a file, in the order of the text: what `python -m fancy extract` writes as JSON. The name of
+    the file says what it is. `keys` are names of keys beside `GRAMMAR_KEYS`. Raises `ExtractError` if the patterns cannot be found.
+    """
     finder = _FINDERS.get(os.path.splitext(file)[1].lower())
     if finder is None:
         raise ExtractError(f"patterns are found in files whose names end with {', '.join(sorted(_FINDERS))}")

@@ -1,12 +1,12 @@
-//! Finds libfancy: in the folder `FANCY_LIB_DIR`, or else where pkg-config says, or else in `../c/out`. A library that is too old for
-//! the crate is refused, if its version can be found out.
+//! Finds libfancy: in the folder `FANCY_LIB_DIR`, or else where pkg-config says, or else in `../c/out`. A relative `FANCY_LIB_DIR` begins
+//! in the folder where cargo runs. A library that is too old for the crate is refused, if its version can be found out.
 use std::path::{Path, PathBuf};
 use std::process::{exit, Command};
 use std::{env, fs};
 
-#[allow(dead_code)]
 #[path = "src/numbers.rs"]
 mod numbers;
+#[allow(dead_code)]
 #[path = "src/version.rs"]
 mod version;
 
@@ -35,11 +35,30 @@ fn main() {
 
 /// Where the library may be. If `FANCY_LIB_DIR` is set, nothing else is tried.
 fn folders() -> Vec<PathBuf> {
-    if let Some(folder) = env::var_os("FANCY_LIB_DIR") {
-        return vec![absolute(Path::new(&folder))];
+    if let Some(folder) = given() {
+        return vec![absolute(&folder)];
     }
     let built = env::var_os("CARGO_MANIFEST_DIR").map(|folder| absolute(&Path::new(&folder).join("../c/out")));
     from_pkg_config().into_iter().chain(built).collect()
+}
+
+/// The folder that `FANCY_LIB_DIR` names. If it is relative, it is looked for again where cargo runs in another folder.
+fn given() -> Option<PathBuf> {
+    let folder = PathBuf::from(env::var_os("FANCY_LIB_DIR")?);
+    if folder.is_absolute() {
+        return Some(folder);
+    }
+    println!("cargo:rerun-if-env-changed=PWD");
+    Some(folder_of_cargo().unwrap_or_default().join(folder))
+}
+
+/// The folder in which cargo runs. This script runs in that of the package, and cargo is its parent.
+fn folder_of_cargo() -> Option<PathBuf> {
+    #[cfg(unix)]
+    if let Ok(folder) = fs::read_link(format!("/proc/{}/cwd", std::os::unix::process::parent_id())) {
+        return Some(folder);
+    }
+    env::var_os("PWD").map(PathBuf::from)
 }
 
 /// The folder that `fancy.pc` names. Unlike `--libs-only-L` this is also said of a folder that the linker knows anyway.
@@ -95,11 +114,10 @@ fn absolute(folder: &Path) -> PathBuf {
 }
 
 fn advice(file: &str) -> String {
-    match env::var_os("FANCY_LIB_DIR") {
-        Some(folder) => format!(
-            "there is no {file} in {}: set FANCY_LIB_DIR to the folder that contains it",
-            Path::new(&folder).display()
-        ),
+    match given() {
+        Some(folder) => {
+            format!("there is no {file} in {}: set FANCY_LIB_DIR to the folder that contains it", folder.display())
+        }
         None => format!(
             "{file} was not found: build it with `make -C c` at the top of the repository, or set FANCY_LIB_DIR to the \
              folder that contains it"

@@ -1,12 +1,15 @@
 //! Does one thing with each pattern of a corpus, so that its cost can be counted: `count MODE FILE`, where a line of the file begins with flags and a
-//! pattern in hexadecimal, as in `crates/bench/data`. `tools/speed-rust` runs it. What is returned is dropped, except in the modes whose names begin
-//! with `kept`.
+//! pattern in hexadecimal, as in `crates/conformance/data`. `tools/speed rust` runs it. What is returned is dropped, except in the modes whose names
+//! begin with `kept`.
 use fancy_syntax::{check, parse, parse_without_spans, Flags, Rows};
+
+#[path = "../src/numbers.rs"]
+mod numbers;
 
 /// The flags and the pattern of a line.
 fn read(line: &str) -> Option<(Flags, String)> {
     let mut fields = line.split('\t');
-    let bit = |letter| "imsUxuRon".find(letter).map(|bit| 1 << bit);
+    let bit = |letter| numbers::FLAG_LETTERS.find(letter).map(|bit| 1 << bit);
     let bits = fields.next()?.chars().filter_map(bit).sum();
     let digits = fields.next()?.trim_matches('-');
     let byte = |at| u8::from_str_radix(digits.get(at..at + 2)?, 16).ok();

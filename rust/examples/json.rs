@@ -69,6 +69,8 @@ fn kind(node: &Expr) -> &'static str {
         Expr::Absent(_) => "Absent",
         Expr::DefineGroup { .. } => "DefineGroup",
         Expr::AstNode(..) => "AstNode",
+        // a later version of the crate may have more
+        _ => "Unknown",
     }
 }
 
@@ -100,6 +102,7 @@ fn write_fields(node: &Expr, f: &mut Formatter<'_>) -> Result {
                 Absent::Expression { .. } => "Expression",
                 Absent::Stopper(_) => "Stopper",
                 Absent::Clear => "Clear",
+                _ => "Unknown",
             };
             write!(f, r#","which":"{which}""#)
         }
@@ -108,6 +111,7 @@ fn write_fields(node: &Expr, f: &mut Formatter<'_>) -> Result {
                 CaptureGroupTarget::ByNumber(group) => write!(f, r#","group":{group}"#)?,
                 CaptureGroupTarget::ByName(name) => write!(f, r#","name":{}"#, Quoted(name))?,
                 CaptureGroupTarget::Relative(distance) => write!(f, r#","relative":{distance}"#)?,
+                _ => {}
             }
             write!(f, r#","position":{position}"#)
         }

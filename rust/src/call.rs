@@ -54,6 +54,11 @@ pub(crate) fn ready() -> Result<(), Error> {
     }
 }
 
+/// Whether the library is newer than this crate, so that it may return numbers that the crate has no names for.
+pub(crate) fn is_newer() -> bool {
+    version::is_newer(version::parts(ffi::version()))
+}
+
 /// Makes a call with a buffer for a text, and once more with a longer one if the first is too short. There is a text if the
 /// call returns this status.
 pub(crate) fn written(

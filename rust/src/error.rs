@@ -1,10 +1,12 @@
 //! Why a pattern has no tree.
 
+use crate::call::is_newer;
 use crate::ffi::CallResult;
-use crate::numbers;
+use crate::{numbers, ParseError};
 use std::fmt;
 
-/// Why a call has no result.
+/// Why a call has no result. A later version of the crate may have more reasons, so a `match` needs an arm for others; this is
+/// so for each enum that may grow.
 #[derive(Debug, Clone, PartialEq, Eq)]
 #[non_exhaustive]
 pub enum Error {
@@ -25,47 +27,17 @@ pub enum Error {
         /// The version of the library: major, minor and patch.
         found: (u32, u32, u32),
     },
+    /// The library is newer than the crate, and returned a number that the crate has no name for. What it numbers, such as a
+    /// kind of node, is in words. A kind of error that is new is [`ParseError::Unknown`] instead.
+    Unknown {
+        /// What it is the number of.
+        what: &'static str,
+        /// The number.
+        number: u32,
+    },
     /// The library returned what `fancy.h` rules out, which the text says. libfancy never does: what is linked is something
     /// else.
     Library(&'static str),
-}
-
-/// What is wrong with a pattern, under the names of fancy-regex. `Display` writes the message, without the position.
-#[derive(Debug, Clone, PartialEq, Eq)]
-#[non_exhaustive]
-pub enum ParseError {
-    /// Something else than what the other kinds say: `a)`. With the rest of the message.
-    GeneralParseError(String),
-    /// A group is not closed: `(a`.
-    UnclosedOpenParen,
-    /// It is never returned: braces that are not a quantifier are literals.
-    InvalidRepeat,
-    /// Groups nest 64 deep, or too many quantifiers follow one another in Oniguruma mode.
-    RecursionExceeded,
-    /// A backslash at the end: `a\`.
-    TrailingBackslash,
-    /// An escape that does not exist: `\q`. With the escape.
-    InvalidEscape(String),
-    /// A property that is not closed: `\p{L`.
-    UnclosedUnicodeName,
-    /// No digits where an escape needs them: `\xg`.
-    InvalidHex,
-    /// A number that no character has: `\u{D800}`.
-    InvalidCodepointValue,
-    /// A class that is not closed, or that cannot be read: `[a`.
-    InvalidClass,
-    /// A flag that does not exist: `(?q)`. With the text from `(?` through the flag.
-    UnknownFlag(String),
-    /// `(?u)` without [`Flags::UNICODE`](crate::Flags::UNICODE), or `(?-u)` with it.
-    ChangingUnicodeModeUnsupported,
-    /// A reference to a group that does not exist: `\k<n>`.
-    InvalidBackref,
-    /// A quantifier without an operand, or after something that cannot be repeated: `a**`.
-    TargetNotRepeatable,
-    /// The name of a group cannot be read: `(?<a`.
-    InvalidGroupName,
-    /// A reference to a name whose group opens after it: `\k<n>(?<n>a)`. With the name.
-    InvalidGroupNameBackref(String),
 }
 
 impl Error {
@@ -78,7 +50,7 @@ impl Error {
     pub fn position(&self) -> Option<usize> {
         match self {
             Error::ParseError(position, _) => Some(*position),
-            Error::OutOfMemory | Error::Version { .. } | Error::Library(_) => None,
+            _ => None,
         }
     }
 
@@ -94,7 +66,7 @@ impl Error {
     pub fn kind(&self) -> Option<&ParseError> {
         match self {
             Error::ParseError(_, kind) => Some(kind),
-            Error::OutOfMemory | Error::Version { .. } | Error::Library(_) => None,
+            _ => None,
         }
     }
 
@@ -109,15 +81,34 @@ impl Error {
                 Ok(kind) => Error::ParseError(result.position, kind),
                 Err(error) => error,
             },
+            _ => Error::of_status(result.status),
+        }
+    }
+
+    /// The error for a status that says nothing of the pattern.
+    #[cold]
+    pub(crate) fn of_status(status: u32) -> Error {
+        match status {
             numbers::STATUS_OUT_OF_MEMORY => Error::OutOfMemory,
+            _ if status > numbers::LAST_STATUS => Error::unknown("a status", status),
             _ => Error::Library("a status that the call does not have"),
+        }
+    }
+
+    /// The error for a number that the crate has no name for: one of a newer library, or what `fancy.h` rules out.
+    #[cold]
+    pub(crate) fn unknown(what: &'static str, number: u32) -> Error {
+        if is_newer() {
+            Error::Unknown { what, number }
+        } else {
+            Error::Library("a number that nothing has")
         }
     }
 }
 
 impl ParseError {
     /// The part of the message that depends on the pattern, such as `\q` in `Invalid escape: \q`; `None` for the kinds whose
-    /// message is always the same.
+    /// message is always the same. Of a kind that the crate has no name for it is the whole message.
     ///
     /// ```
     /// # use fancy_syntax::{check, Flags};
@@ -125,25 +116,19 @@ impl ParseError {
     /// assert_eq!(error.kind().unwrap().text(), Some(r"\q"));
     /// ```
     pub fn text(&self) -> Option<&str> {
-        match self {
-            ParseError::GeneralParseError(text)
-            | ParseError::InvalidEscape(text)
-            | ParseError::UnknownFlag(text)
-            | ParseError::InvalidGroupNameBackref(text) => Some(text),
-            _ => None,
-        }
+        self.carried().map(String::as_str)
     }
 
     fn of(kind: u32, message: Option<&[u8]>) -> Result<ParseError, Error> {
         let message = message.ok_or(Error::Library("a text that is longer than its buffer"))?;
         let message = std::str::from_utf8(message).map_err(|_| Error::Library("a text that is not UTF-8"))?;
-        let mut error = ParseError::numbered(kind).ok_or(Error::Library("a kind of error without a name"))?;
-        let before = error.before_text();
-        if let ParseError::GeneralParseError(text)
-        | ParseError::InvalidEscape(text)
-        | ParseError::UnknownFlag(text)
-        | ParseError::InvalidGroupNameBackref(text) = &mut error
-        {
+        let mut error = match ParseError::numbered(kind) {
+            Some(error) => error,
+            None if is_newer() => ParseError::Unknown(kind, String::new()),
+            None => return Err(Error::Library("a kind of error without a name")),
+        };
+        let before = error.words();
+        if let Some(text) = error.carried_mut() {
             *text = message
                 .strip_prefix(before)
                 .ok_or(Error::Library("a message that does not begin as its kind does"))?
@@ -151,56 +136,11 @@ impl ParseError {
         }
         Ok(error)
     }
-
-    /// The kind with a number, without the text that depends on the pattern.
-    fn numbered(kind: u32) -> Option<ParseError> {
-        Some(match kind {
-            numbers::ERROR_GENERAL_PARSE_ERROR => ParseError::GeneralParseError(String::new()),
-            numbers::ERROR_UNCLOSED_OPEN_PAREN => ParseError::UnclosedOpenParen,
-            numbers::ERROR_INVALID_REPEAT => ParseError::InvalidRepeat,
-            numbers::ERROR_RECURSION_EXCEEDED => ParseError::RecursionExceeded,
-            numbers::ERROR_TRAILING_BACKSLASH => ParseError::TrailingBackslash,
-            numbers::ERROR_INVALID_ESCAPE => ParseError::InvalidEscape(String::new()),
-            numbers::ERROR_UNCLOSED_UNICODE_NAME => ParseError::UnclosedUnicodeName,
-            numbers::ERROR_INVALID_HEX => ParseError::InvalidHex,
-            numbers::ERROR_INVALID_CODEPOINT_VALUE => ParseError::InvalidCodepointValue,
-            numbers::ERROR_INVALID_CLASS => ParseError::InvalidClass,
-            numbers::ERROR_UNKNOWN_FLAG => ParseError::UnknownFlag(String::new()),
-            numbers::ERROR_CHANGING_UNICODE_MODE_UNSUPPORTED => ParseError::ChangingUnicodeModeUnsupported,
-            numbers::ERROR_INVALID_BACKREF => ParseError::InvalidBackref,
-            numbers::ERROR_TARGET_NOT_REPEATABLE => ParseError::TargetNotRepeatable,
-            numbers::ERROR_INVALID_GROUP_NAME => ParseError::InvalidGroupName,
-            numbers::ERROR_INVALID_GROUP_NAME_BACKREF => ParseError::InvalidGroupNameBackref(String::new()),
-            _ => return None,
-        })
-    }
-
-    /// The message up to the text that depends on the pattern; a unit test compares it with `fancy_error_text`.
-    fn before_text(&self) -> &'static str {
-        match self {
-            ParseError::GeneralParseError(_) => "General parsing error: ",
-            ParseError::UnclosedOpenParen => "Opening parenthesis without closing parenthesis",
-            ParseError::InvalidRepeat => "Invalid repeat syntax",
-            ParseError::RecursionExceeded => "Pattern too deeply nested",
-            ParseError::TrailingBackslash => "Backslash without following character",
-            ParseError::InvalidEscape(_) => "Invalid escape: ",
-            ParseError::UnclosedUnicodeName => "Unicode escape not closed",
-            ParseError::InvalidHex => "Invalid hex escape",
-            ParseError::InvalidCodepointValue => "Invalid codepoint for hex or unicode escape",
-            ParseError::InvalidClass => "Invalid character class",
-            ParseError::UnknownFlag(_) => "Unknown group flag: ",
-            ParseError::ChangingUnicodeModeUnsupported => "Changing Unicode mode inline is not supported",
-            ParseError::InvalidBackref => "Invalid back reference",
-            ParseError::TargetNotRepeatable => "Target of repeat operator is invalid",
-            ParseError::InvalidGroupName => "Could not parse group name",
-            ParseError::InvalidGroupNameBackref(_) => "Invalid group name in back reference: ",
-        }
-    }
 }
 
 impl fmt::Display for ParseError {
     fn fmt(&self, f: &mut fmt::Formatter<'_>) -> fmt::Result {
-        f.write_str(self.before_text())?;
+        f.write_str(self.words())?;
         f.write_str(self.text().unwrap_or_default())
     }
 }
@@ -216,6 +156,9 @@ impl fmt::Display for Error {
                 f,
                 "libfancy {found_major}.{found_minor}.{patch} is linked, and version {major}.{minor} or a later {major} is needed"
             ),
+            Error::Unknown { what, number } => {
+                write!(f, "libfancy is newer than this crate, and returned {what} that it does not know: {number}")
+            }
             Error::Library(what) => write!(f, "libfancy returned what its header rules out: {what}"),
         }
     }
@@ -236,7 +179,7 @@ mod tests {
         for number in 0..100 {
             let size = ffi::error_text(number, &mut buffer).size;
             let kind = ParseError::numbered(number);
-            let before = kind.as_ref().map_or("", ParseError::before_text);
+            let before = kind.as_ref().map_or("", ParseError::words);
             assert_eq!(before.as_bytes(), &buffer[..size], "{number}");
         }
     }

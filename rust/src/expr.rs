@@ -1,11 +1,14 @@
 //! The types of trees, and the functions on them.
 
+use crate::{Assertion, BacktrackingControlVerb, LookAround};
+
 /// A node of a tree, with its children, under the names of fancy-regex 0.20.0. Each variant is documented with a pattern that
 /// is parsed as one.
 ///
 /// Trees can be built and changed by hand, and then need not be the tree of any pattern. Dropping, cloning, comparing and
 /// formatting a tree recurse into it. The tree of a pattern has at most 832 levels.
 #[derive(Debug, Clone, PartialEq, Eq)]
+#[non_exhaustive]
 pub enum Expr {
     /// The empty pattern, also as `(?:)`: matches the empty text.
     Empty,
@@ -119,6 +122,7 @@ pub enum Expr {
 
 /// What a reference names.
 #[derive(Debug, Clone, PartialEq, Eq)]
+#[non_exhaustive]
 pub enum CaptureGroupTarget {
     /// A group by its number.
     ByNumber(usize),
@@ -130,6 +134,7 @@ pub enum CaptureGroupTarget {
 
 /// A node before its references are resolved. Each counts as a leaf. In the tree of a pattern only `SubroutineCall` occurs.
 #[derive(Debug, Clone, PartialEq, Eq)]
+#[non_exhaustive]
 pub enum AstNode {
     /// A capturing group.
     AstGroup {
@@ -158,91 +163,23 @@ pub enum AstNode {
     },
 }
 
-/// Which look-around a [`LookAround`](Expr::LookAround) is.
-#[derive(Debug, Clone, Copy, PartialEq, Eq)]
-pub enum LookAround {
-    /// `(?=a)`
-    LookAhead,
-    /// `(?!a)`
-    LookAheadNeg,
-    /// `(?<=a)`
-    LookBehind,
-    /// `(?<!a)`
-    LookBehindNeg,
-}
-
 /// Oniguruma's absent forms, each about what the text must not contain.
 #[derive(Debug, Clone, PartialEq, Eq)]
+#[non_exhaustive]
 pub enum Absent {
-    /// `(?~a)`: any text that does not contain a match of the child.
+    /// An [`AbsentKind::Repeater`](crate::AbsentKind::Repeater), with its child.
     Repeater(Box<Expr>),
-    /// `(?~|a|b)`: a match of the second in a text that does not contain a match of the first.
+    /// An [`AbsentKind::Expression`](crate::AbsentKind::Expression), with its children.
     Expression {
         /// What the text must not contain.
         absent: Box<Expr>,
         /// What the text must match.
         exp: Box<Expr>,
     },
-    /// `(?~|a)`: from here on the text must not contain a match of the child.
+    /// An [`AbsentKind::Stopper`](crate::AbsentKind::Stopper), with its child.
     Stopper(Box<Expr>),
-    /// `(?~|)`: ends the effect of a stopper.
+    /// An [`AbsentKind::Clear`](crate::AbsentKind::Clear).
     Clear,
-}
-
-/// Which verb a [`BacktrackingControlVerb`](Expr::BacktrackingControlVerb) is.
-#[derive(Debug, Clone, Copy, PartialEq, Eq)]
-pub enum BacktrackingControlVerb {
-    /// `(*FAIL)`
-    Fail,
-    /// `(*ACCEPT)`
-    Accept,
-    /// `(*COMMIT)`
-    Commit,
-    /// `(*SKIP)`
-    Skip,
-    /// `(*PRUNE)`
-    Prune,
-}
-
-/// Which assertion an [`Assertion`](Expr::Assertion) is.
-#[derive(Debug, Clone, Copy, PartialEq, Eq)]
-pub enum Assertion {
-    /// `\A`, or `^` without [`Flags::MULTI`](crate::Flags::MULTI).
-    StartText,
-    /// `\z`, or `$` without [`Flags::MULTI`](crate::Flags::MULTI).
-    EndText,
-    /// `\Z`
-    EndTextIgnoreTrailingNewlines {
-        /// Whether CR is a line terminator too, and CR LF a single one.
-        crlf: bool,
-    },
-    /// `^` with [`Flags::MULTI`](crate::Flags::MULTI).
-    StartLine {
-        /// Whether CR is a line terminator too, and CR LF a single one.
-        crlf: bool,
-    },
-    /// `^` with [`Flags::MULTI`](crate::Flags::MULTI) in Oniguruma mode.
-    StartLineOniguruma {
-        /// Whether CR is a line terminator too, and CR LF a single one.
-        crlf: bool,
-    },
-    /// `$` with [`Flags::MULTI`](crate::Flags::MULTI).
-    EndLine {
-        /// Whether CR is a line terminator too, and CR LF a single one.
-        crlf: bool,
-    },
-    /// `\<`, `\b{start}`
-    LeftWordBoundary,
-    /// `\b{start-half}`
-    LeftWordHalfBoundary,
-    /// `\>`, `\b{end}`
-    RightWordBoundary,
-    /// `\b{end-half}`
-    RightWordHalfBoundary,
-    /// `\b`
-    WordBoundary,
-    /// `\B`
-    NotWordBoundary,
 }
 
 /// The children of a node, in the order of the pattern: [`Expr::children_iter`].

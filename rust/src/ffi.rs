@@ -1,4 +1,4 @@
-//! The calls of `fancy.h`, version 1.4. This is the only file of the crate with `unsafe` code.
+//! The calls of `fancy.h`. This is the only file of the crate with `unsafe` code.
 //!
 //! What is called are the proved functions, whose names end in `_nonnull`: they take no null pointer, and a slice never
 //! has one.

@@ -20,6 +20,7 @@ use std::ops::{BitAnd, BitOr, BitOrAssign, Sub};
 pub struct Flags(u32);
 
 impl Flags {
+    // ---- constants: made by tools/bindings from include/fancy.toml
     /// Case-insensitive.
     pub const CASEI: Flags = Flags(numbers::FLAG_CASEI);
     /// `^` and `$` match at line breaks too.
@@ -28,9 +29,9 @@ impl Flags {
     pub const DOTNL: Flags = Flags(numbers::FLAG_DOTNL);
     /// Quantifiers are lazy, and greedy with a `?` after them.
     pub const SWAP_GREED: Flags = Flags(numbers::FLAG_SWAP_GREED);
-    /// Whitespace, and comments from `#` to the end of a line, are ignored.
+    /// Whitespace and comments from `#` to the end of a line are ignored.
     pub const IGNORE_SPACE: Flags = Flags(numbers::FLAG_IGNORE_SPACE);
-    /// `\p{alnum}` and the like, `\x80` to `\xFF`, and `\R` are those of Unicode.
+    /// `\p{alnum}` and the like, `\x80` to `\xFF` and `\R` are those of Unicode.
     pub const UNICODE: Flags = Flags(numbers::FLAG_UNICODE);
     /// CR is a line terminator too, and CR LF a single one.
     pub const CRLF: Flags = Flags(numbers::FLAG_CRLF);
@@ -51,6 +52,7 @@ impl Flags {
         "ONIGURUMA_MODE",
         "IGNORE_NUMBERED_GROUPS_WHEN_NAMED_GROUPS_EXIST",
     ];
+    // ---- end of constants
 
     /// No flag.
     ///

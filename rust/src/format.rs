@@ -5,6 +5,7 @@ use crate::{error_of, ffi, numbers, Error, Flags};
 
 /// How [`format_pattern`] lays out a pattern.
 #[derive(Debug, Clone, Copy, PartialEq, Eq, Hash)]
+#[non_exhaustive]
 pub enum Style {
     /// As it is: its lines stay, with their indentation.
     Kept,

@@ -25,8 +25,9 @@
 //!   for a tree that may have been changed, and [`NodeRef::print`] for a part of one.
 //!
 //! Positions and spans are byte offsets. The functions may be called in several threads at once. What the library returns is
-//! checked. A library that is too old for the crate is an error ([`Error::Version`]), and so is one that is something else than
-//! libfancy ([`Error::Library`]); neither is a panic.
+//! checked. A library that is too old for the crate is an error ([`Error::Version`]), and so are a number of a newer library that
+//! the crate has no name for ([`Error::Unknown`]) and a library that is something else than libfancy ([`Error::Library`]); none is
+//! a panic.
 
 #![warn(missing_docs, missing_debug_implementations)]
 #![deny(unsafe_code, unsafe_op_in_unsafe_fn)]
@@ -38,6 +39,7 @@ mod expr;
 mod ffi;
 mod flags;
 mod format;
+mod kinds;
 mod node;
 mod numbers;
 mod owned;
@@ -48,12 +50,12 @@ mod trivia;
 mod version;
 mod written;
 
-pub use error::{Error, ParseError};
-pub use expr::{Absent, Assertion, AstNode, BacktrackingControlVerb, CaptureGroupTarget, Expr, LookAround};
-pub use expr::{ExprChildrenIter, ExprChildrenIterMut, Walk};
+pub use error::Error;
+pub use expr::{Absent, AstNode, CaptureGroupTarget, Expr, ExprChildrenIter, ExprChildrenIterMut, Walk};
 pub use flags::Flags;
 pub use format::{format_pattern, Style};
-pub use node::{AbsentKind, CallTarget, Children, Kind, NodeRef};
+pub use kinds::{AbsentKind, Assertion, BacktrackingControlVerb, LookAround, ParseError};
+pub use node::{CallTarget, Children, Kind, NodeRef};
 pub use rows::Rows;
 pub use tree::{GroupInfo, Span, Tree};
 pub use trivia::{trivia, Trivium, TriviumKind};
@@ -67,8 +69,9 @@ use rows::with_kept;
 /// # Errors
 ///
 /// [`Error::ParseError`] if the pattern is invalid, with the position and the kind of its error, which is its only one;
-/// [`Error::OutOfMemory`] if an allocation of the library failed; [`Error::Version`] if the library is too old, and
-/// [`Error::Library`] if it is not libfancy.
+/// [`Error::OutOfMemory`] if an allocation of the library failed; [`Error::Version`] if the library is too old,
+/// [`Error::Unknown`] if it is newer and returned a kind that the crate has no name for, and [`Error::Library`] if it is not
+/// libfancy.
 ///
 /// ```
 /// use fancy_syntax::{parse, Expr, Flags};

@@ -3,7 +3,7 @@
 use crate::ffi::Node;
 use crate::rows::MAX_LEVELS;
 use crate::written::{pattern_of_rows, print_rows};
-use crate::{numbers, Assertion, BacktrackingControlVerb, CaptureGroupTarget};
+use crate::{numbers, AbsentKind, Assertion, BacktrackingControlVerb, CaptureGroupTarget};
 use crate::{Error, Expr, Flags, LookAround, Precedence, Rows, Span};
 use std::fmt;
 
@@ -16,6 +16,7 @@ pub struct NodeRef<'a> {
 
 /// What a node is, with its fields and without its children. The variants have the names of those of [`Expr`].
 #[derive(Debug, Clone, Copy, PartialEq, Eq)]
+#[non_exhaustive]
 #[allow(missing_docs)] // the fields are those of `Expr`
 pub enum Kind<'a> {
     /// As [`Expr::Empty`].
@@ -68,21 +69,9 @@ pub enum Kind<'a> {
     AstNode(CallTarget<'a>, usize),
 }
 
-/// Which absent form a node is, without its children.
-#[derive(Debug, Clone, Copy, PartialEq, Eq)]
-pub enum AbsentKind {
-    /// As [`Absent::Repeater`](crate::Absent::Repeater), with one child.
-    Repeater,
-    /// As [`Absent::Expression`](crate::Absent::Expression), with two children.
-    Expression,
-    /// As [`Absent::Stopper`](crate::Absent::Stopper), with one child.
-    Stopper,
-    /// As [`Absent::Clear`](crate::Absent::Clear).
-    Clear,
-}
-
 /// What a call that cannot be resolved names.
 #[derive(Debug, Clone, Copy, PartialEq, Eq)]
+#[non_exhaustive]
 pub enum CallTarget<'a> {
     /// As [`CaptureGroupTarget::ByNumber`].
     ByNumber(usize),
@@ -212,7 +201,7 @@ impl<'a> NodeRef<'a> {
     ///
     /// # Errors
     ///
-    /// [`Error::OutOfMemory`], [`Error::Version`] and [`Error::Library`], as for [`parse`](crate::parse).
+    /// Those of [`parse`](crate::parse) but [`Error::ParseError`].
     ///
     /// ```
     /// use fancy_syntax::{Flags, Precedence, Rows};
@@ -231,7 +220,7 @@ impl<'a> NodeRef<'a> {
     ///
     /// # Errors
     ///
-    /// [`Error::OutOfMemory`], [`Error::Version`] and [`Error::Library`], as for [`parse`](crate::parse).
+    /// Those of [`parse`](crate::parse) but [`Error::ParseError`].
     ///
     /// ```
     /// use fancy_syntax::{Flags, Rows};
@@ -281,18 +270,6 @@ impl<'a> Iterator for Children<'a> {
     }
 }
 
-impl AbsentKind {
-    fn read(which: u32) -> Option<AbsentKind> {
-        Some(match which {
-            numbers::ABSENT_REPEATER => AbsentKind::Repeater,
-            numbers::ABSENT_EXPRESSION => AbsentKind::Expression,
-            numbers::ABSENT_STOPPER => AbsentKind::Stopper,
-            numbers::ABSENT_CLEAR => AbsentKind::Clear,
-            _ => return None,
-        })
-    }
-}
-
 impl CallTarget<'_> {
     pub(crate) fn to_owned(self) -> CaptureGroupTarget {
         match self {
@@ -313,14 +290,14 @@ impl<'a> Kind<'a> {
         Some(match row.kind {
             numbers::NODE_EMPTY => Kind::Empty,
             numbers::NODE_ANY => Kind::Any { newline: row.newline != 0, crlf },
-            numbers::NODE_ASSERTION => Kind::Assertion(assertion(row.which, crlf)?),
+            numbers::NODE_ASSERTION => Kind::Assertion(Assertion::numbered(row.which, crlf)?),
             numbers::NODE_GENERAL_NEWLINE => Kind::GeneralNewline { unicode: row.unicode != 0 },
             numbers::NODE_LITERAL => Kind::Literal { val: texts.text(row)?, casei },
             numbers::NODE_LITERAL_BYTES => Kind::LiteralBytes { bytes: texts.bytes(row)? },
             numbers::NODE_CONCAT => Kind::Concat,
             numbers::NODE_ALT => Kind::Alt,
             numbers::NODE_GROUP => Kind::Group,
-            numbers::NODE_LOOK_AROUND => Kind::LookAround(look_around(row.which)?),
+            numbers::NODE_LOOK_AROUND => Kind::LookAround(LookAround::numbered(row.which)?),
             numbers::NODE_REPEAT => Kind::Repeat { lo: row.lo, hi: row.hi, greedy: row.greedy != 0 },
             numbers::NODE_DELEGATE => Kind::Delegate { inner: texts.text(row)?, casei },
             numbers::NODE_BACKREF => Kind::Backref { group, casei },
@@ -337,12 +314,25 @@ impl<'a> Kind<'a> {
             }
             numbers::NODE_CONDITIONAL => Kind::Conditional,
             numbers::NODE_SUBROUTINE_CALL => Kind::SubroutineCall(group),
-            numbers::NODE_VERB => Kind::BacktrackingControlVerb(verb(row.which)?),
-            numbers::NODE_ABSENT => Kind::Absent(AbsentKind::read(row.which)?),
+            numbers::NODE_VERB => Kind::BacktrackingControlVerb(BacktrackingControlVerb::numbered(row.which)?),
+            numbers::NODE_ABSENT => Kind::Absent(AbsentKind::numbered(row.which)?),
             numbers::NODE_DEFINE_GROUP => Kind::DefineGroup,
             numbers::NODE_AST_NODE => Kind::AstNode(call_target(row, texts)?, row.position),
             _ => return None,
         })
+    }
+
+    /// The number of a row that nothing has in `fancy.h`, with what it is the number of.
+    pub(crate) fn unknown(row: &Node) -> Option<(&'static str, u32)> {
+        let (what, is_known) = match row.kind {
+            numbers::NODE_ASSERTION => ("an assertion", Assertion::numbered(row.which, false).is_some()),
+            numbers::NODE_LOOK_AROUND => ("a look-around", LookAround::numbered(row.which).is_some()),
+            numbers::NODE_VERB => ("a verb", BacktrackingControlVerb::numbered(row.which).is_some()),
+            numbers::NODE_ABSENT => ("an absent form", AbsentKind::numbered(row.which).is_some()),
+            numbers::NODE_AST_NODE => ("a target", row.which <= numbers::LAST_TARGET),
+            kind => return (kind > numbers::LAST_NODE).then_some(("a kind of node", kind)),
+        };
+        (!is_known).then_some((what, row.which))
     }
 
     /// Whether a node of this kind may have so many children.
@@ -403,45 +393,6 @@ fn call_target<'a>(row: &Node, texts: Texts<'a>) -> Option<CallTarget<'a>> {
         numbers::TARGET_BY_NUMBER => CallTarget::ByNumber(row.group),
         numbers::TARGET_BY_NAME => CallTarget::ByName(texts.text(row)?),
         numbers::TARGET_RELATIVE => CallTarget::Relative(row.level),
-        _ => return None,
-    })
-}
-
-fn look_around(which: u32) -> Option<LookAround> {
-    Some(match which {
-        numbers::LOOK_AHEAD => LookAround::LookAhead,
-        numbers::LOOK_AHEAD_NEG => LookAround::LookAheadNeg,
-        numbers::LOOK_BEHIND => LookAround::LookBehind,
-        numbers::LOOK_BEHIND_NEG => LookAround::LookBehindNeg,
-        _ => return None,
-    })
-}
-
-fn verb(which: u32) -> Option<BacktrackingControlVerb> {
-    Some(match which {
-        numbers::VERB_FAIL => BacktrackingControlVerb::Fail,
-        numbers::VERB_ACCEPT => BacktrackingControlVerb::Accept,
-        numbers::VERB_COMMIT => BacktrackingControlVerb::Commit,
-        numbers::VERB_SKIP => BacktrackingControlVerb::Skip,
-        numbers::VERB_PRUNE => BacktrackingControlVerb::Prune,
-        _ => return None,
-    })
-}
-
-fn assertion(which: u32, crlf: bool) -> Option<Assertion> {
-    Some(match which {
-        numbers::ASSERTION_START_TEXT => Assertion::StartText,
-        numbers::ASSERTION_END_TEXT => Assertion::EndText,
-        numbers::ASSERTION_END_TEXT_IGNORE_TRAILING_NEWLINES => Assertion::EndTextIgnoreTrailingNewlines { crlf },
-        numbers::ASSERTION_START_LINE => Assertion::StartLine { crlf },
-        numbers::ASSERTION_START_LINE_ONIGURUMA => Assertion::StartLineOniguruma { crlf },
-        numbers::ASSERTION_END_LINE => Assertion::EndLine { crlf },
-        numbers::ASSERTION_LEFT_WORD_BOUNDARY => Assertion::LeftWordBoundary,
-        numbers::ASSERTION_LEFT_WORD_HALF_BOUNDARY => Assertion::LeftWordHalfBoundary,
-        numbers::ASSERTION_RIGHT_WORD_BOUNDARY => Assertion::RightWordBoundary,
-        numbers::ASSERTION_RIGHT_WORD_HALF_BOUNDARY => Assertion::RightWordHalfBoundary,
-        numbers::ASSERTION_WORD_BOUNDARY => Assertion::WordBoundary,
-        numbers::ASSERTION_NOT_WORD_BOUNDARY => Assertion::NotWordBoundary,
         _ => return None,
     })
 }

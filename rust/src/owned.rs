@@ -1,8 +1,8 @@
 //! Owned trees, built from the rows that the library wrote.
 
 use crate::ffi::Node;
-use crate::node::{AbsentKind, Kind, Texts};
-use crate::{Absent, AstNode, Expr};
+use crate::node::{Kind, Texts};
+use crate::{Absent, AbsentKind, AstNode, Expr};
 
 /// Builds trees from the first row to the last: each node is put at once where its parent holds it.
 pub(crate) struct Builder<'a> {

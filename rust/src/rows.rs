@@ -88,9 +88,8 @@ impl Rows {
     ///
     /// # Errors
     ///
-    /// [`Error::ParseError`] if the pattern is invalid; [`Error::OutOfMemory`] if an allocation of the library failed, or if a
-    /// buffer cannot be made as long as the tree needs; [`Error::Version`] if the library is too old, and [`Error::Library`] if
-    /// it is not libfancy. After an error these are the rows of the empty pattern.
+    /// Those of [`parse`](crate::parse); also [`Error::OutOfMemory`] if a buffer cannot be made as long as the tree needs. After an
+    /// error these are the rows of the empty pattern.
     ///
     /// ```
     /// use fancy_syntax::{Flags, Rows};
@@ -142,12 +141,26 @@ impl Rows {
     fn built(&self) -> Result<Expr, Error> {
         self.check_buffers()?;
         let expr = self.builder_at(0).tree(MAX_LEVELS);
-        expr.ok_or(Error::Library("nodes that are no tree, or a text that is not UTF-8"))
+        expr.ok_or_else(|| self.refused("nodes that are no tree, or a text that is not UTF-8"))
+    }
+
+    /// Why no tree is made of the rows: one has a number that the crate has no name for, or what the text says.
+    #[cold]
+    fn refused(&self, what: &'static str) -> Error {
+        match self.nodes[..self.info.node_count].iter().find_map(Kind::unknown) {
+            Some((what, number)) => Error::unknown(what, number),
+            None => Error::Library(what),
+        }
     }
 
     /// The spans of the nodes, if each is a part of the pattern.
     pub(crate) fn checked_spans(&self, pattern: &str) -> Result<Vec<Span>, Error> {
-        self.nodes[..self.info.node_count].iter().map(|row| checked_span(row, pattern)).collect()
+        let rows = &self.nodes[..self.info.node_count];
+        let mut spans = Vec::with_capacity(rows.len());
+        for row in rows {
+            spans.push(checked_span(row, pattern)?);
+        }
+        Ok(spans)
     }
 
     pub(crate) fn builder_at(&self, index: usize) -> Builder<'_> {
@@ -159,7 +172,7 @@ impl Rows {
     ///
     /// # Errors
     ///
-    /// [`Error::OutOfMemory`], [`Error::Version`] and [`Error::Library`], as for [`parse`](Rows::parse).
+    /// Those of [`parse`](Rows::parse) but [`Error::ParseError`].
     ///
     /// ```
     /// use fancy_syntax::{Flags, Rows};
@@ -393,8 +406,7 @@ impl Rows {
     /// Checks a node, after those with higher indices: so the ends of its descendants lie after them.
     fn check_node(&self, index: usize, texts: Texts<'_>, pattern: &str, below: &mut [usize]) -> Result<(), Error> {
         let row = &self.nodes[index];
-        let kind =
-            Kind::read(row, texts).ok_or(Error::Library("a node of no kind, or with a text that is not UTF-8"))?;
+        let kind = Kind::read(row, texts).ok_or_else(|| self.refused("a node with a text that is not UTF-8"))?;
         let (mut children, mut levels, mut child) = (0, 0, index + 1);
         while child < row.end.min(self.info.node_count) {
             children += 1;

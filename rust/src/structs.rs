@@ -1,5 +1,6 @@
-//! The structs of `fancy.h`, laid out as they are there. A bool of C is a `u8`, so that each byte is a valid one, whatever the
-//! library writes.
+//! The structs of `fancy.h`, laid out as they are there. Made by `tools/bindings` from `include/fancy.toml`.
+//!
+//! A bool of C is a `u8`, so that each byte is a valid one, whatever the library writes.
 
 /// `fancy_result`
 #[repr(C)]

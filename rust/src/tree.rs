@@ -45,7 +45,7 @@ impl Tree {
     ///
     /// # Errors
     ///
-    /// [`Error::OutOfMemory`], [`Error::Version`] and [`Error::Library`], as for [`parse`](crate::parse).
+    /// Those of [`parse`](crate::parse) but [`Error::ParseError`].
     ///
     /// ```
     /// use fancy_syntax::{parse, Expr, Flags};

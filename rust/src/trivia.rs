@@ -15,6 +15,7 @@ pub struct Trivium {
 
 /// What a [`Trivium`] is.
 #[derive(Debug, Clone, Copy, PartialEq, Eq, Hash)]
+#[non_exhaustive]
 pub enum TriviumKind {
     /// A comment: `(?#..)`.
     Comment,
@@ -79,7 +80,7 @@ fn checked_trivium(row: &Row, pattern: &str) -> Result<Trivium, Error> {
         return Err(Error::Library("a trivium that is no part of the pattern"));
     }
     let (Some(before), Some(after)) = (Flags::from_bits(row.flags_before), Flags::from_bits(row.flags_after)) else {
-        return Err(Error::Library("a trivium with flags that there are not"));
+        return Err(Error::unknown("flags", row.flags_before | row.flags_after));
     };
     let kind = match row.kind {
         numbers::TRIVIUM_COMMENT => TriviumKind::Comment,
@@ -88,7 +89,7 @@ fn checked_trivium(row: &Row, pattern: &str) -> Result<Trivium, Error> {
         numbers::TRIVIUM_OPENING => TriviumKind::Opening { around: before, inside: after },
         numbers::TRIVIUM_CLOSING => TriviumKind::Closing,
         numbers::TRIVIUM_DROPPED => TriviumKind::Dropped,
-        _ => return Err(Error::Library("a trivium of no kind")),
+        kind => return Err(Error::unknown("a kind of trivium", kind)),
     };
     Ok(Trivium { span, kind })
 }

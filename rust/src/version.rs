@@ -10,6 +10,11 @@ pub(crate) fn parts(version: u32) -> (u32, u32, u32) {
     (version / 1_000_000, version / 1000 % 1000, version % 1000)
 }
 
+/// Whether a library of this version may have numbers that the crate has no names for.
+pub(crate) fn is_newer((major, minor, _): (u32, u32, u32)) -> bool {
+    (major, minor) > NEEDED
+}
+
 /// Whether the crate works with a library of this version: with another major number the structs may have another layout, and
 /// an older library does not do all that the crate needs.
 pub(crate) fn suffices((major, minor, _): (u32, u32, u32)) -> bool {

@@ -2,8 +2,8 @@
 
 use crate::call::{self, Extent, RowsIn, Text};
 use crate::ffi::{self, CallResult, Info, Name, Node};
-use crate::{numbers, Absent, Assertion, AstNode, BacktrackingControlVerb, CaptureGroupTarget};
-use crate::{Error, Expr, Flags, GroupInfo, LookAround, Precedence};
+use crate::{numbers, Absent, AbsentKind, Assertion, AstNode, CaptureGroupTarget};
+use crate::{Error, Expr, Flags, GroupInfo, Precedence};
 
 /// The rows of a tree, and the texts of its nodes.
 #[derive(Default)]
@@ -68,8 +68,7 @@ impl Written {
                 Node { newline: (*newline).into(), crlf: (*crlf).into(), ..row(numbers::NODE_ANY) }
             }
             Expr::Assertion(which) => {
-                let (which, crlf) = assertion(*which);
-                Node { crlf: crlf.into(), ..one_of(numbers::NODE_ASSERTION, which) }
+                Node { crlf: crlf(*which).into(), ..one_of(numbers::NODE_ASSERTION, which.number()) }
             }
             Expr::GeneralNewline { unicode } => {
                 Node { unicode: (*unicode).into(), ..row(numbers::NODE_GENERAL_NEWLINE) }
@@ -81,7 +80,7 @@ impl Written {
             Expr::Concat(_) => row(numbers::NODE_CONCAT),
             Expr::Alt(_) => row(numbers::NODE_ALT),
             Expr::Group(_) => row(numbers::NODE_GROUP),
-            Expr::LookAround(_, which) => one_of(numbers::NODE_LOOK_AROUND, look_around(*which)),
+            Expr::LookAround(_, which) => one_of(numbers::NODE_LOOK_AROUND, which.number()),
             Expr::Repeat { lo, hi, greedy, .. } => {
                 Node { lo: *lo, hi: *hi, greedy: (*greedy).into(), ..row(numbers::NODE_REPEAT) }
             }
@@ -106,8 +105,8 @@ impl Written {
             },
             Expr::Conditional { .. } => row(numbers::NODE_CONDITIONAL),
             Expr::SubroutineCall(group) => Node { group: *group, ..row(numbers::NODE_SUBROUTINE_CALL) },
-            Expr::BacktrackingControlVerb(which) => one_of(numbers::NODE_VERB, verb(*which)),
-            Expr::Absent(which) => one_of(numbers::NODE_ABSENT, absent(which)),
+            Expr::BacktrackingControlVerb(which) => one_of(numbers::NODE_VERB, which.number()),
+            Expr::Absent(which) => one_of(numbers::NODE_ABSENT, absent(which).number()),
             Expr::DefineGroup { .. } => row(numbers::NODE_DEFINE_GROUP),
             Expr::AstNode(AstNode::SubroutineCall(target), position) => {
                 Node { position: *position, ..self.call(target) }
@@ -135,51 +134,23 @@ impl Written {
     }
 }
 
-/// The number of an assertion, and its `crlf`.
-fn assertion(which: Assertion) -> (u32, bool) {
+/// The `crlf` of an assertion, if it has one.
+fn crlf(which: Assertion) -> bool {
     match which {
-        Assertion::StartText => (numbers::ASSERTION_START_TEXT, false),
-        Assertion::EndText => (numbers::ASSERTION_END_TEXT, false),
-        Assertion::EndTextIgnoreTrailingNewlines { crlf } => {
-            (numbers::ASSERTION_END_TEXT_IGNORE_TRAILING_NEWLINES, crlf)
-        }
-        Assertion::StartLine { crlf } => (numbers::ASSERTION_START_LINE, crlf),
-        Assertion::StartLineOniguruma { crlf } => (numbers::ASSERTION_START_LINE_ONIGURUMA, crlf),
-        Assertion::EndLine { crlf } => (numbers::ASSERTION_END_LINE, crlf),
-        Assertion::LeftWordBoundary => (numbers::ASSERTION_LEFT_WORD_BOUNDARY, false),
-        Assertion::LeftWordHalfBoundary => (numbers::ASSERTION_LEFT_WORD_HALF_BOUNDARY, false),
-        Assertion::RightWordBoundary => (numbers::ASSERTION_RIGHT_WORD_BOUNDARY, false),
-        Assertion::RightWordHalfBoundary => (numbers::ASSERTION_RIGHT_WORD_HALF_BOUNDARY, false),
-        Assertion::WordBoundary => (numbers::ASSERTION_WORD_BOUNDARY, false),
-        Assertion::NotWordBoundary => (numbers::ASSERTION_NOT_WORD_BOUNDARY, false),
+        Assertion::EndTextIgnoreTrailingNewlines { crlf }
+        | Assertion::StartLine { crlf }
+        | Assertion::StartLineOniguruma { crlf }
+        | Assertion::EndLine { crlf } => crlf,
+        _ => false,
     }
 }
 
-fn look_around(which: LookAround) -> u32 {
+fn absent(which: &Absent) -> AbsentKind {
     match which {
-        LookAround::LookAhead => numbers::LOOK_AHEAD,
-        LookAround::LookAheadNeg => numbers::LOOK_AHEAD_NEG,
-        LookAround::LookBehind => numbers::LOOK_BEHIND,
-        LookAround::LookBehindNeg => numbers::LOOK_BEHIND_NEG,
-    }
-}
-
-fn verb(which: BacktrackingControlVerb) -> u32 {
-    match which {
-        BacktrackingControlVerb::Fail => numbers::VERB_FAIL,
-        BacktrackingControlVerb::Accept => numbers::VERB_ACCEPT,
-        BacktrackingControlVerb::Commit => numbers::VERB_COMMIT,
-        BacktrackingControlVerb::Skip => numbers::VERB_SKIP,
-        BacktrackingControlVerb::Prune => numbers::VERB_PRUNE,
-    }
-}
-
-fn absent(which: &Absent) -> u32 {
-    match which {
-        Absent::Repeater(_) => numbers::ABSENT_REPEATER,
-        Absent::Expression { .. } => numbers::ABSENT_EXPRESSION,
-        Absent::Stopper(_) => numbers::ABSENT_STOPPER,
-        Absent::Clear => numbers::ABSENT_CLEAR,
+        Absent::Repeater(_) => AbsentKind::Repeater,
+        Absent::Expression { .. } => AbsentKind::Expression,
+        Absent::Stopper(_) => AbsentKind::Stopper,
+        Absent::Clear => AbsentKind::Clear,
     }
 }
 
@@ -191,8 +162,7 @@ fn text_of(text: Text) -> Result<Option<String>, Error> {
             status: numbers::STATUS_NOT_PRINTABLE | numbers::STATUS_NO_PATTERN | numbers::STATUS_NO_TREE,
             ..
         }) => Ok(None),
-        Text::Not(CallResult { status: numbers::STATUS_OUT_OF_MEMORY, .. }) => Err(Error::OutOfMemory),
-        Text::Not(_) => Err(Error::Library("a status that the call does not have")),
+        Text::Not(result) => Err(Error::of_status(result.status)),
     }
 }
 
@@ -226,7 +196,7 @@ impl Expr {
     ///
     /// # Errors
     ///
-    /// [`Error::OutOfMemory`], [`Error::Version`] and [`Error::Library`], as for [`parse`](crate::parse).
+    /// Those of [`parse`](crate::parse) but [`Error::ParseError`].
     ///
     /// ```
     /// use fancy_syntax::{Expr, Precedence};
@@ -252,7 +222,7 @@ impl Expr {
     ///
     /// # Errors
     ///
-    /// [`Error::OutOfMemory`], [`Error::Version`] and [`Error::Library`], as for [`parse`](crate::parse).
+    /// Those of [`parse`](crate::parse) but [`Error::ParseError`].
     ///
     /// ```
     /// use fancy_syntax::{Expr, Flags, GroupInfo};

@@ -10,6 +10,7 @@ fn kind_of<T>(outcome: &Result<T, Error>) -> &'static str {
         Ok(_) => "results",
         Err(Error::OutOfMemory) => "out of memory",
         Err(Error::Version { .. }) => "another version",
+        Err(Error::Unknown { what, .. }) => what,
         Err(Error::Library(what)) => what,
         Err(_) => "errors of the pattern",
     }

@@ -4,8 +4,6 @@
 pub mod character_set;
 pub mod class_text;
 pub mod one_character;
-#[cfg(test)]
-mod tests;
 
 pub use character_set::CharacterSet;
 pub use class_text::{ClassMeaning, characters_of_class};

@@ -1,121 +1,67 @@
-//! Replays recorded results of the original's program: `conformance FILE..` runs `fre` on each pattern of the files, compares
-//! what it writes byte by byte, and writes for each file how many results are the same. The status is 0 only if every
-//! line was replayed and no result is different. A run that ends before its last line, as one that is out of memory
-//! does, writes an error.
+//! Compares the library with recorded results, counts what it does, and runs the examples of its page:
+//!
+//! - `conformance replay FILE..` compares what `fre` writes with the recorded results of the files;
+//! - `conformance stage STAGE FILE` does one thing with each pattern of a file, so that its cost can be counted;
+//! - `conformance examples` runs the examples of `docs/library.md`;
+//! - `conformance all RESULTS FILE..` does it all, as in the gate: it replays the files, writes what `fre` writes for the
+//!   patterns of `RESULTS`, and runs the examples.
+//!
+//! The status is 0 only if everything was done and no recorded result is different. A run that ends early, as one that is
+//! out of memory does, writes an error.
 #![tactic(auto)]
 
-mod comparison;
-mod nodes;
-mod record;
-mod texts;
+mod examples;
+mod fields;
+mod replay;
+mod speed;
 
-use anyhow::{Context, Result, bail, ensure};
-use comparison::{OUT_OF_MEMORY, RunResult};
-use fancy_syntax::error::Error;
-use fancy_syntax::expr::Expr;
-use fre_program::flag_word::flags_named;
-use fre_program::program::fre_run;
-use nodes::read_tree;
-use record::{Printing, Reading, Record};
-use std::alloc::Global;
+use anyhow::{Result, bail};
+use examples::show_examples;
+use replay::differences;
+use speed::run_stage;
+use std::env;
 use std::process::ExitCode;
-use std::rt::Files;
-use std::{env, fs};
-use texts::{is_written, replay_writing};
 
-/// What the program writes now; an error where memory ran out. It writes into capacity that it has, so that no write
-/// fails.
-fn result_now(alloc: Global, record: &Reading) -> Result<RunResult> {
-    let recorded = &record.run_result;
-    let mut out = Vec::with_capacity(alloc, recorded.out.len())?;
-    let mut err = Vec::with_capacity(alloc, recorded.err.len().max(OUT_OF_MEMORY.len()))?;
-    let status = fre_run(alloc, record.words.as_slice(), &mut out, &mut err);
-    let run_result = RunResult { status, out, err };
-    ensure!(
-        !run_result.is_out_of_memory(&record.run_result),
-        "out of memory"
-    );
-    Ok(run_result)
-}
+const USAGE: &str =
+    "usage: conformance replay FILE.. | stage STAGE FILE | examples | all RESULTS FILE..";
 
-/// Whether a clone of the error says the same.
-fn is_cloned(alloc: Global, error: &Error) -> Result<bool> {
-    let copy = error.clone(alloc)?;
-    let message = format!(in alloc; "{error}")?;
-    Ok(format!(in alloc; "{copy}")? == message)
-}
-
-/// Whether a clone of the pattern's tree is equal to it, and the tree is written as a text that parses back as it; or,
-/// where the pattern is invalid, whether a clone of its error says the same.
-fn is_kept(alloc: Global, record: &Reading) -> Result<bool> {
-    let [word, pattern] = &record.words;
-    let Some(flags) = flags_named(word.as_str()) else {
-        return Ok(true);
-    };
-    match Expr::parse_tree_with_flags(alloc, pattern.as_str(), flags) {
-        Ok(tree) => Ok(tree.clone(alloc)?.expr == tree.expr && is_written(alloc, &tree, flags)?),
-        Err(Error::OutOfMemory) => bail!("out of memory"),
-        Err(error) => is_cloned(alloc, &error),
+/// The arguments after the program's name. Each failed allocation is an error here: `collect` would first try to
+/// allocate capacity for all of them, and go on with less.
+fn words_after_name(rt: &HostRuntime) -> Result<Vec<String>> {
+    let mut words = Vec::new(rt.alloc());
+    for word in env::args(rt)?.skip(1) {
+        words.push(word)?;
     }
+    Ok(words)
 }
 
-/// Whether the result for a pattern is as recorded.
-fn replay_reading(alloc: Global, record: &Reading) -> Result<bool> {
-    Ok(is_kept(alloc, record)? && result_now(alloc, record)?.is(&record.run_result))
-}
-
-/// The text of the tree now, none where it is not printable. If memory runs out for the text, the error says so, and
-/// nothing of the text is left.
-fn text_now(alloc: Global, tree: &Expr, precedence: u8) -> Result<Option<String>> {
-    if !tree.is_printable(alloc)? {
-        return Ok(None);
-    }
-    let mut text = String::new(alloc);
-    let printed = tree.to_str(&mut text, precedence);
-    ensure!(printed.is_ok() || text.is_empty(), "the buffer changed");
-    printed.context("out of memory for the text")?;
-    Ok(Some(text))
-}
-
-/// Whether a clone of the tree is equal to it, and printed as recorded.
-fn replay_printing(alloc: Global, record: &Printing) -> Result<bool> {
-    let tree = read_tree(alloc, record.lines.as_str())?;
-    let copy = tree.clone(alloc)?;
-    Ok(copy == tree && text_now(alloc, &copy, record.precedence)? == record.text)
-}
-
-/// Whether the result for a line of a file is as recorded.
-fn replay_line(alloc: Global, line: &str) -> Result<bool> {
-    Ok(match Record::read(alloc, line)? {
-        Record::Reading(record) => replay_reading(alloc, &record)?,
-        Record::Writing(record) => replay_writing(alloc, &record)?,
-        Record::Printing(record) => replay_printing(alloc, &record)?,
-    })
-}
-
-/// Replays a file, writes its counts, and returns how many results are different.
-fn replay(rt: &(impl Files + Print + AllocGlobal), name: &str) -> Result<usize> {
-    let text = fs::read_to_string(rt, name).context(format_args!("reading {name}"))?;
-    let mut same = 0usize;
-    let mut different = 0usize;
-    for line in text.lines() {
-        if replay_line(rt.alloc(), line).context(format_args!("{name}: {line}"))? {
-            same = same.saturating_add(1);
-        } else {
-            different = different.saturating_add(1);
-            println!(rt; "{name}: different: {line}")?;
-        }
-    }
-    println!(rt; "{name}: {same} same, {different} different")?;
+/// Does it all, and returns how many results are different.
+fn run_all(rt: &HostRuntime, results: &str, files: &[String]) -> Result<usize> {
+    let different = differences(rt, files)?;
+    run_stage(rt, "all", results)?;
+    show_examples(rt)?;
     Ok(different)
 }
 
-fn main(rt: HostRuntime) -> Result<ExitCode> {
-    let mut status = ExitCode::SUCCESS;
-    for name in env::args(&rt)?.skip(1) {
-        if replay(&rt, name.as_str())? > 0 {
-            status = ExitCode::FAILURE;
-        }
+/// Does what the words say, and returns how many results are different.
+fn run(rt: &HostRuntime, words: &[String]) -> Result<usize> {
+    let [mode, words @ ..] = words else {
+        bail!("{USAGE}");
+    };
+    match (mode.as_str(), words) {
+        ("replay", files) => return differences(rt, files),
+        ("stage", [stage, file]) => run_stage(rt, stage, file)?,
+        ("examples", []) => show_examples(rt)?,
+        ("all", [results, files @ ..]) => return run_all(rt, results, files),
+        _ => bail!("{USAGE}"),
     }
-    Ok(status)
+    Ok(0)
+}
+
+fn main(rt: HostRuntime) -> Result<ExitCode> {
+    let words = words_after_name(&rt)?;
+    Ok(match run(&rt, &words)? {
+        0 => ExitCode::SUCCESS,
+        _ => ExitCode::FAILURE,
+    })
 }

@@ -34,6 +34,7 @@ pub mod WalkLaws
 pub mod PrintableLemmas
 pub mod ReadBack
 pub mod DelegateLemmas
+pub mod ReadAsLaws
 -- ---- the one result of a text, and what is true of it
 pub mod Verdict
 pub mod ParsedSpans
@@ -43,12 +44,3 @@ pub mod TriviaUnique
 pub mod TriviaAppend
 pub mod TriviaLemmas
 pub mod TriviaLaws
--- ---- the text of every tree
-pub mod PatternRows
-pub mod NeedsLemmas
-pub mod SourceLemmas
-pub mod ContextLemmas
-pub mod ReadAsLaws
-pub mod PatternLaws
--- ---- what is true of parsed trees
-pub mod Parsed

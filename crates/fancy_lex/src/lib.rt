@@ -1,5 +1,5 @@
-//! The lowest layer: flags, errors, and the readers that need no tree. The tests of this crate are in `library_tests`,
-//! and the recorded results of its readers in `conformance`.
+//! The lowest layer: flags, errors, and the readers that need no tree. What its readers read is tested by the recorded
+//! results of `conformance`.
 #![tactic(auto)]
 
 pub mod class;

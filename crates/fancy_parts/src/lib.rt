@@ -1,5 +1,5 @@
-//! What needs no tree: quantifiers at the front of a text, the numbers of groups, and the text of a character. The tests
-//! of this crate are in `library_tests`, and the recorded results of its readers in `conformance`.
+//! What needs no tree: quantifiers at the front of a text, the numbers of groups, and the text of a character. It is
+//! tested by the recorded results of `conformance`.
 #![tactic(auto)]
 
 pub mod counts;

@@ -6,8 +6,8 @@ use Rattle.std.specs.Bool.{Decides}
 use Rattle.std.specs.List.{flat_map}
 use Rattle.fancy_lex.specs.declared.flags.Flags.{Flags}
 use Rattle.fancy_grammar.specs.Label as label
-use Rattle.fancy_grammar.proofs.NeedsLemmas.{IsJoin, first_joins, both_joins, joined-after}
-use Rattle.fancy_grammar.proofs.NeedsLemmas.{needs_node, needs_next, table_node}
+use Rattle.fancy_pattern.proofs.NeedsLemmas.{IsJoin, first_joins, both_joins, joined-after}
+use Rattle.fancy_pattern.proofs.NeedsLemmas.{needs_node, needs_next, table_node}
 use Rattle.fancy_grammar.specs.PatternNeeds.{first, both, joined, needs, needs_all, with_needs}
 use Rattle.fancy_grammar.specs.PatternWalk.{needs_alone, needs_listed, all_listed}
 use Rattle.fancy_grammar.specs.Tree.{Tree, leaf, over, row, Trees, is_leaf, children, trees_of}

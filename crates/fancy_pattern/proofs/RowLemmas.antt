@@ -12,7 +12,7 @@ use Rattle.fancy_grammar.specs.Tree.{Tree, Trees, no_trees, more_trees, trees_of
 use Rattle.fancy_grammar.specs.declared.needs.Needs.{Needs}
 use Rattle.fancy_grammar.specs.declared.precedence.Precedence.{Precedence}
 use Rattle.fancy_grammar.specs.declared.precedence.Precedence.TheVariants.{Branch, Piece}
-use Rattle.fancy_grammar.proofs.ContextLemmas.{after_none, after_next}
+use Rattle.fancy_pattern.proofs.ContextLemmas.{after_none, after_next}
 use Rattle.fancy_pattern.specs.TextOutput.{Added, Changed}
 use Rattle.fancy_syntax.specs.View.{view, views}
 use Rattle.fancy_pattern.specs.Writers.{Writes}

@@ -17,7 +17,7 @@ use Rattle.fancy_grammar.specs.Tree.{Tree, leaf, over, row, Trees, empty, litera
 use Rattle.fancy_grammar.specs.declared.needs.Needs.{Needs}
 use Rattle.fancy_grammar.specs.declared.precedence.Precedence.{Precedence}
 use Rattle.fancy_grammar.specs.declared.precedence.Precedence.TheVariants.{Whole}
-use Rattle.fancy_grammar.proofs.ContextLemmas.{mode_after}
+use Rattle.fancy_pattern.proofs.ContextLemmas.{mode_after}
 use Rattle.fancy_pattern.specs.TextOutput.{Added}
 use Rattle.fancy_pattern.specs.ContextViews.{Known, Allows, IsContext, leaf_text_of}
 use Rattle.fancy_pattern.specs.Writers.{Writes, WritesTree, WritesSettled, WritesFlags, Passes, Leaves, Sets}

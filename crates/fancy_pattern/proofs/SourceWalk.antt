@@ -13,7 +13,7 @@ use Rattle.fancy_lex.specs.Text.{Text, EndsWith, strip_word, cut_at}
 use Rattle.fancy_grammar.specs.PatternLetters.{by_letter_or, plain}
 use Rattle.fancy_grammar.specs.PatternSource.{Replaced, Part, part, written_after, replaced, replaced_part}
 use Rattle.fancy_grammar.specs.PatternSource.{named_property, property_part, single_part, part_at, source_from}
-use Rattle.fancy_grammar.proofs.SourceLemmas.{source_goes_on, source_ends, part_left}
+use Rattle.fancy_pattern.proofs.SourceLemmas.{source_goes_on, source_ends, part_left}
 use Rattle.fancy_pattern.specs.TextOutput.{Added}
 use Rattle.fancy_pattern.specs.Source.{AddedPart, part_of, found_part}
 use Rattle.fancy_pattern.specs.declared.output.TextOutput.{TextOutput}

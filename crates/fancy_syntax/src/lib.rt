@@ -1,5 +1,5 @@
-//! The pattern syntax of fancy-regex: parses a pattern into a tree, and prints a tree as a pattern. The tests of this
-//! crate are in `library_tests`, and the recorded results of its calls in `conformance`.
+//! The pattern syntax of fancy-regex: parses a pattern into a tree, and prints a tree as a pattern. The recorded results
+//! of its calls are in `conformance`.
 //!
 //! ```rust
 //! use fancy_syntax::{Error, Expr, FLAG_CASEI, FLAG_UNICODE};

@@ -2,12 +2,12 @@
 use crate::lines::{LineRecord, lines_in};
 use crate::record::{Record, RecordRefusal};
 use crate::values::refusal::JsonRefusal;
+use fancy_syntax::span::Span;
 use json::MAX_LEN;
 use patterns_text::error::RunError;
 use patterns_text::grammar_rule::GrammarRule;
 use patterns_text::position::Spot;
 use patterns_text::shown::Shown;
-use source_literals::replaced::ByteSpan;
 use std::alloc::AllocError;
 use std::io::ErrorKind;
 use std::{fmt, io};
@@ -23,7 +23,7 @@ pub struct Entry<'a> {
     pub spot: Spot<'a>,
     /// Where the file that is read spells it, in byte offsets: of a line the line without its end, of JSON what is between
     /// the quotes. Empty for a record, whose `record` says where its source spells it.
-    pub span: ByteSpan,
+    pub span: Span,
     /// What is at the span; of a record the pattern itself.
     pub contents: &'a str,
     /// What ends it: the end of its line or record; for a value of JSON a line feed.
@@ -43,7 +43,7 @@ impl<'a> Entry<'a> {
             flags: None,
             file,
             spot: Spot::Line(number),
-            span: ByteSpan {
+            span: Span {
                 start: 0,
                 end: pattern.len(),
             },

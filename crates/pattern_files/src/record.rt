@@ -1,11 +1,11 @@
 //! Records of patterns that were extracted from sources: each is an object of JSON.
 use crate::entry::Entry;
 use crate::values::trail::Tokens;
+use fancy_syntax::span::Span;
 use fre_program::flag_word::{FLAG_WORD, flags_named};
 use json::{Scratch, Token};
 use patterns_text::position::{FilePosition, Spot};
 use patterns_text::source_positions::SourcePositions;
-use source_literals::replaced::ByteSpan;
 use source_literals::source_change::{CharacterChange, Spelling};
 use source_literals::source_syntax::SourceSyntax;
 use std::alloc::{AllocError, Global};
@@ -208,7 +208,7 @@ impl<'a> Record<'a> {
             flags: self.flags,
             file: self.file.unwrap_or(file),
             spot: Spot::Source(&self.positions),
-            span: ByteSpan { start: 0, end: 0 },
+            span: Span { start: 0, end: 0 },
             contents: self.pattern,
             end: b"\n",
             key: "",
@@ -387,13 +387,13 @@ fn positions_of(
 }
 
 /// The spans of literals, of which a list has the starts and the ends.
-fn literals_of(alloc: Global, list: NumberList) -> Result<Vec<ByteSpan>, RecordError> {
+fn literals_of(alloc: Global, list: NumberList) -> Result<Vec<Span>, RecordError> {
     let mut literals = Vec::new(alloc);
     for pair in list.numbers.chunks(2) {
         let [start, end] = pair else {
             return Err(refused(list.position, RecordProblem::OddLiterals));
         };
-        literals.push(ByteSpan {
+        literals.push(Span {
             start: *start as usize,
             end: *end as usize,
         })?;

@@ -7,11 +7,11 @@ use crate::values::keys::Keys;
 use crate::values::open_rules::OpenRules;
 use crate::values::trail::{Tokens, Trail};
 use crate::values::{json_problem, json_text};
+use fancy_syntax::span::Span;
 use json::{Scratch, Token};
 use patterns_text::error::RunError;
 use patterns_text::grammar_rule::GrammarRule;
 use patterns_text::position::Spot;
-use source_literals::replaced::ByteSpan;
 use std::alloc::Global;
 use std::io::BufRead;
 use std::str;
@@ -69,7 +69,7 @@ impl<'a> FileLine<'a> {
         let start = self.start;
         let end = start.saturating_add(pattern.len());
         Entry {
-            span: ByteSpan { start, end },
+            span: Span { start, end },
             ..Entry::of_line(self.file, self.number, pattern, self.end)
         }
     }
@@ -227,7 +227,7 @@ fn text_entry<'a>(
         flags: None,
         file: json.file,
         spot,
-        span: ByteSpan {
+        span: Span {
             start,
             end: start.saturating_add(contents.len()),
         },

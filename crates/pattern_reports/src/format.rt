@@ -12,3 +12,19 @@ pub enum ReportFormat {
     /// The Static Analysis Results Interchange Format, 2.1.0: one object of JSON, with a line for each report.
     Sarif,
 }
+
+/// The names of the formats, as arguments have them.
+pub const FORMAT_NAMES: &[&str] = &["text", "json", "github", "sarif"];
+
+impl ReportFormat {
+    /// The format of this name, if there is one.
+    pub fn named(name: &str) -> Option<ReportFormat> {
+        match name {
+            "text" => Some(ReportFormat::Text),
+            "json" => Some(ReportFormat::Json),
+            "github" => Some(ReportFormat::Github),
+            "sarif" => Some(ReportFormat::Sarif),
+            _ => None,
+        }
+    }
+}

@@ -83,23 +83,25 @@ impl<'a> Reports<'a> {
     }
 }
 
+/// What the call makes of the reporter of the format.
+macro_rules! with_reporter {
+    ($reports:expr, $reporter:ident => $call:expr) => {
+        match $reports {
+            Reports::Text($reporter) => $call,
+            Reports::Json($reporter) => $call,
+            Reports::Github($reporter) => $call,
+            Reports::Sarif($reporter) => $call,
+        }
+    };
+}
+
 impl Reporter for Reports<'_> {
     fn begin(&mut self, alloc: Global, is_lint: bool) -> Result<(), RunError> {
-        match self {
-            Reports::Text(reporter) => reporter.begin(alloc, is_lint),
-            Reports::Json(reporter) => reporter.begin(alloc, is_lint),
-            Reports::Github(reporter) => reporter.begin(alloc, is_lint),
-            Reports::Sarif(reporter) => reporter.begin(alloc, is_lint),
-        }
+        with_reporter!(self, reporter => reporter.begin(alloc, is_lint))
     }
 
     fn error(&mut self, subject: Subject<'_>, refusal: &Refusal) -> Result<(), RunError> {
-        match self {
-            Reports::Text(reporter) => reporter.error(subject, refusal),
-            Reports::Json(reporter) => reporter.error(subject, refusal),
-            Reports::Github(reporter) => reporter.error(subject, refusal),
-            Reports::Sarif(reporter) => reporter.error(subject, refusal),
-        }
+        with_reporter!(self, reporter => reporter.error(subject, refusal))
     }
 
     fn refuse(
@@ -108,12 +110,7 @@ impl Reporter for Reports<'_> {
         position: usize,
         reason: &str,
     ) -> Result<(), RunError> {
-        match self {
-            Reports::Text(reporter) => reporter.refuse(subject, position, reason),
-            Reports::Json(reporter) => reporter.refuse(subject, position, reason),
-            Reports::Github(reporter) => reporter.refuse(subject, position, reason),
-            Reports::Sarif(reporter) => reporter.refuse(subject, position, reason),
-        }
+        with_reporter!(self, reporter => reporter.refuse(subject, position, reason))
     }
 
     fn problems(
@@ -123,47 +120,22 @@ impl Reporter for Reports<'_> {
         chosen: &Chosen,
         found: &[Found<'_>],
     ) -> Result<(), RunError> {
-        match self {
-            Reports::Text(reporter) => reporter.problems(subject, parsed, chosen, found),
-            Reports::Json(reporter) => reporter.problems(subject, parsed, chosen, found),
-            Reports::Github(reporter) => reporter.problems(subject, parsed, chosen, found),
-            Reports::Sarif(reporter) => reporter.problems(subject, parsed, chosen, found),
-        }
+        with_reporter!(self, reporter => reporter.problems(subject, parsed, chosen, found))
     }
 
     fn not_searched(&mut self, subject: Subject<'_>, parts: &[Span]) -> Result<(), RunError> {
-        match self {
-            Reports::Text(reporter) => reporter.not_searched(subject, parts),
-            Reports::Json(reporter) => reporter.not_searched(subject, parts),
-            Reports::Github(reporter) => reporter.not_searched(subject, parts),
-            Reports::Sarif(reporter) => reporter.not_searched(subject, parts),
-        }
+        with_reporter!(self, reporter => reporter.not_searched(subject, parts))
     }
 
     fn groups(&mut self, subject: Subject<'_>, parsed: &SpannedTree) -> Result<(), RunError> {
-        match self {
-            Reports::Text(reporter) => reporter.groups(subject, parsed),
-            Reports::Json(reporter) => reporter.groups(subject, parsed),
-            Reports::Github(reporter) => reporter.groups(subject, parsed),
-            Reports::Sarif(reporter) => reporter.groups(subject, parsed),
-        }
+        with_reporter!(self, reporter => reporter.groups(subject, parsed))
     }
 
     fn tree(&mut self, subject: Subject<'_>, parsed: &SpannedTree) -> Result<(), RunError> {
-        match self {
-            Reports::Text(reporter) => reporter.tree(subject, parsed),
-            Reports::Json(reporter) => reporter.tree(subject, parsed),
-            Reports::Github(reporter) => reporter.tree(subject, parsed),
-            Reports::Sarif(reporter) => reporter.tree(subject, parsed),
-        }
+        with_reporter!(self, reporter => reporter.tree(subject, parsed))
     }
 
     fn end(&mut self) -> Result<(), RunError> {
-        match self {
-            Reports::Text(reporter) => reporter.end(),
-            Reports::Json(reporter) => reporter.end(),
-            Reports::Github(reporter) => reporter.end(),
-            Reports::Sarif(reporter) => reporter.end(),
-        }
+        with_reporter!(self, reporter => reporter.end())
     }
 }

@@ -112,13 +112,13 @@ fn output_of(verb: FileVerb, matches: &ArgMatches<'_>) -> Output {
 
 /// How reports are written.
 pub(crate) fn report_format_of(matches: &ArgMatches<'_>) -> ReportFormat {
-    match matches.get_str("format") {
-        Some("json") => ReportFormat::Json,
-        Some("github") => ReportFormat::Github,
-        Some("sarif") => ReportFormat::Sarif,
-        _ if matches.get_flag("json") => ReportFormat::Json,
-        _ => ReportFormat::Text,
+    if matches.get_flag("json") {
+        return ReportFormat::Json;
     }
+    matches
+        .get_str("format")
+        .and_then(ReportFormat::named)
+        .unwrap_or(ReportFormat::Text)
 }
 
 /// What a pattern ends with.

@@ -2,6 +2,7 @@
 use crate::option::{FLAG, OptionRow, Takes};
 use clap::builder::ValueParser;
 use pattern_files::sources::STANDARD_INPUT;
+use pattern_reports::format::FORMAT_NAMES;
 
 /// A number from 1.
 const POSITIVE: ValueParser<'static> = ValueParser::Unsigned(1, u32::MAX as u64);
@@ -31,10 +32,7 @@ patterns.toml, from its folder upwards; options win over it",
 
 const FORMAT: OptionRow = OptionRow {
     id: "format",
-    takes: Takes::One(
-        "FORMAT",
-        ValueParser::Names(&["text", "json", "github", "sarif"]),
-    ),
+    takes: Takes::One("FORMAT", ValueParser::Names(FORMAT_NAMES)),
     help: "How reports are written: as text, which is the default; as json,
 like --json; as the workflow commands of github; or as sarif, which
 is SARIF 2.1.0",

@@ -1,5 +1,5 @@
 //! The rules of `lint`.
-ghost use Rattle.std.specs.Prelude.{◌≡◌, if◌then◌else◌, true, false, IfSome, ◌<◌, length, slice_index_or};
+ghost use Rattle.std.specs.Prelude.{◌≡◌, ◌≢◌, if◌then◌else◌, true, false, MatchOption, ◌<◌, length, slice_index_or};
 ghost use Rattle.patterns_lint.specs.Rules.{rule_name};
 ghost use Rattle.patterns_lint.specs.Chosen.{default_level, number};
 ghost use Rattle.patterns_lint.specs.declared.rule.Rule.{Rule};
@@ -358,9 +358,9 @@ impl Rule {
 
     /// The rule of this name; none if no rule has it.
     pub fn named(name: &str) -> Option<Rule>
-        ensures { IfSome result (λ rule. rule_name rule ≡ name.now) }
+        ensures { MatchOption result ((rule : Rule) → rule_name rule ≢ name.now) (λ rule. rule_name rule ≡ name.now) }
     {
-        for row in RULES.iter() {
+        for row in all_rules() {
             if row.rule.name() == name {
                 return Some(row.rule);
             }

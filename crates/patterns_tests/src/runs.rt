@@ -117,9 +117,33 @@ patterns: broken: connection reset
 0 patterns, 0 refused
 ";
 
+/// What is reported of the pattern `a|a` in a file that cannot be written, and why it cannot.
+const LEFT_IN_FULL: &str = "full:1:3: warning: branch that is equal to branch 1 [duplicate-branch]
+a|a
+- ^
+branch 1
+help: remove it
+";
+
+const NO_SPACE: &str = "patterns: full: cannot be written: no storage space
+1 pattern, 0 refused, 1 warning
+";
+
+const LEFT_IN_MOVING: &str =
+    "moving:1:3: warning: branch that is equal to branch 1 [duplicate-branch]
+a|a
+- ^
+branch 1
+help: remove it
+";
+
+const HAS_CHANGED: &str = "patterns: moving: cannot be written: it has changed since it was read
+1 pattern, 0 refused, 1 warning
+";
+
 /// Words, and what is written to the two outputs: a file that is not there, and one that cannot be read to its end, as
-/// lines, as a configuration and as records.
-static UNREADABLE: [(&[&str], &str, &str); 3] = [
+/// lines, as a configuration and as records; and two that cannot be written.
+static UNUSABLE: [(&[&str], &str, &str); 5] = [
     (&["patterns", "check", "none", "broken"], BROKEN, NO_FILES),
     (
         &["patterns", "check", "--config", "broken", "mixed"],
@@ -131,51 +155,32 @@ static UNREADABLE: [(&[&str], &str, &str); 3] = [
         "",
         NO_RECORDS,
     ),
+    (
+        &["patterns", "lint", "--fix", "full"],
+        LEFT_IN_FULL,
+        NO_SPACE,
+    ),
+    (
+        &["patterns", "lint", "--fix", "moving"],
+        LEFT_IN_MOVING,
+        HAS_CHANGED,
+    ),
 ];
 
-#[test]
-fn files_that_cannot_be_read(rt: HostRuntime) -> Result<(), Fail> {
-    for (words, out, err) in UNREADABLE.iter() {
-        let run = run(rt.alloc(), Paints::both(Paint::Plain), words, usize::MAX)?;
-        assert!(rt; run.status == 2, "{words:?}");
-        assert!(rt; run.out.text.as_slice() == out.as_bytes(), "{words:?}");
-        assert!(rt; run.err.text.as_slice() == err.as_bytes(), "{words:?}");
-    }
-    Ok(())
+/// Whether a run says with its status that a file could not be used, and writes this.
+fn is_unusable(alloc: Global, words: &[&str], out: &str, err: &str) -> Result<bool, Fail> {
+    let run = run(alloc, Paints::both(Paint::Plain), words, usize::MAX)?;
+    Ok(
+        run.status == 2
+            && run.out.text.as_slice() == out.as_bytes()
+            && run.err.text.as_slice() == err.as_bytes(),
+    )
 }
 
-/// What is reported of the pattern `a|a` at a position.
-const LEFT: &str = ":1:3: warning: branch that is equal to branch 1 [duplicate-branch]
-a|a
-- ^
-branch 1
-help: remove it
-";
-
-const COUNTED: &str = "1 pattern, 0 refused, 1 warning\n";
-
-/// Files that cannot be written, and why.
-static NOT_WRITTEN: [(&str, &str); 2] = [
-    (
-        "full",
-        "patterns: full: cannot be written: no storage space\n",
-    ),
-    (
-        "moving",
-        "patterns: moving: cannot be written: it has changed since it was read\n",
-    ),
-];
-
 #[test]
-fn files_that_cannot_be_written(rt: HostRuntime) -> Result<(), Fail> {
-    for (name, reason) in NOT_WRITTEN.iter() {
-        let words = ["patterns", "lint", "--fix", name];
-        let run = run(rt.alloc(), Paints::both(Paint::Plain), &words, usize::MAX)?;
-        let left = format!(in rt.alloc(); "{name}{LEFT}")?;
-        let message = format!(in rt.alloc(); "{reason}{COUNTED}")?;
-        assert!(rt; run.status == 2, "{name}");
-        assert!(rt; run.out.text.as_slice() == left.as_bytes(), "{name}");
-        assert!(rt; run.err.text.as_slice() == message.as_bytes(), "{name}");
+fn files_that_cannot_be_read_or_written(rt: HostRuntime) -> Result<(), Fail> {
+    for (words, out, err) in UNUSABLE.iter() {
+        assert!(rt; is_unusable(rt.alloc(), words, out, err)?, "{words:?}");
     }
     Ok(())
 }
@@ -192,12 +197,17 @@ static POSITIONS: [(&str, &str); 7] = [
     ("broken:2", "patterns: broken: connection reset"),
 ];
 
+/// Whether the report on the pattern at the position begins so.
+fn is_reported(alloc: Global, position: &str, report: &str) -> Result<bool, Fail> {
+    let words = ["patterns", "tree", "--file", position];
+    let run = run(alloc, Paints::both(Paint::Plain), &words, usize::MAX)?;
+    Ok(run.err.text.starts_with(report.as_bytes()))
+}
+
 #[test]
 fn positions(rt: HostRuntime) -> Result<(), Fail> {
     for (position, report) in POSITIONS.iter() {
-        let words = ["patterns", "tree", "--file", position];
-        let run = run(rt.alloc(), Paints::both(Paint::Plain), &words, usize::MAX)?;
-        assert!(rt; run.err.text.starts_with(report.as_bytes()), "{position}");
+        assert!(rt; is_reported(rt.alloc(), position, report)?, "{position}");
     }
     Ok(())
 }

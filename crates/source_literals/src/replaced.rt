@@ -3,19 +3,13 @@ ghost use Rattle.std.specs.Prelude.{◌≡◌, ◌↔◌, IsTrue, IfOk, IfSome, 
 ghost use Rattle.source_literals.specs.Replaced as spec;
 ghost use Rattle.source_literals.specs.Replaced.{AreInOrder};
 
+use fancy_syntax::span::Span;
 use std::alloc::{AllocError, Global};
-
-/// A part of a file, in byte offsets: from where it begins to after it.
-#[derive(Debug, Clone, Copy, PartialEq, Eq)]
-pub struct ByteSpan {
-    pub start: usize,
-    pub end: usize,
-}
 
 /// A part of a file, and what is in its place.
 #[derive(Drop)]
 pub struct Replacement {
-    pub span: ByteSpan,
+    pub span: Span,
     pub text: String,
 }
 

@@ -1,8 +1,9 @@
 //! Patterns that change in their sources. Only the bytes of a literal are changed, and only if the literals of the pattern are
 //! then read as its new text.
 use crate::literal::{SpelledCharacter, read_literal};
-use crate::replaced::{ByteSpan, Replacement, replaced};
+use crate::replaced::{Replacement, replaced};
 use crate::source_syntax::SourceSyntax;
+use fancy_syntax::span::Span;
 use std::alloc::{AllocError, Global};
 use std::str;
 
@@ -18,7 +19,7 @@ pub struct CharacterChange {
 #[derive(Clone, Drop)]
 pub struct Spelling {
     pub syntax: SourceSyntax,
-    pub literals: Vec<ByteSpan>,
+    pub literals: Vec<Span>,
 }
 
 /// A pattern of a source that changes.
@@ -47,7 +48,7 @@ pub struct SourceChange {
 struct ChangedLiteral {
     /// Which change it is of.
     change: usize,
-    span: ByteSpan,
+    span: Span,
     spelling: String,
 }
 
@@ -56,7 +57,7 @@ fn characters_of(
     alloc: Global,
     syntax: SourceSyntax,
     source: &str,
-    span: ByteSpan,
+    span: Span,
 ) -> Result<Option<Vec<SpelledCharacter>>, AllocError> {
     let read = read_literal(alloc, syntax, source, span.start)?;
     Ok(
@@ -79,7 +80,7 @@ fn push_part(
 fn changed_spelling(
     alloc: Global,
     source: &str,
-    span: ByteSpan,
+    span: Span,
     characters: &[SpelledCharacter],
     changes: &[CharacterChange],
 ) -> Result<String, AllocError> {
@@ -167,7 +168,7 @@ fn read_part(
     alloc: Global,
     new: &str,
     change: &SourceChange,
-    span: ByteSpan,
+    span: Span,
     done: Option<usize>,
 ) -> Result<Option<usize>, AllocError> {
     let (Some(done), text) = (done, change.text.as_str()) else {
@@ -204,7 +205,7 @@ fn read_parts(
         }
         let start = one.span.start.saturating_add(added).saturating_sub(gone);
         let end = start.saturating_add(one.spelling.len());
-        *done = read_part(alloc, new, change, ByteSpan { start, end }, *done)?;
+        *done = read_part(alloc, new, change, Span { start, end }, *done)?;
         added = added.saturating_add(one.spelling.len());
         gone = gone.saturating_add(one.span.end.saturating_sub(one.span.start));
     }

@@ -19,18 +19,19 @@ pub fn unhex(digits: &str) -> Vec<u8> {
     digits.chunks(2).map(byte).collect()
 }
 
-/// The letters of the flags, in the order of their bits.
-const LETTERS: &str = "imsUxuRon";
+#[path = "../../src/numbers.rs"]
+mod numbers;
+use numbers::FLAG_LETTERS;
 
 /// The flags that the letters name; `None` if one names none.
 pub fn flags_of(letters: &str) -> Option<Flags> {
     let letters = if letters == "-" { "" } else { letters };
-    let bits = letters.chars().map(|letter| LETTERS.find(letter).map(|bit| 1 << bit));
+    let bits = letters.chars().map(|letter| FLAG_LETTERS.find(letter).map(|bit| 1 << bit));
     Flags::from_bits(bits.sum::<Option<u32>>()?)
 }
 
 pub fn letters_of(flags: Flags) -> String {
-    let set = LETTERS.chars().enumerate().filter(|(bit, _)| flags.bits() >> bit & 1 == 1);
+    let set = FLAG_LETTERS.chars().enumerate().filter(|(bit, _)| flags.bits() >> bit & 1 == 1);
     let letters: String = set.map(|(_, letter)| letter).collect();
     if letters.is_empty() {
         "-".to_owned()
@@ -39,7 +40,7 @@ pub fn letters_of(flags: Flags) -> String {
     }
 }
 
-/// The words of a node of an owned tree. The match has no `_`: it is one that a program wrote for the tree of fancy-regex.
+/// The words of a node of an owned tree.
 fn words_of_expr(node: &Expr) -> String {
     match node {
         Expr::Empty => "Empty".to_owned(),
@@ -77,6 +78,7 @@ fn words_of_expr(node: &Expr) -> String {
                 CaptureGroupTarget::ByNumber(group) => format!("number:{group}"),
                 CaptureGroupTarget::ByName(name) => format!("name:{}", hex(name.as_bytes())),
                 CaptureGroupTarget::Relative(distance) => format!("relative:{distance}"),
+                _ => panic!("a target that is new: {target:?}"),
             };
             format!("AstNode SubroutineCall {target} {position}")
         }
@@ -84,6 +86,7 @@ fn words_of_expr(node: &Expr) -> String {
             AstNode::AstGroup { .. } | AstNode::Backref { .. } | AstNode::BackrefExistsCondition { .. },
             position,
         ) => format!("AstNode that no parsed tree has at {position}"),
+        _ => panic!("a kind of node that is new: {node:?}"),
     }
 }
 
@@ -114,6 +117,7 @@ fn words_of_row(node: NodeRef<'_>) -> String {
                 CallTarget::ByNumber(group) => format!("number:{group}"),
                 CallTarget::ByName(name) => format!("name:{}", hex(name.as_bytes())),
                 CallTarget::Relative(distance) => format!("relative:{distance}"),
+                _ => panic!("a target that is new: {target:?}"),
             };
             format!("AstNode SubroutineCall {target} {position}")
         }

@@ -1,6 +1,6 @@
 use Rattle.std.proofs.Common.{◌≡◌, true, false, chars, sym, ap, ◌∙◌, subst}
 use Rattle.fancy_lex.specs.Flags.{flags_of}
-use Rattle.fancy_grammar.proofs.Parsed.Join.{none_of_pattern}
+use Rattle.fancy_pattern.proofs.Parsed.Join.{none_of_pattern}
 use Rattle.fancy_grammar.specs.Pattern.{pattern_text}
 use Rattle.fancy_grammar.specs.ReadAs.{IsReadAs}
 use Rattle.fancy_syntax.specs.InfoViews.{info_of}

@@ -1,7 +1,7 @@
 use Rattle.std.proofs.Common.{◌≡◌, ◌<◌, ◌∙◌, ap, arith, length}
 use Rattle.std.proofs.Math.ListN.{set}
 use Rattle.std.proofs.lemmas.Bool.{OnTrue_at}
-use Rattle.fancy_grammar.proofs.NeedsLemmas.{first_joins, both_joins}
+use Rattle.fancy_pattern.proofs.NeedsLemmas.{first_joins, both_joins}
 use Rattle.fancy_grammar.specs.PatternNeeds.{first, both, needs}
 use Rattle.fancy_grammar.specs.Tree.{levels}
 use Rattle.fancy_syntax.specs.View.{view}

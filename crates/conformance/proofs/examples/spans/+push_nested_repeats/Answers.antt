@@ -1,0 +1,27 @@
+use Rattle.std.proofs.Common.{◌<◌, ◌∙◌, ap, sym, arith, map}
+use Rattle.fancy_spans.specs.Spanned.{remaining_spanned, spanned_of}
+use Rattle.fancy_syntax.specs.Tree.{levels}
+use Rattle.fancy_syntax.specs.View.{view, views}
+use Rattle.fancy_syntax.proofs.Descents.{within_start, within_first, within_next, levels_of_child}
+use Rattle.conformance.proofs.examples.spans.+push_nested_repeats.Goals as goal
+
+pub loop-child-init : goal.loop-child-init
+loop-child-init t c =
+    within_start (spanned_of c.args.node).expr _
+    (ap (λ i. map (λ p. p.expr) (remaining_spanned i)) c.into_iter-child-iterator.ensures.into_iter_gives
+    ∙ c.children-child-items.ensures.exprs)
+
+pub push_nested_repeats-requires : goal.push_nested_repeats-requires
+push_nested_repeats-requires t c =
+    let e = (spanned_of c.args.node).expr in
+    let child = (spanned_of c.in-Some-child.child).expr in
+    let among = within_first e child _ _ c.loop-child.invariant (ap (map (λ p. p.expr)) c.in-Some-child.ensures.steps) in
+    let less : levels (view child) < levels (view e) =
+    levels_of_child e child
+    (ap views (sym c.children-child-items.ensures.exprs) ∙ c.children-child-items.ensures.trees) among in
+    (omega (arith, less), tt)
+
+pub loop-child-preserved : goal.loop-child-preserved
+loop-child-preserved t c =
+    within_next (spanned_of c.args.node).expr (spanned_of c.in-Some-child.child).expr _ _ c.loop-child.invariant
+    (ap (map (λ p. p.expr)) c.in-Some-child.ensures.steps)

@@ -1,0 +1,12 @@
+use Rattle.std.proofs.Common.{map}
+use Rattle.fancy_spans.specs.Spanned.{remaining_spanned, spanned_of}
+use Rattle.fancy_syntax.specs.Tree.{levels}
+use Rattle.fancy_syntax.specs.View.{view}
+use Rattle.fancy_syntax.proofs.Descents.{Within}
+use Rattle.conformance.proofs.examples.spans.+push_nested_repeats.Given as goal
+
+abbrev pub decreases-push_nested_repeats : goal.decreases-push_nested_repeats
+decreases-push_nested_repeats l = levels (view (spanned_of l.node).expr)
+
+abbrev pub invariant-loop-child : goal.invariant-loop-child
+invariant-loop-child l = Within (spanned_of l.fn.node).expr (map (λ p. p.expr) (remaining_spanned l.child-iterator))

@@ -1,8 +1,0 @@
-use Rattle.guide_examples.proofs.FormLemmas.{form_of}
-use Rattle.guide_examples.proofs.proved.formatted.Goals as goal
-
-pub returns : goal.returns
-returns c = record {
-  form = form_of _ _ _ _ _ c.in_ok-tree.ensures.found c.in_ok-print.ensures.exact
-      c.in_ok-print.ensures.text c.in_ok-print.ensures.reads_back;
-}

@@ -1,5 +1,0 @@
-use Rattle.guide_examples.proofs.FormLemmas.{count_of}
-use Rattle.guide_examples.proofs.proved.group_count.Goals as goal
-
-pub returns : goal.returns
-returns c = record { tree = (_, _, c.in_ok-tree.ensures.found); count = count_of _ _ _ _ c.in_ok-tree.ensures.only }
