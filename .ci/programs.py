@@ -90,7 +90,7 @@ def build(program: str) -> Path:
 
 # ---- tried
 
-# Programs that were built without proof, by their names.
+# Programs that were built without proof, by their names. `fre` reads nothing, so its runs are cases of `rt try`, and it has no path.
 TRIED = {}
 # What makes a program read the file that is named after these words.
 READING = {"patterns": ("check",), "conformance": ("replay",)}
@@ -131,20 +131,21 @@ def caught(program: str, folder: Path) -> Path:
     if writer is None:
         sys.exit(f"rt try does not run {program}:\n{decoded(log.read_bytes())}")
     *loader, file = reader_of(pipe)[:-len(words)]
-    shutil.copy(file, copy)
+    shutil.copyfile(file, copy)
     os.close(writer)
     process.wait()
     script.write_text(f'#!/bin/sh\nexec {shlex.join([*loader, str(copy)])} "$@"\n', encoding="utf-8")
-    script.chmod(0o755)
+    for it in (copy, script):
+        it.chmod(0o755)
     return script
 
 
 @contextmanager
 def tried(*programs) -> Iterator[None]:
-    """Inside it, these programs are built without proof; so is `fre`, for runs that have only words."""
+    """Inside it, these programs are built without proof."""
     with tempfile.TemporaryDirectory() as name, ThreadPoolExecutor() as pool:
         Path(name).chmod(0o755)
-        TRIED.update(zip(programs, pool.map(lambda it: caught(it, Path(name)), programs)))
+        TRIED.update(zip(programs, pool.map(lambda it: caught(it, Path(name)) if it in READING else None, programs)))
         try:
             yield
         finally:
@@ -193,7 +194,7 @@ def output_of(run: Run) -> Output:
 def outputs_of(runs: list) -> list:
     """What comes of each run, or of what makes several."""
     plain = [it for it in runs if isinstance(it, Run)]
-    cases = [it for it in plain if TRIED and it.program not in TRIED]
+    cases = [it for it in plain if it.program in TRIED and not TRIED[it.program]]
     known = dict(zip(cases, outputs_of_cases("fre", cases))) if cases else {}
     with ThreadPoolExecutor(os.cpu_count()) as pool:
         return list(pool.map(lambda it: known.get(it) or (output_of(it) if isinstance(it, Run) else it()), runs))
