@@ -16,6 +16,11 @@ fn main() {
     println!("cargo:rerun-if-changed=src/version.rs");
     println!("cargo:rerun-if-env-changed=FANCY_LIB_DIR");
     println!("cargo:rerun-if-env-changed=PKG_CONFIG_PATH");
+    println!("cargo:rerun-if-env-changed=DOCS_RS");
+    // documentation needs no library, and docs.rs has none
+    if env::var_os("DOCS_RS").is_some() {
+        return;
+    }
     let (link, file) = match env::var_os("CARGO_FEATURE_SHARED") {
         None => ("static", "libfancy.a"),
         Some(_) => ("dylib", "libfancy.so"),
