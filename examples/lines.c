@@ -29,6 +29,9 @@ static const char *const absents[] = {"", "Repeater", "Expression", "Stopper", "
 static const char flag_letters[] = "imsUxuRon";
 /* ---- end of names */
 
+/* The name with this number in a list; "unknown" for a number that only a later library has. */
+#define NAME(names, number) ((number) < sizeof(names) / sizeof *(names) ? (names)[number] : "unknown")
+
 static const char *boolean(bool is) { return is ? "true" : "false"; }
 
 static void write_hex(FILE *out, const char *text, size_t size) {
@@ -51,7 +54,7 @@ static void write_text(FILE *out, const tree *t, const fancy_node *n) {
 }
 
 static void write_assertion(FILE *out, const fancy_node *n) {
-    fprintf(out, " %s", assertions[n->which]);
+    fprintf(out, " %s", NAME(assertions, n->which));
     if (n->which >= FANCY_ASSERTION_END_TEXT_IGNORE_TRAILING_NEWLINES && n->which <= FANCY_ASSERTION_END_LINE)
         fprintf(out, " crlf=%s", boolean(n->crlf));
 }
@@ -62,7 +65,7 @@ static void write_fields(FILE *out, const tree *t, const fancy_node *n) {
     case FANCY_NODE_ASSERTION: write_assertion(out, n); break;
     case FANCY_NODE_GENERAL_NEWLINE: fprintf(out, " unicode=%s", boolean(n->unicode)); break;
     case FANCY_NODE_LITERAL: case FANCY_NODE_LITERAL_BYTES: case FANCY_NODE_DELEGATE: write_text(out, t, n); break;
-    case FANCY_NODE_LOOK_AROUND: fprintf(out, " %s", looks[n->which]); break;
+    case FANCY_NODE_LOOK_AROUND: fprintf(out, " %s", NAME(looks, n->which)); break;
     case FANCY_NODE_REPEAT: fprintf(out, " %zu %zu greedy=%s", n->lo, n->hi, boolean(n->greedy)); break;
     case FANCY_NODE_BACKREF: fprintf(out, " %zu casei=%s", n->group, boolean(n->casei)); break;
     case FANCY_NODE_BACKREF_AT_LEVEL: fprintf(out, " %zu %td casei=%s", n->group, n->level, boolean(n->casei)); break;
@@ -72,15 +75,15 @@ static void write_fields(FILE *out, const tree *t, const fancy_node *n) {
         else fputs("none", out);
         break;
     case FANCY_NODE_SUBROUTINE_CALL: fprintf(out, " %zu", n->group); break;
-    case FANCY_NODE_VERB: fprintf(out, " %s", verbs[n->which]); break;
-    case FANCY_NODE_ABSENT: fprintf(out, " %s", absents[n->which]); break;
+    case FANCY_NODE_VERB: fprintf(out, " %s", NAME(verbs, n->which)); break;
+    case FANCY_NODE_ABSENT: fprintf(out, " %s", NAME(absents, n->which)); break;
     case FANCY_NODE_AST_NODE: write_call(out, t, n); break;
     }
 }
 
 /* The node at an index, and its descendants. */
 static void write_node(FILE *out, const tree *t, size_t at, int level) {
-    fprintf(out, "%*s%s", 2 * level, "", kinds[t->nodes[at].kind]);
+    fprintf(out, "%*s%s", 2 * level, "", NAME(kinds, t->nodes[at].kind));
     write_fields(out, t, &t->nodes[at]);
     fputc('\n', out);
     for (size_t child = at + 1; child < t->nodes[at].end; child = t->nodes[child].end)

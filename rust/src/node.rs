@@ -216,7 +216,7 @@ impl<'a> NodeRef<'a> {
     }
 
     /// Writes a pattern that is parsed, under these flags, as the node and its descendants, with the names of the groups among
-    /// them; `None` if no pattern is parsed as these. References keep their numbers.
+    /// them; `None` if what is written is not parsed as these. References keep their numbers.
     ///
     /// # Errors
     ///

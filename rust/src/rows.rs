@@ -167,8 +167,8 @@ impl Rows {
         Builder::at(&self.nodes[..self.info.node_count], self.texts(), index)
     }
 
-    /// Writes a pattern that is parsed, under these flags, as this tree with its names; `None` if no pattern is, which can
-    /// happen under other flags than those of the parse. [`NodeRef::to_pattern`] does this for a part of the tree.
+    /// Writes a pattern that is parsed, under these flags, as this tree with its names; `None` if what is written is not, which
+    /// can happen under other flags than those of the parse. [`NodeRef::to_pattern`] does this for a part of the tree.
     ///
     /// # Errors
     ///

@@ -218,7 +218,8 @@ impl Expr {
     ///
     /// Of `groups` it needs only the names, by the numbers that groups have in this tree, and two fields that say whether
     /// references are written by numbers, as far as there is a choice: `numeric_capture_group_references` and
-    /// `self_recursive`.
+    /// `self_recursive`. In a part of a tree groups have other numbers than in the whole:
+    /// [`NodeRef::to_pattern`](crate::NodeRef::to_pattern) writes a part with its names.
     ///
     /// # Errors
     ///
