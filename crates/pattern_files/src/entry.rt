@@ -1,4 +1,6 @@
 //! What a file holds: its patterns, and what of it is not read.
+ghost use Rattle.std.specs.Prelude.{◌≡◌, None};
+
 use crate::lines::{LineRecord, lines_in};
 use crate::record::{Record, RecordRefusal};
 use crate::values::refusal::JsonRefusal;
@@ -37,7 +39,10 @@ pub struct Entry<'a> {
 
 impl<'a> Entry<'a> {
     /// A pattern that is a line with this end, at the start of what is read. The line has this number, from 1.
-    pub fn of_line(file: &'a str, number: u64, pattern: &'a str, end: &'a [u8]) -> Entry<'a> {
+    pub fn of_line(file: &'a str, number: u64, pattern: &'a str, end: &'a [u8]) -> Entry<'a>
+        ensures pattern { result.pattern ≡ pattern.entry }
+        ensures flags { result.flags ≡ None }
+    {
         Entry {
             pattern,
             flags: None,

@@ -4,6 +4,7 @@ mod groups;
 mod node;
 
 use crate::error_kinds::code;
+use crate::fixes::fixes_of;
 use crate::json_lines::fields::{
     begin, finish, write_number, write_related, write_span, write_text,
 };
@@ -14,11 +15,9 @@ use crate::severity::Severity;
 use fancy_spans::SpannedTree;
 use fancy_syntax::span::Span;
 use json::Writer;
+use lint_rules::chosen::Chosen;
+use lint_rules::problem::{Found, NOT_SEARCHED, Problem};
 use pattern_fixes::edit::Edit;
-use patterns_lint::chosen::Chosen;
-use patterns_lint::fixes::fixes_of;
-use patterns_lint::problem::{Found, Problem};
-use patterns_lint::slow::NOT_SEARCHED;
 use patterns_text::error::RunError;
 use patterns_text::nodes::nodes_of;
 use patterns_text::position::CharacterTable;
@@ -58,11 +57,11 @@ fn write_attack(
     };
     writer.key("attack")?;
     writer.begin_object()?;
-    if let Some(before) = &text.attack.before {
+    if let Some(before) = text.before {
         write_characters(alloc, writer, "before", before)?;
     }
     write_characters(alloc, writer, "repeat", text.word)?;
-    write_characters(alloc, writer, "after", &text.attack.after)?;
+    write_characters(alloc, writer, "after", text.after)?;
     if let Problem::PolynomialBacktracking { degree, .. } = problem {
         write_number(writer, "degree", degree as u64)?;
     }

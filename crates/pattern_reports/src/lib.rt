@@ -3,6 +3,7 @@
 
 mod annotation;
 mod error_kinds;
+pub mod fixes;
 pub mod format;
 pub mod github;
 pub mod json_lines;

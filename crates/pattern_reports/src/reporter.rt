@@ -4,8 +4,8 @@ ghost use Rattle.patterns_text.specs.Subject.{IsAccepted, IsRefused, IsParsedAs}
 
 use fancy_spans::SpannedTree;
 use fancy_syntax::span::Span;
-use patterns_lint::chosen::Chosen;
-use patterns_lint::problem::Found;
+use lint_rules::chosen::Chosen;
+use lint_rules::problem::Found;
 use patterns_text::error::RunError;
 use patterns_text::subject::{Refusal, Subject};
 use std::alloc::Global;

@@ -1,5 +1,5 @@
 //! How bad it is what is reported.
-use patterns_lint::chosen::Level;
+use lint_rules::chosen::Level;
 use patterns_text::paint::Ink;
 
 /// How bad it is what is reported.

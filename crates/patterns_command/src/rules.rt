@@ -1,7 +1,7 @@
 //! The levels of rules that the arguments choose.
 use clap::ArgMatches;
+use lint_rules::chosen::Level;
 use patterns_config::choices::{LEVELS, RuleLevel};
-use patterns_lint::chosen::Level;
 use std::alloc::{AllocError, Global};
 
 /// A level that the arguments give to a rule, or to all.

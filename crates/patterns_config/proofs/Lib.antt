@@ -1,2 +1,3 @@
 pub mod WildLemmas
 pub mod GlobLemmas
+pub mod LevelsLemmas

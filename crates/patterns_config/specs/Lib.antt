@@ -3,3 +3,4 @@
 pub mod Wild
 pub mod Globs
 pub mod FileSettings
+pub mod Levels

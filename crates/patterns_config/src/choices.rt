@@ -1,7 +1,11 @@
 //! What the arguments choose where a configuration may say otherwise.
+ghost use Rattle.lint_rules.specs.Chosen.{level_of};
+ghost use Rattle.lint_rules.specs.declared.rule.Rule.{Rule};
+ghost use Rattle.patterns_config.specs.Levels.{GivesLevel};
+
+use lint_rules::chosen::{Chosen, Level};
+use lint_rules::rule::{RULES, Rule};
 use pattern_files::form::FileFormat;
-use patterns_lint::chosen::{Chosen, Level};
-use patterns_lint::rule::{RULES, Rule};
 use std::alloc::{AllocError, Global};
 
 /// The levels that rules can be given, by the keys and the options that give them, in the order in which keys count.
@@ -34,7 +38,9 @@ pub struct RuleLevel<'a> {
 impl RuleLevel<'_> {
     /// Gives the level to the rule of the name, and to all where no rule has it. For all, a warning lowers no rule that is
     /// an error by default.
-    pub fn set(self, chosen: &mut Chosen) {
+    pub fn set(self, chosen: &mut Chosen)
+        ensures { (rule : Rule) → GivesLevel self.entry.name.now self.entry.level rule (level_of chosen.old.levels rule) (level_of chosen.new.levels rule) }
+    {
         if let Some(rule) = Rule::named(self.name) {
             chosen.set(rule, self.level);
             return;

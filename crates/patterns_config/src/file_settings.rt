@@ -1,14 +1,17 @@
 //! What a configuration says of the patterns of a file.
-ghost use Rattle.std.specs.Prelude.{◌≡◌, ◌||◌, ◌⊎◌, [], None, false, IsTrue, IsNone, MatchOption, if◌then◌else◌, unwrap_or};
+ghost use Rattle.std.specs.Prelude.{◌≡◌, ◌++◌, ◌||◌, ◌⊎◌, [], None, false, IsTrue, IsNone, MatchOption, if◌then◌else◌, unwrap_or};
 ghost use Rattle.patterns_config.specs.FileSettings.{options_of, is_named_in, flags_after, textmate_after, keys_after, is_json, AreKeys};
+ghost use Rattle.patterns_config.specs.Levels.{GiveLevels, levels_of_option, levels_of_options, levels_of_names, levels_of_arguments, is_json_file};
+ghost use Rattle.lint_rules.specs.Chosen.{level_of, default_level};
+ghost use Rattle.lint_rules.specs.declared.rule.Rule.{Rule};
 
 use crate::choices::{Choices, RuleLevel};
 use crate::configs::FoundConfig;
 use crate::glob::PathNames;
 use crate::options::FileOption;
+use lint_rules::chosen::{Chosen, Level};
 use pattern_files::form::FileFormat;
 use pattern_files::values::keys::Keys;
-use patterns_lint::chosen::{Chosen, Level};
 use std::alloc::{AllocError, Global};
 
 /// The options of one file: what is said of all files, and then what is said of some, this one among them. Of several
@@ -121,17 +124,28 @@ impl<'a> FileSettings<'a> {
     }
 
     /// Gives the rules their levels.
-    fn set_levels(&self, chosen: &mut Chosen) {
+    fn set_levels(&self, chosen: &mut Chosen)
+        ensures { (rule : Rule) → GiveLevels rule (levels_of_options (options_of self.now)) (level_of chosen.old.levels rule) (level_of chosen.new.levels rule) }
+    {
         for option in &self.found {
-            if let FileOption::Rules(level, names) = option {
-                set_rules(chosen, names, *level);
-            }
+            set_option(chosen, option);
         }
     }
 }
 
+/// Gives the rules the levels of an option.
+fn set_option(chosen: &mut Chosen, option: &FileOption)
+    ensures { (rule : Rule) → GiveLevels rule (levels_of_option option.now) (level_of chosen.old.levels rule) (level_of chosen.new.levels rule) }
+{
+    if let FileOption::Rules(level, names) = option {
+        set_rules(chosen, names, *level);
+    }
+}
+
 /// Gives a level to the rules of these names.
-fn set_rules(chosen: &mut Chosen, names: &[String], level: Level) {
+fn set_rules(chosen: &mut Chosen, names: &[String], level: Level)
+    ensures { (rule : Rule) → GiveLevels rule (levels_of_names level names.now) (level_of chosen.old.levels rule) (level_of chosen.new.levels rule) }
+{
     for name in names {
         RuleLevel {
             name: name.as_str(),
@@ -173,20 +187,47 @@ pub fn is_form_chosen(choices: Choices<'_>, settings: &FileSettings<'_>) -> bool
     choices.has_form || settings.is_named || settings.is_json()
 }
 
-/// The levels of rules for a file with these settings: the default ones, then those of the configuration, then those of
-/// the arguments.
-pub fn levels_with(choices: Choices<'_>, settings: &FileSettings<'_>) -> Chosen {
-    let is_json = matches!(choices.form, FileFormat::Values(_))
-        || keys_with(choices, settings).is_some();
-    let mut chosen = if is_json {
+/// Whether the patterns of a file with these settings are texts of JSON.
+fn is_json_with(choices: Choices<'_>, settings: &FileSettings<'_>) -> bool
+    ensures { result ≡ is_json_file choices.entry (options_of settings.now) }
+{
+    match choices.form {
+        FileFormat::Values(_) => true,
+        FileFormat::Records(_) | FileFormat::Extracted => !choices.has_form && settings.is_json(),
+    }
+}
+
+/// The default levels of a file; of JSON, if it is such.
+fn default_levels(is_json: bool) -> Chosen
+    ensures { (rule : Rule) → level_of result.levels rule ≡ default_level is_json rule }
+{
+    if is_json {
         Chosen::for_values()
     } else {
         Chosen::new()
-    };
-    settings.set_levels(&mut chosen);
-    for one in choices.levels {
-        one.set(&mut chosen);
     }
+}
+
+/// Gives the rules the levels of arguments.
+fn set_arguments(chosen: &mut Chosen, levels: &[RuleLevel<'_>])
+    ensures { (rule : Rule) → GiveLevels rule (levels_of_arguments levels.now) (level_of chosen.old.levels rule) (level_of chosen.new.levels rule) }
+{
+    for one in levels {
+        let given = *one;
+        given.set(chosen);
+    }
+}
+
+/// The levels of rules for a file with these settings: the default ones, then those of the configuration, then those of
+/// the arguments.
+pub fn levels_with(choices: Choices<'_>, settings: &FileSettings<'_>) -> Chosen
+    ensures exact { (rule : Rule) → GiveLevels rule (levels_of_options (options_of settings.now) ++ levels_of_arguments choices.entry.levels.now)
+        (default_level (is_json_file choices.entry (options_of settings.now)) rule) (level_of result.levels rule) }
+    ensures verbose { result.is_verbose ≡ choices.entry.is_verbose }
+{
+    let mut chosen = default_levels(is_json_with(choices, settings));
+    settings.set_levels(&mut chosen);
+    set_arguments(&mut chosen, choices.levels);
     chosen.is_verbose = choices.is_verbose;
     chosen
 }

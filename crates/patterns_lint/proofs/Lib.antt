@@ -1,3 +1,2 @@
 mod BranchLemmas
 mod NodeLemmas
-pub mod LevelLemmas

@@ -2,9 +2,9 @@
 use Rattle.std.specs.Prelude.{Bool, true, false, ◌≡◌, ◌==◌, ◌&&◌, ◌||◌, not, if◌then◌else◌, List, [], ◌∷◌}
 use Rattle.std.specs.Prelude.{Option, Some, None}
 use Rattle.std.specs.Str.{bytes_eq}
-use Rattle.patterns_lint.specs.declared.problem.Problem.{Problem}
-use Rattle.patterns_lint.specs.declared.problem.Problem.TheVariants as problem
-use Rattle.patterns_lint.specs.declared.rule.Rule.TheVariants as rule
+use Rattle.lint_rules.specs.declared.problem.Problem.{Problem}
+use Rattle.lint_rules.specs.declared.problem.Problem.TheVariants as problem
+use Rattle.lint_rules.specs.declared.rule.Rule.TheVariants as rule
 use Rattle.fancy_grammar.specs.Tree.{Tree, literal, repeat}
 use Rattle.class_rules.specs.Beginnings.{pieces}
 

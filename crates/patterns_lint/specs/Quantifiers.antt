@@ -1,8 +1,8 @@
 -- Quantifiers that are surely not meant.
 use Rattle.std.specs.Prelude.{ℕ, Bool, false, ◌&&◌, ◌==◌, not, nat_lt, if◌then◌else◌, Option, Some, None}
 use Rattle.fancy_grammar.specs.Tree.{Tree, repeat}
-use Rattle.patterns_lint.specs.declared.rule.Rule.{Rule}
-use Rattle.patterns_lint.specs.declared.rule.Rule.TheVariants as rule
+use Rattle.lint_rules.specs.declared.rule.Rule.{Rule}
+use Rattle.lint_rules.specs.declared.rule.Rule.TheVariants as rule
 use Rattle.patterns_lint.specs.Empty.{matches_only_empty, can_match_empty, has_group}
 
 -- the upper count of a quantifier without a limit

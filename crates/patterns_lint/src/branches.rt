@@ -2,17 +2,17 @@
 ghost use Rattle.std.specs.Prelude.{◌≡◌, ◌↔◌, ℕ, true, false, Some, IsTrue, IfOk, IfSome, IsSomeAnd, slice_get};
 ghost use Rattle.fancy_syntax.specs.View.{view, views};
 ghost use Rattle.patterns_lint.specs.Branches as spec;
-ghost use Rattle.patterns_lint.specs.declared.problem.Problem.TheVariants as reported;
+ghost use Rattle.lint_rules.specs.declared.problem.Problem.TheVariants as reported;
 
 use crate::fingerprint::Fingerprint;
-use crate::problem::Problem;
-use crate::rule::Rule;
 use class_rules::beginnings::{begins_within, operand, pieces};
 use class_rules::known_classes::KnownClasses;
 use fancy_lex::text::is_same_text;
 use fancy_spans::SpannedNode;
 use fancy_syntax::expr::Expr;
 use fancy_syntax::span::Span;
+use lint_rules::problem::Problem;
+use lint_rules::rule::Rule;
 use std::alloc::{AllocError, Global};
 use std::collections::HashMap;
 

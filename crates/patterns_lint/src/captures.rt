@@ -2,9 +2,9 @@
 ghost use Rattle.std.specs.Prelude.{◌≡◌};
 ghost use Rattle.patterns_lint.specs.Targets as spec;
 
-use crate::problem::{Found, Problem, Total};
 use crate::targets::above;
 use fancy_syntax::span::Span;
+use lint_rules::problem::{Found, Problem, Total};
 use patterns_text::grammar_rule::Capture;
 use std::alloc::{AllocError, Global};
 

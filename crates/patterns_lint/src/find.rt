@@ -1,17 +1,18 @@
 //! All that the rules find in a pattern.
-use crate::attack_text::AttackText;
 use crate::captures::missing_captures;
-use crate::chosen::{Chosen, Level};
 use crate::flags::useless_flags;
 use crate::known::Known;
-use crate::problem::{Found, Problem};
 use crate::references::{Ways, follow};
 use crate::scan::{Around, PatternInfo, scan};
 use crate::slow::SlowParts;
 use crate::walk::Walk;
+use backtracking::attack::Attack;
 use class_rules::class_walk::class_findings;
 use dialects::spelling::{DifferentSpelling, spellings};
 use fancy_spans::SpannedTree;
+use lint_rules::attack_text::AttackText;
+use lint_rules::chosen::{Chosen, Level};
+use lint_rules::problem::{Found, Problem};
 use patterns_text::grammar_rule::GrammarRule;
 use patterns_text::nodes::nodes_of;
 use patterns_text::subject::Subject;
@@ -40,14 +41,23 @@ fn add_differences(
     Ok(())
 }
 
+/// The text on which an engine tries all ways, with this word repeated.
+fn attack_text<'a>(word: &'a [char], attack: &'a Attack) -> AttackText<'a> {
+    AttackText {
+        before: attack.before.as_deref(),
+        word,
+        after: &attack.after,
+    }
+}
+
 /// Reports what is slow.
 fn report_slow<'a>(slow: &'a SlowParts, walk: &mut Walk<'a>) -> Result<(), AllocError> {
     for repeat in &slow.repeats {
-        let text = AttackText::of_repeat(repeat);
+        let text = attack_text(&repeat.witness.word, &repeat.attack);
         walk.report(repeat.span, Problem::ExponentialBacktracking { text })?;
     }
     for sequence in &slow.sequences {
-        let text = AttackText::of_sequence(sequence);
+        let text = attack_text(&sequence.witness.word, &sequence.attack);
         let degree = sequence.degree;
         walk.report(
             sequence.span,

@@ -1,12 +1,12 @@
 //! Flags that are set where they are set already. No node records inline flags or the letters of a flag group. They are
 //! among the trivia of the tree.
-use crate::problem::{Found, Problem};
 use dialects::spelling::of_flag;
 use fancy_lex::flags::{Flag, Flags};
 use fancy_lex::layout::past_layout;
 use fancy_parts::group_starts::{FlagLetter, next_letter};
 use fancy_syntax::span::Span;
 use fancy_syntax::trivium::{Trivium, TriviumKind};
+use lint_rules::problem::{Found, Problem};
 use std::alloc::{AllocError, Global};
 
 /// The flags before the letters of inline flags or of a flag group; None for another part.

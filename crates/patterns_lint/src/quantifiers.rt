@@ -4,8 +4,8 @@ ghost use Rattle.fancy_syntax.specs.View.{view};
 ghost use Rattle.patterns_lint.specs.Quantifiers as spec;
 
 use crate::empty::{can_match_empty, has_group, matches_only_empty};
-use crate::rule::Rule;
 use fancy_syntax::expr::Expr;
+use lint_rules::rule::Rule;
 
 /// Whether what is repeated matches nothing but the empty text. An optional one that holds a group is no such case:
 /// a condition may test later whether the group matched.

@@ -1,10 +1,10 @@
 //! The rules on groups, and on what refers to them.
-use crate::problem::Problem;
 use crate::walk::Walk;
 use fancy_spans::SpannedNode;
 use fancy_syntax::expr::{Expr, LookAround};
 use fancy_syntax::span::Span;
 use fancy_syntax::tree::ExprTree;
+use lint_rules::problem::Problem;
 use patterns_text::excerpt::{Label, Related};
 use patterns_text::names::Names;
 use std::alloc::{AllocError, Global};

@@ -2,7 +2,6 @@
 use crate::branches::{Earlier, Situation, has_count_twin, is_word_list};
 use crate::classes::is_single_character_class;
 use crate::fingerprint::Fingerprint;
-use crate::problem::{Problem, Total};
 use crate::quantifiers::quantifier_rule;
 use crate::targets::{
     is_numbered_reference, is_unresolved_call, missing_begin_group, missing_condition_group,
@@ -13,6 +12,7 @@ use class_rules::known_classes::KnownClasses;
 use fancy_spans::SpannedNode;
 use fancy_syntax::expr::{Expr, LookAround};
 use fancy_syntax::span::Span;
+use lint_rules::problem::{Problem, Total};
 use patterns_text::excerpt::{Label, Related};
 use std::alloc::{AllocError, Global};
 

@@ -1,15 +1,12 @@
 //! The parts of a pattern that can match a text in many ways.
-use crate::chosen::{Chosen, Level};
 use crate::known::Known;
-use crate::rule::Rule;
 use backtracking::repeats::{SlowRepeat, SlowRepeats, slow_repeats};
 use backtracking::sequences::{SlowSequence, SlowSequences, slow_sequences};
 use fancy_spans::SpannedTree;
 use fancy_syntax::span::Span;
+use lint_rules::chosen::{Chosen, Level};
+use lint_rules::rule::Rule;
 use std::alloc::{AllocError, Global};
-
-/// What is said of a part that was not looked at.
-pub const NOT_SEARCHED: &str = "this part is too large to be searched for backtracking";
 
 /// What is slow in a pattern.
 #[derive(Drop)]

@@ -4,6 +4,7 @@ ghost use Rattle.fancy_syntax.specs.View.{view};
 ghost use Rattle.patterns_lint.specs.Targets as spec;
 
 use fancy_syntax::expr::Expr;
+use lint_rules::problem::is_of_digits;
 
 /// What comes before the number of a call.
 static CALL_OPENINGS: [&str; 4] = [r"\g", r"\g<", r"\g'", "(?P>"];
@@ -34,11 +35,6 @@ pub(crate) fn missing_condition_group(tree: &Expr, total: usize) -> Option<usize
         Expr::BackrefExistsCondition { group, .. } => above(total, *group),
         _ => None,
     }
-}
-
-/// Whether the text of a node begins as a back reference that is a backslash and digits.
-pub(crate) fn is_of_digits(text: &str) -> bool {
-    matches!(text.as_bytes(), [b'\\', b'0'..=b'9', ..])
 }
 
 /// Whether the text of a call has the group's number: not its name, and not how many groups it is away.

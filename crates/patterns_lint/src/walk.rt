@@ -1,6 +1,6 @@
 //! What a walk over the nodes of a pattern's tree finds.
-use crate::problem::{Found, Problem};
 use fancy_syntax::span::Span;
+use lint_rules::problem::{Found, Problem};
 use patterns_text::excerpt::Related;
 use std::alloc::{AllocError, Global};
 

@@ -1,7 +1,7 @@
 //! The command `lint`: likely mistakes in patterns that are accepted.
 ghost use Rattle.std.specs.Prelude.{◌≡◌, ◌⊎◌, Ok, Contains};
 ghost use Rattle.std.specs.Bool.{OnTrue};
-ghost use Rattle.patterns_lint.specs.declared.chosen.Level.{Level};
+ghost use Rattle.lint_rules.specs.declared.chosen.Level.{Level};
 ghost use Rattle.patterns_program.specs.declared.outcome.Outcome.{Outcome};
 ghost use Rattle.patterns_program.specs.declared.rewriting.Rewriting.TheVariants.{Stays};
 ghost use Rattle.patterns_text.specs.Subject.{IsAccepted, IsRefused};
@@ -9,13 +9,13 @@ ghost use Rattle.patterns_text.specs.Subject.{IsAccepted, IsRefused};
 use crate::outcome::Outcome;
 use crate::rewriting::Rewriting;
 use crate::tally::Tally;
+use lint_rules::chosen::{Chosen, Level};
+use lint_rules::problem::Found;
+use pattern_reports::fixes::{MAX_ROUNDS, fixed};
 use pattern_reports::reporter::{Reporter, parse};
 use pattern_reports::reports::Reports;
-use patterns_lint::chosen::{Chosen, Level};
 use patterns_lint::find::reported;
-use patterns_lint::fixes::{MAX_ROUNDS, fixed};
 use patterns_lint::known::Known;
-use patterns_lint::problem::Found;
 use patterns_lint::slow::SlowParts;
 use patterns_text::error::RunError;
 use patterns_text::grammar_rule::GrammarRule;

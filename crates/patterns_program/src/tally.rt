@@ -1,6 +1,6 @@
 //! What a run over files has met, the line that ends it, and what is said of it before.
 use crate::outcome::Outcome;
-use patterns_lint::chosen::Level;
+use lint_rules::chosen::Level;
 use std::fmt;
 
 /// How many files and patterns a run has met, and with which outcomes.

@@ -1,6 +1,6 @@
 use Rattle.std.proofs.Common.{Contains}
 use Rattle.std.specs.Bool.{OnTrue}
-use Rattle.patterns_lint.specs.declared.chosen.Level.{Level}
+use Rattle.lint_rules.specs.declared.chosen.Level.{Level}
 use Rattle.patterns_program.proofs.lint.count_denied.Given as goal
 
 abbrev pub invariant-loop-one : goal.invariant-loop-one

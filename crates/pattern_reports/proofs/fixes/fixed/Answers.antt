@@ -1,0 +1,5 @@
+use Rattle.std.proofs.Common.{sym}
+use Rattle.pattern_reports.proofs.fixes.fixed.Goals as goal
+
+pub returns : goal.returns
+returns c = rw (sym c.parsed_pattern.ensures.flags, sym c.parsed_pattern.ensures.tree) c.fixed.ensures.fixed

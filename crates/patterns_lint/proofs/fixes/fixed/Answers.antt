@@ -1,5 +1,0 @@
-use Rattle.std.proofs.Common.{sym}
-use Rattle.patterns_lint.proofs.fixes.fixed.Goals as goal
-
-pub returns : goal.returns
-returns c = rw (sym c.parsed_pattern.ensures.flags, sym c.parsed_pattern.ensures.tree) c.fixed.ensures.fixed

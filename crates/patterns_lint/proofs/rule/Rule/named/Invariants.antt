@@ -1,8 +1,0 @@
-use Rattle.std.proofs.Common.{◌≢◌, ℕ, ◌<◌, slice_index_or}
-use Rattle.patterns_lint.specs.Rules.{rule_name}
-use Rattle.patterns_lint.specs.declared.rule.RuleRow.{RuleRow}
-use Rattle.patterns_lint.proofs.rule.Rule.named.Given as goal
-
--- the rules before the index have other names
-abbrev pub invariant-loop-row : goal.invariant-loop-row
-invariant-loop-row l = (k : ℕ) (d : RuleRow) → k < l.row-index → rule_name (slice_index_or l.row-items k d).rule ≢ l.name
