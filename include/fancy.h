@@ -24,8 +24,8 @@
 /* The version of this header. fancy_version returns that of the library. CHANGELOG.md says what a change of each number
  * means. */
 /* ---- version: made by tools/bindings from fancy.toml */
-#define FANCY_VERSION_MAJOR 1
-#define FANCY_VERSION_MINOR 4
+#define FANCY_VERSION_MAJOR 2
+#define FANCY_VERSION_MINOR 0
 #define FANCY_VERSION_PATCH 0
 /* ---- end of version */
 #define FANCY_VERSION (FANCY_VERSION_MAJOR * 1000000 + FANCY_VERSION_MINOR * 1000 + FANCY_VERSION_PATCH)
@@ -35,7 +35,7 @@ extern "C" {
 #endif
 
 /* ---- numbers and structs: made by tools/bindings from fancy.toml */
-/* Flags: bits, of which any may be set. Other bits are ignored, but for FANCY_WITHOUT_SPANS, which fancy_tree takes. */
+/* Flags: bits, of which any may be set. A call refuses a bit that it does not take: it returns FANCY_STATUS_UNKNOWN_FLAG. */
 enum {
     FANCY_FLAG_CASEI = 1,        /* case-insensitive */
     FANCY_FLAG_MULTI = 2,        /* ^ and $ match at line breaks too */
@@ -46,24 +46,25 @@ enum {
     FANCY_FLAG_CRLF = 64,        /* CR is a line terminator too, and CR LF a single one */
     FANCY_FLAG_ONIGURUMA_MODE = 128, /* the pattern is in Oniguruma's syntax */
     /* if some group has a name, groups without a name have no number */
-    FANCY_FLAG_IGNORE_NUMBERED_GROUPS_WHEN_NAMED_GROUPS_EXIST = 256
+    FANCY_FLAG_IGNORE_NUMBERED_GROUPS_WHEN_NAMED_GROUPS_EXIST = 256,
+    FANCY_FLAG_WITHOUT_SPANS = 65536 /* of fancy_parse and fancy_tree, and faster: each start and stop is 0 */
 };
-
-/* A bit that fancy_tree takes beside the flags: the spans are left out, and each start and stop is 0. Other calls ignore it. */
-enum { FANCY_WITHOUT_SPANS = 65536 };
+#define FANCY_WITHOUT_SPANS FANCY_FLAG_WITHOUT_SPANS /* deprecated: the next major version does not have this name */
 
 /* The status of a call. These numbers, and all those below, never change; a later minor version may return new ones. */
 enum {
     FANCY_STATUS_OK = 0,
-    FANCY_STATUS_REFUSED = 1,          /* the pattern is invalid: kind and position are set */
-    FANCY_STATUS_NOT_UTF8 = 2,         /* position is the length of the valid UTF-8 prefix */
-    FANCY_STATUS_OUT_OF_MEMORY = 3,    /* the pattern may be valid or not */
-    FANCY_STATUS_BUFFER_TOO_SHORT = 4, /* no buffer was written; what is needed is set: for a text the size, for a tree *info,
-                                          for trivia *count */
-    FANCY_STATUS_NOT_PRINTABLE = 5,    /* of fancy_print and fancy_print_nodes: there is a tree, and it is not printable */
-    FANCY_STATUS_NO_PATTERN = 6,       /* of fancy_pattern_nodes: what is written for the tree does not parse back as it */
-    FANCY_STATUS_NO_TREE = 7,          /* of fancy_print_nodes and fancy_pattern_nodes: the rows are no tree */
-    FANCY_STATUS_UNKNOWN_STYLE = 8     /* of fancy_format: no style has this number */
+    FANCY_STATUS_REFUSED = 1,            /* the pattern is invalid: kind and position are set */
+    FANCY_STATUS_NOT_UTF8 = 2,           /* position is the length of the valid UTF-8 prefix */
+    FANCY_STATUS_OUT_OF_MEMORY = 3,      /* the pattern may be valid or not */
+    FANCY_STATUS_BUFFER_TOO_SHORT = 4,   /* no buffer was written; what is needed is set: for a text the size, for a tree *info,
+                                            for trivia *count */
+    FANCY_STATUS_NOT_PRINTABLE = 5,      /* of fancy_print and fancy_print_nodes: there is a tree, and it is not printable */
+    FANCY_STATUS_NO_PATTERN = 6,         /* of fancy_pattern_nodes: what is written for the tree does not parse back as it */
+    FANCY_STATUS_NO_TREE = 7,            /* of fancy_print_nodes and fancy_pattern_nodes: the rows are no tree */
+    FANCY_STATUS_UNKNOWN_STYLE = 8,      /* of fancy_format: no style has this number */
+    FANCY_STATUS_UNKNOWN_FLAG = 9,       /* a bit is set that is no flag, or none that the call takes */
+    FANCY_STATUS_UNKNOWN_PRECEDENCE = 10 /* of fancy_print and fancy_print_nodes: no precedence has this number */
 };
 
 /* Kinds of errors. */
@@ -153,7 +154,7 @@ enum {
 };
 
 /* What a printed text is to be: a whole pattern or the inside of a group, a branch of an alternation, a part of a
- * concatenation, the operand of a quantifier. Any number above 3 is as good as FANCY_PRECEDENCE_OPERAND. */
+ * concatenation, the operand of a quantifier. A call refuses other numbers: it returns FANCY_STATUS_UNKNOWN_PRECEDENCE. */
 enum {
     FANCY_PRECEDENCE_WHOLE = 0,
     FANCY_PRECEDENCE_BRANCH = 1,
@@ -234,17 +235,16 @@ typedef struct {
 /* ---- end of numbers and structs */
 
 /* Capacities that suffice for a pattern of this length in bytes, so that one call of fancy_parse or fancy_tree is enough. This
- * is proved for trees, whose texts have at most 6 * length bytes, and whose names at most length rows. FANCY_MAX_TEXTS also
- * suffices for the message that fancy_tree writes, which is tested. That FANCY_MAX_TRIVIA suffices for fancy_trivia is tested
- * too: each trivium has a byte of its own. */
+ * is proved for trees, whose texts have at most 6 * length bytes. FANCY_MAX_TEXTS also suffices for the message that fancy_tree
+ * writes, which is tested. That FANCY_MAX_TRIVIA suffices for fancy_trivia is tested too: each trivium has a byte of its own.
+ * FANCY_MAX_NAMES(0) is 0. */
 #define FANCY_MAX_NODES(length) (2 * (length) + 1)
 #define FANCY_MAX_TEXTS(length) (6 * (length) + 128)
-#define FANCY_MAX_NAMES(length) (2 * (length) + 1)
+#define FANCY_MAX_NAMES(length) (length)
 #define FANCY_MAX_BACKREFS(length) (2 * (length) + 1)
 #define FANCY_MAX_TRIVIA(length) ((length) + 1)
 
-/* ---- The proved functions. They take no null pointer, and a precedence only as a byte. The functions below them take null
- * pointers, and each precedence, and are the ones to call. */
+/* ---- The proved functions. They take no null pointer. The functions below them do, and are the ones to call. */
 
 fancy_result fancy_check_nonnull(const char *pattern, size_t length, uint32_t flags);
 fancy_result fancy_message_nonnull(const char *pattern, size_t length, uint32_t flags, char *buffer, size_t capacity);
@@ -252,7 +252,7 @@ fancy_result fancy_error_text_nonnull(uint32_t kind, char *buffer, size_t capaci
 fancy_result fancy_parse_nonnull(const char *pattern, size_t length, uint32_t flags, fancy_node *nodes, size_t node_capacity,
                                  char *texts, size_t texts_capacity, fancy_name *names, size_t name_capacity,
                                  size_t *backrefs, size_t backref_capacity, fancy_info *info);
-fancy_result fancy_print_nonnull(const char *pattern, size_t length, uint32_t flags, uint8_t precedence, char *buffer,
+fancy_result fancy_print_nonnull(const char *pattern, size_t length, uint32_t flags, uint32_t precedence, char *buffer,
                                  size_t capacity);
 fancy_result fancy_pattern_nonnull(const char *pattern, size_t length, uint32_t flags, char *buffer, size_t capacity);
 fancy_result fancy_format_nonnull(const char *pattern, size_t length, uint32_t flags, uint32_t style, size_t width,
@@ -261,28 +261,25 @@ fancy_result fancy_tree_nonnull(const char *pattern, size_t length, uint32_t fla
                                 char *texts, size_t texts_capacity, fancy_name *names, size_t name_capacity, size_t *backrefs,
                                 size_t backref_capacity, fancy_info *info);
 fancy_result fancy_print_nodes_nonnull(const fancy_node *nodes, size_t node_count, const char *texts, size_t texts_size,
-                                       size_t index, uint8_t precedence, char *buffer, size_t capacity);
+                                       size_t index, uint32_t precedence, char *buffer, size_t capacity);
 fancy_result fancy_pattern_nodes_nonnull(const fancy_node *nodes, size_t node_count, const char *texts, size_t texts_size,
                                          size_t index, const fancy_name *names, size_t name_count, const fancy_info *info,
                                          uint32_t flags, char *buffer, size_t capacity);
 fancy_result fancy_trivia_nonnull(const char *pattern, size_t length, uint32_t flags, fancy_trivium *trivia, size_t capacity,
                                   size_t *count);
 
-/* ---- The functions to call. They are inline, and libfancy has them as symbols too, for callers without this header. */
+/* ---- The functions to call. They are inline, and libfancy has them as symbols too, for callers without this header. Each that
+ * takes flags returns UNKNOWN_FLAG if a bit is set that it does not take, whatever the pattern or the rows are. A style or a
+ * precedence that does not exist is refused before that. */
 
 #ifndef FANCY_INLINE
 #define FANCY_INLINE static inline
-#endif
-/* The type of a precedence: one that is wide enough for any int, so that C does not cut it to a byte. The symbols of libfancy
- * take a byte, as in each version before. */
-#ifndef FANCY_ANY_PRECEDENCE
-#define FANCY_ANY_PRECEDENCE uint32_t
 #endif
 
 /* Returns the version of the library, in the form of FANCY_VERSION. */
 uint32_t fancy_version(void);
 
-/* Checks whether a pattern is valid. Returns OK, REFUSED, NOT_UTF8 or OUT_OF_MEMORY. */
+/* Checks whether a pattern is valid. Returns OK, REFUSED, NOT_UTF8, OUT_OF_MEMORY or UNKNOWN_FLAG. */
 FANCY_INLINE fancy_result fancy_check(const char *pattern, size_t length, uint32_t flags) {
     return fancy_check_nonnull(pattern ? pattern : "", length, flags);
 }
@@ -304,8 +301,8 @@ FANCY_INLINE fancy_result fancy_error_text(uint32_t kind, char *buffer, size_t c
     return fancy_error_text_nonnull(kind, buffer ? buffer : &none, capacity);
 }
 
-/* Parses a pattern, and sets *info if it returns OK or BUFFER_TOO_SHORT, unless info is null. Returns OK if everything fits;
- * then the buffers hold:
+/* Parses a pattern, and sets *info if it returns OK or BUFFER_TOO_SHORT, unless info is null. The flag FANCY_FLAG_WITHOUT_SPANS
+ * leaves the spans out. Returns OK if everything fits; then the buffers hold:
  *   nodes      the nodes in preorder: each is before its children, and these are in the order of the pattern;
  *   texts      the texts of the nodes, and after them the names of groups;
  *   names      the names in the order of their bytes, each with its group numbers in ascending order;
@@ -327,14 +324,13 @@ FANCY_INLINE fancy_result fancy_parse(const char *pattern, size_t length, uint32
 
 /* Prints the tree of a pattern: the text is parsed as the normal form of that tree. Returns OK or BUFFER_TOO_SHORT, each with
  * the size of the text; or NOT_PRINTABLE, since references, look-arounds, atomic groups, calls and the like have no text
- * here. Otherwise it returns what fancy_check returns. Unless it returns OK, nothing is written. Above
- * FANCY_PRECEDENCE_WHOLE an alternation is put into a group, above _BRANCH a concatenation too, and above _PIECE a
- * repetition too; above _OPERAND nothing more. */
-FANCY_INLINE fancy_result fancy_print(const char *pattern, size_t length, uint32_t flags, FANCY_ANY_PRECEDENCE precedence,
-                                      char *buffer, size_t capacity) {
+ * here; or UNKNOWN_PRECEDENCE if no precedence has the number, whatever the pattern is. Otherwise it returns what fancy_check
+ * returns. Unless it returns OK, nothing is written. Above FANCY_PRECEDENCE_WHOLE an alternation is put into a group, above
+ * _BRANCH a concatenation too, and above _PIECE a repetition too. */
+FANCY_INLINE fancy_result fancy_print(const char *pattern, size_t length, uint32_t flags, uint32_t precedence, char *buffer,
+                                      size_t capacity) {
     char none;
-    if (precedence > FANCY_PRECEDENCE_OPERAND) precedence = FANCY_PRECEDENCE_OPERAND;
-    return fancy_print_nonnull(pattern ? pattern : "", length, flags, (uint8_t)precedence, buffer ? buffer : &none, capacity);
+    return fancy_print_nonnull(pattern ? pattern : "", length, flags, precedence, buffer ? buffer : &none, capacity);
 }
 
 /* Writes a pattern that is parsed, under the same flags, as the same tree with the same groups and names. Comments, ignored
@@ -359,10 +355,10 @@ FANCY_INLINE fancy_result fancy_format(const char *pattern, size_t length, uint3
     return fancy_format_nonnull(pattern ? pattern : "", length, flags, style, width, buffer ? buffer : &none, capacity);
 }
 
-/* Parses a pattern as fancy_parse does, with two differences. The flag FANCY_WITHOUT_SPANS leaves the spans out, which is
- * faster. If the pattern is invalid, the message of its error is written to texts: returns REFUSED, with the kind, the
- * position, and the size of the message; or BUFFER_TOO_SHORT with all of these, if the message does not fit, and *info is
- * unchanged. If it is the tree that does not fit, the kind is FANCY_ERROR_NONE, and *info says how much is needed. */
+/* Parses a pattern as fancy_parse does, with one difference. If the pattern is invalid, the message of its error is written to
+ * texts: returns REFUSED, with the kind, the position, and the size of the message; or BUFFER_TOO_SHORT with all of these, if
+ * the message does not fit, and *info is unchanged. If it is the tree that does not fit, the kind is FANCY_ERROR_NONE, and
+ * *info says how much is needed. */
 FANCY_INLINE fancy_result fancy_tree(const char *pattern, size_t length, uint32_t flags, fancy_node *nodes,
                                      size_t node_capacity, char *texts, size_t texts_capacity, fancy_name *names,
                                      size_t name_capacity, size_t *backrefs, size_t backref_capacity, fancy_info *info) {
@@ -379,15 +375,15 @@ FANCY_INLINE fancy_result fancy_tree(const char *pattern, size_t length, uint32_
 /* Prints the tree of rows, as fancy_print prints the tree of a pattern. The rows are those from an index on: 0 for the whole
  * tree, the index of a node for its part of it. Nodes and texts are as fancy_parse or fancy_tree wrote them, or changed, or
  * made by hand: then each end has to be right, and each text in texts. Spans, the numbers of groups, and what the kind of a
- * node does not use are not read. Returns OK, BUFFER_TOO_SHORT or NOT_PRINTABLE as fancy_print does; NO_TREE if the rows are
- * no tree, or one of more than 832 levels; or OUT_OF_MEMORY. Unless it returns OK, nothing is written. */
+ * node does not use are not read. Returns OK, BUFFER_TOO_SHORT, NOT_PRINTABLE or UNKNOWN_PRECEDENCE as fancy_print does;
+ * NO_TREE if the rows are no tree, or one of more than 832 levels; or OUT_OF_MEMORY. Unless it returns OK, nothing is
+ * written. */
 FANCY_INLINE fancy_result fancy_print_nodes(const fancy_node *nodes, size_t node_count, const char *texts, size_t texts_size,
-                                            size_t index, FANCY_ANY_PRECEDENCE precedence, char *buffer, size_t capacity) {
+                                            size_t index, uint32_t precedence, char *buffer, size_t capacity) {
     static fancy_node no_node;
     char none;
-    if (precedence > FANCY_PRECEDENCE_OPERAND) precedence = FANCY_PRECEDENCE_OPERAND;
-    return fancy_print_nodes_nonnull(nodes ? nodes : &no_node, node_count, texts ? texts : "", texts_size, index,
-                                     (uint8_t)precedence, buffer ? buffer : &none, capacity);
+    return fancy_print_nodes_nonnull(nodes ? nodes : &no_node, node_count, texts ? texts : "", texts_size, index, precedence,
+                                     buffer ? buffer : &none, capacity);
 }
 
 /* Writes a pattern that is parsed, under the flags, as the tree of rows, with names for its groups. The rows are as
@@ -395,9 +391,9 @@ FANCY_INLINE fancy_result fancy_print_nodes(const fancy_node *nodes, size_t node
  * of groups that are not in the tree are left out. References are written as they are: they keep their numbers, also in a
  * part of a tree whose groups have smaller numbers there. Of info, which may be null, only two fields are read:
  * numeric_capture_group_references and self_recursive say whether references, and calls of the whole pattern, are written by
- * numbers, as far as there is a choice. Returns OK, BUFFER_TOO_SHORT, NO_TREE or OUT_OF_MEMORY as fancy_print_nodes does; or
- * NO_PATTERN if what is written for the tree does not parse back as this tree, which never happens to all the rows of a
- * pattern, under its flags, with its names and info. */
+ * numbers, as far as there is a choice. Returns OK, BUFFER_TOO_SHORT, NO_TREE or OUT_OF_MEMORY as fancy_print_nodes does;
+ * UNKNOWN_FLAG; or NO_PATTERN if what is written for the tree does not parse back as this tree, which never happens to all the
+ * rows of a pattern, under its flags, with its names and info. */
 FANCY_INLINE fancy_result fancy_pattern_nodes(const fancy_node *nodes, size_t node_count, const char *texts,
                                               size_t texts_size, size_t index, const fancy_name *names, size_t name_count,
                                               const fancy_info *info, uint32_t flags, char *buffer, size_t capacity) {

@@ -175,7 +175,7 @@ fn extent_of_rows(rows: RowsIn<'_>) -> Extent {
 
 /// Prints the tree of rows.
 pub(crate) fn print_rows(rows: RowsIn<'_>, precedence: Precedence) -> Result<Option<String>, Error> {
-    let write = |buffer: &mut [u8]| ffi::print_nodes(rows, precedence as u8, buffer);
+    let write = |buffer: &mut [u8]| ffi::print_nodes(rows, precedence as u32, buffer);
     text_of(call::written(extent_of_rows(rows), write, numbers::STATUS_OK)?)
 }
 

@@ -40,6 +40,13 @@ def with_comments(rows: list, column: int | None) -> list:
     return lines
 
 
+def deprecated(group: Group) -> list:
+    """The old names of numbers."""
+    values = [it for it in group.values if "deprecated" in it.given]
+    said = "/* deprecated: the next major version does not have this name */"
+    return [f"#define {it.given['deprecated']} FANCY_{it.full_name} {said}" for it in values]
+
+
 def enum(group: Group) -> list:
     rows = [(f"FANCY_{it.full_name} = {it.number}", said_of(it)) for it in group.values]
     lines = comment(group.given["comment"]) if "comment" in group.given else []
@@ -47,7 +54,7 @@ def enum(group: Group) -> list:
     if len(in_one) <= 120 and not any(said for _, said in rows):
         return [*lines, in_one, ""]
     rows = [(f"    {code}{',' if code != rows[-1][0] else ''}", said) for code, said in rows]
-    return [*lines, "enum {", *with_comments(rows, group.given.get("column")), "};", ""]
+    return [*lines, "enum {", *with_comments(rows, group.given.get("column")), "};", *deprecated(group), ""]
 
 
 def struct(it: Struct) -> list:

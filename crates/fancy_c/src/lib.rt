@@ -6,6 +6,7 @@
 
 mod buffer;
 mod built;
+pub mod call_flags;
 pub mod call_result;
 pub mod format;
 mod group_numbers;
