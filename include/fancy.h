@@ -36,7 +36,7 @@ extern "C" {
 
 /* ---- numbers and structs: made by tools/bindings from fancy.toml */
 /* Flags: bits, of which any may be set. A call refuses a bit that it does not take: it returns FANCY_STATUS_UNKNOWN_FLAG. */
-enum {
+enum fancy_flag {
     FANCY_FLAG_CASEI = 1,        /* case-insensitive */
     FANCY_FLAG_MULTI = 2,        /* ^ and $ match at line breaks too */
     FANCY_FLAG_DOTNL = 4,        /* . matches a line feed too */
@@ -52,7 +52,7 @@ enum {
 #define FANCY_WITHOUT_SPANS FANCY_FLAG_WITHOUT_SPANS /* deprecated: the next major version does not have this name */
 
 /* The status of a call. These numbers, and all those below, never change; a later minor version may return new ones. */
-enum {
+enum fancy_status {
     FANCY_STATUS_OK = 0,
     FANCY_STATUS_REFUSED = 1,            /* the pattern is invalid: kind and position are set */
     FANCY_STATUS_NOT_UTF8 = 2,           /* position is the length of the valid UTF-8 prefix */
@@ -68,7 +68,7 @@ enum {
 };
 
 /* Kinds of errors. */
-enum {
+enum fancy_error_kind {
     FANCY_ERROR_NONE = 0,
     FANCY_ERROR_GENERAL_PARSE_ERROR = 1,
     FANCY_ERROR_UNCLOSED_OPEN_PAREN = 2,
@@ -89,7 +89,7 @@ enum {
 };
 
 /* Kinds of nodes. The comment of each lists the fields that it uses, besides kind, end, start and stop. */
-enum {
+enum fancy_node_kind {
     FANCY_NODE_EMPTY = 1,
     FANCY_NODE_ANY = 2,              /* newline, crlf */
     FANCY_NODE_ASSERTION = 3,        /* which: FANCY_ASSERTION_..; crlf */
@@ -117,7 +117,7 @@ enum {
                                         or level */
 };
 
-enum {
+enum fancy_assertion {
     FANCY_ASSERTION_START_TEXT = 1,
     FANCY_ASSERTION_END_TEXT = 2,
     FANCY_ASSERTION_END_TEXT_IGNORE_TRAILING_NEWLINES = 3, /* crlf */
@@ -132,18 +132,29 @@ enum {
     FANCY_ASSERTION_NOT_WORD_BOUNDARY = 12
 };
 
-enum { FANCY_LOOK_AHEAD = 1, FANCY_LOOK_AHEAD_NEG = 2, FANCY_LOOK_BEHIND = 3, FANCY_LOOK_BEHIND_NEG = 4 };
+enum fancy_look { FANCY_LOOK_AHEAD = 1, FANCY_LOOK_AHEAD_NEG = 2, FANCY_LOOK_BEHIND = 3, FANCY_LOOK_BEHIND_NEG = 4 };
 
-enum { FANCY_VERB_FAIL = 1, FANCY_VERB_ACCEPT = 2, FANCY_VERB_COMMIT = 3, FANCY_VERB_SKIP = 4, FANCY_VERB_PRUNE = 5 };
+enum fancy_verb {
+    FANCY_VERB_FAIL = 1,
+    FANCY_VERB_ACCEPT = 2,
+    FANCY_VERB_COMMIT = 3,
+    FANCY_VERB_SKIP = 4,
+    FANCY_VERB_PRUNE = 5
+};
 
-enum { FANCY_ABSENT_REPEATER = 1, FANCY_ABSENT_EXPRESSION = 2, FANCY_ABSENT_STOPPER = 3, FANCY_ABSENT_CLEAR = 4 };
+enum fancy_absent {
+    FANCY_ABSENT_REPEATER = 1,
+    FANCY_ABSENT_EXPRESSION = 2,
+    FANCY_ABSENT_STOPPER = 3,
+    FANCY_ABSENT_CLEAR = 4
+};
 
 /* What an unresolved call names: a group by its number (group), by its name (text, text_size), or by a relative number
  * (level). */
-enum { FANCY_TARGET_BY_NUMBER = 1, FANCY_TARGET_BY_NAME = 2, FANCY_TARGET_RELATIVE = 3 };
+enum fancy_target { FANCY_TARGET_BY_NUMBER = 1, FANCY_TARGET_BY_NAME = 2, FANCY_TARGET_RELATIVE = 3 };
 
 /* Kinds of what no node of a tree has. */
-enum {
+enum fancy_trivium_kind {
     FANCY_TRIVIUM_COMMENT = 1,      /* (?#..) */
     FANCY_TRIVIUM_LINE_COMMENT = 2, /* from # through its line feed, or through the end of the pattern */
     FANCY_TRIVIUM_INLINE_FLAGS = 3, /* inline flags, as (?i): flags_before, flags_after */
@@ -155,7 +166,7 @@ enum {
 
 /* What a printed text is to be: a whole pattern or the inside of a group, a branch of an alternation, a part of a
  * concatenation, the operand of a quantifier. A call refuses other numbers: it returns FANCY_STATUS_UNKNOWN_PRECEDENCE. */
-enum {
+enum fancy_precedence {
     FANCY_PRECEDENCE_WHOLE = 0,
     FANCY_PRECEDENCE_BRANCH = 1,
     FANCY_PRECEDENCE_PIECE = 2,
@@ -163,7 +174,7 @@ enum {
 };
 
 /* How fancy_format lays out a pattern. */
-enum {
+enum fancy_style {
     FANCY_STYLE_KEPT = 0,    /* its lines stay, with their indentation */
     FANCY_STYLE_VERBOSE = 1, /* over several lines; the pattern begins with (?x) unless FANCY_FLAG_IGNORE_SPACE is set */
     FANCY_STYLE_COMPACT = 2  /* in one line: ignored whitespace, (?x) at the beginning and empty comments go, and # one becomes
@@ -171,15 +182,17 @@ enum {
 };
 
 /* What a call returns. */
-typedef struct {
+typedef struct fancy_result fancy_result;
+struct fancy_result {
     uint32_t status; /* FANCY_STATUS_.. */
     uint32_t kind;   /* FANCY_ERROR_.., FANCY_ERROR_NONE if no error is reported */
     size_t position; /* of the error, at most the length of the pattern + 1; or the length of the valid UTF-8 prefix; else 0 */
     size_t size;     /* of the text that was to be written, whether or not it fitted; else 0, also for a tree and for trivia */
-} fancy_result;
+};
 
 /* A node of a tree. What its kind does not use is 0 or false, and text is 0 if text_size is 0. */
-typedef struct {
+typedef struct fancy_node fancy_node;
+struct fancy_node {
     uint32_t kind;    /* FANCY_NODE_.. */
     uint32_t which;
     size_t end;       /* one past the index of its last descendant. Its first child, if it has one, is the next node, and each
@@ -200,17 +213,19 @@ typedef struct {
     bool casei;       /* case-insensitive */
     bool greedy;
     bool has_level;   /* the reference has a recursion level; a FANCY_NODE_BACKREF_AT_LEVEL always has one */
-} fancy_node;
+};
 
 /* A name of a group, with its number. A name that several groups have is listed once for each. */
-typedef struct {
+typedef struct fancy_name fancy_name;
+struct fancy_name {
     size_t text;      /* where the name begins in the buffer of texts */
     size_t text_size; /* the size of the name, in bytes */
     size_t group;     /* the number of the group */
-} fancy_name;
+};
 
 /* The sizes of a tree, and the group information of its pattern. */
-typedef struct {
+typedef struct fancy_info fancy_info;
+struct fancy_info {
     size_t node_count;                     /* at most FANCY_MAX_NODES */
     size_t texts_size;                     /* in bytes; at most FANCY_MAX_TEXTS */
     size_t name_count;                     /* at most FANCY_MAX_NAMES */
@@ -222,16 +237,17 @@ typedef struct {
     bool contains_subroutines;             /* the pattern has a subroutine call */
     bool self_recursive;                   /* the pattern calls itself by the number 0 */
     bool numbered_groups_ignored;          /* groups without a name have no number */
-} fancy_info;
+};
 
 /* A part of a pattern that no node of its tree has. What its kind does not use is 0. */
-typedef struct {
+typedef struct fancy_trivium fancy_trivium;
+struct fancy_trivium {
     size_t start;          /* the offset of the first byte */
     size_t stop;           /* one past the offset of the last byte: start < stop <= the length of the pattern */
     uint32_t kind;         /* FANCY_TRIVIUM_.. */
     uint32_t flags_before; /* the flags that hold before inline flags, or around a flag group */
     uint32_t flags_after;  /* the flags that hold after inline flags, or in a flag group */
-} fancy_trivium;
+};
 /* ---- end of numbers and structs */
 
 /* Capacities that suffice for a pattern of this length in bytes, so that one call of fancy_parse or fancy_tree is enough. This
