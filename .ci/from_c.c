@@ -8,6 +8,7 @@
 #include "rows.h"
 #include "trivia.h"
 #include "format.h"
+#include "all.h"
 
 static size_t left_until_refusal; // 0: none is refused
 static bool was_refused;
@@ -155,13 +156,24 @@ static bool are_spans_right(const char *pattern, size_t length, uint32_t flags) 
     return is_right;
 }
 
-// Makes the call of a number, of those that take rows, write a tree at once, write what no node has, or format.
+// Allocates what a pattern gives, and frees it.
+static fancy_result parse_and_free(const char *pattern, size_t length, uint32_t flags) {
+    fancy_buffers all;
+    fancy_result got = fancy_parse_alloc(pattern, length, flags, &all);
+    bool has_none = got.status == FANCY_STATUS_OUT_OF_MEMORY;
+    if (has_none && !are_all_zero(&all)) got.status = FANCY_STATUS_OK;
+    fancy_buffers_free(&all);
+    return got;
+}
+
+// Makes the call of a number, of those that take rows, write a tree at once, write what no node has, format, or allocate.
 static fancy_result call_with_rows(int which, const tree *t, const char *pattern, size_t length, uint32_t flags, char *text) {
     size_t capacity = CAPACITY(length);
     if (which == 0) return print_rows(t, 0, 0, text, capacity);
     if (which == 1) return write_rows(t, 0, flags, text, capacity);
     if (which == 2) return fancy_tree(pattern, length, flags, NULL, 0, text, capacity, NULL, 0, NULL, 0, NULL);
     if (which == 3) return fancy_trivia(pattern, length, flags, (fancy_trivium *)(void *)text, capacity / sizeof(fancy_trivium), NULL);
+    if (which == 6) return parse_and_free(pattern, length, flags);
     return fancy_format(pattern, length, flags, which == 4 ? FANCY_STYLE_KEPT : FANCY_STYLE_VERBOSE, 80, text, capacity);
 }
 
@@ -171,7 +183,7 @@ static bool are_rows_refused_memory(const char *pattern, size_t length, uint32_t
     take(&t, pattern, length, flags);
     char *text = untouched(CAPACITY(length));
     bool is_right = true;
-    for (int which = t.nodes ? 0 : 2; which < 6; which++) {
+    for (int which = t.nodes ? 0 : 2; which < 7; which++) {
         fancy_result usual = call_with_rows(which, &t, pattern, length, flags, text);
         memset(text, 0xA5, CAPACITY(length));
         for (size_t n = 1; is_right; n++) {
@@ -200,7 +212,7 @@ static bool is_line_right(char **fields, bool refuses) {
     bool is_right = is_answered(pattern, length, flags, fields) && is_short_said(pattern, length, flags) &&
                     are_spans_right(pattern, length, flags) && are_rows_right(pattern, length, flags) &&
                     are_trivia_right(pattern, length, flags) && are_formatted_right(pattern, length, flags) &&
-                    (!refuses || are_rows_refused_memory(pattern, length, flags));
+                    is_all_right(pattern, length, flags) && (!refuses || are_rows_refused_memory(pattern, length, flags));
     for (size_t n = 1; refuses && is_right; n++) {
         left_until_refusal = n;
         was_refused = false;
@@ -316,9 +328,17 @@ typedef struct {
     size_t count;
 } written;
 
-enum { CALLS = 9, CALLS_WITHOUT_TREE = 7 };
+enum { CALLS = 10, CALLS_WITH_SPANS = 8 };
 
-// Makes the call of a number, of those that take flags: those that write a tree are last.
+static fancy_result write_all(const char *pattern, size_t length, uint32_t flags, written *to) {
+    fancy_buffers all = {to->nodes, 3, to->texts, sizeof to->texts, to->names, 3, to->backrefs, 3, to->trivia, 3, to->info, to->count};
+    fancy_result got = fancy_parse_into(pattern, length, flags, &all);
+    to->info = all.info;
+    to->count = all.trivium_count;
+    return got;
+}
+
+// Makes the call of a number, of those that take flags: those that leave spans out if a flag says so are last.
 static fancy_result call_with_flags(int which, const char *pattern, uint32_t flags, written *to) {
     static const fancy_node empty = {.kind = FANCY_NODE_EMPTY, .end = 1};
     size_t length = strlen(pattern), size = sizeof to->texts;
@@ -331,7 +351,8 @@ static fancy_result call_with_flags(int which, const char *pattern, uint32_t fla
     case 5: return fancy_trivia(pattern, length, flags, to->trivia, 3, &to->count);
     // a row, or none, which is no tree
     case 6: return fancy_pattern_nodes(&empty, length % 2, NULL, 0, 0, NULL, 0, NULL, flags, to->texts, size);
-    case 7: return fancy_parse(pattern, length, flags, to->nodes, 3, to->texts, size, to->names, 3, to->backrefs, 3, &to->info);
+    case 7: return write_all(pattern, length, flags, to);
+    case 8: return fancy_parse(pattern, length, flags, to->nodes, 3, to->texts, size, to->names, 3, to->backrefs, 3, &to->info);
     default: return fancy_tree(pattern, length, flags, to->nodes, 3, to->texts, size, to->names, 3, to->backrefs, 3, &to->info);
     }
 }
@@ -348,16 +369,16 @@ static bool are_flags_refused(int which, uint32_t flags) {
     return is_right;
 }
 
-// Whether each call refuses each bit that is no flag, alone and beside flags; and takes all flags, of which one is only for trees.
+// Whether each call refuses each bit that is no flag, alone and beside flags; and takes all flags, of which one is only for two calls.
 static bool are_unknown_flags_refused(void) {
     const uint32_t all = ((uint32_t)1 << strlen(flag_letters)) - 1;
     bool is_right = true;
     for (int which = 0; which < CALLS; which++) {
         for (uint32_t bit = all + 1; bit != 0; bit <<= 1) {
-            bool is_tree = which >= CALLS_WITHOUT_TREE;
-            if (is_tree && bit == FANCY_FLAG_WITHOUT_SPANS) continue;
+            bool has_spans = which >= CALLS_WITH_SPANS;
+            if (has_spans && bit == FANCY_FLAG_WITHOUT_SPANS) continue;
             is_right = is_right && are_flags_refused(which, bit) && are_flags_refused(which, bit | all) &&
-                       are_flags_refused(which, bit | FANCY_FLAG_UNICODE | (is_tree ? FANCY_FLAG_WITHOUT_SPANS : 0));
+                       are_flags_refused(which, bit | FANCY_FLAG_UNICODE | (has_spans ? FANCY_FLAG_WITHOUT_SPANS : 0));
         }
         for (uint32_t flags = 0; flags <= all; flags++) {
             written to;
@@ -371,7 +392,7 @@ static bool are_unknown_flags_refused(void) {
 // Whether the flag leaves the spans out, in both calls that write a tree.
 static bool are_spans_left_out(void) {
     bool is_right = FANCY_WITHOUT_SPANS == FANCY_FLAG_WITHOUT_SPANS;
-    for (int which = CALLS_WITHOUT_TREE; which < CALLS; which++) {
+    for (int which = CALLS_WITH_SPANS; which < CALLS; which++) {
         for (int i = 0; i < 2; i++) {
             written to;
             fancy_result got = call_with_flags(which, "ab", FANCY_FLAG_UNICODE | (i ? FANCY_FLAG_WITHOUT_SPANS : 0), &to);
@@ -397,6 +418,7 @@ static bool is_rest_right(void) {
                     info.node_count == 1 && node.kind == FANCY_NODE_EMPTY && node.start == 0 && node.stop == 0 && node.end == 1;
     is_right = is_right && are_rows_by_hand_right() && are_trivia_by_hand_right() && are_formatted_by_hand_right();
     is_right = is_right && are_unknown_precedences_refused() && is_need_set() && are_unknown_flags_refused() && are_spans_left_out();
+    is_right = is_right && is_all_by_hand_right();
     for (uint32_t kind = 0; kind < 300; kind++) {
         fancy_result got = fancy_error_text(kind, text, sizeof text);
         is_right = is_right && got.size == strlen(fancy_kind_message(kind)) && memcmp(text, fancy_kind_message(kind), got.size) == 0;

@@ -75,6 +75,16 @@ fancy_result fancy_parse_nonnull(const char *pattern, size_t length, uint32_t fl
                               backref_capacity, info);
 }
 
+fancy_result fancy_parse_into_nonnull(const char *pattern, size_t length, uint32_t flags, fancy_node *nodes, size_t node_capacity,
+                                      char *texts, size_t texts_capacity, fancy_name *names, size_t name_capacity,
+                                      size_t *backrefs, size_t backref_capacity, fancy_trivium *trivia, size_t trivium_capacity,
+                                      fancy_info *info, size_t *trivium_count) {
+    (void)trivia, (void)trivium_capacity;
+    *trivium_count = 0;
+    return fancy_tree_nonnull(pattern, length, flags, nodes, node_capacity, texts, texts_capacity, names, name_capacity, backrefs,
+                              backref_capacity, info);
+}
+
 fancy_result fancy_trivia_nonnull(const char *pattern, size_t length, uint32_t flags, fancy_trivium *trivia, size_t capacity,
                                   size_t *count) {
     bool is_kind = is(pattern, length, "trivium"), has_flags = is(pattern, length, "flags");

@@ -1,7 +1,8 @@
 /* Patterns of fancy-regex, parsed and printed by proved code.
  *
  * Each call parses a pattern anew, or builds a tree anew from its rows, keeps nothing, and owns nothing when it returns. It
- * writes to buffers of the caller, from their start and never past their end: either a whole text or tree, or nothing.
+ * writes to buffers of the caller, from their start and never past their end: either a whole text or tree, or nothing. Only
+ * fancy_parse_alloc allocates them.
  * docs/c.md says how to build and link the library, what is proved, and what the caller has to guarantee.
  *
  * A pattern is UTF-8 and need not be NUL-terminated. Lengths, sizes, positions and the capacities of text buffers are in
@@ -260,6 +261,24 @@ struct fancy_trivium {
 #define FANCY_MAX_BACKREFS(length) (2 * (length) + 1)
 #define FANCY_MAX_TRIVIA(length) ((length) + 1)
 
+/* Buffers for all that a pattern gives, with their capacities; what fancy_parse_into and fancy_parse_alloc say of it is at the
+ * end. A pointer may be null if its capacity is 0. */
+typedef struct fancy_buffers fancy_buffers;
+struct fancy_buffers {
+    fancy_node *nodes;
+    size_t node_capacity;
+    char *texts;
+    size_t texts_capacity;   /* in bytes */
+    fancy_name *names;
+    size_t name_capacity;
+    size_t *backrefs;
+    size_t backref_capacity;
+    fancy_trivium *trivia;
+    size_t trivium_capacity;
+    fancy_info info;         /* the sizes of the first four, and the group information */
+    size_t trivium_count;
+};
+
 /* ---- The proved functions. They take no null pointer. The functions below them do, and are the ones to call. */
 
 fancy_result fancy_check_nonnull(const char *pattern, size_t length, uint32_t flags);
@@ -283,6 +302,10 @@ fancy_result fancy_pattern_nodes_nonnull(const fancy_node *nodes, size_t node_co
                                          uint32_t flags, char *buffer, size_t capacity);
 fancy_result fancy_trivia_nonnull(const char *pattern, size_t length, uint32_t flags, fancy_trivium *trivia, size_t capacity,
                                   size_t *count);
+fancy_result fancy_parse_into_nonnull(const char *pattern, size_t length, uint32_t flags, fancy_node *nodes,
+                                      size_t node_capacity, char *texts, size_t texts_capacity, fancy_name *names,
+                                      size_t name_capacity, size_t *backrefs, size_t backref_capacity, fancy_trivium *trivia,
+                                      size_t trivium_capacity, fancy_info *info, size_t *trivium_count);
 
 /* ---- The functions to call. They are inline, and libfancy has them as symbols too, for callers without this header. Each that
  * takes flags returns UNKNOWN_FLAG if a bit is set that it does not take, whatever the pattern or the rows are. A style or a
@@ -436,6 +459,32 @@ FANCY_INLINE fancy_result fancy_trivia(const char *pattern, size_t length, uint3
     return fancy_trivia_nonnull(pattern ? pattern : "", length, flags, trivia ? trivia : &no_trivium, capacity,
                                 count ? count : &no_count);
 }
+
+/* Parses a pattern once, and writes all that it gives: what fancy_parse writes, with spans, and what fancy_trivia writes; or the
+ * message of its error, as fancy_tree does. Sets info and trivium_count if it returns OK or BUFFER_TOO_SHORT, unless it is the
+ * message that does not fit. Returns OK if everything fits. Returns BUFFER_TOO_SHORT if it does not: then no buffer is
+ * written. Otherwise it returns what fancy_tree returns; FANCY_FLAG_WITHOUT_SPANS is not taken. */
+FANCY_INLINE fancy_result fancy_parse_into(const char *pattern, size_t length, uint32_t flags, fancy_buffers *buffers) {
+    fancy_node no_node;
+    char no_text;
+    fancy_name no_name;
+    size_t no_number;
+    fancy_trivium no_trivium;
+    return fancy_parse_into_nonnull(
+        pattern ? pattern : "", length, flags, buffers->nodes ? buffers->nodes : &no_node, buffers->node_capacity,
+        buffers->texts ? buffers->texts : &no_text, buffers->texts_capacity, buffers->names ? buffers->names : &no_name,
+        buffers->name_capacity, buffers->backrefs ? buffers->backrefs : &no_number, buffers->backref_capacity,
+        buffers->trivia ? buffers->trivia : &no_trivium, buffers->trivium_capacity, &buffers->info, &buffers->trivium_count);
+}
+
+/* Does the same with buffers that it allocates by malloc, and sets *buffers, which is not read. It parses the pattern once, or
+ * twice if a buffer of the usual size is too short. After OK the buffers hold what fancy_parse_into writes, and after REFUSED
+ * texts holds the message. Then fancy_buffers_free has to be called. After any other status, which is never BUFFER_TOO_SHORT,
+ * *buffers is all zero. */
+fancy_result fancy_parse_alloc(const char *pattern, size_t length, uint32_t flags, fancy_buffers *buffers);
+
+/* Frees the buffers that fancy_parse_alloc allocated, and sets *buffers to zero. To call it again, or on zeros, does nothing. */
+void fancy_buffers_free(fancy_buffers *buffers);
 
 /* Returns the message of a kind of error, ending with NUL, as a constant: what fancy_error_text writes. In the message of an
  * error, what follows it is the text that depends on the pattern. It is empty for a number that no kind has. */

@@ -15,6 +15,7 @@ pub mod info_rows;
 pub mod message;
 pub mod node;
 pub mod nodes;
+pub mod parse_into;
 pub mod pattern;
 pub mod pattern_nodes;
 pub mod print;

@@ -27,7 +27,7 @@ use fancy_syntax::tree::ExprTree;
 use std::alloc::Global;
 
 /// The sizes of the tree, and its group information.
-fn summary_of(tree: &ExprTree) -> TreeInfo
+pub(crate) fn summary_of(tree: &ExprTree) -> TreeInfo
     ensures { result ≡ summary (view tree.now.expr) (info_of tree.now) }
 {
     let nodes = count(&tree.expr, RowCounts { rows: 0, text: 0 });

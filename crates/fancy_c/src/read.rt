@@ -131,6 +131,36 @@ pub(crate) fn read_as_asked(
     })
 }
 
+/// A parsed tree with the spans of its nodes, and what no node has.
+#[derive(Drop)]
+pub(crate) struct ParsedWithTrivia {
+    pub(crate) parsed: Parsed,
+    pub(crate) trivia: Vec<Trivium>,
+}
+
+/// The same, with what no node of the tree has.
+pub(crate) fn read_all(
+    alloc: Global,
+    pattern: &[u8],
+    flags: u32,
+) -> Result<ParsedWithTrivia, BytesRefusal>
+    ensures tree { IfOk result (λ p. IsTreeOfBytes (flags_of flags) pattern.now (view p.parsed.tree.expr)
+        (info_of p.parsed.tree)) }
+    ensures spans { IfOk result (λ p. AreSpansOfBytes (flags_of flags) pattern.now (view p.parsed.tree.expr)
+        p.parsed.spans.items) }
+    ensures trivia { IfOk result (λ p. AreTriviaOfBytes (flags_of flags) pattern.now (trivia_of p.trivia)) }
+    ensures refusal { IfErr result (λ r. IsRefusalOf r (flags_of flags) pattern.now) }
+{
+    let text = text_of(pattern)?;
+    match Expr::parse_tree_with_trivia(alloc, text, flags) {
+        Ok((tree, spans, trivia)) => Ok(ParsedWithTrivia {
+            parsed: Parsed { tree, spans },
+            trivia,
+        }),
+        Err(error) => Err(BytesRefusal::Parse(error)),
+    }
+}
+
 /// What no node of the tree has.
 pub(crate) fn read_trivia(
     alloc: Global,

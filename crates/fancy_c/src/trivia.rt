@@ -92,7 +92,7 @@ fn row(trivium: &Trivium) -> TriviumRow
 }
 
 /// Writes the rows at the front of the buffer.
-fn put_rows(rows: &mut [TriviumRow], trivia: &[Trivium])
+pub(crate) fn put_rows(rows: &mut [TriviumRow], trivia: &[Trivium])
     requires { length trivia.now ≤ length rows.old }
     ensures { rows.new ≡ put_at rows.old 0 (map spec.row (map trivium_of trivia.now)) }
 {
