@@ -8,6 +8,7 @@
 #include "rows.h"
 #include "trivia.h"
 #include "format.h"
+#include "all.h"
 
 static size_t left_until_refusal; // 0: none is refused
 static bool was_refused;
@@ -155,13 +156,24 @@ static bool are_spans_right(const char *pattern, size_t length, uint32_t flags) 
     return is_right;
 }
 
-// Makes the call of a number, of those that take rows, write a tree at once, write what no node has, or format.
+// Allocates what a pattern gives, and frees it.
+static fancy_result parse_and_free(const char *pattern, size_t length, uint32_t flags) {
+    fancy_buffers all;
+    fancy_result got = fancy_parse_alloc(pattern, length, flags, &all);
+    bool has_none = got.status == FANCY_STATUS_OUT_OF_MEMORY;
+    if (has_none && !are_all_zero(&all)) got.status = FANCY_STATUS_OK;
+    fancy_buffers_free(&all);
+    return got;
+}
+
+// Makes the call of a number, of those that take rows, write a tree at once, write what no node has, format, or allocate.
 static fancy_result call_with_rows(int which, const tree *t, const char *pattern, size_t length, uint32_t flags, char *text) {
     size_t capacity = CAPACITY(length);
     if (which == 0) return print_rows(t, 0, 0, text, capacity);
     if (which == 1) return write_rows(t, 0, flags, text, capacity);
     if (which == 2) return fancy_tree(pattern, length, flags, NULL, 0, text, capacity, NULL, 0, NULL, 0, NULL);
     if (which == 3) return fancy_trivia(pattern, length, flags, (fancy_trivium *)(void *)text, capacity / sizeof(fancy_trivium), NULL);
+    if (which == 6) return parse_and_free(pattern, length, flags);
     return fancy_format(pattern, length, flags, which == 4 ? FANCY_STYLE_KEPT : FANCY_STYLE_VERBOSE, 80, text, capacity);
 }
 
@@ -171,7 +183,7 @@ static bool are_rows_refused_memory(const char *pattern, size_t length, uint32_t
     take(&t, pattern, length, flags);
     char *text = untouched(CAPACITY(length));
     bool is_right = true;
-    for (int which = t.nodes ? 0 : 2; which < 6; which++) {
+    for (int which = t.nodes ? 0 : 2; which < 7; which++) {
         fancy_result usual = call_with_rows(which, &t, pattern, length, flags, text);
         memset(text, 0xA5, CAPACITY(length));
         for (size_t n = 1; is_right; n++) {
@@ -200,7 +212,7 @@ static bool is_line_right(char **fields, bool refuses) {
     bool is_right = is_answered(pattern, length, flags, fields) && is_short_said(pattern, length, flags) &&
                     are_spans_right(pattern, length, flags) && are_rows_right(pattern, length, flags) &&
                     are_trivia_right(pattern, length, flags) && are_formatted_right(pattern, length, flags) &&
-                    (!refuses || are_rows_refused_memory(pattern, length, flags));
+                    is_all_right(pattern, length, flags) && (!refuses || are_rows_refused_memory(pattern, length, flags));
     for (size_t n = 1; refuses && is_right; n++) {
         left_until_refusal = n;
         was_refused = false;
@@ -263,20 +275,33 @@ static bool are_rows_by_hand_right(void) {
            is_nest(832, FANCY_STATUS_OK) && is_nest(833, FANCY_STATUS_NO_TREE);
 }
 
-// Whether a number above that of an operand is as good as that one, also where its last byte is another precedence.
-static bool are_large_precedences_right(void) {
-    static const uint32_t large[] = {4, 255, 256, 257, 258, 65536, 1u << 24, UINT32_MAX};
+// Whether a call returned only a status.
+static bool is_only(fancy_result got, uint32_t status) {
+    return got.status == status && got.kind == FANCY_ERROR_NONE && got.position == 0 && got.size == 0;
+}
+
+static const char *const any_patterns[] = {"", "a|b", "(", "\xff"};
+
+// Whether a number that no precedence has is refused, also if its last byte is one, whatever the pattern, the rows and the flags are.
+static bool are_unknown_precedences_refused(void) {
+    static const uint32_t unknown[] = {4, 255, 256, 257, 258, 65536, 1u << 24, UINT32_MAX};
+    fancy_node empty = {.kind = FANCY_NODE_EMPTY, .end = 1};
     char text[64];
-    fancy_node nodes[] = {{.kind = FANCY_NODE_ALT, .end = 3}, {.kind = FANCY_NODE_LITERAL, .end = 2, .text_size = 1},
-                          {.kind = FANCY_NODE_LITERAL, .end = 3, .text = 1, .text_size = 1}};
+    memset(text, 0xA5, sizeof text);
     bool is_right = true;
-    for (size_t i = 0; i < sizeof large / sizeof *large; i++) {
-        fancy_result got = fancy_print("a|b", 3, 0, large[i], text, sizeof text);
-        is_right = is_right && got.status == FANCY_STATUS_OK && got.size == 7 && memcmp(text, "(?:a|b)", 7) == 0;
-        got = fancy_print_nodes(nodes, 3, "ab", 2, 0, large[i], text, sizeof text);
-        is_right = is_right && got.status == FANCY_STATUS_OK && got.size == 7 && memcmp(text, "(?:a|b)", 7) == 0;
+    for (size_t i = 0; i < sizeof unknown / sizeof *unknown; i++) {
+        for (int k = 0; k < 4; k++) {
+            const char *pattern = any_patterns[k];
+            uint32_t flags = k % 2 ? FANCY_FLAG_UNICODE : 1024;
+            fancy_result got = fancy_print(pattern, strlen(pattern), flags, unknown[i], text, sizeof text);
+            is_right = is_right && is_only(got, FANCY_STATUS_UNKNOWN_PRECEDENCE);
+        }
+        for (size_t rows = 0; rows < 2; rows++) {
+            fancy_result got = fancy_print_nodes(&empty, rows, NULL, 0, 0, unknown[i], text, sizeof text);
+            is_right = is_right && is_only(got, FANCY_STATUS_UNKNOWN_PRECEDENCE);
+        }
     }
-    return is_right;
+    return is_right && is_untouched(text, sizeof text);
 }
 
 // Whether what is needed is set as the header says where a buffer is too short: a size, or an info or a count and a size of 0.
@@ -292,17 +317,88 @@ static bool is_need_set(void) {
     return is_right && trivia.status == FANCY_STATUS_BUFFER_TOO_SHORT && trivia.size == 0 && count == 2;
 }
 
-// Whether bits that are no flags are ignored, but for FANCY_WITHOUT_SPANS, which only fancy_tree takes.
-static bool are_other_bits_ignored(void) {
-    fancy_node nodes[3], again[3];
-    char texts[FANCY_MAX_TEXTS(2)];
+// All that a call may write.
+typedef struct {
+    fancy_node nodes[3];
+    char texts[64];
+    fancy_name names[3];
+    size_t backrefs[3];
+    fancy_info info;
+    fancy_trivium trivia[3];
+    size_t count;
+} written;
+
+enum { CALLS = 10, CALLS_WITH_SPANS = 8 };
+
+static fancy_result write_all(const char *pattern, size_t length, uint32_t flags, written *to) {
+    fancy_buffers all = {to->nodes, 3, to->texts, sizeof to->texts, to->names, 3, to->backrefs, 3, to->trivia, 3, to->info, to->count};
+    fancy_result got = fancy_parse_into(pattern, length, flags, &all);
+    to->info = all.info;
+    to->count = all.trivium_count;
+    return got;
+}
+
+// Makes the call of a number, of those that take flags: those that leave spans out if a flag says so are last.
+static fancy_result call_with_flags(int which, const char *pattern, uint32_t flags, written *to) {
+    static const fancy_node empty = {.kind = FANCY_NODE_EMPTY, .end = 1};
+    size_t length = strlen(pattern), size = sizeof to->texts;
+    switch (which) {
+    case 0: return fancy_check(pattern, length, flags);
+    case 1: return fancy_message(pattern, length, flags, to->texts, size);
+    case 2: return fancy_print(pattern, length, flags, FANCY_PRECEDENCE_WHOLE, to->texts, size);
+    case 3: return fancy_pattern(pattern, length, flags, to->texts, size);
+    case 4: return fancy_format(pattern, length, flags, FANCY_STYLE_KEPT, 0, to->texts, size);
+    case 5: return fancy_trivia(pattern, length, flags, to->trivia, 3, &to->count);
+    // a row, or none, which is no tree
+    case 6: return fancy_pattern_nodes(&empty, length % 2, NULL, 0, 0, NULL, 0, NULL, flags, to->texts, size);
+    case 7: return write_all(pattern, length, flags, to);
+    case 8: return fancy_parse(pattern, length, flags, to->nodes, 3, to->texts, size, to->names, 3, to->backrefs, 3, &to->info);
+    default: return fancy_tree(pattern, length, flags, to->nodes, 3, to->texts, size, to->names, 3, to->backrefs, 3, &to->info);
+    }
+}
+
+// Whether a call refuses flags, whatever the pattern is, and writes nothing.
+static bool are_flags_refused(int which, uint32_t flags) {
     bool is_right = true;
-    for (uint32_t bit = (uint32_t)1 << strlen(flag_letters); bit != 0; bit <<= 1) {
-        size_t stop = bit == FANCY_WITHOUT_SPANS ? 0 : 2;
-        fancy_result parsed = fancy_parse("ab", 2, bit, nodes, 3, texts, sizeof texts, NULL, 0, NULL, 0, NULL);
-        fancy_result tree = fancy_tree("ab", 2, bit, again, 3, texts, sizeof texts, NULL, 0, NULL, 0, NULL);
-        is_right = is_right && parsed.status == FANCY_STATUS_OK && nodes[0].stop == 2 && tree.status == FANCY_STATUS_OK &&
-                   again[0].stop == stop;
+    for (int i = 0; i < 4; i++) {
+        written to;
+        memset(&to, 0xA5, sizeof to);
+        fancy_result got = call_with_flags(which, any_patterns[i], flags, &to);
+        is_right = is_right && is_only(got, FANCY_STATUS_UNKNOWN_FLAG) && is_untouched(&to, sizeof to);
+    }
+    return is_right;
+}
+
+// Whether each call refuses each bit that is no flag, alone and beside flags; and takes all flags, of which one is only for two calls.
+static bool are_unknown_flags_refused(void) {
+    const uint32_t all = ((uint32_t)1 << strlen(flag_letters)) - 1;
+    bool is_right = true;
+    for (int which = 0; which < CALLS; which++) {
+        for (uint32_t bit = all + 1; bit != 0; bit <<= 1) {
+            bool has_spans = which >= CALLS_WITH_SPANS;
+            if (has_spans && bit == FANCY_FLAG_WITHOUT_SPANS) continue;
+            is_right = is_right && are_flags_refused(which, bit) && are_flags_refused(which, bit | all) &&
+                       are_flags_refused(which, bit | FANCY_FLAG_UNICODE | (has_spans ? FANCY_FLAG_WITHOUT_SPANS : 0));
+        }
+        for (uint32_t flags = 0; flags <= all; flags++) {
+            written to;
+            is_right = is_right && call_with_flags(which, "a", flags, &to).status == FANCY_STATUS_OK;
+        }
+    }
+    // a style that does not exist is refused first
+    return is_right && fancy_format("a", 1, 1024, FANCY_STYLE_COMPACT + 1, 0, NULL, 0).status == FANCY_STATUS_UNKNOWN_STYLE;
+}
+
+// Whether the flag leaves the spans out, in both calls that write a tree.
+static bool are_spans_left_out(void) {
+    bool is_right = FANCY_WITHOUT_SPANS == FANCY_FLAG_WITHOUT_SPANS;
+    for (int which = CALLS_WITH_SPANS; which < CALLS; which++) {
+        for (int i = 0; i < 2; i++) {
+            written to;
+            fancy_result got = call_with_flags(which, "ab", FANCY_FLAG_UNICODE | (i ? FANCY_FLAG_WITHOUT_SPANS : 0), &to);
+            is_right = is_right && got.status == FANCY_STATUS_OK && to.info.node_count == 3 && to.nodes[0].start == 0 &&
+                       to.nodes[0].stop == (i ? 0 : 2) && to.nodes[2].start == (i ? 0 : 1) && to.nodes[2].stop == (i ? 0 : 2);
+        }
     }
     return is_right;
 }
@@ -321,7 +417,8 @@ static bool is_rest_right(void) {
                     fancy_parse(NULL, 0, 0, &node, 1, NULL, 0, NULL, 0, NULL, 0, &info).status == FANCY_STATUS_OK &&
                     info.node_count == 1 && node.kind == FANCY_NODE_EMPTY && node.start == 0 && node.stop == 0 && node.end == 1;
     is_right = is_right && are_rows_by_hand_right() && are_trivia_by_hand_right() && are_formatted_by_hand_right();
-    is_right = is_right && are_large_precedences_right() && is_need_set() && are_other_bits_ignored();
+    is_right = is_right && are_unknown_precedences_refused() && is_need_set() && are_unknown_flags_refused() && are_spans_left_out();
+    is_right = is_right && is_all_by_hand_right();
     for (uint32_t kind = 0; kind < 300; kind++) {
         fancy_result got = fancy_error_text(kind, text, sizeof text);
         is_right = is_right && got.size == strlen(fancy_kind_message(kind)) && memcmp(text, fancy_kind_message(kind), got.size) == 0;

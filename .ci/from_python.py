@@ -3,6 +3,7 @@ texts.tsv. From the nodes and fields of `fancy.parse` it writes what `fre` write
 module's docstring, and compares positions and spans, in characters and in bytes, with those written here. FANCY_LIBRARY names
 the library."""
 
+import ctypes
 import dataclasses
 import doctest
 import os
@@ -438,21 +439,32 @@ def loaded(folder, **variables):
 def is_library_found():
     """Whether the library is looked for in this order: FANCY_LIBRARY, beside the module under either name, where `make -C c`
     builds it, where the loader looks. A file that was found is removed, so that the next one is found."""
-    library = os.environ["FANCY_LIBRARY"]
+    library, name = os.environ["FANCY_LIBRARY"], f"libfancy.so.{fancy.__version__.split('.')[0]}"
     with tempfile.TemporaryDirectory() as top:
         top = os.path.realpath(top)
         folder, built, system = (os.path.join(top, it) for it in ("python", "c/out", "system"))
-        files = [f"{folder}/libfancy.so.1", f"{folder}/libfancy.so", f"{built}/libfancy.so.1"]
+        files = [f"{folder}/{name}", f"{folder}/libfancy.so", f"{built}/{name}"]
         for it in (folder, built, system):
             os.makedirs(it)
         shutil.copy(fancy.__file__, folder)
-        for file in [*files, f"{system}/libfancy.so.1"]:
+        for file in [*files, f"{system}/{name}"]:
             shutil.copy(library, file)
         is_right = loaded(folder, FANCY_LIBRARY=library) == os.path.realpath(library)
         for file in files:
             is_right = is_right and loaded(folder, FANCY_LIBRARY="") == file
             os.remove(file)
-        return is_right and loaded(folder, LD_LIBRARY_PATH=system) == "libfancy.so.1"
+        return is_right and loaded(folder, LD_LIBRARY_PATH=system) == name
+
+
+def are_unknown_numbers_refused():
+    """Whether the library's own symbols refuse what the module never passes: other bits, and numbers that no precedence has."""
+    call, text = fancy._library, ctypes.create_string_buffer(64)
+    return (
+        all(call.fancy_check(b"a", 1, 1 << bit).status == (0 if bit < 9 else 9) for bit in range(32))
+        and all(call.fancy_print(b"a|b", 3, 32, it, text, 64).status == 10 for it in (4, 255, 256, 2**32 - 1))
+        and call.fancy_print(b"a|b", 3, 32, 3, text, 64).status == 0
+        and text.value == b"(?:a|b)"
+    )
 
 
 def are_null_pointers_taken():
@@ -498,6 +510,7 @@ def main():
         "flags": are_flags_looked_at(),
         "numbers in a tree": are_numbers_looked_at(),
         "precedences and styles": are_choices_looked_at(),
+        "other numbers": are_unknown_numbers_refused(),
         "the command": is_command_right(),
         "null pointers": are_null_pointers_taken(),
         "the names": are_names_public(),

@@ -2,7 +2,6 @@
  * have. The pattern says what has the number: `error`, `status`, `node`, `assertion`, `look`, `verb`, `absent`, `target`, `trivium` or `flags`; any
  * other pattern is valid. `.ci/from-rust` links the crate in `rust/` with it, and `.ci/from-c` loads it from Python. */
 #define FANCY_INLINE
-#define FANCY_ANY_PRECEDENCE uint8_t
 #include "../include/fancy.h"
 
 #include <string.h>
@@ -76,6 +75,16 @@ fancy_result fancy_parse_nonnull(const char *pattern, size_t length, uint32_t fl
                               backref_capacity, info);
 }
 
+fancy_result fancy_parse_into_nonnull(const char *pattern, size_t length, uint32_t flags, fancy_node *nodes, size_t node_capacity,
+                                      char *texts, size_t texts_capacity, fancy_name *names, size_t name_capacity,
+                                      size_t *backrefs, size_t backref_capacity, fancy_trivium *trivia, size_t trivium_capacity,
+                                      fancy_info *info, size_t *trivium_count) {
+    (void)trivia, (void)trivium_capacity;
+    *trivium_count = 0;
+    return fancy_tree_nonnull(pattern, length, flags, nodes, node_capacity, texts, texts_capacity, names, name_capacity, backrefs,
+                              backref_capacity, info);
+}
+
 fancy_result fancy_trivia_nonnull(const char *pattern, size_t length, uint32_t flags, fancy_trivium *trivia, size_t capacity,
                                   size_t *count) {
     bool is_kind = is(pattern, length, "trivium"), has_flags = is(pattern, length, "flags");
@@ -89,7 +98,7 @@ fancy_result fancy_trivia_nonnull(const char *pattern, size_t length, uint32_t f
 /* The calls that write a text write none, with the status that the pattern says. */
 static fancy_result text(const char *pattern, size_t length) { return result(is(pattern, length, "status") ? NEW : FANCY_STATUS_OK); }
 
-fancy_result fancy_print_nonnull(const char *pattern, size_t length, uint32_t flags, uint8_t precedence, char *buffer, size_t capacity) {
+fancy_result fancy_print_nonnull(const char *pattern, size_t length, uint32_t flags, uint32_t precedence, char *buffer, size_t capacity) {
     (void)flags, (void)precedence, (void)buffer, (void)capacity;
     return text(pattern, length);
 }
@@ -106,7 +115,7 @@ fancy_result fancy_format_nonnull(const char *pattern, size_t length, uint32_t f
 }
 
 fancy_result fancy_print_nodes_nonnull(const fancy_node *nodes, size_t node_count, const char *texts, size_t texts_size,
-                                       size_t index, uint8_t precedence, char *buffer, size_t capacity) {
+                                       size_t index, uint32_t precedence, char *buffer, size_t capacity) {
     (void)nodes, (void)node_count, (void)texts, (void)texts_size, (void)index, (void)precedence, (void)buffer, (void)capacity;
     return result(NEW);
 }

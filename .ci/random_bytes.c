@@ -6,6 +6,7 @@
 #include "rows.h"
 #include "trivia.h"
 #include "format.h"
+#include "all.h"
 
 static uint64_t state;
 
@@ -75,7 +76,9 @@ static bool is_not_utf8(fancy_result got, size_t position) {
 // Whether each call says where the pattern stops to be UTF-8.
 static bool is_refused_by_all(const char *pattern, size_t length, uint32_t flags, size_t position) {
     fancy_info info;
-    return is_not_utf8(fancy_check(pattern, length, flags), position) &&
+    fancy_buffers none;
+    memset(&none, 0, sizeof none);
+    return is_not_utf8(fancy_parse_into(pattern, length, flags, &none), position) && is_not_utf8(fancy_check(pattern, length, flags), position) &&
            is_not_utf8(fancy_message(pattern, length, flags, NULL, 0), position) &&
            is_not_utf8(fancy_parse(pattern, length, flags, NULL, 0, NULL, 0, NULL, 0, NULL, 0, &info), position) &&
            is_not_utf8(fancy_tree(pattern, length, flags, NULL, 0, NULL, 0, NULL, 0, NULL, 0, &info), position) &&
@@ -143,7 +146,7 @@ int main(int argument_count, char **arguments) {
         // of one of 16 strings, since a tree has many parts
         if (i % 16 == 0 && prefix == length)
             is_right = is_right && are_rows_right(pattern, length, flags) && are_trivia_right(pattern, length, flags) &&
-                       are_formatted_right(pattern, length, flags);
+                       are_formatted_right(pattern, length, flags) && is_all_right(pattern, length, flags);
         free(pattern);
         if (is_right) continue;
         wrong++;

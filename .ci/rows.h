@@ -39,22 +39,35 @@ static bool is_part(const tree *a, size_t index, const tree *b) {
     return is_same;
 }
 
-// Whether `fancy_tree` writes the tree that `fancy_parse` wrote, with its spans or without.
+// Whether two trees are the same, but for their spans.
+static bool is_same_tree(const tree *a, const tree *b) {
+    bool is_same = is_same_info(&a->info, &b->info) && is_part(a, 0, b) && memcmp(a->texts, b->texts, a->info.texts_size) == 0 &&
+                   memcmp(a->names, b->names, a->info.name_count * sizeof *a->names) == 0 &&
+                   memcmp(a->backrefs, b->backrefs, a->info.backref_count * sizeof *a->backrefs) == 0;
+    for (size_t i = 0; is_same && i < a->info.node_count; i++)
+        is_same = a->nodes[i].position == b->nodes[i].position && a->nodes[i].text == b->nodes[i].text;
+    return is_same;
+}
+
+static bool has_no_spans(const tree *t) {
+    bool has_none = true;
+    for (size_t i = 0; i < t->info.node_count; i++) has_none = has_none && t->nodes[i].start == 0 && t->nodes[i].stop == 0;
+    return has_none;
+}
+
+// Whether `fancy_tree` writes the tree that `fancy_parse` wrote, with its spans; and both write it without, if a flag says so.
 static bool is_tree_at_once(const tree *t, const char *pattern, size_t length, uint32_t flags) {
-    tree once, bare;
-    bool is_right = take_at_once(&once, pattern, length, flags).status == FANCY_STATUS_OK &&
-                    take_at_once(&bare, pattern, length, flags | FANCY_WITHOUT_SPANS).status == FANCY_STATUS_OK &&
-                    is_same_info(&once.info, &t->info) && is_same_info(&bare.info, &t->info) && is_part(t, 0, &bare) &&
-                    is_part(t, 0, &once) && memcmp(once.texts, t->texts, t->info.texts_size) == 0 &&
-                    memcmp(bare.texts, t->texts, t->info.texts_size) == 0 &&
-                    memcmp(once.names, t->names, t->info.name_count * sizeof *t->names) == 0 &&
-                    memcmp(once.backrefs, t->backrefs, t->info.backref_count * sizeof *t->backrefs) == 0;
+    tree once, bare, parsed;
+    bool is_right = take_at_once(&once, pattern, length, flags).status == FANCY_STATUS_OK;
+    is_right = take_at_once(&bare, pattern, length, flags | FANCY_FLAG_WITHOUT_SPANS).status == FANCY_STATUS_OK && is_right;
+    is_right = take(&parsed, pattern, length, flags | FANCY_FLAG_WITHOUT_SPANS).status == FANCY_STATUS_OK && is_right;
+    is_right = is_right && is_same_tree(t, &once) && is_same_tree(t, &bare) && is_same_tree(t, &parsed) && has_no_spans(&bare) &&
+               has_no_spans(&parsed);
     for (size_t i = 0; is_right && i < t->info.node_count; i++)
-        is_right = once.nodes[i].start == t->nodes[i].start && once.nodes[i].stop == t->nodes[i].stop &&
-                   once.nodes[i].position == t->nodes[i].position && once.nodes[i].text == t->nodes[i].text &&
-                   bare.nodes[i].start == 0 && bare.nodes[i].stop == 0;
+        is_right = once.nodes[i].start == t->nodes[i].start && once.nodes[i].stop == t->nodes[i].stop;
     release(&once);
     release(&bare);
+    release(&parsed);
     return is_right;
 }
 
@@ -101,8 +114,8 @@ static bool is_whole_written(const tree *t, const char *pattern, size_t length, 
     size_t capacity = CAPACITY(length);
     char *x = malloc(capacity), *y = malloc(capacity);
     bool is_right = true;
-    for (uint32_t precedence = 0; precedence < 300; precedence += precedence < 5 ? 1 : 50) {
-        fancy_result wanted = fancy_print(pattern, length, flags, precedence < 3 ? precedence : 3, x, capacity);
+    for (uint32_t precedence = 0; precedence <= FANCY_PRECEDENCE_OPERAND; precedence++) {
+        fancy_result wanted = fancy_print(pattern, length, flags, precedence, x, capacity);
         is_right = is_right && is_same_text(print_rows(t, 0, precedence, y, capacity), y, wanted, x);
     }
     fancy_result wanted = fancy_pattern(pattern, length, flags, x, capacity);
@@ -111,6 +124,22 @@ static bool is_whole_written(const tree *t, const char *pattern, size_t length, 
     fancy_result got = wanted.size == 0 ? wanted : write_rows(t, 0, flags, y, wanted.size - 1);
     is_right = is_right && got.size == wanted.size && (wanted.size == 0 || got.status == FANCY_STATUS_BUFFER_TOO_SHORT);
     for (size_t i = 0; i < wanted.size; i++) is_right = is_right && (unsigned char)y[i] == 0xA5;
+    free(x);
+    free(y);
+    return is_right;
+}
+
+// Whether a part of a tree is written without names from its own rows alone: those before it are not set, which valgrind sees.
+static bool is_part_alone(const tree *t, size_t index, size_t length, uint32_t flags) {
+    size_t capacity = CAPACITY(length), end = t->nodes[index].end;
+    fancy_node *rows = malloc(end * sizeof *rows);
+    char *x = malloc(capacity), *y = malloc(capacity);
+    memcpy(rows + index, t->nodes + index, (end - index) * sizeof *rows);
+    fancy_result wanted = fancy_pattern_nodes(t->nodes, t->info.node_count, t->texts, t->info.texts_size, index, NULL, 0, &t->info, flags,
+                                              x, capacity);
+    fancy_result got = fancy_pattern_nodes(rows, end, t->texts, t->info.texts_size, index, NULL, 0, &t->info, flags, y, capacity);
+    bool is_right = is_same_text(got, y, wanted, x);
+    free(rows);
     free(x);
     free(y);
     return is_right;
@@ -186,7 +215,7 @@ static bool are_rows_right(const char *pattern, size_t length, uint32_t flags) {
     // of a long pattern some nodes
     size_t step = t.info.node_count / 64 + 1;
     for (size_t i = 0; is_right && i < t.info.node_count; i += step)
-        is_right = is_part_written(&t, i, length, flags) && is_damage_found(&t, i);
+        is_right = is_part_written(&t, i, length, flags) && is_part_alone(&t, i, length, flags) && is_damage_found(&t, i);
     release(&t);
     return is_right;
 }

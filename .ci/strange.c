@@ -34,7 +34,7 @@ static fancy_result result(uint32_t status, uint32_t kind, size_t position, size
 }
 
 static fancy_result any_result(size_t size) {
-    return result((uint32_t)below(FANCY_STATUS_UNKNOWN_STYLE + 1), (uint32_t)(below(20) ? below(20) : draw()), number(size), number(size));
+    return result((uint32_t)below(FANCY_STATUS_UNKNOWN_PRECEDENCE + 1), (uint32_t)(below(20) ? below(20) : draw()), number(size), number(size));
 }
 
 static void write_noise(void *buffer, size_t size) {
@@ -72,7 +72,7 @@ fancy_result fancy_error_text_nonnull(uint32_t kind, char *buffer, size_t capaci
     return text(FANCY_STATUS_OK, 47, buffer, capacity);
 }
 
-fancy_result fancy_print_nonnull(const char *pattern, size_t length, uint32_t flags, uint8_t precedence, char *buffer,
+fancy_result fancy_print_nonnull(const char *pattern, size_t length, uint32_t flags, uint32_t precedence, char *buffer,
                                  size_t capacity) {
     (void)pattern, (void)flags, (void)precedence;
     return text(FANCY_STATUS_OK, length, buffer, capacity);
@@ -90,7 +90,7 @@ fancy_result fancy_format_nonnull(const char *pattern, size_t length, uint32_t f
 }
 
 fancy_result fancy_print_nodes_nonnull(const fancy_node *nodes, size_t node_count, const char *texts, size_t texts_size,
-                                       size_t index, uint8_t precedence, char *buffer, size_t capacity) {
+                                       size_t index, uint32_t precedence, char *buffer, size_t capacity) {
     (void)nodes, (void)texts, (void)texts_size, (void)index, (void)precedence;
     return text(below(8) ? FANCY_STATUS_OK : FANCY_STATUS_NO_TREE, node_count, buffer, capacity);
 }

@@ -35,9 +35,9 @@ static const trivia_by_hand wanted_trivia[] = {
     {"a\\#b", UX, 0, {{0, 0, 0, 0, 0}}},
     {"[(?#)]", U, 0, {{0, 0, 0, 0, 0}}},
     {"a{1(?#c),2}", U, 0, {{0, 0, 0, 0, 0}}},
-    // a character of two bytes, and a bit that is no flag
+    // a character of two bytes, and a flag that is set
     {"\xc3\xa9(?#\xc3\xa9)", U, 1, {{2, 8, FANCY_TRIVIUM_COMMENT, 0, 0}}},
-    {"(?s)", U | 512, 1, {{0, 4, FANCY_TRIVIUM_INLINE_FLAGS, U, U | FANCY_FLAG_DOTNL}}},
+    {"(?s)", U, 1, {{0, 4, FANCY_TRIVIUM_INLINE_FLAGS, U, U | FANCY_FLAG_DOTNL}}},
     // the parentheses of a group without a name that has no number
     {"(a)(?<n>b)", UN, 2, {{0, 1, FANCY_TRIVIUM_OPENING, UN, UN}, {2, 3, FANCY_TRIVIUM_CLOSING, 0, 0}}},
     // all but the condition of a conditional without branches; comments are apart, and blanks are not

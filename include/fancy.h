@@ -1,7 +1,8 @@
 /* Patterns of fancy-regex, parsed and printed by proved code.
  *
  * Each call parses a pattern anew, or builds a tree anew from its rows, keeps nothing, and owns nothing when it returns. It
- * writes to buffers of the caller, from their start and never past their end: either a whole text or tree, or nothing.
+ * writes to buffers of the caller, from their start and never past their end: either a whole text or tree, or nothing. Only
+ * fancy_parse_alloc allocates them.
  * docs/c.md says how to build and link the library, what is proved, and what the caller has to guarantee.
  *
  * A pattern is UTF-8 and need not be NUL-terminated. Lengths, sizes, positions and the capacities of text buffers are in
@@ -24,8 +25,8 @@
 /* The version of this header. fancy_version returns that of the library. CHANGELOG.md says what a change of each number
  * means. */
 /* ---- version: made by tools/bindings from fancy.toml */
-#define FANCY_VERSION_MAJOR 1
-#define FANCY_VERSION_MINOR 4
+#define FANCY_VERSION_MAJOR 2
+#define FANCY_VERSION_MINOR 0
 #define FANCY_VERSION_PATCH 0
 /* ---- end of version */
 #define FANCY_VERSION (FANCY_VERSION_MAJOR * 1000000 + FANCY_VERSION_MINOR * 1000 + FANCY_VERSION_PATCH)
@@ -35,8 +36,8 @@ extern "C" {
 #endif
 
 /* ---- numbers and structs: made by tools/bindings from fancy.toml */
-/* Flags: bits, of which any may be set. Other bits are ignored, but for FANCY_WITHOUT_SPANS, which fancy_tree takes. */
-enum {
+/* Flags: bits, of which any may be set. A call refuses a bit that it does not take: it returns FANCY_STATUS_UNKNOWN_FLAG. */
+enum fancy_flag {
     FANCY_FLAG_CASEI = 1,        /* case-insensitive */
     FANCY_FLAG_MULTI = 2,        /* ^ and $ match at line breaks too */
     FANCY_FLAG_DOTNL = 4,        /* . matches a line feed too */
@@ -46,28 +47,29 @@ enum {
     FANCY_FLAG_CRLF = 64,        /* CR is a line terminator too, and CR LF a single one */
     FANCY_FLAG_ONIGURUMA_MODE = 128, /* the pattern is in Oniguruma's syntax */
     /* if some group has a name, groups without a name have no number */
-    FANCY_FLAG_IGNORE_NUMBERED_GROUPS_WHEN_NAMED_GROUPS_EXIST = 256
+    FANCY_FLAG_IGNORE_NUMBERED_GROUPS_WHEN_NAMED_GROUPS_EXIST = 256,
+    FANCY_FLAG_WITHOUT_SPANS = 65536 /* of fancy_parse and fancy_tree, and faster: each start and stop is 0 */
 };
-
-/* A bit that fancy_tree takes beside the flags: the spans are left out, and each start and stop is 0. Other calls ignore it. */
-enum { FANCY_WITHOUT_SPANS = 65536 };
+#define FANCY_WITHOUT_SPANS FANCY_FLAG_WITHOUT_SPANS /* deprecated: the next major version does not have this name */
 
 /* The status of a call. These numbers, and all those below, never change; a later minor version may return new ones. */
-enum {
+enum fancy_status {
     FANCY_STATUS_OK = 0,
-    FANCY_STATUS_REFUSED = 1,          /* the pattern is invalid: kind and position are set */
-    FANCY_STATUS_NOT_UTF8 = 2,         /* position is the length of the valid UTF-8 prefix */
-    FANCY_STATUS_OUT_OF_MEMORY = 3,    /* the pattern may be valid or not */
-    FANCY_STATUS_BUFFER_TOO_SHORT = 4, /* no buffer was written; what is needed is set: for a text the size, for a tree *info,
-                                          for trivia *count */
-    FANCY_STATUS_NOT_PRINTABLE = 5,    /* of fancy_print and fancy_print_nodes: there is a tree, and it is not printable */
-    FANCY_STATUS_NO_PATTERN = 6,       /* of fancy_pattern_nodes: what is written for the tree does not parse back as it */
-    FANCY_STATUS_NO_TREE = 7,          /* of fancy_print_nodes and fancy_pattern_nodes: the rows are no tree */
-    FANCY_STATUS_UNKNOWN_STYLE = 8     /* of fancy_format: no style has this number */
+    FANCY_STATUS_REFUSED = 1,            /* the pattern is invalid: kind and position are set */
+    FANCY_STATUS_NOT_UTF8 = 2,           /* position is the length of the valid UTF-8 prefix */
+    FANCY_STATUS_OUT_OF_MEMORY = 3,      /* the pattern may be valid or not */
+    FANCY_STATUS_BUFFER_TOO_SHORT = 4,   /* no buffer was written; what is needed is set: for a text the size, for a tree *info,
+                                            for trivia *count */
+    FANCY_STATUS_NOT_PRINTABLE = 5,      /* of fancy_print and fancy_print_nodes: there is a tree, and it is not printable */
+    FANCY_STATUS_NO_PATTERN = 6,         /* of fancy_pattern_nodes: what is written for the tree does not parse back as it */
+    FANCY_STATUS_NO_TREE = 7,            /* of fancy_print_nodes and fancy_pattern_nodes: the rows are no tree */
+    FANCY_STATUS_UNKNOWN_STYLE = 8,      /* of fancy_format: no style has this number */
+    FANCY_STATUS_UNKNOWN_FLAG = 9,       /* a bit is set that is no flag, or none that the call takes */
+    FANCY_STATUS_UNKNOWN_PRECEDENCE = 10 /* of fancy_print and fancy_print_nodes: no precedence has this number */
 };
 
 /* Kinds of errors. */
-enum {
+enum fancy_error_kind {
     FANCY_ERROR_NONE = 0,
     FANCY_ERROR_GENERAL_PARSE_ERROR = 1,
     FANCY_ERROR_UNCLOSED_OPEN_PAREN = 2,
@@ -88,7 +90,7 @@ enum {
 };
 
 /* Kinds of nodes. The comment of each lists the fields that it uses, besides kind, end, start and stop. */
-enum {
+enum fancy_node_kind {
     FANCY_NODE_EMPTY = 1,
     FANCY_NODE_ANY = 2,              /* newline, crlf */
     FANCY_NODE_ASSERTION = 3,        /* which: FANCY_ASSERTION_..; crlf */
@@ -116,7 +118,7 @@ enum {
                                         or level */
 };
 
-enum {
+enum fancy_assertion {
     FANCY_ASSERTION_START_TEXT = 1,
     FANCY_ASSERTION_END_TEXT = 2,
     FANCY_ASSERTION_END_TEXT_IGNORE_TRAILING_NEWLINES = 3, /* crlf */
@@ -131,18 +133,29 @@ enum {
     FANCY_ASSERTION_NOT_WORD_BOUNDARY = 12
 };
 
-enum { FANCY_LOOK_AHEAD = 1, FANCY_LOOK_AHEAD_NEG = 2, FANCY_LOOK_BEHIND = 3, FANCY_LOOK_BEHIND_NEG = 4 };
+enum fancy_look { FANCY_LOOK_AHEAD = 1, FANCY_LOOK_AHEAD_NEG = 2, FANCY_LOOK_BEHIND = 3, FANCY_LOOK_BEHIND_NEG = 4 };
 
-enum { FANCY_VERB_FAIL = 1, FANCY_VERB_ACCEPT = 2, FANCY_VERB_COMMIT = 3, FANCY_VERB_SKIP = 4, FANCY_VERB_PRUNE = 5 };
+enum fancy_verb {
+    FANCY_VERB_FAIL = 1,
+    FANCY_VERB_ACCEPT = 2,
+    FANCY_VERB_COMMIT = 3,
+    FANCY_VERB_SKIP = 4,
+    FANCY_VERB_PRUNE = 5
+};
 
-enum { FANCY_ABSENT_REPEATER = 1, FANCY_ABSENT_EXPRESSION = 2, FANCY_ABSENT_STOPPER = 3, FANCY_ABSENT_CLEAR = 4 };
+enum fancy_absent {
+    FANCY_ABSENT_REPEATER = 1,
+    FANCY_ABSENT_EXPRESSION = 2,
+    FANCY_ABSENT_STOPPER = 3,
+    FANCY_ABSENT_CLEAR = 4
+};
 
 /* What an unresolved call names: a group by its number (group), by its name (text, text_size), or by a relative number
  * (level). */
-enum { FANCY_TARGET_BY_NUMBER = 1, FANCY_TARGET_BY_NAME = 2, FANCY_TARGET_RELATIVE = 3 };
+enum fancy_target { FANCY_TARGET_BY_NUMBER = 1, FANCY_TARGET_BY_NAME = 2, FANCY_TARGET_RELATIVE = 3 };
 
 /* Kinds of what no node of a tree has. */
-enum {
+enum fancy_trivium_kind {
     FANCY_TRIVIUM_COMMENT = 1,      /* (?#..) */
     FANCY_TRIVIUM_LINE_COMMENT = 2, /* from # through its line feed, or through the end of the pattern */
     FANCY_TRIVIUM_INLINE_FLAGS = 3, /* inline flags, as (?i): flags_before, flags_after */
@@ -153,8 +166,8 @@ enum {
 };
 
 /* What a printed text is to be: a whole pattern or the inside of a group, a branch of an alternation, a part of a
- * concatenation, the operand of a quantifier. Any number above 3 is as good as FANCY_PRECEDENCE_OPERAND. */
-enum {
+ * concatenation, the operand of a quantifier. A call refuses other numbers: it returns FANCY_STATUS_UNKNOWN_PRECEDENCE. */
+enum fancy_precedence {
     FANCY_PRECEDENCE_WHOLE = 0,
     FANCY_PRECEDENCE_BRANCH = 1,
     FANCY_PRECEDENCE_PIECE = 2,
@@ -162,7 +175,7 @@ enum {
 };
 
 /* How fancy_format lays out a pattern. */
-enum {
+enum fancy_style {
     FANCY_STYLE_KEPT = 0,    /* its lines stay, with their indentation */
     FANCY_STYLE_VERBOSE = 1, /* over several lines; the pattern begins with (?x) unless FANCY_FLAG_IGNORE_SPACE is set */
     FANCY_STYLE_COMPACT = 2  /* in one line: ignored whitespace, (?x) at the beginning and empty comments go, and # one becomes
@@ -170,15 +183,17 @@ enum {
 };
 
 /* What a call returns. */
-typedef struct {
+typedef struct fancy_result fancy_result;
+struct fancy_result {
     uint32_t status; /* FANCY_STATUS_.. */
     uint32_t kind;   /* FANCY_ERROR_.., FANCY_ERROR_NONE if no error is reported */
     size_t position; /* of the error, at most the length of the pattern + 1; or the length of the valid UTF-8 prefix; else 0 */
     size_t size;     /* of the text that was to be written, whether or not it fitted; else 0, also for a tree and for trivia */
-} fancy_result;
+};
 
 /* A node of a tree. What its kind does not use is 0 or false, and text is 0 if text_size is 0. */
-typedef struct {
+typedef struct fancy_node fancy_node;
+struct fancy_node {
     uint32_t kind;    /* FANCY_NODE_.. */
     uint32_t which;
     size_t end;       /* one past the index of its last descendant. Its first child, if it has one, is the next node, and each
@@ -199,17 +214,19 @@ typedef struct {
     bool casei;       /* case-insensitive */
     bool greedy;
     bool has_level;   /* the reference has a recursion level; a FANCY_NODE_BACKREF_AT_LEVEL always has one */
-} fancy_node;
+};
 
 /* A name of a group, with its number. A name that several groups have is listed once for each. */
-typedef struct {
+typedef struct fancy_name fancy_name;
+struct fancy_name {
     size_t text;      /* where the name begins in the buffer of texts */
     size_t text_size; /* the size of the name, in bytes */
     size_t group;     /* the number of the group */
-} fancy_name;
+};
 
 /* The sizes of a tree, and the group information of its pattern. */
-typedef struct {
+typedef struct fancy_info fancy_info;
+struct fancy_info {
     size_t node_count;                     /* at most FANCY_MAX_NODES */
     size_t texts_size;                     /* in bytes; at most FANCY_MAX_TEXTS */
     size_t name_count;                     /* at most FANCY_MAX_NAMES */
@@ -221,30 +238,48 @@ typedef struct {
     bool contains_subroutines;             /* the pattern has a subroutine call */
     bool self_recursive;                   /* the pattern calls itself by the number 0 */
     bool numbered_groups_ignored;          /* groups without a name have no number */
-} fancy_info;
+};
 
 /* A part of a pattern that no node of its tree has. What its kind does not use is 0. */
-typedef struct {
+typedef struct fancy_trivium fancy_trivium;
+struct fancy_trivium {
     size_t start;          /* the offset of the first byte */
     size_t stop;           /* one past the offset of the last byte: start < stop <= the length of the pattern */
     uint32_t kind;         /* FANCY_TRIVIUM_.. */
     uint32_t flags_before; /* the flags that hold before inline flags, or around a flag group */
     uint32_t flags_after;  /* the flags that hold after inline flags, or in a flag group */
-} fancy_trivium;
+};
 /* ---- end of numbers and structs */
 
 /* Capacities that suffice for a pattern of this length in bytes, so that one call of fancy_parse or fancy_tree is enough. This
- * is proved for trees, whose texts have at most 6 * length bytes, and whose names at most length rows. FANCY_MAX_TEXTS also
- * suffices for the message that fancy_tree writes, which is tested. That FANCY_MAX_TRIVIA suffices for fancy_trivia is tested
- * too: each trivium has a byte of its own. */
+ * is proved for trees, whose texts have at most 6 * length bytes. FANCY_MAX_TEXTS also suffices for the message that fancy_tree
+ * writes, which is tested. That FANCY_MAX_TRIVIA suffices for fancy_trivia is tested too: each trivium has a byte of its own.
+ * FANCY_MAX_NAMES(0) is 0. */
 #define FANCY_MAX_NODES(length) (2 * (length) + 1)
 #define FANCY_MAX_TEXTS(length) (6 * (length) + 128)
-#define FANCY_MAX_NAMES(length) (2 * (length) + 1)
+#define FANCY_MAX_NAMES(length) (length)
 #define FANCY_MAX_BACKREFS(length) (2 * (length) + 1)
 #define FANCY_MAX_TRIVIA(length) ((length) + 1)
 
-/* ---- The proved functions. They take no null pointer, and a precedence only as a byte. The functions below them take null
- * pointers, and each precedence, and are the ones to call. */
+/* Buffers for all that a pattern gives, with their capacities; what fancy_parse_into and fancy_parse_alloc say of it is at the
+ * end. A pointer may be null if its capacity is 0. */
+typedef struct fancy_buffers fancy_buffers;
+struct fancy_buffers {
+    fancy_node *nodes;
+    size_t node_capacity;
+    char *texts;
+    size_t texts_capacity;   /* in bytes */
+    fancy_name *names;
+    size_t name_capacity;
+    size_t *backrefs;
+    size_t backref_capacity;
+    fancy_trivium *trivia;
+    size_t trivium_capacity;
+    fancy_info info;         /* the sizes of the first four, and the group information */
+    size_t trivium_count;
+};
+
+/* ---- The proved functions. They take no null pointer. The functions below them do, and are the ones to call. */
 
 fancy_result fancy_check_nonnull(const char *pattern, size_t length, uint32_t flags);
 fancy_result fancy_message_nonnull(const char *pattern, size_t length, uint32_t flags, char *buffer, size_t capacity);
@@ -252,7 +287,7 @@ fancy_result fancy_error_text_nonnull(uint32_t kind, char *buffer, size_t capaci
 fancy_result fancy_parse_nonnull(const char *pattern, size_t length, uint32_t flags, fancy_node *nodes, size_t node_capacity,
                                  char *texts, size_t texts_capacity, fancy_name *names, size_t name_capacity,
                                  size_t *backrefs, size_t backref_capacity, fancy_info *info);
-fancy_result fancy_print_nonnull(const char *pattern, size_t length, uint32_t flags, uint8_t precedence, char *buffer,
+fancy_result fancy_print_nonnull(const char *pattern, size_t length, uint32_t flags, uint32_t precedence, char *buffer,
                                  size_t capacity);
 fancy_result fancy_pattern_nonnull(const char *pattern, size_t length, uint32_t flags, char *buffer, size_t capacity);
 fancy_result fancy_format_nonnull(const char *pattern, size_t length, uint32_t flags, uint32_t style, size_t width,
@@ -261,28 +296,29 @@ fancy_result fancy_tree_nonnull(const char *pattern, size_t length, uint32_t fla
                                 char *texts, size_t texts_capacity, fancy_name *names, size_t name_capacity, size_t *backrefs,
                                 size_t backref_capacity, fancy_info *info);
 fancy_result fancy_print_nodes_nonnull(const fancy_node *nodes, size_t node_count, const char *texts, size_t texts_size,
-                                       size_t index, uint8_t precedence, char *buffer, size_t capacity);
+                                       size_t index, uint32_t precedence, char *buffer, size_t capacity);
 fancy_result fancy_pattern_nodes_nonnull(const fancy_node *nodes, size_t node_count, const char *texts, size_t texts_size,
                                          size_t index, const fancy_name *names, size_t name_count, const fancy_info *info,
                                          uint32_t flags, char *buffer, size_t capacity);
 fancy_result fancy_trivia_nonnull(const char *pattern, size_t length, uint32_t flags, fancy_trivium *trivia, size_t capacity,
                                   size_t *count);
+fancy_result fancy_parse_into_nonnull(const char *pattern, size_t length, uint32_t flags, fancy_node *nodes,
+                                      size_t node_capacity, char *texts, size_t texts_capacity, fancy_name *names,
+                                      size_t name_capacity, size_t *backrefs, size_t backref_capacity, fancy_trivium *trivia,
+                                      size_t trivium_capacity, fancy_info *info, size_t *trivium_count);
 
-/* ---- The functions to call. They are inline, and libfancy has them as symbols too, for callers without this header. */
+/* ---- The functions to call. They are inline, and libfancy has them as symbols too, for callers without this header. Each that
+ * takes flags returns UNKNOWN_FLAG if a bit is set that it does not take, whatever the pattern or the rows are. A style or a
+ * precedence that does not exist is refused before that. */
 
 #ifndef FANCY_INLINE
 #define FANCY_INLINE static inline
-#endif
-/* The type of a precedence: one that is wide enough for any int, so that C does not cut it to a byte. The symbols of libfancy
- * take a byte, as in each version before. */
-#ifndef FANCY_ANY_PRECEDENCE
-#define FANCY_ANY_PRECEDENCE uint32_t
 #endif
 
 /* Returns the version of the library, in the form of FANCY_VERSION. */
 uint32_t fancy_version(void);
 
-/* Checks whether a pattern is valid. Returns OK, REFUSED, NOT_UTF8 or OUT_OF_MEMORY. */
+/* Checks whether a pattern is valid. Returns OK, REFUSED, NOT_UTF8, OUT_OF_MEMORY or UNKNOWN_FLAG. */
 FANCY_INLINE fancy_result fancy_check(const char *pattern, size_t length, uint32_t flags) {
     return fancy_check_nonnull(pattern ? pattern : "", length, flags);
 }
@@ -304,8 +340,8 @@ FANCY_INLINE fancy_result fancy_error_text(uint32_t kind, char *buffer, size_t c
     return fancy_error_text_nonnull(kind, buffer ? buffer : &none, capacity);
 }
 
-/* Parses a pattern, and sets *info if it returns OK or BUFFER_TOO_SHORT, unless info is null. Returns OK if everything fits;
- * then the buffers hold:
+/* Parses a pattern, and sets *info if it returns OK or BUFFER_TOO_SHORT, unless info is null. The flag FANCY_FLAG_WITHOUT_SPANS
+ * leaves the spans out. Returns OK if everything fits; then the buffers hold:
  *   nodes      the nodes in preorder: each is before its children, and these are in the order of the pattern;
  *   texts      the texts of the nodes, and after them the names of groups;
  *   names      the names in the order of their bytes, each with its group numbers in ascending order;
@@ -327,14 +363,13 @@ FANCY_INLINE fancy_result fancy_parse(const char *pattern, size_t length, uint32
 
 /* Prints the tree of a pattern: the text is parsed as the normal form of that tree. Returns OK or BUFFER_TOO_SHORT, each with
  * the size of the text; or NOT_PRINTABLE, since references, look-arounds, atomic groups, calls and the like have no text
- * here. Otherwise it returns what fancy_check returns. Unless it returns OK, nothing is written. Above
- * FANCY_PRECEDENCE_WHOLE an alternation is put into a group, above _BRANCH a concatenation too, and above _PIECE a
- * repetition too; above _OPERAND nothing more. */
-FANCY_INLINE fancy_result fancy_print(const char *pattern, size_t length, uint32_t flags, FANCY_ANY_PRECEDENCE precedence,
-                                      char *buffer, size_t capacity) {
+ * here; or UNKNOWN_PRECEDENCE if no precedence has the number, whatever the pattern is. Otherwise it returns what fancy_check
+ * returns. Unless it returns OK, nothing is written. Above FANCY_PRECEDENCE_WHOLE an alternation is put into a group, above
+ * _BRANCH a concatenation too, and above _PIECE a repetition too. */
+FANCY_INLINE fancy_result fancy_print(const char *pattern, size_t length, uint32_t flags, uint32_t precedence, char *buffer,
+                                      size_t capacity) {
     char none;
-    if (precedence > FANCY_PRECEDENCE_OPERAND) precedence = FANCY_PRECEDENCE_OPERAND;
-    return fancy_print_nonnull(pattern ? pattern : "", length, flags, (uint8_t)precedence, buffer ? buffer : &none, capacity);
+    return fancy_print_nonnull(pattern ? pattern : "", length, flags, precedence, buffer ? buffer : &none, capacity);
 }
 
 /* Writes a pattern that is parsed, under the same flags, as the same tree with the same groups and names. Comments, ignored
@@ -359,10 +394,10 @@ FANCY_INLINE fancy_result fancy_format(const char *pattern, size_t length, uint3
     return fancy_format_nonnull(pattern ? pattern : "", length, flags, style, width, buffer ? buffer : &none, capacity);
 }
 
-/* Parses a pattern as fancy_parse does, with two differences. The flag FANCY_WITHOUT_SPANS leaves the spans out, which is
- * faster. If the pattern is invalid, the message of its error is written to texts: returns REFUSED, with the kind, the
- * position, and the size of the message; or BUFFER_TOO_SHORT with all of these, if the message does not fit, and *info is
- * unchanged. If it is the tree that does not fit, the kind is FANCY_ERROR_NONE, and *info says how much is needed. */
+/* Parses a pattern as fancy_parse does, with one difference. If the pattern is invalid, the message of its error is written to
+ * texts: returns REFUSED, with the kind, the position, and the size of the message; or BUFFER_TOO_SHORT with all of these, if
+ * the message does not fit, and *info is unchanged. If it is the tree that does not fit, the kind is FANCY_ERROR_NONE, and
+ * *info says how much is needed. */
 FANCY_INLINE fancy_result fancy_tree(const char *pattern, size_t length, uint32_t flags, fancy_node *nodes,
                                      size_t node_capacity, char *texts, size_t texts_capacity, fancy_name *names,
                                      size_t name_capacity, size_t *backrefs, size_t backref_capacity, fancy_info *info) {
@@ -379,15 +414,15 @@ FANCY_INLINE fancy_result fancy_tree(const char *pattern, size_t length, uint32_
 /* Prints the tree of rows, as fancy_print prints the tree of a pattern. The rows are those from an index on: 0 for the whole
  * tree, the index of a node for its part of it. Nodes and texts are as fancy_parse or fancy_tree wrote them, or changed, or
  * made by hand: then each end has to be right, and each text in texts. Spans, the numbers of groups, and what the kind of a
- * node does not use are not read. Returns OK, BUFFER_TOO_SHORT or NOT_PRINTABLE as fancy_print does; NO_TREE if the rows are
- * no tree, or one of more than 832 levels; or OUT_OF_MEMORY. Unless it returns OK, nothing is written. */
+ * node does not use are not read. Returns OK, BUFFER_TOO_SHORT, NOT_PRINTABLE or UNKNOWN_PRECEDENCE as fancy_print does;
+ * NO_TREE if the rows are no tree, or one of more than 832 levels; or OUT_OF_MEMORY. Unless it returns OK, nothing is
+ * written. */
 FANCY_INLINE fancy_result fancy_print_nodes(const fancy_node *nodes, size_t node_count, const char *texts, size_t texts_size,
-                                            size_t index, FANCY_ANY_PRECEDENCE precedence, char *buffer, size_t capacity) {
+                                            size_t index, uint32_t precedence, char *buffer, size_t capacity) {
     static fancy_node no_node;
     char none;
-    if (precedence > FANCY_PRECEDENCE_OPERAND) precedence = FANCY_PRECEDENCE_OPERAND;
-    return fancy_print_nodes_nonnull(nodes ? nodes : &no_node, node_count, texts ? texts : "", texts_size, index,
-                                     (uint8_t)precedence, buffer ? buffer : &none, capacity);
+    return fancy_print_nodes_nonnull(nodes ? nodes : &no_node, node_count, texts ? texts : "", texts_size, index, precedence,
+                                     buffer ? buffer : &none, capacity);
 }
 
 /* Writes a pattern that is parsed, under the flags, as the tree of rows, with names for its groups. The rows are as
@@ -395,9 +430,9 @@ FANCY_INLINE fancy_result fancy_print_nodes(const fancy_node *nodes, size_t node
  * of groups that are not in the tree are left out. References are written as they are: they keep their numbers, also in a
  * part of a tree whose groups have smaller numbers there. Of info, which may be null, only two fields are read:
  * numeric_capture_group_references and self_recursive say whether references, and calls of the whole pattern, are written by
- * numbers, as far as there is a choice. Returns OK, BUFFER_TOO_SHORT, NO_TREE or OUT_OF_MEMORY as fancy_print_nodes does; or
- * NO_PATTERN if what is written for the tree does not parse back as this tree, which never happens to all the rows of a
- * pattern, under its flags, with its names and info. */
+ * numbers, as far as there is a choice. Returns OK, BUFFER_TOO_SHORT, NO_TREE or OUT_OF_MEMORY as fancy_print_nodes does;
+ * UNKNOWN_FLAG; or NO_PATTERN if what is written for the tree does not parse back as this tree, which never happens to all the
+ * rows of a pattern, under its flags, with its names and info. */
 FANCY_INLINE fancy_result fancy_pattern_nodes(const fancy_node *nodes, size_t node_count, const char *texts,
                                               size_t texts_size, size_t index, const fancy_name *names, size_t name_count,
                                               const fancy_info *info, uint32_t flags, char *buffer, size_t capacity) {
@@ -424,6 +459,32 @@ FANCY_INLINE fancy_result fancy_trivia(const char *pattern, size_t length, uint3
     return fancy_trivia_nonnull(pattern ? pattern : "", length, flags, trivia ? trivia : &no_trivium, capacity,
                                 count ? count : &no_count);
 }
+
+/* Parses a pattern once, and writes all that it gives: what fancy_parse writes, with spans, and what fancy_trivia writes; or the
+ * message of its error, as fancy_tree does. Sets info and trivium_count if it returns OK or BUFFER_TOO_SHORT, unless it is the
+ * message that does not fit. Returns OK if everything fits. Returns BUFFER_TOO_SHORT if it does not: then no buffer is
+ * written. Otherwise it returns what fancy_tree returns; FANCY_FLAG_WITHOUT_SPANS is not taken. */
+FANCY_INLINE fancy_result fancy_parse_into(const char *pattern, size_t length, uint32_t flags, fancy_buffers *buffers) {
+    fancy_node no_node;
+    char no_text;
+    fancy_name no_name;
+    size_t no_number;
+    fancy_trivium no_trivium;
+    return fancy_parse_into_nonnull(
+        pattern ? pattern : "", length, flags, buffers->nodes ? buffers->nodes : &no_node, buffers->node_capacity,
+        buffers->texts ? buffers->texts : &no_text, buffers->texts_capacity, buffers->names ? buffers->names : &no_name,
+        buffers->name_capacity, buffers->backrefs ? buffers->backrefs : &no_number, buffers->backref_capacity,
+        buffers->trivia ? buffers->trivia : &no_trivium, buffers->trivium_capacity, &buffers->info, &buffers->trivium_count);
+}
+
+/* Does the same with buffers that it allocates by malloc, and sets *buffers, which is not read. It parses the pattern once, or
+ * twice if a buffer of the usual size is too short. After OK the buffers hold what fancy_parse_into writes, and after REFUSED
+ * texts holds the message. Then fancy_buffers_free has to be called. After any other status, which is never BUFFER_TOO_SHORT,
+ * *buffers is all zero. */
+fancy_result fancy_parse_alloc(const char *pattern, size_t length, uint32_t flags, fancy_buffers *buffers);
+
+/* Frees the buffers that fancy_parse_alloc allocated, and sets *buffers to zero. To call it again, or on zeros, does nothing. */
+void fancy_buffers_free(fancy_buffers *buffers);
 
 /* Returns the message of a kind of error, ending with NUL, as a constant: what fancy_error_text writes. In the message of an
  * error, what follows it is the text that depends on the pattern. It is empty for a number that no kind has. */

@@ -18,7 +18,7 @@ A pattern is a `str`, or `bytes` that are UTF-8. A position or a span counts cha
 that it can be used as an index. `byte_position` and `byte_span` are the same in bytes of the UTF-8.
 
 The work is done by the shared library libfancy, whose functions are proved to meet their contracts. It is the file that
-the environment variable FANCY_LIBRARY names; or else `libfancy.so.1` or `libfancy.so` beside this file; or else the one that
+the environment variable FANCY_LIBRARY names; or else `libfancy.so.2` or `libfancy.so` beside this file; or else the one that
 `make -C c` built in this source tree; or else the one that is installed. Its functions may be called in several threads at
 once. A library that is newer than the module may have a kind that this does not know: then `RuntimeError` is raised. Python
 3.8 or later.
@@ -712,10 +712,12 @@ _NOT_PRINTABLE = 5
 _NO_PATTERN = 6
 _NO_TREE = 7
 _UNKNOWN_STYLE = 8
+_UNKNOWN_FLAG = 9
+_UNKNOWN_PRECEDENCE = 10
 _BY_NUMBER = 1
 _BY_NAME = 2
 _RELATIVE = 3
-_MAJOR, _MINOR = 1, 4
+_MAJOR, _MINOR = 2, 0
 # ---- end of structs and statuses
 
 
@@ -749,11 +751,11 @@ def _load() -> ctypes.CDLL:
         "fancy_check": pattern,
         "fancy_message": pattern + buffer,
         "fancy_parse": pattern + 4 * buffer + [ctypes.POINTER(_Info)],
-        "fancy_print": pattern + [ctypes.c_uint8] + buffer,
+        "fancy_print": pattern + [ctypes.c_uint32] + buffer,
         "fancy_pattern": pattern + buffer,
         "fancy_format": pattern + [ctypes.c_uint32, ctypes.c_size_t] + buffer,
         "fancy_tree": pattern + 4 * buffer + [ctypes.POINTER(_Info)],
-        "fancy_print_nodes": rows + [ctypes.c_uint8] + buffer,
+        "fancy_print_nodes": rows + [ctypes.c_uint32] + buffer,
         "fancy_trivia": pattern + buffer + [ctypes.POINTER(ctypes.c_size_t)],
         "fancy_pattern_nodes": rows + buffer + [ctypes.POINTER(_Info), ctypes.c_uint32] + buffer,
     }.items():

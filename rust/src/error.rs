@@ -185,6 +185,17 @@ mod tests {
     }
 
     #[test]
+    fn what_the_crate_never_passes_is_refused_by_the_library() {
+        let mut buffer = [0; 64];
+        assert_eq!(ffi::message("(", 512, &mut buffer).status, numbers::STATUS_UNKNOWN_FLAG);
+        assert_eq!(ffi::message("a", numbers::FLAG_WITHOUT_SPANS, &mut buffer).status, numbers::STATUS_UNKNOWN_FLAG);
+        assert_eq!(ffi::print("a", 32, 256, &mut buffer).status, numbers::STATUS_UNKNOWN_PRECEDENCE);
+        for status in [numbers::STATUS_UNKNOWN_FLAG, numbers::STATUS_UNKNOWN_PRECEDENCE] {
+            assert_eq!(Error::of_status(status), Error::Library("a status that the call does not have"));
+        }
+    }
+
+    #[test]
     fn a_kind_without_a_pattern_has_its_words() {
         let kind = ParseError::InvalidEscape(r"\y".to_owned());
         assert_eq!(kind.to_string(), r"Invalid escape: \y");

@@ -16,11 +16,11 @@ extern "C" {
     fn fancy_tree_nonnull(pattern: *const c_char, length: usize, flags: u32, nodes: *mut Node, node_capacity: usize,
         texts: *mut c_char, texts_capacity: usize, names: *mut Name, name_capacity: usize,
         backrefs: *mut usize, backref_capacity: usize, info: *mut Info) -> CallResult;
-    fn fancy_print_nonnull(pattern: *const c_char, length: usize, flags: u32, precedence: u8, buffer: *mut c_char, capacity: usize) -> CallResult;
+    fn fancy_print_nonnull(pattern: *const c_char, length: usize, flags: u32, precedence: u32, buffer: *mut c_char, capacity: usize) -> CallResult;
     fn fancy_pattern_nonnull(pattern: *const c_char, length: usize, flags: u32, buffer: *mut c_char, capacity: usize) -> CallResult;
     fn fancy_format_nonnull(pattern: *const c_char, length: usize, flags: u32, style: u32, width: usize, buffer: *mut c_char, capacity: usize) -> CallResult;
     fn fancy_print_nodes_nonnull(nodes: *const Node, node_count: usize, texts: *const c_char, texts_size: usize, index: usize,
-        precedence: u8, buffer: *mut c_char, capacity: usize) -> CallResult;
+        precedence: u32, buffer: *mut c_char, capacity: usize) -> CallResult;
     fn fancy_pattern_nodes_nonnull(nodes: *const Node, node_count: usize, texts: *const c_char, texts_size: usize, index: usize,
         names: *const Name, name_count: usize, info: *const Info, flags: u32, buffer: *mut c_char, capacity: usize) -> CallResult;
     fn fancy_trivia_nonnull(pattern: *const c_char, length: usize, flags: u32, trivia: *mut Trivium, capacity: usize, count: *mut usize) -> CallResult;
@@ -60,7 +60,7 @@ pub(crate) fn tree(pattern: &str, flags: u32, nodes: &mut [Node], texts: &mut [u
 }
 
 #[rustfmt::skip]
-pub(crate) fn print(pattern: &str, flags: u32, precedence: u8, buffer: &mut [u8]) -> CallResult {
+pub(crate) fn print(pattern: &str, flags: u32, precedence: u32, buffer: &mut [u8]) -> CallResult {
     // SAFETY: the pattern and the buffer are slices, the second a mutable borrow
     unsafe { fancy_print_nonnull(pattern.as_ptr().cast(), pattern.len(), flags, precedence, buffer.as_mut_ptr().cast(), buffer.len()) }
 }
@@ -86,7 +86,7 @@ pub(crate) fn trivia(pattern: &str, flags: u32, trivia: &mut [Trivium], count: &
 }
 
 #[rustfmt::skip]
-pub(crate) fn print_nodes(rows: RowsIn<'_>, precedence: u8, buffer: &mut [u8]) -> CallResult {
+pub(crate) fn print_nodes(rows: RowsIn<'_>, precedence: u32, buffer: &mut [u8]) -> CallResult {
     let RowsIn { nodes, texts, index } = rows;
     // SAFETY: all are slices, the last a mutable borrow
     unsafe {

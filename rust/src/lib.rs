@@ -102,7 +102,7 @@ pub fn parse(pattern: &str, flags: Flags) -> Result<Tree, Error> {
 /// ```
 pub fn parse_without_spans(pattern: &str, flags: Flags) -> Result<Tree, Error> {
     with_kept(|rows| {
-        let expr = rows.parse_expr(pattern, flags.bits() | numbers::WITHOUT_SPANS)?;
+        let expr = rows.parse_expr(pattern, flags.bits() | numbers::FLAG_WITHOUT_SPANS)?;
         Ok(Tree { expr, spans: Vec::new(), groups: rows.groups() })
     })
 }
@@ -210,7 +210,7 @@ pub enum Precedence {
 /// # Ok::<(), fancy_syntax::Error>(())
 /// ```
 pub fn print(pattern: &str, flags: Flags, precedence: Precedence) -> Result<Option<String>, Error> {
-    let write = |buffer: &mut [u8]| ffi::print(pattern, flags.bits(), precedence as u8, buffer);
+    let write = |buffer: &mut [u8]| ffi::print(pattern, flags.bits(), precedence as u32, buffer);
     match call::written(Extent::of_pattern(pattern), write, numbers::STATUS_OK)? {
         Text::Written(text) => Ok(Some(text)),
         Text::Not(result) if result.status == numbers::STATUS_NOT_PRINTABLE => Ok(None),
@@ -221,7 +221,7 @@ pub fn print(pattern: &str, flags: Flags, precedence: Precedence) -> Result<Opti
 /// The version of libfancy that is linked: major, minor and patch.
 ///
 /// ```
-/// assert_eq!(fancy_syntax::library_version().0, 1);
+/// assert_eq!(fancy_syntax::library_version().0, 2);
 /// ```
 pub fn library_version() -> (u32, u32, u32) {
     version::parts(ffi::version())

@@ -10,8 +10,7 @@ pub(crate) const FLAG_UNICODE: u32 = 32;
 pub(crate) const FLAG_CRLF: u32 = 64;
 pub(crate) const FLAG_ONIGURUMA_MODE: u32 = 128;
 pub(crate) const FLAG_IGNORE_NUMBERED_GROUPS_WHEN_NAMED_GROUPS_EXIST: u32 = 256;
-
-pub(crate) const WITHOUT_SPANS: u32 = 65536;
+pub(crate) const FLAG_WITHOUT_SPANS: u32 = 65536;
 
 pub(crate) const STATUS_OK: u32 = 0;
 pub(crate) const STATUS_REFUSED: u32 = 1;
@@ -22,6 +21,8 @@ pub(crate) const STATUS_NOT_PRINTABLE: u32 = 5;
 pub(crate) const STATUS_NO_PATTERN: u32 = 6;
 pub(crate) const STATUS_NO_TREE: u32 = 7;
 pub(crate) const STATUS_UNKNOWN_STYLE: u32 = 8;
+pub(crate) const STATUS_UNKNOWN_FLAG: u32 = 9;
+pub(crate) const STATUS_UNKNOWN_PRECEDENCE: u32 = 10;
 
 pub(crate) const ERROR_NONE: u32 = 0;
 pub(crate) const ERROR_GENERAL_PARSE_ERROR: u32 = 1;
@@ -116,9 +117,8 @@ pub(crate) const STYLE_VERBOSE: u32 = 1;
 pub(crate) const STYLE_COMPACT: u32 = 2;
 
 // the largest number of a group
-pub(crate) const LAST_FLAG: u32 = 256;
-pub(crate) const LAST_WITHOUT: u32 = 65536;
-pub(crate) const LAST_STATUS: u32 = 8;
+pub(crate) const LAST_FLAG: u32 = 65536;
+pub(crate) const LAST_STATUS: u32 = 10;
 pub(crate) const LAST_ERROR: u32 = 16;
 pub(crate) const LAST_NODE: u32 = 24;
 pub(crate) const LAST_ASSERTION: u32 = 12;
@@ -133,6 +133,6 @@ pub(crate) const LAST_STYLE: u32 = 2;
 /// The letters of the flags, in the order of their bits.
 pub(crate) const FLAG_LETTERS: &str = "imsUxuRon";
 
-pub(crate) const VERSION_MAJOR: u32 = 1;
-pub(crate) const VERSION_MINOR: u32 = 4;
+pub(crate) const VERSION_MAJOR: u32 = 2;
+pub(crate) const VERSION_MINOR: u32 = 0;
 pub(crate) const VERSION_PATCH: u32 = 0;

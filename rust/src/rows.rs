@@ -118,7 +118,7 @@ impl Rows {
     /// # Ok::<(), fancy_syntax::Error>(())
     /// ```
     pub fn parse_without_spans(&mut self, pattern: &str, flags: Flags) -> Result<&Rows, Error> {
-        self.parse_bits(pattern, flags.bits() | numbers::WITHOUT_SPANS)
+        self.parse_bits(pattern, flags.bits() | numbers::FLAG_WITHOUT_SPANS)
     }
 
     fn parse_bits(&mut self, pattern: &str, bits: u32) -> Result<&Rows, Error> {

@@ -168,14 +168,17 @@ fn text_of(text: Text) -> Result<Option<String>, Error> {
 
 /// What the text of rows is written for.
 fn extent_of_rows(rows: RowsIn<'_>) -> Extent {
-    let nodes = rows.nodes.get(rows.index).map_or(0, |root| root.end.saturating_sub(rows.index));
-    let texts = rows.texts.len();
-    Extent { usual: nodes.saturating_mul(8).saturating_add(texts), nodes, texts }
+    let end = rows.nodes.get(rows.index).map_or(0, |root| root.end);
+    let own = rows.nodes.get(rows.index..end).unwrap_or(&[]);
+    // those of other nodes may be many more
+    let own_texts = own.iter().fold(0, |sum: usize, row| sum.saturating_add(row.text_size));
+    let usual = own.len().saturating_mul(8).saturating_add(own_texts);
+    Extent { usual, nodes: own.len(), texts: rows.texts.len() }
 }
 
 /// Prints the tree of rows.
 pub(crate) fn print_rows(rows: RowsIn<'_>, precedence: Precedence) -> Result<Option<String>, Error> {
-    let write = |buffer: &mut [u8]| ffi::print_nodes(rows, precedence as u8, buffer);
+    let write = |buffer: &mut [u8]| ffi::print_nodes(rows, precedence as u32, buffer);
     text_of(call::written(extent_of_rows(rows), write, numbers::STATUS_OK)?)
 }
 

@@ -40,20 +40,29 @@ def with_comments(rows: list, column: int | None) -> list:
     return lines
 
 
+def deprecated(group: Group) -> list:
+    """The old names of numbers."""
+    values = [it for it in group.values if "deprecated" in it.given]
+    said = "/* deprecated: the next major version does not have this name */"
+    return [f"#define {it.given['deprecated']} FANCY_{it.full_name} {said}" for it in values]
+
+
 def enum(group: Group) -> list:
     rows = [(f"FANCY_{it.full_name} = {it.number}", said_of(it)) for it in group.values]
     lines = comment(group.given["comment"]) if "comment" in group.given else []
-    in_one = f"enum {{ {', '.join(code for code, _ in rows)} }};"
+    head = f"enum fancy_{group.given.get('tag', group.key)} {{"
+    in_one = f"{head} {', '.join(code for code, _ in rows)} }};"
     if len(in_one) <= 120 and not any(said for _, said in rows):
         return [*lines, in_one, ""]
     rows = [(f"    {code}{',' if code != rows[-1][0] else ''}", said) for code, said in rows]
-    return [*lines, "enum {", *with_comments(rows, group.given.get("column")), "};", ""]
+    return [*lines, head, *with_comments(rows, group.given.get("column")), "};", *deprecated(group), ""]
 
 
 def struct(it: Struct) -> list:
-    rows = [(f"    {field.type} {field.name};", field.doc) for field in it.fields]
+    """A struct, and its name as a type."""
+    name, rows = f"fancy_{it.key}", [(f"    {field.type} {field.name};", field.doc) for field in it.fields]
     lines = with_comments(rows, it.given.get("column"))
-    return [*comment(it.given["comment"]), "typedef struct {", *lines, f"}} fancy_{it.key};", ""]
+    return [*comment(it.given["comment"]), f"typedef struct {name} {name};", f"struct {name} {{", *lines, "};", ""]
 
 
 def kinds(table: Table) -> list:

@@ -25,7 +25,7 @@ def member(value: Value) -> str:
 
 def enum(group: Group) -> list:
     own = group.given["python"]
-    members = [member(it) for it in group.values]
+    members = [member(it) for it in group.shared()]
     return [f"class {own['name']}({own.get('base', 'enum.IntEnum')}):", *docstring(own["doc"]), "", *members, "", ""]
 
 
@@ -36,7 +36,7 @@ def public(names: list) -> list:
 def numbers(table: Table) -> list:
     """The flags and the kinds."""
     flags, *others = groups = [it for it in table.groups if "python" in it.given]
-    names = [it.name for it in flags.values]
+    names = [it.name for it in flags.shared()]
     aliases = [f"{it} = {flags.given['python']['name']}.{it}" for it in names]
     letters = [f'_LETTERS = "{table.letters}"  # of the flags, in the order of their bits']
     classes = [it.given["python"]["name"] for it in groups]

@@ -72,7 +72,7 @@ def messages(table: Table) -> list:
 def flag_names(table: Table) -> dict:
     """The flags by their names in the code, where each is documented with the name that it has in the table."""
     names = dict(re.findall(r"/// `FLAG_(\w+)`\n    (\w+),\n", read("fancy_lex/src/flags.rt")))
-    return {names.get(it.name, it.name): it for it in table.group("flag").values}
+    return {names.get(it.name, it.name): it for it in table.group("flag").shared()}
 
 
 def letters(table: Table) -> list:

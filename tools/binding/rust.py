@@ -41,11 +41,11 @@ def structs(table: Table) -> list:
 def flags(table: Table) -> list:
     """The constants of `Flags`, and their names."""
     lines = []
-    for it in table.group("flag").values:
+    for it in table.group("flag").shared():
         whole = f"    pub const {it.name}: Flags = Flags(numbers::{it.full_name});"
         broken = [f"    pub const {it.name}: Flags =", f"        Flags(numbers::{it.full_name});"]
         lines += [*said(it.doc), *([whole] if len(whole) <= 120 else broken)]
-    names = [it.name for it in table.group("flag").values]
+    names = [it.name for it in table.group("flag").shared()]
     return [*lines, "", f"    const NAMES: [&'static str; {len(names)}] = [", *(f'        "{it}",' for it in names), "    ];"]
 
 

@@ -38,6 +38,11 @@ class Value:
         return self.given.get("fields", [])
 
     @property
+    def is_shared(self) -> bool:
+        """Whether Python and Rust have a name for it too."""
+        return not self.given.get("only_c", False)
+
+    @property
     def carries(self) -> bool:
         """Whether its message ends with a text that depends on the pattern."""
         return "carries" in self.given
@@ -51,6 +56,10 @@ class Group:
     def kinds(self) -> list:
         """The values without the one that says that there is none."""
         return [it for it in self.values if it.name != "NONE"]
+
+    def shared(self) -> list:
+        """The values that Python and Rust have a name for too."""
+        return [it for it in self.values if it.is_shared]
 
 
 @dataclass
@@ -86,7 +95,7 @@ class Table:
     @property
     def letters(self) -> str:
         """Those of the flags, in the order of their bits."""
-        return "".join(it.given["letter"] for it in self.group("flag").values)
+        return "".join(it.given["letter"] for it in self.group("flag").shared())
 
     def version_numbers(self) -> dict:
         return dict(zip(("MAJOR", "MINOR", "PATCH"), self.version.split(".")))

@@ -70,6 +70,18 @@ suffices s e (inr (inl h)) = omega (arith, s.short_texts, e.for_texts, h)
 suffices s e (inr (inr (inl h))) = omega (arith, s.few_names, e.for_names, h)
 suffices s e (inr (inr (inr h))) = omega (arith, s.few_backrefs, e.for_backrefs, h)
 
+-- the same, if a buffer for trivia may be too short
+pub suffices_but_trivia : {info : TreeInfo} {f : Flags} {bytes : List ℕ} {t : Tree} {m : GroupInfo}
+    {nodes texts names backrefs trivia count : ℕ} →
+    IsSummaryOf info f bytes t m → AreEnough (length bytes) nodes texts names backrefs →
+    (nodes < info.node_count) ⊎ ((texts < info.texts_size) ⊎ ((names < info.name_count) ⊎ ((backrefs < info.backref_count)
+    ⊎ (trivia < count)))) → trivia < count
+suffices_but_trivia s e (inl h) = omega (arith, s.few, e.for_nodes, h)
+suffices_but_trivia s e (inr (inl h)) = omega (arith, s.short_texts, e.for_texts, h)
+suffices_but_trivia s e (inr (inr (inl h))) = omega (arith, s.few_names, e.for_names, h)
+suffices_but_trivia s e (inr (inr (inr (inl h)))) = omega (arith, s.few_backrefs, e.for_backrefs, h)
+suffices_but_trivia s e (inr (inr (inr (inr h)))) = h
+
 -- a span of the list is within the bytes
 span_within : (n : ℕ) (l : List Span) → AllByRecursion (λ p. (0 ≤ p.start) × (p.start ≤ p.end) × (p.end ≤ n))
     (map span_of l) → (i : ℕ) → ((span_at l i).start ≤ (span_at l i).end) × ((span_at l i).end ≤ n)

@@ -87,6 +87,10 @@ pub record IsReported (a : CallResult) (offset : ℕ) (k : Kind) : Type 0 where
   pub position : a.position ≡ offset
   pub size : a.size ≡ length (kind_text k)
 
+-- the result that is only a status, with no error and no text
+abbrev pub result_of_status : ℕ → CallResult
+result_of_status s = record { status = s; kind = ERROR_NONE; position = 0; size = 0 }
+
 -- the result for bytes that are refused
 abbrev pub result_of : BytesRefusal → CallResult
 result_of (NoUtf8 p) = record { status = STATUS_NOT_UTF8; kind = ERROR_NONE; position = p; size = 0 }

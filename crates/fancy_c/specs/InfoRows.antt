@@ -20,7 +20,7 @@ use Rattle.fancy_c.specs.Numbered.{numbered}
 use Rattle.fancy_c.specs.declared.info_rows.Name.{Name}
 use Rattle.fancy_c.specs.declared.node.Node.{Node}
 use Rattle.fancy_c.specs.declared.info_rows.TreeInfo.{TreeInfo}
-use Rattle.fancy_c.specs.declared.tree_or_message.TheConstants.{WITHOUT_SPANS}
+use Rattle.fancy_c.specs.declared.call_flags.TheConstants.{FLAG_WITHOUT_SPANS}
 
 -- the rows of a name that begins at the byte o and has n bytes: one for each of its numbers
 abbrev pub rows_of_name : ℕ → ℕ → List ℕ → List Name
@@ -76,8 +76,8 @@ pub record AreSpansOfBytes (f : Flags) (bytes : List ℕ) (t : Tree) (spans : Li
 
 -- the spans are those of the bytes under the flags with these bits; or there are none, if a bit says so
 pub record AreSpansAsked (flags : ℕ) (bytes : List ℕ) (t : Tree) (spans : List Span) : Type 0 where
-  pub asked : has_bit flags WITHOUT_SPANS ≡ false → AreSpansOfBytes (flags_of flags) bytes t spans
-  pub left_out : has_bit flags WITHOUT_SPANS ≡ true → spans ≡ []
+  pub asked : has_bit flags FLAG_WITHOUT_SPANS ≡ false → AreSpansOfBytes (flags_of flags) bytes t spans
+  pub left_out : has_bit flags FLAG_WITHOUT_SPANS ≡ true → spans ≡ []
 
 -- The info is that of the tree of the bytes. A pattern of n bytes has at most 2 n + 1 nodes and as many back references;
 -- its texts have at most 6 n bytes, and its names at most n rows.

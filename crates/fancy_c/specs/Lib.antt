@@ -1,4 +1,5 @@
 pub mod CallResult
+pub mod CallFlags
 pub mod Buffer
 pub mod WrittenText
 pub mod FormattedText

@@ -11,8 +11,13 @@ use Rattle.fancy_grammar.specs.Printed.{printed}
 use Rattle.fancy_grammar.specs.ReadAs.{IsReadAs}
 use Rattle.fancy_grammar.specs.ReadBack.{IsReadBack}
 use Rattle.fancy_grammar.specs.Tree.{Tree}
+use Rattle.fancy_syntax.specs.declared.print.TheConstants.{OPERAND}
 use Rattle.fancy_c.specs.CallResult.{number_of_kind, IsTreeOfBytes}
 use Rattle.fancy_c.specs.declared.call_result.TheConstants.{ERROR_NONE, ERROR_INVALID_GROUP_NAME_BACKREF}
+
+-- the number is that of a precedence
+abbrev pub NamesPrecedence : ℕ → Type 0
+NamesPrecedence n = n ≤ OPERAND
 
 -- the tree is printable, the bytes w are its text at the precedence, and they are read as its normal form
 pub record IsText (t : Tree) (precedence : ℕ) (w : List ℕ) : Type 0 where

@@ -1,7 +1,7 @@
 //! What a call returns. The numbers never change.
 ghost use Rattle.std.specs.Prelude.{◌≡◌};
 ghost use Rattle.fancy_lex.specs.ErrorViews.{kind_of};
-ghost use Rattle.fancy_c.specs.CallResult.{number_of_kind};
+ghost use Rattle.fancy_c.specs.CallResult.{number_of_kind, result_of_status};
 
 use fancy_lex::error::ParseError;
 
@@ -23,6 +23,10 @@ pub const STATUS_NO_PATTERN: u32 = 6;
 pub const STATUS_NO_TREE: u32 = 7;
 /// No style of formatting has this number.
 pub const STATUS_UNKNOWN_STYLE: u32 = 8;
+/// A bit is set that is no flag, or none that the call takes.
+pub const STATUS_UNKNOWN_FLAG: u32 = 9;
+/// No precedence has this number.
+pub const STATUS_UNKNOWN_PRECEDENCE: u32 = 10;
 
 // Callers in C compare with these numbers.
 const _: () = prove!(STATUS_OK == 0 && STATUS_REFUSED == 1 && STATUS_NOT_UTF8 == 2);
@@ -31,7 +35,9 @@ const _: () = prove!(STATUS_OUT_OF_MEMORY == 3 && STATUS_BUFFER_TOO_SHORT == 4);
 
 const _: () = prove!(STATUS_NOT_PRINTABLE == 5 && STATUS_NO_PATTERN == 6 && STATUS_NO_TREE == 7);
 
-const _: () = prove!(STATUS_UNKNOWN_STYLE == 8);
+const _: () = prove!(
+    STATUS_UNKNOWN_STYLE == 8 && STATUS_UNKNOWN_FLAG == 9 && STATUS_UNKNOWN_PRECEDENCE == 10
+);
 
 /// No error.
 pub const ERROR_NONE: u32 = 0;
@@ -94,7 +100,7 @@ const _: () = prove!(ERROR_INVALID_GROUP_NAME_BACKREF == 16);
 #[repr(C)]
 #[derive(Clone, Copy)]
 pub struct CallResult {
-    /// `STATUS_OK` to `STATUS_UNKNOWN_STYLE`.
+    /// `STATUS_OK` to `STATUS_UNKNOWN_PRECEDENCE`.
     pub status: u32,
     /// The kind of the error, `ERROR_NONE` if none is reported.
     pub kind: u32,
@@ -102,6 +108,20 @@ pub struct CallResult {
     pub position: usize,
     /// The size in bytes of the text that was to be written, if there is one; else 0.
     pub size: usize,
+}
+
+impl CallResult {
+    /// A status, with no error and no text.
+    pub(crate) fn of_status(status: u32) -> CallResult
+        ensures { result ≡ result_of_status status }
+    {
+        CallResult {
+            status,
+            kind: ERROR_NONE,
+            position: 0,
+            size: 0,
+        }
+    }
 }
 
 /// The number of a kind of error.

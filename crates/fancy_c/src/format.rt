@@ -3,14 +3,16 @@ ghost use Rattle.std.specs.Prelude.{◌≡◌, ◌≢◌, ◌<◌, ◌≤◌, �
 ghost use Rattle.fancy_lex.specs.Located.{Kind};
 ghost use Rattle.fancy_lex.specs.Flags.{flags_of};
 ghost use Rattle.fancy_c.specs.Buffer.{Fills};
+ghost use Rattle.fancy_c.specs.CallFlags.{AreFlags};
 ghost use Rattle.fancy_c.specs.CallResult.{number_of_kind, IsErrorOfBytes, IsNoUtf8, IsRefusalOf};
 ghost use Rattle.pattern_format.specs.declared.style.Style.{Style};
 ghost use Rattle.fancy_c.specs.FormattedText.{NamesStyle, IsStyleOf, IsFormattedOfBytes};
 
 use crate::buffer::write;
+use crate::call_flags::are_flags;
 use crate::call_result::{
     CallResult, ERROR_NONE, STATUS_BUFFER_TOO_SHORT, STATUS_NOT_UTF8, STATUS_OK, STATUS_REFUSED,
-    STATUS_UNKNOWN_STYLE,
+    STATUS_UNKNOWN_FLAG, STATUS_UNKNOWN_STYLE,
 };
 use crate::read::{BytesRefusal, text_of};
 use pattern_format::format::{Formatted, format_pattern};
@@ -78,23 +80,24 @@ pub extern "C" fn fancy_format_nonnull(
         × (result.size ≡ length w) × (length buffer.old < length w) }
     ensures known { NamesStyle style → result.status ≢ STATUS_UNKNOWN_STYLE }
     ensures unknown { (NamesStyle style → ⊥) → result.status ≡ STATUS_UNKNOWN_STYLE }
+    ensures known_flags { AreFlags flags → result.status ≢ STATUS_UNKNOWN_FLAG }
+    ensures unknown_flag { NamesStyle style → (AreFlags flags → ⊥) → result.status ≡ STATUS_UNKNOWN_FLAG }
     ensures refused { result.status ≡ STATUS_REFUSED → (k : Kind) × (result.kind ≡ number_of_kind k)
         × IsErrorOfBytes (flags_of flags) pattern.now k result.position }
     ensures no_utf8 { result.status ≡ STATUS_NOT_UTF8 → IsNoUtf8 pattern.now result.position }
     ensures kept { result.status ≢ STATUS_OK → buffer.new ≡ buffer.old }
-    ensures status { (result.status ≤ STATUS_BUFFER_TOO_SHORT) ⊎ (result.status ≡ STATUS_UNKNOWN_STYLE) }
+    ensures status { (result.status ≤ STATUS_BUFFER_TOO_SHORT) ⊎ ((result.status ≡ STATUS_UNKNOWN_STYLE)
+        ⊎ (result.status ≡ STATUS_UNKNOWN_FLAG)) }
     ensures no_kind { result.status ≢ STATUS_REFUSED → result.kind ≡ ERROR_NONE }
     ensures no_position { result.status ≢ STATUS_REFUSED → result.status ≢ STATUS_NOT_UTF8 → result.position ≡ 0 }
     ensures no_size { result.status ≢ STATUS_OK → result.status ≢ STATUS_BUFFER_TOO_SHORT → result.size ≡ 0 }
 {
     let Some(style) = style_of(style, width) else {
-        return CallResult {
-            status: STATUS_UNKNOWN_STYLE,
-            kind: ERROR_NONE,
-            position: 0,
-            size: 0,
-        };
+        return CallResult::of_status(STATUS_UNKNOWN_STYLE);
     };
+    if !are_flags(flags) {
+        return CallResult::of_status(STATUS_UNKNOWN_FLAG);
+    }
     match formatted(alloc, pattern, flags, style) {
         Ok(formatted) => write(buffer, formatted.text.as_bytes()),
         Err(refusal) => refusal.call_result(),

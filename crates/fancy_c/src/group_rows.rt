@@ -43,7 +43,8 @@ fn add_number(
 }
 
 /// The names of the groups of the rows from an index on, with the numbers that these groups have without those before.
-/// Names of other groups are left out.
+/// Names of other groups are left out. Rows before the index are only read if there are such groups and names, so that the
+/// parts of a tree without names take no longer than the tree.
 pub(crate) fn names_from(
     alloc: Global,
     nodes: &[Node],
@@ -51,9 +52,12 @@ pub(crate) fn names_from(
     texts: &[u8],
     names: &[Name],
 ) -> Result<BTreeMap<String, Vec<usize>>, RowsError> {
-    let before = count_groups(nodes.get(..index).unwrap_or(&[]));
-    let total = count_groups(rows_below(nodes, index));
     let mut named = BTreeMap::new(alloc);
+    let total = count_groups(rows_below(nodes, index));
+    if names.is_empty() || total == 0 {
+        return Ok(named);
+    }
+    let before = count_groups(nodes.get(..index).unwrap_or(&[]));
     for name in names {
         let number = name.group.saturating_sub(before);
         if number > 0 && number <= total {

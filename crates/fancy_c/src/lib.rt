@@ -6,6 +6,7 @@
 
 mod buffer;
 mod built;
+pub mod call_flags;
 pub mod call_result;
 pub mod format;
 mod group_numbers;
@@ -14,6 +15,7 @@ pub mod info_rows;
 pub mod message;
 pub mod node;
 pub mod nodes;
+pub mod parse_into;
 pub mod pattern;
 pub mod pattern_nodes;
 pub mod print;

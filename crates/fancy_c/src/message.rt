@@ -1,15 +1,17 @@
 //! The message of an error.
-ghost use Rattle.std.specs.Prelude.{◌≡◌, ◌≢◌, ◌<◌, ◌≤◌, ℕ, List, [], IfOk, length, string_bytes};
+ghost use Rattle.std.specs.Prelude.{◌≡◌, ◌≢◌, ◌<◌, ◌≤◌, ◌⊎◌, ℕ, List, [], IfOk, length, string_bytes};
 ghost use Rattle.fancy_lex.specs.Located.{Kind, kind_text};
 ghost use Rattle.fancy_lex.specs.ErrorViews.{kind_of};
 ghost use Rattle.fancy_lex.specs.Flags.{flags_of};
 ghost use Rattle.fancy_grammar.specs.GroupInfo.{GroupInfo};
 ghost use Rattle.fancy_grammar.specs.Tree.{Tree};
+ghost use Rattle.fancy_c.specs.CallFlags.{AreFlags};
 ghost use Rattle.fancy_c.specs.CallResult.{number_of_kind, IsReported, IsTreeOfBytes, IsErrorOfBytes, IsNoUtf8};
 ghost use Rattle.fancy_c.specs.Buffer.{Fills};
 ghost use Rattle.fancy_c.specs.WrittenText.{carried, NamesKind, IsErrorText};
 
 use crate::buffer::{fill, write};
+use crate::call_flags::are_flags;
 use crate::call_result::{
     CallResult, ERROR_CHANGING_UNICODE_MODE_UNSUPPORTED, ERROR_GENERAL_PARSE_ERROR,
     ERROR_INVALID_BACKREF, ERROR_INVALID_CLASS, ERROR_INVALID_CODEPOINT_VALUE,
@@ -17,7 +19,7 @@ use crate::call_result::{
     ERROR_INVALID_HEX, ERROR_INVALID_REPEAT, ERROR_NONE, ERROR_RECURSION_EXCEEDED,
     ERROR_TARGET_NOT_REPEATABLE, ERROR_TRAILING_BACKSLASH, ERROR_UNCLOSED_OPEN_PAREN,
     ERROR_UNCLOSED_UNICODE_NAME, ERROR_UNKNOWN_FLAG, STATUS_BUFFER_TOO_SHORT, STATUS_NOT_UTF8,
-    STATUS_OK, STATUS_OUT_OF_MEMORY, STATUS_REFUSED, kind_number,
+    STATUS_OK, STATUS_OUT_OF_MEMORY, STATUS_REFUSED, STATUS_UNKNOWN_FLAG, kind_number,
 };
 use crate::read::{BytesRefusal, read};
 use fancy_syntax::error::{Error, ParseError};
@@ -88,13 +90,18 @@ pub extern "C" fn fancy_message_nonnull(
         × IsErrorOfBytes (flags_of flags) pattern.now k result.position × (length buffer.old < result.size) }
     ensures no_utf8 { result.status ≡ STATUS_NOT_UTF8 → IsNoUtf8 pattern.now result.position }
     ensures kept { result.status ≢ STATUS_REFUSED → buffer.new ≡ buffer.old }
-    ensures status { result.status ≤ STATUS_BUFFER_TOO_SHORT }
+    ensures known_flags { AreFlags flags → result.status ≢ STATUS_UNKNOWN_FLAG }
+    ensures unknown_flag { (AreFlags flags → ⊥) → result.status ≡ STATUS_UNKNOWN_FLAG }
+    ensures status { (result.status ≤ STATUS_BUFFER_TOO_SHORT) ⊎ (result.status ≡ STATUS_UNKNOWN_FLAG) }
     ensures no_kind { result.status ≢ STATUS_REFUSED → result.status ≢ STATUS_BUFFER_TOO_SHORT →
         result.kind ≡ ERROR_NONE }
     ensures no_position { result.status ≢ STATUS_REFUSED → result.status ≢ STATUS_BUFFER_TOO_SHORT →
         result.status ≢ STATUS_NOT_UTF8 → result.position ≡ 0 }
     ensures no_size { result.status ≢ STATUS_REFUSED → result.status ≢ STATUS_BUFFER_TOO_SHORT → result.size ≡ 0 }
 {
+    if !are_flags(flags) {
+        return CallResult::of_status(STATUS_UNKNOWN_FLAG);
+    }
     match read(alloc, pattern, flags) {
         Ok(_) => CallResult {
             status: STATUS_OK,

@@ -7,24 +7,27 @@ ghost use Rattle.fancy_grammar.specs.Tree.{Tree};
 ghost use Rattle.fancy_syntax.specs.InfoViews.{info_of};
 ghost use Rattle.fancy_syntax.specs.View.{view};
 ghost use Rattle.fancy_syntax.specs.declared.span.Span.{Span};
+ghost use Rattle.fancy_c.specs.CallFlags.{AreTreeFlags};
 ghost use Rattle.fancy_c.specs.CallResult.{number_of_kind, IsErrorOfBytes, IsNoUtf8};
-ghost use Rattle.fancy_c.specs.InfoRows.{summary, all_texts, name_rows, AreEnough, AreWritten, AreSpansOfBytes, IsSummaryOf};
+ghost use Rattle.fancy_c.specs.InfoRows.{summary, all_texts, name_rows, AreEnough, AreWritten, AreSpansAsked, IsSummaryOf};
 ghost use Rattle.fancy_c.specs.Node.{listed, span_at};
 
+use crate::call_flags::are_tree_flags;
 use crate::call_result::{
     CallResult, ERROR_NONE, STATUS_BUFFER_TOO_SHORT, STATUS_NOT_UTF8, STATUS_OK, STATUS_REFUSED,
+    STATUS_UNKNOWN_FLAG,
 };
 use crate::group_numbers::number_groups;
 use crate::info_rows::{Name, TreeInfo, count_names, put_backrefs, put_names};
 use crate::node::Node;
-use crate::read::{Parsed, read_with_spans};
+use crate::read::{Parsed, read_as_asked};
 use crate::rows::{RowCounts, count, put_tree};
 use fancy_syntax::span::Span;
 use fancy_syntax::tree::ExprTree;
 use std::alloc::Global;
 
 /// The sizes of the tree, and its group information.
-fn summary_of(tree: &ExprTree) -> TreeInfo
+pub(crate) fn summary_of(tree: &ExprTree) -> TreeInfo
     ensures { result ≡ summary (view tree.now.expr) (info_of tree.now) }
 {
     let nodes = count(&tree.expr, RowCounts { rows: 0, text: 0 });
@@ -155,7 +158,8 @@ pub(crate) fn write_tree(
 /// them the names of groups; for each name in byte order its group numbers, ascending; and the numbers of the back
 /// references, ascending. If something does not fit, returns `STATUS_BUFFER_TOO_SHORT`, and no buffer is written. A
 /// pattern of n bytes has at most 2 n + 1 nodes and as many back references, 6 n bytes of texts, and n rows of names. For
-/// a pattern without a tree it returns what `fancy_check_nonnull` returns, and nothing is written.
+/// a pattern without a tree it returns what `fancy_check_nonnull` returns, and nothing is written. A bit beside the flags
+/// of a pattern, `FLAG_WITHOUT_SPANS`, leaves the spans out: then each starts and stops at 0.
 #[unsafe(no_mangle)]
 pub extern "C" fn fancy_parse_nonnull(
     alloc: Global,
@@ -168,7 +172,7 @@ pub extern "C" fn fancy_parse_nonnull(
     info: &mut TreeInfo,
 ) -> CallResult
     ensures read { result.status ≡ STATUS_OK → (t : Tree) × (m : GroupInfo) × (spans : List Span)
-        × IsSummaryOf info.new (flags_of flags) pattern.now t m × AreSpansOfBytes (flags_of flags) pattern.now t spans
+        × IsSummaryOf info.new (flags_of flags) pattern.now t m × AreSpansAsked flags pattern.now t spans
         × AreWritten t m (span_at spans) nodes.old nodes.new texts.old texts.new names.old names.new backrefs.old backrefs.new }
     ensures short { result.status ≡ STATUS_BUFFER_TOO_SHORT →
         (t : Tree) × (m : GroupInfo) × IsSummaryOf info.new (flags_of flags) pattern.now t m
@@ -185,12 +189,17 @@ pub extern "C" fn fancy_parse_nonnull(
     ensures names_kept { result.status ≢ STATUS_OK → names.new ≡ names.old }
     ensures backrefs_kept { result.status ≢ STATUS_OK → backrefs.new ≡ backrefs.old }
     ensures info_kept { result.status ≢ STATUS_OK → result.status ≢ STATUS_BUFFER_TOO_SHORT → info.new ≡ info.old }
-    ensures status { result.status ≤ STATUS_BUFFER_TOO_SHORT }
+    ensures known_flags { AreTreeFlags flags → result.status ≢ STATUS_UNKNOWN_FLAG }
+    ensures unknown_flag { (AreTreeFlags flags → ⊥) → result.status ≡ STATUS_UNKNOWN_FLAG }
+    ensures status { (result.status ≤ STATUS_BUFFER_TOO_SHORT) ⊎ (result.status ≡ STATUS_UNKNOWN_FLAG) }
     ensures no_kind { result.status ≢ STATUS_REFUSED → result.kind ≡ ERROR_NONE }
     ensures no_position { result.status ≢ STATUS_REFUSED → result.status ≢ STATUS_NOT_UTF8 → result.position ≡ 0 }
     ensures no_size { result.size ≡ 0 }
 {
-    match read_with_spans(alloc, pattern, flags) {
+    if !are_tree_flags(flags) {
+        return CallResult::of_status(STATUS_UNKNOWN_FLAG);
+    }
+    match read_as_asked(alloc, pattern, flags) {
         Ok(parsed) => write_tree(nodes, texts, names, backrefs, info, &parsed),
         Err(refusal) => refusal.call_result(),
     }

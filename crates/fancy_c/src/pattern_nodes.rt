@@ -1,18 +1,20 @@
 //! The pattern for a tree that is given by its rows.
-ghost use Rattle.std.specs.Prelude.{◌≡◌, ◌≢◌, ◌<◌, ◌≤◌, ℕ, IfOk, List, length};
+ghost use Rattle.std.specs.Prelude.{◌≡◌, ◌≢◌, ◌<◌, ◌≤◌, ◌⊎◌, ℕ, IfOk, List, length};
 ghost use Rattle.fancy_lex.specs.Flags.{flags_of};
 ghost use Rattle.fancy_grammar.specs.GroupInfo.{GroupInfo};
 ghost use Rattle.fancy_grammar.specs.OfPattern.{IsOfPattern};
 ghost use Rattle.fancy_grammar.specs.Tree.{Tree};
 ghost use Rattle.fancy_syntax.specs.View.{view};
 ghost use Rattle.fancy_c.specs.Buffer.{Fills};
+ghost use Rattle.fancy_c.specs.CallFlags.{AreFlags};
 ghost use Rattle.fancy_c.specs.RowTree.{AreRowsOfTree};
 ghost use Rattle.fancy_c.specs.WrittenText.{IsPatternText};
 
 use crate::built::{RowsError, rows_below, tree_at};
+use crate::call_flags::are_flags;
 use crate::call_result::{
     CallResult, ERROR_NONE, STATUS_BUFFER_TOO_SHORT, STATUS_NO_PATTERN, STATUS_NO_TREE,
-    STATUS_NOT_PRINTABLE, STATUS_NOT_UTF8, STATUS_OK, STATUS_REFUSED,
+    STATUS_NOT_PRINTABLE, STATUS_NOT_UTF8, STATUS_OK, STATUS_REFUSED, STATUS_UNKNOWN_FLAG,
 };
 use crate::group_rows::{names_from, with_groups};
 use crate::info_rows::{Name, TreeInfo};
@@ -53,8 +55,8 @@ fn tree_with_groups(
 /// `numeric_capture_group_references` and `self_recursive`, which say whether references and calls of the whole pattern
 /// are written by numbers. Returns `STATUS_OK` with the size of the text in bytes; `STATUS_BUFFER_TOO_SHORT` with that
 /// size if the text does not fit; `STATUS_NO_TREE` if the rows are no tree, or have more than 832 levels;
-/// `STATUS_NO_PATTERN` if the text for the tree is not parsed as the tree; or `STATUS_OUT_OF_MEMORY`. Unless it returns
-/// `STATUS_OK`, nothing is written.
+/// `STATUS_NO_PATTERN` if the text for the tree is not parsed as the tree; `STATUS_UNKNOWN_FLAG` if a bit is set that is no
+/// flag of a pattern, whatever the rows are; or `STATUS_OUT_OF_MEMORY`. Unless it returns `STATUS_OK`, nothing is written.
 #[unsafe(no_mangle)]
 pub extern "C" fn fancy_pattern_nodes_nonnull(
     alloc: Global,
@@ -77,11 +79,16 @@ pub extern "C" fn fancy_pattern_nodes_nonnull(
     ensures kept { result.status ≢ STATUS_OK → buffer.new ≡ buffer.old }
     ensures no_pattern { (result.status ≢ STATUS_REFUSED) × (result.status ≢ STATUS_NOT_UTF8) }
     ensures printed { result.status ≢ STATUS_NOT_PRINTABLE }
-    ensures status { result.status ≤ STATUS_NO_TREE }
+    ensures known_flags { AreFlags flags → result.status ≢ STATUS_UNKNOWN_FLAG }
+    ensures unknown_flag { (AreFlags flags → ⊥) → result.status ≡ STATUS_UNKNOWN_FLAG }
+    ensures status { (result.status ≤ STATUS_NO_TREE) ⊎ (result.status ≡ STATUS_UNKNOWN_FLAG) }
     ensures no_kind { result.kind ≡ ERROR_NONE }
     ensures no_position { result.position ≡ 0 }
     ensures no_size { result.status ≢ STATUS_OK → result.status ≢ STATUS_BUFFER_TOO_SHORT → result.size ≡ 0 }
 {
+    if !are_flags(flags) {
+        return CallResult::of_status(STATUS_UNKNOWN_FLAG);
+    }
     let groups = GivenGroups { names, info, flags };
     match tree_with_groups(alloc, nodes, texts, index, groups) {
         Ok(tree) => put_pattern(alloc, &tree, flags, buffer),

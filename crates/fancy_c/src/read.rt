@@ -1,5 +1,5 @@
 //! Bytes parsed as a pattern.
-ghost use Rattle.std.specs.Prelude.{◌≡◌, ◌≢◌, ◌≤◌, IfOk, IfErr};
+ghost use Rattle.std.specs.Prelude.{◌≡◌, ◌≢◌, ◌≤◌, ◌⊎◌, IfOk, IfErr};
 ghost use Rattle.std.specs.Str.{IsUtf8};
 ghost use Rattle.fancy_lex.specs.Located.{Kind};
 ghost use Rattle.fancy_lex.specs.Flags.{flags_of};
@@ -9,14 +9,16 @@ ghost use Rattle.fancy_grammar.specs.Tree.{Tree};
 ghost use Rattle.fancy_syntax.specs.InfoViews.{info_of};
 ghost use Rattle.fancy_syntax.specs.TriviaViews.{trivia_of};
 ghost use Rattle.fancy_syntax.specs.View.{view};
+ghost use Rattle.fancy_c.specs.CallFlags.{AreFlags};
 ghost use Rattle.fancy_c.specs.CallResult.{number_of_kind, IsTreeOfBytes, IsErrorOfBytes, IsNoUtf8, IsRefusalOf};
 ghost use Rattle.fancy_c.specs.CallResult.{result_of};
-ghost use Rattle.fancy_c.specs.InfoRows.{AreSpansOfBytes};
+ghost use Rattle.fancy_c.specs.InfoRows.{AreSpansOfBytes, AreSpansAsked};
 ghost use Rattle.fancy_c.specs.TriviumRows.{AreTriviaOfBytes};
 
+use crate::call_flags::{FLAG_WITHOUT_SPANS, are_flags};
 use crate::call_result::{
     CallResult, ERROR_NONE, STATUS_NOT_UTF8, STATUS_OK, STATUS_OUT_OF_MEMORY, STATUS_REFUSED,
-    kind_number,
+    STATUS_UNKNOWN_FLAG, kind_number,
 };
 use fancy_syntax::error::Error;
 use fancy_syntax::expr::Expr;
@@ -110,6 +112,55 @@ pub(crate) fn read_with_spans(
     }
 }
 
+/// Reads bytes as a pattern, with the spans of its nodes if they are asked for; else there are none.
+pub(crate) fn read_as_asked(
+    alloc: Global,
+    pattern: &[u8],
+    flags: u32,
+) -> Result<Parsed, BytesRefusal>
+    ensures tree { IfOk result (λ p. IsTreeOfBytes (flags_of flags) pattern.now (view p.tree.expr) (info_of p.tree)) }
+    ensures spans { IfOk result (λ p. AreSpansAsked flags pattern.now (view p.tree.expr) p.spans.items) }
+    ensures refusal { IfErr result (λ r. IsRefusalOf r (flags_of flags) pattern.now) }
+{
+    if flags & FLAG_WITHOUT_SPANS == 0 {
+        return read_with_spans(alloc, pattern, flags);
+    }
+    Ok(Parsed {
+        tree: read(alloc, pattern, flags)?,
+        spans: Vec::new(alloc),
+    })
+}
+
+/// A parsed tree with the spans of its nodes, and what no node has.
+#[derive(Drop)]
+pub(crate) struct ParsedWithTrivia {
+    pub(crate) parsed: Parsed,
+    pub(crate) trivia: Vec<Trivium>,
+}
+
+/// The same, with what no node of the tree has.
+pub(crate) fn read_all(
+    alloc: Global,
+    pattern: &[u8],
+    flags: u32,
+) -> Result<ParsedWithTrivia, BytesRefusal>
+    ensures tree { IfOk result (λ p. IsTreeOfBytes (flags_of flags) pattern.now (view p.parsed.tree.expr)
+        (info_of p.parsed.tree)) }
+    ensures spans { IfOk result (λ p. AreSpansOfBytes (flags_of flags) pattern.now (view p.parsed.tree.expr)
+        p.parsed.spans.items) }
+    ensures trivia { IfOk result (λ p. AreTriviaOfBytes (flags_of flags) pattern.now (trivia_of p.trivia)) }
+    ensures refusal { IfErr result (λ r. IsRefusalOf r (flags_of flags) pattern.now) }
+{
+    let text = text_of(pattern)?;
+    match Expr::parse_tree_with_trivia(alloc, text, flags) {
+        Ok((tree, spans, trivia)) => Ok(ParsedWithTrivia {
+            parsed: Parsed { tree, spans },
+            trivia,
+        }),
+        Err(error) => Err(BytesRefusal::Parse(error)),
+    }
+}
+
 /// What no node of the tree has.
 pub(crate) fn read_trivia(
     alloc: Global,
@@ -128,7 +179,8 @@ pub(crate) fn read_trivia(
 
 /// Checks whether the bytes at `pattern` are a valid pattern under the flags whose bits are set. Returns `STATUS_OK`;
 /// `STATUS_REFUSED`, with the kind and the position of the pattern's only error; `STATUS_NOT_UTF8`, with the length of
-/// the valid UTF-8 prefix; or `STATUS_OUT_OF_MEMORY`. The size is 0.
+/// the valid UTF-8 prefix; or `STATUS_OUT_OF_MEMORY`. If another bit is set, it returns `STATUS_UNKNOWN_FLAG`, whatever
+/// the bytes are. The size is 0.
 #[unsafe(no_mangle)]
 pub extern "C" fn fancy_check_nonnull(alloc: Global, pattern: &[u8], flags: u32) -> CallResult
     ensures read { result.status ≡ STATUS_OK → (t : Tree) × (m : GroupInfo)
@@ -136,11 +188,16 @@ pub extern "C" fn fancy_check_nonnull(alloc: Global, pattern: &[u8], flags: u32)
     ensures refused { result.status ≡ STATUS_REFUSED → (k : Kind) × (result.kind ≡ number_of_kind k)
         × IsErrorOfBytes (flags_of flags) pattern.now k result.position }
     ensures no_utf8 { result.status ≡ STATUS_NOT_UTF8 → IsNoUtf8 pattern.now result.position }
-    ensures status { result.status ≤ STATUS_OUT_OF_MEMORY }
+    ensures known_flags { AreFlags flags → result.status ≢ STATUS_UNKNOWN_FLAG }
+    ensures unknown_flag { (AreFlags flags → ⊥) → result.status ≡ STATUS_UNKNOWN_FLAG }
+    ensures status { (result.status ≤ STATUS_OUT_OF_MEMORY) ⊎ (result.status ≡ STATUS_UNKNOWN_FLAG) }
     ensures no_kind { result.status ≢ STATUS_REFUSED → result.kind ≡ ERROR_NONE }
     ensures no_position { result.status ≢ STATUS_REFUSED → result.status ≢ STATUS_NOT_UTF8 → result.position ≡ 0 }
     ensures no_size { result.size ≡ 0 }
 {
+    if !are_flags(flags) {
+        return CallResult::of_status(STATUS_UNKNOWN_FLAG);
+    }
     match read(alloc, pattern, flags) {
         Ok(_) => CallResult {
             status: STATUS_OK,

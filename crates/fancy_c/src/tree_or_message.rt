@@ -1,5 +1,5 @@
 //! A pattern's tree, or the message of its error, in one call.
-ghost use Rattle.std.specs.Prelude.{◌≡◌, ◌≢◌, ◌<◌, ◌≤◌, ◌⊎◌, IfOk, IfErr, List, length};
+ghost use Rattle.std.specs.Prelude.{◌≡◌, ◌≢◌, ◌<◌, ◌≤◌, ◌⊎◌, List, length};
 ghost use Rattle.fancy_lex.specs.Located.{Kind, kind_text};
 ghost use Rattle.fancy_lex.specs.Flags.{flags_of};
 ghost use Rattle.fancy_grammar.specs.GroupInfo.{GroupInfo};
@@ -8,48 +8,28 @@ ghost use Rattle.fancy_syntax.specs.InfoViews.{info_of};
 ghost use Rattle.fancy_syntax.specs.View.{view};
 ghost use Rattle.fancy_syntax.specs.declared.span.Span.{Span};
 ghost use Rattle.fancy_c.specs.Buffer.{Fills};
-ghost use Rattle.fancy_c.specs.CallResult.{IsReported, IsTreeOfBytes, IsErrorOfBytes, IsNoUtf8, IsRefusalOf};
+ghost use Rattle.fancy_c.specs.CallFlags.{AreTreeFlags};
+ghost use Rattle.fancy_c.specs.CallResult.{IsReported, IsErrorOfBytes, IsNoUtf8};
 ghost use Rattle.fancy_c.specs.InfoRows.{AreEnough, AreWritten, AreSpansAsked, IsSummaryOf};
 ghost use Rattle.fancy_c.specs.Node.{span_at};
 
+use crate::call_flags::are_tree_flags;
 use crate::call_result::{
     CallResult, ERROR_NONE, STATUS_BUFFER_TOO_SHORT, STATUS_NOT_UTF8, STATUS_OK,
-    STATUS_OUT_OF_MEMORY, STATUS_REFUSED,
+    STATUS_OUT_OF_MEMORY, STATUS_REFUSED, STATUS_UNKNOWN_FLAG,
 };
 use crate::info_rows::{Name, TreeInfo};
 use crate::message::report;
 use crate::node::Node;
 use crate::nodes::write_tree;
-use crate::read::{BytesRefusal, Parsed, read, read_with_spans};
+use crate::read::{BytesRefusal, read_as_asked};
 use fancy_syntax::error::Error;
 use std::alloc::Global;
 
-/// A bit beside those of the flags: no spans are asked for.
-pub const WITHOUT_SPANS: u32 = 65536;
-
-// Callers in C pass this number.
-const _: () = prove!(WITHOUT_SPANS == 65536);
-
-/// Reads bytes as a pattern, with the spans of its nodes if they are asked for; else there are none.
-fn read_as_asked(alloc: Global, pattern: &[u8], flags: u32) -> Result<Parsed, BytesRefusal>
-    ensures tree { IfOk result (λ p. IsTreeOfBytes (flags_of flags) pattern.now (view p.tree.expr) (info_of p.tree)) }
-    ensures spans { IfOk result (λ p. AreSpansAsked flags pattern.now (view p.tree.expr) p.spans.items) }
-    ensures refusal { IfErr result (λ r. IsRefusalOf r (flags_of flags) pattern.now) }
-{
-    if flags & WITHOUT_SPANS == 0 {
-        return read_with_spans(alloc, pattern, flags);
-    }
-    Ok(Parsed {
-        tree: read(alloc, pattern, flags)?,
-        spans: Vec::new(alloc),
-    })
-}
-
-/// Parses a pattern, and writes its tree and its group information as `fancy_parse_nonnull` does, except that a bit of
-/// `flags`, `WITHOUT_SPANS`, leaves the spans out: then each starts and stops at 0. If the pattern is invalid, returns
-/// `STATUS_REFUSED` with the kind and the position of its error, and writes the message of the error to the front of
-/// `texts`, with its size in bytes as the result's size. If the message does not fit, returns `STATUS_BUFFER_TOO_SHORT`
-/// with the kind, the position and the size. Else it returns what `fancy_parse_nonnull` returns.
+/// Parses a pattern, and writes its tree and its group information as `fancy_parse_nonnull` does. If the pattern is
+/// invalid, returns `STATUS_REFUSED` with the kind and the position of its error, and writes the message of the error to
+/// the front of `texts`, with its size in bytes as the result's size. If the message does not fit, returns
+/// `STATUS_BUFFER_TOO_SHORT` with the kind, the position and the size. Else it returns what `fancy_parse_nonnull` returns.
 #[unsafe(no_mangle)]
 pub extern "C" fn fancy_tree_nonnull(
     alloc: Global,
@@ -83,12 +63,17 @@ pub extern "C" fn fancy_tree_nonnull(
     ensures backrefs_kept { result.status ≢ STATUS_OK → backrefs.new ≡ backrefs.old }
     ensures info_kept { result.status ≢ STATUS_OK → result.status ≢ STATUS_BUFFER_TOO_SHORT → info.new ≡ info.old }
     ensures info_without_tree { result.kind ≢ ERROR_NONE → info.new ≡ info.old }
-    ensures status { result.status ≤ STATUS_BUFFER_TOO_SHORT }
+    ensures known_flags { AreTreeFlags flags → result.status ≢ STATUS_UNKNOWN_FLAG }
+    ensures unknown_flag { (AreTreeFlags flags → ⊥) → result.status ≡ STATUS_UNKNOWN_FLAG }
+    ensures status { (result.status ≤ STATUS_BUFFER_TOO_SHORT) ⊎ (result.status ≡ STATUS_UNKNOWN_FLAG) }
     ensures no_kind { result.status ≢ STATUS_REFUSED → result.status ≢ STATUS_BUFFER_TOO_SHORT →
         result.kind ≡ ERROR_NONE }
     ensures no_position { result.kind ≡ ERROR_NONE → result.status ≢ STATUS_NOT_UTF8 → result.position ≡ 0 }
     ensures no_size { result.kind ≡ ERROR_NONE → result.size ≡ 0 }
 {
+    if !are_tree_flags(flags) {
+        return CallResult::of_status(STATUS_UNKNOWN_FLAG);
+    }
     match read_as_asked(alloc, pattern, flags) {
         Ok(parsed) => write_tree(nodes, texts, names, backrefs, info, &parsed),
         Err(BytesRefusal::Parse(Error::ParseError(offset, kind))) => report(

@@ -5,12 +5,15 @@ ghost use Rattle.fancy_lex.specs.Flags.{flags_of};
 ghost use Rattle.fancy_grammar.specs.Trivia as grammar;
 ghost use Rattle.fancy_syntax.specs.TriviaViews.{trivium_of};
 ghost use Rattle.fancy_c.specs.Buffer.{put_at, Fills};
+ghost use Rattle.fancy_c.specs.CallFlags.{AreFlags};
 ghost use Rattle.fancy_c.specs.CallResult.{number_of_kind, IsErrorOfBytes, IsNoUtf8};
 ghost use Rattle.fancy_c.specs.TriviumRows as spec;
 ghost use Rattle.fancy_c.specs.TriviumRows.{AreTriviaOfBytes};
 
+use crate::call_flags::are_flags;
 use crate::call_result::{
     CallResult, ERROR_NONE, STATUS_BUFFER_TOO_SHORT, STATUS_NOT_UTF8, STATUS_OK, STATUS_REFUSED,
+    STATUS_UNKNOWN_FLAG,
 };
 use crate::read::read_trivia;
 use fancy_syntax::span::Span;
@@ -89,7 +92,7 @@ fn row(trivium: &Trivium) -> TriviumRow
 }
 
 /// Writes the rows at the front of the buffer.
-fn put_rows(rows: &mut [TriviumRow], trivia: &[Trivium])
+pub(crate) fn put_rows(rows: &mut [TriviumRow], trivia: &[Trivium])
     requires { length trivia.now ≤ length rows.old }
     ensures { rows.new ≡ put_at rows.old 0 (map spec.row (map trivium_of trivia.now)) }
 {
@@ -148,11 +151,16 @@ pub extern "C" fn fancy_trivia_nonnull(
     ensures no_utf8 { result.status ≡ STATUS_NOT_UTF8 → IsNoUtf8 pattern.now result.position }
     ensures kept { result.status ≢ STATUS_OK → trivia.new ≡ trivia.old }
     ensures count_kept { result.status ≢ STATUS_OK → result.status ≢ STATUS_BUFFER_TOO_SHORT → count.new ≡ count.old }
-    ensures status { result.status ≤ STATUS_BUFFER_TOO_SHORT }
+    ensures known_flags { AreFlags flags → result.status ≢ STATUS_UNKNOWN_FLAG }
+    ensures unknown_flag { (AreFlags flags → ⊥) → result.status ≡ STATUS_UNKNOWN_FLAG }
+    ensures status { (result.status ≤ STATUS_BUFFER_TOO_SHORT) ⊎ (result.status ≡ STATUS_UNKNOWN_FLAG) }
     ensures no_kind { result.status ≢ STATUS_REFUSED → result.kind ≡ ERROR_NONE }
     ensures no_position { result.status ≢ STATUS_REFUSED → result.status ≢ STATUS_NOT_UTF8 → result.position ≡ 0 }
     ensures no_size { result.size ≡ 0 }
 {
+    if !are_flags(flags) {
+        return CallResult::of_status(STATUS_UNKNOWN_FLAG);
+    }
     match read_trivia(alloc, pattern, flags) {
         Ok(found) => write_rows(trivia, count, &found),
         Err(refusal) => refusal.call_result(),

@@ -2,10 +2,10 @@
 ghost use Rattle.std.specs.Prelude.{◌≡◌, ◌+◌, ◌*◌};
 
 /// Counts changes after which a caller may have to change: a removed name, a changed meaning, a changed layout.
-pub const VERSION_MAJOR: u32 = 1;
+pub const VERSION_MAJOR: u32 = 2;
 
 /// Counts additions: a new call, status, kind or flag. It starts again at 0 after each change of the major number.
-pub const VERSION_MINOR: u32 = 4;
+pub const VERSION_MINOR: u32 = 0;
 
 /// Counts corrections. It starts again at 0 after each change of the minor number.
 pub const VERSION_PATCH: u32 = 0;
