@@ -272,6 +272,9 @@ static bool are_rows_by_hand_right(void) {
            fancy_print_nodes(NULL, 0, NULL, 0, 0, 0, NULL, 0).status == FANCY_STATUS_NO_TREE &&
            fancy_pattern_nodes(NULL, 0, NULL, 0, 0, NULL, 0, NULL, 0, NULL, 0).status == FANCY_STATUS_NO_TREE &&
            fancy_tree(NULL, 0, 0, NULL, 0, NULL, 0, NULL, 0, NULL, 0, NULL).status == FANCY_STATUS_BUFFER_TOO_SHORT &&
+           // a null buffer has no capacity, whatever is said of it
+           fancy_pattern("ab", 2, 0, NULL, 9).status == FANCY_STATUS_BUFFER_TOO_SHORT &&
+           fancy_tree("ab", 2, 0, NULL, 9, NULL, 9, NULL, 9, NULL, 9, NULL).status == FANCY_STATUS_BUFFER_TOO_SHORT &&
            is_nest(832, FANCY_STATUS_OK) && is_nest(833, FANCY_STATUS_NO_TREE);
 }
 

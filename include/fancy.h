@@ -7,7 +7,7 @@
  *
  * A pattern is UTF-8 and need not be NUL-terminated. Lengths, sizes, positions and the capacities of text buffers are in
  * bytes; the capacities for nodes, names and back references are counts of items. A pointer may be null if its length or
- * capacity is 0. Texts that are written are not NUL-terminated. They are UTF-8, except for that of a
+ * capacity is 0, and a null buffer has capacity 0. Texts that are written are not NUL-terminated. They are UTF-8, except for that of a
  * FANCY_NODE_LITERAL_BYTES, which is any bytes.
  *
  * The library is built for Linux on x86-64-v2 with glibc, and a size_t has 64 bits. The static library needs no other library
@@ -255,11 +255,11 @@ struct fancy_trivium {
  * is proved for trees, whose texts have at most 6 * length bytes. FANCY_MAX_TEXTS also suffices for the message that fancy_tree
  * writes, which is tested. That FANCY_MAX_TRIVIA suffices for fancy_trivia is tested too: each trivium has a byte of its own.
  * FANCY_MAX_NAMES(0) is 0. */
-#define FANCY_MAX_NODES(length) (2 * (length) + 1)
-#define FANCY_MAX_TEXTS(length) (6 * (length) + 128)
-#define FANCY_MAX_NAMES(length) (length)
-#define FANCY_MAX_BACKREFS(length) (2 * (length) + 1)
-#define FANCY_MAX_TRIVIA(length) ((length) + 1)
+#define FANCY_MAX_NODES(length) (2 * (size_t)(length) + 1)
+#define FANCY_MAX_TEXTS(length) (6 * (size_t)(length) + 128)
+#define FANCY_MAX_NAMES(length) ((size_t)(length))
+#define FANCY_MAX_BACKREFS(length) (2 * (size_t)(length) + 1)
+#define FANCY_MAX_TRIVIA(length) ((size_t)(length) + 1)
 
 /* Buffers for all that a pattern gives, with their capacities; what fancy_parse_into and fancy_parse_alloc say of it is at the
  * end. A pointer may be null if its capacity is 0. */
@@ -328,7 +328,7 @@ FANCY_INLINE fancy_result fancy_check(const char *pattern, size_t length, uint32
  * Unless it returns REFUSED, nothing is written. */
 FANCY_INLINE fancy_result fancy_message(const char *pattern, size_t length, uint32_t flags, char *buffer, size_t capacity) {
     char none;
-    return fancy_message_nonnull(pattern ? pattern : "", length, flags, buffer ? buffer : &none, capacity);
+    return fancy_message_nonnull(pattern ? pattern : "", length, flags, buffer ? buffer : &none, buffer ? capacity : 0);
 }
 
 /* Writes the message of a kind of error, without a pattern: at most 47 bytes, and none for a number that no kind has. The
@@ -337,7 +337,7 @@ FANCY_INLINE fancy_result fancy_message(const char *pattern, size_t length, uint
  * each with the size of the message; or OUT_OF_MEMORY. */
 FANCY_INLINE fancy_result fancy_error_text(uint32_t kind, char *buffer, size_t capacity) {
     char none;
-    return fancy_error_text_nonnull(kind, buffer ? buffer : &none, capacity);
+    return fancy_error_text_nonnull(kind, buffer ? buffer : &none, buffer ? capacity : 0);
 }
 
 /* Parses a pattern, and sets *info if it returns OK or BUFFER_TOO_SHORT, unless info is null. The flag FANCY_FLAG_WITHOUT_SPANS
@@ -356,9 +356,10 @@ FANCY_INLINE fancy_result fancy_parse(const char *pattern, size_t length, uint32
     fancy_name no_name;
     size_t no_number;
     fancy_info no_info;
-    return fancy_parse_nonnull(pattern ? pattern : "", length, flags, nodes ? nodes : &no_node, node_capacity,
-                               texts ? texts : &no_text, texts_capacity, names ? names : &no_name, name_capacity,
-                               backrefs ? backrefs : &no_number, backref_capacity, info ? info : &no_info);
+    return fancy_parse_nonnull(pattern ? pattern : "", length, flags, nodes ? nodes : &no_node, nodes ? node_capacity : 0,
+                               texts ? texts : &no_text, texts ? texts_capacity : 0, names ? names : &no_name,
+                               names ? name_capacity : 0, backrefs ? backrefs : &no_number, backrefs ? backref_capacity : 0,
+                               info ? info : &no_info);
 }
 
 /* Prints the tree of a pattern: the text is parsed as the normal form of that tree. Returns OK or BUFFER_TOO_SHORT, each with
@@ -369,7 +370,8 @@ FANCY_INLINE fancy_result fancy_parse(const char *pattern, size_t length, uint32
 FANCY_INLINE fancy_result fancy_print(const char *pattern, size_t length, uint32_t flags, uint32_t precedence, char *buffer,
                                       size_t capacity) {
     char none;
-    return fancy_print_nonnull(pattern ? pattern : "", length, flags, precedence, buffer ? buffer : &none, capacity);
+    return fancy_print_nonnull(pattern ? pattern : "", length, flags, precedence, buffer ? buffer : &none,
+                               buffer ? capacity : 0);
 }
 
 /* Writes a pattern that is parsed, under the same flags, as the same tree with the same groups and names. Comments, ignored
@@ -377,7 +379,7 @@ FANCY_INLINE fancy_result fancy_print(const char *pattern, size_t length, uint32
  * the size of the text. Otherwise it returns what fancy_check returns. Unless it returns OK, nothing is written. */
 FANCY_INLINE fancy_result fancy_pattern(const char *pattern, size_t length, uint32_t flags, char *buffer, size_t capacity) {
     char none;
-    return fancy_pattern_nonnull(pattern ? pattern : "", length, flags, buffer ? buffer : &none, capacity);
+    return fancy_pattern_nonnull(pattern ? pattern : "", length, flags, buffer ? buffer : &none, buffer ? capacity : 0);
 }
 
 /* Formats a pattern, and keeps how it is written: escapes, classes, names, comments, and the flags that it sets. What
@@ -391,7 +393,8 @@ FANCY_INLINE fancy_result fancy_pattern(const char *pattern, size_t length, uint
 FANCY_INLINE fancy_result fancy_format(const char *pattern, size_t length, uint32_t flags, uint32_t style, size_t width,
                                        char *buffer, size_t capacity) {
     char none;
-    return fancy_format_nonnull(pattern ? pattern : "", length, flags, style, width, buffer ? buffer : &none, capacity);
+    return fancy_format_nonnull(pattern ? pattern : "", length, flags, style, width, buffer ? buffer : &none,
+                                buffer ? capacity : 0);
 }
 
 /* Parses a pattern as fancy_parse does, with one difference. If the pattern is invalid, the message of its error is written to
@@ -406,9 +409,10 @@ FANCY_INLINE fancy_result fancy_tree(const char *pattern, size_t length, uint32_
     fancy_name no_name;
     size_t no_number;
     fancy_info no_info;
-    return fancy_tree_nonnull(pattern ? pattern : "", length, flags, nodes ? nodes : &no_node, node_capacity,
-                              texts ? texts : &no_text, texts_capacity, names ? names : &no_name, name_capacity,
-                              backrefs ? backrefs : &no_number, backref_capacity, info ? info : &no_info);
+    return fancy_tree_nonnull(pattern ? pattern : "", length, flags, nodes ? nodes : &no_node, nodes ? node_capacity : 0,
+                              texts ? texts : &no_text, texts ? texts_capacity : 0, names ? names : &no_name,
+                              names ? name_capacity : 0, backrefs ? backrefs : &no_number, backrefs ? backref_capacity : 0,
+                              info ? info : &no_info);
 }
 
 /* Prints the tree of rows, as fancy_print prints the tree of a pattern. The rows are those from an index on: 0 for the whole
@@ -421,8 +425,8 @@ FANCY_INLINE fancy_result fancy_print_nodes(const fancy_node *nodes, size_t node
                                             size_t index, uint32_t precedence, char *buffer, size_t capacity) {
     static fancy_node no_node;
     char none;
-    return fancy_print_nodes_nonnull(nodes ? nodes : &no_node, node_count, texts ? texts : "", texts_size, index, precedence,
-                                     buffer ? buffer : &none, capacity);
+    return fancy_print_nodes_nonnull(nodes ? nodes : &no_node, node_count, texts ? texts : "", texts_size, index,
+                                     precedence, buffer ? buffer : &none, buffer ? capacity : 0);
 }
 
 /* Writes a pattern that is parsed, under the flags, as the tree of rows, with names for its groups. The rows are as
@@ -442,7 +446,7 @@ FANCY_INLINE fancy_result fancy_pattern_nodes(const fancy_node *nodes, size_t no
     char none;
     return fancy_pattern_nodes_nonnull(nodes ? nodes : &no_node, node_count, texts ? texts : "", texts_size, index,
                                        names ? names : &no_name, name_count, info ? info : &no_info, flags,
-                                       buffer ? buffer : &none, capacity);
+                                       buffer ? buffer : &none, buffer ? capacity : 0);
 }
 
 /* Parses a pattern, and sets *count to the number of its trivia, which are what no node of its tree has, if it returns OK
@@ -456,7 +460,7 @@ FANCY_INLINE fancy_result fancy_trivia(const char *pattern, size_t length, uint3
                                        size_t capacity, size_t *count) {
     fancy_trivium no_trivium;
     size_t no_count;
-    return fancy_trivia_nonnull(pattern ? pattern : "", length, flags, trivia ? trivia : &no_trivium, capacity,
+    return fancy_trivia_nonnull(pattern ? pattern : "", length, flags, trivia ? trivia : &no_trivium, trivia ? capacity : 0,
                                 count ? count : &no_count);
 }
 
@@ -471,10 +475,12 @@ FANCY_INLINE fancy_result fancy_parse_into(const char *pattern, size_t length, u
     size_t no_number;
     fancy_trivium no_trivium;
     return fancy_parse_into_nonnull(
-        pattern ? pattern : "", length, flags, buffers->nodes ? buffers->nodes : &no_node, buffers->node_capacity,
-        buffers->texts ? buffers->texts : &no_text, buffers->texts_capacity, buffers->names ? buffers->names : &no_name,
-        buffers->name_capacity, buffers->backrefs ? buffers->backrefs : &no_number, buffers->backref_capacity,
-        buffers->trivia ? buffers->trivia : &no_trivium, buffers->trivium_capacity, &buffers->info, &buffers->trivium_count);
+        pattern ? pattern : "", length, flags, buffers->nodes ? buffers->nodes : &no_node,
+        buffers->nodes ? buffers->node_capacity : 0, buffers->texts ? buffers->texts : &no_text,
+        buffers->texts ? buffers->texts_capacity : 0, buffers->names ? buffers->names : &no_name,
+        buffers->names ? buffers->name_capacity : 0, buffers->backrefs ? buffers->backrefs : &no_number,
+        buffers->backrefs ? buffers->backref_capacity : 0, buffers->trivia ? buffers->trivia : &no_trivium,
+        buffers->trivia ? buffers->trivium_capacity : 0, &buffers->info, &buffers->trivium_count);
 }
 
 /* Does the same with buffers that it allocates by malloc, and sets *buffers, which is not read. It parses the pattern once, or
