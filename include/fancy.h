@@ -7,8 +7,8 @@
  *
  * A pattern is UTF-8 and need not be NUL-terminated. Lengths, sizes, positions and the capacities of text buffers are in
  * bytes; the capacities for nodes, names and back references are counts of items. A pointer may be null if its length or
- * capacity is 0, and a null buffer has capacity 0. Texts that are written are not NUL-terminated. They are UTF-8, except for that of a
- * FANCY_NODE_LITERAL_BYTES, which is any bytes.
+ * capacity is 0, and a null buffer has capacity 0. Texts that are written are not NUL-terminated. They are UTF-8, except for
+ * that of a FANCY_NODE_LITERAL_BYTES, which is any bytes.
  *
  * The library is built for Linux on x86-64-v2 with glibc, and a size_t has 64 bits. The static library needs no other library
  * than that of C. Calls may run in several threads at once. None may be made from a signal handler, or in the forked child of
