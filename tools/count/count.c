@@ -27,7 +27,10 @@ int main(int count, char **arguments) {
     while (fgets(line, sizeof line, lines)) {
         uint32_t flags = 0;
         char *at = line;
-        for (const char *letter; *at != '\t' && (letter = strchr(letters, *at)); at++) flags |= (uint32_t)1 << (letter - letters);
+        for (; *at && *at != '\t'; at++) {
+            const char *letter = strchr(letters, *at);
+            if (letter) flags |= (uint32_t)1 << (letter - letters);
+        }
         size_t length = 0;
         for (unsigned byte; sscanf(at + 1 + 2 * length, "%2x", &byte) == 1; length++) pattern[length] = (char)byte;
         if (!strcmp(mode, "none")) valid += length > 0;
