@@ -2,7 +2,7 @@
 use crate::known_sets::{ClassSets, KnownSets};
 use crate::sample::Sample;
 use crate::trial::{Trial, add_positions, is_any};
-use fancy_syntax::expr::Expr;
+use fancy_syntax::expr::{Expr, Shape, Wrap};
 use fancy_syntax::span::Span;
 use std::alloc::{AllocError, Global};
 
@@ -152,30 +152,15 @@ impl<'a, 'k> Surroundings<'a, 'k> {
 
 /// What is around the child at the index.
 pub(crate) fn enclosing_of(tree: &Expr, index: usize) -> Enclosing<'_> {
-    match tree {
-        Expr::Concat(trees) => Enclosing::Concat { trees, index },
-        Expr::Repeat { child, lo, .. } => Enclosing::Repeat { child, lo: *lo },
-        Expr::AtomicGroup(_) | Expr::LookAround(..) => Enclosing::Atomic,
-        Expr::Alt(_)
-        | Expr::Group(_)
-        | Expr::Conditional { .. }
-        | Expr::Empty
-        | Expr::Any { .. }
-        | Expr::Assertion(_)
-        | Expr::GeneralNewline { .. }
-        | Expr::Literal { .. }
-        | Expr::LiteralBytes { .. }
-        | Expr::Delegate { .. }
-        | Expr::Backref { .. }
-        | Expr::BackrefWithRelativeRecursionLevel { .. }
-        | Expr::KeepOut
-        | Expr::ContinueFromPreviousMatchEnd
-        | Expr::BackrefExistsCondition { .. }
-        | Expr::SubroutineCall(_)
-        | Expr::BacktrackingControlVerb(_)
-        | Expr::Absent(_)
-        | Expr::DefineGroup { .. }
-        | Expr::AstNode(..) => Enclosing::Group,
+    match tree.shape() {
+        Shape::Concat(trees) => Enclosing::Concat { trees, index },
+        Shape::Around(Wrap::Repeat { lo, .. }, child) => Enclosing::Repeat { child, lo },
+        Shape::Around(Wrap::AtomicGroup | Wrap::LookAround(_), _) => Enclosing::Atomic,
+        Shape::Around(Wrap::Group | Wrap::DefineGroup | Wrap::Repeater | Wrap::Stopper, _)
+        | Shape::Alt(_)
+        | Shape::Conditional { .. }
+        | Shape::Expression { .. }
+        | Shape::Leaf => Enclosing::Group,
     }
 }
 

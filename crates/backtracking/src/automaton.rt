@@ -174,32 +174,22 @@ impl Automaton {
         tree: &'a Expr,
         next: usize,
     ) -> Result<usize, NotBuilt> {
-        match tree {
-            Expr::Empty => Ok(next),
-            Expr::Group(child) => self.add_tree(sets, child, next),
-            Expr::Concat(trees) => self.add_all(sets, trees, next),
-            Expr::Alt(branches) => self.add_branches(sets, branches, next),
-            Expr::Repeat { child, lo, hi, .. } => self.add_repeat(sets, child, *lo, *hi, next),
-            Expr::Any { .. } | Expr::Literal { .. } | Expr::Delegate { .. } => {
-                self.add_position(sets, tree, next)
-            }
-            Expr::Assertion(_)
-            | Expr::GeneralNewline { .. }
-            | Expr::LiteralBytes { .. }
-            | Expr::LookAround(..)
-            | Expr::Backref { .. }
-            | Expr::BackrefWithRelativeRecursionLevel { .. }
-            | Expr::AtomicGroup(_)
-            | Expr::KeepOut
-            | Expr::ContinueFromPreviousMatchEnd
-            | Expr::BackrefExistsCondition { .. }
-            | Expr::Conditional { .. }
-            | Expr::SubroutineCall(_)
-            | Expr::BacktrackingControlVerb(_)
-            | Expr::Absent(_)
-            | Expr::DefineGroup { .. }
-            | Expr::AstNode(..) => Err(NotBuilt::Irregular),
+        if let Expr::Empty = tree {
+            return Ok(next);
         }
+        if let Expr::Group(child) = tree {
+            return self.add_tree(sets, child, next);
+        }
+        if let Expr::Concat(trees) = tree {
+            return self.add_all(sets, trees, next);
+        }
+        if let Expr::Alt(branches) = tree {
+            return self.add_branches(sets, branches, next);
+        }
+        if let Expr::Repeat { child, lo, hi, .. } = tree {
+            return self.add_repeat(sets, child, *lo, *hi, next);
+        }
+        self.add_position(sets, tree, next)
     }
 
     /// Adds the steps of the trees, one after another.
@@ -296,7 +286,7 @@ impl Automaton {
         Ok(())
     }
 
-    /// Adds a node that matches one character.
+    /// Adds the node if it matches one character. What does not is irregular.
     fn add_position<'a>(
         &mut self,
         sets: &mut KnownSets<'a, '_>,

@@ -56,32 +56,22 @@ fn go_over<'a>(
 ) -> Result<Option<Remaining<'a>>, AllocError>
     ensures { IfOk result (λ o. IfSome o (λ u. Goes unicode (view tree.now) (rest_of from.entry) (rest_of u))) }
 {
-    match tree {
-        Expr::Empty => Ok(Some(from)),
-        Expr::Group(child) => go_over(alloc, child, unicode, from),
-        Expr::Concat(trees) => go_over_all(alloc, trees, unicode, from),
-        Expr::Alt(branches) => go_over_branch(alloc, branches, unicode, from),
-        Expr::Repeat { child, lo, hi, .. } => go_over_repeat(alloc, child, unicode, *lo, *hi, from),
-        Expr::Any { .. } | Expr::Literal { .. } | Expr::Delegate { .. } => {
-            go_over_character(alloc, tree, unicode, from)
-        }
-        Expr::Assertion(_)
-        | Expr::GeneralNewline { .. }
-        | Expr::LiteralBytes { .. }
-        | Expr::LookAround(..)
-        | Expr::Backref { .. }
-        | Expr::BackrefWithRelativeRecursionLevel { .. }
-        | Expr::AtomicGroup(_)
-        | Expr::KeepOut
-        | Expr::ContinueFromPreviousMatchEnd
-        | Expr::BackrefExistsCondition { .. }
-        | Expr::Conditional { .. }
-        | Expr::SubroutineCall(_)
-        | Expr::BacktrackingControlVerb(_)
-        | Expr::Absent(_)
-        | Expr::DefineGroup { .. }
-        | Expr::AstNode(..) => Ok(None),
+    if let Expr::Empty = tree {
+        return Ok(Some(from));
     }
+    if let Expr::Group(child) = tree {
+        return go_over(alloc, child, unicode, from);
+    }
+    if let Expr::Concat(trees) = tree {
+        return go_over_all(alloc, trees, unicode, from);
+    }
+    if let Expr::Alt(branches) = tree {
+        return go_over_branch(alloc, branches, unicode, from);
+    }
+    if let Expr::Repeat { child, lo, hi, .. } = tree {
+        return go_over_repeat(alloc, child, unicode, *lo, *hi, from);
+    }
+    go_over_character(alloc, tree, unicode, from)
 }
 
 /// What remains after the trees have gone one after another.

@@ -51,28 +51,13 @@ impl<'s, 'a, 'k> Alphabet<'s, 'a, 'k> {
     /// Adds the characters of the tree.
     #[cycle(add)]
     fn add(&mut self, tree: &'a Expr) -> Result<(), AllocError> {
-        match tree {
-            Expr::Group(child) | Expr::Repeat { child, .. } => self.add(child),
-            Expr::Concat(trees) | Expr::Alt(trees) => self.add_all(trees),
-            Expr::Any { .. } | Expr::Literal { .. } | Expr::Delegate { .. } => self.add_node(tree),
-            Expr::Empty
-            | Expr::Assertion(_)
-            | Expr::GeneralNewline { .. }
-            | Expr::LiteralBytes { .. }
-            | Expr::LookAround(..)
-            | Expr::Backref { .. }
-            | Expr::BackrefWithRelativeRecursionLevel { .. }
-            | Expr::AtomicGroup(_)
-            | Expr::KeepOut
-            | Expr::ContinueFromPreviousMatchEnd
-            | Expr::BackrefExistsCondition { .. }
-            | Expr::Conditional { .. }
-            | Expr::SubroutineCall(_)
-            | Expr::BacktrackingControlVerb(_)
-            | Expr::Absent(_)
-            | Expr::DefineGroup { .. }
-            | Expr::AstNode(..) => Ok(()),
+        if let Expr::Group(child) | Expr::Repeat { child, .. } = tree {
+            return self.add(child);
         }
+        if let Expr::Concat(trees) | Expr::Alt(trees) = tree {
+            return self.add_all(trees);
+        }
+        self.add_node(tree)
     }
 
     /// Adds the characters of the trees.
@@ -84,7 +69,7 @@ impl<'s, 'a, 'k> Alphabet<'s, 'a, 'k> {
         Ok(())
     }
 
-    /// Adds the characters of a node that matches one.
+    /// Adds the characters of the node, if it matches one.
     fn add_node(&mut self, tree: &'a Expr) -> Result<(), AllocError> {
         if let Some(set) = self.sets.of(tree)? {
             self.set = Some(match &self.set {
@@ -99,32 +84,19 @@ impl<'s, 'a, 'k> Alphabet<'s, 'a, 'k> {
 /// Whether the tree may match the empty text. Only trees with ways of their own are looked at.
 #[cycle(can_be_empty)]
 fn can_be_empty(tree: &Expr) -> bool {
-    match tree {
-        Expr::Empty => true,
-        Expr::Group(child) => can_be_empty(child),
-        Expr::Repeat { child, lo, .. } => *lo == 0 || can_be_empty(child),
-        Expr::Concat(trees) => can_all_be_empty(trees),
-        Expr::Alt(branches) => can_any_be_empty(branches),
-        Expr::Any { .. }
-        | Expr::Literal { .. }
-        | Expr::Delegate { .. }
-        | Expr::Assertion(_)
-        | Expr::GeneralNewline { .. }
-        | Expr::LiteralBytes { .. }
-        | Expr::LookAround(..)
-        | Expr::Backref { .. }
-        | Expr::BackrefWithRelativeRecursionLevel { .. }
-        | Expr::AtomicGroup(_)
-        | Expr::KeepOut
-        | Expr::ContinueFromPreviousMatchEnd
-        | Expr::BackrefExistsCondition { .. }
-        | Expr::Conditional { .. }
-        | Expr::SubroutineCall(_)
-        | Expr::BacktrackingControlVerb(_)
-        | Expr::Absent(_)
-        | Expr::DefineGroup { .. }
-        | Expr::AstNode(..) => false,
+    if let Expr::Group(child) = tree {
+        return can_be_empty(child);
     }
+    if let Expr::Repeat { child, lo, .. } = tree {
+        return *lo == 0 || can_be_empty(child);
+    }
+    if let Expr::Concat(trees) = tree {
+        return can_all_be_empty(trees);
+    }
+    if let Expr::Alt(branches) = tree {
+        return can_any_be_empty(branches);
+    }
+    matches!(tree, Expr::Empty)
 }
 
 /// Whether each tree may match the empty text.

@@ -60,33 +60,15 @@ struct Row<'a, 's> {
 pub(crate) fn repeated_part(tree: &Expr) -> Option<&Expr>
     ensures { IfSome result (λ part. IsRepeatOf (view part.now) (view tree.now)) }
 {
-    match tree {
-        Expr::Repeat { child, lo, hi, .. } if hi.saturating_sub(*lo) > SMALL_LIMIT => Some(child),
-        Expr::Group(child) => repeated_part(child),
-        Expr::Repeat { .. }
-        | Expr::Empty
-        | Expr::Any { .. }
-        | Expr::Assertion(_)
-        | Expr::GeneralNewline { .. }
-        | Expr::Literal { .. }
-        | Expr::LiteralBytes { .. }
-        | Expr::Concat(_)
-        | Expr::Alt(_)
-        | Expr::LookAround(..)
-        | Expr::Delegate { .. }
-        | Expr::Backref { .. }
-        | Expr::BackrefWithRelativeRecursionLevel { .. }
-        | Expr::AtomicGroup(_)
-        | Expr::KeepOut
-        | Expr::ContinueFromPreviousMatchEnd
-        | Expr::BackrefExistsCondition { .. }
-        | Expr::Conditional { .. }
-        | Expr::SubroutineCall(_)
-        | Expr::BacktrackingControlVerb(_)
-        | Expr::Absent(_)
-        | Expr::DefineGroup { .. }
-        | Expr::AstNode(..) => None,
+    if let Expr::Group(child) = tree {
+        return repeated_part(child);
     }
+    if let Expr::Repeat { child, lo, hi, .. } = tree
+        && hi.saturating_sub(*lo) > SMALL_LIMIT
+    {
+        return Some(child);
+    }
+    None
 }
 
 /// The cut at the trees with these indices, if both are repeats.

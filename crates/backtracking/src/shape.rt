@@ -35,34 +35,21 @@ impl Shape {
         if !self.is_regular || self.nodes > MOST_NODES {
             return;
         }
-        match tree {
-            Expr::Empty | Expr::Any { .. } | Expr::Literal { .. } | Expr::Delegate { .. } => {}
-            Expr::Group(child) => self.add(child),
-            Expr::Concat(trees) => self.add_all(trees),
-            Expr::Alt(branches) => {
-                self.has_choice = true;
-                self.add_all(branches);
-            }
-            Expr::Repeat { child, lo, hi, .. } => {
-                self.has_choice = self.has_choice || *lo < *hi;
-                self.add(child);
-            }
-            Expr::Assertion(_)
-            | Expr::GeneralNewline { .. }
-            | Expr::LiteralBytes { .. }
-            | Expr::LookAround(..)
-            | Expr::Backref { .. }
-            | Expr::BackrefWithRelativeRecursionLevel { .. }
-            | Expr::AtomicGroup(_)
-            | Expr::KeepOut
-            | Expr::ContinueFromPreviousMatchEnd
-            | Expr::BackrefExistsCondition { .. }
-            | Expr::Conditional { .. }
-            | Expr::SubroutineCall(_)
-            | Expr::BacktrackingControlVerb(_)
-            | Expr::Absent(_)
-            | Expr::DefineGroup { .. }
-            | Expr::AstNode(..) => self.is_regular = false,
+        if let Expr::Repeat { lo, hi, .. } = tree {
+            self.has_choice = self.has_choice || *lo < *hi;
+        }
+        if let Expr::Alt(_) = tree {
+            self.has_choice = true;
+        }
+        if let Expr::Group(child) | Expr::Repeat { child, .. } = tree {
+            self.add(child);
+        } else if let Expr::Concat(trees) | Expr::Alt(trees) = tree {
+            self.add_all(trees);
+        } else {
+            self.is_regular = matches!(
+                tree,
+                Expr::Empty | Expr::Any { .. } | Expr::Literal { .. } | Expr::Delegate { .. }
+            );
         }
     }
 

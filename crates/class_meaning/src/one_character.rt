@@ -30,38 +30,15 @@ pub fn characters_of(alloc: Global, node: &Expr, unicode: bool) -> Result<ClassM
         (meaning ≡ ClassMeaning.NotOneCharacter)
         (λ (config, text). IsMeaningOf config text meaning)) }
 {
-    match node {
-        Expr::Delegate { inner, casei } => characters_of_class(
-            alloc,
-            inner.as_str(),
-            *casei,
-            unicode,
-        ),
-        Expr::Literal { val, casei } => {
-            let text = escape(alloc, val.as_str())?;
-            read(alloc, text.as_str(), &config(unicode, *casei))
-        }
-        Expr::Any { newline, crlf } => read(alloc, ".", &config_of_dot(unicode, *newline, *crlf)),
-        Expr::Empty
-        | Expr::Assertion(_)
-        | Expr::GeneralNewline { .. }
-        | Expr::LiteralBytes { .. }
-        | Expr::Concat(_)
-        | Expr::Alt(_)
-        | Expr::Group(_)
-        | Expr::LookAround(..)
-        | Expr::Repeat { .. }
-        | Expr::Backref { .. }
-        | Expr::BackrefWithRelativeRecursionLevel { .. }
-        | Expr::AtomicGroup(_)
-        | Expr::KeepOut
-        | Expr::ContinueFromPreviousMatchEnd
-        | Expr::BackrefExistsCondition { .. }
-        | Expr::Conditional { .. }
-        | Expr::SubroutineCall(_)
-        | Expr::BacktrackingControlVerb(_)
-        | Expr::Absent(_)
-        | Expr::DefineGroup { .. }
-        | Expr::AstNode(..) => Ok(ClassMeaning::NotOneCharacter),
+    if let Expr::Delegate { inner, casei } = node {
+        return characters_of_class(alloc, inner.as_str(), *casei, unicode);
     }
+    if let Expr::Literal { val, casei } = node {
+        let text = escape(alloc, val.as_str())?;
+        return read(alloc, text.as_str(), &config(unicode, *casei));
+    }
+    if let Expr::Any { newline, crlf } = node {
+        return read(alloc, ".", &config_of_dot(unicode, *newline, *crlf));
+    }
+    Ok(ClassMeaning::NotOneCharacter)
 }

@@ -16,7 +16,7 @@ fn moved(span: Span, start: usize) -> Span {
     }
 }
 
-/// Adds what is wrong with the class. If it looks like something else, that is said in place of the items that can be
+/// Adds what is wrong with the node, if it is a class. If it looks like something else, that is said in place of the items that can be
 /// left out.
 fn add_of_class(
     node: SpannedNode<'_>,
@@ -56,32 +56,10 @@ fn look_at(
     known: &mut KnownClasses,
     found: &mut Vec<ClassFinding>,
 ) -> Result<(), AllocError> {
-    match node.expr() {
-        Expr::Delegate { .. } => add_of_class(node, pattern, known, found),
-        Expr::Alt(_) => add_subsumed(node, pattern, known, found),
-        Expr::Empty
-        | Expr::Any { .. }
-        | Expr::Assertion(_)
-        | Expr::GeneralNewline { .. }
-        | Expr::Literal { .. }
-        | Expr::LiteralBytes { .. }
-        | Expr::Concat(_)
-        | Expr::Group(_)
-        | Expr::LookAround(..)
-        | Expr::Repeat { .. }
-        | Expr::Backref { .. }
-        | Expr::BackrefWithRelativeRecursionLevel { .. }
-        | Expr::AtomicGroup(_)
-        | Expr::KeepOut
-        | Expr::ContinueFromPreviousMatchEnd
-        | Expr::BackrefExistsCondition { .. }
-        | Expr::Conditional { .. }
-        | Expr::SubroutineCall(_)
-        | Expr::BacktrackingControlVerb(_)
-        | Expr::Absent(_)
-        | Expr::DefineGroup { .. }
-        | Expr::AstNode(..) => Ok(()),
+    if matches!(node.expr(), Expr::Alt(_)) {
+        return add_subsumed(node, pattern, known, found);
     }
+    add_of_class(node, pattern, known, found)
 }
 
 /// Adds what is wrong with the classes and the branches in the node.

@@ -47,37 +47,32 @@ fn is_numbered_call(text: &str) -> bool {
 pub(crate) fn of_leaf(leaf: &Expr, text: &str) -> Option<Difference>
     ensures { IfSome result (λ d. spec.IsSpelled d (view leaf.now) text.now) }
 {
-    match leaf {
-        Expr::Delegate { .. } if is_digit_escape(text) => Some(Difference::HexadecimalDigit),
-        Expr::Literal { .. } if is_tab_escape(text) => Some(Difference::VerticalTab),
-        Expr::Assertion(_) if is_word_escape(text) => Some(Difference::WordBoundary),
-        Expr::Assertion(_) if is_end_escape(text) => Some(Difference::EndOfText),
-        Expr::SubroutineCall(_) if is_numbered_call(text) => Some(Difference::NumberedCall),
-        Expr::Empty
-        | Expr::Any { .. }
-        | Expr::Assertion(_)
-        | Expr::GeneralNewline { .. }
-        | Expr::Literal { .. }
-        | Expr::LiteralBytes { .. }
-        | Expr::Concat(_)
-        | Expr::Alt(_)
-        | Expr::Group(_)
-        | Expr::LookAround(..)
-        | Expr::Repeat { .. }
-        | Expr::Delegate { .. }
-        | Expr::Backref { .. }
-        | Expr::BackrefWithRelativeRecursionLevel { .. }
-        | Expr::AtomicGroup(_)
-        | Expr::KeepOut
-        | Expr::ContinueFromPreviousMatchEnd
-        | Expr::BackrefExistsCondition { .. }
-        | Expr::Conditional { .. }
-        | Expr::SubroutineCall(_)
-        | Expr::BacktrackingControlVerb(_)
-        | Expr::Absent(_)
-        | Expr::DefineGroup { .. }
-        | Expr::AstNode(..) => None,
+    if let Expr::Delegate { .. } = leaf
+        && is_digit_escape(text)
+    {
+        return Some(Difference::HexadecimalDigit);
     }
+    if let Expr::Literal { .. } = leaf
+        && is_tab_escape(text)
+    {
+        return Some(Difference::VerticalTab);
+    }
+    if let Expr::Assertion(_) = leaf
+        && is_word_escape(text)
+    {
+        return Some(Difference::WordBoundary);
+    }
+    if let Expr::Assertion(_) = leaf
+        && is_end_escape(text)
+    {
+        return Some(Difference::EndOfText);
+    }
+    if let Expr::SubroutineCall(_) = leaf
+        && is_numbered_call(text)
+    {
+        return Some(Difference::NumberedCall);
+    }
+    None
 }
 
 /// What two nodes with these texts are, the second of which begins where the first ends.

@@ -17,6 +17,5 @@ pub mod RowLemmas
 pub mod NodeLemmas
 mod AmongLemmas
 mod NamesLemmas
-pub mod InfoLemmas
 mod NeedsWalk
 mod SourceWalk

@@ -30,7 +30,7 @@ mod needs;
 mod output;
 mod quantifier;
 mod reference;
-pub mod same;
+mod same;
 mod separator;
 mod source;
 mod write;

@@ -1,7 +1,7 @@
 //! What a tree needs of the flags that a text sets.
 ghost use Rattle.std.specs.Prelude.{◌≡◌, Bool, chars, ◌++◌, Decides, IfOk, OnOk};
 ghost use Rattle.std.specs.List.{list_all};
-ghost use Rattle.fancy_grammar.specs.Label.{literal, delegate};
+ghost use Rattle.fancy_grammar.specs.Label.{any, literal, delegate};
 ghost use Rattle.fancy_grammar.specs.PatternNeeds as spec;
 ghost use Rattle.fancy_grammar.specs.PatternWalk.{needs_alone, needs_listed, all_listed};
 ghost use Rattle.fancy_grammar.specs.Tree.{trees_of};
@@ -73,23 +73,19 @@ fn is_hex_class(text: &str) -> bool
 fn assertion_needs(assertion: Assertion) -> Needs
     ensures { result ≡ spec.assertion_needs assertion }
 {
-    match assertion {
-        Assertion::StartLine { crlf }
-        | Assertion::StartLineOniguruma { crlf }
-        | Assertion::EndLine { crlf } => needs_line(crlf),
-        Assertion::EndTextIgnoreTrailingNewlines { crlf } => Needs {
+    if let Assertion::StartLine { crlf }
+    | Assertion::StartLineOniguruma { crlf }
+    | Assertion::EndLine { crlf } = assertion
+    {
+        return needs_line(crlf);
+    }
+    if let Assertion::EndTextIgnoreTrailingNewlines { crlf } = assertion {
+        return Needs {
             crlf: Need::Fixed(crlf),
             ..no_needs()
-        },
-        Assertion::StartText
-        | Assertion::EndText
-        | Assertion::WordBoundary
-        | Assertion::NotWordBoundary
-        | Assertion::LeftWordBoundary
-        | Assertion::RightWordBoundary
-        | Assertion::LeftWordHalfBoundary
-        | Assertion::RightWordHalfBoundary => no_needs(),
+        };
     }
+    no_needs()
 }
 
 /// The flags of a dot with these fields.
@@ -100,6 +96,17 @@ fn needs_dot(newline: bool, crlf: bool) -> Needs
         dotnl: Need::Fixed(newline),
         crlf: Need::Fixed(crlf),
         ..no_needs()
+    }
+}
+
+/// What an Any needs.
+fn any_needs(newline: bool, crlf: bool) -> Needs
+    ensures { (o : Bool) → result ≡ spec.leaf_needs o (any newline crlf) }
+{
+    if newline == crlf {
+        no_needs()
+    } else {
+        needs_dot(newline, crlf)
     }
 }
 
@@ -129,36 +136,24 @@ fn delegate_needs(text: &str, casei: bool) -> Needs
 fn leaf_needs(tree: &Expr, oniguruma_mode: bool) -> Needs
     ensures { result ≡ needs_alone oniguruma_mode (view tree.now) }
 {
-    match tree {
-        Expr::Literal { val, casei } => literal_needs(val.as_str(), *casei, oniguruma_mode),
-        Expr::Delegate { inner, casei } => delegate_needs(inner.as_str(), *casei),
-        Expr::Backref { casei, .. } => needs_case(*casei),
-        Expr::BackrefWithRelativeRecursionLevel { casei, .. } => needs_case(*casei),
-        Expr::Any { newline, crlf } => if *newline == *crlf {
-            no_needs()
-        } else {
-            needs_dot(*newline, *crlf)
-        },
-        Expr::Assertion(assertion) => assertion_needs(*assertion),
-        Expr::Empty
-        | Expr::GeneralNewline { .. }
-        | Expr::LiteralBytes { .. }
-        | Expr::Concat(_)
-        | Expr::Alt(_)
-        | Expr::Group(_)
-        | Expr::LookAround(..)
-        | Expr::Repeat { .. }
-        | Expr::AtomicGroup(_)
-        | Expr::KeepOut
-        | Expr::ContinueFromPreviousMatchEnd
-        | Expr::BackrefExistsCondition { .. }
-        | Expr::Conditional { .. }
-        | Expr::SubroutineCall(_)
-        | Expr::BacktrackingControlVerb(_)
-        | Expr::Absent(_)
-        | Expr::DefineGroup { .. }
-        | Expr::AstNode(..) => no_needs(),
+    if let Expr::Literal { val, casei } = tree {
+        return literal_needs(val.as_str(), *casei, oniguruma_mode);
     }
+    if let Expr::Delegate { inner, casei } = tree {
+        return delegate_needs(inner.as_str(), *casei);
+    }
+    if let Expr::Backref { casei, .. } | Expr::BackrefWithRelativeRecursionLevel { casei, .. } =
+        tree
+    {
+        return needs_case(*casei);
+    }
+    if let Expr::Any { newline, crlf } = tree {
+        return any_needs(*newline, *crlf);
+    }
+    if let Expr::Assertion(assertion) = tree {
+        return assertion_needs(*assertion);
+    }
+    no_needs()
 }
 
 /// The first of the two needs that is not free.

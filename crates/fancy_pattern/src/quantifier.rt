@@ -44,32 +44,10 @@ fn is_possessive_repeat(tree: &Expr, flags: Flags) -> bool
 pub(crate) fn is_quantified(tree: &Expr, flags: Flags) -> bool
     ensures { result ≡ spec.is_quantified flags (view tree.now) }
 {
-    match tree {
-        Expr::Repeat { .. } => true,
-        Expr::AtomicGroup(child) => is_possessive_repeat(child, flags),
-        Expr::Empty
-        | Expr::Any { .. }
-        | Expr::Assertion(_)
-        | Expr::GeneralNewline { .. }
-        | Expr::Literal { .. }
-        | Expr::LiteralBytes { .. }
-        | Expr::Concat(_)
-        | Expr::Alt(_)
-        | Expr::Group(_)
-        | Expr::LookAround(..)
-        | Expr::Delegate { .. }
-        | Expr::Backref { .. }
-        | Expr::BackrefWithRelativeRecursionLevel { .. }
-        | Expr::KeepOut
-        | Expr::ContinueFromPreviousMatchEnd
-        | Expr::BackrefExistsCondition { .. }
-        | Expr::Conditional { .. }
-        | Expr::SubroutineCall(_)
-        | Expr::BacktrackingControlVerb(_)
-        | Expr::Absent(_)
-        | Expr::DefineGroup { .. }
-        | Expr::AstNode(..) => false,
+    if let Expr::AtomicGroup(child) = tree {
+        return is_possessive_repeat(child, flags);
     }
+    matches!(tree, Expr::Repeat { .. })
 }
 
 /// The largest number of adjacent quantifiers in Oniguruma mode.

@@ -16,11 +16,17 @@ view_Concat v = search (rules, the_lemmas)
 pub view_Alt : (v : Vec Expr Global) → view (Alt v) ≡ alt (trees_of (views v.items))
 view_Alt v = search (rules, the_lemmas)
 
+pub concat_children : (t : Tree) (es : List Expr) → t ≡ concat (trees_of (views es)) → children t ≡ views es
+concat_children t es h = ap children h ∙ list_of_trees_of (views es)
+
+pub alt_children : (t : Tree) (es : List Expr) → t ≡ alt (trees_of (views es)) → children t ≡ views es
+alt_children t es h = ap children h ∙ list_of_trees_of (views es)
+
 pub children_Concat : (e : Expr) (v : Vec Expr Global) → e ≡ Concat v → children (view e) ≡ views v.items
-children_Concat e v h = ap (λ x. children (view x)) h ∙ ap children (view_Concat v) ∙ list_of_trees_of _
+children_Concat e v h = concat_children (view e) v.items (ap view h ∙ view_Concat v)
 
 pub children_Alt : (e : Expr) (v : Vec Expr Global) → e ≡ Alt v → children (view e) ≡ views v.items
-children_Alt e v h = ap (λ x. children (view x)) h ∙ ap children (view_Alt v) ∙ list_of_trees_of _
+children_Alt e v h = alt_children (view e) v.items (ap view h ∙ view_Alt v)
 
 pub leaf_children : (t : Tree) → is_leaf t ≡ true → children t ≡ []
 leaf_children (leaf l) h = refl

@@ -7,7 +7,7 @@ use Rattle.fancy_syntax.specs.Children.{children_of}
 use Rattle.fancy_syntax.specs.Descendants.{IsDescendant, child, deeper}
 use Rattle.fancy_grammar.specs.Label as label
 use Rattle.fancy_grammar.specs.Tree.{Tree, leaf, over, row, Trees, no_trees, more_trees, list_of, children, levels}
-use Rattle.fancy_grammar.specs.Tree.{levels_all}
+use Rattle.fancy_grammar.specs.Tree.{levels_all, trees_of}
 use Rattle.fancy_syntax.specs.View.{view, views}
 use Rattle.fancy_syntax.specs.declared.expr.Expr.{Expr}
 
@@ -33,6 +33,13 @@ levels_of_child e c same (i, (h, is)) =
     let at : get_or (children (view e)) i (view c) ≡ view c = ap (λ ts. get_or ts i (view c)) (sym same)
     ∙ get_or-map view (children_of e) i c (view c) h ∙ ap view (sym is) in
     subst (λ t. levels t < levels (view e)) at (levels_child (view e) i (view c) long)
+
+-- a tree of a list is at most as deep as the deepest
+pub levels_item : (es : List Expr) (i : ℕ) (e : Expr) → i < length es → e ≡ get_or es i e →
+    levels (view e) ≤ levels_all (trees_of (views es))
+levels_item [] i e h is = absurd (omega arith)
+levels_item (x ∷ es) zero e h is = omega (arith, ap (λ y. levels (view y)) is)
+levels_item (x ∷ es) (suc i) e h is = omega (arith, levels_item es i e (omega arith) is)
 
 -- the same, with what is known of the iterator that returns the children
 pub levels_of_given : (e c : Expr) (all : List Expr) → all ≡ children_of e → views all ≡ children (view e) →

@@ -1,7 +1,9 @@
 -- ---- trees: equality, children, descendants, and borrowed parts
 pub mod ApartLemmas
 pub mod ChildrenLemmas
+pub mod ShapeLemmas
 pub mod SameLemmas
+mod InfoLemmas
 pub mod Descents
 pub mod LoanLemmas
 pub mod WriteLemmas

@@ -4,6 +4,7 @@
 pub use Rattle.fancy_grammar.specs.Tree
 pub mod View
 pub mod Children
+pub mod Shape
 pub mod Descendants
 pub use Rattle.fancy_grammar.specs.Same
 pub mod Loans

@@ -6,11 +6,13 @@ mod descendants;
 mod equality;
 mod parent;
 pub mod repeatable;
+mod shape;
 
 pub use children::ExprChildrenIter;
 pub use fancy_grammar::kinds::{BacktrackingControlVerb, LookAround};
 pub use fancy_lex::escape::Assertion;
 pub use fancy_lex::name::CaptureGroupTarget;
+pub use shape::{Shape, Wrap};
 
 /// A node as it is parsed, before references are resolved. Every one counts as a leaf, an `AstGroup` too. In a returned
 /// tree each is a `SubroutineCall` that cannot be resolved.

@@ -39,7 +39,7 @@ pub mod flags {
 pub use error::{Error, ParseError, ParseErrorPosition, Result};
 pub use expr::{
     Absent, Assertion, AstNode, BacktrackingControlVerb, CaptureGroupTarget, Expr,
-    ExprChildrenIter, LookAround,
+    ExprChildrenIter, LookAround, Shape, Wrap,
 };
 pub use flags::{
     FLAG_CASEI, FLAG_CRLF, FLAG_DOTNL, FLAG_IGNORE_NUMBERED_GROUPS_WHEN_NAMED_GROUPS_EXIST,

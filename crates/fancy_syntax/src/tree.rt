@@ -17,6 +17,8 @@ ghost use Rattle.fancy_syntax.specs.SpanViews.{spans_of};
 ghost use Rattle.fancy_syntax.specs.TriviaViews.{trivia_of};
 ghost use Rattle.fancy_syntax.specs.View.{view};
 
+mod equality;
+
 use crate::expr::Expr;
 use crate::grammar::parse;
 use crate::grammar::spanning::{NoSpans, Spanning};

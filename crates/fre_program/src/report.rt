@@ -109,42 +109,30 @@ fn write_text_fields<W: fmt::Write>(
 
 /// Writes the fields of a node that refers to a group; nothing for another node.
 fn write_reference_fields<W: fmt::Write>(f: &mut fmt::Formatter<W>, node: &Expr) -> fmt::Result {
-    match node {
-        Expr::Backref { group, casei } => write!(f, " {group} casei={casei}"),
-        Expr::BackrefWithRelativeRecursionLevel {
-            group,
-            relative_level,
-            casei,
-        } => { write!(f, " {group} {relative_level} casei={casei}") }
-        Expr::BackrefExistsCondition {
-            group,
-            relative_recursion_level,
-        } => { write!(f, " {group} {}", OrNone(*relative_recursion_level)) }
-        Expr::SubroutineCall(group) => write!(f, " {group}"),
-        Expr::AstNode(AstNode::SubroutineCall(target), position) => {
-            write!(f, " SubroutineCall {} {position}", ShownTarget(target))
-        }
-        Expr::Empty
-        | Expr::Any { .. }
-        | Expr::Assertion(_)
-        | Expr::GeneralNewline { .. }
-        | Expr::Literal { .. }
-        | Expr::LiteralBytes { .. }
-        | Expr::Concat(_)
-        | Expr::Alt(_)
-        | Expr::Group(_)
-        | Expr::LookAround(..)
-        | Expr::Repeat { .. }
-        | Expr::Delegate { .. }
-        | Expr::AtomicGroup(_)
-        | Expr::KeepOut
-        | Expr::ContinueFromPreviousMatchEnd
-        | Expr::Conditional { .. }
-        | Expr::BacktrackingControlVerb(_)
-        | Expr::Absent(_)
-        | Expr::DefineGroup { .. }
-        | Expr::AstNode(..) => Ok(()),
+    if let Expr::Backref { group, .. }
+    | Expr::BackrefWithRelativeRecursionLevel { group, .. }
+    | Expr::BackrefExistsCondition { group, .. }
+    | Expr::SubroutineCall(group) = node
+    {
+        write!(f, " {group}")?;
     }
+    if let Expr::BackrefWithRelativeRecursionLevel { relative_level, .. } = node {
+        write!(f, " {relative_level}")?;
+    }
+    if let Expr::BackrefExistsCondition {
+        relative_recursion_level,
+        ..
+    } = node
+    {
+        write!(f, " {}", OrNone(*relative_recursion_level))?;
+    }
+    if let Expr::Backref { casei, .. } | Expr::BackrefWithRelativeRecursionLevel { casei, .. } = node {
+        write!(f, " casei={casei}")?;
+    }
+    if let Expr::AstNode(AstNode::SubroutineCall(target), position) = node {
+        write!(f, " SubroutineCall {} {position}", ShownTarget(target))?;
+    }
+    Ok(())
 }
 
 /// A node's fields after its name, without its children.

@@ -48,8 +48,8 @@ pub struct Chosen {
 }
 
 impl Chosen {
-    /// The level of each rule by default; of patterns that are texts of JSON, if they are such.
-    fn by_default(is_json: bool) -> Chosen
+    /// Each rule has its default level: that for patterns that are texts of JSON, if they are.
+    pub fn by_default(is_json: bool) -> Chosen
         ensures { (rule : Rule) → level_of result.levels rule ≡ default_level is_json rule }
     {
         let mut chosen = Chosen {
@@ -60,20 +60,6 @@ impl Chosen {
             chosen.set(row.rule, row.rule.default_level(is_json));
         }
         chosen
-    }
-
-    /// Each rule has the level of its row.
-    pub fn new() -> Chosen
-        ensures { (rule : Rule) → level_of result.levels rule ≡ default_level false rule }
-    {
-        Chosen::by_default(false)
-    }
-
-    /// The same, for patterns that are texts of JSON.
-    pub fn for_values() -> Chosen
-        ensures { (rule : Rule) → level_of result.levels rule ≡ default_level true rule }
-    {
-        Chosen::by_default(true)
     }
 
     /// The level of the rule.

@@ -1,11 +1,12 @@
 //! Whether a tree is another one with reports fixed, and nothing else changed.
 ghost use Rattle.std.specs.Prelude.{[], IfOk, IfSome, IsTrue, Contains};
-ghost use Rattle.fancy_grammar.specs.Tree.{alt, trees_of};
-ghost use Rattle.fancy_syntax.specs.View.{view, view_absent, views};
+ghost use Rattle.fancy_grammar.specs.Tree.{alt, over, trees_of};
+ghost use Rattle.fancy_syntax.specs.Shape.{label_of};
+ghost use Rattle.fancy_syntax.specs.View.{view, views};
 ghost use Rattle.pattern_fixes.specs.Fixed.{MatchesOne, HasSameCharacters, IsFixed, AreFixed, AreBranches};
 
 use class_meaning::{CharacterSet, ClassMeaning, characters_of};
-use fancy_syntax::expr::{Absent, Expr};
+use fancy_syntax::expr::{Expr, Shape, Wrap};
 use std::alloc::{AllocError, Global};
 use std::slice;
 
@@ -45,12 +46,15 @@ fn has_same_characters(
     Ok(is_within)
 }
 
-/// Whether the node is the other, or both match one character, and the same ones.
-fn is_fixed_class(alloc: Global, old: &Expr, new: &Expr, unicode: bool) -> Result<bool, AllocError>
+/// Whether the leaf is the other node, or is a class or a literal, and both match one character, and the same ones.
+fn is_fixed_leaf(alloc: Global, old: &Expr, new: &Expr, unicode: bool) -> Result<bool, AllocError>
     ensures { IfOk result (λ b. IsTrue b → IsFixed unicode (view old.now) (view new.now)) }
 {
     if old.is_same_but_for_positions(new) {
         return Ok(true);
+    }
+    if !matches!(old, Expr::Delegate { .. } | Expr::Literal { .. }) {
+        return Ok(false);
     }
     has_same_characters(alloc, old, new, unicode)
 }
@@ -103,10 +107,10 @@ fn is_fixed_alternation(
 ) -> Result<bool, AllocError>
     ensures { IfOk result (λ b. IsTrue b → IsFixed unicode (alt (trees_of (views old.now))) (view new.now)) }
 {
-    match new {
-        Expr::Alt(branches) => are_branches(alloc, old, branches, unicode),
-        _ => are_branches(alloc, old, slice::from_ref(new), unicode),
+    if let Expr::Alt(branches) = new {
+        return are_branches(alloc, old, branches, unicode);
     }
+    are_branches(alloc, old, slice::from_ref(new), unicode)
 }
 
 /// Whether there are as many trees, each fixed.
@@ -127,38 +131,27 @@ fn are_fixed(alloc: Global, old: &[Expr], new: &[Expr], unicode: bool) -> Result
     Ok(rest.is_empty())
 }
 
-/// Whether the absent form is the other one with reports fixed.
+/// Whether the node around this child is the other one with reports fixed: the same around the child, which is fixed, or
+/// a quantifier that repeats exactly once, which is left out.
 #[cycle(is_fixed)]
-fn is_fixed_absent(
+fn is_fixed_around(
     alloc: Global,
-    old: &Absent,
-    new: &Absent,
+    wrap: Wrap,
+    child: &Expr,
+    new: &Expr,
     unicode: bool,
 ) -> Result<bool, AllocError>
-    ensures { IfOk result (λ b. IsTrue b → IsFixed unicode (view_absent old.now) (view_absent new.now)) }
+    ensures { IfOk result (λ b. IsTrue b → IsFixed unicode (over (label_of wrap) (view child.now)) (view new.now)) }
 {
-    match (old, new) {
-        (Absent::Repeater(child), Absent::Repeater(other)) => {
-            is_fixed(alloc, child, other, unicode)
-        }
-        (Absent::Stopper(child), Absent::Stopper(other)) => {
-            is_fixed(alloc, child, other, unicode)
-        }
-        (
-            Absent::Expression { absent, exp },
-            Absent::Expression {
-                absent: other,
-                exp: other_exp,
-            },
-        ) => {
-            if !is_fixed(alloc, absent, other, unicode)? {
-                return Ok(false);
-            }
-            is_fixed(alloc, exp, other_exp, unicode)
-        }
-        (Absent::Clear, Absent::Clear) => Ok(true),
-        _ => Ok(false),
+    if let Shape::Around(other_wrap, other) = new.shape()
+        && wrap == other_wrap
+    {
+        return is_fixed(alloc, child, other, unicode);
     }
+    if let Wrap::Repeat { lo: 1, hi: 1, .. } = wrap {
+        return is_fixed(alloc, child, new, unicode);
+    }
+    Ok(false)
 }
 
 /// Whether the tree is the other one with reports fixed: a quantifier that repeats exactly once is left out, or a branch
@@ -167,86 +160,49 @@ fn is_fixed_absent(
 pub fn is_fixed(alloc: Global, old: &Expr, new: &Expr, unicode: bool) -> Result<bool, AllocError>
     ensures { IfOk result (λ b. IsTrue b → IsFixed unicode (view old.now) (view new.now)) }
 {
-    match old {
-        Expr::Repeat {
-            child,
-            lo,
-            hi,
-            greedy,
-        } => match new {
-            Expr::Repeat {
-                child: other,
-                lo: low,
-                hi: high,
-                greedy: is_greedy,
-            } if *lo == *low && *hi == *high && *greedy == *is_greedy => {
-                is_fixed(alloc, child, other, unicode)
+    match old.shape() {
+        Shape::Leaf => is_fixed_leaf(alloc, old, new, unicode),
+        Shape::Around(wrap, child) => is_fixed_around(alloc, wrap, child, new, unicode),
+        Shape::Alt(branches) => is_fixed_alternation(alloc, branches, new, unicode),
+        Shape::Concat(pieces) => {
+            let Shape::Concat(others) = new.shape() else {
+                return Ok(false);
+            };
+            are_fixed(alloc, pieces, others, unicode)
+        }
+        Shape::Expression { absent, exp } => {
+            let Shape::Expression {
+                absent: other,
+                exp: other_exp,
+            } = new.shape()
+            else {
+                return Ok(false);
+            };
+            if !is_fixed(alloc, absent, other, unicode)? {
+                return Ok(false);
             }
-            _ if *lo == 1 && *hi == 1 => is_fixed(alloc, child, new, unicode),
-            _ => Ok(false),
-        },
-        Expr::Delegate { .. } | Expr::Literal { .. } => { is_fixed_class(alloc, old, new, unicode) }
-        Expr::Alt(branches) => is_fixed_alternation(alloc, branches, new, unicode),
-        Expr::Concat(pieces) => match new {
-            Expr::Concat(others) => are_fixed(alloc, pieces, others, unicode),
-            _ => Ok(false),
-        },
-        Expr::Group(child) => match new {
-            Expr::Group(other) => is_fixed(alloc, child, other, unicode),
-            _ => Ok(false),
-        },
-        Expr::LookAround(child, look) => match new {
-            Expr::LookAround(other, other_look) if *look == *other_look => {
-                is_fixed(alloc, child, other, unicode)
-            }
-            _ => Ok(false),
-        },
-        Expr::AtomicGroup(child) => match new {
-            Expr::AtomicGroup(other) => is_fixed(alloc, child, other, unicode),
-            _ => Ok(false),
-        },
-        Expr::DefineGroup { definitions } => match new {
-            Expr::DefineGroup { definitions: other } => {
-                is_fixed(alloc, definitions, other, unicode)
-            }
-            _ => Ok(false),
-        },
-        Expr::Conditional {
+            is_fixed(alloc, exp, other_exp, unicode)
+        }
+        Shape::Conditional {
             condition,
             true_branch,
             false_branch,
-        } => match new {
-            Expr::Conditional {
+        } => {
+            let Shape::Conditional {
                 condition: other,
                 true_branch: other_true,
                 false_branch: other_false,
-            } => {
-                if !is_fixed(alloc, condition, other, unicode)? {
-                    return Ok(false);
-                }
-                if !is_fixed(alloc, true_branch, other_true, unicode)? {
-                    return Ok(false);
-                }
-                is_fixed(alloc, false_branch, other_false, unicode)
+            } = new.shape()
+            else {
+                return Ok(false);
+            };
+            if !is_fixed(alloc, condition, other, unicode)? {
+                return Ok(false);
             }
-            _ => Ok(false),
-        },
-        Expr::Absent(absent) => match new {
-            Expr::Absent(other) => is_fixed_absent(alloc, absent, other, unicode),
-            _ => Ok(false),
-        },
-        Expr::Empty
-        | Expr::Any { .. }
-        | Expr::Assertion(_)
-        | Expr::GeneralNewline { .. }
-        | Expr::LiteralBytes { .. }
-        | Expr::Backref { .. }
-        | Expr::BackrefWithRelativeRecursionLevel { .. }
-        | Expr::KeepOut
-        | Expr::ContinueFromPreviousMatchEnd
-        | Expr::BackrefExistsCondition { .. }
-        | Expr::SubroutineCall(_)
-        | Expr::BacktrackingControlVerb(_)
-        | Expr::AstNode(..) => Ok(old.is_same_but_for_positions(new)),
+            if !is_fixed(alloc, true_branch, other_true, unicode)? {
+                return Ok(false);
+            }
+            is_fixed(alloc, false_branch, other_false, unicode)
+        }
     }
 }

@@ -1,7 +1,7 @@
 //! The nodes of a tree, as far as formatting needs them.
 use crate::own_part::own_part;
 use fancy_spans::{SpannedNode, SpannedTree};
-use fancy_syntax::expr::Expr;
+use fancy_syntax::expr::{Expr, Shape, Wrap};
 use fancy_syntax::span::Span;
 use std::alloc::{AllocError, Global};
 
@@ -20,38 +20,27 @@ pub(crate) struct Node {
 
 /// Whether a group around the child of the node cannot be left out. In a conditional or an absent form it always stays.
 fn needs_group(node: &Expr, child: &Expr) -> bool {
-    match node {
-        Expr::Group(..) | Expr::LookAround(..) | Expr::AtomicGroup(..) | Expr::DefineGroup { .. } =>
-            false,
-        Expr::Alt(..) => matches!(child, Expr::Alt(..)),
-        Expr::Concat(..) => matches!(child, Expr::Alt(..) | Expr::Concat(..)),
+    match node.shape() {
+        Shape::Alt(_) => matches!(child, Expr::Alt(_)),
+        Shape::Concat(_) => matches!(child, Expr::Alt(_) | Expr::Concat(_)),
         // An atomic group may be made by a quantifier. In the grammars of editors, a back reference may be replaced by
         // a text of several characters.
-        Expr::Repeat { .. } => matches!(
+        Shape::Around(Wrap::Repeat { .. }, _) => matches!(
             child,
-            Expr::Alt(..)
-                | Expr::Concat(..)
+            Expr::Alt(_)
+                | Expr::Concat(_)
                 | Expr::Repeat { .. }
-                | Expr::AtomicGroup(..)
+                | Expr::AtomicGroup(_)
                 | Expr::Backref { .. }
         ),
-        Expr::Conditional { .. }
-        | Expr::Absent(..)
-        | Expr::Empty
-        | Expr::Any { .. }
-        | Expr::Assertion(..)
-        | Expr::GeneralNewline { .. }
-        | Expr::Literal { .. }
-        | Expr::LiteralBytes { .. }
-        | Expr::Delegate { .. }
-        | Expr::Backref { .. }
-        | Expr::BackrefWithRelativeRecursionLevel { .. }
-        | Expr::KeepOut
-        | Expr::ContinueFromPreviousMatchEnd
-        | Expr::BackrefExistsCondition { .. }
-        | Expr::SubroutineCall(..)
-        | Expr::BacktrackingControlVerb(..)
-        | Expr::AstNode(..) => true,
+        Shape::Around(
+            Wrap::Group | Wrap::LookAround(_) | Wrap::AtomicGroup | Wrap::DefineGroup,
+            _,
+        ) => false,
+        Shape::Around(Wrap::Repeater | Wrap::Stopper, _)
+        | Shape::Conditional { .. }
+        | Shape::Expression { .. }
+        | Shape::Leaf => true,
     }
 }
 

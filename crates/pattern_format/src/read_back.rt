@@ -10,7 +10,6 @@ use crate::comments::has_same_comments;
 use crate::kept_comments::keeps_all_comments;
 use crate::style::Style;
 use fancy_lex::error::Error;
-use fancy_pattern::same::is_same_result;
 use fancy_spans::SpannedTree;
 use std::alloc::{AllocError, Global};
 
@@ -32,7 +31,7 @@ pub(crate) fn reads_back(
         Err(Error::ParseError(..)) => return Ok(false),
         Err(Error::OutOfMemory) => return Err(AllocError),
     };
-    if !is_same_result(&parsed.tree, &new.tree) {
+    if !parsed.tree.is_same_but_for_positions(&new.tree) {
         return Ok(false);
     }
     if !keeps_all_comments(alloc, pattern, parsed, text, &new, style)? {

@@ -197,17 +197,6 @@ fn is_json_with(choices: Choices<'_>, settings: &FileSettings<'_>) -> bool
     }
 }
 
-/// The default levels of a file; of JSON, if it is such.
-fn default_levels(is_json: bool) -> Chosen
-    ensures { (rule : Rule) → level_of result.levels rule ≡ default_level is_json rule }
-{
-    if is_json {
-        Chosen::for_values()
-    } else {
-        Chosen::new()
-    }
-}
-
 /// Gives the rules the levels of arguments.
 fn set_arguments(chosen: &mut Chosen, levels: &[RuleLevel<'_>])
     ensures { (rule : Rule) → GiveLevels rule (levels_of_arguments levels.now) (level_of chosen.old.levels rule) (level_of chosen.new.levels rule) }
@@ -225,7 +214,7 @@ pub fn levels_with(choices: Choices<'_>, settings: &FileSettings<'_>) -> Chosen
         (default_level (is_json_file choices.entry (options_of settings.now)) rule) (level_of result.levels rule) }
     ensures verbose { result.is_verbose ≡ choices.entry.is_verbose }
 {
-    let mut chosen = default_levels(is_json_with(choices, settings));
+    let mut chosen = Chosen::by_default(is_json_with(choices, settings));
     settings.set_levels(&mut chosen);
     set_arguments(&mut chosen, choices.levels);
     chosen.is_verbose = choices.is_verbose;

@@ -259,38 +259,32 @@ impl<'a> Ways<'a> {
             group: None,
             is_outermost_loop: false,
         };
-        match node.expr() {
-            Expr::Group(_) => entry.group = Some(self.open(node.span())?),
-            Expr::Repeat { hi, .. } => {
-                if *hi > 1 && self.before_loop.is_none() {
-                    self.before_loop = Some(self.opened);
-                    entry.is_outermost_loop = true;
-                }
-            }
-            Expr::Backref { group, .. } => self.look_at_backref(node.span(), *group)?,
-            Expr::BackrefWithRelativeRecursionLevel { group, .. }
-            | Expr::BackrefExistsCondition { group, .. }
-            | Expr::SubroutineCall(group) => self.refer(*group),
-            Expr::Empty
-            | Expr::Any { .. }
-            | Expr::Assertion(_)
-            | Expr::GeneralNewline { .. }
-            | Expr::Literal { .. }
-            | Expr::LiteralBytes { .. }
-            | Expr::Concat(_)
-            | Expr::Alt(_)
-            | Expr::LookAround(..)
-            | Expr::Delegate { .. }
-            | Expr::AtomicGroup(_)
-            | Expr::KeepOut
-            | Expr::ContinueFromPreviousMatchEnd
-            | Expr::Conditional { .. }
-            | Expr::BacktrackingControlVerb(_)
-            | Expr::DefineGroup { .. }
-            | Expr::Absent(_)
-            | Expr::AstNode(..) => {}
+        if let Expr::Group(_) = node.expr() {
+            entry.group = Some(self.open(node.span())?);
         }
+        if let Expr::Repeat { hi, .. } = node.expr()
+            && *hi > 1
+            && self.before_loop.is_none()
+        {
+            self.before_loop = Some(self.opened);
+            entry.is_outermost_loop = true;
+        }
+        self.look_at_reference(node)?;
         Ok(entry)
+    }
+
+    /// Looks at what the node refers to, if it is a reference.
+    fn look_at_reference(&mut self, node: SpannedNode<'_>) -> Result<(), AllocError> {
+        if let Expr::Backref { group, .. } = node.expr() {
+            self.look_at_backref(node.span(), *group)?;
+        }
+        if let Expr::BackrefWithRelativeRecursionLevel { group, .. }
+        | Expr::BackrefExistsCondition { group, .. }
+        | Expr::SubroutineCall(group) = node.expr()
+        {
+            self.refer(*group);
+        }
+        Ok(())
     }
 
     /// Goes on past a child, in which the groups were closed from the index `from` on. Each branch is a way of its own, and

@@ -10,7 +10,7 @@ use crate::targets::{
 use crate::walk::Walk;
 use class_rules::known_classes::KnownClasses;
 use fancy_spans::SpannedNode;
-use fancy_syntax::expr::{Expr, LookAround};
+use fancy_syntax::expr::{Expr, LookAround, Shape, Wrap};
 use fancy_syntax::span::Span;
 use lint_rules::problem::{Problem, Total};
 use patterns_text::excerpt::{Label, Related};
@@ -88,30 +88,24 @@ fn node_problem(
 /// Whether nothing follows the child of this index in the pattern, or in a group that is left at its first match, where
 /// `is_at_end` says so of the node itself.
 fn is_child_at_end(tree: &Expr, index: usize, is_at_end: bool) -> bool {
-    match tree {
-        Expr::Concat(pieces) => is_at_end && index.saturating_add(1) == pieces.len(),
-        Expr::Alt(_) | Expr::Group(_) => is_at_end,
-        Expr::AtomicGroup(_) => true,
-        Expr::LookAround(_, LookAround::LookAhead | LookAround::LookAheadNeg) => true,
-        Expr::LookAround(_, LookAround::LookBehind | LookAround::LookBehindNeg) => false,
-        Expr::Repeat { lo, .. } => is_at_end && *lo <= 1,
-        Expr::Conditional { .. } => is_at_end && index > 0,
-        Expr::DefineGroup { .. } | Expr::Absent(_) => false,
-        Expr::Empty
-        | Expr::Any { .. }
-        | Expr::Assertion(_)
-        | Expr::GeneralNewline { .. }
-        | Expr::Literal { .. }
-        | Expr::LiteralBytes { .. }
-        | Expr::Delegate { .. }
-        | Expr::Backref { .. }
-        | Expr::BackrefWithRelativeRecursionLevel { .. }
-        | Expr::KeepOut
-        | Expr::ContinueFromPreviousMatchEnd
-        | Expr::BackrefExistsCondition { .. }
-        | Expr::BacktrackingControlVerb(_)
-        | Expr::SubroutineCall(_)
-        | Expr::AstNode(..) => false,
+    match tree.shape() {
+        Shape::Concat(pieces) => is_at_end && index.saturating_add(1) == pieces.len(),
+        Shape::Alt(_) => is_at_end,
+        Shape::Around(wrap, _) => is_around_end(wrap, is_at_end),
+        Shape::Conditional { .. } => is_at_end && index > 0,
+        Shape::Expression { .. } | Shape::Leaf => false,
+    }
+}
+
+/// The same, of the child that this is around.
+fn is_around_end(wrap: Wrap, is_at_end: bool) -> bool {
+    match wrap {
+        Wrap::Group => is_at_end,
+        Wrap::AtomicGroup => true,
+        Wrap::LookAround(LookAround::LookAhead | LookAround::LookAheadNeg) => true,
+        Wrap::LookAround(LookAround::LookBehind | LookAround::LookBehindNeg) => false,
+        Wrap::Repeat { lo, .. } => is_at_end && lo <= 1,
+        Wrap::DefineGroup | Wrap::Repeater | Wrap::Stopper => false,
     }
 }
 
@@ -128,31 +122,13 @@ struct AltBranches<'b> {
 impl<'b> AltBranches<'b> {
     /// Those of the node. After a list of words that is the whole pattern an engine may add `\b`, as for keywords.
     fn of(tree: &'b Expr, about: PatternInfo<'b>, around: Around) -> AltBranches<'b> {
-        let all: &[Expr] = match tree {
-            Expr::Alt(branches) => branches,
-            Expr::Empty
-            | Expr::Any { .. }
-            | Expr::Assertion(_)
-            | Expr::GeneralNewline { .. }
-            | Expr::Literal { .. }
-            | Expr::LiteralBytes { .. }
-            | Expr::Concat(_)
-            | Expr::Group(_)
-            | Expr::LookAround(..)
-            | Expr::Repeat { .. }
-            | Expr::Delegate { .. }
-            | Expr::Backref { .. }
-            | Expr::BackrefWithRelativeRecursionLevel { .. }
-            | Expr::AtomicGroup(_)
-            | Expr::KeepOut
-            | Expr::ContinueFromPreviousMatchEnd
-            | Expr::BackrefExistsCondition { .. }
-            | Expr::Conditional { .. }
-            | Expr::SubroutineCall(_)
-            | Expr::BacktrackingControlVerb(_)
-            | Expr::Absent(_)
-            | Expr::DefineGroup { .. }
-            | Expr::AstNode(..) => &[],
+        let all: &[Expr] = match tree.shape() {
+            Shape::Alt(branches) => branches,
+            Shape::Leaf
+            | Shape::Around(..)
+            | Shape::Concat(_)
+            | Shape::Conditional { .. }
+            | Shape::Expression { .. } => &[],
         };
         AltBranches {
             all,

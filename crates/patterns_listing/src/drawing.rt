@@ -4,7 +4,7 @@ use crate::trivia::write_trivia;
 use class_meaning::characters_of;
 use fancy_lex::flags::Flags;
 use fancy_spans::{SpannedNode, SpannedTree};
-use fancy_syntax::expr::{Absent, Expr};
+use fancy_syntax::expr::{Expr, Shape};
 use fancy_syntax::span::Span;
 use patterns_text::columns::ColumnTable;
 use patterns_text::error::RunError;
@@ -269,37 +269,15 @@ impl Drawing<'_> {
 
 /// What a child is to its parent, where so many follow it.
 pub fn role(parent: &Expr, following: usize) -> &'static str {
-    match parent {
-        Expr::Conditional { .. } => match following {
+    match parent.shape() {
+        Shape::Conditional { .. } => match following {
             2 => "if: ",
             1 => "then: ",
             _ => "else: ",
         },
-        Expr::Absent(Absent::Expression { .. }) if following == 1 => "absent: ",
-        Expr::Absent(Absent::Expression { .. }) => "text: ",
-        Expr::Empty
-        | Expr::Any { .. }
-        | Expr::Assertion(_)
-        | Expr::GeneralNewline { .. }
-        | Expr::Literal { .. }
-        | Expr::LiteralBytes { .. }
-        | Expr::Concat(_)
-        | Expr::Alt(_)
-        | Expr::Group(_)
-        | Expr::LookAround(..)
-        | Expr::Repeat { .. }
-        | Expr::Delegate { .. }
-        | Expr::Backref { .. }
-        | Expr::BackrefWithRelativeRecursionLevel { .. }
-        | Expr::AtomicGroup(_)
-        | Expr::KeepOut
-        | Expr::ContinueFromPreviousMatchEnd
-        | Expr::BackrefExistsCondition { .. }
-        | Expr::SubroutineCall(_)
-        | Expr::BacktrackingControlVerb(_)
-        | Expr::Absent(Absent::Repeater(_) | Absent::Stopper(_) | Absent::Clear)
-        | Expr::DefineGroup { .. }
-        | Expr::AstNode(..) => "",
+        Shape::Expression { .. } if following == 1 => "absent: ",
+        Shape::Expression { .. } => "text: ",
+        Shape::Leaf | Shape::Around(..) | Shape::Concat(_) | Shape::Alt(_) => "",
     }
 }
 

@@ -90,32 +90,10 @@ impl<'a> Words<'a> {
         if is_reference(node) {
             return write_reference(&mut self.buffer, node, &self.names, &self.columns);
         }
-        match node {
-            Expr::Group(_) => write!(self.buffer, "{}", self.names.group(groups)),
-            Expr::Empty
-            | Expr::Any { .. }
-            | Expr::Assertion(_)
-            | Expr::GeneralNewline { .. }
-            | Expr::Literal { .. }
-            | Expr::LiteralBytes { .. }
-            | Expr::Concat(_)
-            | Expr::Alt(_)
-            | Expr::LookAround(..)
-            | Expr::Repeat { .. }
-            | Expr::Delegate { .. }
-            | Expr::Backref { .. }
-            | Expr::BackrefWithRelativeRecursionLevel { .. }
-            | Expr::AtomicGroup(_)
-            | Expr::KeepOut
-            | Expr::ContinueFromPreviousMatchEnd
-            | Expr::BackrefExistsCondition { .. }
-            | Expr::Conditional { .. }
-            | Expr::SubroutineCall(_)
-            | Expr::BacktrackingControlVerb(_)
-            | Expr::Absent(_)
-            | Expr::DefineGroup { .. }
-            | Expr::AstNode(..) => write!(self.buffer, "{}", Held(node)),
+        if let Expr::Group(_) = node {
+            return write!(self.buffer, "{}", self.names.group(groups));
         }
+        write!(self.buffer, "{}", Held(node))
     }
 
     /// What the node is. The number is that of the last group that has opened, the node itself counted.
@@ -126,28 +104,22 @@ impl<'a> Words<'a> {
 
     /// What is written on the node's box; nothing for a node without a box.
     pub(crate) fn on_box(&mut self, node: &Expr, groups: usize) -> io::Result<&str> {
-        match node {
-            Expr::Empty | Expr::Literal { .. } | Expr::Concat(_) | Expr::Alt(_) => Ok(""),
-            Expr::Any { newline, crlf } => Ok(any_words(*newline, *crlf)),
-            Expr::Delegate { inner, .. } => Ok(class_words(inner.as_str())),
-            Expr::Repeat { .. } => Ok(of_repeat(self.of(node, groups)?)),
-            Expr::Assertion(_)
-            | Expr::GeneralNewline { .. }
-            | Expr::LiteralBytes { .. }
-            | Expr::Group(_)
-            | Expr::LookAround(..)
-            | Expr::Backref { .. }
-            | Expr::BackrefWithRelativeRecursionLevel { .. }
-            | Expr::AtomicGroup(_)
-            | Expr::KeepOut
-            | Expr::ContinueFromPreviousMatchEnd
-            | Expr::BackrefExistsCondition { .. }
-            | Expr::Conditional { .. }
-            | Expr::SubroutineCall(_)
-            | Expr::BacktrackingControlVerb(_)
-            | Expr::Absent(_)
-            | Expr::DefineGroup { .. }
-            | Expr::AstNode(..) => Ok(shortened_leaf(node, self.of(node, groups)?)),
+        if matches!(
+            node,
+            Expr::Empty | Expr::Literal { .. } | Expr::Concat(_) | Expr::Alt(_)
+        ) {
+            return Ok("");
         }
+        if let Expr::Any { newline, crlf } = node {
+            return Ok(any_words(*newline, *crlf));
+        }
+        if let Expr::Delegate { inner, .. } = node {
+            return Ok(class_words(inner.as_str()));
+        }
+        let words = self.of(node, groups)?;
+        if let Expr::Repeat { .. } = node {
+            return Ok(of_repeat(words));
+        }
+        Ok(shortened_leaf(node, words))
     }
 }

@@ -1,6 +1,6 @@
 //! How each kind of node is drawn.
 use crate::size::{GAP, LINE, PASS, ROLE, SIDE, Size, WORD_LINE, narrowed};
-use fancy_syntax::expr::{Absent, Expr};
+use fancy_syntax::expr::{Expr, Shape as NodeShape, Wrap};
 
 /// How a node is drawn.
 #[derive(Clone, Copy, PartialEq, Eq)]
@@ -31,33 +31,27 @@ pub(crate) enum Shape {
 impl Shape {
     /// That of the node.
     pub(crate) fn of(node: &Expr) -> Shape {
-        match node {
-            Expr::Empty => Shape::Nothing,
-            Expr::Literal { .. } => Shape::Character,
-            Expr::Concat(_) => Shape::Row,
-            Expr::Alt(_) => Shape::Fork,
-            Expr::Repeat { lo, hi, .. } => Shape::Loop {
-                repeats: *hi > 1,
-                skips: *lo == 0,
+        match node.shape() {
+            NodeShape::Leaf if matches!(node, Expr::Empty) => Shape::Nothing,
+            NodeShape::Leaf if matches!(node, Expr::Literal { .. }) => Shape::Character,
+            NodeShape::Leaf => Shape::Leaf,
+            NodeShape::Concat(_) => Shape::Row,
+            NodeShape::Alt(_) => Shape::Fork,
+            NodeShape::Around(Wrap::Repeat { lo, hi, .. }, _) => Shape::Loop {
+                repeats: hi > 1,
+                skips: lo == 0,
             },
-            Expr::Group(_) | Expr::LookAround(..) | Expr::AtomicGroup(_) => Shape::Frame,
-            Expr::Absent(Absent::Repeater(_) | Absent::Stopper(_)) => Shape::Frame,
-            Expr::Absent(Absent::Expression { .. }) => Shape::Parts,
-            Expr::Conditional { .. } | Expr::DefineGroup { .. } => Shape::Parts,
-            Expr::Any { .. }
-            | Expr::Assertion(_)
-            | Expr::GeneralNewline { .. }
-            | Expr::LiteralBytes { .. }
-            | Expr::Delegate { .. }
-            | Expr::Backref { .. }
-            | Expr::BackrefWithRelativeRecursionLevel { .. }
-            | Expr::KeepOut
-            | Expr::ContinueFromPreviousMatchEnd
-            | Expr::BackrefExistsCondition { .. }
-            | Expr::SubroutineCall(_)
-            | Expr::BacktrackingControlVerb(_)
-            | Expr::Absent(Absent::Clear)
-            | Expr::AstNode(..) => Shape::Leaf,
+            NodeShape::Around(
+                Wrap::Group
+                | Wrap::LookAround(_)
+                | Wrap::AtomicGroup
+                | Wrap::Repeater
+                | Wrap::Stopper,
+                _,
+            ) => Shape::Frame,
+            NodeShape::Around(Wrap::DefineGroup, _)
+            | NodeShape::Conditional { .. }
+            | NodeShape::Expression { .. } => Shape::Parts,
         }
     }
 

@@ -61,32 +61,14 @@ fn is_insensitive(node: &Expr) -> bool {
 
 /// The number of the group that the node refers to.
 fn referred(node: &Expr) -> Option<usize> {
-    match node {
-        Expr::Backref { group, .. }
-        | Expr::BackrefWithRelativeRecursionLevel { group, .. }
-        | Expr::BackrefExistsCondition { group, .. }
-        | Expr::SubroutineCall(group) => Some(*group),
-        Expr::Empty
-        | Expr::Any { .. }
-        | Expr::Assertion(_)
-        | Expr::GeneralNewline { .. }
-        | Expr::Literal { .. }
-        | Expr::LiteralBytes { .. }
-        | Expr::Concat(_)
-        | Expr::Alt(_)
-        | Expr::Group(_)
-        | Expr::LookAround(..)
-        | Expr::Repeat { .. }
-        | Expr::Delegate { .. }
-        | Expr::AtomicGroup(_)
-        | Expr::KeepOut
-        | Expr::ContinueFromPreviousMatchEnd
-        | Expr::Conditional { .. }
-        | Expr::BacktrackingControlVerb(_)
-        | Expr::Absent(_)
-        | Expr::DefineGroup { .. }
-        | Expr::AstNode(..) => None,
+    if let Expr::Backref { group, .. }
+    | Expr::BackrefWithRelativeRecursionLevel { group, .. }
+    | Expr::BackrefExistsCondition { group, .. }
+    | Expr::SubroutineCall(group) = node
+    {
+        return Some(*group);
     }
+    None
 }
 
 /// Writes a text that begins, or is centred, at a point.

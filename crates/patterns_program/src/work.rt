@@ -76,7 +76,7 @@ impl<'a> Work<'a> {
             alloc,
             job,
             flags,
-            levels: Chosen::new(),
+            levels: Chosen::by_default(false),
             has_file: true,
             changes: Changes::none(alloc, Kept::Records(Vec::new(alloc))),
             known: Known::new(alloc, flags),

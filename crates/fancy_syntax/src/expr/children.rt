@@ -6,43 +6,17 @@ ghost use Rattle.fancy_syntax.specs.Children.{children_of, remaining_children};
 ghost use Rattle.fancy_grammar.specs.Tree.{children, is_leaf};
 ghost use Rattle.fancy_syntax.specs.View.{view, views};
 
-use super::{Absent, Expr};
+use super::{Expr, Shape};
 use std::slice;
 
 impl Expr {
     /// Returns whether the node is of a kind that never has children: `Absent::Clear` is, an empty `Concat` is not, and
     /// every `AstNode` is.
-    #[tactic(auto, using(crate::proofs::ChildrenLemmas::leaf_children))]
     pub fn is_leaf_node(&self) -> bool
         ensures value { result ≡ is_leaf (view self.now) }
         ensures childless { OnTrue result (children (view self.now) ≡ []) }
     {
-        match self {
-            Expr::Concat(_)
-            | Expr::Alt(_)
-            | Expr::Group(_)
-            | Expr::LookAround(..)
-            | Expr::Repeat { .. }
-            | Expr::AtomicGroup(_)
-            | Expr::Conditional { .. }
-            | Expr::DefineGroup { .. } => false,
-            Expr::Absent(absent) => matches!(absent, Absent::Clear),
-            Expr::Empty
-            | Expr::Any { .. }
-            | Expr::Assertion(_)
-            | Expr::GeneralNewline { .. }
-            | Expr::Literal { .. }
-            | Expr::LiteralBytes { .. }
-            | Expr::Delegate { .. }
-            | Expr::Backref { .. }
-            | Expr::BackrefWithRelativeRecursionLevel { .. }
-            | Expr::KeepOut
-            | Expr::ContinueFromPreviousMatchEnd
-            | Expr::BackrefExistsCondition { .. }
-            | Expr::SubroutineCall(_)
-            | Expr::BacktrackingControlVerb(_)
-            | Expr::AstNode(..) => true,
-        }
+        matches!(self.shape(), Shape::Leaf)
     }
 
     /// Returns an iterator over the immediate children, in the order of the text: for a `Conditional` the condition and
@@ -54,27 +28,17 @@ impl Expr {
     ///     visit(child);
     /// }
     /// ```
-    #[tactic(auto, using(crate::proofs::ChildrenLemmas::children_Concat, crate::proofs::ChildrenLemmas::children_Alt))]
+    #[tactic(auto, using(crate::proofs::ChildrenLemmas::leaf_children, crate::proofs::ChildrenLemmas::concat_children, crate::proofs::ChildrenLemmas::alt_children))]
     pub fn children_iter(&self) -> ExprChildrenIter<'_>
         ensures trees { views (remaining_children result) ≡ children (view self.now) }
         ensures values { remaining_children result ≡ children_of self.now }
     {
-        match self {
-            Expr::Concat(children) => ExprChildrenIter::Vec(children.iter()),
-            Expr::Alt(children) => ExprChildrenIter::Vec(children.iter()),
-            Expr::Group(child)
-            | Expr::LookAround(child, _)
-            | Expr::Repeat { child, .. }
-            | Expr::AtomicGroup(child)
-            | Expr::DefineGroup { definitions: child }
-            | Expr::Absent(Absent::Repeater(child))
-            | Expr::Absent(Absent::Stopper(child)) => ExprChildrenIter::Single(Some(child)),
-            Expr::Absent(Absent::Expression { absent, exp }) => ExprChildrenIter::Triple {
-                first: Some(absent),
-                second: Some(exp),
-                third: None,
-            },
-            Expr::Conditional {
+        match self.shape() {
+            Shape::Leaf => ExprChildrenIter::Empty,
+            Shape::Around(_, child) => ExprChildrenIter::Single(Some(child)),
+            Shape::Concat(trees) => ExprChildrenIter::Vec(trees.iter()),
+            Shape::Alt(trees) => ExprChildrenIter::Vec(trees.iter()),
+            Shape::Conditional {
                 condition,
                 true_branch,
                 false_branch,
@@ -83,22 +47,11 @@ impl Expr {
                 second: Some(true_branch),
                 third: Some(false_branch),
             },
-            Expr::Empty
-            | Expr::Any { .. }
-            | Expr::Assertion(_)
-            | Expr::GeneralNewline { .. }
-            | Expr::Literal { .. }
-            | Expr::LiteralBytes { .. }
-            | Expr::Delegate { .. }
-            | Expr::Backref { .. }
-            | Expr::BackrefWithRelativeRecursionLevel { .. }
-            | Expr::KeepOut
-            | Expr::ContinueFromPreviousMatchEnd
-            | Expr::BackrefExistsCondition { .. }
-            | Expr::SubroutineCall(_)
-            | Expr::BacktrackingControlVerb(_)
-            | Expr::Absent(Absent::Clear)
-            | Expr::AstNode(..) => ExprChildrenIter::Empty,
+            Shape::Expression { absent, exp } => ExprChildrenIter::Triple {
+                first: Some(absent),
+                second: Some(exp),
+                third: None,
+            },
         }
     }
 }

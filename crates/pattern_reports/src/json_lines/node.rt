@@ -66,58 +66,32 @@ fn write_target(writer: &mut Writer, target: &CaptureGroupTarget) -> Result<(), 
 
 /// Writes the fields of a node that refers to a group; nothing for another.
 fn write_reference_fields(writer: &mut Writer, node: &Expr) -> Result<(), AllocError> {
-    match node {
-        Expr::Backref { group, casei } => {
-            write_number(writer, "group", *group as u64)?;
-            write_bool(writer, "casei", *casei)
-        }
-        Expr::BackrefWithRelativeRecursionLevel {
-            group,
-            relative_level,
-            casei,
-        } => {
-            write_number(writer, "group", *group as u64)?;
-            write_level(writer, "relative_level", Some(*relative_level))?;
-            write_bool(writer, "casei", *casei)
-        }
-        Expr::BackrefExistsCondition {
-            group,
-            relative_recursion_level,
-        } => {
-            write_number(writer, "group", *group as u64)?;
-            write_level(
-                writer,
-                "relative_recursion_level",
-                *relative_recursion_level,
-            )
-        }
-        Expr::SubroutineCall(group) => write_number(writer, "group", *group as u64),
-        Expr::AstNode(AstNode::SubroutineCall(target), position) => {
-            write_text(writer, "node", "SubroutineCall")?;
-            write_target(writer, target)?;
-            write_number(writer, "position", *position as u64)
-        }
-        Expr::Empty
-        | Expr::Any { .. }
-        | Expr::Assertion(_)
-        | Expr::GeneralNewline { .. }
-        | Expr::Literal { .. }
-        | Expr::LiteralBytes { .. }
-        | Expr::Concat(_)
-        | Expr::Alt(_)
-        | Expr::Group(_)
-        | Expr::LookAround(..)
-        | Expr::Repeat { .. }
-        | Expr::Delegate { .. }
-        | Expr::AtomicGroup(_)
-        | Expr::KeepOut
-        | Expr::ContinueFromPreviousMatchEnd
-        | Expr::Conditional { .. }
-        | Expr::BacktrackingControlVerb(_)
-        | Expr::Absent(_)
-        | Expr::DefineGroup { .. }
-        | Expr::AstNode(..) => Ok(()),
+    if let Expr::Backref { group, .. }
+    | Expr::BackrefWithRelativeRecursionLevel { group, .. }
+    | Expr::BackrefExistsCondition { group, .. }
+    | Expr::SubroutineCall(group) = node
+    {
+        write_number(writer, "group", *group as u64)?;
     }
+    if let Expr::BackrefWithRelativeRecursionLevel { relative_level, .. } = node {
+        write_level(writer, "relative_level", Some(*relative_level))?;
+    }
+    if let Expr::BackrefExistsCondition {
+        relative_recursion_level: level,
+        ..
+    } = node
+    {
+        write_level(writer, "relative_recursion_level", *level)?;
+    }
+    if let Expr::Backref { casei, .. } | Expr::BackrefWithRelativeRecursionLevel { casei, .. } = node {
+        write_bool(writer, "casei", *casei)?;
+    }
+    if let Expr::AstNode(AstNode::SubroutineCall(target), position) = node {
+        write_text(writer, "node", "SubroutineCall")?;
+        write_target(writer, target)?;
+        write_number(writer, "position", *position as u64)?;
+    }
+    Ok(())
 }
 
 /// Writes the limits of a repeat; the upper one is null where there is none.

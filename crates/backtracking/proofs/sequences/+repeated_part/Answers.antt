@@ -4,12 +4,12 @@ use Rattle.fancy_syntax.specs.View.{view}
 use Rattle.backtracking.proofs.SequenceLemmas.{is_repeat, group_of_repeat}
 use Rattle.backtracking.proofs.sequences.+repeated_part.Goals as goal
 
-pub returns-in-Repeat : goal.returns-in-Repeat
-returns-in-Repeat t c =
-    is_repeat c.args.tree.now c.deref.result.now c.in-Repeat.child c.in-Repeat.lo c.in-Repeat.hi c.in-Repeat.greedy c.in-Repeat.is
-    c.deref.ensures (omega arith)
+pub returns : goal.returns
+returns t c =
+    is_repeat c.args.tree.now c.deref-2.result.now c.in-Repeat.child c.in-Repeat.lo c.in-Repeat.hi c.in-Repeat.greedy
+    c.in-Repeat.is c.deref-2.ensures (omega arith)
 
 pub returns-in-Group : goal.returns-in-Group
 returns-in-Group t c = IfSome_then c.repeated_part.result c.repeated_part.ensures
-    (λ part k. group_of_repeat c.args.tree.now c.deref-in-Group.result.now (view part.now) c.in-Group.child c.in-Group.is
-    c.deref-in-Group.ensures k)
+    (λ part k. group_of_repeat c.args.tree.now c.deref.result.now (view part.now) c.in-Group.child c.in-Group.is
+    c.deref.ensures k)

@@ -36,11 +36,11 @@ returns-in-Any c =
     rw (c.in-Any.is, view_any c.in-Any.newline c.in-Any.crlf)
     (of_same c.read-in-Any.result _ _ _ _ c.config_of_dot.ensures dot_text c.read-in-Any.ensures.meaning)
 
-pub returns-in_ok-text-in-Literal : goal.returns-in_ok-text-in-Literal
-returns-in_ok-text-in-Literal c =
-    let text = c.in_ok-text-in-Literal.text in
+pub returns-in-Literal : goal.returns-in-Literal
+returns-in-Literal c =
+    let text = c.in_ok-text.text in
     let written = ap chars c.as_str-in-Literal-2.ensures.value
-    ∙ chars_written text _ c.in_ok-text-in-Literal.ensures.value
+    ∙ chars_written text _ c.in_ok-text.ensures.value
     ∙ ap (λ bytes. escaped_text (chars bytes)) c.as_str-in-Literal.ensures.value in
     rw (c.in-Literal.is, view_literal c.in-Literal.val c.in-Literal.casei)
     (of_same c.read.result _ _ _ _ c.config.ensures written c.read.ensures.meaning)

@@ -6,3 +6,8 @@ pub returns-in-Delegate : goal.returns-in-Delegate
 returns-in-Delegate c =
     let e = c.delegate_needs.ensures c.args.oniguruma_mode in
     search (rules, the_lemmas, e, c.as_str-in-Delegate.ensures.value)
+
+pub returns-in-Any : goal.returns-in-Any
+returns-in-Any c =
+    let e = c.any_needs.ensures c.args.oniguruma_mode in
+    search (rules, the_lemmas, e)

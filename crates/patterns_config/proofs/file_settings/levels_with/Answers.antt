@@ -9,5 +9,5 @@ pub returns-clause-exact : goal.returns-clause-exact
 returns-clause-exact c rule =
     given_both
     (subst (λ before. GiveLevels rule (levels_of_options (options_of c.args.settings.now)) before (level_of c.set_levels.new.chosen.levels rule))
-    (c.default_levels-chosen.ensures rule ∙ ap (λ is_json. default_level is_json rule) c.is_json_with.ensures) (c.set_levels.ensures rule))
+    (c.by_default-chosen.ensures rule ∙ ap (λ is_json. default_level is_json rule) c.is_json_with.ensures) (c.set_levels.ensures rule))
     (c.set_arguments.ensures rule)

@@ -1,7 +1,7 @@
 use Rattle.std.proofs.Common.{ap, sym, ◌∙◌}
 use Rattle.fancy_grammar.specs.GroupInfo.{GroupInfo}
-use Rattle.fancy_pattern.proofs.InfoLemmas.{differs, contrary, info_same, flags_equal, numbers_equal}
-use Rattle.fancy_pattern.proofs.same.have_same_info.Goals as goal
+use Rattle.fancy_syntax.proofs.InfoLemmas.{differs, contrary, info_same, flags_equal, numbers_equal}
+use Rattle.fancy_syntax.proofs.tree.equality.have_same_info.Goals as goal
 
 pub returns-then-not-have_same_names : goal.returns-then-not-have_same_names
 returns-then-not-have_same_names c =

@@ -1,5 +1,5 @@
-use Rattle.fancy_pattern.proofs.InfoLemmas.{differs}
-use Rattle.fancy_pattern.proofs.same.is_same_result.Goals as goal
+use Rattle.fancy_syntax.proofs.InfoLemmas.{differs}
+use Rattle.fancy_syntax.proofs.tree.ExprTree.is_same_but_for_positions.Goals as goal
 
 pub returns-then-not-have_same_info : goal.returns-then-not-have_same_info
 returns-then-not-have_same_info c = differs _ c.have_same_info.ensures c.if-not-have_same_info.true (λ q. q.1)

@@ -1,6 +1,6 @@
 use Rattle.pattern_fixes.proofs.FixedLemmas.{if_true}
 use Rattle.pattern_fixes.specs.Fixed as fixed
-use Rattle.pattern_fixes.proofs.tree.is_fixed_class.Goals as goal
+use Rattle.pattern_fixes.proofs.tree.is_fixed_leaf.Goals as goal
 
 pub returns-then-is_same_but_for_positions : goal.returns-then-is_same_but_for_positions
 returns-then-is_same_but_for_positions c =

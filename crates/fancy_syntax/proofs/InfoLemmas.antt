@@ -133,7 +133,3 @@ differs r d e f = (λ h. absurd (false≢true h), λ q. sym e ∙ d.1 (f q))
 
 pub contrary : {Q : Type 0} → (Q → false ≡ true) → Decides false Q
 contrary f = (λ h. absurd (false≢true h), f)
-
-pub decides_false : {Q : Type 0} (b : Bool) → b ≡ false → (Q → ⊥) → Decides b Q
-decides_false true e f = absurd (false≢true (sym e))
-decides_false false e f = contrary (λ q. absurd (f q))
