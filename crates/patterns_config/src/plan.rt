@@ -1,4 +1,6 @@
 //! Which files a run reads, and the configuration of each.
+ghost use Rattle.std.specs.Prelude.{◌≡◌, false, IsTrue, IsSome, IfOk, OnOk};
+
 use crate::choices::Choices;
 use crate::configs::{
     ConfigFinder, FolderConfig, FoundConfig, HERE, folder_of, joined, name_of, system_error,
@@ -93,13 +95,17 @@ struct Planner<'a, S, E> {
 
 impl<S: System, E: Write> Planner<'_, S, E> {
     /// Says why a file or a folder is not read.
-    fn report(&mut self, name: &str, reason: &str) -> io::Result<()> {
+    fn report(&mut self, name: &str, reason: &str) -> io::Result<()>
+        ensures { self.new.is_complete ≡ false }
+    {
         self.is_complete = false;
         writeln!(self.finder.err, "patterns: {}: {reason}", Shown(name))
     }
 
     /// Says that a file or a folder cannot be read.
-    fn unread(&mut self, name: &str, error: io::Error) -> Result<(), RunError> {
+    fn unread(&mut self, name: &str, error: io::Error) -> Result<(), RunError>
+        ensures { OnOk result (self.new.is_complete ≡ false) }
+    {
         let error = system_error(error)?;
         let reason = format!(in self.alloc; "{error}")?;
         self.report(name, reason.as_str())?;
@@ -112,7 +118,10 @@ impl<S: System, E: Write> Planner<'_, S, E> {
         name: &str,
         folder: &str,
         path: Option<&str>,
-    ) -> Result<Option<PlannedFile>, RunError> {
+    ) -> Result<Option<PlannedFile>, RunError>
+        ensures stays { IsTrue self.new.is_complete → IsTrue self.old.is_complete }
+        ensures found { IsTrue self.new.is_complete → IfOk result (λ planned. IsSome planned) }
+    {
         let config = match self.finder.of_folder(folder)? {
             FolderConfig::Absent => None,
             FolderConfig::Found(index) => Some(index),
@@ -133,7 +142,10 @@ impl<S: System, E: Write> Planner<'_, S, E> {
     }
 
     /// What has no file, and is of the current folder.
-    fn planned_here(&mut self, name: &str) -> Result<Option<PlannedFile>, RunError> {
+    fn planned_here(&mut self, name: &str) -> Result<Option<PlannedFile>, RunError>
+        ensures stays { OnOk result (IsTrue self.new.is_complete → IsTrue self.old.is_complete) }
+        ensures found { IsTrue self.new.is_complete → IfOk result (λ planned. IsSome planned) }
+    {
         match self.finder.absolute(HERE) {
             Ok(folder) => self.planned(name, folder.as_str(), None),
             Err(error) => {
@@ -144,7 +156,9 @@ impl<S: System, E: Write> Planner<'_, S, E> {
     }
 
     /// Adds a file that is named as an argument.
-    fn add_file(&mut self, file: &str) -> Result<(), RunError> {
+    fn add_file(&mut self, file: &str) -> Result<(), RunError>
+        ensures { OnOk result (IsTrue self.new.is_complete → IsTrue self.old.is_complete) }
+    {
         let folder = match self.finder.absolute(folder_of(file)) {
             Ok(folder) => folder,
             Err(error) => return self.unread(file, error),
@@ -252,7 +266,9 @@ impl<S: System, E: Write> Planner<'_, S, E> {
     }
 
     /// Adds the files of a folder that is named as an argument. It is reported if there are none.
-    fn add_folder(&mut self, folder: &str) -> Result<(), RunError> {
+    fn add_folder(&mut self, folder: &str) -> Result<(), RunError>
+        ensures { OnOk result (IsTrue self.new.is_complete → IsTrue self.old.is_complete) }
+    {
         let path = match self.finder.absolute(folder) {
             Ok(path) => path,
             Err(error) => return self.unread(folder, error),
@@ -269,7 +285,9 @@ impl<S: System, E: Write> Planner<'_, S, E> {
     }
 
     /// Adds what an argument names.
-    fn add(&mut self, name: &str) -> Result<(), RunError> {
+    fn add(&mut self, name: &str) -> Result<(), RunError>
+        ensures { OnOk result (IsTrue self.new.is_complete → IsTrue self.old.is_complete) }
+    {
         if name == STANDARD_INPUT {
             if let Some(planned) = self.planned_here(name)? {
                 self.files.push(planned)?;
@@ -282,20 +300,37 @@ impl<S: System, E: Write> Planner<'_, S, E> {
         }
     }
 
+    /// The patterns that are arguments, if there are some that are read.
+    fn planned_arguments(&mut self, has_arguments: bool) -> Result<Option<PlannedFile>, RunError>
+        ensures { IsTrue self.new.is_complete → IsTrue has_arguments → IfOk result (λ planned. IsSome planned) }
+    {
+        if !has_arguments {
+            return Ok(None);
+        }
+        self.planned_here(STANDARD_INPUT)
+    }
+
+    /// Adds what each of the arguments names.
+    fn add_names(&mut self, names: &[&str]) -> Result<(), RunError>
+        ensures { OnOk result (IsTrue self.new.is_complete → IsTrue self.old.is_complete) }
+    {
+        for name in names {
+            self.add(name)?;
+        }
+        Ok(())
+    }
+
     /// Adds what the arguments name, and returns the patterns that are arguments themselves.
-    fn add_all(&mut self, request: PlanRequest<'_>) -> Result<Option<PlannedFile>, RunError> {
+    fn add_all(&mut self, request: PlanRequest<'_>) -> Result<Option<PlannedFile>, RunError>
+        ensures { IsTrue self.new.is_complete → IsTrue request.entry.has_arguments →
+            IfOk result (λ planned. IsSome planned) }
+    {
         if self.finder.begin(request.choices.config)? {
             self.is_complete = false;
             return Ok(None);
         }
-        let arguments = if request.has_arguments {
-            self.planned_here(STANDARD_INPUT)?
-        } else {
-            None
-        };
-        for name in request.names {
-            self.add(name)?;
-        }
+        let arguments = self.planned_arguments(request.has_arguments)?;
+        self.add_names(request.names)?;
         Ok(arguments)
     }
 }
@@ -315,7 +350,10 @@ impl Plan {
         request: PlanRequest<'_>,
         sources: &'a S,
         err: &'a mut E,
-    ) -> Result<Plan, RunError> {
+    ) -> Result<Plan, RunError>
+        ensures arguments { IfOk result (λ plan. IsTrue plan.is_complete → IsTrue request.entry.has_arguments
+            → IsSome plan.arguments) }
+    {
         let mut planner = Planner {
             alloc,
             has_no_json: request.has_no_json,

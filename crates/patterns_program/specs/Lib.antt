@@ -1,3 +1,4 @@
+pub mod Accepted
 pub mod Line
 pub mod Progress
 pub mod Rewriting

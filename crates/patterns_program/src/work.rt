@@ -1,4 +1,11 @@
 //! The work of a run on one pattern after another, whatever files they are in. What it writes is kept in memory.
+ghost use Rattle.std.specs.Prelude.{◌≡◌, Ok, IfOk, unwrap_or};
+ghost use Rattle.patterns_program.specs.Accepted.{IsEntryAccepted};
+ghost use Rattle.patterns_program.specs.Rewriting.{StaysWith};
+ghost use Rattle.patterns_program.specs.declared.job.Command.{Command};
+ghost use Rattle.patterns_program.specs.declared.outcome.Outcome.{Outcome};
+ghost use Rattle.patterns_text.specs.Subject.{IsAccepted};
+
 use crate::change::{write_change, write_ended};
 use crate::changes::{Changes, Kept, PatternChange, Unwritten, change_of};
 use crate::check::check;
@@ -70,7 +77,9 @@ pub(crate) struct Work<'a> {
 
 impl<'a> Work<'a> {
     /// Before the first of so many files.
-    pub(crate) fn new(alloc: Global, job: Job<'a>, files: usize) -> Work<'a> {
+    pub(crate) fn new(alloc: Global, job: Job<'a>, files: usize) -> Work<'a>
+        ensures { result.job ≡ job.entry }
+    {
         let flags = job.choices.flags;
         Work {
             alloc,
@@ -90,14 +99,20 @@ impl<'a> Work<'a> {
     }
 
     /// Begins a file whose patterns are parsed under these flags, with these levels of rules.
-    pub(crate) fn begin(&mut self, flags: u32, levels: Chosen) {
+    pub(crate) fn begin(&mut self, flags: u32, levels: Chosen)
+        ensures job { self.new.job ≡ self.old.job }
+        ensures flags { self.new.flags ≡ flags }
+    {
         self.flags = flags;
         self.levels = levels;
         self.begin_pass(Kept::Records(Vec::new(self.alloc)));
     }
 
     /// Begins a pass over a file, in which these patterns stay.
-    fn begin_pass(&mut self, kept: Kept) {
+    fn begin_pass(&mut self, kept: Kept)
+        ensures job { self.new.job ≡ self.old.job }
+        ensures flags { self.new.flags ≡ self.old.flags }
+    {
         self.changes = Changes::none(self.alloc, kept);
     }
 
@@ -119,7 +134,10 @@ impl<'a> Work<'a> {
     }
 
     /// Forgets the classes of other patterns, if those were parsed under other flags.
-    fn see_flags(&mut self, flags: u32) {
+    fn see_flags(&mut self, flags: u32)
+        ensures job { self.new.job ≡ self.old.job }
+        ensures flags { self.new.flags ≡ self.old.flags }
+    {
         if flags != self.known_flags {
             self.known = Known::new(self.alloc, flags);
             self.known_flags = flags;
@@ -142,7 +160,9 @@ impl<'a> Work<'a> {
     }
 
     /// The pattern of an entry, where it is with the changes of those before it.
-    fn subject<'s>(&self, entry: Entry<'s>) -> Subject<'s> {
+    fn subject<'s>(&self, entry: Entry<'s>) -> Subject<'s>
+        ensures { IsAccepted result → IsEntryAccepted self.now.flags entry.entry }
+    {
         Subject {
             alloc: self.alloc,
             flags: entry.flags.unwrap_or(self.flags),
@@ -168,7 +188,9 @@ impl<'a> Work<'a> {
     }
 
     /// Writes what comes before all reports.
-    pub(crate) fn begin_reports(&mut self) -> Result<(), RunError> {
+    pub(crate) fn begin_reports(&mut self) -> Result<(), RunError>
+        ensures { self.new.job ≡ self.old.job }
+    {
         let options = self.options();
         let is_lint = self.job.command == Command::Lint;
         Reports::new(options, &mut self.reported, &mut self.log).begin(self.alloc, is_lint)
@@ -186,7 +208,12 @@ impl<'a> Work<'a> {
         subject: Subject<'_>,
         grammar: Option<&GrammarRule>,
         has_fixes: bool,
-    ) -> Result<Rewriting, RunError> {
+    ) -> Result<Rewriting, RunError>
+        ensures job { self.new.job ≡ self.old.job }
+        ensures flags { self.new.flags ≡ self.old.flags }
+        ensures check { self.old.job.command ≡ Command.Check → IfOk result
+            (StaysWith (λ outcome. outcome ≡ Outcome.Good → IsAccepted subject.entry)) }
+    {
         let options = self.options();
         let mut reports = Reports::new(options, &mut self.reported, &mut self.log);
         match self.job.command {
@@ -223,7 +250,12 @@ impl<'a> Work<'a> {
     }
 
     /// Does the work on the pattern of an entry, and returns its outcome.
-    pub(crate) fn process(&mut self, entry: Entry<'_>) -> Result<Outcome, RunError> {
+    pub(crate) fn process(&mut self, entry: Entry<'_>) -> Result<Outcome, RunError>
+        ensures job { self.new.job ≡ self.old.job }
+        ensures flags { self.new.flags ≡ self.old.flags }
+        ensures check { self.old.job.command ≡ Command.Check → result ≡ Ok Outcome.Good
+            → IsEntryAccepted self.old.flags entry.entry }
+    {
         self.see_flags(entry.flags.unwrap_or(self.flags));
         self.end_last(entry.end)?;
         let subject = self.subject(entry);
@@ -249,7 +281,10 @@ impl<'a> Work<'a> {
         subject: Subject<'_>,
         entry: Entry<'_>,
         text: String,
-    ) -> Result<Outcome, RunError> {
+    ) -> Result<Outcome, RunError>
+        ensures job { self.new.job ≡ self.old.job }
+        ensures flags { self.new.flags ≡ self.old.flags }
+    {
         let command = self.job.command;
         let mut text = text;
         if command == Command::Lint {
@@ -271,7 +306,10 @@ impl<'a> Work<'a> {
     }
 
     /// Says why a pattern stays as it is.
-    fn write_unwritten(&mut self, subject: Subject<'_>, reason: Unwritten) -> io::Result<()> {
+    fn write_unwritten(&mut self, subject: Subject<'_>, reason: Unwritten) -> io::Result<()>
+        ensures job { self.new.job ≡ self.old.job }
+        ensures flags { self.new.flags ≡ self.old.flags }
+    {
         let Location { file, spot, .. } = subject.at;
         let err = &mut self.shown.err;
         match spot {
@@ -291,7 +329,10 @@ impl<'a> Work<'a> {
         subject: Subject<'_>,
         entry: Entry<'_>,
         text: &str,
-    ) -> Result<Outcome, RunError> {
+    ) -> Result<Outcome, RunError>
+        ensures job { self.new.job ≡ self.old.job }
+        ensures flags { self.new.flags ≡ self.old.flags }
+    {
         self.show(subject, text)?;
         if self.writes_all() {
             write_ended(&mut self.shown.out, text, entry.end)?;
@@ -307,7 +348,10 @@ impl<'a> Work<'a> {
         entry: Entry<'_>,
         text: &str,
         change: PatternChange,
-    ) -> Result<Outcome, RunError> {
+    ) -> Result<Outcome, RunError>
+        ensures job { self.new.job ≡ self.old.job }
+        ensures flags { self.new.flags ≡ self.old.flags }
+    {
         self.show(subject, text)?;
         let spot = match &change {
             PatternChange::InFile(_) => subject.at.spot,
@@ -323,7 +367,10 @@ impl<'a> Work<'a> {
     }
 
     /// Counts a pattern that becomes the text, and shows the change if it is only shown.
-    fn show(&mut self, subject: Subject<'_>, text: &str) -> Result<(), RunError> {
+    fn show(&mut self, subject: Subject<'_>, text: &str) -> Result<(), RunError>
+        ensures job { self.new.job ≡ self.old.job }
+        ensures flags { self.new.flags ≡ self.old.flags }
+    {
         let tally = &mut self.tally;
         let is_shown = self.job.output == Output::Diff;
         let count = match self.job.command {
@@ -344,7 +391,10 @@ impl<'a> Work<'a> {
         subject: Subject<'_>,
         grammar: Option<&GrammarRule>,
         text: &str,
-    ) -> Result<Outcome, RunError> {
+    ) -> Result<Outcome, RunError>
+        ensures job { self.new.job ≡ self.old.job }
+        ensures flags { self.new.flags ≡ self.old.flags }
+    {
         if self.job.command != Command::Lint {
             return Ok(Outcome::Good);
         }
@@ -360,7 +410,10 @@ impl<'a> Work<'a> {
         &mut self,
         subject: Subject<'_>,
         grammar: Option<&GrammarRule>,
-    ) -> Result<Outcome, RunError> {
+    ) -> Result<Outcome, RunError>
+        ensures job { self.new.job ≡ self.old.job }
+        ensures flags { self.new.flags ≡ self.old.flags }
+    {
         match self.rewrite(subject, grammar, false)? {
             Rewriting::Stays(outcome) => Ok(outcome),
             Rewriting::Changed(_) => Ok(Outcome::Refused),
@@ -373,7 +426,10 @@ impl<'a> Work<'a> {
         subject: Subject<'_>,
         entry: Entry<'_>,
         text: &str,
-    ) -> Result<Outcome, RunError> {
+    ) -> Result<Outcome, RunError>
+        ensures job { self.new.job ≡ self.old.job }
+        ensures flags { self.new.flags ≡ self.old.flags }
+    {
         if self.job.command == Command::Lint {
             return self.report(subject, entry.grammar);
         }
@@ -383,7 +439,10 @@ impl<'a> Work<'a> {
     }
 
     /// Where patterns are written, ends the last one of the file before, if it had no end, since one that ends so comes next.
-    pub(crate) fn end_last(&mut self, end: &[u8]) -> Result<(), AllocError> {
+    pub(crate) fn end_last(&mut self, end: &[u8]) -> Result<(), AllocError>
+        ensures job { self.new.job ≡ self.old.job }
+        ensures flags { self.new.flags ≡ self.old.flags }
+    {
         if let (Output::Patterns, Written::Unended) = (self.job.output, self.written) {
             let end = self.job.choices.form.ending().byte();
             self.shown.out.push(end)?;
