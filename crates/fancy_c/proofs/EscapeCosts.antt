@@ -34,7 +34,7 @@ use Rattle.fancy_lex.specs.LayoutSteps.{layout}
 use Rattle.fancy_lex.specs.Number.{at_digit}
 use Rattle.fancy_lex.specs.NumberText.{number_text}
 use Rattle.fancy_lex.specs.Property.{Property, PropertyName, single, braced, name_at, read_property, Form, set, pair}
-use Rattle.fancy_lex.specs.Property.{look_up, form_by, form, form_text, turn, lowercase, braced_text, property_text}
+use Rattle.fancy_lex.specs.Property.{look_up, form_by, form, form_text, without_caret, lowercase, braced_text, property_text}
 use Rattle.fancy_lex.specs.Property.{is_negated_set}
 use Rattle.fancy_lex.specs.Reading.{Reading, gives, fails, choose, ◌>=>◌, layout_reading}
 use Rattle.fancy_lex.specs.Referred.{Reference, Call, call_to, number_or_name, target_of_name, name_reading}
@@ -61,10 +61,10 @@ unfolding bytes
 lowercase_bytes [] = omega arith
 lowercase_bytes (c ∷ t) = omega (arith, lowercase_size c, lowercase_bytes t)
 
-turned_bytes : (negated : Bool) (t : Text) → bytes (turn negated t).1 ≤ bytes t
+without_caret_bytes : (negated : Bool) (t : Text) → bytes (without_caret negated t).1 ≤ bytes t
 unfolding bytes
-turned_bytes negated [] = omega arith
-turned_bytes negated (c ∷ t) =
+without_caret_bytes negated [] = omega arith
+without_caret_bytes negated (c ∷ t) =
     cond_both (c == code "^") _ _ (λ (p : Bool × Text). bytes p.1 ≤ bytes (c ∷ t)) (λ _. omega arith) (λ _. omega arith)
 
 -- however the form is written, it has at most n bytes
@@ -121,17 +121,17 @@ form_short unicode word name =
         (omega (arith, bytes-append (codes "\\P{") (name ++ codes "}"), bytes-append name (codes "}")))
 
 braced_short : (unicode inside negated : Bool) (s : Text) →
-    bytes (braced_text unicode inside (turn negated s)) + 2 ≤ 24 + 6 * bytes s
+    bytes (braced_text unicode inside (without_caret negated s)) + 2 ≤ 24 + 6 * bytes s
 unfolding bytes
 braced_short unicode inside true [] = by_test _ _ refl
 braced_short unicode inside false [] = by_test _ _ refl
 braced_short unicode inside negated (c ∷ s) =
-    let p = turn negated (c ∷ s) in
+    let p = without_caret negated (c ∷ s) in
     omega (
       arith,
       form_short unicode (lowercase p.1) (lowercase p.1) inside p.0,
       lowercase_bytes p.1,
-      turned_bytes negated (c ∷ s),
+      without_caret_bytes negated (c ∷ s),
       (len_utf8_bounds c).0,
     )
 

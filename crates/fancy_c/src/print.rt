@@ -32,7 +32,7 @@ pub(crate) fn is_precedence(number: u32) -> bool
 }
 
 /// The tree's text, if it is printable.
-fn text_of(alloc: Global, tree: &Expr, precedence: u8) -> Result<Option<String>, AllocError>
+fn printed_text(alloc: Global, tree: &Expr, precedence: u8) -> Result<Option<String>, AllocError>
     ensures { IfOk result (λ text. MatchOption text (printable (view tree.now) ≡ false)
         (λ s. IsText (view tree.now) precedence (string_bytes s))) }
 {
@@ -54,7 +54,7 @@ pub(crate) fn print(alloc: Global, tree: &Expr, precedence: u8, buffer: &mut [u8
     ensures no_position { result.position ≡ 0 }
     ensures no_size { result.status ≢ STATUS_OK → result.status ≢ STATUS_BUFFER_TOO_SHORT → result.size ≡ 0 }
 {
-    match text_of(alloc, tree, precedence) {
+    match printed_text(alloc, tree, precedence) {
         Ok(Some(text)) => write(buffer, text.as_bytes()),
         Ok(None) => CallResult {
             status: STATUS_NOT_PRINTABLE,

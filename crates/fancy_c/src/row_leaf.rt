@@ -55,7 +55,7 @@ pub(crate) fn text_at(texts: &[u8], start: usize, size: usize) -> Result<&str, R
 
 /// The text of a node, in memory of its own.
 #[tactic(auto, using(crate::proofs::NodeLemmas::string_text))]
-fn text_of(alloc: Global, row: &Node, texts: &[u8]) -> Result<String, RowsError>
+fn owned_text(alloc: Global, row: &Node, texts: &[u8]) -> Result<String, RowsError>
     ensures { IfOk result (λ text. HasText texts.now row.now (encode_utf8_all (chars_of text))) }
 {
     Ok(String::from_str(alloc, text_at(texts, row.text, row.text_size)?)?)
@@ -105,7 +105,7 @@ fn target(alloc: Global, row: &Node, texts: &[u8]) -> Result<CaptureGroupTarget,
 {
     Ok(match row.which {
         TARGET_BY_NUMBER => CaptureGroupTarget::ByNumber(row.group),
-        TARGET_BY_NAME => CaptureGroupTarget::ByName(text_of(alloc, row, texts)?),
+        TARGET_BY_NAME => CaptureGroupTarget::ByName(owned_text(alloc, row, texts)?),
         TARGET_RELATIVE => CaptureGroupTarget::Relative(row.level),
         _ => return Err(RowsError::NoTree),
     })
@@ -155,14 +155,14 @@ pub(crate) fn leaf(alloc: Global, row: &Node, texts: &[u8]) -> Result<Expr, Rows
             unicode: row.unicode,
         },
         NODE_LITERAL => Expr::Literal {
-            val: text_of(alloc, row, texts)?,
+            val: owned_text(alloc, row, texts)?,
             casei,
         },
         NODE_LITERAL_BYTES => Expr::LiteralBytes {
             bytes: Vec::from_slice(alloc, bytes_at(texts, row.text, row.text_size)?)?,
         },
         NODE_DELEGATE => Expr::Delegate {
-            inner: text_of(alloc, row, texts)?,
+            inner: owned_text(alloc, row, texts)?,
             casei,
         },
         NODE_KEEP_OUT => Expr::KeepOut,

@@ -14,13 +14,13 @@ use Rattle.fancy_grammar.specs.Resolved.{first_error}
 use Rattle.fancy_grammar.specs.GroupInfo.{back_number, back_numbers, is_call, is_call_of_all}
 use Rattle.fancy_parts.specs.Meaning.{Meaning, number, unresolved, invalid, refers_to, error_or}
 use Rattle.fancy_parts.specs.Written.{is_numeric}
-use Rattle.fancy_grammar.specs.Walk.{Resolver, Progress, progress_after, record_item, or_else, number_above, with_backref}
+use Rattle.fancy_grammar.specs.Walk.{Scope, Progress, progress_after, record_item, or_else, number_above, with_backref}
 
-abbrev numbers_of : Resolver → Text → List ℕ
+abbrev numbers_of : Scope → Text → List ℕ
 numbers_of k = numbers_under k.groups.names
 
 -- the references among the items, each with its meaning to the walk
-abbrev meant : Resolver → Progress → List Item → List (AstReference × ℕ × Meaning)
+abbrev meant : Scope → Progress → List Item → List (AstReference × ℕ × Meaning)
 meant k s l = meanings_in k.named (numbers_of k) s.passed l
 
 or_assoc : (a b c : Bool) → ((a || b) || c) ≡ (a || (b || c))
@@ -44,7 +44,7 @@ error_first (number n) p o = refl
 error_first unresolved p o = refl
 error_first (invalid k) p o = refl
 
-pub recorded_numeric : (k : Resolver) (s : Progress) (l : List Item) →
+pub recorded_numeric : (k : Scope) (s : Progress) (l : List Item) →
     (progress_after k s l).numeric
     ≡ (s.numeric
     || list_any (λ x. is_numeric k.text (position_at (bytes k.text) x.1) (role_of x.0) (target_of x.0)) (meant k s l))
@@ -52,20 +52,20 @@ recorded_numeric k s [] = sym (or_false s.numeric)
 recorded_numeric k s (opening o ∷ l) = recorded_numeric k (record_item k s (opening o)) l
 recorded_numeric k s (reference r p ∷ l) = recorded_numeric k (record_item k s (reference r p)) l ∙ or_assoc s.numeric _ _
 
-pub recorded_calls : (k : Resolver) (s : Progress) (l : List Item) →
+pub recorded_calls : (k : Scope) (s : Progress) (l : List Item) →
     (progress_after k s l).calls ≡ (s.calls || list_any (λ x. is_call (role_of x.0)) (meant k s l))
 recorded_calls k s [] = sym (or_false s.calls)
 recorded_calls k s (opening o ∷ l) = recorded_calls k (record_item k s (opening o)) l
 recorded_calls k s (reference r p ∷ l) = recorded_calls k (record_item k s (reference r p)) l ∙ or_assoc s.calls _ _
 
-pub recorded_self : (k : Resolver) (s : Progress) (l : List Item) →
+pub recorded_self : (k : Scope) (s : Progress) (l : List Item) →
     (progress_after k s l).self_recursive
     ≡ (s.self_recursive || list_any (λ x. is_call_of_all (role_of x.0) (target_of x.0)) (meant k s l))
 recorded_self k s [] = sym (or_false s.self_recursive)
 recorded_self k s (opening o ∷ l) = recorded_self k (record_item k s (opening o)) l
 recorded_self k s (reference r p ∷ l) = recorded_self k (record_item k s (reference r p)) l ∙ or_assoc s.self_recursive _ _
 
-pub recorded_error : (k : Resolver) (s : Progress) (l : List Item) →
+pub recorded_error : (k : Scope) (s : Progress) (l : List Item) →
     (progress_after k s l).error ≡ or_else s.error (first_error (meant k s l))
 recorded_error k s [] = sym (else_none s.error)
 recorded_error k s (opening o ∷ l) = recorded_error k (record_item k s (opening o)) l
@@ -88,7 +88,7 @@ inside : (total : ℕ) (l : List ℕ) (x : AstReference × ℕ × Meaning) (xs :
 inside total l x xs None e = rw e refl
 inside total l x xs (Some n) e = rw e (in_range total n l (back_numbers xs) (nat_le n total) refl)
 
-pub recorded_backrefs : (k : Resolver) (s : Progress) (l : List Item) →
+pub recorded_backrefs : (k : Scope) (s : Progress) (l : List Item) →
     (progress_after k s l).backrefs
     ≡ fold (insert_key nat_cmp) s.backrefs (filter (λ n. nat_le n k.groups.total) (back_numbers (meant k s l)))
 recorded_backrefs k s [] = refl
@@ -105,7 +105,7 @@ outside : (total : ℕ) (x : AstReference × ℕ × Meaning) (xs : List (AstRefe
 outside total x xs None e = rw e refl
 outside total x xs (Some n) e = rw e (grind arith)
 
-pub recorded_outside : (k : Resolver) (s : Progress) (l : List Item) →
+pub recorded_outside : (k : Scope) (s : Progress) (l : List Item) →
     (progress_after k s l).out_of_range
     ≡ or_else s.out_of_range (find (λ n. nat_lt k.groups.total n) (back_numbers (meant k s l)))
 recorded_outside k s [] = sym (else_none s.out_of_range)

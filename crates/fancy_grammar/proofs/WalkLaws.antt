@@ -15,24 +15,24 @@ use Rattle.fancy_grammar.specs.Label.{AstReference}
 use Rattle.fancy_grammar.specs.GroupInfo.{GroupInfo, group_info, ascending, back_numbers, is_call, is_call_of_all}
 use Rattle.fancy_grammar.specs.Resolved.{resolved, resolved_in, first_error, error_of}
 use Rattle.fancy_grammar.specs.Tree.{Tree}
-use Rattle.fancy_grammar.specs.Walk.{Resolver, Progress, nothing_recorded, progress_after, resolved_by}
+use Rattle.fancy_grammar.specs.Walk.{Scope, Progress, nothing_recorded, progress_after, resolved_by}
 use Rattle.fancy_grammar.proofs.RecordLaws.{recorded_numeric, recorded_calls, recorded_self, recorded_error}
 use Rattle.fancy_grammar.proofs.RecordLaws.{recorded_backrefs}
 use Rattle.fancy_grammar.proofs.RecordLaws.{recorded_outside}
 
 -- what the walk knows agrees with the tree
-pub record Suits (f : Flags) (r : Tree) (k : Resolver) : Type 0 where
+pub record Suits (f : Flags) (r : Tree) (k : Scope) : Type 0 where
   pub named : k.named ≡ only_named f (openings r)
   pub total : k.groups.total ≡ length (numbered_openings_in k.named (openings r))
   pub names : k.groups.names ≡ named_groups (numbered_openings_in k.named (openings r))
 
-pub resolver_suits : (f : Flags) (r : Tree) (k : Resolver) → k.named ≡ only_named f (openings r) →
+pub scope_suits : (f : Flags) (r : Tree) (k : Scope) → k.named ≡ only_named f (openings r) →
     k.groups.total ≡ length (numbered_openings_in k.named (openings r)) →
     k.groups.names ≡ named_groups (numbered_openings_in k.named (openings r)) → Suits f r k
-resolver_suits f r k a b c = record { named = a; total = b; names = c }
+scope_suits f r k a b c = record { named = a; total = b; names = c }
 
 -- the group information that is known and recorded
-abbrev pub info_recorded : Resolver → Progress → GroupInfo
+abbrev pub info_recorded : Scope → Progress → GroupInfo
 info_recorded k s = record {
   backrefs = s.backrefs;
   named_groups = k.groups.names;
@@ -58,7 +58,7 @@ info_from text named total names l = record {
   numbered_groups_ignored = named;
 }
 
-recorded_info : (k : Resolver) (l : List Item) →
+recorded_info : (k : Scope) (l : List Item) →
     info_recorded k (progress_after k nothing_recorded l)
     ≡ info_from k.text k.named k.groups.total k.groups.names (meanings_in k.named (numbers_under k.groups.names) 0 l)
 recorded_info k l =
@@ -76,7 +76,7 @@ recorded_info k l =
       numbered_groups_ignored = k.named;
     }
 
-module _ (f : Flags) (r : Tree) (k : Resolver) (h : Suits f r k) where
+module _ (f : Flags) (r : Tree) (k : Scope) (h : Suits f r k) where
   names : k.groups.names ≡ named_groups (numbered_openings_in (only_named f (openings r)) (openings r))
   names = h.names ∙ ap (λ x. named_groups (numbered_openings_in x (openings r))) h.named
 

@@ -44,15 +44,15 @@ abbrev pub by_letter_or : ℕ → Text → Text
 by_letter_or c other = choose (letter_of c) (λ d. code "\\" ∷ d ∷ []) other
 
 -- if blanks are layout, these characters are layout too
-abbrev pub is_layout : Flags → ℕ → Bool
-is_layout f c = f.ignore_space && c ∈ " #"
+abbrev pub is_printable_layout : Flags → ℕ → Bool
+is_printable_layout f c = f.ignore_space && c ∈ " #"
 
 -- a character of a Literal under these flags, with its case ignored or kept
 abbrev pub character : Flags → Bool → ℕ → Text
-character f true c = if is_among c metacharacters || is_layout f c then coded c else plain c
+character f true c = if is_among c metacharacters || is_printable_layout f c then coded c else plain c
 character f false c =
     by_letter_or c
-    (if is_among c (metacharacters ++ codes "]}") || (is_layout f c || f.casei) then code "\\" ∷ c ∷ [] else plain c)
+    (if is_among c (metacharacters ++ codes "]}") || (is_printable_layout f c || f.casei) then code "\\" ∷ c ∷ [] else plain c)
 
 -- ---- escapes
 

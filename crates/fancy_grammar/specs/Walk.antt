@@ -16,7 +16,7 @@ use Rattle.fancy_grammar.specs.Resolved.{resolved_in, resolved_all}
 use Rattle.fancy_grammar.specs.Tree.{Tree, Trees}
 
 -- what is known when references are resolved
-pub record Resolver : Type 0 where
+pub record Scope : Type 0 where
   pub text : Text
   pub named : Bool
   pub groups : Groups
@@ -60,7 +60,7 @@ number_above total (Some n) = if nat_le n total then None else Some n
 
 -- what is recorded for a reference with this meaning: its number, how it is written, whether it is a call, and its
 -- error
-abbrev pub record_reference_with : Resolver → Progress → ℕ → Role → Target → Meaning → Progress
+abbrev pub record_reference_with : Scope → Progress → ℕ → Role → Target → Meaning → Progress
 record_reference_with k s reach role target m = record {
   passed = s.passed;
   backrefs = with_backref k.groups.total s.backrefs (back_number role m);
@@ -72,7 +72,7 @@ record_reference_with k s reach role target m = record {
 }
 
 -- the meaning of a target, given the groups that the walk has passed
-abbrev pub refers_here : Resolver → Progress → Role → Target → Meaning
+abbrev pub refers_here : Scope → Progress → Role → Target → Meaning
 refers_here k s role target = refers_to (numbers_under k.groups.names) s.passed role target
 
 -- the number, if the meaning is one
@@ -81,21 +81,21 @@ number_in (number n) = Some n
 number_in _ = None
 
 -- what is recorded for a reference
-abbrev pub record_reference : Resolver → Progress → ℕ → Role → Target → Progress
+abbrev pub record_reference : Scope → Progress → ℕ → Role → Target → Progress
 record_reference k s reach role target = record_reference_with k s reach role target (refers_here k s role target)
 
 -- what is recorded for an item; a group with a number is counted
-abbrev pub record_item : Resolver → Progress → Item → Progress
+abbrev pub record_item : Scope → Progress → Item → Progress
 record_item k s (opening o) = record s { passed = if is_counted k.named o.name then s.passed + 1 else s.passed }
 record_item k s (reference r reach) = record_reference k s reach (role_of r) (target_of r)
 
 -- what is recorded for the items, one after another
-abbrev pub progress_after : Resolver → Progress → List Item → Progress
+abbrev pub progress_after : Scope → Progress → List Item → Progress
 progress_after k s l = fold (record_item k) s l
 
 -- trees resolved with what is known, if c groups with a number open before them
-abbrev pub resolved_by : Resolver → ℕ → Tree → Tree
+abbrev pub resolved_by : Scope → ℕ → Tree → Tree
 resolved_by k c t = resolved_in (bytes k.text) k.named (numbers_under k.groups.names) c t
 
-abbrev pub all_resolved_by : Resolver → ℕ → Trees → Trees
+abbrev pub all_resolved_by : Scope → ℕ → Trees → Trees
 all_resolved_by k c ts = resolved_all (bytes k.text) k.named (numbers_under k.groups.names) c ts

@@ -77,9 +77,9 @@ form_text inside true (pair plain turned) = turned
 form_text inside false (pair plain turned) = plain
 
 -- the name without a caret in front, which inverts the negation
-abbrev pub turn : Bool → Text → Bool × Text
-turn negated [] = (negated, [])
-turn negated (c ∷ t) = if c == code "^" then (not negated, t) else (negated, c ∷ t)
+abbrev pub without_caret : Bool → Text → Bool × Text
+without_caret negated [] = (negated, [])
+without_caret negated (c ∷ t) = if c == code "^" then (not negated, t) else (negated, c ∷ t)
 
 -- the text with its ASCII letters in lower case
 abbrev pub lowercase : Text → Text
@@ -96,7 +96,7 @@ letter negated = if negated then codes "\\P" else codes "\\p"
 -- the text that is written for a property
 unfoldable pub property_text : Bool → Bool → Property → Text
 property_text unicode inside p =
-    elim p.name [ single c ↦ letter p.negated ++ c ∷ [] | braced s ↦ braced_text unicode inside (turn p.negated s) ]
+    elim p.name [ single c ↦ letter p.negated ++ c ∷ [] | braced s ↦ braced_text unicode inside (without_caret p.negated s) ]
 
 -- whether the second text occurs in the first
 abbrev pub contains_text : Text → Text → Bool

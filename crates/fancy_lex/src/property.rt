@@ -141,8 +141,8 @@ fn form_of(known: KnownName, name: &str, unicode: bool) -> Form<'_>
 }
 
 /// Whether the name is negated, which a caret in front inverts, and the name without that caret.
-fn turn(negated: bool, name: &str) -> (bool, &str)
-    ensures { view_read (λ b. b) result ≡ spec.turn negated (chars name.now) }
+fn without_caret(negated: bool, name: &str) -> (bool, &str)
+    ensures { view_read (λ b. b) result ≡ spec.without_caret negated (chars name.now) }
 {
     match after(name, '^') {
         Some(rest) => (!negated, rest),
@@ -173,7 +173,7 @@ pub(crate) fn is_negated(property: Property, unicode: bool) -> bool
     match property.name {
         PropertyName::Single(_) => false,
         PropertyName::Braced(name) => {
-            let (negated, name) = turn(property.negated, name);
+            let (negated, name) = without_caret(property.negated, name);
             is_negated_form(look_up(name), negated, unicode)
         }
     }
@@ -260,7 +260,7 @@ pub(crate) fn push_property(
             push(out, c)
         }
         PropertyName::Braced(name) => {
-            let (negated, name) = turn(property.negated, name);
+            let (negated, name) = without_caret(property.negated, name);
             push_form(out, form_of(look_up(name), name, unicode), negated, inside)
         }
     }

@@ -42,7 +42,7 @@ fn put_letters(out: &mut TextOutput, from: Flags, to: Flags) -> Result<(), Alloc
 }
 
 /// Writes a group that changes the flags `from` to the flags `to` from there on, if they differ.
-fn put_group(out: &mut TextOutput, from: Flags, to: Flags) -> Result<(), AllocError>
+fn put_flag_change(out: &mut TextOutput, from: Flags, to: Flags) -> Result<(), AllocError>
     ensures { OnOk result (Added out.old out.new (spec.inline_flags from to)) }
 {
     if !turns_on(from, to) && !turns_on(to, from) {
@@ -94,7 +94,7 @@ fn put_new_flags(
 {
     let from = context.flags;
     context.set(needs);
-    put_group(out, from, context.flags)
+    put_flag_change(out, from, context.flags)
 }
 
 /// Writes the opening of a group that changes the flags `from` to the flags `to`.

@@ -38,9 +38,9 @@ fn needs_backslash(c: char) -> bool
     is_metacharacter(c) || matches!(c, ']' | '}')
 }
 
-/// Whether the character is layout under these flags.
-fn is_layout(c: char, flags: Flags) -> bool
-    ensures { result ≡ spec.is_layout flags c }
+/// Whether the character is layout under these flags, and printable: a space, or the start of a comment.
+fn is_printable_layout(c: char, flags: Flags) -> bool
+    ensures { result ≡ spec.is_printable_layout flags c }
 {
     flags.ignore_space && (c == ' ' || c == '#')
 }
@@ -126,7 +126,7 @@ pub(crate) fn put_class_character(out: &mut TextOutput, c: char) -> Result<(), A
 fn put_caseless(out: &mut TextOutput, c: char, flags: Flags) -> Result<(), AllocError>
     ensures { OnOk result (Added out.old out.new (spec.character flags true c)) }
 {
-    if is_metacharacter(c) || is_layout(c, flags) {
+    if is_metacharacter(c) || is_printable_layout(c, flags) {
         put_code(out, c)
     } else {
         put_plain(out, c)
@@ -140,7 +140,7 @@ fn put_cased(out: &mut TextOutput, c: char, flags: Flags) -> Result<(), AllocErr
     if let Some(letter) = letter_of(c) {
         return put_after_backslash(out, letter);
     }
-    if needs_backslash(c) || is_layout(c, flags) || flags.casei {
+    if needs_backslash(c) || is_printable_layout(c, flags) || flags.casei {
         put_after_backslash(out, c)
     } else {
         put_plain(out, c)

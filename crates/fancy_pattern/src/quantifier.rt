@@ -50,15 +50,15 @@ pub(crate) fn is_quantified(tree: &Expr, flags: Flags) -> bool
     matches!(tree, Expr::Repeat { .. })
 }
 
-/// The largest number of adjacent quantifiers in Oniguruma mode.
-const MOST_ADJACENT: usize = 5;
+/// How many quantifiers may follow one another in Oniguruma mode: the first, and those adjacent to it.
+const MAX_QUANTIFIERS: usize = 5;
 
 /// How many quantifiers may follow one another if `left` levels are left.
 pub(crate) fn most_quantifiers(flags: Flags, left: usize) -> usize
     ensures { (d : ℕ) → left ≡ max_depth - d → result ≡ spec.most_quantifiers flags d }
 {
     if flags.oniguruma_mode {
-        left.min(MOST_ADJACENT)
+        left.min(MAX_QUANTIFIERS)
     } else {
         1
     }

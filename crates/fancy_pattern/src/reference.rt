@@ -74,7 +74,7 @@ fn put_quoted(out: &mut TextOutput, opening: &str, text: &str) -> Result<(), All
 /// Writes the target of a back reference: the group's name if it refers to this group and the group opened before, or
 /// else its number.
 #[tactic(auto, using(crate::proofs::OutputLemmas::added_steps))]
-fn put_group(
+fn put_backref_target(
     out: &mut TextOutput,
     names: &GroupNames,
     group: usize,
@@ -105,7 +105,7 @@ pub(crate) fn put_backref(
         return out.put_number(group);
     }
     put_ascii(out, r"\k<")?;
-    put_group(out, names, group, opened)?;
+    put_backref_target(out, names, group, opened)?;
     out.put('>')
 }
 
@@ -122,7 +122,7 @@ pub(crate) fn put_backref_at_level(
         OnOk result (Added out.old out.new (spec.backref_at_level_text m opened group level)) }
 {
     put_ascii(out, r"\k<")?;
-    put_group(out, names, group, opened)?;
+    put_backref_target(out, names, group, opened)?;
     put_signed(out, level)?;
     out.put('>')
 }

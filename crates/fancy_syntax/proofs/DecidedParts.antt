@@ -31,8 +31,8 @@ use Rattle.fancy_syntax.specs.Recording.{body_separated, choice_recorded, added}
 use Rattle.fancy_syntax.specs.Recording.{counted_recorded, quant_recorded, adjacent_recorded, quants_recorded}
 use Rattle.fancy_syntax.specs.Recording.{group_recorded, quantifier_dropped}
 use Rattle.fancy_syntax.specs.declared.grammar.frame.Frame.{Frame}
-use Rattle.fancy_syntax.specs.declared.grammar.frame.OpenGroup.{OpenGroup}
-use Rattle.fancy_syntax.specs.declared.grammar.frame.OpenGroup.TheVariants as open_group
+use Rattle.fancy_syntax.specs.declared.grammar.frame.OpenPart as declared
+use Rattle.fancy_syntax.specs.declared.grammar.frame.OpenPart.TheVariants as open_part
 use Rattle.fancy_syntax.proofs.DecidedLemmas.{decided_branches, decided_clear}
 use Rattle.fancy_syntax.proofs.DecidedLemmas.{decided_condition, decided_conditional, decided_empty, decided_list}
 use Rattle.fancy_syntax.proofs.DecidedLemmas.{decided_made, decided_quant, decided_repeatable}
@@ -40,32 +40,32 @@ use Rattle.fancy_syntax.proofs.MachineLemmas.{closed_through}
 
 -- ---- the trees of parts
 
-pub decided_made_of : (i : Bool) (g : OpenGroup) (p : OpenPart) (r : Tree) → IsPart i g p →
+pub decided_made_of : (i : Bool) (g : declared.OpenPart) (p : OpenPart) (r : Tree) → IsPart i g p →
     made_of g (decided i r) ≡ decided i (node_of_part p r)
-decided_made_of i open_group.Top top r h = refl
-decided_made_of i (open_group.Group kind reach) (group k p) r (e, f, h) =
+decided_made_of i open_part.Top top r h = refl
+decided_made_of i (open_part.Group kind reach) (group k p) r (e, f, h) =
     decided_made i kind reach r h ∙ (λ j. decided i (node_of_part (group (sym e j) (sym f j)) r))
-decided_made_of i open_group.Condition condition r h = refl
-decided_made_of i (open_group.Body c left) (body d m) r (e, f) =
+decided_made_of i open_part.Condition condition r h = refl
+decided_made_of i (open_part.Body c left) (body d m) r (e, f) =
     (λ j. conditional_of (e j) (decided_branches i r j).0 (decided_branches i r j).1)
     ∙ decided_conditional i d (branches_of r).0 (branches_of r).1
-decided_made_of i open_group.First first r h = decided_clear i r
-decided_made_of i (open_group.Second a) (second b) r h = ap (λ t. expression t (decided i r)) h
+decided_made_of i open_part.First first r h = decided_clear i r
+decided_made_of i (open_part.Second a) (second b) r h = ap (λ t. expression t (decided i r)) h
 decided_made_of i _ _ r h = absurd h
 
-pub decided_lacks : (i : Bool) (g : OpenGroup) (p : OpenPart) (s : State) → IsPart i g p →
+pub decided_lacks : (i : Bool) (g : declared.OpenPart) (p : OpenPart) (s : State) → IsPart i g p →
     lacks_body (part_of g) s ≡ lacks_body p s
-decided_lacks i open_group.Top top s h = refl
-decided_lacks i (open_group.Group kind reach) (group k p) s h = refl
-decided_lacks i open_group.Condition condition s h = refl
-decided_lacks i (open_group.Body c left) (body d m) s (e, f) =
+decided_lacks i open_part.Top top s h = refl
+decided_lacks i (open_part.Group kind reach) (group k p) s h = refl
+decided_lacks i open_part.Condition condition s h = refl
+decided_lacks i (open_part.Body c left) (body d m) s (e, f) =
     (λ j. lacks_body (body (e j) (f j)) s)
     ∙ ap (λ b. bytes s.rest == m && not b) (decided_condition i d)
-decided_lacks i open_group.First first s h = refl
-decided_lacks i (open_group.Second a) (second b) s h = refl
+decided_lacks i open_part.First first s h = refl
+decided_lacks i (open_part.Second a) (second b) s h = refl
 decided_lacks i _ _ s h = absurd h
 
-pub decided_ended : (i : Bool) (g : OpenGroup) (p : OpenPart) (r : Tree) (s : State) → IsPart i g p →
+pub decided_ended : (i : Bool) (g : declared.OpenPart) (p : OpenPart) (r : Tree) (s : State) → IsPart i g p →
     ended_with g (decided i r) s ≡ mapped (decided i) (ended_part p r s)
 decided_ended i g p r s h =
     (λ j. if decided_lacks i g p s h j then failed (body_missing s.rest) else closed (decided_made_of i g p r h j) s)
@@ -77,7 +77,7 @@ decided_ended i g p r s h =
     by_test false = sym (closed_through (decided i) (node_of_part p r) s)
 
 -- what the code's part ends with is decided
-pub ended_done : (i : Bool) (g : OpenGroup) (p : OpenPart) (r : Tree) (s : State) {b : Tree} {t : State} → IsPart i g p →
+pub ended_done : (i : Bool) (g : declared.OpenPart) (p : OpenPart) (r : Tree) (s : State) {b : Tree} {t : State} → IsPart i g p →
     ended_with g (decided i r) s ≡ done b t → (a : Tree) × (b ≡ decided i a) × (ended_part p r s ≡ done a t)
 ended_done i g p r s {b} {t} h e = by_outcome (ended_part p r s) (sym (decided_ended i g p r s h) ∙ e)
   where
@@ -86,7 +86,7 @@ ended_done i g p r s {b} {t} h e = by_outcome (ended_part p r s) (sym (decided_e
     by_outcome (done a u) k = (a, cc, cc)
     by_outcome (failed f) k = absurd cc
 
-pub ended_fails : (i : Bool) (g : OpenGroup) (p : OpenPart) (r : Tree) (s : State) (f : Located) → IsPart i g p →
+pub ended_fails : (i : Bool) (g : declared.OpenPart) (p : OpenPart) (r : Tree) (s : State) (f : Located) → IsPart i g p →
     ended_with g (decided i r) s ≡ failed f → ended_part p r s ≡ failed f
 ended_fails i g p r s f h e = by_outcome (ended_part p r s) (sym (decided_ended i g p r s h) ∙ e)
   where
@@ -94,64 +94,64 @@ ended_fails i g p r s f h e = by_outcome (ended_part p r s) (sym (decided_ended 
     by_outcome (done a u) k = absurd cc
     by_outcome (failed f) k = cc
 
-pub same_body_next : (i : Bool) (g : OpenGroup) (p : OpenPart) → IsPart i g p →
+pub same_body_next : (i : Bool) (g : declared.OpenPart) (p : OpenPart) → IsPart i g p →
     has_body_next (part_of g) ≡ has_body_next p
-same_body_next i open_group.Top top h = refl
-same_body_next i (open_group.Group kind reach) (group k p) h = refl
-same_body_next i open_group.Condition condition h = refl
-same_body_next i (open_group.Body c left) (body d m) h = refl
-same_body_next i open_group.First first h = refl
-same_body_next i (open_group.Second a) (second b) h = refl
+same_body_next i open_part.Top top h = refl
+same_body_next i (open_part.Group kind reach) (group k p) h = refl
+same_body_next i open_part.Condition condition h = refl
+same_body_next i (open_part.Body c left) (body d m) h = refl
+same_body_next i open_part.First first h = refl
+same_body_next i (open_part.Second a) (second b) h = refl
 same_body_next i _ _ h = absurd h
 
 -- ---- at a bar
 
-pub same_second : (i : Bool) (g : OpenGroup) (p : OpenPart) → IsPart i g p → is_second (part_of g) ≡ is_second p
-same_second i open_group.Top top h = refl
-same_second i (open_group.Group kind reach) (group k p) h = refl
-same_second i open_group.Condition condition h = refl
-same_second i (open_group.Body c left) (body d m) h = refl
-same_second i open_group.First first h = refl
-same_second i (open_group.Second a) (second b) h = refl
+pub same_second : (i : Bool) (g : declared.OpenPart) (p : OpenPart) → IsPart i g p → is_second (part_of g) ≡ is_second p
+same_second i open_part.Top top h = refl
+same_second i (open_part.Group kind reach) (group k p) h = refl
+same_second i open_part.Condition condition h = refl
+same_second i (open_part.Body c left) (body d m) h = refl
+same_second i open_part.First first h = refl
+same_second i (open_part.Second a) (second b) h = refl
 same_second i _ _ h = absurd h
 
-pub same_error_of_bar : (i : Bool) (g : OpenGroup) (p : OpenPart) (t : Text) (o : Outcome Tree) → IsPart i g p →
+pub same_error_of_bar : (i : Bool) (g : declared.OpenPart) (p : OpenPart) (t : Text) (o : Outcome Tree) → IsPart i g p →
     IsErrorOfBar (part_of g) t o → IsErrorOfBar p t o
-same_error_of_bar i open_group.Top top t o h e = e
-same_error_of_bar i (open_group.Group kind reach) (group k p) t o h e = e
-same_error_of_bar i open_group.Condition condition t o h e = e
-same_error_of_bar i (open_group.Body c left) (body d m) t o h e = e
-same_error_of_bar i open_group.First first t o h e = e
-same_error_of_bar i (open_group.Second a) (second b) t o h e = e
+same_error_of_bar i open_part.Top top t o h e = e
+same_error_of_bar i (open_part.Group kind reach) (group k p) t o h e = e
+same_error_of_bar i open_part.Condition condition t o h e = e
+same_error_of_bar i (open_part.Body c left) (body d m) t o h e = e
+same_error_of_bar i open_part.First first t o h e = e
+same_error_of_bar i (open_part.Second a) (second b) t o h e = e
 same_error_of_bar i _ _ t o h e = absurd h
 
 -- the part after the bar
-pub opened_part : (i : Bool) (f g : OpenGroup) (p : OpenPart) (a : Tree) → IsPart i f p →
+pub opened_part : (i : Bool) (f g : declared.OpenPart) (p : OpenPart) (a : Tree) → IsPart i f p →
     IsOpenedByBar f g (decided i a) → IsPart i g (opened_by_bar p a)
-opened_part i open_group.Top g top a h e = subst (λ x. IsPart i x top) (sym e) tt
-opened_part i (open_group.Group kind reach) g (group k p) a h e = subst (λ x. IsPart i x (group k p)) (sym e) h
-opened_part i open_group.Condition g condition a h e = subst (λ x. IsPart i x condition) (sym e) tt
-opened_part i (open_group.Body c left) g (body d m) a h e = subst (λ x. IsPart i x (body d m)) (sym e) h
-opened_part i open_group.First g first a h e = is_second_part g e
+opened_part i open_part.Top g top a h e = subst (λ x. IsPart i x top) (sym e) tt
+opened_part i (open_part.Group kind reach) g (group k p) a h e = subst (λ x. IsPart i x (group k p)) (sym e) h
+opened_part i open_part.Condition g condition a h e = subst (λ x. IsPart i x condition) (sym e) tt
+opened_part i (open_part.Body c left) g (body d m) a h e = subst (λ x. IsPart i x (body d m)) (sym e) h
+opened_part i open_part.First g first a h e = is_second_part g e
   where
-    is_second_part : (g : OpenGroup) → part_of g ≡ second (decided i a) → IsPart i g (second a)
-    is_second_part (open_group.Second b) e = cc
-    is_second_part open_group.Top e = absurd cc
-    is_second_part (open_group.Group kind reach) e = absurd cc
-    is_second_part open_group.Condition e = absurd cc
-    is_second_part (open_group.Body c left) e = absurd cc
-    is_second_part open_group.First e = absurd cc
-opened_part i (open_group.Second b) g (second c) a h e = subst (λ x. IsPart i x (second c)) (sym e) h
+    is_second_part : (g : declared.OpenPart) → part_of g ≡ second (decided i a) → IsPart i g (second a)
+    is_second_part (open_part.Second b) e = cc
+    is_second_part open_part.Top e = absurd cc
+    is_second_part (open_part.Group kind reach) e = absurd cc
+    is_second_part open_part.Condition e = absurd cc
+    is_second_part (open_part.Body c left) e = absurd cc
+    is_second_part open_part.First e = absurd cc
+opened_part i (open_part.Second b) g (second c) a h e = subst (λ x. IsPart i x (second c)) (sym e) h
 opened_part i _ g _ a h e = absurd h
 
-pub same_branches : (i : Bool) (g : OpenGroup) (p : OpenPart) (bs : List Tree) (a : Tree) → IsPart i g p →
+pub same_branches : (i : Bool) (g : declared.OpenPart) (p : OpenPart) (bs : List Tree) (a : Tree) → IsPart i g p →
     branches_at_bar (part_of g) (all_decided i bs) (decided i a) ≡ all_decided i (branches_at_bar p bs a)
-same_branches i open_group.Top top bs a h = sym (map-append (decided i) bs (a ∷ []))
-same_branches i (open_group.Group kind reach) (group k p) bs a h = sym (map-append (decided i) bs (a ∷ []))
-same_branches i open_group.Condition condition bs a h = sym (map-append (decided i) bs (a ∷ []))
-same_branches i (open_group.Body c left) (body d m) bs a h = sym (map-append (decided i) bs (a ∷ []))
-same_branches i open_group.First first bs a h = refl
-same_branches i (open_group.Second b) (second c) bs a h = sym (map-append (decided i) bs (a ∷ []))
+same_branches i open_part.Top top bs a h = sym (map-append (decided i) bs (a ∷ []))
+same_branches i (open_part.Group kind reach) (group k p) bs a h = sym (map-append (decided i) bs (a ∷ []))
+same_branches i open_part.Condition condition bs a h = sym (map-append (decided i) bs (a ∷ []))
+same_branches i (open_part.Body c left) (body d m) bs a h = sym (map-append (decided i) bs (a ∷ []))
+same_branches i open_part.First first bs a h = refl
+same_branches i (open_part.Second b) (second c) bs a h = sym (map-append (decided i) bs (a ∷ []))
 same_branches i _ _ bs a h = absurd h
 
 -- ---- which trees a frame holds
@@ -197,13 +197,13 @@ separated_decided i (leaf l) end k = refl
 separated_decided i (over w t) end l = refl
 separated_decided i (row r ts) end l = refl
 
-pub part_decided : (i : Bool) (g : OpenGroup) (p : OpenPart) (r : Tree) (paren end : ℕ) (l : Log) → IsPart i g p →
+pub part_decided : (i : Bool) (g : declared.OpenPart) (p : OpenPart) (r : Tree) (paren end : ℕ) (l : Log) → IsPart i g p →
     part_recorded (part_of g) (decided i r) paren end l ≡ part_recorded p r paren end l
-part_decided i open_group.Top top r paren end l h = refl
-part_decided i (open_group.Group kind reach) (group k p) r paren end l (e, f, h) =
+part_decided i open_part.Top top r paren end l h = refl
+part_decided i (open_part.Group kind reach) (group k p) r paren end l (e, f, h) =
     ap (λ x. group_recorded x end l) (sym e)
-part_decided i open_group.Condition condition r paren end l h = refl
-part_decided i (open_group.Body c left) (body d m) r paren end l h =
+part_decided i open_part.Condition condition r paren end l h = refl
+part_decided i (open_part.Body c left) (body d m) r paren end l h =
     let b = branches_of r in
     (λ j. if is_empty (decided_branches i r j).0 && is_empty (decided_branches i r j).1
     then atom_ended (conditional_dropped end (separated_decided i r paren l j))
@@ -211,9 +211,9 @@ part_decided i (open_group.Body c left) (body d m) r paren end l h =
     ∙ (λ j. if decided_empty i b.0 j && decided_empty i b.1 j
     then atom_ended (conditional_dropped end (body_separated r paren l))
     else atom_closed end false (body_separated r paren l))
-part_decided i open_group.First first r paren end l h =
+part_decided i open_part.First first r paren end l h =
     ap (λ b. atom_closed end false (if b then part_dropped l else l)) (decided_empty i r)
-part_decided i (open_group.Second a) (second b) r paren end l h = refl
+part_decided i (open_part.Second a) (second b) r paren end l h = refl
 part_decided i _ _ r paren end l h = absurd h
 
 quant_decided : (i : Bool) (a : Tree) (s : State) (l : Log) → quant_recorded (decided i a) s l ≡ quant_recorded a s l

@@ -22,7 +22,7 @@ use Rattle.fancy_grammar.specs.State.{State, done}
 use Rattle.fancy_grammar.proofs.AtomStartLaws.{StartReads, start_reads}
 use Rattle.fancy_syntax.specs.Found.{FindsMore, IsFound, has_unresolved, is_reference, is_unresolved, undecided_in}
 use Rattle.fancy_syntax.specs.Machine.{IsPlainLeaf}
-use Rattle.fancy_syntax.specs.declared.grammar.found.Found.{Found}
+use Rattle.fancy_syntax.specs.declared.grammar.found.FoundGroups.{FoundGroups}
 
 -- ---- an atom that holds no other node
 
@@ -61,7 +61,7 @@ plain_alone {s} p = leaf_alone 0 s (p.leaf 0)
 
 -- ---- one more item
 
-pub nothing_more : (f : Found) → FindsMore f f []
+pub nothing_more : (f : FoundGroups) → FindsMore f f []
 nothing_more f ignore l h = subst (IsFound ignore f) (sym (append-nil l)) h
 
 pub set_unresolved : (a b : Bool) → b ≡ true → true ≡ (a || b)
@@ -73,7 +73,7 @@ kept_unresolved true b e = refl
 kept_unresolved false b e = sym e
 
 -- with no more groups
-pub no_group_more : (f g : Found) (is : List Item) → openings_in is ≡ [] → g.ignore ≡ f.ignore → g.groups ≡ f.groups →
+pub no_group_more : (f g : FoundGroups) (is : List Item) → openings_in is ≡ [] → g.ignore ≡ f.ignore → g.groups ≡ f.groups →
     g.undecided ≡ f.undecided → ((ignore : Bool) → g.unresolved ≡ (f.unresolved || has_unresolved ignore is)) →
     FindsMore f g is
 no_group_more f g is none i j k m ignore l (a, b, c, d) =
@@ -91,7 +91,7 @@ chosen_more : (p : Opening → Bool) (l : List Item) (o : Opening) (b : Bool) �
 chosen_more p l o b e = ap (filter p) (openings_append l (opening o ∷ [])) ∙ filter-append p (openings_in l) (o ∷ [])
 
 -- with one more group that has a number
-pub numbered_more : (f g : Found) (reach : ℕ) (name : Option Text) → is_counted f.ignore name ≡ true →
+pub numbered_more : (f g : FoundGroups) (reach : ℕ) (name : Option Text) → is_counted f.ignore name ≡ true →
     g.ignore ≡ f.ignore → g.undecided ≡ f.undecided → g.unresolved ≡ f.unresolved →
     ((before : List Opening) → groups_of f.groups ≡ groups_in before →
     groups_of g.groups ≡ groups_in (openings_with before reach name)) →
@@ -123,7 +123,7 @@ uncounted ignore None e h = rw e refl
 uncounted ignore (Some t) e h = absurd cc
 
 -- with one more that is undecided
-pub undecided_more : (f g : Found) (reach : ℕ) (name : Option Text) → is_counted f.ignore name ≡ false →
+pub undecided_more : (f g : FoundGroups) (reach : ℕ) (name : Option Text) → is_counted f.ignore name ≡ false →
     g.ignore ≡ f.ignore → g.undecided ≡ f.undecided + 1 → g.unresolved ≡ true → g.groups ≡ f.groups →
     FindsMore f g (opening (record { reach = reach; name = name }) ∷ [])
 undecided_more f g reach name is i k m same ignore l (a, b, c, d) =

@@ -48,7 +48,7 @@ use Rattle.fancy_grammar.specs.Tree.{Tree, concat, expression}
 use Rattle.fancy_syntax.specs.declared.grammar.frame.Enclosing.{Enclosing}
 use Rattle.fancy_syntax.specs.declared.grammar.frame.Frame.{Frame}
 use Rattle.fancy_syntax.specs.declared.grammar.frame.PieceStart.{PieceStart}
-use Rattle.fancy_syntax.specs.declared.grammar.frame.OpenGroup.{OpenGroup}
+use Rattle.fancy_syntax.specs.declared.grammar.frame.OpenPart as declared
 use Rattle.fancy_lex.proofs.TextLemmas.{strip_is}
 use Rattle.fancy_grammar.proofs.OutcomeLemmas.{Holds, IsErrorAmong-map, before-nil, before-push}
 use Rattle.fancy_grammar.proofs.OutcomeLemmas.{trees_before, solid-append, piece_as}
@@ -124,11 +124,11 @@ closed_through f r s = by_paren (strip (code ")") s.rest)
     by_paren (Some u) = refl
     by_paren None = refl
 
-pub ended_without_body : (g : OpenGroup) (r : Tree) (s : State) → lacks_body (part_of g) s ≡ true →
+pub ended_without_body : (g : declared.OpenPart) (r : Tree) (s : State) → lacks_body (part_of g) s ≡ true →
     ended_with g r s ≡ failed (body_missing s.rest)
 ended_without_body g r s e = rw e refl
 
-pub ended_closed : (g : OpenGroup) (r : Tree) (s : State) → lacks_body (part_of g) s ≡ false →
+pub ended_closed : (g : declared.OpenPart) (r : Tree) (s : State) → lacks_body (part_of g) s ≡ false →
     ended_with g r s ≡ closed (made_of g r) s
 ended_closed g r s e = rw e refl
 
@@ -449,7 +449,7 @@ record Outer (start : State) (none : Log) (gs : List Enclosing) (g : Enclosing) 
   deeper : d ≡ depth + 1
   holds : HoldsTrees g.frame ts below branches pieces
   part : OpenPart
-  is_part : IsPart start.flags.ignore_numbered_groups g.frame.open_group part
+  is_part : IsPart start.flags.ignore_numbered_groups g.frame.open_part part
   levels : OpenGroups start none gs below part depth begin before items_before
   reading : ReadSoFar depth part begin before branches pieces current recorded
   began : Began g.piece current
@@ -477,7 +477,7 @@ levels_pop {start} {none} gs g {ts} (inner {d} {s} {l = c} {t} {m} {q} {outer} {
       deeper = refl;
       holds = subst (λ (y : Enclosing). HoldsTrees y.frame ts below branches pieces) p.1 x;
       part = q;
-      is_part = subst (λ (y : Enclosing). IsPart start.flags.ignore_numbered_groups y.frame.open_group q) p.1 y;
+      is_part = subst (λ (y : Enclosing). IsPart start.flags.ignore_numbered_groups y.frame.open_part q) p.1 y;
       levels = subst (λ y. OpenGroups start none y below q d s c is) p.0 l;
       reading = h;
       began = subst (λ (y : Enclosing). Began y.piece t) p.1 a;
@@ -495,7 +495,7 @@ holds_new g trees i j =
     let n = append-nil trees in (sym (append-nil (trees ++ []) ∙ n), i, j ∙ ap length (sym n))
 
 pub running_start : (start : State) (none : Log) (stack : List Enclosing) (f : Frame) (trees : List Tree) → stack ≡ [] →
-    trees ≡ [] → f.branches ≡ 0 → f.pieces ≡ 0 → IsPart start.flags.ignore_numbered_groups f.open_group top →
+    trees ≡ [] → f.branches ≡ 0 → f.pieces ≡ 0 → IsPart start.flags.ignore_numbered_groups f.open_part top →
     Running start none stack f trees start none []
 running_start start none stack f trees e x i j k = record {
   depth = 0;
@@ -583,7 +583,7 @@ running_open : {start t v : State} {none l m : Log} {stack : List Enclosing} {f 
     Running start none stack f trees t l is →
     Began p t → ends t.rest ≡ false → OpensPart (length stack) t l o v m →
     all ≡ stack ++ record { frame = f; piece = p } ∷ [] →
-    IsPart start.flags.ignore_numbered_groups g.open_group o → g.branches ≡ length trees → g.pieces ≡ length trees →
+    IsPart start.flags.ignore_numbered_groups g.open_part o → g.branches ≡ length trees → g.pieces ≡ length trees →
     js ≡ is ++ items_opening o →
     Running start none all g trees v m js
 running_open {t} {v} {l = c} {m} {stack} {f} {trees} {o} p all g js h b e a i j k l z = record {
@@ -612,12 +612,12 @@ running_read {us} {is} i m h e (r, n, a, x, j, k) = rw j (running_piece us _ h e
 
 -- a step opens a part
 pub running_opened : {start t v : State} {none l : Log} {stack all : List Enclosing} {f g : Frame} {trees us : List Tree}
-    {is js : List Item} (m : Log) (open_group : OpenGroup) (p : PieceStart) → Running start none stack f trees t l is →
+    {is js : List Item} (m : Log) (open_part : declared.OpenPart) (p : PieceStart) → Running start none stack f trees t l is →
     Began p t → ends t.rest ≡ false →
-    IsStep start.flags.ignore_numbered_groups (length stack) t l trees (Some open_group) us v m js →
-    all ≡ stack ++ record { frame = f; piece = p } ∷ [] → g.open_group ≡ open_group → g.branches ≡ length us →
+    IsStep start.flags.ignore_numbered_groups (length stack) t l trees (Some open_part) us v m js →
+    all ≡ stack ++ record { frame = f; piece = p } ∷ [] → g.open_part ≡ open_part → g.branches ≡ length us →
     g.pieces ≡ length us → Running start none all g us v m (is ++ js)
-running_opened {start} {all} {g} {is} m open_group p h b e (o, is_part, a, same, w) i j k l =
+running_opened {start} {all} {g} {is} m open_part p h b e (o, is_part, a, same, w) i j k l =
     rw same (running_open p all g _ h b e a i (subst (λ q. IsPart start.flags.ignore_numbered_groups q o) (sym j) is_part)
     (k ∙ ap length same) (l ∙ ap length same) (ap (λ x. is ++ x) w))
 
@@ -633,7 +633,7 @@ levels_bar {start} {t} {none} {u} {a} {fs} {ts} {is} (inner {d} f i l q h m j x 
 pub running_bar : {start t : State} {none l : Log} {u : Text} {stack : List Enclosing} {f : Frame} {trees : List Tree}
     {is : List Item} (all : List Tree) (g : Frame) (h : Running start none stack f trees t l is) →
     ends t.rest ≡ true → strip (code "|") t.rest ≡ Some u → is_second h.part ≡ false →
-    IsPart start.flags.ignore_numbered_groups g.open_group (opened_by_bar h.part (joined h.pieces)) →
+    IsPart start.flags.ignore_numbered_groups g.open_part (opened_by_bar h.part (joined h.pieces)) →
     HoldsTrees g all h.below (branches_at_bar h.part h.branches (joined h.pieces)) [] →
     Running start none stack g all (at t u) (branch_begun (reach_of u) (branch_closed h.pieces t l)) is
 running_bar {start} {t} {none} {l = c} {u} {stack} {f} {is} all g h e b x i j =
@@ -644,7 +644,7 @@ running_bar {start} {t} {none} {l = c} {u} {stack} {f} {is} all g h e b x i j =
 
     ordinary : {p : OpenPart} → holds_one p ≡ false → OpenGroups start none stack h.below p h.depth h.begin h.before
         h.items_before → ReadSoFar h.depth p h.begin h.before h.branches h.pieces t c →
-        IsPart start.flags.ignore_numbered_groups g.open_group p →
+        IsPart start.flags.ignore_numbered_groups g.open_part p →
         HoldsTrees g all h.below (h.branches ++ joined h.pieces ∷ []) [] → Running start none stack g all (at t u) n is
     ordinary z l r i j = record {
       depth = h.depth;
@@ -668,7 +668,7 @@ running_bar {start} {t} {none} {l = c} {u} {stack} {f} {is} all g h e b x i j =
     by_open : (p : OpenPart) → OpenGroups start none stack h.below p h.depth h.begin h.before h.items_before →
         ReadSoFar h.depth p h.begin h.before h.branches h.pieces t c →
         is_second p ≡ false →
-        IsPart start.flags.ignore_numbered_groups g.open_group (opened_by_bar p (joined h.pieces)) →
+        IsPart start.flags.ignore_numbered_groups g.open_part (opened_by_bar p (joined h.pieces)) →
         HoldsTrees g all h.below (branches_at_bar p h.branches (joined h.pieces)) [] →
         Running start none stack g all (at t u) n is
     by_open top l r x i j = ordinary refl l r i j

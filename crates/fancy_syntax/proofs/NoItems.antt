@@ -3,7 +3,7 @@ use Rattle.std.proofs.Common.{◌≡◌, ℕ, List, [], ◌∷◌, ◌++◌, ref
 use Rattle.fancy_grammar.specs.Items.{Item, items, items_all}
 use Rattle.fancy_grammar.specs.Label as label
 use Rattle.fancy_grammar.specs.Tree.{Tree, leaf, over, row, Trees, no_trees, more_trees, ast_node, ast_group}
-use Rattle.fancy_grammar.specs.Walk.{Resolver, resolved_by, all_resolved_by}
+use Rattle.fancy_grammar.specs.Walk.{Scope, resolved_by, all_resolved_by}
 use Rattle.fancy_syntax.specs.Regrouped.{regrouped, regrouped_all}
 
 none_before : (a b : List Item) → a ++ b ≡ [] → a ≡ []
@@ -16,7 +16,7 @@ none_after (i ∷ a) b h = absurd (cc)
 
 -- by induction on the tree: nothing in it changes
 mutual
-  pub resolved_same : (k : Resolver) (t : Tree) → items (regrouped t) ≡ [] → (c : ℕ) → resolved_by k c (regrouped t) ≡ t
+  pub resolved_same : (k : Scope) (t : Tree) → items (regrouped t) ≡ [] → (c : ℕ) → resolved_by k c (regrouped t) ≡ t
   resolved_same k (over label.group t) h c = absurd (cc)
   resolved_same k (ast_group name position t) h c = absurd (cc)
   resolved_same k (ast_node r position) h c = absurd (cc)
@@ -24,7 +24,7 @@ mutual
   resolved_same k (over w t) h c = ap (over w) (resolved_same k t h c)
   resolved_same k (row r ts) h c = ap (row r) (all_same k ts h c)
 
-  all_same : (k : Resolver) (ts : Trees) → items_all (regrouped_all ts) ≡ [] → (c : ℕ) →
+  all_same : (k : Scope) (ts : Trees) → items_all (regrouped_all ts) ≡ [] → (c : ℕ) →
       all_resolved_by k c (regrouped_all ts) ≡ ts
   all_same k no_trees h c = refl
   all_same k (more_trees t ts) h c =

@@ -4,14 +4,14 @@ use Rattle.std.proofs.Common.{Global, Result, append-nil, refl}
 use Rattle.fancy_lex.specs.declared.error.ReadError.{ReadError}
 use Rattle.fancy_grammar.specs.Items.{Item, items, openings_in}
 use Rattle.fancy_grammar.specs.Tree.{conditional, expression}
-use Rattle.fancy_syntax.specs.Records.{IsErrorRecorded, Walks}
+use Rattle.fancy_syntax.specs.WalkViews.{IsErrorRecorded, Walks}
 use Rattle.fancy_syntax.specs.Regrouped.{raw, regrouped}
 use Rattle.fancy_syntax.specs.View.{view, view_absent}
-use Rattle.fancy_grammar.specs.Walk.{Resolver, Progress, progress_after, resolved_by}
+use Rattle.fancy_grammar.specs.Walk.{Scope, Progress, progress_after, resolved_by}
 use Rattle.fancy_syntax.specs.declared.expr.Absent.{Absent, Expression}
 use Rattle.fancy_syntax.specs.declared.expr.Expr.{Expr, Conditional, the_lemmas}
-use Rattle.fancy_syntax.specs.declared.resolve.records.Progress as code
-use Rattle.fancy_syntax.specs.declared.resolve.records.Stopped.{Stopped}
+use Rattle.fancy_syntax.specs.declared.resolve.progress.Progress as code
+use Rattle.fancy_syntax.specs.declared.resolve.progress.Stopped.{Stopped}
 use Rattle.fancy_grammar.proofs.ItemLemmas.{length_openings, counted}
 use Rattle.fancy_syntax.proofs.WalkLemmas.{recorded_le, recorded_passed, recorded_append, error_kept, walk_ends}
 
@@ -66,18 +66,18 @@ three_count {x} {y} {z} p =
 
 -- a walk over the first part, and one over the second, pass at most as many groups as there are openings
 
-pub two_recorded : {l : List Item} {x y : Expr} (k : Resolver) (r s : Progress) → Two l x y →
+pub two_recorded : {l : List Item} {x y : Expr} (k : Scope) (r s : Progress) → Two l x y →
     s ≡ progress_after k r (items (raw x)) →
     s.passed + length (openings_in (items (raw y))) ≤ r.passed + length (openings_in l)
 two_recorded {x} k r s p e = omega (arith, two_count p, recorded_le k r s (items (raw x)) e)
 
-pub three_recorded : {l : List Item} {x y z : Expr} (k : Resolver) (r s : Progress) → Three l x y z →
+pub three_recorded : {l : List Item} {x y z : Expr} (k : Scope) (r s : Progress) → Three l x y z →
     s ≡ progress_after k r (items (raw x)) →
     s.passed + (length (openings_in (items (raw y))) + length (openings_in (items (raw z)))) ≤ r.passed + length
     (openings_in l)
 three_recorded {x} k r s p e = omega (arith, three_count p, recorded_le k r s (items (raw x)) e)
 
-pub third_recorded : {l : List Item} {x y z : Expr} (k : Resolver) (r s t : Progress) → Three l x y z →
+pub third_recorded : {l : List Item} {x y z : Expr} (k : Scope) (r s t : Progress) → Three l x y z →
     s ≡ progress_after k r (items (raw x)) →
     t ≡ progress_after k s (items (raw y)) →
     t.passed + length (openings_in (items (raw z))) ≤ r.passed + length (openings_in l)
@@ -85,11 +85,11 @@ third_recorded {x} {y} k r s t p e f = omega (arith, three_recorded k r s p e, r
 
 -- the error of a walk over one of the parts is that of the walk over all
 
-pub three_error : {l : List Item} {x y z : Expr} (k : Resolver) (r : Progress) (e : Option ReadError) → Three l x y z →
+pub three_error : {l : List Item} {x y z : Expr} (k : Scope) (r : Progress) (e : Option ReadError) → Three l x y z →
     IsErrorRecorded e (progress_after k r (items (raw x))).error → IsErrorRecorded e (progress_after k r l).error
 three_error {x} k r e p h = rw p.is (error_kept k r e (items (raw x)) _ h)
 
-pub third_error : {l : List Item} {x y z : Expr} (k : Resolver) (r s : Progress) (e : Option ReadError) → Three l x y z →
+pub third_error : {l : List Item} {x y z : Expr} (k : Scope) (r s : Progress) (e : Option ReadError) → Three l x y z →
     s ≡ progress_after k r (items (raw x)) → IsErrorRecorded e (progress_after k s (items (raw y))).error →
     IsErrorRecorded e (progress_after k r l).error
 third_error {x} {y} {z} k r s e p f h =
@@ -97,7 +97,7 @@ third_error {x} {y} {z} k r s e p f h =
 
 -- a walk that resolves the last part, after the groups of the parts before it, ends a walk that resolves all
 
-pub two_resolved : {A : Type 0} {e : Absent} {a b : Box Expr Global} (k : Resolver) (r s : Progress) (o : Result A Stopped)
+pub two_resolved : {A : Type 0} {e : Absent} {a b : Box Expr Global} (k : Scope) (r s : Progress) (o : Result A Stopped)
     (after : code.Progress) (x y : Box Expr Global) → e ≡ Expression a b →
     s ≡ progress_after k r (items (raw a.value)) → view x.value ≡ resolved_by k r.passed (raw a.value) →
     Walks o k s (items (raw b.value)) after (λ _. view y.value ≡ resolved_by k s.passed (raw b.value)) →
@@ -111,7 +111,7 @@ two_resolved {a} {b} k r s o after x y h f first w =
     ∙ (λ n. expression (first n) ((second ∙ ap (λ c. resolved_by k c (raw b.value)) one) n))
     ∙ sym (ap (λ u. resolved_by k r.passed (regrouped u)) (ap view_absent h ∙ view_expression a b))) w
 
-pub three_resolved : {A : Type 0} {e : Expr} {c t f u v w : Box Expr Global} (k : Resolver) (p q s : Progress)
+pub three_resolved : {A : Type 0} {e : Expr} {c t f u v w : Box Expr Global} (k : Scope) (p q s : Progress)
     (o : Result A Stopped) (after : code.Progress) (x y z : Box Expr Global) → e ≡ Conditional c t f → u ≡ c → v ≡ t →
     w ≡ f → q ≡ progress_after k p (items (raw u.value)) → s ≡ progress_after k q (items (raw v.value)) →
     view x.value ≡ resolved_by k p.passed (raw u.value) → view y.value ≡ resolved_by k q.passed (raw v.value) →

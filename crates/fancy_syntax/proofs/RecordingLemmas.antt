@@ -30,7 +30,7 @@ use Rattle.fancy_grammar.specs.Trivia.{Passed, layout_end, with_dropped}
 use Rattle.fancy_syntax.specs.Log.{Log, put, others_put, alt_split, bar_split, body_split, shown, under_node, wrapped, layout_passed, text_dropped}
 use Rattle.fancy_syntax.specs.Recording.{counted_recorded, quantifier_dropped, quant_recorded, adjacent_recorded}
 use Rattle.fancy_syntax.specs.Recording.{quants_recorded}
-use Rattle.fancy_syntax.specs.declared.grammar.recorded.Last.{Last}
+use Rattle.fancy_syntax.specs.declared.grammar.recorded.LastPiece.{LastPiece}
 use Rattle.fancy_syntax.specs.declared.grammar.recorded.FirstBar.{FirstBar}
 use Rattle.fancy_syntax.specs.declared.grammar.recorded.Recorded.{Recorded}
 use Rattle.fancy_syntax.specs.declared.grammar.recorded.Recorded.TheVariants.{Node, Unnamed, Bar}
@@ -165,11 +165,11 @@ module _ (named : Bool) where
     once {m} {a} {x} w end h =
         let n = Node m.last.start end in
         let p : record { start = m.last.start; end = end } ≡ record { start = start; end = end } =
-        ap (λ (k : Last). record { start = k.start; end = end }) h.is_last in
+        ap (λ (k : LastPiece). record { start = k.start; end = end }) h.is_last in
         record {
           xs = n ∷ h.xs;
           is_recorded = put_recorded m m.last.height l.recorded h.xs n h.is_recorded
-              (ap (λ (k : Last). k.height) h.is_last);
+              (ap (λ (k : LastPiece). k.height) h.is_last);
           is_around = h.is_around;
           is_open = h.is_open;
           is_last = h.is_last;

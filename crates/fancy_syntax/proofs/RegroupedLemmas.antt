@@ -9,7 +9,7 @@ use Rattle.fancy_grammar.specs.Items.{Item, opening, items, items_all, openings_
 use Rattle.fancy_grammar.specs.Label as label
 use Rattle.fancy_grammar.specs.Preorder.{preorder, preorder_all}
 use Rattle.fancy_grammar.specs.Tree.{Tree, leaf, over, row, Trees, no_trees, more_trees, group}
-use Rattle.fancy_grammar.specs.Walk.{Resolver, Progress, nothing_recorded, progress_after, record_item, resolved_by}
+use Rattle.fancy_grammar.specs.Walk.{Scope, Progress, nothing_recorded, progress_after, record_item, resolved_by}
 use Rattle.fancy_grammar.specs.Walk.{all_resolved_by}
 use Rattle.fancy_grammar.proofs.ItemLemmas.{counted, length_openings}
 use Rattle.fancy_grammar.proofs.TreeLaws.{IsReadNode}
@@ -41,7 +41,7 @@ neither false b e = (refl, e)
 -- ---- a tree in which nothing is left to resolve
 
 mutual
-  pub settled_same : (k : Resolver) (t : Tree) → is_settled t ≡ true → (c : ℕ) → resolved_by k c (regrouped t) ≡ t
+  pub settled_same : (k : Scope) (t : Tree) → is_settled t ≡ true → (c : ℕ) → resolved_by k c (regrouped t) ≡ t
   settled_same k (over label.group t) h c = rw (named_counted k.named []) (ap group (settled_same k t h (c + 1)))
   settled_same k (over (label.ast_group name reach) t) h c = absurd cc
   settled_same k (leaf (label.ast_node r reach)) h c = absurd cc
@@ -49,18 +49,18 @@ mutual
   settled_same k (over w t) h c = ap (over w) (settled_same k t h c)
   settled_same k (row r ts) h c = ap (row r) (all_same k ts h c)
 
-  all_same : (k : Resolver) (ts : Trees) → all_settled ts ≡ true → (c : ℕ) → all_resolved_by k c (regrouped_all ts) ≡ ts
+  all_same : (k : Scope) (ts : Trees) → all_settled ts ≡ true → (c : ℕ) → all_resolved_by k c (regrouped_all ts) ≡ ts
   all_same k no_trees h c = refl
   all_same k (more_trees t ts) h c =
       let (a, b) = both (is_settled t) (all_settled ts) h in
       ap₂ more_trees (settled_same k t a c) (all_same k ts b _)
 
 -- a walk over it only passes groups
-abbrev pub OnlyPasses : Resolver → Progress → List Item → Type 0
+abbrev pub OnlyPasses : Scope → Progress → List Item → Type 0
 OnlyPasses k s l = (n : ℕ) × (progress_after k s l ≡ record s { passed = n })
 
 mutual
-  pub settled_passes : (k : Resolver) (s : Progress) (t : Tree) → is_settled t ≡ true →
+  pub settled_passes : (k : Scope) (s : Progress) (t : Tree) → is_settled t ≡ true →
       OnlyPasses k s (items (regrouped t))
   settled_passes k s (over label.group t) h =
       settled_passes k (record_item k s (opening (record { reach = 0; name = Some [] }))) t h
@@ -70,7 +70,7 @@ mutual
   settled_passes k s (over w t) h = settled_passes k s t h
   settled_passes k s (row r ts) h = all_passes k s ts h
 
-  all_passes : (k : Resolver) (s : Progress) (ts : Trees) → all_settled ts ≡ true →
+  all_passes : (k : Scope) (s : Progress) (ts : Trees) → all_settled ts ≡ true →
       OnlyPasses k s (items_all (regrouped_all ts))
   all_passes k s no_trees h = (s.passed, refl)
   all_passes k s (more_trees t ts) h =
@@ -139,7 +139,7 @@ mutual
       ∙ sym (length_openings (items t) (items_all ts))
 
 -- the resolver of the raw tree, of a text under flags of which one is this
-module _ (i : Bool) (k : Resolver) (still : (name : Option Text) → is_counted i name ≡ true → is_counted k.named name ≡ true)
+module _ (i : Bool) (k : Scope) (still : (name : Option Text) → is_counted i name ≡ true → is_counted k.named name ≡ true)
   where
     mutual
       pub same_progress : (s : Progress) (t : Tree) → AllByRecursion IsReadNode (preorder t) →

@@ -7,7 +7,7 @@ use Rattle.fancy_grammar.specs.GroupKind.{GroupKind, capture}
 use Rattle.fancy_grammar.specs.Items.{Item, opening, reference, items_all, openings_in}
 use Rattle.fancy_grammar.specs.Label as label
 use Rattle.fancy_grammar.specs.Tree.{Tree, leaf, trees_of}
-use Rattle.fancy_syntax.specs.declared.grammar.found.Found.{Found}
+use Rattle.fancy_syntax.specs.declared.grammar.found.FoundGroups.{FoundGroups}
 
 -- the items of trees, one after another
 abbrev pub items_in : List Tree → List Item
@@ -36,11 +36,11 @@ abbrev pub has_unresolved : Bool → List Item → Bool
 has_unresolved ignore l = list_any (is_unresolved ignore) l
 
 -- how many capturing groups have opened
-abbrev pub openings_found : Found → ℕ
+abbrev pub openings_found : FoundGroups → ℕ
 openings_found f = f.groups.total + f.undecided
 
 -- this was found in these items, with or without the flag that ignores groups without a name
-abbrev pub IsFound : Bool → Found → List Item → Type 0
+abbrev pub IsFound : Bool → FoundGroups → List Item → Type 0
 IsFound ignore f l =
     (f.ignore ≡ ignore)
     × (groups_of f.groups ≡ groups_in (numbered_openings_in ignore (openings_in l)))
@@ -48,5 +48,5 @@ IsFound ignore f l =
     × (f.unresolved ≡ has_unresolved ignore l)
 
 -- if the first was found in some items, then the second is found in those items with these after them
-abbrev pub FindsMore : Found → Found → List Item → Type 0
+abbrev pub FindsMore : FoundGroups → FoundGroups → List Item → Type 0
 FindsMore f g is = (ignore : Bool) (l : List Item) → IsFound ignore f l → IsFound ignore g (l ++ is)

@@ -51,4 +51,4 @@ pub mod Recording
 pub mod RecordedWhole
 -- ---- the resolver's walk
 pub mod Regrouped
-pub mod Records
+pub mod WalkViews

@@ -10,7 +10,7 @@ use Rattle.fancy_grammar.specs.State.{State}
 use Rattle.fancy_grammar.specs.Trivia.{Passed, part, dropped, comments_at, opening_of, with_dropped, filled}
 use Rattle.fancy_syntax.specs.declared.grammar.recorded.FirstBar.{FirstBar}
 use Rattle.fancy_syntax.specs.declared.grammar.recorded.ConditionPart.{ConditionPart}
-use Rattle.fancy_syntax.specs.declared.grammar.recorded.Last.{Last}
+use Rattle.fancy_syntax.specs.declared.grammar.recorded.LastPiece.{LastPiece}
 use Rattle.fancy_syntax.specs.declared.grammar.recorded.Recorded.{Recorded}
 use Rattle.fancy_syntax.specs.declared.grammar.recorded.Recorded.TheVariants.{Node, Unnamed, Bar}
 use Rattle.fancy_syntax.specs.declared.grammar.recorded.Open.{Open}
@@ -21,7 +21,7 @@ pub record Log : Type 0 where
   pub recorded : List Recorded
   pub around : List Open
   pub open_atom : Open
-  pub last : Last
+  pub last : LastPiece
   pub passed : List Passed
 
 -- the log before anything is read of a text that begins at the reach

@@ -27,11 +27,11 @@ use Rattle.fancy_grammar.specs.Errors.{IsErrorAmong}
 use Rattle.fancy_grammar.specs.State.{ends, skipped, State, at, Outcome, done, failed, mapped}
 use Rattle.fancy_grammar.specs.Tree.{Tree, expression}
 use Rattle.fancy_syntax.specs.View.{view, views}
-use Rattle.fancy_syntax.specs.declared.grammar.found.Found.{Found}
+use Rattle.fancy_syntax.specs.declared.grammar.found.FoundGroups.{FoundGroups}
 use Rattle.fancy_syntax.specs.declared.grammar.frame.Enclosing.{Enclosing}
 use Rattle.fancy_syntax.specs.declared.grammar.frame.Frame.{Frame}
-use Rattle.fancy_syntax.specs.declared.grammar.frame.OpenGroup.{OpenGroup}
-use Rattle.fancy_syntax.specs.declared.grammar.frame.OpenGroup.TheVariants as open_group
+use Rattle.fancy_syntax.specs.declared.grammar.frame.OpenPart as declared
+use Rattle.fancy_syntax.specs.declared.grammar.frame.OpenPart.TheVariants as open_part
 use Rattle.fancy_syntax.specs.declared.grammar.frame.PieceStart.{PieceStart}
 use Rattle.fancy_syntax.specs.declared.grammar.parser.Parser.{Parser}
 
@@ -44,13 +44,13 @@ pub data OpenPart : Type 0 where
   first : OpenPart  -- the branch after `(?~|`
   second : Tree → OpenPart  -- the branch after that branch and a bar
 
-abbrev pub part_of : OpenGroup → OpenPart
-part_of open_group.Top = top
-part_of (open_group.Group kind reach) = group (group_kind kind) reach
-part_of open_group.Condition = condition
-part_of (open_group.Body c left) = body (view c.value) left
-part_of open_group.First = first
-part_of (open_group.Second a) = second (view a.value)
+abbrev pub part_of : declared.OpenPart → OpenPart
+part_of open_part.Top = top
+part_of (open_part.Group kind reach) = group (group_kind kind) reach
+part_of open_part.Condition = condition
+part_of (open_part.Body c left) = body (view c.value) left
+part_of open_part.First = first
+part_of (open_part.Second a) = second (view a.value)
 
 -- the items that the opening of a part reads: a group, or those of a tree that the part keeps
 abbrev pub items_opening : OpenPart → List Item
@@ -60,13 +60,13 @@ items_opening (second a) = items a
 items_opening _ = []
 
 -- the code's open part is this part of the grammar, with its groups decided
-abbrev pub IsPart : Bool → OpenGroup → OpenPart → Type 0
-IsPart i open_group.Top top = Unit {0}
-IsPart i (open_group.Group kind reach) (group h p) = (h ≡ group_kind kind) × (p ≡ reach) × IsDecidedKind i kind
-IsPart i open_group.Condition condition = Unit {0}
-IsPart i (open_group.Body c left) (body r m) = (view c.value ≡ decided i r) × (left ≡ m)
-IsPart i open_group.First first = Unit {0}
-IsPart i (open_group.Second a) (second r) = view a.value ≡ decided i r
+abbrev pub IsPart : Bool → declared.OpenPart → OpenPart → Type 0
+IsPart i open_part.Top top = Unit {0}
+IsPart i (open_part.Group kind reach) (group h p) = (h ≡ group_kind kind) × (p ≡ reach) × IsDecidedKind i kind
+IsPart i open_part.Condition condition = Unit {0}
+IsPart i (open_part.Body c left) (body r m) = (view c.value ≡ decided i r) × (left ≡ m)
+IsPart i open_part.First first = Unit {0}
+IsPart i (open_part.Second a) (second r) = view a.value ≡ decided i r
 IsPart i _ _ = ⊥
 
 -- whether the part holds a single branch, not an alternation
@@ -80,8 +80,8 @@ is_second (second a) = true
 is_second _ = false
 
 -- the first is open before a bar, and the second after it; the tree is the branch before the bar
-abbrev pub IsOpenedByBar : OpenGroup → OpenGroup → Tree → Type 0
-IsOpenedByBar open_group.First g a = part_of g ≡ second a
+abbrev pub IsOpenedByBar : declared.OpenPart → declared.OpenPart → Tree → Type 0
+IsOpenedByBar open_part.First g a = part_of g ≡ second a
 IsOpenedByBar f g a = g ≡ f
 
 -- the part that is open after a bar; the tree is the branch before the bar
@@ -151,12 +151,12 @@ ended_part p r s =
     else closed (node_of_part p r) s
 
 -- the tree that the code makes of its open part, from the tree of the contents
-abbrev pub made_of : OpenGroup → Tree → Tree
-made_of (open_group.Group kind reach) r = made kind reach r
+abbrev pub made_of : declared.OpenPart → Tree → Tree
+made_of (open_part.Group kind reach) r = made kind reach r
 made_of g r = node_of_part (part_of g) r
 
 -- the outcome in the code's trees when its open part ends with the tree r at s
-abbrev pub ended_with : OpenGroup → Tree → State → Outcome Tree
+abbrev pub ended_with : declared.OpenPart → Tree → State → Outcome Tree
 ended_with g r s = if lacks_body (part_of g) s then failed (body_missing s.rest) else closed (made_of g r) s
 
 -- the log when the part ends with the tree r; its parenthesis begins at the first reach and ends at the second
@@ -170,7 +170,7 @@ part_recorded (second a) r paren end l = atom_closed end false l
 
 -- a step from s to t reads a piece, whose tree follows the trees ts unless it is Empty, or opens a part of a piece; the
 -- trees are then us, the record goes from l to m, and js are the items that are read
-abbrev pub IsStep : Bool → ℕ → State → Log → List Tree → Option OpenGroup → List Tree → State → Log → List Item → Type 0
+abbrev pub IsStep : Bool → ℕ → State → Log → List Tree → Option declared.OpenPart → List Tree → State → Log → List Item → Type 0
 IsStep i d s l ts None us t m js =
     (r : Tree) × (n : Log) × PieceTo d s (done r t) l n × (us ≡ ts ++ solid (r ∷ [])) × (m ≡ added r n)
     × (js ≡ items_in (solid (r ∷ [])))
@@ -178,7 +178,7 @@ IsStep i d s l ts (Some g) us t m js =
     (p : OpenPart) × IsPart i g p × OpensPart d s l p t m × (us ≡ ts) × (js ≡ items_opening p)
 
 -- a step from s to t, whose trees are decided, with a log and with items of which P holds, or the error of a piece at s
-abbrev pub GivesStep : Bool → Result (Option OpenGroup) ReadError → ℕ → State → Log → (ts all : List Tree) → State →
+abbrev pub GivesStep : Bool → Result (Option declared.OpenPart) ReadError → ℕ → State → Log → (ts all : List Tree) → State →
     (Log → List Item → Type 0) → Type 0
 GivesStep i r d s l ts all t P =
     MatchResult r (λ opened. (m : Log) × (us : List Tree) × (js : List Item) × (all ≡ all_decided i us)
@@ -227,7 +227,7 @@ pub data OpenGroups (start : State) (none : Log) : List Enclosing → List Tree 
     outermost : OpenGroups start none [] [] top 0 start none []
     inner : {d s l t m v n p q all outer trees below branches pieces is js : _} (e : Enclosing) → all ≡ outer ++ e ∷ [] →
         HoldsTrees e.frame trees below branches pieces →
-        IsPart start.flags.ignore_numbered_groups e.frame.open_group q → OpenGroups start none outer below q d s l is →
+        IsPart start.flags.ignore_numbered_groups e.frame.open_part q → OpenGroups start none outer below q d s l is →
         ReadSoFar d q s l branches pieces t m → Began e.piece t → ends t.rest ≡ false →
         OpensPart d t m p v n → js ≡ (is ++ items_in (branches ++ pieces)) ++ items_opening p →
         OpenGroups start none all trees p (d + 1) v n js
@@ -246,7 +246,7 @@ pub record Running (start : State) (none : Log) (stack : List Enclosing) (f : Fr
   pub is_depth : depth ≡ length stack
   pub holds : HoldsTrees f trees below branches pieces
   pub part : OpenPart
-  pub is_part : IsPart start.flags.ignore_numbered_groups f.open_group part
+  pub is_part : IsPart start.flags.ignore_numbered_groups f.open_part part
   pub levels : OpenGroups start none stack below part depth begin before items_before
   pub reading : ReadSoFar depth part begin before branches pieces t l
   pub same_items : is ≡ items_before ++ items_in (branches ++ pieces)
@@ -266,7 +266,7 @@ HasReadTo start none r P = (l : Log) × HasRead start none r l × P l
 
 -- an alternation that begins at `start` is read up to t: its raw tree, decided, is this tree, and this was found in its
 -- items; the record goes from `none` to a log of which P holds
-abbrev pub IsReadTo : State → Log → Tree → State → Found → (Log → Type 0) → Type 0
+abbrev pub IsReadTo : State → Log → Tree → State → FoundGroups → (Log → Type 0) → Type 0
 IsReadTo start none tree t found P =
     (r : Tree) × (m : Log) × AlternationTo 0 start (done r t) none m × P m
     × (tree ≡ decided start.flags.ignore_numbered_groups r) × IsFound start.flags.ignore_numbered_groups found (items r)

@@ -30,7 +30,7 @@ mod trees;
 
 use crate::expr::Expr;
 use crate::grammar::error::general;
-use crate::grammar::found::Found;
+use crate::grammar::found::FoundGroups;
 use crate::grammar::parser::Parser;
 use crate::grammar::spanning::Spanning;
 use crate::grammar::state::{State, is_end};
@@ -67,7 +67,7 @@ fn alternation<'a, S: Spanning>(
     alloc: Global,
     start: State<'a>,
     spans: &mut S,
-) -> Result<(Expr, State<'a>, Found), ReadError>
+) -> Result<(Expr, State<'a>, FoundGroups), ReadError>
     ensures value { (l : Log) → MatchResult result
         (λ p. IsReadTo (state start.entry) l (view p.0) (state p.1) p.2 (λ m. S.records spans.old l → S.records spans.new m))
         (λ e. IsErrorAmong e (spec.Alternation 0 (state start.entry))) }

@@ -11,18 +11,18 @@ ghost use Rattle.fancy_grammar.specs.Errors.{IsErrorIn};
 ghost use Rattle.fancy_grammar.specs.Tree.{Tree};
 ghost use Rattle.fancy_syntax.specs.InfoViews.{info_of};
 ghost use Rattle.fancy_syntax.specs.Reads.{IsRawTree};
-ghost use Rattle.fancy_syntax.specs.Records.{resolver_of, progress_of, info_found};
+ghost use Rattle.fancy_syntax.specs.WalkViews.{scope_of, progress_of, info_found};
 ghost use Rattle.fancy_syntax.specs.Regrouped.{raw, is_settled};
 ghost use Rattle.fancy_grammar.specs.Resolved.{resolved, error_of};
 ghost use Rattle.fancy_grammar.specs.Walk.{progress_after, nothing_recorded, resolved_by};
 ghost use Rattle.fancy_syntax.specs.View.{view};
 
-mod records;
+mod progress;
 mod rewrite;
 
 use crate::expr::Expr;
 use crate::raw_tree::RawTree;
-use crate::resolve::records::{Progress, Resolver};
+use crate::resolve::progress::{Progress, Scope};
 use crate::resolve::rewrite::rewrite;
 use crate::tree::ExprTree;
 use fancy_lex::error::ReadError;
@@ -48,21 +48,21 @@ pub(crate) fn resolve(alloc: Global, raw: RawTree, pattern: &str) -> Result<Expr
         named,
         unresolved,
     } = raw;
-    let resolver = Resolver {
+    let scope = Scope {
         pattern,
         named,
         groups,
     };
     let mut expr = expr;
-    let progress = match walk(alloc, &mut expr, &resolver, unresolved) {
+    let progress = match walk(alloc, &mut expr, &scope, unresolved) {
         Ok(progress) => progress,
         Err(error) => {
-            drop(resolver);
+            drop(scope);
             drop(expr);
             return Err(error);
         }
     };
-    Ok(tree_with_info(expr, resolver.named, resolver.groups, progress))
+    Ok(tree_with_info(expr, scope.named, scope.groups, progress))
 }
 
 /// The resolved tree with its group information.
@@ -99,23 +99,23 @@ fn tree_with_info(expr: Expr, named: bool, groups: Groups, progress: Progress) -
 fn walk(
     alloc: Global,
     tree: &mut Expr,
-    resolver: &Resolver,
+    scope: &Scope,
     unresolved: bool,
 ) -> Result<Progress, ReadError>
     requires bound { length (openings (raw tree.old)) < amount_bound }
     requires settled { unresolved ≡ false → is_settled (view tree.old) ≡ true }
-    ensures tree { IfOk result (λ _. view tree.new ≡ resolved_by (resolver_of resolver.now) 0 (raw tree.old)) }
-    ensures group_info { IfOk result (λ p. let named = resolver.now.named in let groups = groups_of resolver.now.groups in
+    ensures tree { IfOk result (λ _. view tree.new ≡ resolved_by (scope_of scope.now) 0 (raw tree.old)) }
+    ensures group_info { IfOk result (λ p. let named = scope.now.named in let groups = groups_of scope.now.groups in
         info_found named groups (progress_of p)
-        ≡ info_found named groups (progress_after (resolver_of resolver.now) nothing_recorded (items (raw tree.old)))) }
+        ≡ info_found named groups (progress_after (scope_of scope.now) nothing_recorded (items (raw tree.old)))) }
     ensures no_error { IfOk result
-        (λ _. (progress_after (resolver_of resolver.now) nothing_recorded (items (raw tree.old))).error ≡ None) }
+        (λ _. (progress_after (scope_of scope.now) nothing_recorded (items (raw tree.old))).error ≡ None) }
     ensures error { IfErr result
-        (λ e. IsErrorIn e (progress_after (resolver_of resolver.now) nothing_recorded (items (raw tree.old))).error) }
+        (λ e. IsErrorIn e (progress_after (scope_of scope.now) nothing_recorded (items (raw tree.old))).error) }
 {
     let mut progress = Progress::new(alloc);
     if unresolved {
-        let Ok(()) = rewrite(tree, resolver, &mut progress) else {
+        let Ok(()) = rewrite(tree, scope, &mut progress) else {
             return Err(progress.into_error());
         };
     }

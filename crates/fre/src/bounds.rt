@@ -21,12 +21,12 @@ fn measured(out: &[u8]) -> (usize, usize) {
 const MOST_OPEN: usize = 63;
 
 /// How many quantifiers may be adjacent to an earlier one.
-const MOST_ADJACENT: usize = 4;
+const MAX_ADJACENT: usize = 4;
 
 /// Adds as many possessive quantifiers as a piece inside so many groups may have in Oniguruma's mode: one, and up to
 /// four adjacent ones, each of which is one deeper.
 fn push_quantifiers(pattern: &mut String, depth: usize) -> Result<(), AllocError> {
-    let adjacent = MOST_OPEN.saturating_sub(depth).min(MOST_ADJACENT);
+    let adjacent = MOST_OPEN.saturating_sub(depth).min(MAX_ADJACENT);
     for _ in 0..adjacent.saturating_add(1) {
         pattern.push_str("*+")?;
     }

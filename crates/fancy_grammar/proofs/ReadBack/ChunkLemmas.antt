@@ -18,7 +18,7 @@ use Rattle.fancy_lex.specs.Hex as hexes
 use Rattle.fancy_lex.specs.Hex.{hex, value, leaf_of_value, is_scalar, fixed_digits}
 use Rattle.fancy_lex.specs.LayoutSteps.{layout}
 use Rattle.fancy_lex.specs.Property.{Property, PropertyName, single, braced, read_property, name_at, property_text}
-use Rattle.fancy_lex.specs.Property.{Form, set, pair, form, form_text, look_up, lowercase, turn, letter}
+use Rattle.fancy_lex.specs.Property.{Form, set, pair, form, form_text, look_up, lowercase, without_caret, letter}
 use Rattle.fancy_lex.specs.Reading.{Reading, gives, fails, error_at, choose, layout_reading, ◌>=>◌}
 use Rattle.fancy_lex.specs.EscapeReference.{group_number}
 use Rattle.fancy_lex.specs.declared.flags.Flags.{Flags}
@@ -164,9 +164,9 @@ pub lowercase_ok : (w : Text) → IsName w → IsName (lowercase w)
 lowercase_ok [] h = tt
 lowercase_ok (c ∷ w) h = (lower_brace c h.0, (lower_scalar c h.1.0, lowercase_ok w h.1.1))
 
-pub turn_ok : (b : Bool) (w : Text) → IsName w → IsName (turn b w).1
-turn_ok b [] h = tt
-turn_ok b (c ∷ w) h = by_test (c == code "^")
+pub without_caret_ok : (b : Bool) (w : Text) → IsName w → IsName (without_caret b w).1
+without_caret_ok b [] h = tt
+without_caret_ok b (c ∷ w) h = by_test (c == code "^")
   where
     by_test : (x : Bool) → IsName (if◌then◌else◌ {A = Bool × Text} x (not b, w) (b, c ∷ w)).1
     by_test true = h.1.1
@@ -429,8 +429,8 @@ pub property_chunk : (u b : Bool) (name : PropertyName) → NameOk name → Chun
 unfolding property_text
 property_chunk u b (single c) h = single_chunk b c h.0 h.1
 property_chunk u b (braced s) h =
-    let p = turn b s in
-    let ok = lowercase_ok p.1 (turn_ok b s h) in
+    let p = without_caret b s in
+    let ok = lowercase_ok p.1 (without_caret_ok b s h) in
     form_chunk p.0 (form u (look_up (lowercase p.1)) (lowercase p.1)) (form_of Chunk chunk_pairs (lowercase p.1) ok u)
 
 -- ---- what an escape in a class is read as

@@ -15,7 +15,7 @@ use Rattle.fancy_lex.specs.Hex.{hex}
 use Rattle.std.specs.Char.{IsScalar, is_ascii_digit}
 use Prim.Native.Char.{code}
 use Rattle.fancy_lex.specs.Property.{Property, PropertyName, single, braced, read_property, name_at, property_text}
-use Rattle.fancy_lex.specs.Property.{Form, set, pair, form, form_text, look_up, lowercase, turn, letter}
+use Rattle.fancy_lex.specs.Property.{Form, set, pair, form, form_text, look_up, lowercase, without_caret, letter}
 use Rattle.fancy_lex.specs.Reading.{Reading, gives, error_at, choose}
 use Rattle.fancy_lex.specs.Text.{Text, reach_of}
 use Rattle.fancy_lex.proofs.ClassLaws.{class_complete, class_reads, read_class}
@@ -35,7 +35,7 @@ use Rattle.fancy_grammar.proofs.ReadBack.ChunkLemmas.{FormOf, Pairs, form_of, na
 use Rattle.fancy_grammar.proofs.ReadBack.ChunkLemmas.{IsName, NameOk, NameSome, name_ok, prop, single_small}
 use Rattle.fancy_grammar.proofs.ReadBack.ChunkLemmas.{single_large, braced_small, braced_large, hex_word, space_other}
 use Rattle.fancy_grammar.proofs.ReadBack.ChunkLemmas.{no_brace}
-use Rattle.fancy_grammar.proofs.ReadBack.ChunkLemmas.{unprinted, lowercase_ok, turn_ok}
+use Rattle.fancy_grammar.proofs.ReadBack.ChunkLemmas.{unprinted, lowercase_ok, without_caret_ok}
 use Rattle.fancy_grammar.proofs.ReadBack.RewrittenLaws.{class_again}
 use Rattle.fancy_grammar.proofs.ReadBack.RuleLemmas.{st}
 use Rattle.fancy_grammar.proofs.ReadBack.ClearLemmas.{Each, no_more, also, each_among}
@@ -147,8 +147,8 @@ property_whole : (u b : Bool) (name : PropertyName) → NameOk name → IsWhole 
 unfolding property_text
 property_whole u b (single c) h = single_whole b c h.0 h.1
 property_whole u b (braced s) h =
-    let p = turn b s in
-    let ok = lowercase_ok p.1 (turn_ok b s h) in
+    let p = without_caret b s in
+    let ok = lowercase_ok p.1 (without_caret_ok b s h) in
     outside_form p.0 (form u (look_up (lowercase p.1)) (lowercase p.1))
     (form_of IsWhole whole_pairs (lowercase p.1) ok u)
 

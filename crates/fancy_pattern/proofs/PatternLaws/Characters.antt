@@ -262,7 +262,7 @@ no_layout : (x : Bool) (c : ℕ) → is_unseen c ≡ false → x && c ∈ " #" �
 no_layout true c h k = blanks_unseen c h k
 no_layout false c h k = refl
 
-plain_spells : (f : Flags) (c : ℕ) → is_among c metacharacters ≡ false → letters.is_layout f c ≡ false →
+plain_spells : (f : Flags) (c : ℕ) → is_among c metacharacters ≡ false → letters.is_printable_layout f c ≡ false →
     Spells f f.casei c (plain c)
 plain_spells f c h k =
     cond_both (is_unseen c) _ _ (Spells f f.casei c)
@@ -299,20 +299,20 @@ fewer_metacharacters c h = grind (arith, nat_tests)
 pub character_spells : (f : Flags) (casei : Bool) (c : ℕ) → CaseFits f casei c → Spells f casei c (character f casei c)
 character_spells f true c h =
     let with_case : (t : Text) → Spells f f.casei c t → Spells f true c t = λ t s. subst (λ b. Spells f b c t) h s in
-    cond_both (is_among c metacharacters || letters.is_layout f c) _ _ (Spells f true c)
+    cond_both (is_among c metacharacters || letters.is_printable_layout f c) _ _ (Spells f true c)
     (λ e. let (a, b) : (c < 0x10000) × (is_scalar c ≡ true)
     = ⊎_elim (λ m. metacharacter_small c m) (λ m. blank_small f.ignore_space c m)
-    (or_cases (is_among c metacharacters) (letters.is_layout f c) e) in
+    (or_cases (is_among c metacharacters) (letters.is_printable_layout f c) e) in
     with_case _ (coded_spells f c a b))
     (λ e. let (a, b) = or_parts (is_among c metacharacters) _ e in with_case _ (plain_spells f c a b))
 character_spells f false c h =
     choose_both (Spells f false c) (letter_of c) _ _ (λ d e. by_escape (escapes_letter false f c d e))
-    (cond_both (is_among c (metacharacters ++ codes "]}") || (letters.is_layout f c || f.casei)) _ _ (Spells f false c)
+    (cond_both (is_among c (metacharacters ++ codes "]}") || (letters.is_printable_layout f c || f.casei)) _ _ (Spells f false c)
     (λ e. by_escape
     (⊎_elim (λ m. reads_kept f c (metacharacter_kept c m))
     (λ m. ⊎_elim (λ b. reads_kept f c (blank_kept f.ignore_space c b)) (λ b. reads_by_backslash f c (h b))
-    (or_cases (letters.is_layout f c) f.casei m))
+    (or_cases (letters.is_printable_layout f c) f.casei m))
     (or_cases (is_among c (metacharacters ++ codes "]}")) _ e)))
     (λ e. let (a, b) = or_parts (is_among c (metacharacters ++ codes "]}")) _ e in
-    let (k, i) = or_parts (letters.is_layout f c) f.casei b in
+    let (k, i) = or_parts (letters.is_printable_layout f c) f.casei b in
     subst (λ b. Spells f b c (plain c)) i (plain_spells f c (fewer_metacharacters c a) k)))

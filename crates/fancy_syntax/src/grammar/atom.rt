@@ -40,7 +40,7 @@ pub(crate) fn read_atom_start<'a>(
         return Ok(AtomStart::Nothing);
     };
     if c == '(' {
-        return open_group(alloc, current, rest, depth);
+        return read_opening(alloc, current, rest, depth);
     }
     if begins_no_atom(c) {
         return Ok(AtomStart::Nothing);
@@ -51,7 +51,7 @@ pub(crate) fn read_atom_start<'a>(
 /// Reads the opening of a group, from the parenthesis at the front, which `rest` follows, up to the start of its first
 /// part.
 #[tactic(auto, unfolding(fancy_grammar::specs::AtomStart::atom_start))]
-fn open_group<'a>(
+fn read_opening<'a>(
     alloc: Global,
     current: &mut State<'a>,
     rest: &'a str,

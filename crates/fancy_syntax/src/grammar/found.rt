@@ -19,7 +19,7 @@ use std::alloc::{AllocError, Global};
 
 /// The capturing groups that have opened so far, and whether there is anything to resolve.
 #[derive(Debug, Drop)]
-pub(crate) struct Found {
+pub(crate) struct FoundGroups {
     /// Whether groups without a name have no number if some group has a name.
     pub(crate) ignore: bool,
     /// The groups that have a number, whatever follows.
@@ -30,13 +30,13 @@ pub(crate) struct Found {
     pub(crate) unresolved: bool,
 }
 
-impl Found {
+impl FoundGroups {
     /// Nothing has been read.
-    pub(crate) fn new(alloc: Global, ignore: bool) -> Found
+    pub(crate) fn new(alloc: Global, ignore: bool) -> FoundGroups
         ensures found { IsFound ignore result [] }
         ensures count { openings_found result ≡ 0 }
     {
-        Found {
+        FoundGroups {
             ignore,
             groups: Groups::new(alloc),
             undecided: 0,
@@ -98,7 +98,7 @@ impl Found {
         ensures unresolved { (ignore : Bool) (l : List Item) → IsFound ignore self l →
             result.unresolved ≡ has_unresolved ignore l }
     {
-        let Found {
+        let FoundGroups {
             ignore,
             groups,
             undecided,

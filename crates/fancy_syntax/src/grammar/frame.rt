@@ -19,7 +19,7 @@ use std::alloc::{AllocError, Global};
 
 /// An open part.
 #[derive(Drop)]
-pub(crate) enum OpenGroup<'a> {
+pub(crate) enum OpenPart<'a> {
     /// The whole text.
     Top,
     /// A group that opens at the reach.
@@ -44,7 +44,7 @@ pub(crate) struct PieceStart {
 /// An open group: where its trees begin among all that have been read. The trees of the groups around it are below.
 #[derive(Drop)]
 pub(crate) struct Frame<'a> {
-    pub(crate) open_group: OpenGroup<'a>,
+    pub(crate) open_part: OpenPart<'a>,
     /// How many trees are below its finished branches.
     pub(crate) branches: usize,
     /// How many trees are below the pieces of the open branch, which is the last.
@@ -65,13 +65,13 @@ impl<'a> Frame<'a> {
     ghost use Rattle.fancy_grammar.specs.Errors.{IsErrorAmong};
 
     /// A group in which nothing has been read yet, above `height` trees.
-    pub(crate) fn new(open_group: OpenGroup<'a>, height: usize) -> Frame<'a>
-        ensures open_group { result.open_group ≡ open_group.entry }
+    pub(crate) fn new(open_part: OpenPart<'a>, height: usize) -> Frame<'a>
+        ensures open_part { result.open_part ≡ open_part.entry }
         ensures branches { result.branches ≡ height }
         ensures pieces { result.pieces ≡ height }
     {
         Frame {
-            open_group,
+            open_part,
             branches: height,
             pieces: height,
         }
@@ -88,27 +88,27 @@ impl<'a> Frame<'a> {
         spans: &mut S,
     ) -> Result<(), ReadError>
         requires { self.old.pieces ≤ vec_len trees.old }
-        ensures open_group { (below branches pieces : List Tree) →
+        ensures open_part { (below branches pieces : List Tree) →
             HoldsTrees self.old (views trees.old.items) below branches pieces →
-            OnOk result (IsOpenedByBar self.old.open_group self.new.open_group (one_or concat pieces)) }
+            OnOk result (IsOpenedByBar self.old.open_part self.new.open_part (one_or concat pieces)) }
         ensures trees { (below branches pieces : List Tree) →
             HoldsTrees self.old (views trees.old.items) below branches pieces →
             OnOk result (HoldsTrees self.new (views trees.new.items) below
-            (branches_at_bar (part_of self.old.open_group) branches (one_or concat pieces)) []) }
-        ensures allowed { IfOk result (λ _. is_second (part_of self.old.open_group) ≡ false) }
+            (branches_at_bar (part_of self.old.open_part) branches (one_or concat pieces)) []) }
+        ensures allowed { IfOk result (λ _. is_second (part_of self.old.open_part) ≡ false) }
         ensures spans { (below branches pieces : List Tree) (l : Log) →
             HoldsTrees self.old (views trees.old.items) below branches pieces →
             S.records spans.old l → OnOk result (S.records spans.new (branch_ended (length pieces) reach l)) }
         ensures error { (t : _) → reach ≡ reach_of t →
-            IfErr result (λ e. IsErrorAmong e (IsErrorOfBar (part_of self.old.open_group) t)) }
+            IfErr result (λ e. IsErrorAmong e (IsErrorOfBar (part_of self.old.open_part) t)) }
     {
-        match &self.open_group {
-            OpenGroup::First => {
+        match &self.open_part {
+            OpenPart::First => {
                 let branch = take_branch(alloc, trees, self.pieces, reach, spans)?;
-                self.open_group = OpenGroup::Second(Box::new(alloc, branch)?);
+                self.open_part = OpenPart::Second(Box::new(alloc, branch)?);
                 Ok(())
             }
-            OpenGroup::Second(_) => Err(general(alloc, "expected close paren", reach)),
+            OpenPart::Second(_) => Err(general(alloc, "expected close paren", reach)),
             _ => Ok(self.end_branch(alloc, trees, reach, spans)?),
         }
     }
@@ -122,7 +122,7 @@ impl<'a> Frame<'a> {
         spans: &mut S,
     ) -> Result<(), AllocError>
         requires { self.old.pieces ≤ vec_len trees.old }
-        ensures open_group { self.new.open_group ≡ self.old.open_group }
+        ensures open_part { self.new.open_part ≡ self.old.open_part }
         ensures trees { (below branches pieces : List Tree) →
             HoldsTrees self.old (views trees.old.items) below branches pieces →
             OnOk result (HoldsTrees self.new (views trees.new.items) below (branches ++ one_or concat pieces ∷ []) []) }

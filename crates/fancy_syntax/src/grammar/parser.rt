@@ -19,8 +19,8 @@ ghost use Rattle.fancy_syntax.specs.View.{view, views};
 use crate::expr::Expr;
 use crate::grammar::atom::{leaf_node, literal};
 use crate::grammar::fast_path::{plain, plain_escape};
-use crate::grammar::found::Found;
-use crate::grammar::frame::{Enclosing, Frame, OpenGroup, PieceStart};
+use crate::grammar::found::FoundGroups;
+use crate::grammar::frame::{Enclosing, Frame, OpenPart, PieceStart};
 use crate::grammar::spanning::Spanning;
 use crate::grammar::state::State;
 use crate::grammar::step::{close, quantify_last, read_step};
@@ -44,7 +44,7 @@ pub(crate) struct Parser<'a> {
     /// The trees that are in no other tree yet: those of all open groups, one above the other.
     pub(crate) trees: Vec<Expr>,
     /// What was found of the groups and references in it.
-    pub(crate) found: Found,
+    pub(crate) found: FoundGroups,
 }
 
 /// The initial capacity, in trees: a few more than most patterns have side by side.
@@ -65,10 +65,10 @@ impl<'a> Parser<'a> {
     {
         let mut parser = Parser {
             current: start,
-            frame: Frame::new(OpenGroup::Top, 0),
+            frame: Frame::new(OpenPart::Top, 0),
             stack: Vec::new(alloc),
             trees: Vec::with_capacity(alloc, TREES)?,
-            found: Found::new(alloc, start.flags.ignore_numbered_groups),
+            found: FoundGroups::new(alloc, start.flags.ignore_numbered_groups),
         };
         parser.stack.reserve_exact(groups_at_once(start.rest))?;
         Ok(parser)
@@ -149,10 +149,10 @@ impl<'a> Parser<'a> {
             &mut self.found,
             spans,
         )?;
-        let Some(open_group) = opened else {
+        let Some(open_part) = opened else {
             return Ok(());
         };
-        self.open(open_group, start);
+        self.open(open_part, start);
         Ok(())
     }
 
@@ -213,31 +213,31 @@ impl<'a> Parser<'a> {
             return Ok(Some(self.frame.finish(alloc, &mut self.trees, end, spans)?));
         };
         self.frame.join(alloc, &mut self.trees, end, spans)?;
-        let Frame { open_group, .. } = mem::replace(&mut self.frame, frame);
+        let Frame { open_part, .. } = mem::replace(&mut self.frame, frame);
         let depth = self.stack.len();
         let opened = close(
             alloc,
             &mut self.trees,
-            open_group,
+            open_part,
             piece,
             &mut self.current,
             depth,
             spans,
         )?;
-        let Some(open_group) = opened else {
+        let Some(open_part) = opened else {
             return Ok(None);
         };
-        self.open(open_group, piece);
+        self.open(open_part, piece);
         Ok(None)
     }
 
     /// Opens a group in the piece that begins at `start`. The stack has capacity for the group around it.
     #[inline(always)]
-    fn open(&mut self, open_group: OpenGroup<'a>, start: PieceStart)
+    fn open(&mut self, open_part: OpenPart<'a>, start: PieceStart)
         requires reserved { vec_len self.old.stack < vec_capacity self.old.stack }
         ensures stack { self.new.stack.items ≡
             self.old.stack.items ++ record { frame = self.old.frame; piece = start } ∷ [] }
-        ensures open_group { self.new.frame.open_group ≡ open_group.entry }
+        ensures open_part { self.new.frame.open_part ≡ open_part.entry }
         ensures branches { self.new.frame.branches ≡ vec_len self.old.trees }
         ensures pieces { self.new.frame.pieces ≡ vec_len self.old.trees }
         ensures trees { self.new.trees ≡ self.old.trees }
@@ -245,7 +245,7 @@ impl<'a> Parser<'a> {
         ensures found { self.new.found ≡ self.old.found }
         ensures capacity { vec_capacity self.new.stack ≡ vec_capacity self.old.stack }
     {
-        let inner = Frame::new(open_group, self.trees.len());
+        let inner = Frame::new(open_part, self.trees.len());
         let outer = Enclosing {
             frame: mem::replace(&mut self.frame, inner),
             piece: start,
@@ -260,7 +260,7 @@ fn read_leaf<S: Spanning>(
     alloc: Global,
     trees: &mut Vec<Expr>,
     current: &mut State,
-    found: &mut Found,
+    found: &mut FoundGroups,
     spans: &mut S,
 ) -> Result<bool, AllocError>
     ensures leaf { IfOk result (λ is_read. is_read ≡ true → (r : Tree) × IsPlainLeaf (state current.old) r (state current.new)

@@ -59,7 +59,7 @@ pub(crate) struct Open {
 
 /// A piece: where it begins, and how much is recorded before its nodes.
 #[derive(Clone, Copy)]
-pub(crate) struct Last {
+pub(crate) struct LastPiece {
     pub(crate) start: usize,
     pub(crate) height: usize,
 }

@@ -15,7 +15,7 @@ ghost use Rattle.fancy_lex.specs.CommentViews.{comment_of};
 
 use crate::expr::Expr;
 use crate::grammar::recorded::{
-    ConditionPart, FirstBar, Last, Open, Recorded, RecordedTrivium, part_between,
+    ConditionPart, FirstBar, LastPiece, Open, Recorded, RecordedTrivium, part_between,
 };
 use crate::grammar::spanning::Spanning;
 use crate::grammar::state::{State, skip_layout};
@@ -34,7 +34,7 @@ pub(crate) struct Spans {
     pub(crate) around: Vec<Open>,
     pub(crate) open: Open,
     /// The last piece.
-    pub(crate) last: Last,
+    pub(crate) last: LastPiece,
     /// What no node has, in the order of the pattern.
     pub(crate) passed: Vec<RecordedTrivium>,
 }
@@ -65,7 +65,7 @@ impl Spans {
                 branch: start,
                 pieces: 0,
             },
-            last: Last { start, height: 0 },
+            last: LastPiece { start, height: 0 },
             passed: Vec::new(alloc),
         })
     }
@@ -132,7 +132,7 @@ impl Spans {
     fn wrap_nodes(&mut self, end: usize, atomic: bool) -> Result<(), AllocError>
         ensures { OnOk result (log_of self.new ≡ spec.wrapped end atomic (log_of self.old)) }
     {
-        let Last { start, height } = self.last;
+        let LastPiece { start, height } = self.last;
         let node = Recorded::Node { start, end };
         if atomic {
             self.put(height, node)?;
@@ -197,7 +197,7 @@ impl Spans {
     fn end_atom(&mut self)
         ensures { log_of self.new ≡ spec.atom_ended (log_of self.old) }
     {
-        self.last = Last {
+        self.last = LastPiece {
             start: self.open.start,
             height: self.open.height,
         };
@@ -247,7 +247,7 @@ impl Spanning for Spans {
 
     fn record_leaf(&mut self, start: usize, end: usize) -> Result<(), AllocError> {
         let height = self.recorded.len();
-        self.last = Last { start, height };
+        self.last = LastPiece { start, height };
         Ok(self.recorded.push(Recorded::Node { start, end })?)
     }
 
@@ -257,7 +257,7 @@ impl Spanning for Spans {
 
     #[inline(always)]
     fn wrap(&mut self, end: usize, atomic: bool) -> Result<(), AllocError> {
-        let Last { start, height } = self.last;
+        let LastPiece { start, height } = self.last;
         if atomic || self.recorded.len() != height.saturating_add(1) {
             return self.wrap_nodes(end, atomic);
         }

@@ -11,7 +11,7 @@ ghost use Rattle.fancy_syntax.specs.Decided.{decided, all_decided};
 ghost use Rattle.fancy_syntax.specs.Found.{FindsMore, openings_found};
 ghost use Rattle.fancy_syntax.specs.Log.{Log, group_opened};
 ghost use Rattle.fancy_syntax.specs.Machine as machine;
-ghost use Rattle.fancy_syntax.specs.Machine.{OpenPart, OpensPart, Part, IsPart, GivesStep, EndsPiece, ended_with, part_of};
+ghost use Rattle.fancy_syntax.specs.Machine.{OpensPart, Part, IsPart, GivesStep, EndsPiece, ended_with, part_of};
 ghost use Rattle.fancy_syntax.specs.Machine.{TurnsLast, part_recorded};
 ghost use Rattle.fancy_syntax.specs.Recording.{added, body_separated, group_recorded, quants_recorded};
 ghost use Rattle.fancy_syntax.specs.Parsed.{group_kind, state, Turns};
@@ -29,8 +29,8 @@ use crate::grammar::atom_start::AtomStart;
 use crate::grammar::conditional::{branches_of, clear_or_stopper, conditional, is_condition};
 use crate::grammar::error::general;
 use crate::grammar::fast_path::is_unquantified;
-use crate::grammar::found::Found;
-use crate::grammar::frame::{OpenGroup, PieceStart};
+use crate::grammar::found::FoundGroups;
+use crate::grammar::frame::{OpenPart, PieceStart};
 use crate::grammar::group::kind::{GroupKind, enclose};
 use crate::grammar::quantified::quantify;
 use crate::grammar::recorded::{RecordedTrivium, part_between};
@@ -50,9 +50,9 @@ pub(crate) fn read_step<'a, S: Spanning>(
     trees: &mut Vec<Expr>,
     current: &mut State<'a>,
     depth: usize,
-    found: &mut Found,
+    found: &mut FoundGroups,
     spans: &mut S,
-) -> Result<Option<OpenGroup<'a>>, ReadError>
+) -> Result<Option<OpenPart<'a>>, ReadError>
     requires depth { depth < max_depth }
     requires more { ends (chars current.old.rest.now) ≡ false }
     requires bound { openings_found found.old + length current.old.rest.now < 2 ^ 64 }
@@ -84,33 +84,33 @@ pub(crate) fn read_step<'a, S: Spanning>(
             Ok(None)
         }
         AtomStart::Group(kind) => {
-            open_group(kind, before, *current, spans)?;
+            record_opening(kind, before, *current, spans)?;
             let kind = found.add(alloc, kind)?;
             let paren = reach(before.rest);
-            Ok(Some(OpenGroup::Group { kind, reach: paren }))
+            Ok(Some(OpenPart::Group { kind, reach: paren }))
         }
         AtomStart::Condition => {
             spans.open(reach(before.rest), reach(current.rest))?;
-            Ok(Some(OpenGroup::Condition))
+            Ok(Some(OpenPart::Condition))
         }
         AtomStart::Body(condition) => {
             spans.open_body(before, *current)?;
             found.record(&condition);
-            Ok(Some(OpenGroup::Body {
+            Ok(Some(OpenPart::Body {
                 condition,
                 left: byte_len(current.rest),
             }))
         }
         AtomStart::AbsentBranch => {
             spans.open(reach(before.rest), reach(current.rest))?;
-            Ok(Some(OpenGroup::First))
+            Ok(Some(OpenPart::First))
         }
     }
 }
 
 /// Records the opening of a group of one alternation, whose contents begin at `inside`. A flag group has no node.
 #[inline(always)]
-fn open_group<S: Spanning>(
+fn record_opening<S: Spanning>(
     kind: GroupKind,
     start: State,
     inside: State,
@@ -218,27 +218,27 @@ fn quantify_some<S: Spanning>(
 pub(crate) fn close<'a, S: Spanning>(
     alloc: Global,
     trees: &mut Vec<Expr>,
-    open_group: OpenGroup<'a>,
+    open_part: OpenPart<'a>,
     start: PieceStart,
     current: &mut State<'a>,
     depth: usize,
     spans: &mut S,
-) -> Result<Option<OpenGroup<'a>>, ReadError>
+) -> Result<Option<OpenPart<'a>>, ReadError>
     requires depth { depth < max_depth }
     requires some { 0 < vec_len trees.old }
     requires last { ends (chars current.old.rest.now) ≡ true }
     requires no_bar { strip (code "|") (chars current.old.rest.now) ≡ None }
-    ensures value { (i : Bool) (below : List Tree) (inner : Tree) (p : OpenPart) (s t : states.State) (l m n : Log) →
-        views trees.old.items ≡ all_decided i below ++ decided i inner ∷ [] → IsPart i open_group.entry p →
+    ensures value { (i : Bool) (below : List Tree) (inner : Tree) (p : machine.OpenPart) (s t : states.State) (l m n : Log) →
+        views trees.old.items ≡ all_decided i below ++ decided i inner ∷ [] → IsPart i open_part.entry p →
         start.left ≡ bytes s.rest → start.flags ≡ s.flags → OpensPart depth s l p t m →
         Part p (depth + 1) t (states.done inner (state current.old)) m n →
         GivesStep i result depth s l below (views trees.new.items) (state current.new)
         (λ k js. (S.records spans.old n → S.records spans.new k) × (js ≡ machine.items_opening p ++ items inner)) }
     ensures shorter { IfOk result (λ _. length current.new.rest.now < length current.old.rest.now) }
 {
-    let has_body = has_body_next(&open_group);
+    let has_body = has_body_next(&open_part);
     let last = trees.len() - 1;
-    end_part(alloc, open_group, &mut trees[last], current, spans)?;
+    end_part(alloc, open_part, &mut trees[last], current, spans)?;
     if !has_body {
         current.flags = start.flags;
         end_piece(alloc, trees, current, start.left, depth, spans)?;
@@ -247,14 +247,14 @@ pub(crate) fn close<'a, S: Spanning>(
     let condition = Box::new(alloc, trees.take_last())?;
     spans.begin_body(current.rest);
     let left = byte_len(current.rest);
-    Ok(Some(OpenGroup::Body { condition, left }))
+    Ok(Some(OpenPart::Body { condition, left }))
 }
 
 /// Whether the atom continues after the open part: the body of a conditional follows its condition.
-fn has_body_next(open_group: &OpenGroup) -> bool
-    ensures { result ≡ machine.has_body_next (part_of open_group.now) }
+fn has_body_next(open_part: &OpenPart) -> bool
+    ensures { result ≡ machine.has_body_next (part_of open_part.now) }
 {
-    matches!(open_group, OpenGroup::Condition)
+    matches!(open_part, OpenPart::Condition)
 }
 
 /// Reads the closing parenthesis of the part, and makes the tree of its contents the tree of the part.
@@ -262,7 +262,7 @@ fn has_body_next(open_group: &OpenGroup) -> bool
 /// The error is GeneralParseError if a conditional lacks a body that it needs; otherwise that of `close_paren`.
 fn end_part<S: Spanning>(
     alloc: Global,
-    open_group: OpenGroup,
+    open_part: OpenPart,
     tree: &mut Expr,
     current: &mut State,
     spans: &mut S,
@@ -270,28 +270,28 @@ fn end_part<S: Spanning>(
     requires last { ends (chars current.old.rest.now) ≡ true }
     requires no_bar { strip (code "|") (chars current.old.rest.now) ≡ None }
     ensures value { Turns result (view tree.new) (state current.new)
-        (ended_with open_group.entry (view tree.old) (state current.old)) }
+        (ended_with open_part.entry (view tree.old) (state current.old)) }
     ensures shorter { IfOk result (λ _. length current.new.rest.now < length current.old.rest.now) }
     ensures spans { (l : Log) → S.records spans.old l → OnOk result (S.records spans.new (part_recorded
-        (part_of open_group.entry) (view tree.old) (reach_of (chars current.old.rest.now))
+        (part_of open_part.entry) (view tree.old) (reach_of (chars current.old.rest.now))
         (reach_of (chars current.new.rest.now)) l)) }
 {
     let paren = reach(current.rest);
-    read_end(alloc, &open_group, current)?;
-    Ok(node_of_part(alloc, open_group, tree, paren, current.rest, spans)?)
+    read_end(alloc, &open_part, current)?;
+    Ok(node_of_part(alloc, open_part, tree, paren, current.rest, spans)?)
 }
 
 /// Reads the closing parenthesis of the open part, whatever its tree is. The errors are those of `end_part`.
-fn read_end(alloc: Global, open_group: &OpenGroup, current: &mut State) -> Result<(), ReadError>
+fn read_end(alloc: Global, open_part: &OpenPart, current: &mut State) -> Result<(), ReadError>
     requires last { ends (chars current.old.rest.now) ≡ true }
     requires no_bar { strip (code "|") (chars current.old.rest.now) ≡ None }
     ensures value { (r : Tree) → MatchResult result
-        (λ _. ended_with open_group.now r (state current.old) ≡
-        states.done (machine.made_of open_group.now r) (state current.new))
-        (λ e. IsErrorAmong e (λ o. ended_with open_group.now r (state current.old) ≡ o)) }
+        (λ _. ended_with open_part.now r (state current.old) ≡
+        states.done (machine.made_of open_part.now r) (state current.new))
+        (λ e. IsErrorAmong e (λ o. ended_with open_part.now r (state current.old) ≡ o)) }
     ensures shorter { IfOk result (λ _. length current.new.rest.now < length current.old.rest.now) }
 {
-    if lacks_body(open_group, current.rest) {
+    if lacks_body(open_part, current.rest) {
         return Err(general(alloc, NO_BODY, reach(current.rest)));
     }
     close_paren(current)
@@ -299,11 +299,11 @@ fn read_end(alloc: Global, open_group: &OpenGroup, current: &mut State) -> Resul
 
 /// Whether the open part is the body of a conditional, has no byte before `text`, and may not be empty, since its
 /// condition is not on a group.
-fn lacks_body(open_group: &OpenGroup, text: &str) -> bool
-    ensures { (s : states.State) → s.rest ≡ chars text.now → result ≡ machine.lacks_body (part_of open_group.now) s }
+fn lacks_body(open_part: &OpenPart, text: &str) -> bool
+    ensures { (s : states.State) → s.rest ≡ chars text.now → result ≡ machine.lacks_body (part_of open_part.now) s }
 {
-    match open_group {
-        OpenGroup::Body { condition, left } => byte_len(text) == *left && !is_condition(condition),
+    match open_part {
+        OpenPart::Body { condition, left } => byte_len(text) == *left && !is_condition(condition),
         _ => false,
     }
 }
@@ -313,20 +313,20 @@ fn lacks_body(open_group: &OpenGroup, text: &str) -> bool
 #[inline(always)]
 fn node_of_part<S: Spanning>(
     alloc: Global,
-    open_group: OpenGroup,
+    open_part: OpenPart,
     tree: &mut Expr,
     paren: usize,
     rest: &str,
     spans: &mut S,
 ) -> Result<(), AllocError>
-    ensures tree { OnOk result (view tree.new ≡ machine.made_of open_group.entry (view tree.old)) }
+    ensures tree { OnOk result (view tree.new ≡ machine.made_of open_part.entry (view tree.old)) }
     ensures spans { (l : Log) → S.records spans.old l →
         OnOk result (S.records spans.new
-        (part_recorded (part_of open_group.entry) (view tree.old) paren (reach_of (chars rest.now)) l)) }
+        (part_recorded (part_of open_part.entry) (view tree.old) paren (reach_of (chars rest.now)) l)) }
 {
-    match open_group {
-        OpenGroup::Group { kind, reach } => {
-            close_group(&kind, rest, spans)?;
+    match open_part {
+        OpenPart::Group { kind, reach } => {
+            record_closing(&kind, rest, spans)?;
             enclose(alloc, kind, reach, tree)
         }
         other => node_of_any_part(alloc, other, tree, paren, rest, spans),
@@ -337,36 +337,36 @@ fn node_of_part<S: Spanning>(
 #[inline(never)]
 fn node_of_any_part<S: Spanning>(
     alloc: Global,
-    open_group: OpenGroup,
+    open_part: OpenPart,
     tree: &mut Expr,
     paren: usize,
     rest: &str,
     spans: &mut S,
 ) -> Result<(), AllocError>
-    ensures tree { OnOk result (view tree.new ≡ machine.made_of open_group.entry (view tree.old)) }
+    ensures tree { OnOk result (view tree.new ≡ machine.made_of open_part.entry (view tree.old)) }
     ensures spans { (l : Log) → S.records spans.old l →
         OnOk result (S.records spans.new
-        (part_recorded (part_of open_group.entry) (view tree.old) paren (reach_of (chars rest.now)) l)) }
+        (part_recorded (part_of open_part.entry) (view tree.old) paren (reach_of (chars rest.now)) l)) }
 {
     let end = reach(rest);
-    match open_group {
-        OpenGroup::Top | OpenGroup::Condition => Ok(()),
-        OpenGroup::Group { kind, reach } => {
-            close_group(&kind, rest, spans)?;
+    match open_part {
+        OpenPart::Top | OpenPart::Condition => Ok(()),
+        OpenPart::Group { kind, reach } => {
+            record_closing(&kind, rest, spans)?;
             enclose(alloc, kind, reach, tree)
         }
-        OpenGroup::Body { condition, .. } => {
+        OpenPart::Body { condition, .. } => {
             part_body(tree, paren, spans)?;
             let body = mem::replace(tree, Expr::Empty);
             *tree = conditional(alloc, condition, branches_of(body), end, spans)?;
             Ok(())
         }
-        OpenGroup::First => {
+        OpenPart::First => {
             let branch = mem::replace(tree, Expr::Empty);
             *tree = clear_or_stopper(alloc, branch, end, spans)?;
             Ok(())
         }
-        OpenGroup::Second(absent) => {
+        OpenPart::Second(absent) => {
             spans.close(end, false)?;
             let exp = Box::new(alloc, mem::replace(tree, Expr::Empty))?;
             *tree = Expr::Absent(Absent::Expression { absent, exp });
@@ -390,7 +390,11 @@ fn closing_before(rest: &str, unnamed: bool) -> RecordedTrivium
 
 /// Records the end of a group of one alternation, which `rest` follows. A flag group has no node.
 #[inline(always)]
-fn close_group<S: Spanning>(kind: &GroupKind, rest: &str, spans: &mut S) -> Result<(), AllocError>
+fn record_closing<S: Spanning>(
+    kind: &GroupKind,
+    rest: &str,
+    spans: &mut S,
+) -> Result<(), AllocError>
     ensures { (l : Log) → S.records spans.old l → OnOk result (S.records spans.new
         (group_recorded (group_kind kind.now) (reach_of (chars rest.now)) l)) }
 {

@@ -6,7 +6,7 @@ ghost use Rattle.fancy_lex.specs.Target.{Target};
 ghost use Rattle.fancy_lex.specs.Text.{text_of};
 ghost use Rattle.fancy_grammar.specs.Items.{items, items_all, openings_in};
 ghost use Rattle.fancy_syntax.specs.Regrouped.{raw, regrouped, regrouped_all};
-ghost use Rattle.fancy_syntax.specs.Records.{Walks, resolver_of, progress_of};
+ghost use Rattle.fancy_syntax.specs.WalkViews.{Walks, scope_of, progress_of};
 ghost use Rattle.fancy_grammar.specs.Resolved.{reference_node};
 ghost use Rattle.fancy_grammar.specs.Tree.{trees_of, ast_group};
 ghost use Rattle.fancy_parts.specs.Meaning.{number};
@@ -16,7 +16,7 @@ ghost use Rattle.fancy_syntax.specs.View.{view, view_absent, view_ast, views};
 ghost use Rattle.fancy_grammar.specs.Walk.{resolved_by, all_resolved_by};
 
 use crate::expr::{Absent, AstNode, Expr};
-use crate::resolve::records::{Progress, Resolver, Stopped, refer};
+use crate::resolve::progress::{Progress, Scope, Stopped, refer};
 use fancy_lex::name::CaptureGroupTarget;
 use fancy_lex::text::{Reach, position_at};
 use fancy_parts::ranks::Role;
@@ -27,37 +27,37 @@ use std::mem;
 #[inline(always)]
 pub(super) fn rewrite(
     tree: &mut Expr,
-    resolver: &Resolver,
+    scope: &Scope,
     progress: &mut Progress,
 ) -> Result<(), Stopped>
     requires { progress.old.passed + length (openings_in (items (raw tree.old))) < amount_bound }
-    ensures { Walks result (resolver_of resolver.now) (progress_of progress.old) (items (raw tree.old))
+    ensures { Walks result (scope_of scope.now) (progress_of progress.old) (items (raw tree.old))
         progress.new
-        (λ _. view tree.new ≡ resolved_by (resolver_of resolver.now) progress.old.passed (raw tree.old)) }
+        (λ _. view tree.new ≡ resolved_by (scope_of scope.now) progress.old.passed (raw tree.old)) }
 {
     match tree {
-        Expr::Concat(parts) => rewrite_all(parts, resolver, progress),
-        Expr::Alt(branches) => rewrite_all(branches, resolver, progress),
+        Expr::Concat(parts) => rewrite_all(parts, scope, progress),
+        Expr::Alt(branches) => rewrite_all(branches, scope, progress),
         Expr::Group(contents) => {
             progress.passed += 1;
-            rewrite_child(contents, resolver, progress)
+            rewrite_child(contents, scope, progress)
         }
-        Expr::LookAround(child, _) => rewrite_child(child, resolver, progress),
-        Expr::Repeat { child, .. } => rewrite_child(child, resolver, progress),
-        Expr::AtomicGroup(child) => rewrite_child(child, resolver, progress),
-        Expr::DefineGroup { definitions } => rewrite_child(definitions, resolver, progress),
+        Expr::LookAround(child, _) => rewrite_child(child, scope, progress),
+        Expr::Repeat { child, .. } => rewrite_child(child, scope, progress),
+        Expr::AtomicGroup(child) => rewrite_child(child, scope, progress),
+        Expr::DefineGroup { definitions } => rewrite_child(definitions, scope, progress),
         Expr::Conditional {
             condition,
             true_branch,
             false_branch,
         } => {
-            rewrite_child(condition, resolver, progress)?;
-            rewrite_child(true_branch, resolver, progress)?;
-            rewrite_child(false_branch, resolver, progress)
+            rewrite_child(condition, scope, progress)?;
+            rewrite_child(true_branch, scope, progress)?;
+            rewrite_child(false_branch, scope, progress)
         }
-        Expr::Absent(absent) => rewrite_absent(absent, resolver, progress),
+        Expr::Absent(absent) => rewrite_absent(absent, scope, progress),
         Expr::AstNode(node, reach) => {
-            let resolved = resolve_node(node, *reach, resolver, progress)?;
+            let resolved = resolve_node(node, *reach, scope, progress)?;
             // The node that was in its place owns no memory any more.
             mem::forget(mem::replace(tree, resolved));
             Ok(())
@@ -87,26 +87,26 @@ pub(super) fn rewrite(
 fn resolve_node(
     node: &mut AstNode,
     reach: Reach,
-    resolver: &Resolver,
+    scope: &Scope,
     progress: &mut Progress,
 ) -> Result<Expr, Stopped>
     requires { progress.old.passed + length (openings_in (items (regrouped (view_ast node.old reach)))) < amount_bound }
-    ensures { Walks result (resolver_of resolver.now) (progress_of progress.old) (items (regrouped (view_ast node.old reach)))
+    ensures { Walks result (scope_of scope.now) (progress_of progress.old) (items (regrouped (view_ast node.old reach)))
         progress.new
-        (λ e. view e ≡ resolved_by (resolver_of resolver.now) progress.old.passed (regrouped (view_ast node.old reach))) }
+        (λ e. view e ≡ resolved_by (scope_of scope.now) progress.old.passed (regrouped (view_ast node.old reach))) }
 {
     let node = mem::replace(
         node,
         AstNode::SubroutineCall(CaptureGroupTarget::ByNumber(0)),
     );
-    let position = position_at(resolver.pattern, reach);
+    let position = position_at(scope.pattern, reach);
     match node {
-        AstNode::AstGroup { name, inner } => resolve_group(name, inner, resolver, progress),
+        AstNode::AstGroup { name, inner } => resolve_group(name, inner, scope, progress),
         AstNode::Backref {
             target,
             casei,
             relative_recursion_level,
-        } => match refer(resolver, progress, reach, Role::BackReference, &target)? {
+        } => match refer(scope, progress, reach, Role::BackReference, &target)? {
             Some(group) => Ok(backref(group, casei, relative_recursion_level)),
             None => Ok(Expr::AstNode(
                 AstNode::Backref {
@@ -118,7 +118,7 @@ fn resolve_node(
             )),
         },
         AstNode::SubroutineCall(target) => match refer(
-            resolver,
+            scope,
             progress,
             reach,
             Role::Call,
@@ -130,7 +130,7 @@ fn resolve_node(
         AstNode::BackrefExistsCondition {
             target,
             relative_recursion_level,
-        } => match refer(resolver, progress, reach, Role::Condition, &target)? {
+        } => match refer(scope, progress, reach, Role::Condition, &target)? {
             Some(group) => Ok(Expr::BackrefExistsCondition {
                 group,
                 relative_recursion_level,
@@ -151,21 +151,21 @@ fn resolve_node(
 fn resolve_group(
     name: Option<String>,
     contents: Box<Expr>,
-    resolver: &Resolver,
+    scope: &Scope,
     progress: &mut Progress,
 ) -> Result<Expr, Stopped>
     requires { progress.old.passed + 1 + length (openings_in (items (raw contents.value))) < amount_bound }
     ensures { (reach : ℕ) → let group = ast_group (option_map text_of name) reach (raw contents.value) in
-        Walks result (resolver_of resolver.now) (progress_of progress.old) (items group) progress.new
-        (λ e. view e ≡ resolved_by (resolver_of resolver.now) progress.old.passed group) }
+        Walks result (scope_of scope.now) (progress_of progress.old) (items group) progress.new
+        (λ e. view e ≡ resolved_by (scope_of scope.now) progress.old.passed group) }
 {
     let mut inner = contents;
-    if is_counted_name(resolver.named, name.as_deref()) {
+    if is_counted_name(scope.named, name.as_deref()) {
         progress.passed += 1;
-        rewrite_child(&mut inner, resolver, progress)?;
+        rewrite_child(&mut inner, scope, progress)?;
         Ok(Expr::Group(inner))
     } else {
-        rewrite_child(&mut inner, resolver, progress)?;
+        rewrite_child(&mut inner, scope, progress)?;
         Ok(mem::replace(&mut *inner, Expr::Empty))
     }
 }
@@ -190,21 +190,21 @@ fn backref(group: usize, casei: bool, relative_recursion_level: Option<isize>) -
 #[inline(never)]
 fn rewrite_absent(
     absent: &mut Absent,
-    resolver: &Resolver,
+    scope: &Scope,
     progress: &mut Progress,
 ) -> Result<(), Stopped>
     requires { progress.old.passed + length (openings_in (items (regrouped (view_absent absent.old)))) < amount_bound }
-    ensures { Walks result (resolver_of resolver.now) (progress_of progress.old) (items (regrouped (view_absent absent.old)))
+    ensures { Walks result (scope_of scope.now) (progress_of progress.old) (items (regrouped (view_absent absent.old)))
         progress.new
         (λ _. view_absent absent.new
-        ≡ resolved_by (resolver_of resolver.now) progress.old.passed (regrouped (view_absent absent.old))) }
+        ≡ resolved_by (scope_of scope.now) progress.old.passed (regrouped (view_absent absent.old))) }
 {
     match absent {
-        Absent::Repeater(child) => rewrite_child(child, resolver, progress),
-        Absent::Stopper(child) => rewrite_child(child, resolver, progress),
+        Absent::Repeater(child) => rewrite_child(child, scope, progress),
+        Absent::Stopper(child) => rewrite_child(child, scope, progress),
         Absent::Expression { absent, exp } => {
-            rewrite_child(absent, resolver, progress)?;
-            rewrite_child(exp, resolver, progress)
+            rewrite_child(absent, scope, progress)?;
+            rewrite_child(exp, scope, progress)
         }
         Absent::Clear => Ok(()),
     }
@@ -215,34 +215,30 @@ fn rewrite_absent(
 #[inline(never)]
 fn rewrite_child(
     child: &mut Box<Expr>,
-    resolver: &Resolver,
+    scope: &Scope,
     progress: &mut Progress,
 ) -> Result<(), Stopped>
     requires { progress.old.passed + length (openings_in (items (raw child.old.value))) < amount_bound }
-    ensures { Walks result (resolver_of resolver.now) (progress_of progress.old) (items (raw child.old.value))
+    ensures { Walks result (scope_of scope.now) (progress_of progress.old) (items (raw child.old.value))
         progress.new
-        (λ _. view child.new.value ≡ resolved_by (resolver_of resolver.now) progress.old.passed (raw child.old.value)) }
+        (λ _. view child.new.value ≡ resolved_by (scope_of scope.now) progress.old.passed (raw child.old.value)) }
 {
-    rewrite(&mut **child, resolver, progress)
+    rewrite(&mut **child, scope, progress)
 }
 
 /// Resolves the trees in place, from the first on.
 #[cycle(rewrite)]
 #[inline(never)]
-fn rewrite_all(
-    trees: &mut Vec<Expr>,
-    resolver: &Resolver,
-    progress: &mut Progress,
-) -> Result<(), Stopped>
+fn rewrite_all(trees: &mut Vec<Expr>, scope: &Scope, progress: &mut Progress) -> Result<(), Stopped>
     requires { progress.old.passed + length (openings_in (items_all (regrouped_all (trees_of (views trees.old.items))))) < amount_bound }
-    ensures { Walks result (resolver_of resolver.now) (progress_of progress.old)
+    ensures { Walks result (scope_of scope.now) (progress_of progress.old)
         (items_all (regrouped_all (trees_of (views trees.old.items)))) progress.new
         (λ _. trees_of (views trees.new.items)
-        ≡ all_resolved_by (resolver_of resolver.now) progress.old.passed (regrouped_all (trees_of (views trees.old.items)))) }
+        ≡ all_resolved_by (scope_of scope.now) progress.old.passed (regrouped_all (trees_of (views trees.old.items)))) }
 {
     for i in 0..trees.len() {
         if may_hold_items(&trees[i]) {
-            rewrite(&mut trees[i], resolver, progress)?;
+            rewrite(&mut trees[i], scope, progress)?;
         }
     }
     Ok(())

@@ -21,7 +21,7 @@ use Rattle.fancy_lex.specs.ErrorTable.{property_not_closed}
 use Rattle.fancy_lex.specs.Hex.{hex, value, leaf_of_value, is_scalar}
 use Rattle.fancy_lex.specs.LayoutSteps.{layout}
 use Rattle.fancy_lex.specs.Property.{Property, PropertyName, single, braced, read_property, name_at, property_text}
-use Rattle.fancy_lex.specs.Property.{set, pair, letter, lowercase, look_up, turn, form, form_text}
+use Rattle.fancy_lex.specs.Property.{set, pair, letter, lowercase, look_up, without_caret, form, form_text}
 use Rattle.fancy_lex.specs.Reading.{Reading, gives, fails, choose, layout_reading, ◌>=>◌}
 use Rattle.fancy_lex.specs.Referred.{Reference}
 use Rattle.fancy_lex.specs.Text.{Text, strip, reach_of}
@@ -42,7 +42,7 @@ use Rattle.fancy_pattern.proofs.PatternLaws.Source.Names.{short_read, short_read
 use Rattle.fancy_pattern.proofs.PatternLaws.Source.Rows.{IsFree, any, alpha_digit, blanks, controls, tab_blank, posix}
 use Rattle.fancy_pattern.proofs.PatternLaws.Source.Rows.{word_set}
 use Rattle.fancy_pattern.proofs.PatternLaws.Source.Rows.{set_read, graph, print, turned_graph, turned_print, free_of}
-use Rattle.fancy_pattern.proofs.PatternLaws.Source.Rows.{lower_free, lower_twice, turn_free}
+use Rattle.fancy_pattern.proofs.PatternLaws.Source.Rows.{lower_free, lower_twice, without_caret_free}
 use Rattle.fancy_pattern.proofs.PatternLaws.Source.Escapes.{IsNameFree, name_free, hex_items, letter_kept}
 use Rattle.fancy_pattern.proofs.PatternLaws.Source.Classes.{ClassSource, class_source_of}
 use Rattle.fancy_pattern.proofs.PatternLaws.Source.Alone.{class_source, escape_source}
@@ -332,8 +332,8 @@ property_has_source : (f : Flags) (u negated : Bool) (name : PropertyName) (case
 unfolding property_text
 property_has_source f u negated (single c) casei same h = short_has_source f negated c casei h
 property_has_source f u negated (braced w) casei same h =
-    let p = turn negated w in
-    form_has_source f p.0 (lowercase p.1) casei (lower_free p.1 (turn_free negated w h)) (lower_twice p.1) u same
+    let p = without_caret negated w in
+    form_has_source f p.0 (lowercase p.1) casei (lower_free p.1 (without_caret_free negated w h)) (lower_twice p.1) u same
 
 -- ---- escapes
 

@@ -7,7 +7,7 @@ use Prim.Native.Char.{code}
 use Rattle.fancy_lex.specs.Class.{is_negated}
 use Rattle.fancy_lex.specs.Escape.{escape}
 use Rattle.fancy_lex.specs.Escaped as leaves
-use Rattle.fancy_lex.specs.Property.{pair, braced, letter, lowercase, look_up, turn, form, form_text, braced_text}
+use Rattle.fancy_lex.specs.Property.{pair, braced, letter, lowercase, look_up, without_caret, form, form_text, braced_text}
 use Rattle.fancy_lex.specs.Property.{property_text}
 use Rattle.fancy_lex.specs.Reading.{gives, choose}
 use Rattle.fancy_lex.specs.Text.{Text, strip}
@@ -90,7 +90,7 @@ stripped m (c ∷ w) t e = at (c == m) refl e
     at true k e = let same : w ≡ t = cc in ap (λ d. d ∷ w) (eqb-true c m k) ∙ ap (λ z. m ∷ z) same
     at false k e = absurd cc
 
-unturned : (negated : Bool) (w : Text) → strip (code "^") w ≡ None → turn negated w ≡ (negated, w)
+unturned : (negated : Bool) (w : Text) → strip (code "^") w ≡ None → without_caret negated w ≡ (negated, w)
 unturned negated [] e = refl
 unturned negated (c ∷ w) e = at (c == code "^") e
   where

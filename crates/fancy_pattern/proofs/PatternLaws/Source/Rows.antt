@@ -11,7 +11,7 @@ use Rattle.fancy_lex.specs.Characters.{◌∈◌}
 use Rattle.fancy_lex.specs.Class.{joint, plain}
 use Rattle.fancy_lex.specs.Escape.{escape}
 use Rattle.fancy_lex.specs.Escaped as leaves
-use Rattle.fancy_lex.specs.Property.{set, pair, PropertyName, single, braced, lowercase, look_up, turn, form}
+use Rattle.fancy_lex.specs.Property.{set, pair, PropertyName, single, braced, lowercase, look_up, without_caret, form}
 use Rattle.fancy_lex.specs.Property.{form_text, property_text, is_negated_set}
 use Rattle.fancy_lex.specs.Reading.{gives}
 use Rattle.fancy_lex.specs.Text.{Text}
@@ -366,9 +366,9 @@ pub lower_twice : (w : Text) → lowercase (lowercase w) ≡ lowercase w
 lower_twice [] = refl
 lower_twice (c ∷ w) = rw (lower_same c, lower_twice w) refl
 
-pub turn_free : (negated : Bool) (w : Text) → HasNoBrace w → HasNoBrace (turn negated w).1
-turn_free negated [] h = tt
-turn_free negated (c ∷ w) h = by_test (c == code "^")
+pub without_caret_free : (negated : Bool) (w : Text) → HasNoBrace w → HasNoBrace (without_caret negated w).1
+without_caret_free negated [] h = tt
+without_caret_free negated (c ∷ w) h = by_test (c == code "^")
   where
     by_test : (x : Bool) → HasNoBrace (if◌then◌else◌ {A = Bool × Text} x (not negated, w) (negated, c ∷ w)).1
     by_test true = h.1
@@ -380,5 +380,5 @@ pub property_in : (u b σ negated : Bool) (name : PropertyName) → IsBelow σ b
 unfolding property_text
 property_in u b σ negated (single c) below h = short_in u b σ negated c below h
 property_in u b σ negated (braced w) below h =
-    let p = turn negated w in
-    form_in b σ p.0 (lowercase p.1) below (lower_free p.1 (turn_free negated w h)) (lower_twice p.1) u
+    let p = without_caret negated w in
+    form_in b σ p.0 (lowercase p.1) below (lower_free p.1 (without_caret_free negated w h)) (lower_twice p.1) u

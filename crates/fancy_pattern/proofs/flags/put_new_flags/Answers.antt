@@ -7,7 +7,7 @@ use Rattle.fancy_pattern.proofs.flags.put_new_flags.Goals as goal
 
 pub returns : goal.returns
 returns c =
-    on_both c.put_group.result _ _
-    (subst (λ f. OnOk c.put_group.result (Added c.args.out.now c.put_group.new.out
-    (inline_flags c.args.context.now.flags f))) c.set.ensures.flags c.put_group.ensures)
+    on_both c.put_flag_change.result _ _
+    (subst (λ f. OnOk c.put_flag_change.result (Added c.args.out.now c.put_flag_change.new.out
+    (inline_flags c.args.context.now.flags f))) c.set.ensures.flags c.put_flag_change.ensures)
     c.set.ensures.context

@@ -1,7 +1,7 @@
 use Rattle.std.proofs.Common.{sym, ap, ◌∙◌}
 use Rattle.fancy_grammar.specs.Items.{items}
 use Rattle.fancy_grammar.specs.Walk.{Progress, nothing_recorded, progress_after, resolved_by}
-use Rattle.fancy_syntax.specs.Records.{info_found, progress_of, resolver_of}
+use Rattle.fancy_syntax.specs.WalkViews.{info_found, progress_of, scope_of}
 use Rattle.fancy_syntax.specs.Regrouped.{raw}
 use Rattle.fancy_syntax.specs.View.{view}
 use Rattle.fancy_syntax.proofs.RegroupedLemmas.{settled_passes, settled_same}
@@ -10,7 +10,7 @@ use Rattle.fancy_syntax.proofs.resolve.walk.Goals.{then-unresolved+in-Ok, else-u
 
 pub returns-clause-tree : goal.returns-clause-tree
 returns-clause-tree c =
-    let t = c.args.tree.now in let k = resolver_of c.args.resolver.now in
+    let t = c.args.tree.now in let k = scope_of c.args.scope.now in
     elim c.if-unresolved.branch [
       | then-unresolved+in-Ok w ↦
           let walked = rw w.in-Ok.is at w.rewrite.ensures in
@@ -21,7 +21,7 @@ returns-clause-tree c =
 
 pub returns-clause-group_info : goal.returns-clause-group_info
 returns-clause-group_info c =
-    let t = c.args.tree.now in let k = resolver_of c.args.resolver.now in
+    let t = c.args.tree.now in let k = scope_of c.args.scope.now in
     let info = info_found k.named k.groups in
     elim c.if-unresolved.branch [
       | then-unresolved+in-Ok w ↦
@@ -35,7 +35,7 @@ returns-clause-group_info c =
 
 pub returns-clause-no_error : goal.returns-clause-no_error
 returns-clause-no_error c =
-    let t = c.args.tree.now in let k = resolver_of c.args.resolver.now in
+    let t = c.args.tree.now in let k = scope_of c.args.scope.now in
     let error = λ (p : Progress). p.error in
     elim c.if-unresolved.branch [
       | then-unresolved+in-Ok w ↦

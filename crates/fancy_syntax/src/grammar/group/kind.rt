@@ -11,7 +11,7 @@ use std::mem;
 /// The kind of a group.
 #[derive(Clone, Copy)]
 pub(crate) enum GroupKind<'a> {
-    /// A capturing group, with its name if it has one. Once `Found::add` has returned it, it has a number.
+    /// A capturing group, with its name if it has one. Once `FoundGroups::add` has returned it, it has a number.
     Capture(Option<&'a str>),
     /// A capturing group without a name, which has a number only if no group has a name.
     Undecided,

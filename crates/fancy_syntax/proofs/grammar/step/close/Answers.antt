@@ -29,7 +29,7 @@ returns-in_err-end_part-clause-value g c =
     omega (arith, c.len-last.ensures, c.args.trees.now.ok.0, c.requires.some) in
     let here = last_is es (c.len-last.result - 1) c.index_mut.result.now (all_decided d below) (decided d inner) w size
     c.index_mut.ensures.value in
-    let o = c.args.open_group in
+    let o = c.args.open_part in
     let s = state c.args.current.now in
     let e = err_from_is_err_and c.from_residual.result c.from_residual.ensures.1 in
     rw (e.1, e.2) (IsErrorAmong-map (λ q. ended_with o (decided d inner) s ≡ q) (Piece c.args.depth u)
@@ -46,7 +46,7 @@ returns-in_err-end_piece-clause-value g c =
     omega (arith, c.len-last.ensures, c.args.trees.now.ok.0, c.requires.some) in
     let here = last_is es (c.len-last.result - 1) c.index_mut.result.now (all_decided d below) (decided d inner) w size
     c.index_mut.ensures.value in
-    let o = c.args.open_group in
+    let o = c.args.open_part in
     let s = state c.args.current.now in
     let t = state c.end_part.new.current in
     let z : State = record t { flags = c.args.start.flags } in
@@ -71,7 +71,7 @@ returns-then-not-has_body-clause-value g c =
     omega (arith, c.len-last.ensures, c.args.trees.now.ok.0, c.requires.some) in
     let here = last_is es (c.len-last.result - 1) c.index_mut.result.now (all_decided d below) (decided d inner) w size
     c.index_mut.ensures.value in
-    let o = c.args.open_group in
+    let o = c.args.open_part in
     let s = state c.args.current.now in
     let t = state c.end_part.new.current in
     let z : State = record t { flags = c.args.start.flags } in
@@ -112,7 +112,7 @@ returns-clause-value g c =
     omega (arith, c.len-last.ensures, c.args.trees.now.ok.0, c.requires.some) in
     let here = last_is es (c.len-last.result - 1) c.index_mut.result.now (all_decided d below) (decided d inner) w size
     c.index_mut.ensures.value in
-    let o = c.args.open_group in
+    let o = c.args.open_part in
     let s = state c.args.current.now in
     let t = state c.end_part.new.current in
     let put = last_set es (c.len-last.result - 1) c.end_part.new.tree (all_decided d below) (decided d inner) w size in

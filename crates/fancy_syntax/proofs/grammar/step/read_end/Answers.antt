@@ -11,7 +11,7 @@ use Rattle.fancy_syntax.proofs.grammar.step.read_end.Goals as goal
 
 pub returns-then-lacks_body-clause-value : goal.returns-then-lacks_body-clause-value
 returns-then-lacks_body-clause-value c =
-    λ r. IsErrorAmong-is (λ q. ended_with c.args.open_group.now r (state c.args.current.now) ≡ q)
+    λ r. IsErrorAmong-is (λ q. ended_with c.args.open_part.now r (state c.args.current.now) ≡ q)
     c.general.result _
     (says_no_body c.general.result c.reach.result c.general.ensures)
     (rw c.reach.ensures
@@ -19,7 +19,7 @@ returns-then-lacks_body-clause-value c =
 
 pub returns-clause-value : goal.returns-clause-value
 returns-clause-value c =
-    λ r. let node = made_of c.args.open_group.now r in
+    λ r. let node = made_of c.args.open_part.now r in
     subst (λ o. MatchResult c.close_paren.result (λ _. o ≡ done node (state c.close_paren.new.current))
     (λ e. IsErrorAmong e (λ q. o ≡ q)))
     (sym (ended_closed _ _ _ (sym (c.lacks_body.ensures (state c.args.current.now) refl) ∙ c.if-lacks_body.false)))

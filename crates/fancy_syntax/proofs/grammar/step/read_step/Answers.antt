@@ -137,7 +137,7 @@ returns-in_ok-kind-in-Group-clause-value g c i l ts e w =
         refl,
         refl,
       ),
-      (λ x. c.in_ok-open_group-in-Group.ensures _ (c.in_ok-pass_layout.ensures l x), f.found _),
+      (λ x. c.in_ok-record_opening-in-Group.ensures _ (c.in_ok-pass_layout.ensures l x), f.found _),
     )
 
 pub returns-in_ok-open-in-Condition-clause-value : goal.returns-in_ok-open-in-Condition-clause-value

@@ -5,7 +5,7 @@ use Rattle.std.specs.Prelude.{chars}
 use Rattle.fancy_lex.specs.NameViews.{view_target}
 use Rattle.fancy_lex.specs.Text.{bytes}
 use Rattle.fancy_grammar.specs.Items.{items, openings_in}
-use Rattle.fancy_syntax.specs.Records.{resolver_of, progress_of}
+use Rattle.fancy_syntax.specs.WalkViews.{scope_of, progress_of}
 use Rattle.fancy_syntax.specs.Regrouped.{raw}
 use Rattle.fancy_syntax.specs.View.{view, views}
 use Rattle.fancy_grammar.specs.Walk.{progress_after}
@@ -31,7 +31,7 @@ rewrite-rewrite_child-requires-in-Conditional-2 t c =
     let is = c.in-Conditional in
     let parts = three_borrowed is.is is.condition-is is.true_branch-is is.false_branch-is in
     let first = c.in_ok-rewrite_child-in-Conditional.ensures in
-    let bound = three_recorded (resolver_of c.args.resolver.now) _ _ parts first.1 in
+    let bound = three_recorded (scope_of c.args.scope.now) _ _ parts first.1 in
     (search (rules, the_lemmas), omega arith)
 
 pub rewrite-rewrite_child-requires-in-Conditional-3 : goal.rewrite-rewrite_child-requires-in-Conditional-3
@@ -40,7 +40,7 @@ rewrite-rewrite_child-requires-in-Conditional-3 t c =
     let parts = three_borrowed is.is is.condition-is is.true_branch-is is.false_branch-is in
     let first = c.in_ok-rewrite_child-in-Conditional.ensures in let second =
     c.in_ok-rewrite_child-in-Conditional-2.ensures in
-    let bound = third_recorded (resolver_of c.args.resolver.now) _ _ _ parts first.1 second.1 in
+    let bound = third_recorded (scope_of c.args.scope.now) _ _ _ parts first.1 second.1 in
     (search (rules, the_lemmas), omega arith)
 
 pub rewrite_absent-rewrite_child-requires-in-Expression : goal.rewrite_absent-rewrite_child-requires-in-Expression
@@ -52,7 +52,7 @@ rewrite_absent-rewrite_child-requires-in-Expression t c =
 pub rewrite_absent-rewrite_child-requires-in-Expression-2 : goal.rewrite_absent-rewrite_child-requires-in-Expression-2
 rewrite_absent-rewrite_child-requires-in-Expression-2 t c =
     let parts = two_parts c.in-Expression.is refl refl in
-    let bound = two_recorded (resolver_of c.args.resolver.now) _ _ parts c.in_ok-rewrite_child-in-Expression.ensures.1 in
+    let bound = two_recorded (scope_of c.args.scope.now) _ _ parts c.in_ok-rewrite_child-in-Expression.ensures.1 in
     (search (rules, the_lemmas), omega arith)
 
 pub rewrite_all-rewrite-requires : goal.rewrite_all-rewrite-requires
@@ -70,7 +70,7 @@ rewrite_all-rewrite-requires t c =
 pub rewrite_all-loop-i-preserved : goal.rewrite_all-loop-i-preserved
 rewrite_all-loop-i-preserved t c =
     let es = c.args.trees.now.items in let i = c.loop-i.i in let now = c.loop-i.trees.items in
-    let k = resolver_of c.args.resolver.now in
+    let k = scope_of c.args.scope.now in
     let all = resolved_list k c.args.progress.now.passed (views es) in
     let s = progress_of c.loop-i.progress in
     let lengths = c.loop-i.invariant.0.0 in
@@ -124,7 +124,7 @@ rewrite_all-loop-i-preserved t c =
 
 pub rewrite_all-returns : goal.rewrite_all-returns
 rewrite_all-returns t c =
-    let k = resolver_of c.args.resolver.now in let s = progress_of c.args.progress.now in
+    let k = scope_of c.args.scope.now in let s = progress_of c.args.progress.now in
     let p = progress_of c.loop-i.progress in
     let es = c.args.trees.now.items in let i = c.loop-i.i in (
       each_resolved k s.passed es c.loop-i.trees.items i c.loop-i.invariant.0.0 (omega arith) c.loop-i.invariant.3,
@@ -140,7 +140,7 @@ rewrite-returns-in_ok-rewrite_child-in-Conditional-2 t c =
     let two = c.rewrite_child-in-Conditional-2 in let three = c.rewrite_child-in-Conditional-3 in
     let first = c.in_ok-rewrite_child-in-Conditional.ensures in
     let second = c.in_ok-rewrite_child-in-Conditional-2.ensures in
-    three_resolved (resolver_of c.args.resolver.now) (progress_of c.args.progress.now) (progress_of one.new.progress)
+    three_resolved (scope_of c.args.scope.now) (progress_of c.args.progress.now) (progress_of one.new.progress)
     (progress_of two.new.progress) three.result three.new.progress one.new.child two.new.child three.new.child
     is.is is.condition-is is.true_branch-is is.false_branch-is first.1 second.1 first.0 second.0 three.ensures
 
@@ -149,7 +149,7 @@ pub rewrite_absent-returns-in_ok-rewrite_child-in-Expression :
 rewrite_absent-returns-in_ok-rewrite_child-in-Expression t c =
     let one = c.rewrite_child-in-Expression in let two = c.rewrite_child-in-Expression-2 in
     let first = c.in_ok-rewrite_child-in-Expression.ensures in
-    two_resolved (resolver_of c.args.resolver.now) (progress_of c.args.progress.now) (progress_of one.new.progress)
+    two_resolved (scope_of c.args.scope.now) (progress_of c.args.progress.now) (progress_of one.new.progress)
     two.result
     two.new.progress one.new.child two.new.child c.in-Expression.is first.1 first.0 two.ensures
 
@@ -161,7 +161,7 @@ rewrite-returns-in_err-rewrite_child-in-Conditional t c =
     let is = c.in-Conditional in
     let parts = three_borrowed is.is is.condition-is is.true_branch-is is.false_branch-is in
     let error = c.in_err-rewrite_child-in-Conditional.ensures in
-    let kept = three_error (resolver_of c.args.resolver.now) (progress_of c.args.progress.now) _ parts error in
+    let kept = three_error (scope_of c.args.scope.now) (progress_of c.args.progress.now) _ parts error in
     search rules
 
 pub rewrite-returns-in_err-rewrite_child-in-Conditional-2 :
@@ -171,20 +171,20 @@ rewrite-returns-in_err-rewrite_child-in-Conditional-2 t c =
     let parts = three_borrowed is.is is.condition-is is.true_branch-is is.false_branch-is in
     let first = c.in_ok-rewrite_child-in-Conditional.ensures in
     let error = c.in_err-rewrite_child-in-Conditional-2.ensures in
-    let kept = third_error (resolver_of c.args.resolver.now) _ _ _ parts first.1 error in
+    let kept = third_error (scope_of c.args.scope.now) _ _ _ parts first.1 error in
     search rules
 
 pub rewrite_absent-returns-in_err-rewrite_child-in-Expression :
     goal.rewrite_absent-returns-in_err-rewrite_child-in-Expression
 rewrite_absent-returns-in_err-rewrite_child-in-Expression t c =
     let is = c.in-Expression in let s = progress_of c.args.progress.now in
-    let kept = error_kept (resolver_of c.args.resolver.now) s _ (items (raw is.absent.value)) (items (raw is.exp.value))
+    let kept = error_kept (scope_of c.args.scope.now) s _ (items (raw is.absent.value)) (items (raw is.exp.value))
     c.in_err-rewrite_child-in-Expression.ensures in
     search (rules, the_lemmas)
 
 pub rewrite_all-returns-in_err-rewrite : goal.rewrite_all-returns-in_err-rewrite
 rewrite_all-returns-in_err-rewrite t c =
-    let k = resolver_of c.args.resolver.now in let s = progress_of c.loop-i.progress in
+    let k = scope_of c.args.scope.now in let s = progress_of c.loop-i.progress in
     let es = c.args.trees.now.items in let i = c.loop-i.i in let e = c.index_mut.result.now in
     let same = c.loop-i.invariant.0.1 i e (omega arith) in
     let tree : e ≡ get_or es i e = cc in
@@ -199,6 +199,6 @@ resolve_node-returns-in-AstGroup t c =
 
 pub resolve_node-returns-in-Some : goal.resolve_node-returns-in-Some
 resolve_node-returns-in-Some t c =
-    let pattern = bytes (chars c.args.resolver.now.pattern.now) in
+    let pattern = bytes (chars c.args.scope.now.pattern.now) in
     let is = c.backref.ensures pattern (view_target c.in-Backref.target) c.args.reach in
     search (rules, the_lemmas)

@@ -9,6 +9,6 @@ use Rattle.fancy_syntax.proofs.grammar.frame.Frame.bar.Goals as goal
 
 pub returns-in-Second-clause-error : goal.returns-in-Second-clause-error
 returns-in-Second-clause-error g c t h =
-    IsErrorAmong-is (IsErrorOfBar (part_of c.args.self.now.open_group) t) c.general.result _
+    IsErrorAmong-is (IsErrorOfBar (part_of c.args.self.now.open_part) t) c.general.result _
     (says_close_paren c.general.result c.args.reach c.general.ensures)
     (rw c.in-Second.is (ap (λ n. failed (record { reach = n; kind = general_parse_error close_paren_expected })) h))

@@ -18,7 +18,7 @@ pub returns-in_err-bar-clause-reading : goal.returns-in_err-bar-clause-reading
 returns-in_err-bar-clause-reading g c start none l h =
     let e = err_from_is_err_and c.from_residual.result c.from_residual.ensures.1 in
     let rest = (state c.args.self.now.current).rest in
-    let opened = c.args.self.now.frame.open_group in
+    let opened = c.args.self.now.frame.open_part in
     rw (e.1, e.2) (IsErrorAmong-map (IsErrorOfBar (part_of opened) rest)
     (Alternation 0 start) c.in_err-bar.field-0.0
     (λ f a. running_bar_error _ h.running c.requires.last c.requires.bar
@@ -30,14 +30,14 @@ returns-clause-reading g c start none l h =
     let i = start.flags.ignore_numbered_groups in
     let f = c.in_ok-bar.ensures in
     let r = h.running in
-    let old = c.args.self.now.frame.open_group in
+    let old = c.args.self.now.frame.open_part in
     let new = c.bar.new.self in
     let all = all_decided i in
     let held = subst (λ x. HoldsTrees c.args.self.now.frame x (all r.below) (all r.branches) (all r.pieces)) (sym h.same)
     (holds_decided i c.args.self.now.frame h.trees r.below r.branches r.pieces r.holds) in
     let branch = decided_concat i r.pieces in
-    let opened = opened_part i old new.open_group r.part (joined r.pieces) r.is_part
-    (subst (IsOpenedByBar old new.open_group) branch (f.open_group (all r.below) (all r.branches) (all r.pieces) held)) in
+    let opened = opened_part i old new.open_part r.part (joined r.pieces) r.is_part
+    (subst (IsOpenedByBar old new.open_part) branch (f.open_part (all r.below) (all r.branches) (all r.pieces) held)) in
     let branches = branches_at_bar r.part r.branches (joined r.pieces) in
     let (same, holds) = holds_raw i new (views c.bar.new.trees.items) r.below branches
     (subst (λ x. HoldsTrees new (views c.bar.new.trees.items) (all r.below) x [])

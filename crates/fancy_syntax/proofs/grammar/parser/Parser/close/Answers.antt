@@ -61,7 +61,7 @@ returns-in_err-opened-clause-reading g c start none l k =
     let all = all_decided i in
     let h = k.running in
     let f = c.in_ok-join.ensures in
-    let r = c.replace-open_group.ensures in
+    let r = c.replace-open_part.ensures in
     let held = subst (λ x. HoldsTrees c.args.self.now.frame x (all h.below) (all h.branches) (all h.pieces)) (sym k.same)
     (holds_decided i c.args.self.now.frame k.trees h.below h.branches h.pieces h.holds) in
     let w = running_closing c.pop.new.self.items c.in-Some.field-0 h c.requires.last c.requires.no_bar
@@ -76,7 +76,7 @@ returns-in_err-opened-clause-reading g c start none l k =
     (Alternation 0 start) c.in_err-opened.field-0.0
     (λ f a. running_error w.outer w.more (subst (λ d. Piece d w.current (failed f)) n a))
     (c.in_err-opened.ensures.value i h.below inner h.part w.current w.inside w.recorded w.before m put
-    (subst (λ (f : Frame). IsPart i f.open_group h.part) (sym r.value) h.is_part)
+    (subst (λ (f : Frame). IsPart i f.open_part h.part) (sym r.value) h.is_part)
     w.began.0 w.began.1 (rw n w.opens) (rw n w.whole)))
 
 pub returns-in_default-opened-clause-reading : goal.returns-in_default-opened-clause-reading
@@ -85,7 +85,7 @@ returns-in_default-opened-clause-reading g c start none l k =
     let all = all_decided i in
     let h = k.running in
     let f = c.in_ok-join.ensures in
-    let r = c.replace-open_group.ensures in
+    let r = c.replace-open_part.ensures in
     let held = subst (λ x. HoldsTrees c.args.self.now.frame x (all h.below) (all h.branches) (all h.pieces)) (sym k.same)
     (holds_decided i c.args.self.now.frame k.trees h.below h.branches h.pieces h.holds) in
     let w = running_closing c.pop.new.self.items c.in-Some.field-0 h c.requires.last c.requires.no_bar
@@ -98,7 +98,7 @@ returns-in_default-opened-clause-reading g c start none l k =
     ∙ ap (λ t. all h.below ++ t ∷ []) (all_branches i h.branches h.pieces) in
     let (o, us, js, same, steps, (recorded, items_are)) =
     c.in_ok-opened.ensures.value i h.below inner h.part w.current w.inside w.recorded w.before m put
-    (subst (λ (f : Frame). IsPart i f.open_group h.part) (sym r.value) h.is_part)
+    (subst (λ (f : Frame). IsPart i f.open_part h.part) (sym r.value) h.is_part)
     w.began.0 w.began.1 (rw n w.opens) (rw n w.whole) in (
       o,
       record {
@@ -123,7 +123,7 @@ returns-clause-reading g c start none l k =
     let all = all_decided i in
     let h = k.running in
     let f = c.in_ok-join.ensures in
-    let r = c.replace-open_group.ensures in
+    let r = c.replace-open_part.ensures in
     let held = subst (λ x. HoldsTrees c.args.self.now.frame x (all h.below) (all h.branches) (all h.pieces)) (sym k.same)
     (holds_decided i c.args.self.now.frame k.trees h.below h.branches h.pieces h.holds) in
     let w = running_closing c.pop.new.self.items c.in-Some.field-0 h c.requires.last c.requires.no_bar
@@ -137,7 +137,7 @@ returns-clause-reading g c start none l k =
     ∙ ap (λ t. all h.below ++ t ∷ []) (all_branches i h.branches h.pieces) in
     let (o, us, js, same, steps, (recorded, items_are)) =
     c.in_ok-opened.ensures.value i h.below inner h.part w.current w.inside w.recorded w.before m put
-    (subst (λ (f : Frame). IsPart i f.open_group h.part) (sym r.value) h.is_part)
+    (subst (λ (f : Frame). IsPart i f.open_part h.part) (sym r.value) h.is_part)
     w.began.0 w.began.1 (rw n w.opens) (rw n w.whole) in
     let height : vec_len trees ≡ length us =
     omega (arith, trees.ok.0, views_length trees.items, ap length same, length-map us (decided i)) in
@@ -147,12 +147,12 @@ returns-clause-reading g c start none l k =
         is = w.items_before ++ js;
         trees = us;
         same = rw z.trees same;
-        running = rw z.current (running_opened o c.in-Some-opened.open_group c.in-Some.field-0.piece w.outer
+        running = rw z.current (running_opened o c.in-Some-opened.open_part c.in-Some.field-0.piece w.outer
             w.began w.more
             (subst (λ p. IsStep i (length c.pop.new.self.items) w.current w.recorded h.below p us t o js)
             c.in-Some-opened.is
             (subst (λ d. IsStep i d w.current w.recorded h.below c.in_ok-opened.opened us t o js) n steps))
-            (rw r.after at z.stack) z.open_group (z.branches ∙ height) (z.pieces ∙ height));
+            (rw r.after at z.stack) z.open_part (z.branches ∙ height) (z.pieces ∙ height));
         found = rw z.found (subst (IsFound i c.args.self.now.found)
             (w.same_items ∙ ap (λ l. w.items_before ++ l) (sym items_are)) k.found);
       },

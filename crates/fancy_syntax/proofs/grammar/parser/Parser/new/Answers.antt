@@ -14,6 +14,6 @@ returns-clause-reading c l =
       same = ap views c.in_ok-with_capacity.ensures.items;
       running = running_start (state c.args.start) l _ _ [] (c.reserve_exact.ensures.items ∙ c.new-2.ensures.items) refl
           f.branches f.pieces
-          (subst (λ g. IsPart c.args.start.flags.ignore_numbered_groups g top) (sym f.open_group) tt);
+          (subst (λ g. IsPart c.args.start.flags.ignore_numbered_groups g top) (sym f.open_part) tt);
       found = c.new-3.ensures.found;
     }

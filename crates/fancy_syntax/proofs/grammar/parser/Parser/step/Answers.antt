@@ -55,7 +55,7 @@ open-requires g c =
     let (start, none, l, h, reserved) = c.requires.reserved in
     let i = start.flags.ignore_numbered_groups in
     let (m, us, js, all, steps, recorded) = c.in_ok-opened.ensures.value i l h.trees h.found.0 h.same in
-    let opens : IsStep i (length stack.items) s l h.trees (Some c.in-Some.open_group) us t m js =
+    let opens : IsStep i (length stack.items) s l h.trees (Some c.in-Some.open_part) us t m js =
     subst (λ o. IsStep i (length stack.items) s l h.trees o us t m js) c.in-Some.is
     (subst (λ d. IsStep i d s l h.trees c.in_ok-opened.opened us t m js) n steps) in
     let below : length stack.items + 1 < max_depth =
@@ -78,7 +78,7 @@ returns-clause-reading g c start none l h =
     let trees = c.read_step.new.trees in
     let n : c.len-depth.result ≡ length stack.items = omega (arith, c.len-depth.ensures, stack.ok.0) in
     let (m, us, js, all, steps, (recorded, more)) = c.in_ok-opened.ensures.value i l h.trees h.found.0 h.same in
-    let opens : IsStep i (length stack.items) s l h.trees (Some c.in-Some.open_group) us t m js =
+    let opens : IsStep i (length stack.items) s l h.trees (Some c.in-Some.open_part) us t m js =
     subst (λ o. IsStep i (length stack.items) s l h.trees o us t m js) c.in-Some.is
     (subst (λ d. IsStep i d s l h.trees c.in_ok-opened.opened us t m js) n steps) in
     let height : vec_len trees ≡ length us =
@@ -89,10 +89,10 @@ returns-clause-reading g c start none l h =
         is = h.is ++ js;
         trees = us;
         same = rw f.trees all;
-        running = rw f.current (running_opened m c.in-Some.open_group
+        running = rw f.current (running_opened m c.in-Some.open_part
             (record { left = c.byte_len.result; flags = c.args.self.now.current.flags }) h.running
             (c.byte_len.ensures, refl) c.requires.more opens
-            f.stack f.open_group (f.branches ∙ height) (f.pieces ∙ height));
+            f.stack f.open_part (f.branches ∙ height) (f.pieces ∙ height));
         found = rw f.found (more _ h.is h.found);
       },
       recorded,

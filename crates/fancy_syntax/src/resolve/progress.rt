@@ -4,8 +4,8 @@ ghost use Rattle.fancy_lex.specs.Located.{Located};
 ghost use Rattle.fancy_lex.specs.IdReference.{amount_bound};
 ghost use Rattle.fancy_parts.specs.Groups.{meaning_of};
 ghost use Rattle.fancy_grammar.specs.Errors.{IsErrorIn};
-ghost use Rattle.fancy_syntax.specs.Records.{IsErrorRecorded, progress_of, number_referred_to, recorded_one, form_recorded};
-ghost use Rattle.fancy_syntax.specs.Records.{meaning_recorded};
+ghost use Rattle.fancy_syntax.specs.WalkViews.{IsErrorRecorded, progress_of, number_referred_to, recorded_one, form_recorded};
+ghost use Rattle.fancy_syntax.specs.WalkViews.{meaning_recorded};
 ghost use Rattle.fancy_grammar.specs.Walk.{nothing_recorded, number_in};
 
 use fancy_lex::error::ReadError;
@@ -19,7 +19,7 @@ use std::mem;
 
 /// What is known when references are resolved.
 #[derive(Debug, Drop)]
-pub(super) struct Resolver<'a> {
+pub(super) struct Scope<'a> {
     /// The pattern.
     pub(super) pattern: &'a str,
     /// Whether groups without a name have no number.
@@ -90,40 +90,40 @@ impl Progress {
 /// is recorded.
 #[inline(always)]
 pub(super) fn refer(
-    resolver: &Resolver,
+    scope: &Scope,
     progress: &mut Progress,
     reach: Reach,
     role: Role,
     target: &CaptureGroupTarget,
 ) -> Result<Option<usize>, Stopped>
     requires { progress.old.passed < amount_bound }
-    ensures number { IfOk result (λ n. n ≡ number_referred_to resolver.now progress.old role target.now) }
+    ensures number { IfOk result (λ n. n ≡ number_referred_to scope.now progress.old role target.now) }
     ensures progress { IfOk result
-        (λ _. progress_of progress.new ≡ recorded_one resolver.now progress.old reach role target.now) }
+        (λ _. progress_of progress.new ≡ recorded_one scope.now progress.old reach role target.now) }
     ensures error { IfErr result
-        (λ _. IsErrorRecorded progress.new.error (recorded_one resolver.now progress.old reach role target.now).error) }
+        (λ _. IsErrorRecorded progress.new.error (recorded_one scope.now progress.old reach role target.now).error) }
     ensures passed { progress.new.passed ≡ progress.old.passed }
 {
-    let Ok(meaning) = meaning_after(&resolver.groups, progress.passed, role, target) else {
+    let Ok(meaning) = meaning_after(&scope.groups, progress.passed, role, target) else {
         return Err(progress.stop(ReadError::OutOfMemory));
     };
-    record_form(resolver, progress, reach, role, target);
-    record_meaning(resolver, progress, reach, role, meaning)
+    record_form(scope, progress, reach, role, target);
+    record_meaning(scope, progress, reach, role, meaning)
 }
 
 /// Records how the reference is written: as a number, as a call, as a call of the whole pattern.
 fn record_form(
-    resolver: &Resolver,
+    scope: &Scope,
     progress: &mut Progress,
     reach: Reach,
     role: Role,
     target: &CaptureGroupTarget,
 )
     ensures progress { progress_of progress.new
-        ≡ form_recorded resolver.now progress.old reach role target.now }
+        ≡ form_recorded scope.now progress.old reach role target.now }
 {
-    let position = position_at(resolver.pattern, reach);
-    if is_numeric(resolver.pattern, position, role, target) {
+    let position = position_at(scope.pattern, reach);
+    if is_numeric(scope.pattern, position, role, target) {
         progress.numeric = true;
     }
     if let Role::Call = role {
@@ -137,7 +137,7 @@ fn record_form(
 /// Records what the reference refers to, and returns its number. None for a call that refers to no group. An error is
 /// recorded.
 fn record_meaning(
-    resolver: &Resolver,
+    scope: &Scope,
     progress: &mut Progress,
     reach: Reach,
     role: Role,
@@ -145,15 +145,15 @@ fn record_meaning(
 ) -> Result<Option<usize>, Stopped>
     ensures number { IfOk result (λ n. n ≡ number_in (meaning_of meaning)) }
     ensures progress { IfOk result
-        (λ _. progress_of progress.new ≡ meaning_recorded resolver.now progress.old reach role meaning) }
+        (λ _. progress_of progress.new ≡ meaning_recorded scope.now progress.old reach role meaning) }
     ensures error { IfErr result
-        (λ _. IsErrorRecorded progress.new.error (meaning_recorded resolver.now progress.old reach role meaning).error) }
+        (λ _. IsErrorRecorded progress.new.error (meaning_recorded scope.now progress.old reach role meaning).error) }
     ensures passed { progress.new.passed ≡ progress.old.passed }
 {
     match meaning {
         Meaning::Number(number) => {
             if let Role::BackReference = role {
-                if resolver.groups.is_in_range(number) {
+                if scope.groups.is_in_range(number) {
                     let Ok(_) = progress.backrefs.insert(number) else {
                         return Err(progress.stop(ReadError::OutOfMemory));
                     };

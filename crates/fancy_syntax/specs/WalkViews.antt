@@ -15,12 +15,12 @@ use Rattle.fancy_grammar.specs.Errors.{IsErrorIn}
 use Rattle.fancy_grammar.specs.Items.{Item}
 use Rattle.fancy_grammar.specs.GroupInfo as spec
 use Rattle.fancy_grammar.specs.Walk as walk
-use Rattle.fancy_syntax.specs.declared.resolve.records.Resolver.{Resolver}
-use Rattle.fancy_syntax.specs.declared.resolve.records.Progress.{Progress}
-use Rattle.fancy_syntax.specs.declared.resolve.records.Stopped.{Stopped}
+use Rattle.fancy_syntax.specs.declared.resolve.progress.Scope.{Scope}
+use Rattle.fancy_syntax.specs.declared.resolve.progress.Progress.{Progress}
+use Rattle.fancy_syntax.specs.declared.resolve.progress.Stopped.{Stopped}
 
-abbrev pub resolver_of : Resolver → walk.Resolver
-resolver_of k = record { text = chars k.pattern.now; named = k.named; groups = groups_of k.groups }
+abbrev pub scope_of : Scope → walk.Scope
+scope_of k = record { text = chars k.pattern.now; named = k.named; groups = groups_of k.groups }
 
 -- the progress of a walk that has met no error; the walk stops at the first
 abbrev pub progress_of : Progress → walk.Progress
@@ -40,24 +40,24 @@ IsErrorRecorded None o = ⊥
 IsErrorRecorded (Some e) o = IsErrorIn e o
 
 -- the walk passes all items, and then P holds of the result; or it stops at their first error
-abbrev pub Walks : {A : Type 0} → Result A Stopped → walk.Resolver → walk.Progress → List Item → Progress →
+abbrev pub Walks : {A : Type 0} → Result A Stopped → walk.Scope → walk.Progress → List Item → Progress →
     (A → Type 0) → Type 0
 Walks r k before l after P =
     let end = walk.progress_after k before l in
     MatchResult r (λ a. P a × (progress_of after ≡ end)) (λ _. IsErrorRecorded after.error end.error)
 
 -- the number that a reference refers to in the walk, if it refers to one
-abbrev pub number_referred_to : Resolver → Progress → Role → CaptureGroupTarget → Option ℕ
+abbrev pub number_referred_to : Scope → Progress → Role → CaptureGroupTarget → Option ℕ
 number_referred_to k p role target =
-    walk.number_in (walk.refers_here (resolver_of k) (progress_of p) (role_of role) (view_target target))
+    walk.number_in (walk.refers_here (scope_of k) (progress_of p) (role_of role) (view_target target))
 
 -- the walk with a reference recorded
-abbrev pub recorded_one : Resolver → Progress → ℕ → Role → CaptureGroupTarget → walk.Progress
+abbrev pub recorded_one : Scope → Progress → ℕ → Role → CaptureGroupTarget → walk.Progress
 recorded_one k p reach role target =
-    walk.record_reference (resolver_of k) (progress_of p) reach (role_of role) (view_target target)
+    walk.record_reference (scope_of k) (progress_of p) reach (role_of role) (view_target target)
 
 -- the walk with the form of a reference recorded
-abbrev pub form_recorded : Resolver → Progress → ℕ → Role → CaptureGroupTarget → walk.Progress
+abbrev pub form_recorded : Scope → Progress → ℕ → Role → CaptureGroupTarget → walk.Progress
 form_recorded k p reach role target = record (progress_of p) {
   numeric = p.numeric
       || is_numeric (chars k.pattern.now) (position_at (bytes (chars k.pattern.now)) reach) (role_of role)
@@ -67,7 +67,7 @@ form_recorded k p reach role target = record (progress_of p) {
 }
 
 -- the walk with the meaning of a reference recorded
-abbrev pub meaning_recorded : Resolver → Progress → ℕ → Role → Meaning → walk.Progress
+abbrev pub meaning_recorded : Scope → Progress → ℕ → Role → Meaning → walk.Progress
 meaning_recorded k p reach role m =
     let total = (groups_of k.groups).total in let number = spec.back_number (role_of role) (meaning_of m) in
     record (progress_of p) {

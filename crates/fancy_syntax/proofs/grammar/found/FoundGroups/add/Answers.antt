@@ -5,9 +5,9 @@ use Rattle.fancy_grammar.specs.Items.{opening}
 use Rattle.fancy_syntax.specs.Found.{FindsMore, group_opening}
 use Rattle.fancy_syntax.specs.Parsed.{group_kind}
 use Rattle.fancy_syntax.proofs.FoundLemmas.{counted_all, counted_named, numbered_more, uncounted, undecided_more}
-use Rattle.fancy_syntax.proofs.grammar.found.Found.add.Goals as goal
-use Rattle.fancy_syntax.proofs.grammar.found.Found.add.Goals.{else-self-via-then-self+else-is_none, else-self-via-else-self}
-use Rattle.fancy_syntax.proofs.grammar.found.Found.add.Goals.{in-Capture, in-Undecided}
+use Rattle.fancy_syntax.proofs.grammar.found.FoundGroups.add.Goals as goal
+use Rattle.fancy_syntax.proofs.grammar.found.FoundGroups.add.Goals.{else-self-via-then-self+else-is_none, else-self-via-else-self}
+use Rattle.fancy_syntax.proofs.grammar.found.FoundGroups.add.Goals.{in-Capture, in-Undecided}
 
 pub returns-then-is_none-clause-found : goal.returns-then-is_none-clause-found
 returns-then-is_none-clause-found c reach =

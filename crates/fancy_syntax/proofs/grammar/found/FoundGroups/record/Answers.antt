@@ -2,7 +2,7 @@ use Rattle.std.proofs.Common.{refl, true, sym, ◌∙◌}
 use Rattle.fancy_grammar.specs.Items.{items}
 use Rattle.fancy_syntax.specs.View.{view}
 use Rattle.fancy_syntax.proofs.FoundLemmas.{alone_reference, kept_unresolved, no_group_more, set_unresolved}
-use Rattle.fancy_syntax.proofs.grammar.found.Found.record.Goals as goal
+use Rattle.fancy_syntax.proofs.grammar.found.FoundGroups.record.Goals as goal
 
 pub returns-then-is_reference-clause-found : goal.returns-then-is_reference-clause-found
 returns-then-is_reference-clause-found c =
