@@ -9,6 +9,7 @@ pub mod ErrorLemmas
 pub mod PremiseLaws
 pub mod Unique
 -- ---- items, nodes in preorder, and levels
+pub mod Ordered
 pub mod ItemLemmas
 pub mod PreorderLaws
 pub mod LevelLaws
@@ -35,6 +36,9 @@ pub mod PrintableLemmas
 pub mod ReadBack
 pub mod DelegateLemmas
 pub mod ReadAsLaws
+-- ---- the trees whose texts are proved to read back
+pub mod PatternDepth
+pub mod Writable
 -- ---- the one result of a text, and what is true of it
 pub mod Verdict
 pub mod ParsedSpans

@@ -6,8 +6,8 @@ use Rattle.fancy_lex.specs.Text.{Text}
 use Rattle.fancy_parts.specs.Meaning.{Meaning, number, unresolved, invalid, refers_to, error_or}
 use Rattle.fancy_parts.specs.Ranks.{is_counted}
 use Rattle.fancy_grammar.specs.Items.{Item, opening, reference, openings_in, meanings_in, role_of, target_of}
-use Rattle.fancy_grammar.specs.Ordered.{DescendingReaches, reach_of_item}
 use Rattle.fancy_grammar.specs.Resolved.{first_error}
+use Rattle.fancy_grammar.proofs.Ordered.{DescendingReaches, reach_of_item}
 
 pub bounds : (high low : ℕ) (l : List Item) → DescendingReaches high low l → low ≤ high
 bounds high low [] a = a

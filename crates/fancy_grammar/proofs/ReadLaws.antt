@@ -29,10 +29,10 @@ use Rattle.fancy_grammar.specs.Items.{items}
 use Rattle.fancy_grammar.specs.Quantified.{quants, adjacent, max_adjacent, is_unmoved, quant, with_counts}
 use Rattle.fancy_grammar.specs.Quantified.{suffix, after_lazy, may_be_possessive, is_repeatable, is_dropped}
 use Rattle.fancy_grammar.specs.Quantified.{Suffix}
-use Rattle.fancy_grammar.specs.Ordered.{DescendingReaches, reach_of_item}
 use Rattle.fancy_grammar.specs.Slices.{Slice}
 use Rattle.fancy_grammar.specs.State.{skipped, State, at, Outcome, done, failed}
 use Rattle.fancy_grammar.specs.Tree.{Tree, expression, levels, nodes}
+use Rattle.fancy_grammar.proofs.Ordered.{DescendingReaches, reach_of_item}
 use Rattle.fancy_grammar.proofs.OutcomeLemmas.{after_keeps, skipped_both}
 use Rattle.fancy_grammar.proofs.Slices.{MayLie, ItemSpan, Reads, current, on, fits, one, one_bytes, strip_slice}
 use Rattle.fancy_grammar.proofs.Slices.{strip_bytes, cut_slice, to_ends, lies_at, lies_in, raised, lowered, bare}

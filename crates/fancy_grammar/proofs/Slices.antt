@@ -11,9 +11,9 @@ use Rattle.fancy_lex.specs.LayoutSteps.{layout, Skipped, rest, failed as open_co
 use Rattle.fancy_lex.specs.Text.{Text, EndsWith, LiesIn, begins, bytes, past_end, reach_of, strip}
 use Rattle.fancy_grammar.specs.Label.{AstReference}
 use Rattle.fancy_grammar.specs.Items.{Item, opening, reference}
-use Rattle.fancy_grammar.specs.Ordered.{DescendingReaches, reach_of_item}
 use Rattle.fancy_grammar.specs.Slices.{Slice}
 use Rattle.fancy_grammar.specs.State.{skipped, State, Outcome, done, failed, and_then}
+use Rattle.fancy_grammar.proofs.Ordered.{DescendingReaches, reach_of_item}
 
 -- in a pattern that ends with t: the reach at which a suffix of t begins, or of one past the end
 abbrev pub MayLie : Text → ℕ → Type 0

@@ -20,12 +20,12 @@ use Rattle.fancy_grammar.specs.Grammar.{DerivesTree, FailsWith, Whole}
 use Rattle.fancy_grammar.specs.Items.{items, openings, numbers_in}
 use Rattle.fancy_grammar.specs.GroupInfo.{GroupInfo, group_info}
 use Rattle.fancy_grammar.specs.Errors.{IsErrorAmong, IsErrorIn}
-use Rattle.fancy_grammar.specs.Ordered.{DescendingReaches}
 use Rattle.fancy_grammar.proofs.ReadBack.ScalarLemmas.{scalars_after}
 use Rattle.fancy_grammar.specs.ReadBack.{ParseResult, read, refused, IsResultOf, IsOnlyResult}
 use Rattle.fancy_grammar.specs.Resolved.{resolved, error_of}
 use Rattle.fancy_grammar.specs.State.{Outcome, failed}
 use Rattle.fancy_grammar.specs.Tree.{Tree}
+use Rattle.fancy_grammar.proofs.Ordered.{DescendingReaches}
 use Rattle.fancy_grammar.proofs.OrderLaws.{error_reach}
 use Rattle.fancy_grammar.proofs.ReadLaws.{error_lies, items_lie, ordered_within}
 use Rattle.fancy_grammar.proofs.Slices.{MayLie}

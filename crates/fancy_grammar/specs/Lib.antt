@@ -39,17 +39,14 @@ pub mod PatternSource
 pub mod PatternReference
 pub mod PatternQuantifier
 pub mod Pattern
-pub mod PatternDepth
 pub mod ReadAs
 pub mod OfPattern
-pub mod Writable
 -- These are used by private contracts of the parser and the resolver, and by no public contract.
 
 -- ---- reading
 pub mod Plain
 pub mod Slices
 -- ---- resolving
-pub mod Ordered
 pub mod Walk
 -- ---- the text of every tree
 pub mod PatternWalk

@@ -2,7 +2,6 @@
 use Rattle.std.proofs.Common.{zero, suc}
 use Rattle.fancy_parts.specs.Ranks.{is_counted}
 use Rattle.fancy_grammar.specs.Pattern.{group_count_all}
-use Rattle.fancy_grammar.specs.Writable.{AreCounted, info_openings, name_at}
 use Rattle.std.proofs.Common.{◌≡◌, ℕ, ◌+◌, ◌<◌, Bool, true, false, List, [], ◌∷◌, ap}
 use Rattle.std.proofs.Common.{◌∙◌, subst, arith}
 use Rattle.std.specs.List.{AllByRecursion}
@@ -20,14 +19,15 @@ use Rattle.fancy_grammar.specs.Preorder.{preorder, preorder_all}
 use Rattle.fancy_grammar.specs.OfPattern.{IsOfPattern}
 use Rattle.fancy_grammar.specs.ReadAs.{IsReadAs}
 use Rattle.fancy_grammar.specs.Tree.{Tree, leaf, over, row, Trees, no_trees, more_trees, list_of}
-use Rattle.fancy_grammar.specs.Writable.{IsWritable, AreNodesWritable, AreAllWritable, ArePieces, IsWritableLeaf}
-use Rattle.fancy_grammar.specs.Writable.{HasSource, is_numbered, is_numbered_call_of_all}
 use Rattle.std.proofs.Common.{sym, length, ◌≤◌, ◌^◌}
 use Rattle.std.specs.Cmp.{both_ways}
 use Rattle.std.specs.List.{list_any}
 use Rattle.fancy_lex.specs.Text.{bytes}
 use Rattle.fancy_parts.specs.Ranks.{only_named, numbered_openings}
 use Rattle.fancy_grammar.specs.Items.{items, openings, numbers_in, meanings, meanings_in}
+use Rattle.fancy_grammar.proofs.Writable.{AreCounted, info_openings, name_at}
+use Rattle.fancy_grammar.proofs.Writable.{IsWritable, AreNodesWritable, AreAllWritable, ArePieces, IsWritableLeaf}
+use Rattle.fancy_grammar.proofs.Writable.{HasSource, is_numbered, is_numbered_call_of_all}
 use Rattle.fancy_grammar.proofs.PreorderLaws.{kept, resolved_nodes, items_of_nodes}
 use Rattle.fancy_grammar.proofs.ReadLaws.{derived_read, ordered_within}
 use Rattle.fancy_pattern.proofs.Parsed.Derived.{derived_parsed}

@@ -22,7 +22,7 @@ use Rattle.fancy_grammar.specs.Preorder.{preorder, preorder_all}
 use Rattle.fancy_grammar.specs.Quantified.{is_swapped, quantified, is_repeatable, Suffix}
 use Rattle.fancy_grammar.specs.Tree.{leaf, Tree, Trees, no_trees, more_trees, concat, alt, trees_of, list_of}
 use Rattle.fancy_grammar.specs.Tree.{over, row}
-use Rattle.fancy_grammar.specs.Writable.{IsNameWritable, IsLevelWritable}
+use Rattle.fancy_grammar.proofs.Writable.{IsNameWritable, IsLevelWritable}
 use Rattle.fancy_grammar.proofs.OutcomeLemmas.{each_append, each_solid}
 use Rattle.fancy_grammar.proofs.TreeLaws.{list_back}
 use Rattle.fancy_pattern.proofs.Parsed.Lists.{each_split}

@@ -14,7 +14,7 @@ use Rattle.fancy_parts.specs.Ranks.{Opening, numbers, names}
 use Rattle.fancy_parts.specs.Ranks.{named_groups, is_name}
 use Rattle.fancy_grammar.specs.GroupInfo.{GroupInfo}
 use Rattle.fancy_grammar.specs.PatternReference.{Named}
-use Rattle.fancy_grammar.specs.Writable.{name_at, info_openings}
+use Rattle.fancy_grammar.proofs.Writable.{name_at, info_openings}
 use Rattle.fancy_grammar.proofs.NamedNumbers.{carries, number_carried}
 use Rattle.fancy_pattern.proofs.PatternLaws.Theorem.{unreached}
 

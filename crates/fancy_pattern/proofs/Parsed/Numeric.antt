@@ -16,7 +16,7 @@ use Rattle.fancy_grammar.specs.Label.{AstReference, ast_backref, ast_call, ast_c
 use Rattle.fancy_grammar.specs.GroupInfo.{GroupInfo, is_call_of_all}
 use Rattle.fancy_grammar.specs.Resolved.{resolved_in}
 use Rattle.fancy_grammar.specs.Tree.{Tree, leaf, ast_node, ast_group}
-use Rattle.fancy_grammar.specs.Writable.{is_numbered, is_numbered_call_of_all}
+use Rattle.fancy_grammar.proofs.Writable.{is_numbered, is_numbered_call_of_all}
 use Rattle.fancy_grammar.proofs.PreorderLaws.{kept, kept_if, items_of_all}
 use Rattle.fancy_pattern.proofs.Parsed.Targets.{both_right}
 use Rattle.fancy_pattern.proofs.Parsed.Nodes.{IsParsedNode, IsAstRead}

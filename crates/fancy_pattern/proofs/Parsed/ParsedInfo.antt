@@ -19,8 +19,8 @@ use Rattle.fancy_grammar.specs.GroupInfo.{GroupInfo, ascending}
 use Rattle.fancy_grammar.specs.Pattern.{group_count, group_count_all}
 use Rattle.fancy_grammar.specs.Preorder.{preorder, preorder_all}
 use Rattle.fancy_grammar.specs.Tree.{Tree, leaf, over, row, Trees, no_trees, more_trees}
-use Rattle.fancy_grammar.specs.Writable.{info_numbers, is_numbered, is_numbered_call_of_all, info_openings, info_of}
-use Rattle.fancy_grammar.specs.Writable.{AreCounted}
+use Rattle.fancy_grammar.proofs.Writable.{info_numbers, is_numbered, is_numbered_call_of_all, info_openings, info_of}
+use Rattle.fancy_grammar.proofs.Writable.{AreCounted}
 use Rattle.fancy_grammar.proofs.ParsedTreeLaws.{parsed_tree_with}
 use Rattle.fancy_grammar.proofs.NamedNumbers.{fold_all}
 use Rattle.fancy_pattern.proofs.Parsed.Lists.{each_split, each_filtered, length_filtered}

@@ -29,7 +29,7 @@ use Rattle.fancy_parts.specs.LetterSteps.{step, unknown_letter, flag_or_error, a
 use Rattle.fancy_parts.specs.Quantifier.{counts, braced_counts, counts_from, in_braces, spaced_count, count}
 use Rattle.fancy_parts.specs.Quantifier.{count_of, exact_or_range, most}
 use Rattle.fancy_parts.specs.declared.counts.Counts.{Counts}
-use Rattle.fancy_grammar.specs.Writable.{IsNameWritable}
+use Rattle.fancy_grammar.proofs.Writable.{IsNameWritable}
 
 -- one step after another
 pub gives_both : {A B : Type 0} (P : A → Type 0) (Q : B → Type 0) (o : Reading A) (f : A → Text → Reading B) →

@@ -22,13 +22,13 @@ use Rattle.fancy_grammar.specs.Items.{target_of}
 use Rattle.fancy_grammar.specs.Label as label
 use Rattle.fancy_grammar.specs.Label.{Leaf, AstReference, ast_backref, ast_call, ast_condition}
 use Rattle.fancy_grammar.specs.GroupInfo.{GroupInfo}
-use Rattle.fancy_grammar.specs.Ordered.{DescendingReaches, reach_of_item}
 use Rattle.fancy_grammar.specs.Pattern.{group_count, group_count_all}
 use Rattle.fancy_grammar.specs.Preorder.{preorder, preorder_all}
 use Rattle.fancy_grammar.specs.Resolved.{resolved_in, resolved_all, reference_node}
 use Rattle.fancy_grammar.specs.Tree.{Tree, leaf, over, row, Trees, no_trees, more_trees, group, ast_node, ast_group}
-use Rattle.fancy_grammar.specs.Writable.{IsWritableLeaf, IsCallWritable, IsLevelWritable, IsCalledName, IsCalledTarget}
-use Rattle.fancy_grammar.specs.Writable.{info_numbers, is_called_by_number}
+use Rattle.fancy_grammar.proofs.Ordered.{DescendingReaches, reach_of_item}
+use Rattle.fancy_grammar.proofs.Writable.{IsWritableLeaf, IsCallWritable, IsLevelWritable, IsCalledName, IsCalledTarget}
+use Rattle.fancy_grammar.proofs.Writable.{info_numbers, is_called_by_number}
 use Rattle.fancy_grammar.proofs.ItemLemmas.{openings_append, counted}
 use Rattle.fancy_grammar.proofs.NamedNumbers.{ascend_from}
 use Rattle.fancy_grammar.proofs.TreeLaws.{IsReadNode}

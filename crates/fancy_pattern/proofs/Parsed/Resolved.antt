@@ -17,7 +17,7 @@ use Rattle.fancy_grammar.specs.Quantified.{is_repeatable}
 use Rattle.fancy_grammar.specs.Resolved.{resolved_in, resolved_all, reference_node}
 use Rattle.fancy_grammar.specs.Tree.{Tree, leaf, over, row, Trees, no_trees, more_trees, ast_node, ast_group}
 use Rattle.fancy_grammar.specs.Tree.{list_of}
-use Rattle.fancy_grammar.specs.Writable.{IsNameWritable}
+use Rattle.fancy_grammar.proofs.Writable.{IsNameWritable}
 use Rattle.fancy_grammar.proofs.ParsedTreeLaws.{list_length}
 use Rattle.fancy_grammar.proofs.PreorderLaws.{kept, kept_if, resolved_nodes, items_of_all, items_of_nodes}
 use Rattle.fancy_pattern.proofs.Parsed.Derived.{derived_parsed}

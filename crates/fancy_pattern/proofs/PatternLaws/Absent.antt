@@ -16,12 +16,12 @@ use Rattle.fancy_grammar.specs.Label as label
 use Rattle.fancy_grammar.specs.GroupInfo.{GroupInfo}
 use Rattle.fancy_grammar.specs.Pattern.{Context, under, past_groups, deeper, group_count, in_parens, after, written}
 use Rattle.fancy_grammar.specs.Pattern.{repeater_text, stopper_text}
-use Rattle.fancy_grammar.specs.PatternDepth.{Fits}
 use Rattle.fancy_grammar.specs.PatternNeeds.{settled}
 use Rattle.fancy_grammar.specs.State.{State, done}
 use Rattle.fancy_grammar.specs.Tree.{Tree, over, row, no_trees, more_trees, empty, clear, stopper, expression}
 use Rattle.fancy_grammar.specs.Tree.{repeater}
 use Rattle.fancy_grammar.specs.declared.precedence.Precedence.TheVariants.{Whole, Branch}
+use Rattle.fancy_grammar.proofs.PatternDepth.{Fits}
 use Rattle.fancy_grammar.proofs.OutcomeLemmas.{piece_as}
 use Rattle.fancy_pattern.proofs.PatternLaws.Becomes.{Becomes, row_becomes, stays_solid, in_longer}
 use Rattle.fancy_pattern.proofs.PatternLaws.Cases.{ReadsTree}

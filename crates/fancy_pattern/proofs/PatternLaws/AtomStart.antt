@@ -26,10 +26,10 @@ use Rattle.fancy_grammar.specs.AtomStart.{named_start, target_start, backref_nod
 use Rattle.fancy_grammar.specs.Depth.{max_depth}
 use Rattle.fancy_grammar.specs.Label as label
 use Rattle.fancy_grammar.specs.Label.{Leaf, ast_backref, ast_call, ast_condition}
-use Rattle.fancy_grammar.specs.PatternDepth.{is_in_parens}
 use Rattle.fancy_grammar.specs.State.{skipped, State, at}
 use Rattle.fancy_grammar.specs.Tree.{Tree, leaf, delegate}
 use Rattle.fancy_grammar.specs.Verb.{verb_at}
+use Rattle.fancy_grammar.proofs.PatternDepth.{is_in_parens}
 use Rattle.fancy_grammar.proofs.OutcomeLemmas.{Holds, skipped_both}
 use Rattle.fancy_pattern.proofs.Parsed.Readers.{IsModeOf, letters_mode}
 use Rattle.fancy_pattern.proofs.PatternLaws.Suited.{Suits}

@@ -16,8 +16,8 @@ use Rattle.fancy_grammar.specs.Resolved.{resolved_in, resolved_all, reference_no
 use Rattle.fancy_grammar.specs.Tree.{Tree, row, more_trees, trees_of, empty, ast_group}
 use Rattle.fancy_grammar.specs.Tree.{ast_node, backref, backref_at_level, subroutine_call, backref_exists}
 use Rattle.fancy_grammar.specs.ReadAs.{unpositioned, unpositioned_all}
-pub use Rattle.fancy_grammar.specs.Writable.{info_numbers}
-use Rattle.fancy_grammar.specs.Writable.{name_at, is_numbered, is_numbered_call_of_all}
+pub use Rattle.fancy_grammar.proofs.Writable.{info_numbers}
+use Rattle.fancy_grammar.proofs.Writable.{name_at, is_numbered, is_numbered_call_of_all}
 use Rattle.fancy_pattern.proofs.PatternLaws.Unpositioned.{empty_unpositioned, repeatable_unpositioned}
 use Rattle.fancy_parts.specs.Meaning.{Meaning, number, unresolved, invalid, refers_to}
 use Rattle.fancy_parts.specs.Written.{is_numeric}

@@ -21,19 +21,19 @@ use Rattle.fancy_grammar.specs.GroupInfo.{GroupInfo}
 use Rattle.fancy_grammar.specs.Pattern.{Context, under, past_groups, deeper, in_parens, after_inline_flags, as_atom}
 use Rattle.fancy_grammar.specs.Pattern.{flags_after, written, leaf_text}
 use Rattle.fancy_grammar.specs.Pattern.{look_opening}
-use Rattle.fancy_grammar.specs.PatternDepth.{MayOpen, MayOpenIf, FitsInParens, FitsInParensIf, FitsAfterInlineFlags}
-use Rattle.fancy_grammar.specs.PatternDepth.{FitsAsAtom, is_in_parens, Fits}
 use Rattle.fancy_grammar.specs.PatternNeeds.{settled, inline_flags}
 use Rattle.fancy_grammar.specs.PatternReference.{Named, name_of, name_opening, group_opening, target_text}
 use Rattle.fancy_grammar.specs.Quantified.{is_repeatable}
 use Rattle.fancy_grammar.specs.Tree.{Tree, leaf, over}
-use Rattle.fancy_grammar.specs.Writable.{IsLike, IsWritableLeaf, IsNameWritable, name_at}
 use Rattle.fancy_parts.specs.Ranks.{is_counted}
 use Rattle.fancy_grammar.specs.declared.kinds.LookAround.{LookAround}
 use Rattle.fancy_grammar.specs.declared.kinds.LookAround.TheVariants.{LookAhead, LookAheadNeg, LookBehind}
 use Rattle.fancy_grammar.specs.declared.kinds.LookAround.TheVariants.{LookBehindNeg}
 use Rattle.fancy_grammar.specs.declared.precedence.Precedence.{Precedence}
 use Rattle.fancy_grammar.specs.declared.precedence.Precedence.TheVariants.{Whole, Branch, Piece, Operand}
+use Rattle.fancy_grammar.proofs.PatternDepth.{MayOpen, MayOpenIf, FitsInParens, FitsInParensIf, FitsAfterInlineFlags}
+use Rattle.fancy_grammar.proofs.PatternDepth.{FitsAsAtom, is_in_parens, Fits}
+use Rattle.fancy_grammar.proofs.Writable.{IsLike, IsWritableLeaf, IsNameWritable, name_at}
 use Rattle.fancy_pattern.proofs.PatternLaws.Groups.{parens_text, question_at, reads_look, reads_atomic}
 use Rattle.fancy_pattern.proofs.PatternLaws.Groups.{reads_define, reads_group, capture_at, opening_read}
 use Rattle.fancy_pattern.proofs.PatternLaws.Induction.{ReadsBy}

@@ -22,16 +22,16 @@ use Rattle.fancy_grammar.specs.Label as label
 use Rattle.fancy_grammar.specs.GroupInfo.{GroupInfo}
 use Rattle.fancy_grammar.specs.Pattern.{Context, past_groups, deeper, written, flags_after, condition_text, verb_text}
 use Rattle.fancy_grammar.specs.Pattern.{separated_if}
-use Rattle.fancy_grammar.specs.PatternDepth.{MayOpen, Fits, FitsAsCondition}
 use Rattle.fancy_grammar.specs.PatternReference.{name_of}
 use Rattle.fancy_grammar.specs.State as states
 use Rattle.fancy_grammar.specs.State.{State}
 use Rattle.fancy_grammar.specs.Tree.{Tree, leaf}
 use Rattle.fancy_grammar.specs.Verb.{verb_at}
-use Rattle.fancy_grammar.specs.Writable.{AreNodesWritable}
 use Rattle.fancy_grammar.specs.declared.kinds.BacktrackingControlVerb.{BacktrackingControlVerb}
 use Rattle.fancy_grammar.specs.declared.kinds.BacktrackingControlVerb.TheVariants.{Fail, Accept, Commit, Skip, Prune}
 use Rattle.fancy_grammar.specs.declared.precedence.Precedence.TheVariants.{Whole}
+use Rattle.fancy_grammar.proofs.PatternDepth.{MayOpen, Fits, FitsAsCondition}
+use Rattle.fancy_grammar.proofs.Writable.{AreNodesWritable}
 use Rattle.fancy_pattern.proofs.PatternLaws.Becomes.{info_numbers}
 use Rattle.fancy_pattern.proofs.PatternLaws.Cases.{ReadsTree}
 use Rattle.fancy_pattern.proofs.PatternLaws.Characters.{itself}

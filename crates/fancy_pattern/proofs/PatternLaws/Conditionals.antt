@@ -18,7 +18,6 @@ use Rattle.fancy_grammar.specs.Label as label
 use Rattle.fancy_grammar.specs.Pattern.{Context, under, past_groups, deeper, group_count, is_alt, after, written}
 use Rattle.fancy_grammar.specs.Pattern.{branches_text, in_parens, parenthesized, condition_text}
 use Rattle.fancy_grammar.specs.Pattern.{flags_after}
-use Rattle.fancy_grammar.specs.PatternDepth.{MayOpen, MayOpenIf, Fits, FitsAsCondition}
 use Rattle.fancy_grammar.specs.Depth.{max_depth}
 use Rattle.fancy_pattern.proofs.PatternLaws.Groups.{bare_branch, begins_nothing, reads_nothing}
 use Rattle.fancy_pattern.proofs.PatternLaws.Induction.{by_left}
@@ -40,6 +39,7 @@ use Rattle.fancy_pattern.proofs.PatternLaws.Becomes.{node_determined, in_longer,
 use Rattle.fancy_pattern.proofs.PatternLaws.Unpositioned.{alt_unpositioned}
 use Rattle.fancy_pattern.proofs.PatternLaws.Rules.{Begins, begins_by, AtomAt, BranchAt, WholeAt, stops_bar, ends_close}
 use Rattle.fancy_grammar.specs.declared.precedence.Precedence.TheVariants.{Whole, Branch as BranchAlone}
+use Rattle.fancy_grammar.proofs.PatternDepth.{MayOpen, MayOpenIf, Fits, FitsAsCondition}
 use Rattle.fancy_pattern.proofs.PatternLaws.Cases.{ReadsTree}
 use Rattle.fancy_grammar.proofs.ReadBack.RuleLemmas.{st}
 

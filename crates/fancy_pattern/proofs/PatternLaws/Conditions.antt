@@ -34,7 +34,7 @@ use Rattle.fancy_grammar.specs.Pattern.{Context, parenthesized}
 use Rattle.fancy_grammar.specs.PatternReference.{name_of, fit_name, is_last, target_text, delimited, level_text}
 use Rattle.fancy_grammar.specs.State.{done}
 use Rattle.fancy_grammar.specs.Tree.{Tree, leaf, ast_node}
-use Rattle.fancy_grammar.specs.Writable.{IsLevelWritable}
+use Rattle.fancy_grammar.proofs.Writable.{IsLevelWritable}
 use Rattle.fancy_pattern.proofs.PatternLaws.Becomes.{Becomes, info_numbers, in_longer}
 use Rattle.fancy_pattern.proofs.PatternLaws.Groups.{question_at, cut_before}
 use Rattle.fancy_pattern.proofs.PatternLaws.Leaves.{LeafAt}

@@ -9,14 +9,14 @@ use Rattle.fancy_grammar.specs.Label as label
 use Rattle.fancy_grammar.specs.Label.{Leaf}
 use Rattle.fancy_grammar.specs.Pattern.{Context, under, past_groups, deeper, takes_pieces, takes_branches, is_operand}
 use Rattle.fancy_grammar.specs.Pattern.{is_last_operand, allowed, after}
-use Rattle.fancy_grammar.specs.PatternDepth.{MayOpen, MayOpenIf, MaySet, FitsInParens, FitsInParensIf, is_in_parens}
-use Rattle.fancy_grammar.specs.PatternDepth.{FitsAsCondition, FitsAsAtom, FitsInFlagGroupUnless, Fits, FitAll}
 use Rattle.fancy_grammar.specs.PatternNeeds.{settled}
 use Rattle.fancy_grammar.specs.Quantified.{is_repeatable}
 use Rattle.fancy_grammar.specs.Tree.{Tree, leaf, over, row, Trees, no_trees, more_trees}
 use Rattle.fancy_grammar.specs.declared.kinds.LookAround.{LookAround}
 use Rattle.fancy_grammar.specs.declared.precedence.Precedence.{Precedence}
 use Rattle.fancy_grammar.specs.declared.precedence.Precedence.TheVariants.{Whole, Branch, Piece, Operand}
+use Rattle.fancy_grammar.proofs.PatternDepth.{MayOpen, MayOpenIf, MaySet, FitsInParens, FitsInParensIf, is_in_parens}
+use Rattle.fancy_grammar.proofs.PatternDepth.{FitsAsCondition, FitsAsAtom, FitsInFlagGroupUnless, Fits, FitAll}
 use Rattle.fancy_pattern.proofs.PatternLaws.Needed.{like_after, settled_again, turns_none}
 use Rattle.fancy_pattern.proofs.PatternLaws.Suited.{Suits, SuitAll, suited_settled, settled_suits, suited_after}
 

@@ -24,16 +24,16 @@ use Rattle.fancy_grammar.specs.Label as label
 use Rattle.fancy_grammar.specs.Label.{Wrap}
 use Rattle.fancy_grammar.specs.GroupInfo.{GroupInfo}
 use Rattle.fancy_grammar.specs.Pattern.{Context, under, past_groups, deeper, in_parens}
-use Rattle.fancy_grammar.specs.PatternDepth.{MayOpenIf, MaySet}
 use Rattle.fancy_grammar.specs.PatternNeeds.{letters_between, inline_flags, turns_on}
 use Rattle.fancy_grammar.specs.PatternReference.{name_opening}
 use Rattle.fancy_grammar.specs.ReadAs.{unpositioned}
 use Rattle.fancy_grammar.specs.State.{State, Outcome, done, failed, mapped}
 use Rattle.fancy_grammar.specs.Tree.{Tree, over, empty, look_around, atomic_group, define_group, ast_group}
-use Rattle.fancy_grammar.specs.Writable.{IsNameWritable, name_at}
 use Rattle.fancy_grammar.specs.declared.kinds.LookAround.{LookAround}
 use Rattle.fancy_pattern.proofs.PatternLaws.Becomes.{Becomes, in_longer, AreGroups, IsOpening}
 use Rattle.fancy_grammar.specs.Items.{items}
+use Rattle.fancy_grammar.proofs.PatternDepth.{MayOpenIf, MaySet}
+use Rattle.fancy_grammar.proofs.Writable.{IsNameWritable, name_at}
 use Rattle.fancy_parts.specs.Ranks.{is_counted}
 use Rattle.std.proofs.Common.{length, suc}
 use Rattle.fancy_pattern.proofs.PatternLaws.Letters.{changed, inline_flags_start, flag_group_start, no_hash}

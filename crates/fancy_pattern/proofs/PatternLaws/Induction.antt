@@ -19,11 +19,11 @@ use Rattle.fancy_grammar.specs.Label as label
 use Rattle.fancy_grammar.specs.GroupInfo.{GroupInfo}
 use Rattle.fancy_grammar.specs.Pattern.{Context, under, past_groups, after, flags_after}
 use Rattle.fancy_grammar.specs.Pattern.{group_count}
-use Rattle.fancy_grammar.specs.PatternDepth.{MayOpen, MaySet, FitsInParens}
 use Rattle.fancy_grammar.specs.PatternNeeds.{inline_flags, settled, letters_between}
 use Rattle.fancy_grammar.specs.Quantified.{is_repeatable}
 use Rattle.fancy_grammar.specs.Tree.{Tree, leaf, concat}
 use Rattle.fancy_grammar.specs.declared.precedence.Precedence.TheVariants.{Piece}
+use Rattle.fancy_grammar.proofs.PatternDepth.{MayOpen, MaySet, FitsInParens}
 use Rattle.fancy_pattern.proofs.PatternLaws.Groups.{begins_inline_flags, inline_flags_rest, flag_group_text, flag_group_at}
 use Rattle.fancy_pattern.proofs.PatternLaws.Groups.{reads_flag_group}
 use Rattle.fancy_pattern.proofs.PatternLaws.Groups.{begins_letters, inner}

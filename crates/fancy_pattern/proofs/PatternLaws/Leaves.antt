@@ -36,7 +36,7 @@ use Rattle.fancy_grammar.specs.Pattern.{Context, parenthesized, verb_text}
 use Rattle.fancy_grammar.specs.PatternLetters.{any_text, assertion_text, character}
 use Rattle.fancy_grammar.specs.State.{done}
 use Rattle.fancy_grammar.specs.Tree.{leaf, assertion}
-use Rattle.fancy_grammar.specs.Writable.{IsSource, an_escape, a_class}
+use Rattle.fancy_grammar.proofs.Writable.{IsSource, an_escape, a_class}
 use Rattle.fancy_grammar.proofs.ReadBack.ClearLemmas.{apart, not_open}
 use Rattle.fancy_grammar.proofs.ReadBack.RuleLemmas.{st, leaf_at}
 use Rattle.fancy_pattern.proofs.PatternLaws.Becomes.{Becomes}

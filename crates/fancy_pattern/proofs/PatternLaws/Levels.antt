@@ -7,13 +7,13 @@ use Rattle.fancy_grammar.specs.Label as label
 use Rattle.fancy_grammar.specs.GroupInfo.{GroupInfo}
 use Rattle.fancy_grammar.specs.Pattern.{Context, under, past_groups, deeper, takes_pieces, takes_branches, is_operand}
 use Rattle.fancy_grammar.specs.Pattern.{is_last_operand, allowed, after}
-use Rattle.fancy_grammar.specs.PatternDepth.{MayOpen, FitsInParensIf, FitsAsAtom, Fits, FitAll}
 use Rattle.fancy_grammar.specs.PatternNeeds.{settled, agreed}
 use Rattle.fancy_grammar.specs.Quantified.{is_repeatable}
 use Rattle.fancy_grammar.specs.Tree.{Tree, leaf, over, row, Trees, no_trees, more_trees, levels, levels_all}
-use Rattle.fancy_grammar.specs.Writable.{AreNodesWritable, AreAllWritable, ArePieces, IsLike}
 use Rattle.fancy_grammar.specs.declared.precedence.Precedence.{Precedence}
 use Rattle.fancy_grammar.specs.declared.precedence.Precedence.TheVariants.{Whole, Branch, Piece, Operand}
+use Rattle.fancy_grammar.proofs.PatternDepth.{MayOpen, FitsInParensIf, FitsAsAtom, Fits, FitAll}
+use Rattle.fancy_grammar.proofs.Writable.{AreNodesWritable, AreAllWritable, ArePieces, IsLike}
 use Rattle.fancy_pattern.proofs.PatternLaws.Fitting.{flag_group_fits}
 use Rattle.fancy_pattern.proofs.PatternLaws.Needed.{like_after}
 use Rattle.fancy_pattern.proofs.PatternLaws.NestedGroups.{as_condition}

@@ -33,7 +33,7 @@ use Rattle.fancy_lex.proofs.IdLemmas.{id_cut}
 use Rattle.fancy_grammar.specs.PatternReference.{is_plain_name}
 use Rattle.fancy_grammar.specs.PatternReference.{signed}
 use Rattle.fancy_pattern.proofs.PatternLaws.Groups.{cut_before}
-use Rattle.fancy_grammar.specs.Writable.{IsLevelWritable}
+use Rattle.fancy_grammar.proofs.Writable.{IsLevelWritable}
 use Rattle.fancy_pattern.proofs.PatternLaws.Quantifiers.{number_read}
 use Rattle.fancy_grammar.proofs.ReadBack.CountTexts.{digit_is}
 use Rattle.std.specs.Char.{is_ascii_digit}

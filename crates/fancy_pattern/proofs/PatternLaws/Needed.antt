@@ -15,12 +15,12 @@ use Rattle.fancy_grammar.specs.PatternNeeds.{turns_on}
 use Rattle.fancy_grammar.specs.PatternNeeds.{inline_flags, letters_between}
 use Rattle.fancy_grammar.specs.Quantified.{is_repeatable}
 use Rattle.fancy_grammar.specs.Tree.{Tree, leaf, over, row, Trees, no_trees, more_trees}
-use Rattle.fancy_grammar.specs.Writable.{IsLike}
 use Rattle.fancy_grammar.specs.declared.needs.Need.{Need}
 use Rattle.fancy_grammar.specs.declared.needs.Need.TheVariants.{Free, Fixed, Torn}
 use Rattle.fancy_grammar.specs.declared.needs.Needs.{Needs}
 use Rattle.fancy_grammar.specs.declared.precedence.Precedence.{Precedence}
 use Rattle.fancy_grammar.specs.declared.precedence.Precedence.TheVariants.{Piece, Branch}
+use Rattle.fancy_grammar.proofs.Writable.{IsLike}
 use Rattle.fancy_pattern.proofs.PatternLaws.Characters.{CaseFits}
 use Rattle.fancy_pattern.proofs.PatternLaws.Leaves.{AnyFits, AssertionFits}
 

@@ -14,13 +14,13 @@ use Rattle.fancy_grammar.specs.Join.{is_empty, solid, one_or, join, choice}
 use Rattle.fancy_grammar.specs.Label as label
 use Rattle.fancy_grammar.specs.Label.{Leaf, AstReference, ast_backref, ast_call, ast_condition}
 use Rattle.fancy_grammar.specs.Pattern.{is_operand}
-use Rattle.fancy_grammar.specs.PatternDepth.{is_in_parens}
 use Rattle.fancy_grammar.specs.Quantified.{is_repeatable}
 use Rattle.fancy_grammar.specs.Resolved.{resolved_in, resolved_all, reference_node}
 use Rattle.fancy_grammar.specs.State.{State}
 use Rattle.fancy_grammar.specs.Tree.{Tree, leaf, over, row, Trees, no_trees, more_trees, trees_of, concat}
 use Rattle.fancy_grammar.specs.declared.precedence.Precedence.{Precedence}
 use Rattle.fancy_grammar.specs.declared.precedence.Precedence.TheVariants.{Whole, Branch, Piece, Operand}
+use Rattle.fancy_grammar.proofs.PatternDepth.{is_in_parens}
 use Rattle.fancy_grammar.proofs.OutcomeLemmas.{each_solid}
 use Rattle.fancy_pattern.proofs.PatternLaws.AtomStart.{IsLast, IsPlain, LeafRead}
 use Rattle.fancy_pattern.proofs.PatternLaws.Fitting.{Fit, EachFit, FitAlone, all_fit, leaf_fit, IsUnquantified, alone_fit}

@@ -17,12 +17,12 @@ use Rattle.fancy_grammar.specs.Join.{is_empty, choice}
 use Rattle.fancy_grammar.specs.Label as label
 use Rattle.fancy_grammar.specs.Label.{ast_condition}
 use Rattle.fancy_grammar.specs.Resolved.{resolved_in, resolved_all, reference_node}
-use Rattle.fancy_grammar.specs.PatternDepth.{FitsAsCondition}
 use Rattle.fancy_grammar.specs.State.{State}
 use Rattle.fancy_grammar.specs.Tree.{Tree, leaf, over, row, Trees, no_trees, more_trees, list_of}
 use Rattle.fancy_grammar.specs.declared.kinds.LookAround.{LookAround}
 use Rattle.fancy_grammar.specs.declared.precedence.Precedence.{Precedence}
 use Rattle.fancy_grammar.specs.declared.precedence.Precedence.TheVariants.{Whole, Branch}
+use Rattle.fancy_grammar.proofs.PatternDepth.{FitsAsCondition}
 use Rattle.fancy_pattern.proofs.NeedsLemmas.{listed}
 use Rattle.fancy_pattern.proofs.PatternLaws.AtomStart.{IsLast, IsTarget}
 use Rattle.fancy_pattern.proofs.PatternLaws.Fitting.{Fit, IsLow, fit_alone, alone_fit, SuitsLast, enclosed_fit}

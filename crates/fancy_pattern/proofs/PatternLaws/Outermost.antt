@@ -8,13 +8,13 @@ use Rattle.fancy_lex.specs.declared.flags.Flags.{Flags}
 use Rattle.fancy_grammar.specs.Depth.{max_depth}
 use Rattle.fancy_grammar.specs.Label as label
 use Rattle.fancy_grammar.specs.Pattern.{Context, under, deeper, is_last_operand, allowed}
-use Rattle.fancy_grammar.specs.PatternDepth.{FitsInParensIf, Fits}
 use Rattle.fancy_grammar.specs.PatternNeeds.{settled}
 use Rattle.fancy_grammar.specs.PatternQuantifier.{is_possessive, most_quantifiers}
 use Rattle.fancy_grammar.specs.Quantified.{max_adjacent}
 use Rattle.fancy_grammar.specs.Tree.{Tree, over}
 use Rattle.fancy_grammar.specs.declared.precedence.Precedence.{Precedence}
 use Rattle.fancy_grammar.specs.declared.precedence.Precedence.TheVariants.{Whole, Branch, Piece, Operand}
+use Rattle.fancy_grammar.proofs.PatternDepth.{FitsInParensIf, Fits}
 use Rattle.fancy_pattern.proofs.PatternLaws.Fitting.{Fit, FitAlone, IsLow, Ready, may_set, ready_settled}
 use Rattle.fancy_pattern.proofs.PatternLaws.Needed.{settled_again}
 

@@ -21,12 +21,12 @@ use Rattle.fancy_grammar.specs.Grammar.{is_condition, clear_or_stopper}
 use Rattle.fancy_grammar.specs.Items.{openings, numbers_in}
 use Rattle.fancy_grammar.specs.Join.{join, choice}
 use Rattle.fancy_grammar.specs.GroupInfo.{GroupInfo}
-use Rattle.fancy_grammar.specs.PatternDepth.{Fits}
 use Rattle.fancy_grammar.specs.PatternNeeds.{agreed}
 use Rattle.fancy_grammar.specs.Resolved.{resolved_in, resolved}
 use Rattle.fancy_grammar.specs.State.{State, at, Outcome, done, failed}
 use Rattle.fancy_grammar.specs.Tree.{Tree, expression}
 use Rattle.fancy_grammar.specs.declared.precedence.Precedence.TheVariants.{Whole as AsWhole}
+use Rattle.fancy_grammar.proofs.PatternDepth.{Fits}
 use Rattle.fancy_grammar.proofs.AtomStartLaws.{OpensBelow, start_below}
 use Rattle.fancy_grammar.proofs.OutcomeLemmas.{Holds, then_holds}
 use Rattle.fancy_pattern.proofs.PatternLaws.AtomStart.{IsLast, StartMode, start_mode, LeafRead}

@@ -18,7 +18,7 @@ use Rattle.fancy_grammar.specs.GroupInfo.{GroupInfo, is_call_of_all}
 use Rattle.fancy_grammar.specs.Preorder.{preorder}
 use Rattle.fancy_grammar.specs.Resolved.{reference_node, resolved, first_error}
 use Rattle.fancy_grammar.specs.Tree.{Tree, leaf, over, row, Trees, ast_node, ast_group}
-use Rattle.fancy_grammar.specs.Writable.{is_numbered, is_numbered_call_of_all}
+use Rattle.fancy_grammar.proofs.Writable.{is_numbered, is_numbered_call_of_all}
 use Rattle.fancy_pattern.proofs.PatternLaws.Becomes.{AreGroups, count_after, AgreesWithInfo, RefersToGroup, info_meaning}
 use Rattle.fancy_pattern.proofs.PatternLaws.Becomes.{info_numbers}
 use Rattle.fancy_grammar.proofs.PreorderLaws.{kept, kept_if, resolved_nodes, items_of_all, items_of_nodes}

@@ -46,8 +46,8 @@ use Rattle.fancy_grammar.specs.Pattern.{Context, group_count}
 use Rattle.fancy_grammar.specs.Resolved.{reference_node}
 use Rattle.fancy_grammar.specs.Tree.{leaf, ast_node}
 use Rattle.fancy_grammar.specs.ReadAs.{unpositioned}
-use Rattle.fancy_grammar.specs.Writable.{IsCallWritable, IsLevelWritable, is_numbered, is_numbered_call_of_all}
-use Rattle.fancy_grammar.specs.Writable.{is_called_by_number}
+use Rattle.fancy_grammar.proofs.Writable.{IsCallWritable, IsLevelWritable, is_numbered, is_numbered_call_of_all}
+use Rattle.fancy_grammar.proofs.Writable.{is_called_by_number}
 use Rattle.fancy_pattern.proofs.PatternLaws.Becomes.{Becomes, info_numbers, AgreesWithInfo, RefersToGroup}
 use Rattle.fancy_pattern.proofs.PatternLaws.Leaves.{LeafAt}
 use Rattle.fancy_pattern.proofs.PatternLaws.Quantifiers.{number_read}

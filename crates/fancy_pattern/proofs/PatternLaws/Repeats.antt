@@ -15,12 +15,12 @@ use Rattle.fancy_grammar.specs.GroupInfo.{GroupInfo}
 use Rattle.fancy_grammar.specs.Pattern.{Context, under, deeper, in_parens}
 use Rattle.fancy_grammar.specs.Pattern.{written}
 use Rattle.fancy_grammar.specs.Pattern.{repeated, allowed}
-use Rattle.fancy_grammar.specs.PatternDepth.{Fits, FitsInParensIf, MaySet, MayOpen}
 use Rattle.fancy_grammar.specs.PatternNeeds.{settled, inline_flags}
 use Rattle.fancy_grammar.specs.PatternQuantifier.{quantifier_text, is_possessive}
 use Rattle.fancy_grammar.specs.Tree.{Tree, over}
 use Rattle.fancy_grammar.specs.declared.precedence.Precedence.{Precedence}
 use Rattle.fancy_grammar.specs.declared.precedence.Precedence.TheVariants.{Whole, Branch, Piece, Operand}
+use Rattle.fancy_grammar.proofs.PatternDepth.{Fits, FitsInParensIf, MaySet, MayOpen}
 use Rattle.fancy_pattern.proofs.PatternLaws.Groups.{parens_text, question_at, flag_group_at, reads_flag_group, reads_atomic}
 use Rattle.fancy_pattern.proofs.PatternLaws.Induction.{LeadsTo, BeginsIn, AtomIn, one_branch}
 use Rattle.fancy_pattern.proofs.PatternLaws.Induction.{set_begins, by_piece, atom_leads, refit}

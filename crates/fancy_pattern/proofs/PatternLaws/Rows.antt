@@ -10,13 +10,13 @@ use Rattle.fancy_grammar.specs.Label as label
 use Rattle.fancy_grammar.specs.GroupInfo.{GroupInfo}
 use Rattle.fancy_grammar.specs.Pattern.{Context, after, flags_after, flags_after_all, written}
 use Rattle.fancy_grammar.specs.Pattern.{written_all, written_branches, written_barred, is_in_digits, group_count}
-use Rattle.fancy_grammar.specs.PatternDepth.{Fits, FitAll}
 use Rattle.fancy_grammar.specs.PatternNeeds.{settled}
 use Rattle.fancy_grammar.specs.Tree.{Tree, row, Trees, no_trees, more_trees, list_of}
 use Rattle.fancy_grammar.specs.Tree.{concat}
 use Rattle.fancy_grammar.specs.Tree.{trees_of}
-use Rattle.fancy_grammar.specs.Writable.{IsLike}
 use Rattle.fancy_grammar.specs.declared.precedence.Precedence.TheVariants.{Whole, Branch, Piece}
+use Rattle.fancy_grammar.proofs.PatternDepth.{Fits, FitAll}
+use Rattle.fancy_grammar.proofs.Writable.{IsLike}
 use Rattle.fancy_pattern.proofs.NeedsLemmas.{listed}
 use Rattle.fancy_pattern.proofs.PatternLaws.Cases.{ReadsTree}
 use Rattle.fancy_pattern.proofs.PatternLaws.Groups.{inner}

@@ -8,11 +8,11 @@ use Rattle.fancy_lex.specs.declared.flags.Flags.{Flags}
 use Rattle.fancy_grammar.specs.Label as label
 use Rattle.fancy_grammar.specs.GroupInfo.{GroupInfo}
 use Rattle.fancy_grammar.specs.Pattern.{Context, under, after, written, is_in_digits}
-use Rattle.fancy_grammar.specs.PatternDepth.{MaySet, Fits}
 use Rattle.fancy_grammar.specs.PatternNeeds.{settled, inline_flags}
 use Rattle.fancy_grammar.specs.Tree.{Tree, leaf}
-use Rattle.fancy_grammar.specs.Writable.{AreNodesWritable}
 use Rattle.fancy_grammar.specs.declared.precedence.Precedence.TheVariants.{Piece}
+use Rattle.fancy_grammar.proofs.PatternDepth.{MaySet, Fits}
+use Rattle.fancy_grammar.proofs.Writable.{AreNodesWritable}
 use Rattle.fancy_grammar.proofs.OutcomeLemmas.{piece_as}
 use Rattle.fancy_pattern.proofs.PatternLaws.Groups.{inline_flags_rest}
 use Rattle.fancy_pattern.proofs.PatternLaws.References.{digits_atom, begins_reference}

@@ -13,7 +13,6 @@ use Rattle.fancy_grammar.specs.Join.{is_empty}
 use Rattle.fancy_grammar.specs.Label as label
 use Rattle.fancy_grammar.specs.GroupInfo.{GroupInfo}
 use Rattle.fancy_grammar.specs.Pattern.{Context, under, past_groups, group_count, written}
-use Rattle.fancy_grammar.specs.PatternDepth.{Fits, FitsInParensIf, MayOpenIf, is_in_parens}
 use Rattle.fancy_grammar.specs.PatternNeeds.{settled}
 use Rattle.fancy_grammar.specs.PatternQuantifier.{is_quantified, most_quantifiers}
 use Rattle.fancy_grammar.specs.Quantified.{is_repeatable, is_unmoved, quant, quants, adjacent, max_adjacent}
@@ -21,6 +20,7 @@ use Rattle.fancy_grammar.specs.State.{done, failed, and_then}
 use Rattle.fancy_grammar.specs.Tree.{Tree, leaf, over, row, no_trees, more_trees}
 use Rattle.fancy_grammar.specs.declared.precedence.Precedence.{Precedence}
 use Rattle.fancy_grammar.specs.declared.precedence.Precedence.TheVariants.{Operand}
+use Rattle.fancy_grammar.proofs.PatternDepth.{Fits, FitsInParensIf, MayOpenIf, is_in_parens}
 use Rattle.fancy_grammar.proofs.OutcomeLemmas.{piece_as}
 use Rattle.fancy_pattern.proofs.PatternLaws.Becomes.{Becomes, stays_repeatable}
 use Rattle.fancy_pattern.proofs.PatternLaws.Cases.{ReadsTree}

@@ -44,7 +44,7 @@ use Rattle.fancy_grammar.specs.Label as label
 use Rattle.fancy_grammar.specs.PatternNeeds.{is_hex_class, is_kept_by_backslash}
 use Rattle.fancy_grammar.specs.PatternReference.{unresolved_text}
 use Rattle.fancy_grammar.specs.Tree.{leaf}
-use Rattle.fancy_grammar.specs.Writable.{IsNameWritable}
+use Rattle.fancy_grammar.proofs.Writable.{IsNameWritable}
 use Rattle.fancy_pattern.proofs.Parsed.Readers.{gives_both, gives_after}
 use Rattle.fancy_pattern.proofs.Parsed.Targets.{IfNamed, delimited_writable}
 use Rattle.fancy_pattern.proofs.PatternLaws.Suited.{AreMet, none_met, Suits}

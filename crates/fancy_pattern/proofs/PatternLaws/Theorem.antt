@@ -29,19 +29,19 @@ use Rattle.fancy_grammar.specs.Preorder.{preorder}
 use Rattle.fancy_grammar.specs.ReadAs.{IsReadAs, unpositioned}
 use Rattle.fancy_grammar.specs.Resolved.{error_of, resolved}
 use Rattle.fancy_grammar.specs.Tree.{Tree, leaf, over, row, Trees, no_trees, more_trees}
-use Rattle.fancy_grammar.specs.Writable.{AreNodesWritable, AreAllWritable, ArePieces, IsWritable, info_openings}
-use Rattle.fancy_grammar.specs.Writable.{AreCounted, IsNameWritable, info_of, IsLike, is_numbered}
-use Rattle.fancy_grammar.specs.Writable.{is_numbered_call_of_all}
 use Rattle.fancy_grammar.specs.declared.precedence.Precedence.TheVariants.{Whole, Branch as BranchAlone}
 use Rattle.fancy_grammar.proofs.ParsedTreeLaws.{parsed_tree_with}
 use Rattle.fancy_grammar.proofs.ReadAsLaws.{read_as}
 use Rattle.fancy_pattern.proofs.PatternLaws.Absent.{repeater_reads, stopper_reads, expression_reads}
 use Rattle.fancy_pattern.proofs.PatternLaws.Becomes.{Becomes, opened, AreGroups, IsOpening, count_after}
-use Rattle.fancy_grammar.specs.Writable.{info_numbers}
 use Rattle.std.proofs.Common.{Some}
 use Rattle.fancy_parts.specs.Ranks.{is_counted, numbered_openings_in}
 use Rattle.fancy_grammar.specs.Resolved.{first_error, resolved_in}
 use Rattle.fancy_grammar.specs.Items.{meanings_in}
+use Rattle.fancy_grammar.proofs.Writable.{AreNodesWritable, AreAllWritable, ArePieces, IsWritable, info_openings}
+use Rattle.fancy_grammar.proofs.Writable.{AreCounted, IsNameWritable, info_of, IsLike, is_numbered}
+use Rattle.fancy_grammar.proofs.Writable.{is_numbered_call_of_all}
+use Rattle.fancy_grammar.proofs.Writable.{info_numbers}
 use Rattle.fancy_pattern.proofs.PatternLaws.Cases.{ReadsTree, leaf_reads, group_reads, look_reads, define_reads}
 use Rattle.fancy_pattern.proofs.PatternLaws.Cases.{atomic_by}
 use Rattle.fancy_pattern.proofs.PatternLaws.Conditionals.{conditional_reads}

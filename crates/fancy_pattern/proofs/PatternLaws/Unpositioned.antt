@@ -13,7 +13,7 @@ use Rattle.fancy_grammar.specs.Preorder.{preorder, preorder_all}
 use Rattle.fancy_grammar.specs.Quantified.{is_repeatable}
 use Rattle.fancy_grammar.specs.ReadAs.{unpositioned, unpositioned_all}
 use Rattle.fancy_grammar.specs.Tree.{Tree, leaf, over, row, Trees, no_trees, more_trees}
-use Rattle.fancy_grammar.specs.Writable.{is_numbered, is_numbered_call_of_all}
+use Rattle.fancy_grammar.proofs.Writable.{is_numbered, is_numbered_call_of_all}
 
 -- ---- a single tree
 

@@ -26,12 +26,12 @@ use Rattle.fancy_grammar.specs.Label as label
 use Rattle.fancy_grammar.specs.Label.{ast_call}
 use Rattle.fancy_grammar.specs.GroupInfo.{GroupInfo}
 use Rattle.fancy_grammar.specs.Pattern.{Context}
-use Rattle.fancy_grammar.specs.PatternDepth.{MayOpenIf}
 use Rattle.fancy_grammar.specs.PatternReference.{delimited, unresolved_text}
 use Rattle.fancy_grammar.specs.ReadAs.{unpositioned}
 use Rattle.fancy_grammar.specs.Resolved.{reference_node}
 use Rattle.fancy_grammar.specs.Tree.{leaf, ast_node}
-use Rattle.fancy_grammar.specs.Writable.{IsCalledTarget, is_called_in_parens}
+use Rattle.fancy_grammar.proofs.PatternDepth.{MayOpenIf}
+use Rattle.fancy_grammar.proofs.Writable.{IsCalledTarget, is_called_in_parens}
 use Rattle.fancy_pattern.proofs.PatternLaws.Becomes.{Becomes, info_numbers, AgreesWithInfo, RefersToGroup}
 use Rattle.fancy_pattern.proofs.PatternLaws.Groups.{question_at, cut_before}
 use Rattle.fancy_pattern.proofs.PatternLaws.Leaves.{LeafAt}

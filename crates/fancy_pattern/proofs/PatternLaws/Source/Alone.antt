@@ -16,8 +16,8 @@ use Rattle.fancy_grammar.specs.Label.{delegate}
 use Rattle.fancy_grammar.specs.PatternNeeds.{is_hex_class, settled, fixed_or}
 use Rattle.fancy_grammar.specs.PatternSource.{source, delegate_text}
 use Rattle.fancy_grammar.specs.Tree.{leaf}
-use Rattle.fancy_grammar.specs.Writable.{IsLike, IsSource, an_escape, a_class, HasSource}
 use Rattle.fancy_grammar.specs.declared.needs.Needs.{Needs}
+use Rattle.fancy_grammar.proofs.Writable.{IsLike, IsSource, an_escape, a_class, HasSource}
 
 -- ---- a class reads the same whatever follows it
 

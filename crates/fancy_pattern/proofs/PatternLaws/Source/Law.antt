@@ -31,7 +31,7 @@ use Rattle.fancy_lex.proofs.LoneLemmas.{AtRows, of_lone}
 use Rattle.fancy_lex.proofs.ReadingLemmas.{choose_both}
 use Rattle.fancy_grammar.specs.PatternNeeds.{is_hex_class}
 use Rattle.fancy_grammar.specs.PatternSource.{source}
-use Rattle.fancy_grammar.specs.Writable.{IsLike, IsSource, an_escape, a_class, HasSource}
+use Rattle.fancy_grammar.proofs.Writable.{IsLike, IsSource, an_escape, a_class, HasSource}
 use Rattle.fancy_pattern.proofs.SourceLemmas.{source_ends}
 use Rattle.fancy_grammar.proofs.ReadBack.ChunkLemmas.{HasNoBrace, prop, open_plain, open_caret}
 use Rattle.fancy_grammar.proofs.ReadBack.ClearLemmas.{Each, no_more, also, each_among}

@@ -29,13 +29,13 @@ use Rattle.fancy_grammar.specs.Label.{ast_call}
 use Rattle.fancy_grammar.specs.GroupInfo.{GroupInfo, ascending}
 use Rattle.fancy_grammar.specs.Pattern.{group_count}
 use Rattle.fancy_grammar.specs.PatternReference.{name_of}
-use Rattle.fancy_grammar.specs.PatternDepth.{Fits}
 use Rattle.fancy_grammar.specs.PatternNeeds.{settled, agreed}
 use Rattle.fancy_grammar.specs.PatternSource.{delegate_text}
 use Rattle.fancy_grammar.specs.Preorder.{preorder}
 use Rattle.fancy_grammar.specs.Quantified.{is_repeatable}
 use Rattle.fancy_grammar.specs.Tree.{Tree, leaf, over, row, Trees, no_trees, more_trees}
 use Rattle.fancy_grammar.specs.declared.precedence.Precedence.TheVariants.{Whole}
+use Rattle.fancy_grammar.proofs.PatternDepth.{Fits}
 
 -- the flags, with those that a text can set turned off
 abbrev pub unset : Flags → Flags
