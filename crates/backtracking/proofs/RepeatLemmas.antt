@@ -2,7 +2,7 @@
 use Rattle.std.proofs.Common.{◌≡◌, ℕ, Bool, List, [], ◌∷◌, ◌++◌, suc, Box, Global, rules, refl, sym, ap, ◌∙◌, subst, arith}
 use Rattle.std.specs.List.{AllByRecursion, IsAmong}
 use Rattle.fancy_grammar.specs.Tree.{repeat}
-use Rattle.fancy_spans.specs.Spanned.{Spanned}
+use Rattle.fancy_syntax.specs.Spanned.{Spanned}
 use Rattle.fancy_syntax.specs.View.{view}
 use Rattle.fancy_syntax.specs.declared.expr.Expr.{Expr, Repeat, the_lemmas}
 use Rattle.backtracking.specs.SlowRepeats.{IsNodeOf, root, below, spanned_children, IsSlowAt, IsSlowIn}

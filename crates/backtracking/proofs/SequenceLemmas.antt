@@ -6,7 +6,7 @@ use Rattle.std.proofs.lemmas.Option.{slice_get-map, slice_get_read}
 use Rattle.std.specs.List.{AllByRecursion, slice_range}
 use Rattle.std.specs.Prelude.{IsSomeAnd, slice_get, option_map}
 use Rattle.fancy_grammar.specs.Tree.{Tree, concat, trees_of}
-use Rattle.fancy_spans.specs.Spanned.{Spanned, first_span}
+use Rattle.fancy_syntax.specs.Spanned.{Spanned, first_span}
 use Rattle.fancy_syntax.proofs.ChildrenLemmas.{view_Concat}
 use Rattle.fancy_syntax.specs.View.{view, views}
 use Rattle.fancy_syntax.specs.declared.expr.Expr.{Expr, Repeat, Group, Concat}

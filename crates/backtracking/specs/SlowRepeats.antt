@@ -2,7 +2,7 @@
 use Rattle.std.specs.Prelude.{◌≡◌, ℕ, ◌<◌, Bool, List, drop}
 use Rattle.std.specs.List.{IsAmong}
 use Rattle.fancy_grammar.specs.Tree.{Tree, repeat}
-use Rattle.fancy_spans.specs.Spanned.{Spanned, first_span, side_by_side}
+use Rattle.fancy_syntax.specs.Spanned.{Spanned, first_span, side_by_side}
 use Rattle.fancy_syntax.specs.Children.{children_of}
 use Rattle.fancy_syntax.specs.View.{view}
 use Rattle.backtracking.specs.ManyWays.{HasManyWays}

@@ -2,7 +2,7 @@
 use Rattle.std.specs.Prelude.{◌≡◌, ℕ, suc, ◌+◌, ◌-◌, ◌<◌, Bool, List, map, slice_get, IsSomeAnd}
 use Rattle.std.specs.List.{slice_range}
 use Rattle.fancy_grammar.specs.Tree.{Tree, trees_of, concat, group, repeat}
-use Rattle.fancy_spans.specs.Spanned.{Spanned, first_span}
+use Rattle.fancy_syntax.specs.Spanned.{Spanned, first_span}
 use Rattle.fancy_syntax.specs.View.{view}
 use Rattle.fancy_syntax.specs.declared.span.Span.{Span}
 use Rattle.backtracking.specs.ManySplits.{HasManySplits}

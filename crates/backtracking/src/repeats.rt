@@ -1,16 +1,16 @@
 //! The repeats of a pattern that can match a text in exponentially many ways.
 ghost use Rattle.std.specs.Prelude.{IfOk, OnOk};
 ghost use Rattle.std.specs.List.{AllByRecursion};
-ghost use Rattle.fancy_spans.specs.Spanned.{Spanned, spanned_of, spanned_of_tree};
+ghost use Rattle.fancy_syntax.specs.Spanned.{Spanned, spanned_of, spanned_of_tree};
 ghost use Rattle.backtracking.specs.SlowRepeats.{IsNodeOf, IsSlowIn, IsLooked};
 
 use crate::attack::{Attack, Surroundings, Target, enclosing_of, find_attack};
 use crate::known_sets::ClassSets;
 use crate::shape::{PartKind, kind_of};
 use crate::witness::{RepeatWays, Witness, ways_of_turns};
-use fancy_spans::{SpannedNode, SpannedTree};
 use fancy_syntax::expr::{Expr, LookAround};
 use fancy_syntax::span::Span;
+use fancy_syntax::spanned::{SpannedNode, SpannedTree};
 use std::alloc::{AllocError, Global};
 
 /// A repeat is looked at if it has no limit, or one above this.

@@ -1,7 +1,7 @@
 //! The concatenations of a pattern that can match a text in polynomially many ways.
 ghost use Rattle.std.specs.Prelude.{◌≡◌, ◌++◌, map, Bool, List, IfOk, IfSome, OnOk};
 ghost use Rattle.std.specs.List.{AllByRecursion};
-ghost use Rattle.fancy_spans.specs.Spanned.{Spanned, spanned_of, spanned_of_tree, first_span};
+ghost use Rattle.fancy_syntax.specs.Spanned.{Spanned, spanned_of, spanned_of_tree, first_span};
 ghost use Rattle.fancy_grammar.specs.Tree.{Tree, concat, trees_of};
 ghost use Rattle.fancy_syntax.specs.View.{view, views};
 ghost use Rattle.fancy_syntax.specs.declared.span.Span.{Span};
@@ -14,9 +14,9 @@ use crate::known_sets::ClassSets;
 use crate::pieces::{Piece, Reach, pieces_of};
 use crate::repeats::{SMALL_LIMIT, SearchOptions, is_left_alone};
 use crate::sequence::ways_of_cut;
-use fancy_spans::{SpannedNode, SpannedTree};
 use fancy_syntax::expr::Expr;
 use fancy_syntax::span::Span;
+use fancy_syntax::spanned::{SpannedNode, SpannedTree};
 use std::alloc::{AllocError, Global};
 
 /// The most trees after a repeat that are looked at.

@@ -1,6 +1,6 @@
 //! Branches that begin with what another one matches.
 ghost use Rattle.std.specs.Prelude.{◌≡◌, ◌==◌, ◌<◌, ◌≤◌, true, IfOk, IsTrue};
-ghost use Rattle.fancy_spans.specs.Spanned.{spanned_of};
+ghost use Rattle.fancy_syntax.specs.Spanned.{spanned_of};
 ghost use Rattle.fancy_lex.specs.Flags.{flags_of};
 ghost use Rattle.fancy_syntax.specs.View.{view, views};
 ghost use Rattle.class_rules.specs.Beginnings as spec;
@@ -8,8 +8,8 @@ ghost use Rattle.class_rules.specs.Beginnings.{BeginsWithin, StartsWithin, Repea
 
 use crate::known_classes::KnownClasses;
 use crate::subsumed::{is_one_character, is_subsumed, may_contain};
-use fancy_spans::{SpannedChildren, SpannedNode};
 use fancy_syntax::expr::Expr;
+use fancy_syntax::spanned::{SpannedChildren, SpannedNode};
 use std::alloc::{AllocError, Global};
 use std::slice;
 

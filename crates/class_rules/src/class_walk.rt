@@ -3,9 +3,9 @@ use crate::class_look::{LookAt, class_look};
 use crate::class_problem::{ClassFinding, ClassProblem};
 use crate::known_classes::{ClassText, KnownClasses};
 use crate::subsumed::add_subsumed;
-use fancy_spans::SpannedNode;
 use fancy_syntax::expr::Expr;
 use fancy_syntax::span::Span;
+use fancy_syntax::spanned::SpannedNode;
 use std::alloc::{AllocError, Global};
 
 /// The span in the pattern of a span in a class that begins there.

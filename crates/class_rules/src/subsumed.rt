@@ -7,8 +7,8 @@ use crate::class_problem::{ClassFinding, ClassProblem};
 use crate::known_classes::{ClassText, KnownClasses, MAX_BYTES};
 use class_meaning::{CharacterSet, ClassMeaning, characters_of};
 use fancy_lex::text::{is_same_text, next};
-use fancy_spans::SpannedNode;
 use fancy_syntax::expr::Expr;
+use fancy_syntax::spanned::SpannedNode;
 use std::alloc::{AllocError, Global};
 
 /// How many classes of an alternation its branches are compared with.

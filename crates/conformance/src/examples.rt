@@ -23,7 +23,7 @@ use crate::examples::spans::push_nested_repeats;
 use crate::examples::summary::summary;
 use crate::examples::walks::{push_literals, repeats_without_bound};
 use anyhow::Result;
-use fancy_spans::SpannedTree;
+use fancy_syntax::spanned::SpannedTree;
 use fancy_syntax::{Expr, ExprTree, FLAG_IGNORE_SPACE, FLAG_UNICODE};
 
 fn show_summary(rt: &HostRuntime, pattern: &str) -> Result<()> {

@@ -5,9 +5,9 @@ ghost use Rattle.dialects.specs.declared.difference.Difference.TheVariants as di
 use crate::class_item::in_class;
 use crate::difference::Difference;
 use crate::node_spelling::{of_condition, of_leaf, of_pair, of_repeat};
-use fancy_spans::SpannedNode;
 use fancy_syntax::expr::Expr;
 use fancy_syntax::span::Span;
+use fancy_syntax::spanned::SpannedNode;
 use std::alloc::{AllocError, Global};
 
 /// What another dialect reads otherwise, and the part of the pattern that it is.

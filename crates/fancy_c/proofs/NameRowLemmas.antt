@@ -6,7 +6,7 @@ use Rattle.std.proofs.lemmas.List.{set_split, length-map, get_or-map}
 use Rattle.std.proofs.lemmas.List.Edits.{paste_more}
 use Rattle.std.proofs.Math.Seq.{paste}
 use Rattle.fancy_lex.specs.Text.{Text}
-use Rattle.fancy_parts.specs.Capacity.{in_word}
+use Rattle.fancy_syntax.specs.Capacity.{in_word}
 use Rattle.fancy_c.specs.Buffer.{put_at}
 use Rattle.fancy_c.specs.InfoRows.{rows_of_name, name_rows, name_texts}
 use Rattle.fancy_c.specs.declared.info_rows.Name.{Name}

@@ -12,10 +12,10 @@ use Rattle.fancy_lex.proofs.TextLemmas.{bytes_chars, length_encodes}
 use Rattle.fancy_lex.specs.Target.{Target, by_number, by_name, relative}
 use Rattle.fancy_lex.specs.Text.{Text, bytes}
 use Rattle.fancy_lex.specs.declared.flags.Flags.{Flags}
-use Rattle.fancy_parts.proofs.NamedLaws.{with_all, all_named}
-use Rattle.fancy_parts.specs.Groups.{Groups, no_groups, with_group, with_named, with_number}
-use Rattle.fancy_parts.specs.Meaning.{Meaning, number, unresolved, invalid, refers_to}
-use Rattle.fancy_parts.specs.Ranks.{Opening, is_counted, name_cmp, named_groups, numbered_openings, numbered_openings_in, only_named}
+use Rattle.fancy_grammar.proofs.NamedLaws.{with_all, all_named}
+use Rattle.fancy_grammar.specs.Groups.{Groups, no_groups, with_group, with_named, with_number}
+use Rattle.fancy_grammar.specs.Meaning.{Meaning, number, unresolved, invalid, refers_to}
+use Rattle.fancy_grammar.specs.Ranks.{Opening, is_counted, name_cmp, named_groups, numbered_openings, numbered_openings_in, only_named}
 use Rattle.fancy_grammar.proofs.PreorderLaws.{items_of_all, items_of_nodes, kept, resolved_nodes}
 use Rattle.fancy_grammar.specs.GroupInfo.{GroupInfo}
 use Rattle.fancy_grammar.specs.Items.{openings, openings_in, role_of, target_of, numbers_in}

@@ -8,9 +8,9 @@ use Prim.Native.Char.{code}
 use Rattle.fancy_lex.specs.Target.{Target, by_number, by_name, relative}
 use Rattle.fancy_lex.specs.Text.{Text, bytes, reach_of, strip}
 use Rattle.fancy_lex.specs.declared.flags.Flags.{Flags}
-use Rattle.fancy_parts.proofs.CountLaws.{Closed, closes_counts}
-use Rattle.fancy_parts.specs.Quantifier.{counts}
-use Rattle.fancy_parts.specs.declared.counts.Counts.{Counts}
+use Rattle.fancy_lex.proofs.CountLaws.{Closed, closes_counts}
+use Rattle.fancy_lex.specs.Quantifier.{counts}
+use Rattle.fancy_lex.specs.declared.counts.Counts.{Counts}
 use Rattle.fancy_grammar.specs.AtomStart.{AtomStart, read, of_kind}
 use Rattle.fancy_grammar.specs.Depth.{max_depth}
 use Rattle.fancy_grammar.specs.Grammar.{Alternation, alternation, Branches, last, more, branch_error, Branch, branch}

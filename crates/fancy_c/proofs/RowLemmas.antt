@@ -7,7 +7,7 @@ use Rattle.std.proofs.lemmas.List.Edits.{paste-paste, length-paste, paste_none}
 use Rattle.std.proofs.Math.Seq.{paste}
 use Rattle.fancy_grammar.specs.Label as label
 use Rattle.fancy_grammar.specs.Tree.{Tree, leaf, over, row as row_of, Trees, no_trees, more_trees, list_of, children}
-use Rattle.fancy_parts.specs.Capacity.{in_word}
+use Rattle.fancy_syntax.specs.Capacity.{in_word}
 use Rattle.fancy_c.specs.Buffer.{put_at}
 use Rattle.fancy_c.specs.Node.{listed, listed_all, listed_each, carried, texts, start_of_text, row, rows, SpanAt}
 use Rattle.fancy_c.specs.declared.node.Node.{Node}

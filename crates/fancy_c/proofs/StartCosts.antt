@@ -15,10 +15,10 @@ use Rattle.fancy_lex.specs.Referred.{Reference, Call}
 use Rattle.fancy_lex.specs.Text.{Text, bytes, strip_word, reach_of}
 use Rattle.fancy_lex.specs.Located.{Located}
 use Rattle.fancy_lex.specs.ErrorTable.{group_not_named}
-use Rattle.fancy_parts.specs.FlagLetters.{Letters, inline_flags, flag_group as scoped}
-use Rattle.fancy_parts.specs.LetterSteps.{letters}
-use Rattle.fancy_parts.specs.GroupName.{group_name}
-use Rattle.fancy_parts.specs.GroupReference.{named_reference, named_call, call_of, begins_target, condition_target}
+use Rattle.fancy_lex.specs.FlagLetters.{Letters, inline_flags, flag_group as scoped}
+use Rattle.fancy_lex.specs.LetterSteps.{letters}
+use Rattle.fancy_lex.specs.GroupName.{group_name}
+use Rattle.fancy_lex.specs.GroupReference.{named_reference, named_call, call_of, begins_target, condition_target}
 use Rattle.fancy_grammar.specs.AtomStart.{AtomStart, read, of_kind, body, atom_start}
 use Rattle.fancy_grammar.specs.AtomStart.{start_of, group_start, after_question, condition_start, repeater_start}
 use Rattle.fancy_grammar.specs.AtomStart.{flags_start, leaf_node, leaf_outcome, leaf_of, begins_no_atom}

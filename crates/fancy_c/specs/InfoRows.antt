@@ -5,7 +5,7 @@ use Rattle.fancy_lex.specs.Bits.{has_bit}
 use Rattle.fancy_lex.specs.Flags.{flags_of}
 use Rattle.fancy_lex.specs.Text.{Text}
 use Rattle.fancy_lex.specs.declared.flags.Flags.{Flags}
-use Rattle.fancy_parts.specs.Capacity.{in_word}
+use Rattle.fancy_syntax.specs.Capacity.{in_word}
 use Rattle.fancy_grammar.specs.GroupInfo.{GroupInfo}
 use Rattle.fancy_grammar.specs.Preorder.{preorder}
 use Rattle.fancy_grammar.specs.Spans as spec

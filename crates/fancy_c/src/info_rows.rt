@@ -1,7 +1,7 @@
 //! The sizes of a tree and its group information, as a caller in C gets them.
 ghost use Rattle.std.specs.Prelude.{◌≡◌, ◌+◌, ◌≤◌, length, map};
-ghost use Rattle.fancy_parts.specs.Groups.{entry_of};
-ghost use Rattle.fancy_parts.specs.Capacity.{in_word};
+ghost use Rattle.fancy_grammar.specs.Groups.{entry_of};
+ghost use Rattle.fancy_syntax.specs.Capacity.{in_word};
 ghost use Rattle.fancy_c.specs.Buffer.{put_at};
 ghost use Rattle.fancy_c.specs.InfoRows.{rows_of_name, name_rows, name_texts};
 

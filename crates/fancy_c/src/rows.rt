@@ -1,6 +1,6 @@
 //! The nodes of a tree written into an array.
 ghost use Rattle.std.specs.Prelude.{◌≡◌, ◌+◌, ◌≤◌, length};
-ghost use Rattle.fancy_parts.specs.Capacity.{in_word};
+ghost use Rattle.fancy_syntax.specs.Capacity.{in_word};
 ghost use Rattle.fancy_grammar.specs.Tree.{children};
 ghost use Rattle.fancy_syntax.specs.View.{view};
 ghost use Rattle.fancy_c.specs.Buffer.{put_at};

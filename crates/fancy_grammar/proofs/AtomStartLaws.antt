@@ -21,14 +21,14 @@ use Rattle.fancy_lex.specs.Escaped.{Escape}
 use Rattle.fancy_lex.specs.Escaped as escaped
 use Rattle.fancy_lex.specs.Reading.{Reading, gives, fails}
 use Rattle.fancy_lex.specs.Text.{Text, bytes, reach_of, strip_word}
-use Rattle.fancy_parts.proofs.FlagLaws.{leaves_letters}
-use Rattle.fancy_parts.proofs.GroupStartLaws.{takes_group_name, takes_named_reference, takes_named_call}
-use Rattle.fancy_parts.proofs.GroupStartLaws.{takes_condition_target, named_reference_at, named_call_at}
-use Rattle.fancy_parts.proofs.GroupStartLaws.{condition_target_at}
-use Rattle.fancy_parts.specs.GroupName.{group_name}
-use Rattle.fancy_parts.specs.GroupReference.{named_reference, named_call, begins_target, condition_target}
-use Rattle.fancy_parts.specs.FlagLetters.{Letters, inline_flags, flag_group as scoped}
-use Rattle.fancy_parts.specs.LetterSteps.{letters}
+use Rattle.fancy_lex.proofs.FlagLaws.{leaves_letters}
+use Rattle.fancy_lex.proofs.GroupStartLaws.{takes_group_name, takes_named_reference, takes_named_call}
+use Rattle.fancy_lex.proofs.GroupStartLaws.{takes_condition_target, named_reference_at, named_call_at}
+use Rattle.fancy_lex.proofs.GroupStartLaws.{condition_target_at}
+use Rattle.fancy_lex.specs.GroupName.{group_name}
+use Rattle.fancy_lex.specs.GroupReference.{named_reference, named_call, begins_target, condition_target}
+use Rattle.fancy_lex.specs.FlagLetters.{Letters, inline_flags, flag_group as scoped}
+use Rattle.fancy_lex.specs.LetterSteps.{letters}
 use Rattle.fancy_grammar.specs.AtomStart.{AtomStart, nothing, read, of_kind, condition, body, absent_branch, atom_start}
 use Rattle.fancy_grammar.specs.AtomStart.{start_of}
 use Rattle.fancy_grammar.specs.AtomStart.{error_start, group_start, after_question, condition_start, repeater_start}

@@ -11,11 +11,11 @@ use Rattle.fancy_lex.specs.LayoutSteps.{layout, layout_from, is_layout, rest}
 use Rattle.fancy_lex.specs.Reading.{Reading, gives, fails, choose}
 use Rattle.fancy_lex.specs.Referred.{Reference}
 use Rattle.fancy_lex.specs.Text.{Text, bytes, strip_word}
-use Rattle.fancy_parts.specs.FlagLetters.{Letters, inline_flags, flag_group as scoped}
-use Rattle.fancy_parts.specs.GroupReference.{begins_target, condition_target}
-use Rattle.fancy_parts.specs.LetterSteps.{letters, letters_in}
-use Rattle.fancy_parts.specs.Quantifier.{counts, as_operator, most}
-use Rattle.fancy_parts.specs.declared.counts.Counts.{Counts}
+use Rattle.fancy_lex.specs.FlagLetters.{Letters, inline_flags, flag_group as scoped}
+use Rattle.fancy_lex.specs.GroupReference.{begins_target, condition_target}
+use Rattle.fancy_lex.specs.LetterSteps.{letters, letters_in}
+use Rattle.fancy_lex.specs.Quantifier.{counts, as_operator, most}
+use Rattle.fancy_lex.specs.declared.counts.Counts.{Counts}
 use Rattle.fancy_grammar.specs.AtomStart.{AtomStart, nothing, read, of_kind, condition, body, atom_start, start_of}
 use Rattle.fancy_grammar.specs.AtomStart.{group_start, after_question, condition_start, repeater_start, verb_start}
 use Rattle.fancy_grammar.specs.AtomStart.{verb_condition, named_start, target_start, flags_start, group_start}

@@ -5,7 +5,7 @@ use Rattle.std.specs.Str.{IsUtf8}
 use Rattle.fancy_lex.proofs.TextLemmas.{bytes_chars}
 use Rattle.fancy_lex.specs.Text.{bytes}
 use Rattle.fancy_lex.specs.declared.flags.Flags.{Flags}
-use Rattle.fancy_parts.specs.Ranks.{only_named}
+use Rattle.fancy_grammar.specs.Ranks.{only_named}
 use Rattle.fancy_grammar.specs.Items.{openings, numbers_in}
 use Rattle.fancy_grammar.specs.Tree.{Tree, levels, nodes}
 use Rattle.fancy_grammar.specs.ParseResult.{IsTreeOf}

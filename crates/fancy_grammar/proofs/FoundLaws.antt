@@ -2,7 +2,7 @@
 use Rattle.std.proofs.Common.{◌≡◌, ℕ, Bool, true, false, List, [], ◌∷◌, length, refl, arith, is_some}
 use Rattle.std.proofs.Common.{nat_lt, ◌&&◌}
 use Rattle.std.specs.List.{list_any}
-use Rattle.fancy_parts.specs.Ranks.{Opening, is_named, numbered_openings_in}
+use Rattle.fancy_grammar.specs.Ranks.{Opening, is_named, numbered_openings_in}
 
 any_step : (o : Opening) (l : List Opening) (b : Bool) → is_some o.name ≡ b →
     list_any is_named l ≡ nat_lt 0 (length (numbered_openings_in true l)) →

@@ -1,7 +1,7 @@
 -- The openings among items, one part after another, and how many of them have a number.
 use Rattle.std.proofs.Common.{◌≡◌, ℕ, ◌+◌, Bool, true, false, if◌then◌else◌, List, [], ◌∷◌, ◌++◌, length, length-append}
 use Rattle.std.proofs.Common.{refl, ap, ◌∙◌, arith}
-use Rattle.fancy_parts.specs.Ranks.{Opening, is_counted, numbered_openings_in}
+use Rattle.fancy_grammar.specs.Ranks.{Opening, is_counted, numbered_openings_in}
 use Rattle.fancy_grammar.specs.Items.{Item, opening, reference, openings_in}
 
 pub openings_append : (a b : List Item) → openings_in (a ++ b) ≡ openings_in a ++ openings_in b

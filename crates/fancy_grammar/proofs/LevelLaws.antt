@@ -3,8 +3,8 @@ use Rattle.std.proofs.Common.{◌≡◌, ℕ, suc, ◌+◌, ◌≤◌, Bool, Lis
 use Rattle.std.proofs.Common.{refl, ap, arith}
 use Rattle.std.proofs.lemmas.Bool.{cond_both}
 use Rattle.fancy_lex.specs.Text.{Text}
-use Rattle.fancy_parts.specs.Meaning.{Meaning, number, refers_to}
-use Rattle.fancy_parts.specs.Ranks.{is_counted, numbered_openings_in}
+use Rattle.fancy_grammar.specs.Meaning.{Meaning, number, refers_to}
+use Rattle.fancy_grammar.specs.Ranks.{is_counted, numbered_openings_in}
 use Rattle.fancy_grammar.specs.Items.{openings, role_of, target_of}
 use Rattle.fancy_grammar.specs.Label.{AstReference, ast_backref, ast_call, ast_condition}
 use Rattle.fancy_grammar.specs.Preorder.{preorder, preorder_all}

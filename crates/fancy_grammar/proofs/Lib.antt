@@ -1,3 +1,7 @@
+-- ---- the numbers of groups
+pub mod NameLemmas
+pub mod NamedLaws
+mod BackslashLemmas
 -- ---- when two trees are the same
 pub mod SameLaws
 -- ---- reading: each start has one outcome

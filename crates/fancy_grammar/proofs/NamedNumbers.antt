@@ -10,7 +10,7 @@ use Rattle.std.specs.Prelude.{fold, slice_get}
 use Rattle.std.specs.declared.cmp.Ordering.{Ordering}
 use Rattle.std.specs.declared.cmp.Ordering.TheVariants.{Less, Equal, Greater}
 use Rattle.fancy_lex.specs.Text.{Text}
-use Rattle.fancy_parts.specs.Ranks.{Opening, is_name, numbers_from, numbers, name_cmp, names, named_groups}
+use Rattle.fancy_grammar.specs.Ranks.{Opening, is_name, numbers_from, numbers, name_cmp, names, named_groups}
 use Rattle.fancy_grammar.specs.ParsedTree.{AscendingNumbers, AreNamed}
 
 -- ---- they ascend

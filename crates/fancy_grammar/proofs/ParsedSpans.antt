@@ -7,8 +7,8 @@ use Rattle.std.specs.List.{AllByRecursion}
 use Rattle.std.specs.Str.{IsUtf8, IsCharBoundary}
 use Rattle.fancy_lex.specs.Text.{Text, bytes, reach_of, position_at}
 use Rattle.fancy_lex.specs.declared.flags.Flags.{Flags}
-use Rattle.fancy_parts.specs.Meaning.{Meaning, number, refers_to}
-use Rattle.fancy_parts.specs.Ranks.{only_named, numbered_openings_in}
+use Rattle.fancy_grammar.specs.Meaning.{Meaning, number, refers_to}
+use Rattle.fancy_grammar.specs.Ranks.{only_named, numbered_openings_in}
 use Rattle.fancy_grammar.specs.ParseResult.{IsTreeOf}
 use Rattle.fancy_grammar.specs.Items.{openings, role_of, target_of, numbers_in}
 use Rattle.fancy_grammar.specs.Label as label

@@ -9,10 +9,10 @@ use Rattle.fancy_lex.specs.Located.{Located, Kind, invalid_group_name_backref}
 use Rattle.fancy_lex.specs.Target.{Target, by_number, by_name, relative}
 use Rattle.fancy_lex.specs.Text.{Text, bytes}
 use Rattle.fancy_lex.specs.declared.flags.Flags.{Flags}
-use Rattle.fancy_parts.specs.Meaning.{Meaning, number, unresolved, invalid, refers_to, back_to, last_of}
-use Rattle.fancy_parts.specs.Meaning.{group_or_none, no_group, at_distance, Role, back_reference, condition}
-use Rattle.fancy_parts.specs.Meaning.{error_or}
-use Rattle.fancy_parts.specs.Ranks.{Opening, is_counted, only_named, numbered_openings_in, numbered_openings}
+use Rattle.fancy_grammar.specs.Meaning.{Meaning, number, unresolved, invalid, refers_to, back_to, last_of}
+use Rattle.fancy_grammar.specs.Meaning.{group_or_none, no_group, at_distance, Role, back_reference, condition}
+use Rattle.fancy_grammar.specs.Meaning.{error_or}
+use Rattle.fancy_grammar.specs.Ranks.{Opening, is_counted, only_named, numbered_openings_in, numbered_openings}
 use Rattle.fancy_grammar.specs.ParseResult.{IsTreeOf}
 use Rattle.fancy_grammar.specs.ParsedTree.{IsParsedTreeNode, IsParsedTree, IsParsedTreeWith, AreNamed}
 use Rattle.fancy_grammar.specs.ParsedTree.{is_group, groups}
@@ -27,8 +27,8 @@ use Rattle.fancy_grammar.specs.Preorder.{preorder}
 use Rattle.fancy_grammar.specs.Resolved.{resolved_in, resolved_all, reference_node, first_error}
 use Rattle.fancy_grammar.specs.Tree.{Tree, leaf, over, row, Trees, no_trees, more_trees, group, ast_node, ast_group}
 use Rattle.fancy_grammar.specs.Tree.{list_of}
-use Rattle.fancy_parts.specs.Groups.{numbers_under}
-use Rattle.fancy_parts.proofs.NamedLaws.{under_named}
+use Rattle.fancy_grammar.specs.Groups.{numbers_under}
+use Rattle.fancy_grammar.proofs.NamedLaws.{under_named}
 use Rattle.fancy_grammar.proofs.NamedNumbers.{named_ascend, carries, number_carried}
 use Rattle.fancy_grammar.proofs.PreorderLaws.{of_reference, kept, kept_if, resolved_nodes, items_of_all, items_of_nodes}
 use Rattle.fancy_grammar.proofs.Verdict.{same_tree}

@@ -10,7 +10,7 @@ use Rattle.fancy_lex.specs.Escape.{escape}
 use Rattle.fancy_lex.specs.Escaped.{Escape}
 use Rattle.fancy_lex.specs.Reading.{gives}
 use Rattle.fancy_lex.specs.Text.{Text, bytes}
-use Rattle.fancy_parts.specs.Quantifier.{counts}
+use Rattle.fancy_lex.specs.Quantifier.{counts}
 use Rattle.fancy_grammar.specs.AtomStart.{atom_start, read, leaf_node, leaf_outcome}
 use Rattle.fancy_grammar.specs.Plain.{is_special, is_suffix}
 use Rattle.fancy_grammar.specs.Quantified.{quant, quants, adjacent, max_adjacent, is_unmoved}

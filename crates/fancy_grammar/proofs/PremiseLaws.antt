@@ -5,8 +5,8 @@ use Rattle.fancy_lex.proofs.ClassLaws.{class_is, class_reads}
 use Rattle.fancy_lex.proofs.LayoutLaws.{layout_sound, layout_complete, unclosed_sound, unclosed_complete}
 use Rattle.fancy_lex.specs.Boundary.{Boundary}
 use Rattle.fancy_lex.specs.Class.{OuterClass}
-use Rattle.fancy_parts.proofs.LetterRelation.{flag_group_reads, flag_group_is}
-use Rattle.fancy_parts.specs.FlagLetters.{GroupLetters}
+use Rattle.fancy_lex.proofs.LetterRelation.{flag_group_reads, flag_group_is}
+use Rattle.fancy_lex.specs.FlagLetters.{GroupLetters}
 use Rattle.fancy_grammar.specs.Premises.{LayoutIsRelated, ClassIsRelated, LettersAreRelated, BoundaryIsRelated}
 
 pub layout_related : LayoutIsRelated

@@ -2,8 +2,8 @@
 use Rattle.std.proofs.Common.{◌≡◌, ℕ, ◌+◌, Bool, true, false, if◌then◌else◌, List, [], ◌∷◌, ◌++◌, Some}
 use Rattle.std.proofs.Common.{None, refl, sym, ap, ◌∙◌, arith, append_assoc, append-nil}
 use Rattle.fancy_lex.specs.Text.{Text}
-use Rattle.fancy_parts.specs.Meaning.{Meaning, number, refers_to, Role}
-use Rattle.fancy_parts.specs.Ranks.{is_counted}
+use Rattle.fancy_grammar.specs.Meaning.{Meaning, number, refers_to, Role}
+use Rattle.fancy_grammar.specs.Ranks.{is_counted}
 use Rattle.fancy_grammar.specs.ParsedTree.{is_group, is_call_node, group_referred}
 use Rattle.fancy_grammar.specs.Items.{Item, items, items_all, opened_by, referred_by, role_of}
 use Rattle.fancy_grammar.specs.Items.{target_of}

@@ -7,13 +7,13 @@ use Rattle.std.specs.List.{list_any}
 use Rattle.std.specs.Ordering.{nat_cmp}
 use Rattle.fancy_lex.specs.Located.{Located}
 use Rattle.fancy_lex.specs.Text.{Text, bytes, position_at}
-use Rattle.fancy_parts.specs.Groups.{numbers_under}
+use Rattle.fancy_grammar.specs.Groups.{numbers_under}
 use Rattle.fancy_grammar.specs.Items.{Item, opening, reference, meanings_in, role_of, target_of}
 use Rattle.fancy_grammar.specs.Label.{AstReference}
 use Rattle.fancy_grammar.specs.Resolved.{first_error}
 use Rattle.fancy_grammar.specs.GroupInfo.{back_number, back_numbers, is_call, is_call_of_all}
-use Rattle.fancy_parts.specs.Meaning.{Meaning, number, unresolved, invalid, refers_to, error_or}
-use Rattle.fancy_parts.specs.Written.{is_numeric}
+use Rattle.fancy_grammar.specs.Meaning.{Meaning, number, unresolved, invalid, refers_to, error_or}
+use Rattle.fancy_grammar.specs.Written.{is_numeric}
 use Rattle.fancy_grammar.specs.Walk.{Scope, Progress, progress_after, record_item, or_else, number_above, with_backref}
 
 abbrev numbers_of : Scope → Text → List ℕ

@@ -17,10 +17,10 @@ use Rattle.fancy_lex.specs.LayoutSteps.{Skipped, rest, rest_of, failed as open_c
 use Rattle.fancy_lex.specs.Reading.{Reading, gives, fails, choose}
 use Rattle.fancy_lex.specs.Referred.{Reference, name_reading, reference_by_name, written_reference}
 use Rattle.fancy_lex.specs.Text.{Text, EndsWith, bytes, reach_of, cut_at, strip, strip_word}
-use Rattle.fancy_parts.specs.FlagLetters.{Letters, inline_flags, flag_group as scoped}
-use Rattle.fancy_parts.specs.GroupName.{group_name}
-use Rattle.fancy_parts.specs.GroupReference.{begins_target, condition_name, condition_target, with_close_paren}
-use Rattle.fancy_parts.specs.LetterSteps.{letters}
+use Rattle.fancy_lex.specs.FlagLetters.{Letters, inline_flags, flag_group as scoped}
+use Rattle.fancy_lex.specs.GroupName.{group_name}
+use Rattle.fancy_lex.specs.GroupReference.{begins_target, condition_name, condition_target, with_close_paren}
+use Rattle.fancy_lex.specs.LetterSteps.{letters}
 use Rattle.fancy_grammar.specs.AtomStart.{AtomStart, nothing, read, of_kind, condition, body, absent_branch}
 use Rattle.fancy_grammar.specs.AtomStart.{atom_start, start_of, error_start, group_start, after_question, condition_start}
 use Rattle.fancy_grammar.specs.AtomStart.{repeater_start, flags_start, named_start, target_start, begins_no_atom}

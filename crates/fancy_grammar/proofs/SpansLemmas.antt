@@ -2,7 +2,7 @@
 use Rattle.std.proofs.Common.{◌≡◌, ℕ, ◌≤◌, Bool, true, false, ◌&&◌, List, [], ◌∷◌, refl, sym, ap}
 use Rattle.std.proofs.Common.{if◌then◌else◌, subst, arith}
 use Rattle.fancy_lex.specs.Text.{Text, reach_of}
-use Rattle.fancy_parts.specs.Ranks.{is_counted}
+use Rattle.fancy_grammar.specs.Ranks.{is_counted}
 use Rattle.fancy_grammar.specs.Grammar.{branches_of, conditional_of, clear_or_stopper}
 use Rattle.fancy_grammar.specs.GroupKind.{GroupKind, capture, flag_group, look, atomic, define, repeater, group_node}
 use Rattle.fancy_grammar.specs.Join.{choice, solid, is_empty, one_or}

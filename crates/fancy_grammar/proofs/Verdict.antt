@@ -14,7 +14,7 @@ use Rattle.fancy_lex.specs.declared.error.Error.TheVariants.{ParseError}
 use Rattle.fancy_lex.specs.declared.error.ReadError.{ReadError}
 use Rattle.fancy_lex.specs.declared.error.ReadError.TheVariants.{At, OutOfMemory}
 use Rattle.fancy_lex.specs.declared.flags.Flags.{Flags}
-use Rattle.fancy_parts.specs.Ranks.{only_named}
+use Rattle.fancy_grammar.specs.Ranks.{only_named}
 use Rattle.fancy_grammar.specs.ParseResult.{IsTreeOf, IsErrorOf, of_reading, of_resolving, IsOnlyError, IsPositionedIn}
 use Rattle.fancy_grammar.specs.Grammar.{DerivesTree, FailsWith, Whole}
 use Rattle.fancy_grammar.specs.Items.{items, openings, numbers_in}

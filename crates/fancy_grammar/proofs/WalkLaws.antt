@@ -4,11 +4,11 @@ use Rattle.std.specs.List.{list_any}
 use Rattle.std.specs.Prelude.{find}
 use Rattle.fancy_lex.specs.Text.{Text, bytes, position_at}
 use Rattle.fancy_lex.specs.declared.flags.Flags.{Flags}
-use Rattle.fancy_parts.proofs.NamedLaws.{under_named}
-use Rattle.fancy_parts.specs.Groups.{numbers_under}
-use Rattle.fancy_parts.specs.Meaning.{Meaning}
-use Rattle.fancy_parts.specs.Ranks.{only_named, numbered_openings_in, named_groups}
-use Rattle.fancy_parts.specs.Written.{is_numeric}
+use Rattle.fancy_grammar.proofs.NamedLaws.{under_named}
+use Rattle.fancy_grammar.specs.Groups.{numbers_under}
+use Rattle.fancy_grammar.specs.Meaning.{Meaning}
+use Rattle.fancy_grammar.specs.Ranks.{only_named, numbered_openings_in, named_groups}
+use Rattle.fancy_grammar.specs.Written.{is_numeric}
 use Rattle.fancy_grammar.specs.Items.{Item, items, openings, meanings_in, numbers_in, meanings, role_of}
 use Rattle.fancy_grammar.specs.Items.{target_of}
 use Rattle.fancy_grammar.specs.Label.{AstReference}

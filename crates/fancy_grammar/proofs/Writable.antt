@@ -17,8 +17,8 @@ use Rattle.fancy_lex.specs.Target.{Target, by_number, by_name, relative}
 use Rattle.fancy_lex.specs.Text.{Text}
 use Rattle.fancy_lex.specs.declared.escape.Assertion.TheVariants.{StartLine, StartLineOniguruma}
 use Rattle.fancy_lex.specs.declared.flags.Flags.{Flags}
-use Rattle.fancy_parts.specs.Meaning.{call, refers_to, unresolved}
-use Rattle.fancy_parts.specs.Ranks.{Opening, is_counted, only_named, named_groups, numbers}
+use Rattle.fancy_grammar.specs.Meaning.{call, refers_to, unresolved}
+use Rattle.fancy_grammar.specs.Ranks.{Opening, is_counted, only_named, named_groups, numbers}
 use Rattle.fancy_grammar.specs.ParsedTree.{groups_referred, has_call}
 use Rattle.fancy_grammar.specs.Join.{is_empty}
 use Rattle.fancy_grammar.specs.Label.{Leaf, empty, any, assertion, general_newline, literal, literal_bytes, delegate}

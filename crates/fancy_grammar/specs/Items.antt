@@ -3,8 +3,8 @@ use Rattle.std.specs.Prelude.{ℕ, ◌+◌, Bool, List, [], ◌∷◌, ◌++◌,
 use Rattle.fancy_lex.specs.Target.{Target}
 use Rattle.fancy_lex.specs.Text.{Text}
 use Rattle.fancy_lex.specs.declared.flags.Flags.{Flags}
-use Rattle.fancy_parts.specs.Meaning.{Role, back_reference, call, condition, Meaning, refers_to}
-use Rattle.fancy_parts.specs.Ranks.{Opening, is_counted, only_named, numbered_openings, numbers}
+use Rattle.fancy_grammar.specs.Meaning.{Role, back_reference, call, condition, Meaning, refers_to}
+use Rattle.fancy_grammar.specs.Ranks.{Opening, is_counted, only_named, numbered_openings, numbers}
 use Rattle.fancy_grammar.specs.Label.{Leaf, Wrap, AstReference, ast_group, ast_node, ast_backref, ast_call}
 use Rattle.fancy_grammar.specs.Label.{ast_condition}
 use Rattle.fancy_grammar.specs.Tree.{Tree, leaf, over, row, Trees, no_trees, more_trees}

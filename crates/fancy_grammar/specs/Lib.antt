@@ -1,5 +1,9 @@
 -- What a pattern means: the definitions that the public contracts of the parser and the printer use.
 
+-- ---- the numbers of groups, and what references refer to
+pub mod Ranks
+pub mod Meaning
+pub mod Written
 -- ---- trees, and when two are the same
 pub mod Label
 pub mod Tree
@@ -26,6 +30,7 @@ pub mod ParsedTree
 pub mod Spans
 pub mod Trivia
 -- ---- printing, and how a printed text reads
+pub mod Quote
 pub mod Printed
 pub mod HasDelegate
 pub mod Normal
@@ -47,6 +52,7 @@ pub mod OfPattern
 pub mod Plain
 pub mod Slices
 -- ---- resolving
+pub mod Groups
 pub mod Walk
 -- ---- the text of every tree
 pub mod PatternWalk

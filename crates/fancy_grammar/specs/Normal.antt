@@ -5,7 +5,7 @@ use Rattle.fancy_lex.specs.Flags.{no_flag}
 use Rattle.fancy_lex.specs.Text.{Text}
 use Rattle.fancy_lex.specs.declared.escape.Assertion.TheVariants.{StartLine, StartLineOniguruma}
 use Rattle.fancy_lex.specs.declared.flags.Flags.{Flags}
-use Rattle.fancy_parts.specs.Quote.{after_backslash}
+use Rattle.fancy_grammar.specs.Quote.{after_backslash}
 use Rattle.fancy_grammar.specs.AtomStart.{leaf_of}
 use Rattle.fancy_grammar.specs.Grammar.{start}
 use Rattle.fancy_grammar.specs.Join.{solid, join, choice}

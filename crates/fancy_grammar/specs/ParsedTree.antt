@@ -5,7 +5,7 @@ use Rattle.std.specs.Prelude.{Option, Some, None, find, nat_le, nat_lt, if◌the
 use Rattle.std.specs.List.{AllByRecursion, list_any}
 use Rattle.fancy_lex.specs.Text.{Text, bytes}
 use Rattle.fancy_lex.specs.declared.flags.Flags.{Flags}
-use Rattle.fancy_parts.specs.Ranks.{Opening, only_named, is_counted, numbered_openings}
+use Rattle.fancy_grammar.specs.Ranks.{Opening, only_named, is_counted, numbered_openings}
 use Rattle.fancy_grammar.specs.Depth.{max_levels}
 use Rattle.fancy_grammar.specs.Items.{openings, numbers_in, role_of}
 use Rattle.fancy_grammar.specs.Label as label

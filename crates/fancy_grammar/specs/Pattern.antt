@@ -8,7 +8,7 @@ use Rattle.fancy_lex.specs.Class.{byte_text}
 use Rattle.fancy_lex.specs.Number.{at_digit}
 use Rattle.fancy_lex.specs.Text.{Text}
 use Rattle.fancy_lex.specs.declared.flags.Flags.{Flags}
-use Rattle.fancy_parts.specs.GroupReference.{begins_target}
+use Rattle.fancy_lex.specs.GroupReference.{begins_target}
 use Rattle.fancy_grammar.specs.Join.{is_empty}
 use Rattle.fancy_grammar.specs.Label.{Leaf, empty, any, assertion, general_newline, literal, literal_bytes}
 use Rattle.fancy_grammar.specs.Label.{delegate, backref, backref_at_level, keep_out, continue_from_previous_match_end}

@@ -5,7 +5,7 @@ use Rattle.std.proofs.Math.Bool.{beq}
 use Prim.Native.Char.{code}
 use Rattle.fancy_lex.specs.Text.{Text}
 use Rattle.fancy_lex.specs.declared.flags.Flags.{Flags}
-use Rattle.fancy_parts.specs.Quote.{operator, counts_as}
+use Rattle.fancy_grammar.specs.Quote.{operator, counts_as}
 use Rattle.fancy_grammar.specs.Depth.{max_depth}
 use Rattle.fancy_grammar.specs.Label.{repeat, atomic_group}
 use Rattle.fancy_grammar.specs.Quantified.{max_adjacent}

@@ -11,7 +11,7 @@ use Rattle.fancy_lex.specs.NumberText.{number_text}
 use Rattle.fancy_lex.specs.Reading.{choose}
 use Rattle.fancy_lex.specs.Target.{by_number, by_name, relative}
 use Rattle.fancy_lex.specs.Text.{Text}
-use Rattle.fancy_parts.specs.Meaning.{last_of}
+use Rattle.fancy_grammar.specs.Meaning.{last_of}
 use Rattle.fancy_grammar.specs.Label.{AstReference, ast_call}
 use Rattle.fancy_grammar.specs.GroupInfo.{GroupInfo}
 

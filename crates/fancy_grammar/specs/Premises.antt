@@ -10,8 +10,8 @@ use Rattle.fancy_lex.specs.LayoutSteps.{layout, rest, failed as open_comment}
 use Rattle.fancy_lex.specs.Reading.{Reading}
 use Rattle.fancy_lex.specs.Text.{Text}
 use Rattle.fancy_lex.specs.declared.flags.Flags.{Flags}
-use Rattle.fancy_parts.specs.FlagLetters.{Letters, GroupLetters}
-use Rattle.fancy_parts.specs.LetterSteps.{letters}
+use Rattle.fancy_lex.specs.FlagLetters.{Letters, GroupLetters}
+use Rattle.fancy_lex.specs.LetterSteps.{letters}
 
 -- layout: what precedes the rest of the text, or an open comment
 abbrev pub LayoutIsRelated : Type 0

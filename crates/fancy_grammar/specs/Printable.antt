@@ -2,7 +2,7 @@
 use Rattle.std.specs.Prelude.{ℕ, Bool, true, false, not, ◌&&◌, is_some, nat_le}
 use Rattle.std.specs.Str.{all_scalars}
 use Rattle.fancy_lex.specs.declared.escape.Assertion.TheVariants.{EndTextIgnoreTrailingNewlines}
-use Rattle.fancy_parts.specs.Quantifier.{most}
+use Rattle.fancy_lex.specs.Quantifier.{most}
 use Rattle.fancy_grammar.specs.Join.{is_empty}
 use Rattle.fancy_grammar.specs.Normal.{unicode_flags, class_of, normal}
 use Rattle.fancy_grammar.specs.Tree.{Tree, Trees, no_trees, more_trees, empty, any, assertion, literal, concat, alt}

@@ -7,7 +7,7 @@ use Rattle.fancy_lex.specs.declared.escape.Assertion.TheVariants.{StartLine, Sta
 use Rattle.fancy_lex.specs.declared.escape.Assertion.TheVariants.{LeftWordBoundary, LeftWordHalfBoundary}
 use Rattle.fancy_lex.specs.declared.escape.Assertion.TheVariants.{RightWordBoundary, RightWordHalfBoundary}
 use Rattle.fancy_lex.specs.declared.escape.Assertion.TheVariants.{WordBoundary, NotWordBoundary}
-use Rattle.fancy_parts.specs.Quote.{quotes, quantifier}
+use Rattle.fancy_grammar.specs.Quote.{quotes, quantifier}
 use Rattle.fancy_grammar.specs.Tree.{Tree, Trees, no_trees, more_trees, empty, any, assertion, literal, concat, alt}
 use Rattle.fancy_grammar.specs.Tree.{group, repeat, delegate, define_group}
 

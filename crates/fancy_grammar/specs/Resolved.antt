@@ -3,8 +3,8 @@ use Rattle.std.specs.Prelude.{ℕ, ◌+◌, Bool, List, [], ◌∷◌, length, O
 use Rattle.fancy_lex.specs.Located.{Located}
 use Rattle.fancy_lex.specs.Text.{Text, position_at}
 use Rattle.fancy_lex.specs.declared.flags.Flags.{Flags}
-use Rattle.fancy_parts.specs.Meaning.{Meaning, number, refers_to, error_or}
-use Rattle.fancy_parts.specs.Ranks.{only_named, is_counted, numbered_openings_in}
+use Rattle.fancy_grammar.specs.Meaning.{Meaning, number, refers_to, error_or}
+use Rattle.fancy_grammar.specs.Ranks.{only_named, is_counted, numbered_openings_in}
 use Rattle.fancy_grammar.specs.Items.{openings, role_of, target_of, numbers_in, meanings}
 use Rattle.fancy_grammar.specs.Label.{AstReference, ast_backref, ast_call, ast_condition}
 use Rattle.fancy_grammar.specs.Tree.{Tree, leaf, over, row, Trees, no_trees, more_trees, group, ast_group, ast_node}

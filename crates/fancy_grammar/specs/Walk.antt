@@ -6,10 +6,10 @@ use Rattle.std.specs.Ordering.{nat_cmp}
 use Rattle.fancy_lex.specs.Located.{Located}
 use Rattle.fancy_lex.specs.Target.{Target}
 use Rattle.fancy_lex.specs.Text.{Text, bytes, position_at}
-use Rattle.fancy_parts.specs.Groups.{Groups, numbers_under}
-use Rattle.fancy_parts.specs.Meaning.{Role, Meaning, number, refers_to, error_or}
-use Rattle.fancy_parts.specs.Ranks.{is_counted}
-use Rattle.fancy_parts.specs.Written.{is_numeric}
+use Rattle.fancy_grammar.specs.Groups.{Groups, numbers_under}
+use Rattle.fancy_grammar.specs.Meaning.{Role, Meaning, number, refers_to, error_or}
+use Rattle.fancy_grammar.specs.Ranks.{is_counted}
+use Rattle.fancy_grammar.specs.Written.{is_numeric}
 use Rattle.fancy_grammar.specs.Items.{Item, opening, reference, role_of, target_of}
 use Rattle.fancy_grammar.specs.GroupInfo.{back_number, is_call, is_call_of_all}
 use Rattle.fancy_grammar.specs.Resolved.{resolved_in, resolved_all}

@@ -30,3 +30,9 @@ pub mod EscapeFrame
 mod ClassLemmas
 pub mod ClassLaws
 pub mod PositionLaws
+-- ---- quantifiers, and the openings of groups
+pub mod GroupStartLaws
+pub mod CountLaws
+pub mod LetterLemmas
+pub mod LetterRelation
+pub mod FlagLaws

@@ -30,6 +30,14 @@ pub mod EscapeReference
 pub mod Property
 pub mod Escape
 pub mod Class
+-- ---- quantifiers, and the openings of groups
+pub mod Quantifier
+pub mod FlagLetters
+pub mod LetterSteps
+pub mod NextLetter
+pub mod GroupName
+pub mod NameDelimiter
+pub mod GroupReference
 -- How values of the code correspond to the definitions.
 
 pub mod Bits
@@ -39,3 +47,4 @@ pub mod NameViews
 pub mod PropertyViews
 pub mod EscapeViews
 pub mod CommentViews
+pub mod FlagReads

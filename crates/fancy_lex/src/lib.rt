@@ -3,9 +3,11 @@
 #![tactic(auto)]
 
 pub mod class;
+pub mod counts;
 pub mod error;
 pub mod escape;
 pub mod flags;
+pub mod group_starts;
 pub mod layout;
 pub mod name;
 pub mod property;

@@ -5,7 +5,7 @@ use Rattle.std.specs.Prelude.{Result, Ok, Err, OnOk}
 use Rattle.std.proofs.Common.{true, nat_lt, chars}
 use Rattle.std.specs.List.{flat_map, list_all}
 use Rattle.std.proofs.lemmas.Str.{chars-IsAscii}
-use Rattle.fancy_parts.proofs.CapacityLemmas.{ascii}
+use Rattle.fancy_syntax.proofs.CapacityLemmas.{ascii}
 use Rattle.std.proofs.Common.{if◌then◌else◌}
 use Rattle.std.specs.Prelude.{is_ok}
 use Rattle.fancy_lex.specs.Text.{Text, text_of}

@@ -13,9 +13,9 @@ use Rattle.fancy_lex.specs.Text.{Text}
 use Rattle.fancy_lex.specs.declared.escape.Assertion.TheVariants.{StartText, EndText, EndTextIgnoreTrailingNewlines}
 use Rattle.fancy_lex.specs.declared.escape.Assertion.TheVariants.{StartLine, EndLine, LeftWordBoundary, WordBoundary}
 use Rattle.fancy_lex.specs.declared.flags.Flags.{Flags}
-use Rattle.fancy_parts.specs.GroupReference.{begins_target}
-use Rattle.fancy_parts.specs.Quantifier.{most}
-use Rattle.fancy_parts.specs.Quote.{range, operator}
+use Rattle.fancy_lex.specs.GroupReference.{begins_target}
+use Rattle.fancy_lex.specs.Quantifier.{most}
+use Rattle.fancy_grammar.specs.Quote.{range, operator}
 use Rattle.fancy_grammar.specs.Label.{ast_call}
 use Rattle.fancy_grammar.specs.GroupInfo.{GroupInfo}
 use Rattle.fancy_grammar.specs.Pattern.{pattern_text}

@@ -9,7 +9,7 @@ use Rattle.std.proofs.lemmas.List.{take-append-drop}
 use Rattle.std.proofs.lemmas.Str.{chars-append, chars-IsAscii, len_utf8_bounds, IsUtf8-from_ascii, IsUtf8-take}
 use Rattle.fancy_lex.specs.Text.{Text, bytes}
 use Rattle.fancy_lex.proofs.TextLemmas.{bytes_chars}
-use Rattle.fancy_parts.proofs.CapacityLemmas.{ascii}
+use Rattle.fancy_syntax.proofs.CapacityLemmas.{ascii}
 use Rattle.fancy_grammar.specs.Pattern.{separated_if}
 use Rattle.fancy_pattern.specs.TextOutput.{Changed, needs_separator, separated}
 use Rattle.fancy_pattern.specs.declared.output.TextOutput.{TextOutput}

@@ -4,7 +4,7 @@ use Rattle.std.specs.List.{starts_with}
 use Rattle.std.specs.Str.{bytes_eq}
 use Rattle.fancy_lex.specs.Number.{at_digit}
 use Rattle.fancy_lex.specs.Text.{Text, text_of, bytes}
-use Rattle.fancy_parts.specs.GroupReference.{begins_target}
+use Rattle.fancy_lex.specs.GroupReference.{begins_target}
 use Rattle.fancy_grammar.specs.Pattern.{separated_if}
 use Rattle.fancy_pattern.specs.declared.output.TextOutput.{TextOutput}
 use Rattle.fancy_pattern.specs.declared.separator.Separator.{Separator}

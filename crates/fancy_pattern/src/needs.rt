@@ -142,8 +142,8 @@ fn leaf_needs(tree: &Expr, oniguruma_mode: bool) -> Needs
     if let Expr::Delegate { inner, casei } = tree {
         return delegate_needs(inner.as_str(), *casei);
     }
-    if let Expr::Backref { casei, .. } | Expr::BackrefWithRelativeRecursionLevel { casei, .. } =
-        tree
+    if let Expr::Backref { casei, .. }
+    | Expr::BackrefWithRelativeRecursionLevel { casei, .. } = tree
     {
         return needs_case(*casei);
     }

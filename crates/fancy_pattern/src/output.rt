@@ -6,7 +6,7 @@ ghost use Rattle.fancy_pattern.specs.TextOutput.{Added, Changed, separated};
 
 use crate::separator::Separator;
 use fancy_lex::text::{append, byte_len, push};
-use fancy_parts::quote::{number_len, put_number};
+use fancy_syntax::print::quote::{number_len, put_number};
 use std::alloc::{AllocError, Global};
 
 /// The output that a text is written to, piece by piece.

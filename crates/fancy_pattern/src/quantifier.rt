@@ -1,6 +1,6 @@
 //! Quantifiers.
 ghost use Rattle.std.specs.Prelude.{◌≡◌, ◌-◌, ℕ, ◌++◌, codes, decimal, OnOk};
-ghost use Rattle.fancy_parts.specs.Quote.{range, counts_as};
+ghost use Rattle.fancy_grammar.specs.Quote.{range, counts_as};
 ghost use Rattle.fancy_grammar.specs.Depth.{max_depth};
 ghost use Rattle.fancy_grammar.specs.PatternQuantifier as spec;
 ghost use Rattle.fancy_grammar.specs.Tree.{atomic_group};
@@ -9,8 +9,8 @@ ghost use Rattle.fancy_syntax.specs.View.{view};
 
 use crate::output::{TextOutput, put_if};
 use fancy_lex::flags::Flags;
-use fancy_parts::quote::operator;
 use fancy_syntax::expr::Expr;
+use fancy_syntax::print::quote::operator;
 use std::alloc::AllocError;
 
 /// The counts of a Repeat, whether it is greedy, and whether it is possessive.
@@ -65,7 +65,7 @@ pub(crate) fn most_quantifiers(flags: Flags, left: usize) -> usize
 }
 
 /// Writes the contents of the braces of a quantifier.
-#[tactic(auto, using(crate::proofs::OutputLemmas::added_steps, fancy_parts::proofs::QuoteLemmas::range_steps))]
+#[tactic(auto, using(crate::proofs::OutputLemmas::added_steps, fancy_syntax::proofs::QuoteLemmas::range_steps))]
 fn put_range(out: &mut TextOutput, lo: usize, hi: usize) -> Result<(), AllocError>
     ensures { OnOk result (Added out.old out.new (range lo hi)) }
 {

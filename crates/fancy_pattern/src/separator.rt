@@ -5,8 +5,8 @@ ghost use Rattle.std.specs.Str.{bytes_eq};
 ghost use Rattle.fancy_lex.specs.Number.{at_digit};
 ghost use Rattle.fancy_pattern.specs.TextOutput.{needs_separator};
 
+use fancy_lex::group_starts::references::begins_target;
 use fancy_lex::text::{after, is_same_text, next};
-use fancy_parts::group_starts::references::begins_target;
 
 /// What is before a text.
 #[derive(Clone, Copy)]

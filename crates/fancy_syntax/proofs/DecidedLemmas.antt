@@ -7,9 +7,9 @@ use Rattle.fancy_lex.specs.Located.{Located}
 use Rattle.fancy_lex.specs.ErrorTable.{quantifier_too_deep, not_repeatable}
 use Rattle.fancy_lex.specs.Text.{Text, bytes}
 use Rattle.fancy_lex.specs.declared.flags.Flags.{Flags}
-use Rattle.fancy_parts.specs.Quantifier.{counts}
-use Rattle.fancy_parts.specs.Ranks.{is_counted}
-use Rattle.fancy_parts.specs.declared.counts.Counts.{Counts}
+use Rattle.fancy_lex.specs.Quantifier.{counts}
+use Rattle.fancy_grammar.specs.Ranks.{is_counted}
+use Rattle.fancy_lex.specs.declared.counts.Counts.{Counts}
 use Rattle.fancy_grammar.specs.Depth.{max_depth}
 use Rattle.fancy_grammar.specs.Grammar.{is_condition, branches_of, conditional_of, clear_or_stopper}
 use Rattle.fancy_grammar.specs.GroupKind.{group_node}

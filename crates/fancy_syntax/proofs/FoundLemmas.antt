@@ -8,8 +8,8 @@ use Rattle.std.specs.BTreeSet.{insert_key}
 use Rattle.std.specs.List.{list_any}
 use Rattle.std.proofs.lemmas.List.Folds.{list_any-append}
 use Rattle.fancy_lex.specs.Text.{Text}
-use Rattle.fancy_parts.specs.Groups.{Groups, groups_of, groups_in, openings_with}
-use Rattle.fancy_parts.specs.Ranks.{Opening, is_counted, is_named, name_cmp, numbered_openings_in, named_groups, numbers}
+use Rattle.fancy_grammar.specs.Groups.{Groups, groups_of, groups_in, openings_with}
+use Rattle.fancy_grammar.specs.Ranks.{Opening, is_counted, is_named, name_cmp, numbered_openings_in, named_groups, numbers}
 use Rattle.fancy_grammar.specs.Items.{Item, opening, items, openings_in}
 use Rattle.fancy_grammar.specs.Label as label
 use Rattle.fancy_grammar.specs.Preorder.{preorder}

@@ -1,3 +1,6 @@
+-- ---- the texts that are printed
+pub mod CapacityLemmas
+pub mod QuoteLemmas
 -- ---- trees: equality, children, descendants, and borrowed parts
 pub mod ApartLemmas
 pub mod ChildrenLemmas
@@ -34,3 +37,5 @@ pub mod PartLemmas
 -- ---- printing
 pub mod PrintLemmas
 mod EmptyLemmas
+-- ---- trees with spans
+pub mod SpannedLemmas

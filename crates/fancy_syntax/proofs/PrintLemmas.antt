@@ -9,10 +9,10 @@ use Rattle.std.proofs.lemmas.Str.{encodes-chars, encodes-append, IsUtf8-string_b
 use Rattle.std.proofs.lemmas.Bool.Decides.{nat_tests}
 use Rattle.std.proofs.lemmas.List.{drop_all}
 use Rattle.fancy_lex.specs.Text.{Text, text_of, bytes}
-use Rattle.fancy_parts.specs.Capacity.{HasCapacity, Appended}
+use Rattle.fancy_syntax.specs.Capacity.{HasCapacity, Appended}
 use Rattle.fancy_lex.proofs.TextLemmas.{bytes-append, bytes_chars}
-use Rattle.fancy_parts.proofs.CapacityLemmas.{bytes-cons, bytes-nil, capacity_front, then_written, written_three}
-use Rattle.fancy_parts.proofs.CapacityLemmas.{nothing_written}
+use Rattle.fancy_syntax.proofs.CapacityLemmas.{bytes-cons, bytes-nil, capacity_front, then_written, written_three}
+use Rattle.fancy_syntax.proofs.CapacityLemmas.{nothing_written}
 use Rattle.fancy_grammar.specs.Tree.{Tree, Trees, no_trees, more_trees, literal, trees_of}
 use Rattle.fancy_grammar.specs.Printed.{grouped, caseless, is_long, printed, operand_text, printed_all}
 use Rattle.fancy_grammar.specs.Printed.{printed_branches}

@@ -7,7 +7,7 @@ use Rattle.std.proofs.lemmas.List.{at_drop_more}
 use Rattle.std.proofs.lemmas.Str.{chars-IsAscii}
 use Rattle.fancy_lex.specs.Reading.{choose}
 use Rattle.fancy_lex.specs.Text.{Text, strip, strip_word}
-use Rattle.fancy_parts.proofs.CapacityLemmas.{ascii}
+use Rattle.fancy_syntax.proofs.CapacityLemmas.{ascii}
 use Rattle.fancy_grammar.specs.Verb.{word, by_word}
 use Rattle.fancy_grammar.specs.declared.kinds.BacktrackingControlVerb.{BacktrackingControlVerb}
 

@@ -9,7 +9,7 @@ use Rattle.std.proofs.lemmas.List.Sums.{fold-append, length-filter, count_by-le-
 use Rattle.fancy_lex.specs.Located.{Located}
 use Rattle.fancy_lex.specs.declared.error.ReadError.{ReadError}
 use Rattle.fancy_lex.specs.declared.error.ReadError.TheVariants.{At, OutOfMemory}
-use Rattle.fancy_parts.specs.Ranks.{Opening, is_counted}
+use Rattle.fancy_grammar.specs.Ranks.{Opening, is_counted}
 use Rattle.fancy_grammar.proofs.ItemLemmas.{length_openings, counted, counted_first}
 use Rattle.fancy_grammar.specs.Items.{Item, opening, reference, items, items_all, openings_in}
 use Rattle.fancy_grammar.specs.Tree.{Tree, trees_of, more_trees}

@@ -1,7 +1,7 @@
 -- A raw tree with the nodes that the code makes of its capturing groups while it reads: a Group if it is decided that the
 -- group has a number.
 use Rattle.std.specs.Prelude.{◌≡◌, ℕ, Bool, true, false, None, List, if◌then◌else◌, map}
-use Rattle.fancy_parts.specs.Ranks.{is_counted}
+use Rattle.fancy_grammar.specs.Ranks.{is_counted}
 use Rattle.fancy_grammar.specs.GroupKind.{group_node}
 use Rattle.fancy_grammar.specs.Label as label
 use Rattle.fancy_grammar.specs.Label.{Wrap}

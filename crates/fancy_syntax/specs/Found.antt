@@ -1,8 +1,8 @@
 -- What the parser's loop has found of the groups and references that it has read.
 use Rattle.std.specs.Prelude.{◌≡◌, ℕ, ◌+◌, Bool, true, false, not, List, [], ◌∷◌, ◌++◌, length, filter}
 use Rattle.std.specs.List.{list_any}
-use Rattle.fancy_parts.specs.Groups.{groups_of, groups_in}
-use Rattle.fancy_parts.specs.Ranks.{Opening, is_counted, numbered_openings_in}
+use Rattle.fancy_grammar.specs.Groups.{groups_of, groups_in}
+use Rattle.fancy_grammar.specs.Ranks.{Opening, is_counted, numbered_openings_in}
 use Rattle.fancy_grammar.specs.GroupKind.{GroupKind, capture}
 use Rattle.fancy_grammar.specs.Items.{Item, opening, reference, items_all, openings_in}
 use Rattle.fancy_grammar.specs.Label as label

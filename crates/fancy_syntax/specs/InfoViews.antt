@@ -1,6 +1,6 @@
 -- What is returned for a text besides its tree.
 use Rattle.std.specs.Prelude.{map}
-use Rattle.fancy_parts.specs.Groups.{entry_of}
+use Rattle.fancy_grammar.specs.Groups.{entry_of}
 use Rattle.fancy_grammar.specs.GroupInfo.{GroupInfo}
 use Rattle.fancy_syntax.specs.declared.tree.ExprTree.{ExprTree}
 pub use Rattle.fancy_grammar.specs.ParseResult.{IsTreeOf, IsErrorOf, of_reading, of_resolving, IsOnlyError, IsPositionedIn}

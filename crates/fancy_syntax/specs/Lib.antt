@@ -52,3 +52,5 @@ pub mod RecordedWhole
 -- ---- the resolver's walk
 pub mod Regrouped
 pub mod WalkViews
+pub mod Capacity
+pub mod Spanned

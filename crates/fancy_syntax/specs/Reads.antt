@@ -3,8 +3,8 @@ use Rattle.std.specs.Prelude.{◌≡◌, Result, MatchResult}
 use Rattle.fancy_lex.specs.Text.{Text}
 use Rattle.fancy_lex.specs.declared.error.ReadError.{ReadError}
 use Rattle.fancy_lex.specs.declared.flags.Flags.{Flags}
-use Rattle.fancy_parts.specs.Groups.{groups_of, groups_in}
-use Rattle.fancy_parts.specs.Ranks.{numbered_openings, only_named}
+use Rattle.fancy_grammar.specs.Groups.{groups_of, groups_in}
+use Rattle.fancy_grammar.specs.Ranks.{numbered_openings, only_named}
 use Rattle.fancy_grammar.specs.Errors.{IsErrorAmong}
 use Rattle.fancy_grammar.specs.Grammar.{DerivesTree, Whole}
 use Rattle.fancy_grammar.specs.Items.{items, openings}

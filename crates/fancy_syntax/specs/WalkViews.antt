@@ -6,11 +6,11 @@ use Rattle.fancy_lex.specs.Text.{bytes, position_at}
 use Rattle.fancy_lex.specs.NameViews.{view_target}
 use Rattle.fancy_lex.specs.declared.error.ReadError.{ReadError}
 use Rattle.fancy_lex.specs.declared.name.CaptureGroupTarget.{CaptureGroupTarget}
-use Rattle.fancy_parts.specs.Groups.{Groups, groups_of, meaning_of, role_of}
-use Rattle.fancy_parts.specs.Meaning.{error_or}
-use Rattle.fancy_parts.specs.Written.{is_numeric}
-use Rattle.fancy_parts.specs.declared.ranks.Meaning.{Meaning}
-use Rattle.fancy_parts.specs.declared.ranks.Role.{Role}
+use Rattle.fancy_grammar.specs.Groups.{Groups, groups_of, meaning_of, role_of}
+use Rattle.fancy_grammar.specs.Meaning.{error_or}
+use Rattle.fancy_grammar.specs.Written.{is_numeric}
+use Rattle.fancy_grammar.specs.declared.ranks.Meaning.{Meaning}
+use Rattle.fancy_grammar.specs.declared.ranks.Role.{Role}
 use Rattle.fancy_grammar.specs.Errors.{IsErrorIn}
 use Rattle.fancy_grammar.specs.Items.{Item}
 use Rattle.fancy_grammar.specs.GroupInfo as spec

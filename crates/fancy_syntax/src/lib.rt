@@ -20,6 +20,7 @@ pub mod print;
 mod raw_tree;
 mod resolve;
 pub mod span;
+pub mod spanned;
 pub mod tree;
 pub mod trivium;
 

@@ -16,7 +16,9 @@ mod count;
 mod delegate;
 mod fixed;
 mod printable;
+pub mod quote;
 mod repeated;
+mod reserved;
 mod write;
 
 use crate::expr::Expr;

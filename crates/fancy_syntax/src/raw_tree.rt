@@ -1,6 +1,6 @@
 //! What the grammar returns for a text: its raw tree, and the groups in it.
 use crate::expr::Expr;
-use fancy_parts::ranks::Groups;
+use fancy_grammar::ranks::Groups;
 
 /// The raw tree of a text, and what was found of its groups and references.
 #[derive(Drop)]

@@ -3,7 +3,7 @@ ghost use Rattle.std.specs.Prelude.{◌≡◌, ◌<◌, false, true, chars, leng
 ghost use Rattle.fancy_lex.specs.IdReference.{amount_bound};
 ghost use Rattle.fancy_lex.specs.Text.{bytes};
 ghost use Rattle.fancy_lex.specs.declared.flags.Flags.{Flags};
-ghost use Rattle.fancy_parts.specs.Groups.{groups_of};
+ghost use Rattle.fancy_grammar.specs.Groups.{groups_of};
 ghost use Rattle.fancy_grammar.specs.Grammar.{DerivesTree};
 ghost use Rattle.fancy_grammar.specs.Items.{items, openings};
 ghost use Rattle.fancy_grammar.specs.GroupInfo.{group_info};
@@ -25,8 +25,8 @@ use crate::raw_tree::RawTree;
 use crate::resolve::progress::{Progress, Scope};
 use crate::resolve::rewrite::rewrite;
 use crate::tree::ExprTree;
+use fancy_grammar::ranks::Groups;
 use fancy_lex::error::ReadError;
-use fancy_parts::ranks::Groups;
 use std::alloc::Global;
 
 /// The raw tree of the pattern resolved in place, with its group information, or the first error of its references.

@@ -126,7 +126,9 @@ fn write_reference_fields<W: fmt::Write>(f: &mut fmt::Formatter<W>, node: &Expr)
     {
         write!(f, " {}", OrNone(*relative_recursion_level))?;
     }
-    if let Expr::Backref { casei, .. } | Expr::BackrefWithRelativeRecursionLevel { casei, .. } = node {
+    if let Expr::Backref { casei, .. }
+    | Expr::BackrefWithRelativeRecursionLevel { casei, .. } = node
+    {
         write!(f, " casei={casei}")?;
     }
     if let Expr::AstNode(AstNode::SubroutineCall(target), position) = node {

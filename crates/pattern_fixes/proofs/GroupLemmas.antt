@@ -5,7 +5,7 @@ use Rattle.std.specs.Cmp.Lexicographic.{pointwise}
 use Rattle.std.proofs.lemmas.Bool.{and_parts, false≢true}
 use Rattle.std.proofs.lemmas.Bool.Decides.{Decides-eqb}
 use Rattle.std.proofs.lemmas.Slice.Eq.{slice_eq-Decides}
-use Rattle.fancy_parts.specs.Groups.{entry_of}
+use Rattle.fancy_grammar.specs.Groups.{entry_of}
 
 -- a name with the numbers of its groups
 abbrev Entry : Type 0

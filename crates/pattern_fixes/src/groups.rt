@@ -1,6 +1,6 @@
 //! Whether two trees have the same group information.
 ghost use Rattle.std.specs.Prelude.{◌≡◌, map, IsTrue};
-ghost use Rattle.fancy_parts.specs.Groups.{entry_of};
+ghost use Rattle.fancy_grammar.specs.Groups.{entry_of};
 ghost use Rattle.fancy_syntax.specs.InfoViews.{info_of};
 
 use fancy_syntax::tree::ExprTree;

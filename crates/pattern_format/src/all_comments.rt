@@ -3,8 +3,8 @@ use crate::nodes::{Node, nodes_of};
 use fancy_lex::escape::escape;
 use fancy_lex::flags::{FLAG_IGNORE_SPACE, Flags};
 use fancy_lex::layout::first_comment;
-use fancy_spans::SpannedTree;
 use fancy_syntax::span::Span;
+use fancy_syntax::spanned::SpannedTree;
 use std::alloc::{AllocError, Global};
 
 /// A comment of a pattern, which may be inside a token.

@@ -7,7 +7,7 @@ use crate::style::Style;
 use crate::token::{Token, TokenKind, is_blank};
 use fancy_lex::error::Error;
 use fancy_lex::flags::Flags;
-use fancy_spans::SpannedTree;
+use fancy_syntax::spanned::SpannedTree;
 use std::alloc::{AllocError, Global};
 
 /// How often a pattern is written in one line, until that changes nothing.

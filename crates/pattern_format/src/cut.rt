@@ -3,7 +3,7 @@ use crate::flag_groups::FlagGroups;
 use crate::nodes::{Node, nodes_of};
 use crate::token::{Token, TokenKind, is_blank};
 use fancy_lex::flags::Flags;
-use fancy_spans::SpannedTree;
+use fancy_syntax::spanned::SpannedTree;
 use fancy_syntax::trivium::{Trivium, TriviumKind};
 use std::alloc::{AllocError, Global};
 

@@ -1,6 +1,6 @@
 //! The first comment of a pattern, which may be inside a token.
 use crate::all_comments::all_comments;
-use fancy_spans::SpannedTree;
+use fancy_syntax::spanned::SpannedTree;
 use std::alloc::{AllocError, Global};
 
 /// The byte offset of the first comment in a pattern that is parsed, `(?#..)` or under IGNORE_SPACE `#..`; `None` if there is

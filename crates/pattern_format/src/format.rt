@@ -16,7 +16,7 @@ use crate::verbose::laid_out;
 use crate::written::text_of;
 use fancy_lex::error::{Error, Result};
 use fancy_lex::flags::Flags;
-use fancy_spans::SpannedTree;
+use fancy_syntax::spanned::SpannedTree;
 use std::alloc::{AllocError, Global};
 
 /// The text of a formatted pattern.

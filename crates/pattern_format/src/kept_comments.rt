@@ -1,7 +1,7 @@
 //! Whether a text has all comments of a pattern, those inside its tokens too.
 use crate::all_comments::{Comment, all_comments};
 use crate::style::Style;
-use fancy_spans::SpannedTree;
+use fancy_syntax::spanned::SpannedTree;
 use std::alloc::{AllocError, Global};
 
 /// What is in a comment in parentheses.

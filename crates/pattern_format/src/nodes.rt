@@ -1,8 +1,8 @@
 //! The nodes of a tree, as far as formatting needs them.
 use crate::own_part::own_part;
-use fancy_spans::{SpannedNode, SpannedTree};
 use fancy_syntax::expr::{Expr, Shape, Wrap};
 use fancy_syntax::span::Span;
+use fancy_syntax::spanned::{SpannedNode, SpannedTree};
 use std::alloc::{AllocError, Global};
 
 /// A node of a tree.

@@ -1,9 +1,9 @@
 //! The parts of nodes in which a `#` begins no comment. In all else of a pattern each `#` is a comment's.
 use fancy_lex::layout::past_layout;
 use fancy_lex::name::delimited::delimited_name;
-use fancy_spans::SpannedNode;
 use fancy_syntax::expr::{Absent, Expr};
 use fancy_syntax::span::Span;
+use fancy_syntax::spanned::SpannedNode;
 
 /// The text after the layout that follows the parenthesis at the front, or the text if it begins with none.
 fn after_parenthesis(text: &str) -> Option<&str> {

@@ -10,7 +10,7 @@ use crate::comments::has_same_comments;
 use crate::kept_comments::keeps_all_comments;
 use crate::style::Style;
 use fancy_lex::error::Error;
-use fancy_spans::SpannedTree;
+use fancy_syntax::spanned::SpannedTree;
 use std::alloc::{AllocError, Global};
 
 /// Whether the text is parsed as the pattern is, but for positions, and has its comments, as the style keeps them, those

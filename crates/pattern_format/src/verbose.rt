@@ -6,7 +6,7 @@ use crate::pieces::pieces_of;
 use crate::token::{Token, TokenKind};
 use fancy_lex::error::Error;
 use fancy_lex::flags::Flags;
-use fancy_spans::SpannedTree;
+use fancy_syntax::spanned::SpannedTree;
 use std::alloc::{AllocError, Global};
 
 /// How often a pattern is laid out, until that changes nothing.

@@ -5,8 +5,8 @@ ghost use Rattle.fancy_syntax.specs.InfoViews.{info_of};
 ghost use Rattle.fancy_syntax.specs.View.{view};
 ghost use Rattle.pattern_fixes.specs.Fixed.{IsFixedText};
 
-use fancy_spans::SpannedTree;
 use fancy_syntax::span::Span;
+use fancy_syntax::spanned::SpannedTree;
 use lint_rules::problem::Found;
 use pattern_fixes::edit::{Edit, FixableReport};
 use pattern_fixes::fixed::ParsedPattern;

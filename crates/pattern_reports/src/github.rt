@@ -9,8 +9,8 @@ use crate::annotation::{
 use crate::reporter::Reporter;
 use crate::severity::Severity;
 use fancy_lex::text::{next, push};
-use fancy_spans::SpannedTree;
 use fancy_syntax::span::Span;
+use fancy_syntax::spanned::SpannedTree;
 use lint_rules::chosen::Chosen;
 use lint_rules::problem::Found;
 use patterns_text::error::RunError;

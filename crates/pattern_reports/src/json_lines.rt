@@ -12,8 +12,8 @@ use crate::json_lines::groups::{write_group_info, write_groups, write_references
 use crate::json_lines::node::write_node;
 use crate::reporter::{MAX_REPORTS, Reporter};
 use crate::severity::Severity;
-use fancy_spans::SpannedTree;
 use fancy_syntax::span::Span;
+use fancy_syntax::spanned::SpannedTree;
 use json::Writer;
 use lint_rules::chosen::Chosen;
 use lint_rules::problem::{Found, NOT_SEARCHED, Problem};

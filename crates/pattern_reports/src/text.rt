@@ -2,8 +2,8 @@
 use crate::reporter::{MAX_REPORTS, Reporter};
 use crate::severity::Severity;
 use crate::streams::{Stream, Streams};
-use fancy_spans::SpannedTree;
 use fancy_syntax::span::Span;
+use fancy_syntax::spanned::SpannedTree;
 use lint_rules::chosen::Chosen;
 use lint_rules::problem::{Found, NOT_SEARCHED};
 use patterns_listing::drawing::{Look, write_tree};

@@ -9,7 +9,7 @@ use crate::walk::Walk;
 use backtracking::attack::Attack;
 use class_rules::class_walk::class_findings;
 use dialects::spelling::{DifferentSpelling, spellings};
-use fancy_spans::SpannedTree;
+use fancy_syntax::spanned::SpannedTree;
 use lint_rules::attack_text::AttackText;
 use lint_rules::chosen::{Chosen, Level};
 use lint_rules::problem::{Found, Problem};

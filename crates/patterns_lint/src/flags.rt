@@ -2,8 +2,8 @@
 //! among the trivia of the tree.
 use dialects::spelling::of_flag;
 use fancy_lex::flags::{Flag, Flags};
+use fancy_lex::group_starts::{FlagLetter, next_letter};
 use fancy_lex::layout::past_layout;
-use fancy_parts::group_starts::{FlagLetter, next_letter};
 use fancy_syntax::span::Span;
 use fancy_syntax::trivium::{Trivium, TriviumKind};
 use lint_rules::problem::{Found, Problem};

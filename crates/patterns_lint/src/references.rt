@@ -1,8 +1,8 @@
 //! The rules on groups, and on what refers to them.
 use crate::walk::Walk;
-use fancy_spans::SpannedNode;
 use fancy_syntax::expr::{Expr, LookAround};
 use fancy_syntax::span::Span;
+use fancy_syntax::spanned::SpannedNode;
 use fancy_syntax::tree::ExprTree;
 use lint_rules::problem::Problem;
 use patterns_text::excerpt::{Label, Related};

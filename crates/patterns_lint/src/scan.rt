@@ -9,9 +9,9 @@ use crate::targets::{
 };
 use crate::walk::Walk;
 use class_rules::known_classes::KnownClasses;
-use fancy_spans::SpannedNode;
 use fancy_syntax::expr::{Expr, LookAround, Shape, Wrap};
 use fancy_syntax::span::Span;
+use fancy_syntax::spanned::SpannedNode;
 use lint_rules::problem::{Problem, Total};
 use patterns_text::excerpt::{Label, Related};
 use std::alloc::{AllocError, Global};

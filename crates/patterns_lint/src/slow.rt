@@ -2,8 +2,8 @@
 use crate::known::Known;
 use backtracking::repeats::{SlowRepeat, SlowRepeats, slow_repeats};
 use backtracking::sequences::{SlowSequence, SlowSequences, slow_sequences};
-use fancy_spans::SpannedTree;
 use fancy_syntax::span::Span;
+use fancy_syntax::spanned::SpannedTree;
 use lint_rules::chosen::{Chosen, Level};
 use lint_rules::rule::Rule;
 use std::alloc::{AllocError, Global};

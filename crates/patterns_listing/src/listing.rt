@@ -2,9 +2,9 @@
 use crate::class_words::ClassWords;
 use class_meaning::characters_of;
 use fancy_lex::flags::Flags;
-use fancy_spans::SpannedNode;
 use fancy_syntax::expr::Expr;
 use fancy_syntax::span::Span;
+use fancy_syntax::spanned::SpannedNode;
 use patterns_text::columns::ColumnTable;
 use patterns_text::error::RunError;
 use patterns_text::names::Names;

@@ -1,6 +1,6 @@
 //! The words on the boxes.
-use fancy_spans::SpannedTree;
 use fancy_syntax::expr::Expr;
+use fancy_syntax::spanned::SpannedTree;
 use patterns_text::columns::ColumnTable;
 use patterns_text::names::Names;
 use patterns_text::nodes::nodes_of;

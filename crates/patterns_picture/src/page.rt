@@ -1,9 +1,9 @@
 //! The picture in a page of HTML, with the drawn tree and what is known of the groups.
 use crate::svg::write_picture;
 use crate::text::{Xml, XmlLines};
-use fancy_spans::{SpannedNode, SpannedTree};
 use fancy_syntax::expr::Expr;
 use fancy_syntax::span::Span;
+use fancy_syntax::spanned::{SpannedNode, SpannedTree};
 use patterns_listing::drawing::{Look, Style, write_tree};
 use patterns_listing::listing::{Lead, write_references};
 use patterns_text::columns::ColumnTable;

@@ -4,7 +4,7 @@ ghost use Rattle.patterns_text.specs.Subject.{IsAccepted, IsRefused};
 
 use crate::page::write_page;
 use crate::svg::write_picture;
-use fancy_spans::SpannedTree;
+use fancy_syntax::spanned::SpannedTree;
 use patterns_text::error::{RunError, give_up};
 use patterns_text::subject::Subject;
 use std::io::Write;

@@ -13,7 +13,7 @@ ghost use Rattle.patterns_text.specs.Subject.{IsRefused};
 use crate::outcome::Outcome;
 use crate::rewriting::Rewriting;
 use fancy_pattern::to_pattern;
-use fancy_spans::SpannedTree;
+use fancy_syntax::spanned::SpannedTree;
 use fancy_syntax::tree::ExprTree;
 use pattern_files::lines::breaks_line;
 use pattern_format::first_comment::first_comment;

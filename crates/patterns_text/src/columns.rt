@@ -1,9 +1,9 @@
 //! The columns of the parts of a pattern that are listed, counted in one pass over the pattern.
 use crate::position::FilePosition;
 use crate::words::is_reference;
-use fancy_spans::SpannedNode;
 use fancy_syntax::expr::Expr;
 use fancy_syntax::span::Span;
+use fancy_syntax::spanned::SpannedNode;
 use std::alloc::{AllocError, Global};
 use std::fmt;
 

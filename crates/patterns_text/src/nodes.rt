@@ -1,5 +1,5 @@
 //! The nodes of a tree in a row.
-use fancy_spans::{SpannedNode, SpannedTree};
+use fancy_syntax::spanned::{SpannedNode, SpannedTree};
 use std::alloc::{AllocError, Global};
 
 /// Adds the node and those below it, in preorder.

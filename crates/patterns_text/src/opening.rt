@@ -5,9 +5,9 @@ use crate::excerpt::{Label, Related};
 use crate::nodes::nodes_of;
 use crate::subject::{Refusal, Subject};
 use fancy_lex::error::ParseError;
-use fancy_spans::{SpannedNode, SpannedTree};
 use fancy_syntax::expr::Expr;
 use fancy_syntax::span::Span;
+use fancy_syntax::spanned::{SpannedNode, SpannedTree};
 use std::alloc::{AllocError, Global};
 
 /// Ends a line comment, gives a group some contents, and closes it.

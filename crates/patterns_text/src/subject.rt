@@ -10,8 +10,8 @@ use crate::hints::{Hint, hint_for};
 use crate::opening::{Opening, opening_of};
 use crate::position::{FilePosition, Location, PatternPosition, Spot};
 use fancy_lex::error::ParseError;
-use fancy_spans::SpannedTree;
 use fancy_syntax::error::Error;
+use fancy_syntax::spanned::SpannedTree;
 use std::alloc::{AllocError, Global};
 use std::io::Write;
 

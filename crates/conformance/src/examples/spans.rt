@@ -1,6 +1,6 @@
 //! A rule of a linter, which says where a node is.
-use fancy_spans::SpannedNode;
 use fancy_syntax::Expr;
+use fancy_syntax::spanned::SpannedNode;
 use std::alloc::{AllocError, Global};
 
 /// Adds a line for each unbounded repeat inside another one, with its byte offset and its text.

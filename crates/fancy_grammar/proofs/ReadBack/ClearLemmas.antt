@@ -14,8 +14,8 @@ use Rattle.fancy_lex.specs.Reading.{gives}
 use Rattle.fancy_lex.specs.Text.{Text, strip}
 use Rattle.fancy_lex.specs.declared.flags.Flags.{Flags}
 use Rattle.fancy_lex.proofs.LayoutLemmas.{between_plain}
-use Rattle.fancy_parts.specs.Quantifier.{counts}
-use Rattle.fancy_parts.specs.Quote.{after_backslash, needs_backslash}
+use Rattle.fancy_lex.specs.Quantifier.{counts}
+use Rattle.fancy_grammar.specs.Quote.{after_backslash, needs_backslash}
 use Rattle.fancy_grammar.specs.State.{ends}
 
 -- an operator or brace of a quantifier is next

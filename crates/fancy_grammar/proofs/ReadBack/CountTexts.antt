@@ -16,9 +16,9 @@ use Rattle.fancy_lex.specs.Number.{at_digit, number, run}
 use Rattle.fancy_lex.specs.Reading.{gives}
 use Rattle.fancy_lex.specs.Text.{Text, strip}
 use Rattle.fancy_lex.proofs.NumberLemmas.{number_none, number_some, run_stop}
-use Rattle.fancy_parts.specs.Quantifier.{most, count, spaced_count, counts_from, braced_counts, counts}
-use Rattle.fancy_parts.specs.declared.counts.Counts.{Counts}
-use Rattle.fancy_parts.specs.Quote.{range, operator, counts_as, counts_text, quantifier}
+use Rattle.fancy_lex.specs.Quantifier.{most, count, spaced_count, counts_from, braced_counts, counts}
+use Rattle.fancy_lex.specs.declared.counts.Counts.{Counts}
+use Rattle.fancy_grammar.specs.Quote.{range, operator, counts_as, counts_text, quantifier}
 use Rattle.fancy_grammar.proofs.ReadBack.ClearLemmas.{Clear, not_open, no_layout, clear_brace}
 
 pub digit_is : (c : ℕ) → digit_value c < 10 → (is_ascii_digit c ≡ true) × (c - code "0" ≡ digit_value c)

@@ -9,7 +9,7 @@ use Rattle.fancy_lex.specs.declared.escape.Assertion.TheVariants.{StartLine, Sta
 use Rattle.fancy_lex.specs.declared.escape.Assertion.TheVariants.{LeftWordBoundary, LeftWordHalfBoundary}
 use Rattle.fancy_lex.specs.declared.escape.Assertion.TheVariants.{RightWordBoundary, RightWordHalfBoundary}
 use Rattle.fancy_lex.specs.declared.escape.Assertion.TheVariants.{WordBoundary, NotWordBoundary}
-use Rattle.fancy_parts.specs.Quote.{after_backslash, quote_as, quote, quotes, quantifier}
+use Rattle.fancy_grammar.specs.Quote.{after_backslash, quote_as, quote, quotes, quantifier}
 use Rattle.fancy_grammar.specs.Printed.{any_text, assertion_text, grouped, caseless, is_long, printed, operand_text}
 use Rattle.fancy_grammar.specs.Printed.{printed_all, printed_branches, barred}
 use Rattle.fancy_grammar.specs.Printed.{WHOLE, BRANCH, PIECE, OPERAND}

@@ -6,7 +6,7 @@ use Rattle.fancy_lex.specs.Text.{Text}
 use Rattle.fancy_lex.specs.declared.escape.Assertion.{Assertion}
 use Rattle.fancy_lex.specs.declared.escape.Assertion.TheVariants.{StartLineOniguruma}
 use Rattle.fancy_grammar.specs.Depth.{max_depth}
-use Rattle.fancy_parts.specs.Quote.{after_backslash, quantifier}
+use Rattle.fancy_grammar.specs.Quote.{after_backslash, quantifier}
 use Rattle.fancy_grammar.specs.Grammar.{DerivesTree}
 use Rattle.fancy_grammar.specs.Join.{solid, join, choice}
 use Rattle.fancy_grammar.specs.Normal.{normal_character, pieces_of, case_flags, unicode_flags, normal, normal_pieces}

@@ -17,9 +17,9 @@ use Rattle.fancy_lex.specs.declared.escape.Assertion.TheVariants.{RightWordBound
 use Rattle.fancy_lex.specs.declared.escape.Assertion.TheVariants.{WordBoundary, NotWordBoundary}
 use Rattle.fancy_lex.specs.declared.flags.Flags.{Flags}
 use Rattle.fancy_grammar.specs.Depth.{max_depth}
-use Rattle.fancy_parts.specs.FlagLetters.{flag_group as scoped}
-use Rattle.fancy_parts.specs.LetterSteps.{letters}
-use Rattle.fancy_parts.specs.Quote.{after_backslash, needs_backslash}
+use Rattle.fancy_lex.specs.FlagLetters.{flag_group as scoped}
+use Rattle.fancy_lex.specs.LetterSteps.{letters}
+use Rattle.fancy_grammar.specs.Quote.{after_backslash, needs_backslash}
 use Rattle.fancy_grammar.specs.State as states
 use Rattle.fancy_grammar.specs.AtomStart.{read, atom_start, leaf_node, leaf_outcome}
 use Rattle.fancy_grammar.specs.Normal.{normal_character, unicode_flags}

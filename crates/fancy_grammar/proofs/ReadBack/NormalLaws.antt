@@ -8,7 +8,7 @@ use Rattle.std.specs.List.{AllByRecursion}
 use Rattle.std.specs.Str.{all_scalars}
 use Rattle.fancy_lex.specs.Text.{Text}
 use Rattle.fancy_lex.specs.declared.escape.Assertion.TheVariants.{StartLineOniguruma, EndTextIgnoreTrailingNewlines}
-use Rattle.fancy_parts.specs.Quote.{after_backslash}
+use Rattle.fancy_grammar.specs.Quote.{after_backslash}
 use Rattle.fancy_grammar.specs.Join.{is_empty, solid, one_or, join, choice}
 use Rattle.fancy_grammar.specs.Normal.{normal_character, pieces_of, normal, normal_pieces, normals}
 use Rattle.fancy_grammar.specs.Printable.{is_count, printable, all_printable, takes_quantifier}

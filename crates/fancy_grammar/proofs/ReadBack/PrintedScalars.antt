@@ -13,9 +13,9 @@ use Rattle.std.specs.Str.Parse.{AllDigits}
 use Rattle.fancy_lex.specs.Text.{Text}
 use Rattle.fancy_lex.specs.declared.escape.Assertion.{Assertion}
 use Rattle.fancy_lex.specs.declared.escape.Assertion.TheVariants.{StartLine, StartLineOniguruma, EndLine}
-use Rattle.fancy_parts.specs.Quantifier.{most}
-use Rattle.fancy_parts.specs.Quote.{quote_as, quote, quotes, range, operator, counts_as, counts_text}
-use Rattle.fancy_parts.specs.Quote.{quantifier}
+use Rattle.fancy_lex.specs.Quantifier.{most}
+use Rattle.fancy_grammar.specs.Quote.{quote_as, quote, quotes, range, operator, counts_as, counts_text}
+use Rattle.fancy_grammar.specs.Quote.{quantifier}
 use Rattle.fancy_grammar.specs.Printable.{is_count, printable, all_printable, takes_quantifier}
 use Rattle.fancy_grammar.specs.Printed.{any_text, assertion_text, grouped, caseless, is_long, printed, operand_text}
 use Rattle.fancy_grammar.specs.Printed.{printed_all, printed_branches, barred}

@@ -13,12 +13,12 @@ use Rattle.fancy_lex.specs.Reading.{gives, choose, layout_reading}
 use Rattle.fancy_lex.specs.Text.{Text, bytes, IsPositionOf, reach_of}
 use Rattle.fancy_lex.specs.declared.flags.Flags.{Flags}
 use Rattle.fancy_lex.specs.ErrorTable.{group_too_deep}
-use Rattle.fancy_parts.specs.FlagLetters.{Letters, flag_group as scoped, flags_end, flags_go_on}
-use Rattle.fancy_parts.specs.LetterSteps.{letters, letters_in, step}
-use Rattle.fancy_parts.specs.Quantifier.{counts}
-use Rattle.fancy_parts.specs.Quote.{after_backslash, needs_backslash}
-use Rattle.fancy_parts.specs.declared.counts.Counts.{Counts}
-use Rattle.fancy_parts.proofs.FlagLemmas.{letters_start, in_end, in_go}
+use Rattle.fancy_lex.specs.FlagLetters.{Letters, flag_group as scoped, flags_end, flags_go_on}
+use Rattle.fancy_lex.specs.LetterSteps.{letters, letters_in, step}
+use Rattle.fancy_lex.specs.Quantifier.{counts}
+use Rattle.fancy_grammar.specs.Quote.{after_backslash, needs_backslash}
+use Rattle.fancy_lex.specs.declared.counts.Counts.{Counts}
+use Rattle.fancy_lex.proofs.LetterLemmas.{letters_start, in_end, in_go}
 use Rattle.fancy_grammar.specs.State as states
 use Rattle.fancy_grammar.specs.AtomStart.{read, of_kind, atom_start, begins_no_atom, flags_start, after_question}
 use Rattle.fancy_grammar.specs.AtomStart.{group_start, error_start, leaf_of, leaf_node, leaf_outcome}

@@ -3,7 +3,7 @@ use Rattle.std.proofs.Common.{◌≡◌, ℕ, ◌^◌, ◌<◌, ◌==◌, Bool, 
 use Rattle.std.proofs.lemmas.Bool.{false≢true}
 use Prim.Native.Char.{code}
 use Rattle.fancy_lex.specs.Text.{Text}
-use Rattle.fancy_parts.specs.Quote.{after_backslash, quantifier}
+use Rattle.fancy_grammar.specs.Quote.{after_backslash, quantifier}
 use Rattle.fancy_grammar.specs.Printed.{is_long}
 use Rattle.fancy_grammar.specs.Printed.{WHOLE, BRANCH, PIECE, OPERAND}
 use Rattle.fancy_grammar.specs.Quantified.{is_repeatable}

@@ -10,7 +10,7 @@ use Rattle.fancy_lex.specs.Text.{Text, bytes}
 use Rattle.fancy_lex.specs.declared.error.ReadError.TheVariants.{At}
 use Rattle.fancy_lex.specs.declared.error.ParseError.TheVariants.{RecursionExceeded}
 use Rattle.fancy_lex.specs.declared.flags.Flags.{Flags}
-use Rattle.fancy_parts.specs.Ranks.{numbered_openings_in, named_groups, numbers, name_cmp}
+use Rattle.fancy_grammar.specs.Ranks.{numbered_openings_in, named_groups, numbers, name_cmp}
 use Rattle.fancy_grammar.specs.Depth.{max_depth}
 use Rattle.fancy_grammar.specs.ParseResult.{IsTreeOf, of_reading}
 use Rattle.fancy_grammar.specs.ParsedTree.{groups}

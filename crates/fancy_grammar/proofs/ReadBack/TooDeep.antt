@@ -8,7 +8,7 @@ use Rattle.fancy_lex.specs.Text.{Text, bytes, IsPositionOf, reach_of}
 use Rattle.fancy_lex.specs.declared.escape.Assertion.{Assertion}
 use Rattle.fancy_lex.specs.declared.escape.Assertion.TheVariants.{StartLine, StartLineOniguruma, EndLine}
 use Rattle.fancy_lex.specs.ErrorTable.{group_too_deep}
-use Rattle.fancy_parts.specs.Quote.{quantifier}
+use Rattle.fancy_grammar.specs.Quote.{quantifier}
 use Rattle.fancy_lex.proofs.TextLemmas.{bytes-append}
 use Rattle.fancy_grammar.specs.Depth.{max_depth, most_open}
 use Rattle.fancy_grammar.specs.Grammar.{Alternation, Branches, Pieces, Atom, FailsWith}

@@ -17,12 +17,12 @@ use Rattle.fancy_lex.specs.Text.{Text, bytes, position_at, strip, strip_word, re
 use Rattle.fancy_lex.specs.declared.escape.Assertion.{Assertion}
 use Rattle.fancy_lex.specs.declared.escape.Assertion.TheVariants.{StartLine, StartLineOniguruma}
 use Rattle.fancy_lex.specs.declared.flags.Flags.{Flags}
-use Rattle.fancy_parts.specs.FlagLetters.{Letters, inline_flags, flag_group as scoped}
-use Rattle.fancy_parts.specs.GroupName.{group_name}
-use Rattle.fancy_parts.specs.GroupReference.{named_reference, named_call, begins_target, condition_target}
-use Rattle.fancy_parts.specs.LetterSteps.{letters}
-use Rattle.fancy_parts.specs.Quantifier.{counts}
-use Rattle.fancy_parts.specs.declared.counts.Counts.{Counts}
+use Rattle.fancy_lex.specs.FlagLetters.{Letters, inline_flags, flag_group as scoped}
+use Rattle.fancy_lex.specs.GroupName.{group_name}
+use Rattle.fancy_lex.specs.GroupReference.{named_reference, named_call, begins_target, condition_target}
+use Rattle.fancy_lex.specs.LetterSteps.{letters}
+use Rattle.fancy_lex.specs.Quantifier.{counts}
+use Rattle.fancy_lex.specs.declared.counts.Counts.{Counts}
 use Rattle.fancy_grammar.specs.AtomStart.{AtomStart, nothing, read, of_kind, condition, body, absent_branch, atom_start}
 use Rattle.fancy_grammar.specs.AtomStart.{start_of}
 use Rattle.fancy_grammar.specs.AtomStart.{start_anchor, end_anchor, leaf_node, leaf_outcome, leaf_of}
@@ -55,7 +55,7 @@ use Rattle.std.proofs.Common.{ℤ, ◌++◌, ap₂, append_assoc, arith}
 use Rattle.std.proofs.lemmas.Bool.Decides.{nat_tests}
 use Rattle.fancy_lex.specs.Referred.{Call}
 use Rattle.fancy_lex.specs.Text.{position_at}
-use Rattle.fancy_parts.specs.Written.{is_after_backslash}
+use Rattle.fancy_grammar.specs.Written.{is_after_backslash}
 use Rattle.fancy_grammar.specs.Slices.{Slice}
 use Rattle.fancy_grammar.proofs.AtomStartLaws.{StartReads, start_reads}
 use Rattle.fancy_grammar.proofs.Slices.{current, on, strip_slice, skipped_slice}

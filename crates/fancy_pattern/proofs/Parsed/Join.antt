@@ -1,6 +1,6 @@
 -- Parsed trees are writable, and their texts read back.
 use Rattle.std.proofs.Common.{zero, suc}
-use Rattle.fancy_parts.specs.Ranks.{is_counted}
+use Rattle.fancy_grammar.specs.Ranks.{is_counted}
 use Rattle.fancy_grammar.specs.Pattern.{group_count_all}
 use Rattle.std.proofs.Common.{◌≡◌, ℕ, ◌+◌, ◌<◌, Bool, true, false, List, [], ◌∷◌, ap}
 use Rattle.std.proofs.Common.{◌∙◌, subst, arith}
@@ -23,7 +23,7 @@ use Rattle.std.proofs.Common.{sym, length, ◌≤◌, ◌^◌}
 use Rattle.std.specs.Cmp.{both_ways}
 use Rattle.std.specs.List.{list_any}
 use Rattle.fancy_lex.specs.Text.{bytes}
-use Rattle.fancy_parts.specs.Ranks.{only_named, numbered_openings}
+use Rattle.fancy_grammar.specs.Ranks.{only_named, numbered_openings}
 use Rattle.fancy_grammar.specs.Items.{items, openings, numbers_in, meanings, meanings_in}
 use Rattle.fancy_grammar.proofs.Writable.{AreCounted, info_openings, name_at}
 use Rattle.fancy_grammar.proofs.Writable.{IsWritable, AreNodesWritable, AreAllWritable, ArePieces, IsWritableLeaf}

@@ -8,10 +8,10 @@ use Rattle.std.specs.List.{list_any}
 use Rattle.std.specs.Map.{lookup}
 use Rattle.std.specs.Prelude.{bytes_eq, find, slice_get}
 use Rattle.fancy_lex.specs.Text.{Text}
-use Rattle.fancy_parts.proofs.NamedLaws.{under_named}
-use Rattle.fancy_parts.specs.Groups.{numbers_under}
-use Rattle.fancy_parts.specs.Ranks.{Opening, numbers, names}
-use Rattle.fancy_parts.specs.Ranks.{named_groups, is_name}
+use Rattle.fancy_grammar.proofs.NamedLaws.{under_named}
+use Rattle.fancy_grammar.specs.Groups.{numbers_under}
+use Rattle.fancy_grammar.specs.Ranks.{Opening, numbers, names}
+use Rattle.fancy_grammar.specs.Ranks.{named_groups, is_name}
 use Rattle.fancy_grammar.specs.GroupInfo.{GroupInfo}
 use Rattle.fancy_grammar.specs.PatternReference.{Named}
 use Rattle.fancy_grammar.proofs.Writable.{name_at, info_openings}

@@ -7,9 +7,9 @@ use Rattle.std.specs.List.{AllByRecursion, list_any}
 use Rattle.fancy_lex.specs.Target.{by_number, by_name, relative}
 use Rattle.fancy_lex.specs.Text.{Text, bytes, position_at}
 use Rattle.fancy_lex.specs.declared.flags.Flags.{Flags}
-use Rattle.fancy_parts.specs.Meaning.{Meaning, refers_to}
-use Rattle.fancy_parts.specs.Ranks.{is_counted}
-use Rattle.fancy_parts.specs.Written.{is_numeric}
+use Rattle.fancy_grammar.specs.Meaning.{Meaning, refers_to}
+use Rattle.fancy_grammar.specs.Ranks.{is_counted}
+use Rattle.fancy_grammar.specs.Written.{is_numeric}
 use Rattle.fancy_grammar.specs.Items.{meanings_in, role_of, target_of}
 use Rattle.fancy_grammar.specs.Label as label
 use Rattle.fancy_grammar.specs.Label.{AstReference, ast_backref, ast_call, ast_condition}

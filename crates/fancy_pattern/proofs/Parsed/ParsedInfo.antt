@@ -8,7 +8,7 @@ use Rattle.std.specs.List.{AllByRecursion, list_any, cons_option}
 use Rattle.std.specs.Prelude.{find}
 use Rattle.fancy_lex.specs.Text.{Text}
 use Rattle.fancy_lex.specs.declared.flags.Flags.{Flags}
-use Rattle.fancy_parts.specs.Ranks.{Opening, only_named, numbered_openings, named_groups, names, numbers}
+use Rattle.fancy_grammar.specs.Ranks.{Opening, only_named, numbered_openings, named_groups, names, numbers}
 use Rattle.fancy_grammar.specs.ParseResult.{IsTreeOf}
 use Rattle.fancy_grammar.specs.ParsedTree.{IsParsedTreeNode, IsParsedTree, IsParsedTreeWith, is_group, groups}
 use Rattle.fancy_grammar.specs.ParsedTree.{groups_referred}

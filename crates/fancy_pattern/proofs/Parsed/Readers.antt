@@ -22,13 +22,13 @@ use Rattle.fancy_lex.specs.Reading.{Reading, gives, fails, ◌>=>◌, layout_rea
 use Rattle.fancy_lex.specs.Text.{Text, strip, bytes, cut_at}
 use Rattle.fancy_lex.specs.declared.flags.Flag.{Flag}
 use Rattle.fancy_lex.specs.declared.flags.Flags.{Flags}
-use Rattle.fancy_parts.specs.FlagLetters.{Letters, inline_flags, flag_group, LetterStep, flags_end, flags_go_on}
-use Rattle.fancy_parts.specs.FlagLetters.{pattern_flags, with_letter}
-use Rattle.fancy_parts.specs.GroupName.{group_name}
-use Rattle.fancy_parts.specs.LetterSteps.{step, unknown_letter, flag_or_error, after_step, letters_in, letters}
-use Rattle.fancy_parts.specs.Quantifier.{counts, braced_counts, counts_from, in_braces, spaced_count, count}
-use Rattle.fancy_parts.specs.Quantifier.{count_of, exact_or_range, most}
-use Rattle.fancy_parts.specs.declared.counts.Counts.{Counts}
+use Rattle.fancy_lex.specs.FlagLetters.{Letters, inline_flags, flag_group, LetterStep, flags_end, flags_go_on}
+use Rattle.fancy_lex.specs.FlagLetters.{pattern_flags, with_letter}
+use Rattle.fancy_lex.specs.GroupName.{group_name}
+use Rattle.fancy_lex.specs.LetterSteps.{step, unknown_letter, flag_or_error, after_step, letters_in, letters}
+use Rattle.fancy_lex.specs.Quantifier.{counts, braced_counts, counts_from, in_braces, spaced_count, count}
+use Rattle.fancy_lex.specs.Quantifier.{count_of, exact_or_range, most}
+use Rattle.fancy_lex.specs.declared.counts.Counts.{Counts}
 use Rattle.fancy_grammar.proofs.Writable.{IsNameWritable}
 
 -- one step after another

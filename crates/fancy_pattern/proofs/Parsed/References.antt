@@ -12,10 +12,10 @@ use Rattle.fancy_lex.specs.NumberText.{number_text}
 use Rattle.fancy_lex.specs.Target.{Target, by_number, by_name, relative}
 use Rattle.fancy_lex.specs.Text.{Text}
 use Rattle.fancy_lex.specs.declared.flags.Flags.{Flags}
-use Rattle.fancy_parts.specs.Meaning.{Meaning, number, unresolved, invalid, refers_to, last_of, only_one, at_distance}
-use Rattle.fancy_parts.specs.Meaning.{back_to}
-use Rattle.fancy_parts.specs.Meaning.{call, back_reference, condition, group_or_none, no_group, Role}
-use Rattle.fancy_parts.specs.Ranks.{Opening, is_counted, numbered_openings_in, numbers}
+use Rattle.fancy_grammar.specs.Meaning.{Meaning, number, unresolved, invalid, refers_to, last_of, only_one, at_distance}
+use Rattle.fancy_grammar.specs.Meaning.{back_to}
+use Rattle.fancy_grammar.specs.Meaning.{call, back_reference, condition, group_or_none, no_group, Role}
+use Rattle.fancy_grammar.specs.Ranks.{Opening, is_counted, numbered_openings_in, numbers}
 use Rattle.fancy_grammar.specs.ParsedTree.{IsParsedTreeNode, AscendingNumbers}
 use Rattle.fancy_grammar.specs.Items.{Item, opening, reference, items, items_all, openings_in, role_of}
 use Rattle.fancy_grammar.specs.Items.{target_of}

@@ -4,8 +4,8 @@ use Rattle.std.proofs.Common.{Some, None, IfSome, refl, sym, ap, ap₂, ◌∙�
 use Rattle.std.specs.List.{AllByRecursion}
 use Rattle.fancy_lex.specs.Text.{Text, bytes}
 use Rattle.fancy_lex.specs.declared.flags.Flags.{Flags}
-use Rattle.fancy_parts.specs.Meaning.{Meaning, number, refers_to}
-use Rattle.fancy_parts.specs.Ranks.{is_counted, only_named}
+use Rattle.fancy_grammar.specs.Meaning.{Meaning, number, refers_to}
+use Rattle.fancy_grammar.specs.Ranks.{is_counted, only_named}
 use Rattle.fancy_grammar.specs.ParseResult.{IsTreeOf}
 use Rattle.fancy_grammar.specs.Items.{openings, openings_in, numbers_in, role_of, target_of}
 use Rattle.fancy_grammar.specs.Join.{is_empty}

@@ -25,7 +25,7 @@ use Rattle.fancy_lex.specs.Referred.{Reference, Call, call_to, reference_of, wri
 use Rattle.fancy_lex.specs.Referred.{name_reading, reference_by_name, target_of_name, number_or_name}
 use Rattle.fancy_lex.specs.Target.{Target, by_number, by_name, relative}
 use Rattle.fancy_lex.specs.Text.{Text, reach_of, strip}
-use Rattle.fancy_parts.specs.GroupReference.{named_reference, named_call, condition_target, condition_name, call_of}
+use Rattle.fancy_lex.specs.GroupReference.{named_reference, named_call, condition_target, condition_name, call_of}
 use Rattle.fancy_grammar.proofs.Writable.{IsLevelWritable, IsNameWritable}
 use Rattle.fancy_pattern.proofs.Parsed.Readers.{gives_both, IsFreeOf, IfNameFree, before_free, angled_writable}
 use Rattle.fancy_pattern.proofs.Parsed.Readers.{quoted_writable}

@@ -14,10 +14,10 @@ use Rattle.fancy_lex.specs.Text.{Text, strip_word}
 use Rattle.fancy_lex.specs.declared.flags.Flags.{Flags}
 use Rattle.fancy_lex.proofs.ReadingLemmas.{choose_both}
 use Rattle.fancy_lex.proofs.ReferencePositions.{IfGives}
-use Rattle.fancy_parts.specs.FlagLetters.{Letters, inline_flags, flag_group as scoped}
-use Rattle.fancy_parts.specs.GroupName.{group_name}
-use Rattle.fancy_parts.specs.GroupReference.{named_reference, named_call, begins_target, condition_target}
-use Rattle.fancy_parts.specs.LetterSteps.{letters}
+use Rattle.fancy_lex.specs.FlagLetters.{Letters, inline_flags, flag_group as scoped}
+use Rattle.fancy_lex.specs.GroupName.{group_name}
+use Rattle.fancy_lex.specs.GroupReference.{named_reference, named_call, begins_target, condition_target}
+use Rattle.fancy_lex.specs.LetterSteps.{letters}
 use Rattle.fancy_grammar.specs.AtomStart.{AtomStart, nothing, read, of_kind, condition, body, absent_branch, atom_start}
 use Rattle.fancy_grammar.specs.AtomStart.{start_of}
 use Rattle.fancy_grammar.specs.AtomStart.{group_start, after_question, condition_start, repeater_start}

@@ -5,7 +5,7 @@ use Rattle.std.proofs.Common.{refl, sym, ap, ap₂, ◌∙◌, subst, arith, ℤ
 use Rattle.std.proofs.lemmas.Bool.{cond-false, true≢false}
 use Rattle.fancy_lex.specs.Text.{Text, EndsWith, bytes, position_at}
 use Rattle.fancy_lex.specs.declared.flags.Flags.{Flags}
-use Rattle.fancy_parts.specs.Ranks.{Opening, is_counted, numbered_openings_in}
+use Rattle.fancy_grammar.specs.Ranks.{Opening, is_counted, numbered_openings_in}
 use Rattle.fancy_grammar.specs.Items.{Item, opening, reference, items, items_all, openings_in, role_of, target_of}
 use Rattle.fancy_grammar.specs.Join.{is_empty, solid, one_or}
 use Rattle.fancy_grammar.specs.Label.{Row, AstReference, ast_backref, ast_call, ast_condition}
@@ -19,8 +19,8 @@ use Rattle.fancy_grammar.specs.ReadAs.{unpositioned, unpositioned_all}
 pub use Rattle.fancy_grammar.proofs.Writable.{info_numbers}
 use Rattle.fancy_grammar.proofs.Writable.{name_at, is_numbered, is_numbered_call_of_all}
 use Rattle.fancy_pattern.proofs.PatternLaws.Unpositioned.{empty_unpositioned, repeatable_unpositioned}
-use Rattle.fancy_parts.specs.Meaning.{Meaning, number, unresolved, invalid, refers_to}
-use Rattle.fancy_parts.specs.Written.{is_numeric}
+use Rattle.fancy_grammar.specs.Meaning.{Meaning, number, unresolved, invalid, refers_to}
+use Rattle.fancy_grammar.specs.Written.{is_numeric}
 use Rattle.fancy_lex.proofs.LeaveLaws.{ends_twice}
 
 -- how many groups among the items have a number

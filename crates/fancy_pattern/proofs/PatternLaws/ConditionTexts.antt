@@ -15,7 +15,7 @@ use Rattle.fancy_lex.specs.Reading.{choose}
 use Rattle.fancy_lex.specs.Text.{Text, strip_word}
 use Rattle.fancy_lex.specs.declared.flags.Flags.{Flags}
 use Rattle.fancy_lex.proofs.TextLemmas.{strip_word_is}
-use Rattle.fancy_parts.specs.GroupReference.{begins_target}
+use Rattle.fancy_lex.specs.GroupReference.{begins_target}
 use Rattle.fancy_grammar.specs.AtomStart.{atom_start, condition, body, error_start}
 use Rattle.fancy_grammar.specs.Grammar.{atom, a_condition, a_body, inside}
 use Rattle.fancy_grammar.specs.Label as label

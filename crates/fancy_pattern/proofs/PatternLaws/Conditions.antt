@@ -20,9 +20,9 @@ use Rattle.fancy_lex.specs.Target.{Target, by_number, by_name, relative}
 use Rattle.fancy_lex.specs.Text.{Text, reach_of, bytes, position_at}
 use Rattle.fancy_lex.specs.declared.flags.Flags.{Flags}
 use Rattle.fancy_lex.proofs.ReadingLemmas.{choose_both}
-use Rattle.fancy_parts.specs.GroupReference.{begins_target, condition_target, condition_name}
-use Rattle.fancy_parts.specs.Meaning.{condition, number, refers_to, group_or_none}
-use Rattle.fancy_parts.specs.Written.{is_numeric}
+use Rattle.fancy_lex.specs.GroupReference.{begins_target, condition_target, condition_name}
+use Rattle.fancy_grammar.specs.Meaning.{condition, number, refers_to, group_or_none}
+use Rattle.fancy_grammar.specs.Written.{is_numeric}
 use Rattle.fancy_grammar.specs.AtomStart.{atom_start, body, target_start}
 use Rattle.fancy_grammar.specs.Depth.{max_depth}
 use Rattle.fancy_grammar.specs.Grammar.{alternation, last, branch, stop, Body, the_body, atom, a_body, is_condition}

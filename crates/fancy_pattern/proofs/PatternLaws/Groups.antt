@@ -34,7 +34,7 @@ use Rattle.fancy_pattern.proofs.PatternLaws.Becomes.{Becomes, in_longer, AreGrou
 use Rattle.fancy_grammar.specs.Items.{items}
 use Rattle.fancy_grammar.proofs.PatternDepth.{MayOpenIf, MaySet}
 use Rattle.fancy_grammar.proofs.Writable.{IsNameWritable, name_at}
-use Rattle.fancy_parts.specs.Ranks.{is_counted}
+use Rattle.fancy_grammar.specs.Ranks.{is_counted}
 use Rattle.std.proofs.Common.{length, suc}
 use Rattle.fancy_pattern.proofs.PatternLaws.Letters.{changed, inline_flags_start, flag_group_start, no_hash}
 use Rattle.fancy_pattern.proofs.PatternLaws.Rules.{Clear, Begins, begins_by, not_layout, no_question, no_star}
@@ -45,7 +45,7 @@ use Rattle.fancy_grammar.proofs.Slices.{to_ends}
 use Rattle.fancy_lex.specs.Characters.{◌∈◌, is_among}
 use Rattle.fancy_lex.specs.Delimited.{name_before}
 use Rattle.fancy_lex.specs.Reading.{gives}
-use Rattle.fancy_parts.specs.GroupName.{group_name}
+use Rattle.fancy_lex.specs.GroupName.{group_name}
 use Rattle.fancy_grammar.proofs.AtomStartLaws.{StartReads, start_reads}
 
 -- ---- texts in parentheses

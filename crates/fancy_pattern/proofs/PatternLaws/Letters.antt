@@ -8,9 +8,9 @@ use Rattle.fancy_lex.specs.LayoutSteps.{layout, after_comment_start, is_layout}
 use Rattle.fancy_lex.specs.Reading.{gives, layout_reading}
 use Rattle.fancy_lex.specs.Text.{Text, bytes}
 use Rattle.fancy_lex.specs.declared.flags.Flags.{Flags}
-use Rattle.fancy_parts.specs.FlagLetters.{Letters, inline_flags, flag_group, flags_end, flags_go_on}
-use Rattle.fancy_parts.specs.LetterSteps.{letters, letters_in, step}
-use Rattle.fancy_parts.proofs.FlagLemmas.{letters_start, in_end, in_go}
+use Rattle.fancy_lex.specs.FlagLetters.{Letters, inline_flags, flag_group, flags_end, flags_go_on}
+use Rattle.fancy_lex.specs.LetterSteps.{letters, letters_in, step}
+use Rattle.fancy_lex.proofs.LetterLemmas.{letters_start, in_end, in_go}
 use Rattle.fancy_grammar.specs.AtomStart.{read, of_kind, flags_start, after_question}
 use Rattle.fancy_grammar.specs.GroupKind as kind
 use Rattle.fancy_grammar.specs.PatternNeeds.{letter_on, letters_on, turns_on, letters_between}

@@ -6,8 +6,8 @@ use Rattle.std.specs.List.{AllByRecursion}
 use Rattle.fancy_lex.specs.Flags.{no_flag}
 use Rattle.fancy_lex.specs.Text.{Text, position_at}
 use Rattle.fancy_lex.specs.declared.flags.Flags.{Flags}
-use Rattle.fancy_parts.specs.Meaning.{Meaning, number, refers_to}
-use Rattle.fancy_parts.specs.Ranks.{numbered_openings_in}
+use Rattle.fancy_grammar.specs.Meaning.{Meaning, number, refers_to}
+use Rattle.fancy_grammar.specs.Ranks.{numbered_openings_in}
 use Rattle.fancy_grammar.specs.Depth.{max_depth}
 use Rattle.fancy_grammar.specs.Items.{openings, role_of, target_of}
 use Rattle.fancy_grammar.specs.Join.{is_empty, solid, one_or, join, choice}

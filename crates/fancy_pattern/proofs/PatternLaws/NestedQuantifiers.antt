@@ -7,10 +7,10 @@ use Rattle.std.proofs.lemmas.Bool.Decides.{nat_tests}
 use Prim.Native.Char.{code}
 use Rattle.fancy_lex.specs.Text.{Text, bytes, strip}
 use Rattle.fancy_lex.proofs.ReadingLemmas.{choose_both}
-use Rattle.fancy_parts.specs.Quantifier.{counts, braced_counts, counts_from, in_braces, spaced_count, exact_or_range}
-use Rattle.fancy_parts.specs.Quantifier.{most}
-use Rattle.fancy_parts.specs.declared.counts.Counts.{Counts}
-use Rattle.fancy_parts.proofs.CountLaws.{Closed, closes_counts}
+use Rattle.fancy_lex.specs.Quantifier.{counts, braced_counts, counts_from, in_braces, spaced_count, exact_or_range}
+use Rattle.fancy_lex.specs.Quantifier.{most}
+use Rattle.fancy_lex.specs.declared.counts.Counts.{Counts}
+use Rattle.fancy_lex.proofs.CountLaws.{Closed, closes_counts}
 use Rattle.fancy_grammar.specs.Depth.{max_depth}
 use Rattle.fancy_grammar.specs.Label as label
 use Rattle.fancy_grammar.specs.Quantified.{is_repeatable, quant, with_counts, suffix, after_lazy}

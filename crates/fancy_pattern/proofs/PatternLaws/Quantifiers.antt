@@ -22,9 +22,9 @@ use Rattle.fancy_lex.specs.declared.flags.Flags.{Flags}
 use Rattle.fancy_lex.proofs.TextLemmas.{bytes-append}
 use Rattle.std.specs.Char.{len_utf8}
 use Rattle.fancy_lex.proofs.NumberLemmas.{number_none, number_some, run_stop}
-use Rattle.fancy_parts.specs.Quantifier.{most, count, spaced_count, counts_from, braced_counts, counts}
-use Rattle.fancy_parts.specs.Quote.{range, operator, counts_as}
-use Rattle.fancy_parts.specs.declared.counts.Counts.{Counts}
+use Rattle.fancy_lex.specs.Quantifier.{most, count, spaced_count, counts_from, braced_counts, counts}
+use Rattle.fancy_grammar.specs.Quote.{range, operator, counts_as}
+use Rattle.fancy_lex.specs.declared.counts.Counts.{Counts}
 use Rattle.fancy_grammar.specs.PatternQuantifier.{operator_left, lazy_operator, possessive_operator}
 use Rattle.fancy_grammar.specs.PatternQuantifier.{quantifier_text, is_possessive as possessive_counts}
 use Rattle.fancy_grammar.specs.Quantified as quantified

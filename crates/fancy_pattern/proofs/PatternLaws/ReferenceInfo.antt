@@ -6,9 +6,9 @@ use Rattle.fancy_lex.specs.Located.{Located}
 use Rattle.fancy_lex.specs.Text.{Text, bytes, position_at}
 use Rattle.fancy_lex.specs.declared.flags.Flags.{Flags}
 use Rattle.fancy_lex.proofs.LeaveLaws.{ends_whole}
-use Rattle.fancy_parts.specs.Meaning.{Meaning, number, unresolved, invalid, refers_to, error_or}
-use Rattle.fancy_parts.specs.Ranks.{is_counted, only_named}
-use Rattle.fancy_parts.specs.Written.{is_numeric}
+use Rattle.fancy_grammar.specs.Meaning.{Meaning, number, unresolved, invalid, refers_to, error_or}
+use Rattle.fancy_grammar.specs.Ranks.{is_counted, only_named}
+use Rattle.fancy_grammar.specs.Written.{is_numeric}
 use Rattle.fancy_grammar.specs.Grammar.{DerivesTree}
 use Rattle.fancy_grammar.specs.Items.{Item, opening, reference, openings, meanings_in, numbers_in}
 use Rattle.fancy_grammar.specs.Items.{items, meanings, role_of, target_of}

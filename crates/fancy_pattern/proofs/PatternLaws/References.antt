@@ -33,9 +33,9 @@ use Rattle.fancy_lex.proofs.TextLemmas.{bytes-append, length_encodes}
 use Rattle.fancy_grammar.specs.PatternReference.{is_plain_name, Named, name_of, fit_name, is_last, is_only, distance}
 use Rattle.fancy_grammar.specs.PatternReference.{backref_text, call_text, delimited, call_name, name_or}
 use Rattle.fancy_grammar.specs.PatternReference.{backref_at_level_text, signed}
-use Rattle.fancy_parts.specs.Meaning.{back_reference, call, number, refers_to, back_to, last_of, only_one, group_or_none}
-use Rattle.fancy_parts.specs.Meaning.{Role, Meaning, condition}
-use Rattle.fancy_parts.specs.Written.{is_numeric, is_after_backslash}
+use Rattle.fancy_grammar.specs.Meaning.{back_reference, call, number, refers_to, back_to, last_of, only_one, group_or_none}
+use Rattle.fancy_grammar.specs.Meaning.{Role, Meaning, condition}
+use Rattle.fancy_grammar.specs.Written.{is_numeric, is_after_backslash}
 use Rattle.fancy_grammar.specs.AtomStart.{read, leaf_node, leaf_outcome}
 use Rattle.fancy_grammar.specs.Grammar.{atom, a_read}
 use Rattle.fancy_grammar.specs.Items.{role_of, target_of}

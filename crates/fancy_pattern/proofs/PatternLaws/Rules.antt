@@ -13,7 +13,7 @@ use Rattle.fancy_lex.specs.Text.{Text, bytes, strip}
 use Rattle.fancy_lex.specs.declared.flags.Flags.{Flags}
 use Rattle.fancy_lex.proofs.LayoutLemmas.{between_step}
 use Rattle.fancy_lex.proofs.LeaveLaws.{ends_twice}
-use Rattle.fancy_parts.specs.Quantifier.{counts}
+use Rattle.fancy_lex.specs.Quantifier.{counts}
 use Rattle.fancy_grammar.specs.Depth.{max_depth}
 use Rattle.fancy_grammar.specs.State as states
 use Rattle.fancy_grammar.specs.Grammar.{Alternation, alternation, Branches, last, more, Branch, branch, Pieces, stop}

@@ -11,8 +11,8 @@ use Rattle.std.proofs.lemmas.Bool.{cond_both}
 use Rattle.std.proofs.lemmas.List.{length-map}
 use Rattle.fancy_lex.specs.Text.{Text, bytes}
 use Rattle.fancy_lex.specs.declared.flags.Flags.{Flags}
-use Rattle.fancy_parts.specs.Ranks.{is_named, only_named, named_groups, numbers, name_cmp}
-use Rattle.fancy_parts.specs.Ranks.{Opening, is_name, numbers_from, names, numbered_openings}
+use Rattle.fancy_grammar.specs.Ranks.{is_named, only_named, named_groups, numbers, name_cmp}
+use Rattle.fancy_grammar.specs.Ranks.{Opening, is_name, numbers_from, names, numbered_openings}
 use Rattle.fancy_grammar.specs.ParseResult.{IsTreeOf}
 use Rattle.fancy_grammar.specs.ParsedTree.{IsParsedTreeWith, groups_referred, has_call}
 use Rattle.fancy_grammar.specs.Grammar.{whole, DerivesTree}
@@ -35,7 +35,7 @@ use Rattle.fancy_grammar.proofs.ReadAsLaws.{read_as}
 use Rattle.fancy_pattern.proofs.PatternLaws.Absent.{repeater_reads, stopper_reads, expression_reads}
 use Rattle.fancy_pattern.proofs.PatternLaws.Becomes.{Becomes, opened, AreGroups, IsOpening, count_after}
 use Rattle.std.proofs.Common.{Some}
-use Rattle.fancy_parts.specs.Ranks.{is_counted, numbered_openings_in}
+use Rattle.fancy_grammar.specs.Ranks.{is_counted, numbered_openings_in}
 use Rattle.fancy_grammar.specs.Resolved.{first_error, resolved_in}
 use Rattle.fancy_grammar.specs.Items.{meanings_in}
 use Rattle.fancy_grammar.proofs.Writable.{AreNodesWritable, AreAllWritable, ArePieces, IsWritable, info_openings}

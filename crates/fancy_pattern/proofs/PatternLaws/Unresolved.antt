@@ -17,8 +17,8 @@ use Rattle.fancy_lex.specs.Referred.{call_to, target_of_name}
 use Rattle.fancy_lex.specs.Target.{Target, by_number, by_name, relative}
 use Rattle.fancy_lex.specs.Text.{Text, reach_of}
 use Rattle.fancy_lex.specs.declared.flags.Flags.{Flags}
-use Rattle.fancy_parts.specs.GroupReference.{named_call}
-use Rattle.fancy_parts.specs.Meaning.{call, refers_to, unresolved}
+use Rattle.fancy_lex.specs.GroupReference.{named_call}
+use Rattle.fancy_grammar.specs.Meaning.{call, refers_to, unresolved}
 use Rattle.fancy_grammar.specs.AtomStart.{read, leaf_node, leaf_outcome, call_node}
 use Rattle.fancy_grammar.specs.Depth.{max_depth}
 use Rattle.fancy_grammar.specs.Grammar.{atom, a_read}

@@ -1,8 +1,8 @@
 //! What the loop finds of the capturing groups and the references of a text as it reads them.
 ghost use Rattle.std.specs.Prelude.{◌≡◌, ℕ, Bool, ◌+◌, ◌≤◌, ◌<◌, ◌^◌, ◌&&◌, List, [], ◌∷◌, length, IfOk};
 ghost use Rattle.std.specs.List.{list_any};
-ghost use Rattle.fancy_parts.specs.Groups.{groups_of, groups_in};
-ghost use Rattle.fancy_parts.specs.Ranks.{Opening, is_named, numbered_openings_in};
+ghost use Rattle.fancy_grammar.specs.Groups.{groups_of, groups_in};
+ghost use Rattle.fancy_grammar.specs.Ranks.{Opening, is_named, numbered_openings_in};
 ghost use Rattle.fancy_grammar.specs.Items.{Item, items, openings_in};
 ghost use Rattle.fancy_grammar.specs.Preorder.{preorder};
 ghost use Rattle.fancy_syntax.specs.Decided.{IsDecidedKind};
@@ -14,7 +14,7 @@ ghost use Rattle.fancy_syntax.specs.View.{view};
 use crate::expr::Expr;
 use crate::grammar::group::kind::GroupKind;
 use crate::raw_tree::RawTree;
-use fancy_parts::ranks::Groups;
+use fancy_grammar::ranks::Groups;
 use std::alloc::{AllocError, Global};
 
 /// The capturing groups that have opened so far, and whether there is anything to resolve.

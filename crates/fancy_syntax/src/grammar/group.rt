@@ -3,10 +3,10 @@ ghost use Rattle.std.specs.Prelude.{◌≡◌, ◌<◌, ◌≤◌, length, chars
 ghost use Rattle.std.specs.Prelude.{MatchResult};
 ghost use Rattle.fancy_lex.specs.ErrorTable.{unknown_verb};
 ghost use Rattle.fancy_lex.specs.Text.{strip_word};
-ghost use Rattle.fancy_parts.specs.LetterSteps.{letters};
-ghost use Rattle.fancy_parts.specs.GroupName as names;
-ghost use Rattle.fancy_parts.specs.NameDelimiter.{delimiter_of};
-ghost use Rattle.fancy_parts.specs.GroupReference as references;
+ghost use Rattle.fancy_lex.specs.LetterSteps.{letters};
+ghost use Rattle.fancy_lex.specs.GroupName as names;
+ghost use Rattle.fancy_lex.specs.NameDelimiter.{delimiter_of};
+ghost use Rattle.fancy_lex.specs.GroupReference as references;
 ghost use Rattle.fancy_grammar.specs.AtomStart.{read, of_kind};
 ghost use Rattle.fancy_grammar.specs.GroupKind as kind;
 ghost use Rattle.fancy_grammar.specs.State.{at, skipped, after_skipped};
@@ -23,12 +23,12 @@ use crate::grammar::group::kind::GroupKind;
 use crate::grammar::reference::{backref, condition, subroutine_call};
 use crate::grammar::state::{State, skip_layout};
 use fancy_lex::error::{ParseError, ReadError};
-use fancy_lex::text::{AT_END, after, after_word, next, reach};
-use fancy_parts::group_starts::names::{ClosingDelimiter, group_name};
-use fancy_parts::group_starts::references::{
+use fancy_lex::group_starts::names::{ClosingDelimiter, group_name};
+use fancy_lex::group_starts::references::{
     begins_target, condition_target, named_call, named_reference,
 };
-use fancy_parts::group_starts::{Letters, flag_letters};
+use fancy_lex::group_starts::{Letters, flag_letters};
+use fancy_lex::text::{AT_END, after, after_word, next, reach};
 use std::alloc::Global;
 
 /// Reads what follows a parenthesis: the kind of the group, if it is written there.

@@ -17,11 +17,11 @@ use crate::grammar::spanning::Spanning;
 use crate::grammar::state::{State, skip_layout};
 use crate::grammar::trees::is_empty;
 use fancy_grammar::depth::MAX_DEPTH;
+use fancy_lex::counts::Counts;
 use fancy_lex::error::{ParseError, ReadError};
 use fancy_lex::flags::Flags;
+use fancy_lex::group_starts::counts;
 use fancy_lex::text::{Reach, after, byte_len, reach, reach_before};
-use fancy_parts::counts::Counts;
-use fancy_parts::group_starts::counts;
 use std::alloc::{AllocError, Global};
 use std::mem;
 

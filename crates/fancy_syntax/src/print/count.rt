@@ -1,19 +1,19 @@
 //! The number of bytes that a tree is printed as, or `usize::MAX` if a word cannot hold it.
 ghost use Rattle.std.specs.Prelude.{◌≡◌, ◌++◌, codes, if◌then◌else◌, []};
 ghost use Rattle.fancy_lex.specs.Text.{Text, bytes};
-ghost use Rattle.fancy_parts.specs.Quote.{quantifier};
-ghost use Rattle.fancy_parts.specs.Capacity.{in_word};
+ghost use Rattle.fancy_grammar.specs.Quote.{quantifier};
+ghost use Rattle.fancy_syntax.specs.Capacity.{in_word};
 ghost use Rattle.fancy_grammar.specs.Printed.{printed, operand_text, printed_all, printed_branches, grouped, caseless};
 ghost use Rattle.fancy_grammar.specs.Tree.{trees_of};
 ghost use Rattle.fancy_syntax.specs.View.{view, views};
 
 use crate::expr::Expr;
 use crate::print::fixed::{any_text, assertion_text};
+use crate::print::quote::{quantifier_len, quotes_len};
 use crate::print::repeated::is_long;
+use crate::print::reserved::ascii_len;
 use crate::print::{BRANCH, OPERAND, PIECE, WHOLE};
 use fancy_lex::text::byte_len;
-use fancy_parts::quote::{quantifier_len, quotes_len};
-use fancy_parts::reserved::ascii_len;
 
 /// With a group's parentheses, if asked for.
 #[inline]

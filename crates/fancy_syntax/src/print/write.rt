@@ -1,18 +1,18 @@
 //! Writes a tree's text into a string with capacity for it.
 ghost use Rattle.std.specs.Prelude.{◌≡◌, ◌++◌, codes, if◌then◌else◌, [], nat_lt, true, chars};
 ghost use Rattle.std.specs.List.{list_all};
-ghost use Rattle.fancy_parts.specs.Quote.{quotes, quantifier};
-ghost use Rattle.fancy_parts.specs.Capacity.{HasCapacity, Appended};
+ghost use Rattle.fancy_grammar.specs.Quote.{quotes, quantifier};
+ghost use Rattle.fancy_syntax.specs.Capacity.{HasCapacity, Appended};
 ghost use Rattle.fancy_grammar.specs.Printed.{printed, operand_text, printed_all, printed_branches, grouped, caseless};
 ghost use Rattle.fancy_grammar.specs.Tree.{trees_of};
 ghost use Rattle.fancy_syntax.specs.View.{view, views};
 
 use crate::expr::Expr;
 use crate::print::fixed::{any_text, assertion_text};
+use crate::print::quote::{put_quantifier, put_quotes};
 use crate::print::repeated::is_long;
+use crate::print::reserved::{put, put_ascii, put_text};
 use crate::print::{BRANCH, OPERAND, PIECE, WHOLE};
-use fancy_parts::quote::{put_quantifier, put_quotes};
-use fancy_parts::reserved::{put, put_ascii, put_text};
 
 /// Writes a text of ASCII characters, if asked for.
 #[inline]

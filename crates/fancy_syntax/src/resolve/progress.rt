@@ -2,17 +2,17 @@
 ghost use Rattle.std.specs.Prelude.{◌≡◌, ◌<◌, IfOk, IfErr, Option, Some};
 ghost use Rattle.fancy_lex.specs.Located.{Located};
 ghost use Rattle.fancy_lex.specs.IdReference.{amount_bound};
-ghost use Rattle.fancy_parts.specs.Groups.{meaning_of};
+ghost use Rattle.fancy_grammar.specs.Groups.{meaning_of};
 ghost use Rattle.fancy_grammar.specs.Errors.{IsErrorIn};
 ghost use Rattle.fancy_syntax.specs.WalkViews.{IsErrorRecorded, progress_of, number_referred_to, recorded_one, form_recorded};
 ghost use Rattle.fancy_syntax.specs.WalkViews.{meaning_recorded};
 ghost use Rattle.fancy_grammar.specs.Walk.{nothing_recorded, number_in};
 
+use fancy_grammar::ranks::{Groups, Meaning, Role, meaning_after};
+use fancy_grammar::written::is_numeric;
 use fancy_lex::error::ReadError;
 use fancy_lex::name::CaptureGroupTarget;
 use fancy_lex::text::{Reach, position_at};
-use fancy_parts::ranks::{Groups, Meaning, Role, meaning_after};
-use fancy_parts::written::is_numeric;
 use std::alloc::Global;
 use std::collections::BTreeSet;
 use std::mem;

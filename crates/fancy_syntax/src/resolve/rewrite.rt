@@ -9,17 +9,17 @@ ghost use Rattle.fancy_syntax.specs.Regrouped.{raw, regrouped, regrouped_all};
 ghost use Rattle.fancy_syntax.specs.WalkViews.{Walks, scope_of, progress_of};
 ghost use Rattle.fancy_grammar.specs.Resolved.{reference_node};
 ghost use Rattle.fancy_grammar.specs.Tree.{trees_of, ast_group};
-ghost use Rattle.fancy_parts.specs.Meaning.{number};
-ghost use Rattle.fancy_parts.specs.Ranks.{is_counted};
+ghost use Rattle.fancy_grammar.specs.Meaning.{number};
+ghost use Rattle.fancy_grammar.specs.Ranks.{is_counted};
 ghost use Rattle.fancy_grammar.specs.Label.{ast_backref};
 ghost use Rattle.fancy_syntax.specs.View.{view, view_absent, view_ast, views};
 ghost use Rattle.fancy_grammar.specs.Walk.{resolved_by, all_resolved_by};
 
 use crate::expr::{Absent, AstNode, Expr};
 use crate::resolve::progress::{Progress, Scope, Stopped, refer};
+use fancy_grammar::ranks::Role;
 use fancy_lex::name::CaptureGroupTarget;
 use fancy_lex::text::{Reach, position_at};
-use fancy_parts::ranks::Role;
 use std::mem;
 
 /// Resolves the tree in place, or returns the first error of its references.

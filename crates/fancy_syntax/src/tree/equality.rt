@@ -2,7 +2,7 @@
 ghost use Rattle.std.specs.Prelude.{◌≡◌, ◌&&◌, map, nat_eq, Decides};
 ghost use Rattle.std.specs.Option.{option_eq};
 ghost use mathlib.Core.Bool.{beq};
-ghost use Rattle.fancy_parts.specs.Groups.{entry_of};
+ghost use Rattle.fancy_grammar.specs.Groups.{entry_of};
 ghost use Rattle.fancy_grammar.specs.ReadAs.{unpositioned};
 ghost use Rattle.fancy_syntax.specs.InfoViews.{info_of};
 ghost use Rattle.fancy_syntax.specs.View.{view};

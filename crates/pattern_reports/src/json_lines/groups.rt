@@ -2,9 +2,9 @@
 use crate::json_lines::fields::{write_bool, write_number, write_span, write_text};
 use crate::json_lines::node::{write_own, write_some_number};
 use fancy_lex::flags::Flags;
-use fancy_spans::SpannedNode;
 use fancy_syntax::expr::Expr;
 use fancy_syntax::span::Span;
+use fancy_syntax::spanned::SpannedNode;
 use fancy_syntax::tree::ExprTree;
 use fancy_syntax::trivium::{Trivium, TriviumKind};
 use json::Writer;

@@ -2,8 +2,8 @@
 use crate::json_lines::fields::{write_bool, write_number, write_span, write_text};
 use fancy_lex::escape::Assertion;
 use fancy_lex::name::CaptureGroupTarget;
-use fancy_spans::SpannedNode;
 use fancy_syntax::expr::{Absent, AstNode, Expr};
+use fancy_syntax::spanned::SpannedNode;
 use fre_program::names::{
     absent_name, assertion_name, crlf_of, look_around_name, node_name, verb_name,
 };
@@ -83,7 +83,9 @@ fn write_reference_fields(writer: &mut Writer, node: &Expr) -> Result<(), AllocE
     {
         write_level(writer, "relative_recursion_level", *level)?;
     }
-    if let Expr::Backref { casei, .. } | Expr::BackrefWithRelativeRecursionLevel { casei, .. } = node {
+    if let Expr::Backref { casei, .. }
+    | Expr::BackrefWithRelativeRecursionLevel { casei, .. } = node
+    {
         write_bool(writer, "casei", *casei)?;
     }
     if let Expr::AstNode(AstNode::SubroutineCall(target), position) = node {

@@ -1,6 +1,6 @@
 use Rattle.std.proofs.Common.{◌<◌, ◌∙◌, ap, sym, subst, arith, map}
 use Rattle.std.specs.List.{AllByRecursion}
-use Rattle.fancy_spans.specs.Spanned.{remaining_spanned, spanned_of}
+use Rattle.fancy_syntax.specs.Spanned.{remaining_spanned, spanned_of}
 use Rattle.fancy_syntax.specs.Tree.{levels}
 use Rattle.fancy_syntax.specs.View.{view, views}
 use Rattle.fancy_syntax.proofs.Descents.{within_start, within_first, within_next, levels_of_child}

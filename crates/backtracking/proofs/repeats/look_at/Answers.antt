@@ -1,5 +1,5 @@
 use Rattle.std.proofs.Common.{sym, subst, ◌∙◌}
-use Rattle.fancy_spans.specs.Spanned.{spanned_of}
+use Rattle.fancy_syntax.specs.Spanned.{spanned_of}
 use Rattle.fancy_syntax.specs.View.{view}
 use Rattle.backtracking.specs.Witnessed.{IsWitnessed, IsExponential}
 use Rattle.backtracking.proofs.RepeatLemmas.{repeats}

@@ -1,7 +1,7 @@
 use Rattle.std.proofs.Common.{sym, ◌∙◌, subst}
 use Rattle.std.specs.List.{AllByRecursion}
 use Rattle.fancy_grammar.proofs.OutcomeLemmas.{each_append}
-use Rattle.fancy_spans.specs.Spanned.{spanned_of}
+use Rattle.fancy_syntax.specs.Spanned.{spanned_of}
 use Rattle.fancy_syntax.specs.View.{views}
 use Rattle.backtracking.proofs.SequenceLemmas.{pairs_in}
 use Rattle.backtracking.specs.SlowSequences.{IsSlowSequenceIn}

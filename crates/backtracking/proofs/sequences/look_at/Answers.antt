@@ -1,5 +1,5 @@
 use Rattle.std.proofs.Common.{sym, ◌∙◌}
-use Rattle.fancy_spans.specs.Spanned.{spanned_of}
+use Rattle.fancy_syntax.specs.Spanned.{spanned_of}
 use Rattle.backtracking.proofs.SequenceLemmas.{concat_of}
 use Rattle.backtracking.proofs.sequences.look_at.Goals as goal
 

@@ -1,5 +1,5 @@
 use Rattle.std.proofs.Common.{ap, map, length, arith}
-use Rattle.fancy_parts.specs.Groups.{entry_of}
+use Rattle.fancy_grammar.specs.Groups.{entry_of}
 use Rattle.fancy_c.proofs.NameRowLemmas.{names_count_next}
 use Rattle.fancy_c.proofs.NodeLemmas.{string_text}
 use Rattle.fancy_c.proofs.info_rows.count_names.Goals as goal

@@ -1,5 +1,5 @@
 use Rattle.std.proofs.Common.{map}
-use Rattle.fancy_parts.specs.Groups.{entry_of}
+use Rattle.fancy_grammar.specs.Groups.{entry_of}
 use Rattle.fancy_c.proofs.NameRowLemmas.{CountingNames}
 use Rattle.fancy_c.proofs.info_rows.count_names.Given as goal
 

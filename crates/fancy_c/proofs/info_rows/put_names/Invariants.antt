@@ -1,5 +1,5 @@
 use Rattle.std.proofs.Common.{map}
-use Rattle.fancy_parts.specs.Groups.{entry_of}
+use Rattle.fancy_grammar.specs.Groups.{entry_of}
 use Rattle.fancy_c.proofs.NameRowLemmas.{PuttingNames}
 use Rattle.fancy_c.proofs.info_rows.put_names.Given as goal
 

@@ -1,4 +1,4 @@
-use Rattle.std.proofs.Common.{chars, subst, sym, ◌∙◌}
+use Rattle.std.proofs.Common.{◌≡◌, Bool, false, Decides, chars, subst, sym, ◌∙◌}
 use Rattle.std.proofs.lemmas.Bool.{false≢true}
 use Rattle.fancy_lex.specs.Flags.{flags_of}
 use Rattle.fancy_grammar.specs.ReadAs.{IsReadAs}
@@ -6,6 +6,9 @@ use Rattle.fancy_grammar.proofs.ReadAsLaws.{read_as, read_as_only}
 use Rattle.fancy_syntax.specs.View.{view}
 use Rattle.fancy_pattern.proofs.WritesLemmas.{ok_then}
 use Rattle.fancy_pattern.proofs.same.is_read_as.Goals as goal
+
+decides_false : {Q : Type 0} (b : Bool) → b ≡ false → (Q → ⊥) → Decides b Q
+decides_false b e f = (λ h. absurd (false≢true (sym e ∙ h)), λ q. absurd (f q))
 
 pub returns-in-Ok : goal.returns-in-Ok
 returns-in-Ok c = (
@@ -19,4 +22,4 @@ returns-in-Ok c = (
 pub returns-in-Err : goal.returns-in-Err
 returns-in-Err c =
     ok_then _ _ _ (c.is_read_after.ensures (flags_of c.args.flags) (chars c.args.text.now) c.in-Err.ensures.error)
-    (λ b found. (λ h. absurd (false≢true (sym found.0 ∙ h)), λ r. absurd (found.1 r.0 _ r.1.is)))
+    (λ b found. decides_false b found.0 (λ r. found.1 r.0 _ r.1.is))

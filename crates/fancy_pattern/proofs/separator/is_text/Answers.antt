@@ -1,7 +1,7 @@
 use Rattle.std.proofs.Common.{ap, chars, ◌∙◌}
 use Rattle.std.specs.Str.{bytes_eq}
 use Rattle.std.proofs.lemmas.Str.{chars-IsAscii}
-use Rattle.fancy_parts.proofs.CapacityLemmas.{ascii}
+use Rattle.fancy_syntax.proofs.CapacityLemmas.{ascii}
 use Rattle.fancy_pattern.proofs.separator.is_text.Goals as goal
 
 pub returns : goal.returns

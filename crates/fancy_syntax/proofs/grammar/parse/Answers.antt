@@ -1,8 +1,8 @@
 use Rattle.std.proofs.Common.{ap, ◌∙◌, subst}
 use Rattle.std.proofs.lemmas.Result.{err_from_is_err_and}
 use Rattle.std.specs.Str.{chars}
-use Rattle.fancy_parts.specs.Groups.{groups_in}
-use Rattle.fancy_parts.specs.Ranks.{numbered_openings_in}
+use Rattle.fancy_grammar.specs.Groups.{groups_in}
+use Rattle.fancy_grammar.specs.Ranks.{numbered_openings_in}
 use Rattle.fancy_grammar.specs.Grammar.{Alternation, Whole, whole, start}
 use Rattle.fancy_grammar.specs.Items.{items, openings_in}
 use Rattle.fancy_grammar.specs.State.{done}

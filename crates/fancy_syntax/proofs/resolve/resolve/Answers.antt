@@ -2,8 +2,8 @@ use Rattle.std.proofs.Common.{◌≡◌, ◌+◌, true, Option, arith, chars, le
 use Rattle.std.specs.List.{list_any}
 use Rattle.fancy_lex.specs.Text.{Text}
 use Rattle.fancy_lex.specs.declared.flags.Flags.{Flags}
-use Rattle.fancy_parts.specs.Groups.{Groups, groups_in, groups_of}
-use Rattle.fancy_parts.specs.Ranks.{is_counted, is_named, numbered_openings_in}
+use Rattle.fancy_grammar.specs.Groups.{Groups, groups_in, groups_of}
+use Rattle.fancy_grammar.specs.Ranks.{is_counted, is_named, numbered_openings_in}
 use Rattle.fancy_grammar.specs.Errors.{IsErrorIn}
 use Rattle.fancy_grammar.specs.Grammar.{DerivesTree}
 use Rattle.fancy_grammar.specs.Items.{items, openings, openings_in}

@@ -5,7 +5,7 @@ use Rattle.fancy_lex.specs.declared.error.ReadError.{ReadError}
 use Rattle.fancy_lex.specs.declared.flags.Flags.{Flags}
 use Rattle.fancy_grammar.specs.ParseResult.{IsTreeOf}
 use Rattle.fancy_grammar.specs.Grammar.{DerivesTree}
-use Rattle.fancy_parts.specs.Ranks.{only_named}
+use Rattle.fancy_grammar.specs.Ranks.{only_named}
 use Rattle.fancy_grammar.specs.Items.{openings}
 use Rattle.fancy_grammar.specs.GroupInfo.{GroupInfo, group_info}
 use Rattle.fancy_grammar.specs.Spans.{AreSpansOf, positioned}

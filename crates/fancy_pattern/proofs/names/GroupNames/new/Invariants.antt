@@ -1,5 +1,5 @@
 use Rattle.std.proofs.Common.{map}
-use Rattle.fancy_parts.specs.Groups.{entry_of}
+use Rattle.fancy_grammar.specs.Groups.{entry_of}
 use Rattle.fancy_pattern.proofs.NamesLemmas.{NamingAll}
 use Rattle.fancy_pattern.proofs.names.GroupNames.new.Given as goal
 

@@ -1,6 +1,6 @@
 use Rattle.std.proofs.Common.{arith, rules, ap, ◌++◌, ◌∙◌}
 use Rattle.std.specs.Prelude.{encode_utf8_all}
-use Rattle.fancy_parts.proofs.CapacityLemmas.{capacity_counted}
+use Rattle.fancy_syntax.proofs.CapacityLemmas.{capacity_counted}
 use Rattle.fancy_grammar.specs.Printed.{printed}
 use Rattle.fancy_syntax.specs.View.{view}
 use Rattle.fancy_syntax.proofs.PrintLemmas.{added, bytes_none}

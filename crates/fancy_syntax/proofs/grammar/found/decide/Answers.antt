@@ -1,5 +1,5 @@
 use Rattle.std.proofs.Common.{ap, arith}
-use Rattle.fancy_parts.specs.Groups.{Groups, groups_of}
+use Rattle.fancy_grammar.specs.Groups.{Groups, groups_of}
 use Rattle.fancy_syntax.proofs.FoundLemmas.{all_groups, none_named, some_named}
 use Rattle.fancy_syntax.proofs.grammar.found.decide.Goals as goal
 

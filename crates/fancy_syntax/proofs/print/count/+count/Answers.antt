@@ -1,7 +1,7 @@
 use Rattle.std.proofs.Common.{◌≡◌, ◌++◌, ◌+◌, append_assoc, [], false, nat_lt, rules, codes, sym, ◌∙◌, ap, chars, arith}
-use Rattle.fancy_parts.proofs.CapacityLemmas.{counting_as, counting_later, counting_ends}
+use Rattle.fancy_syntax.proofs.CapacityLemmas.{counting_as, counting_later, counting_ends}
 use Rattle.fancy_lex.specs.Text.{bytes}
-use Rattle.fancy_parts.specs.Quote.{quotes}
+use Rattle.fancy_grammar.specs.Quote.{quotes}
 use Rattle.fancy_grammar.specs.Printed.{printed, printed_all, caseless}
 use Rattle.fancy_syntax.specs.View.{view}
 use Rattle.fancy_syntax.specs.declared.expr.Expr.{the_lemmas}

@@ -1,7 +1,7 @@
 use Rattle.std.proofs.Common.{◌≡◌, ◌++◌, ◌+◌, ◌∙◌, [], false, nat_lt, rules, codes, chars, sym, subst}
-use Rattle.fancy_parts.proofs.CapacityLemmas.{writing_as, writing_capacity, writing_later, writing_ends, written_as}
-use Rattle.fancy_parts.specs.Quote.{quotes}
-use Rattle.fancy_parts.specs.Capacity.{HasCapacity}
+use Rattle.fancy_syntax.proofs.CapacityLemmas.{writing_as, writing_capacity, writing_later, writing_ends, written_as}
+use Rattle.fancy_grammar.specs.Quote.{quotes}
+use Rattle.fancy_syntax.specs.Capacity.{HasCapacity}
 use Rattle.fancy_grammar.specs.Printed.{printed, printed_all, caseless}
 use Rattle.fancy_syntax.specs.View.{view}
 use Rattle.fancy_syntax.specs.declared.expr.Expr.{the_lemmas}

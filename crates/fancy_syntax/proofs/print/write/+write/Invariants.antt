@@ -1,4 +1,4 @@
-use Rattle.fancy_parts.proofs.CapacityLemmas.{Writing}
+use Rattle.fancy_syntax.proofs.CapacityLemmas.{Writing}
 use Rattle.fancy_grammar.specs.Printed.{printed_all}
 use Rattle.fancy_syntax.proofs.PrintLemmas.{left, branches}
 use Rattle.fancy_syntax.proofs.print.write.+write.Given as goal

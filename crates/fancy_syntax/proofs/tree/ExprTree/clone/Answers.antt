@@ -1,7 +1,7 @@
 use Rattle.std.proofs.Common.{◌≡◌, ℕ, List, [], ◌∷◌, String, string_bytes, Vec, Global, chars, refl, ap, map}
 use Rattle.std.specs.List.{AllZip, each_same}
 use Rattle.std.specs.Vec.{vec_len}
-use Rattle.fancy_parts.specs.Groups.{entry_of}
+use Rattle.fancy_grammar.specs.Groups.{entry_of}
 use Rattle.fancy_syntax.proofs.tree.ExprTree.clone.Goals as goal
 
 named_same : (es fs : List (String Global × Vec ℕ Global)) →

@@ -1,5 +1,5 @@
 use Rattle.std.proofs.Common.{◌≡◌, ◌+◌, [], ◌∷◌, refl, true, ap, sym, subst, not, option_map, chars, ◌∙◌}
-use Rattle.fancy_parts.specs.Ranks.{is_counted}
+use Rattle.fancy_grammar.specs.Ranks.{is_counted}
 use Rattle.fancy_grammar.specs.GroupKind.{capture}
 use Rattle.fancy_grammar.specs.Items.{opening}
 use Rattle.fancy_syntax.specs.Found.{FindsMore, group_opening}

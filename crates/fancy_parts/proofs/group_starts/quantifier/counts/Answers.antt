@@ -1,5 +1,0 @@
-use Rattle.fancy_parts.proofs.CountLaws.{counts_cut}
-use Rattle.fancy_parts.proofs.group_starts.quantifier.counts.Goals as goal
-
-pub returns-clause-cut : goal.returns-clause-cut
-returns-clause-cut c = counts_cut _ _ c.read_counts.result c.read_counts.ensures.value
