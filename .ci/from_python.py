@@ -490,11 +490,19 @@ def is_command_right():
         wanted = "2:3: Opening parenthesis without closing parenthesis", "3:3: Invalid character class", "4:1: Not UTF-8"
         formatted = subprocess.run([*command, "format", "-"], input="(?: a|b)\n", capture_output=True, text=True)
         missing = subprocess.run([*command, "check", f"{file}.none"], capture_output=True, text=True)
+        drawn = subprocess.run([*command, "tree", "(?<y>a+)|b"], capture_output=True, text=True)
+        nodes = (
+            "Alt 0-10", "  Group 0-8 group=1 name='y'", "    Repeat 5-7 lo=1 hi=None greedy=True",
+            "      Literal 5-6 text='a' casei=False", "  Literal 9-10 text='b' casei=False",
+        )  # fmt: skip
+        invalid = subprocess.run([*command, "tree", "(é"], capture_output=True, text=True)
         return (
             (checked.returncode, checked.stderr) == (1, "")
             and checked.stdout == "".join(f"{file}:{line}\n" for line in wanted)
             and (formatted.returncode, formatted.stdout) == (0, " a|b\n")
             and missing.returncode == 2
+            and (drawn.returncode, drawn.stdout) == (0, "".join(f"{it}\n" for it in nodes))
+            and (invalid.returncode, invalid.stderr) == (1, "character 3: Opening parenthesis without closing parenthesis\n")
             and subprocess.run([*command, "check", "--flags", "q"], capture_output=True).returncode == 2
         )
 

@@ -23,8 +23,8 @@ the environment variable FANCY_LIBRARY names; or else `libfancy.so.2` or `libfan
 once. A library that is newer than the module may have a kind that this does not know: then `RuntimeError` is raised. Python
 3.8 or later.
 
-On the command line, `python -m fancy check FILE` reports each line of a file that is not a valid pattern, and
-`python -m fancy extract FILE` writes the patterns of source files as records in JSON.
+On the command line, `python -m fancy tree PATTERN` writes the nodes of a pattern, `python -m fancy check FILE` reports each line
+of a file that is not a valid pattern, and `python -m fancy extract FILE` writes the patterns of source files as records in JSON.
 """
 
 from __future__ import annotations
@@ -1172,37 +1172,70 @@ def _lines(name: str) -> Iterator[Tuple[int, Pattern]]:
             yield number, line
 
 
-def _main(arguments: Optional[Sequence[str]] = None) -> int:
-    parser = argparse.ArgumentParser(prog="python -m fancy", description="Checks and formats files of patterns.")
-    parser.add_argument("--version", action="version", version=f"libfancy {__version__}")
-    subcommands = parser.add_subparsers(dest="subcommand", required=True, metavar="check|format|extract")
-    for name, summary in {
-        "check": "reports each line that is not a valid pattern, as FILE:LINE:COLUMN: message",
-        "format": "writes each pattern in one form and without its comments, or as it is if it is invalid",
-    }.items():
-        subcommand = subcommands.add_parser(name, help=summary, description=f"{name} {summary}.")
-        subcommand.add_argument("--flags", type=_flags, default=UNICODE, metavar="LETTERS", help=f"of {_LETTERS}")
-        subcommand.add_argument("files", nargs="*", default=["-"], metavar="FILE", help="one pattern per line; - is standard input")
-    # it is run before the library is loaded
-    subcommands.add_parser("extract", help="writes the patterns of source files as records in JSON", add_help=False)
-    given = parser.parse_args(arguments)
+def _node_lines(tree: Tree) -> Iterator[str]:
+    """A line for each node: its kind, its span, and its own fields. It is further to the right than that of its parent."""
+    ahead: List[Tuple[int, Node]] = [(0, tree.root)]
+    while ahead:
+        depth, node = ahead.pop()
+        start, stop = node.span
+        values = [(it, getattr(node, it)) for it in type(node).__match_args__[:-3]]
+        fields = [f" {name}={it.name if isinstance(it, enum.Enum) else repr(it)}" for name, it in values]
+        yield f"{'  ' * depth}{node.kind} {start}-{stop}{''.join(fields)}"
+        ahead.extend((depth + 1, it) for it in reversed(node.children))
+
+
+def _write_tree(pattern: str, flags: int) -> int:
+    try:
+        tree = parse(pattern, flags)
+    except Error as error:
+        print(f"character {error.position + 1}: {error.message}", file=sys.stderr)
+        return 1
+    for line in _node_lines(tree):
+        print(line)
+    return 0
+
+
+def _write_lines(subcommand: str, files: Sequence[str], flags: int) -> int:
     status = 0
-    for file in given.files:
+    for file in files:
         try:
             for number, pattern in _lines(file):
-                error = check(pattern, given.flags)
+                error = check(pattern, flags)
                 if error is not None:
                     status = max(status, 1)
-                    where = sys.stdout if given.subcommand == "check" else sys.stderr
+                    where = sys.stdout if subcommand == "check" else sys.stderr
                     print(f"{file}:{number}:{error.position + 1}: {error.message}", file=where)
-                if given.subcommand == "format":
-                    text = pattern if error is not None else format(pattern, given.flags)
+                if subcommand == "format":
+                    text = pattern if error is not None else format(pattern, flags)
                     sys.stdout.flush()
                     sys.stdout.buffer.write((text.encode() if isinstance(text, str) else text) + b"\n")
         except OSError as error:
             print(f"{file}: {error.strerror}", file=sys.stderr)
             status = 2
     return status
+
+
+def _main(arguments: Optional[Sequence[str]] = None) -> int:
+    parser = argparse.ArgumentParser(prog="python -m fancy", description="Shows a pattern, or checks and formats files of patterns.")
+    parser.add_argument("--version", action="version", version=f"libfancy {__version__}")
+    subcommands = parser.add_subparsers(dest="subcommand", required=True, metavar="tree|check|format|extract")
+    for name, summary in {
+        "tree": "writes the nodes of a pattern, each with its span and its fields",
+        "check": "reports each line that is not a valid pattern, as FILE:LINE:COLUMN: message",
+        "format": "writes each pattern in one form and without its comments, or as it is if it is invalid",
+    }.items():
+        subcommand = subcommands.add_parser(name, help=summary, description=f"{name} {summary}.")
+        subcommand.add_argument("--flags", type=_flags, default=UNICODE, metavar="LETTERS", help=f"of {_LETTERS}")
+        if name == "tree":
+            subcommand.add_argument("pattern", metavar="PATTERN")
+        else:
+            subcommand.add_argument("files", nargs="*", default=["-"], metavar="FILE", help="one pattern per line; - is standard input")
+    # it is run before the library is loaded
+    subcommands.add_parser("extract", help="writes the patterns of source files as records in JSON", add_help=False)
+    given = parser.parse_args(arguments)
+    if given.subcommand == "tree":
+        return _write_tree(given.pattern, given.flags)
+    return _write_lines(given.subcommand, given.files, given.flags)
 
 
 if __name__ == "__main__":
