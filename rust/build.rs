@@ -1,5 +1,6 @@
-//! Finds libfancy: in the folder `FANCY_LIB_DIR`, or else where pkg-config says, or else in `../c/out`. A relative `FANCY_LIB_DIR` begins
-//! in the folder where cargo runs. A library that is too old for the crate is refused, if its version can be found out.
+//! Finds libfancy: in the folder `FANCY_LIB_DIR`, or else with the feature `vendored` in the folder `vendored` of this package, or else
+//! where pkg-config says, or else in `../c/out`. A relative `FANCY_LIB_DIR` begins in the folder where cargo runs. A library that is too
+//! old for the crate is refused, if its version can be found out.
 use std::path::{Path, PathBuf};
 use std::process::{exit, Command};
 use std::{env, fs};
@@ -43,8 +44,19 @@ fn folders() -> Vec<PathBuf> {
     if let Some(folder) = given() {
         return vec![absolute(&folder)];
     }
-    let built = env::var_os("CARGO_MANIFEST_DIR").map(|folder| absolute(&Path::new(&folder).join("../c/out")));
-    from_pkg_config().into_iter().chain(built).collect()
+    if is_vendored() {
+        return vec![in_package("vendored")];
+    }
+    from_pkg_config().into_iter().chain([in_package("../c/out")]).collect()
+}
+
+fn is_vendored() -> bool {
+    env::var_os("CARGO_FEATURE_VENDORED").is_some()
+}
+
+/// A folder by its path from that of this package.
+fn in_package(path: &str) -> PathBuf {
+    absolute(&Path::new(&env::var_os("CARGO_MANIFEST_DIR").unwrap_or_default()).join(path))
 }
 
 /// The folder that `FANCY_LIB_DIR` names. If it is relative, it is looked for again where cargo runs in another folder.
@@ -123,6 +135,10 @@ fn advice(file: &str) -> String {
         Some(folder) => {
             format!("there is no {file} in {}: set FANCY_LIB_DIR to the folder that contains it", folder.display())
         }
+        None if is_vendored() => format!(
+            "there is no {file} in {}: the feature `vendored` is for the package that `make dist` writes, and only links libfancy.a",
+            in_package("vendored").display()
+        ),
         None => format!(
             "{file} was not found: build it with `make -C c` at the top of the repository, or set FANCY_LIB_DIR to the \
              folder that contains it"
