@@ -1,7 +1,7 @@
 # Installs the programs: `make install` proves and builds `patterns` and `fre`, and installs them below PREFIX with their man pages and the
 # completions of `patterns` for bash, zsh and fish, inside DESTDIR where that is set. The library for C is installed by `make -C c install`.
 # `make uninstall` with the same variables removes the files. Needs the toolchain. The first build takes about half an hour on four processors;
-# after `rt ci` it takes seconds.
+# after `rt ci` it takes seconds. `make dist` packs what was built, for machines without the toolchain.
 PREFIX = /usr/local
 BINDIR = $(PREFIX)/bin
 DATADIR = $(PREFIX)/share
@@ -32,4 +32,7 @@ uninstall:
 	    $(DESTDIR)$(DATADIR)/bash-completion/completions/patterns $(DESTDIR)$(DATADIR)/zsh/site-functions/_patterns \
 	    $(DESTDIR)$(DATADIR)/fish/vendor_completions.d/patterns.fish
 
-.PHONY: all install uninstall
+dist:
+	tools/dist
+
+.PHONY: all install uninstall dist
