@@ -53,7 +53,7 @@ def main() -> None:
             (root / os.readlink(f"/{it}")).mkdir(parents=True, exist_ok=True)
             (root / it).symlink_to(os.readlink(f"/{it}"))
     listed = subprocess.run(["dpkg", "-L", *packages], capture_output=True, text=True, check=True).stdout
-    files = {it for it in listed.split("\n") if it.startswith("/") and os.path.lexists(it)}
+    files = {it for it in listed.split("\n") if it.startswith("/") and (os.path.islink(it) or os.access(it, os.R_OK))}
     # such as cc and awk
     files |= {str(it) for it in Path("/usr/bin").iterdir() if it.is_symlink() and os.readlink(it).startswith("/etc/alternatives/")}
     files |= {"/etc/alternatives", *(str(it) for it in Path("/etc/alternatives").iterdir())}

@@ -1178,8 +1178,9 @@ def _node_lines(tree: Tree) -> Iterator[str]:
     while ahead:
         depth, node = ahead.pop()
         start, stop = node.span
-        values = [(it, getattr(node, it)) for it in type(node).__match_args__[:-3]]
-        fields = [f" {name}={it.name if isinstance(it, enum.Enum) else repr(it)}" for name, it in values]
+        names: Tuple[str, ...] = type(node).__match_args__
+        values = ((name, getattr(node, name)) for name in names[:-3])
+        fields = [f" {name}={value.name if isinstance(value, enum.Enum) else repr(value)}" for name, value in values]
         yield f"{'  ' * depth}{node.kind} {start}-{stop}{''.join(fields)}"
         ahead.extend((depth + 1, it) for it in reversed(node.children))
 
