@@ -1,5 +1,5 @@
-"""A small system for `.ci/installs`: `small_root.py FOLDER PACKAGE..` copies the files of these Debian packages, which have to be installed here, of the
-essential ones, and of those that they need, into the folder. dpkg has these packages there, and no others."""
+"""A small system for `.ci/installs`: `small_root.py FOLDER PACKAGE..` copies the files of these Debian packages, which have to be installed here, of
+the essential ones, and of those that they need, into the folder. dpkg has these packages there, and no others."""
 import os
 import re
 import shutil

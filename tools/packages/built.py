@@ -52,7 +52,7 @@ def commit() -> str:
     tags = [it for it in output_of("git", "tag", "--points-at", found).split() if re.match(r"v\d", it)]
     if tags and f"v{version()}" not in tags:
         raise Refused(f"the tag {tags[0]} is of another version than {version()}, which include/fancy.toml has")
-    return f"{found}, with changes that are in no commit" if output_of("git", "status", "--porcelain") else found
+    return f"{found}, with changes that are in no commit" if output_of("git", "--no-optional-locks", "status", "--porcelain") else found
 
 
 @cache

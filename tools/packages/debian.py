@@ -71,24 +71,7 @@ def documents(package: str) -> dict:
     return below(f"usr/share/doc/{package}", tree)
 
 
-def of_programs() -> dict:
-    tree = below("usr", programs())
-    for path in [it for it in tree if "/man/" in it]:
-        tree[f"{path}.gz"] = File(gzipped(tree.pop(path).data))
-    tree["usr/share/zsh/vendor-completions/_patterns"] = tree.pop("usr/share/zsh/site-functions/_patterns")
-    return tree
-
-
-def symbols() -> str:
-    """The file `symbols`: each symbol of the library with its version, from which it is the same."""
-    name = f"libfancy.so.{major()}"
-    listed = output_of("nm", "-D", "--defined-only", "--with-symbol-versions", built()[name])
-    found = sorted(re.findall(r" [A-Z] (\S+)$", listed, re.M))
-    rows = "".join(f" {it.replace('@@', '@') if '@' in it else f'{it}@{it}'} {version()}\n" for it in found)
-    return f"{name} {SHARED} #MINVER#\n* Build-Depends-Package: libfancy-dev\n{rows}"
-
-
-def package(name: str, fields: dict, tree: dict, control: dict) -> dict:
+def package(name: str, fields: dict, tree: dict, **further: File) -> dict:
     """A package by its name: its fields beside those that all have, its files, and further files of its control archive."""
     tree = {**tree, **documents(name)}
     every = {
@@ -97,26 +80,56 @@ def package(name: str, fields: dict, tree: dict, control: dict) -> dict:
         **fields, "Description": DESCRIPTIONS[name],
     }  # fmt: skip
     sums = "".join(f"{hashlib.md5(it.data).hexdigest()}  {path}\n" for path, it in sorted(tree.items()) if not it.link)
-    control = {"control": text("".join(f"{key}: {it}\n" for key, it in every.items())), "md5sums": text(sums), **control}
+    control = {"control": text("".join(f"{key}: {it}\n" for key, it in every.items())), "md5sums": text(sums), **further}
     members = {"debian-binary": b"2.0\n", "control.tar.xz": xz(tar_of_root(control, time())), "data.tar.xz": xz(tar_of_root(tree, time()))}
     return {f"{name}_{NUMBER}_{every['Architecture']}.deb": ar(members, time())}
 
 
-def packages() -> dict:
-    """The packages by their names."""
+# ---- the packages
+
+
+def of_programs() -> dict:
+    tree = below("usr", programs())
+    for path in [it for it in tree if "/man/" in it]:
+        tree[f"{path}.gz"] = File(gzipped(tree.pop(path).data))
+    tree["usr/share/zsh/vendor-completions/_patterns"] = tree.pop("usr/share/zsh/site-functions/_patterns")
+    return package("patterns", {"Depends": needed("patterns", "fre"), "Suggests": "python3-fancy"}, tree)
+
+
+def symbols() -> str:
+    """The file `symbols`: each symbol of the library, and the version that it is of by c/fancy.map."""
+    name = f"libfancy.so.{major()}"
+    listed = output_of("nm", "-D", "--defined-only", "--with-symbol-versions", built()[name])
+    found = sorted(re.findall(r" T (\S+)@@FANCY_([0-9.]+)$", listed, re.M))
+    rows = "".join(f" {symbol}@FANCY_{since} {since}\n" for symbol, since in found)
+    nodes = "".join(f" FANCY_{since}@FANCY_{since} {since}\n" for since in sorted({it for _, it in found}))
+    return f"{name} {SHARED} #MINVER#\n* Build-Depends-Package: libfancy-dev\n{nodes}{rows}"
+
+
+def of_library() -> dict:
+    """The package of the shared library, and that of what a compiler needs."""
     files = library("PREFIX=/usr", f"LIBDIR=/{LIBRARIES}")
     # a library is not executable in Debian
     shared = {path: it._replace(mode=0o644) for path, it in files.items() if ".so." in path}
-    name = f"libfancy.so.{major()}"
-    both = {"Section": "libdevel", "Multi-Arch": "same"}
-    return {
-        **package("patterns", {"Depends": needed("patterns", "fre")}, of_programs(), {}),
-        **package(SHARED, {**both, "Section": "libs", "Depends": needed(name)}, shared, {
-            "shlibs": text(f"libfancy {major()} {SHARED} (>= {version()})\n"), "symbols": text(symbols()), "triggers": text("activate-noawait ldconfig\n"),
-        }),
-        **package("libfancy-dev", {**both, "Depends": f"{SHARED} (= {NUMBER}), libc6-dev"},
-                  {**{path: it for path, it in files.items() if path not in shared}, **below("usr/share/doc/libfancy-dev/examples", examples())}, {}),
-        **package("python3-fancy", {
-            "Section": "python", "Architecture": "all", "Depends": f"python3 (>= 3.8), {SHARED} (>= {version()})", "Suggests": "python3-yaml",
-        }, below("usr/lib/python3/dist-packages", module()), {"postinst": File(COMPILED.encode(), 0o755), "prerm": File(CLEANED.encode(), 0o755)}),
-    }  # fmt: skip
+    others = {path: it for path, it in files.items() if path not in shared}
+    fields = {"Section": "libs", "Multi-Arch": "same", "Depends": needed(f"libfancy.so.{major()}")}
+    control = {
+        "shlibs": text(f"libfancy {major()} {SHARED} (>= {version()})\n"),
+        "symbols": text(symbols()),
+        "triggers": text("activate-noawait ldconfig\n"),
+    }
+    others_fields = {"Section": "libdevel", "Multi-Arch": "same", "Depends": f"{SHARED} (= {NUMBER}), libc6-dev"}
+    others |= below("usr/share/doc/libfancy-dev/examples", examples())
+    return {**package(SHARED, fields, shared, **control), **package("libfancy-dev", others_fields, others)}
+
+
+def of_module() -> dict:
+    needs = f"python3 (>= 3.8), {SHARED} (>= {version()})"
+    fields = {"Section": "python", "Architecture": "all", "Depends": needs, "Suggests": "python3-yaml"}
+    scripts = {"postinst": File(COMPILED.encode(), 0o755), "prerm": File(CLEANED.encode(), 0o755)}
+    return package("python3-fancy", fields, below("usr/lib/python3/dist-packages", module()), **scripts)
+
+
+def packages() -> dict:
+    """The packages by their names."""
+    return {**of_programs(), **of_library(), **of_module()}
