@@ -5,11 +5,9 @@ from .installed import library, module, pages, programs
 
 
 def relocatable(pc: File) -> File:
-    """fancy.pc with its prefix where the file is."""
-    lines = pc.data.decode().splitlines(True)
-    return pc._replace(data="".join(
-        "prefix=${pcfiledir}/../..\n" if it.startswith("prefix=") else it.replace("=/", "=${prefix}/") for it in lines
-    ).encode())
+    """fancy.pc, whose prefix is empty, with one that is found from where the file is."""
+    found = pc.data.decode().replace("prefix=\n", "prefix=${pcfiledir}/../..\n")
+    return pc._replace(data=found.replace("dir=/", "dir=${prefix}/").encode())
 
 
 def tree() -> dict:

@@ -8,6 +8,8 @@ from functools import cache
 from pathlib import Path
 from typing import Iterator
 
+from .files import File
+
 TOP = Path(__file__).resolve().parents[2]
 # glibc of Ubuntu 22.04, the oldest system that has to run the packages; Debian 12 has 2.36.
 OLDEST_GLIBC = (2, 35)
@@ -22,13 +24,20 @@ def text_of(path: str) -> str:
 
 
 def output_of(*words, cwd: Path = TOP) -> str:
-    """What a command writes."""
+    """What a command writes. It does not see the variables that choose another library or another target for Rust."""
+    environment = {key: it for key, it in os.environ.items() if key not in ("CARGO_BUILD_TARGET", "FANCY_LIB_DIR")}
     try:
-        return subprocess.run(words, cwd=cwd, stdout=subprocess.PIPE, check=True, text=True).stdout
+        return subprocess.run(words, cwd=cwd, env=environment, stdout=subprocess.PIPE, check=True, text=True).stdout
     except FileNotFoundError:
         raise Refused(f"there is no command {words[0]}") from None
     except subprocess.CalledProcessError as error:
         raise Refused(f"`{' '.join(map(str, words))}` ended with status {error.returncode}") from None
+
+
+def tracked(folder: str) -> dict:
+    """The tree of the files of a folder that git has."""
+    paths = output_of("git", "ls-files", "-z", cwd=TOP / folder).split("\0")
+    return {path: File((TOP / folder / path).read_bytes()) for path in paths if path and (TOP / folder / path).is_file()}
 
 
 # ---- versions
@@ -119,9 +128,9 @@ def built() -> dict:
 def glibc(name: str) -> tuple:
     """The version of glibc that a program or the shared library needs, by the versions of the symbols that it refers to."""
     needs = output_of("objdump", "-p", built()[name])
-    others = [it for it in re.findall(r"NEEDED +(\S+)", needs) if it not in ("libc.so.6", "libm.so.6")]
+    others = set(re.findall(r"NEEDED +(\S+)", needs)) - {"libc.so.6", "libm.so.6", "ld-linux-x86-64.so.2"}
     if others:
-        raise Refused(f"{name} needs {others[0]}, which is not of the C library")
+        raise Refused(f"{name} needs {min(others)}, which is not of the C library")
     found = max(tuple(map(int, it.split(".")[:2])) for it in re.findall(r" GLIBC_([0-9.]+)$", needs, re.M))
     if "GLIBC_ABI_DT_RELR" in needs:
         found = max(found, (2, 36))

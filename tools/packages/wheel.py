@@ -30,7 +30,6 @@ def information() -> dict:
         "PROVED": text(proved()),
         "WHEEL": text(f"Wheel-Version: 1.0\nGenerator: nevkral ({version()})\nRoot-Is-Purelib: false\nTag: {tag()}\n"),
         "licenses/LICENSE": licence(),
-        "top_level.txt": text("fancy\nfancy_extract\n"),
     }
 
 
