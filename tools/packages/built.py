@@ -113,11 +113,19 @@ def checked(path: str, made_of, command: str) -> Path:
     return file
 
 
+def program(crate: str) -> Path:
+    """The program that `rt ci` left of a crate. That of `rt run`, which rests on earlier checks, has a file `.stamp` beside it."""
+    file = checked(f"crates/{crate}/out/{crate}", sources(crate), "rt ci")
+    if Path(f"{file}.stamp").exists():
+        raise Refused(f"{file.relative_to(TOP)} is of `rt run`: run `rt ci`")
+    return file
+
+
 @cache
 def built() -> dict:
     """The programs and the library, by their names. None was built without its proof: `rt ci` leaves no such program, and `make -C c` no such
     archive."""
-    programs = {it: checked(f"crates/{it}/out/{it}", sources(it), "rt ci") for it in ("patterns", "fre")}
+    programs = {it: program(it) for it in ("patterns", "fre")}
     proved = checked("crates/fancy_c/out/libfancy_c.a", sources("fancy_c"), "make -C c")
     archive = checked("c/out/libfancy.a", [proved, TOP / "c/fancy.c", TOP / "include/fancy.h"], "make -C c")
     shared = checked(f"c/out/libfancy.so.{version()}", [archive, TOP / "c/fancy.map"], "make -C c")
