@@ -1,5 +1,10 @@
 //! A run over files of patterns.
-ghost use Rattle.std.specs.Prelude.{◌≤◌};
+ghost use Rattle.std.specs.Prelude.{◌≡◌, ◌≤◌, chars, All, IsTrue, IsSome, Ok, OnOk};
+ghost use Rattle.fancy_lex.specs.Flags.{flags_of};
+ghost use Rattle.fre_program.specs.Words.{HasTree};
+ghost use Rattle.patterns_program.specs.Accepted.{IsEntryAccepted, AreArgumentsAccepted};
+ghost use Rattle.patterns_program.specs.declared.job.Command.{Command};
+ghost use Rattle.patterns_program.specs.declared.outcome.Outcome.{Outcome};
 
 use crate::changes::{Kept, Left};
 use crate::job::{Command, Job, Output};
@@ -48,7 +53,13 @@ pub(crate) struct FileRun<'a, 'p, S, O, E> {
 }
 
 impl<S: System, O: Write, E: Write> Visitor for FileRun<'_, '_, S, O, E> {
-    fn pattern(&mut self, entry: Entry<'_>) -> Result<(), RunError> {
+    fn pattern(&mut self, entry: Entry<'_>) -> Result<(), RunError>
+        ensures job { self.new.work.job ≡ self.old.work.job }
+        ensures flags { self.new.work.flags ≡ self.old.work.flags }
+        ensures before { self.new.outcome ≡ Outcome.Good → self.old.outcome ≡ Outcome.Good }
+        ensures check { self.old.work.job.command ≡ Command.Check → OnOk result
+            (self.new.outcome ≡ Outcome.Good → IsEntryAccepted self.old.work.flags entry.entry) }
+    {
         self.used_keys.add(entry.key)?;
         let found = self.work.process(entry)?;
         self.outcome = self.outcome.and(found);
@@ -83,7 +94,11 @@ impl<S: System, O: Write, E: Write> Visitor for FileRun<'_, '_, S, O, E> {
 
 impl<'a, S: System, O: Write, E: Write> FileRun<'a, '_, S, O, E> {
     /// Writes what the work has written so far.
-    fn put(&mut self) -> Result<(), RunError> {
+    fn put(&mut self) -> Result<(), RunError>
+        ensures job { self.new.work.job ≡ self.old.work.job }
+        ensures flags { self.new.work.flags ≡ self.old.work.flags }
+        ensures outcome { self.new.outcome ≡ self.old.outcome }
+    {
         let Screen { out, err, .. } = &mut self.screen;
         self.work.shown.put(out, err)?;
         self.work.reported.put(out, err)?;
@@ -91,7 +106,11 @@ impl<'a, S: System, O: Write, E: Write> FileRun<'a, '_, S, O, E> {
     }
 
     /// The same, unless it is held back.
-    fn put_unless_held(&mut self) -> Result<(), RunError> {
+    fn put_unless_held(&mut self) -> Result<(), RunError>
+        ensures job { self.new.work.job ≡ self.old.work.job }
+        ensures flags { self.new.work.flags ≡ self.old.work.flags }
+        ensures outcome { self.new.outcome ≡ self.old.outcome }
+    {
         if self.is_held {
             return Ok(());
         }
@@ -239,7 +258,10 @@ impl<'a, S: System, O: Write, E: Write> FileRun<'a, '_, S, O, E> {
     }
 
     /// Begins a file of the plan, or the patterns that are arguments, with what the arguments choose.
-    fn begin(&mut self, choices: Choices<'a>, file: &PlannedFile) -> Result<(), AllocError> {
+    fn begin(&mut self, choices: Choices<'a>, file: &PlannedFile) -> Result<(), AllocError>
+        ensures job { self.new.work.job ≡ self.old.work.job }
+        ensures flags { IsTrue choices.entry.has_flags → OnOk result (self.new.work.flags ≡ choices.entry.flags) }
+    {
         let settings = self.plan.settings(self.work.alloc, file)?;
         self.configured = keys_with(choices, &settings);
         self.is_form_chosen = is_form_chosen(choices, &settings);
@@ -248,8 +270,25 @@ impl<'a, S: System, O: Write, E: Write> FileRun<'a, '_, S, O, E> {
         Ok(())
     }
 
+    /// Does the work on patterns that are arguments, as on lines with this end.
+    fn process_lines(&mut self, patterns: &[&str], end: &[u8]) -> Result<(), RunError>
+        ensures check { self.old.work.job.command ≡ Command.Check → OnOk result (self.new.outcome ≡ Outcome.Good
+            → All (λ pattern. HasTree (flags_of self.old.work.flags) (chars pattern.now)) patterns.now) }
+    {
+        let mut line = 1u64;
+        for pattern in patterns {
+            self.pattern(Entry::of_line(ARGUMENT, line, pattern, end))?;
+            line = line.saturating_add(lines_in(pattern.as_bytes()));
+        }
+        Ok(())
+    }
+
     /// Does the work on the patterns that are arguments, if there are some. They are never JSON.
-    fn process_arguments(&mut self) -> Result<Outcome, RunError> {
+    fn process_arguments(&mut self) -> Result<Outcome, RunError>
+        ensures accepted { IsSome self.old.plan.now.arguments → result ≡ Ok Outcome.Good
+            → self.old.work.job.command ≡ Command.Check → IsTrue self.old.work.job.choices.has_flags
+            → AreArgumentsAccepted self.old.work.job }
+    {
         let plan = self.plan;
         let Some(arguments) = &plan.arguments else {
             return Ok(Outcome::Good);
@@ -261,13 +300,9 @@ impl<'a, S: System, O: Write, E: Write> FileRun<'a, '_, S, O, E> {
         };
         self.begin(choices, arguments)?;
         let end = [job.choices.form.ending().byte()];
-        let mut line = 1u64;
         self.outcome = Outcome::Good;
         self.work.has_file = false;
-        for pattern in self.work.job.patterns {
-            self.pattern(Entry::of_line(ARGUMENT, line, pattern, &end))?;
-            line = line.saturating_add(lines_in(pattern.as_bytes()));
-        }
+        self.process_lines(job.patterns, &end)?;
         self.work.has_file = true;
         Ok(self.outcome)
     }
@@ -346,7 +381,12 @@ impl<'a, S: System, O: Write, E: Write> FileRun<'a, '_, S, O, E> {
     }
 
     /// Does the work on each pattern that is an argument and on each of each file, and sees that it is written.
-    fn process_files(&mut self) -> Result<Outcome, RunError> {
+    fn process_files(&mut self) -> Result<Outcome, RunError>
+        ensures complete { result ≡ Ok Outcome.Good → IsTrue self.old.plan.now.is_complete }
+        ensures accepted { IsSome self.old.plan.now.arguments → result ≡ Ok Outcome.Good
+            → self.old.work.job.command ≡ Command.Check → IsTrue self.old.work.job.choices.has_flags
+            → AreArgumentsAccepted self.old.work.job }
+    {
         self.work.begin_reports()?;
         let plan = self.plan;
         let mut outcome = if plan.is_complete {
@@ -382,6 +422,9 @@ fn run_plan<S: System, O: Write, E: Write>(
     err: &mut E,
 ) -> u8
     ensures status { result ≤ 3 }
+    ensures complete { result ≡ 0 → IsTrue plan.now.is_complete }
+    ensures accepted { IsSome plan.now.arguments → result ≡ 0 → job.entry.command ≡ Command.Check
+        → IsTrue job.entry.choices.has_flags → AreArgumentsAccepted job.entry }
 {
     let mut run = FileRun {
         plan,
@@ -429,6 +472,8 @@ pub fn run<S: System, O: Write, E: Write>(
     err: &mut E,
 ) -> u8
     ensures status { result ≤ 3 }
+    ensures accepted { result ≡ 0 → job.entry.command ≡ Command.Check → IsTrue job.entry.choices.has_flags
+        → AreArgumentsAccepted job.entry }
 {
     let request = PlanRequest {
         choices: job.choices,
