@@ -9,6 +9,7 @@
 #include "trivia.h"
 #include "format.h"
 #include "all.h"
+#include "engine.h"
 
 static size_t left_until_refusal; // 0: none is refused
 static bool was_refused;
@@ -136,7 +137,7 @@ static bool is_short_said(const char *pattern, size_t length, uint32_t flags) {
     for (int i = 0; i < 4; i++)
         if (!is_tree_short(pattern, length, flags, &info, i)) return false;
     return info.node_count <= 2 * length + 1 && is_text_short(pattern, length, flags, print_whole) &&
-           is_text_short(pattern, length, flags, fancy_pattern);
+           is_text_short(pattern, length, flags, fancy_to_pattern);
 }
 
 // Whether each span lies in that of the parent.
@@ -166,7 +167,8 @@ static fancy_result parse_and_free(const char *pattern, size_t length, uint32_t 
     return got;
 }
 
-// Makes the call of a number, of those that take rows, write a tree at once, write what no node has, format, or allocate.
+// Makes the call of a number, of those that take rows, write a tree at once, write what no node has, format, or allocate; and two for
+// engines.
 static fancy_result call_with_rows(int which, const tree *t, const char *pattern, size_t length, uint32_t flags, char *text) {
     size_t capacity = CAPACITY(length);
     if (which == 0) return print_rows(t, 0, 0, text, capacity);
@@ -174,6 +176,8 @@ static fancy_result call_with_rows(int which, const tree *t, const char *pattern
     if (which == 2) return fancy_tree(pattern, length, flags, NULL, 0, text, capacity, NULL, 0, NULL, 0, NULL);
     if (which == 3) return fancy_trivia(pattern, length, flags, (fancy_trivium *)(void *)text, capacity / sizeof(fancy_trivium), NULL);
     if (which == 6) return parse_and_free(pattern, length, flags);
+    if (which == 7) return fancy_escape(pattern, length, flags, text, capacity);
+    if (which == 8) return fancy_is_resolved(pattern, length, flags);
     return fancy_format(pattern, length, flags, which == 4 ? FANCY_STYLE_KEPT : FANCY_STYLE_VERBOSE, 80, text, capacity);
 }
 
@@ -183,7 +187,7 @@ static bool are_rows_refused_memory(const char *pattern, size_t length, uint32_t
     take(&t, pattern, length, flags);
     char *text = untouched(CAPACITY(length));
     bool is_right = true;
-    for (int which = t.nodes ? 0 : 2; which < 7; which++) {
+    for (int which = t.nodes ? 0 : 2; which < 9; which++) {
         fancy_result usual = call_with_rows(which, &t, pattern, length, flags, text);
         memset(text, 0xA5, CAPACITY(length));
         for (size_t n = 1; is_right; n++) {
@@ -212,7 +216,8 @@ static bool is_line_right(char **fields, bool refuses) {
     bool is_right = is_answered(pattern, length, flags, fields) && is_short_said(pattern, length, flags) &&
                     are_spans_right(pattern, length, flags) && are_rows_right(pattern, length, flags) &&
                     are_trivia_right(pattern, length, flags) && are_formatted_right(pattern, length, flags) &&
-                    is_all_right(pattern, length, flags) && (!refuses || are_rows_refused_memory(pattern, length, flags));
+                    is_all_right(pattern, length, flags) && are_engine_calls_right(pattern, length, flags) &&
+                    (!refuses || are_rows_refused_memory(pattern, length, flags));
     for (size_t n = 1; refuses && is_right; n++) {
         left_until_refusal = n;
         was_refused = false;
@@ -232,7 +237,7 @@ static bool is_written(char **fields) {
     if (!read_flags(fields[1], &flags)) return false;
     char *pattern = decode(fields[2], &length), *wanted = decode(fields[3], &wanted_size);
     char *text = malloc(wanted_size + 1);
-    fancy_result got = fancy_pattern(pattern, length, flags, text, wanted_size);
+    fancy_result got = fancy_to_pattern(pattern, length, flags, text, wanted_size);
     bool is_right = got.status == FANCY_STATUS_OK && got.size == wanted_size && memcmp(text, wanted, wanted_size) == 0 &&
                     are_formatted_right(pattern, length, flags);
     free(pattern);
@@ -259,21 +264,21 @@ static bool are_rows_by_hand_right(void) {
     fancy_name names[] = {{.text = 0, .text_size = 1, .group = 1}, {.text = 0, .text_size = 1, .group = 2}};
     fancy_result got = fancy_print_nodes(nodes, 2, "nab", 3, 0, 0, text, sizeof text);
     bool is_right = got.status == FANCY_STATUS_OK && got.size == 4 && memcmp(text, "(ab)", 4) == 0;
-    got = fancy_pattern_nodes(nodes, 2, "nab", 3, 0, names, 2, NULL, 0, text, sizeof text);
+    got = fancy_to_pattern_nodes(nodes, 2, "nab", 3, 0, names, 2, NULL, 0, text, sizeof text);
     is_right = is_right && got.status == FANCY_STATUS_NO_PATTERN; // it is parsed as two literals
     nodes[1].text_size = 1;
-    got = fancy_pattern_nodes(nodes, 2, "nab", 3, 0, names, 2, NULL, 0, text, sizeof text);
+    got = fancy_to_pattern_nodes(nodes, 2, "nab", 3, 0, names, 2, NULL, 0, text, sizeof text);
     is_right = is_right && got.status == FANCY_STATUS_OK && got.size == 7 && memcmp(text, "(?<n>a)", 7) == 0;
     names[0].text = 4; // there is no such text
-    is_right = is_right && fancy_pattern_nodes(nodes, 2, "nab", 3, 0, names, 1, NULL, 0, text, 64).status == FANCY_STATUS_NO_TREE;
+    is_right = is_right && fancy_to_pattern_nodes(nodes, 2, "nab", 3, 0, names, 1, NULL, 0, text, 64).status == FANCY_STATUS_NO_TREE;
     nodes[1].end = 3;
     return is_right && fancy_print_nodes(nodes, 2, "nab", 3, 0, 0, text, sizeof text).status == FANCY_STATUS_NO_TREE &&
            fancy_print_nodes(nodes, 2, "nab", 3, 2, 0, text, sizeof text).status == FANCY_STATUS_NO_TREE &&
            fancy_print_nodes(NULL, 0, NULL, 0, 0, 0, NULL, 0).status == FANCY_STATUS_NO_TREE &&
-           fancy_pattern_nodes(NULL, 0, NULL, 0, 0, NULL, 0, NULL, 0, NULL, 0).status == FANCY_STATUS_NO_TREE &&
+           fancy_to_pattern_nodes(NULL, 0, NULL, 0, 0, NULL, 0, NULL, 0, NULL, 0).status == FANCY_STATUS_NO_TREE &&
            fancy_tree(NULL, 0, 0, NULL, 0, NULL, 0, NULL, 0, NULL, 0, NULL).status == FANCY_STATUS_BUFFER_TOO_SHORT &&
            // a null buffer has no capacity, whatever is said of it
-           fancy_pattern("ab", 2, 0, NULL, 9).status == FANCY_STATUS_BUFFER_TOO_SHORT &&
+           fancy_to_pattern("ab", 2, 0, NULL, 9).status == FANCY_STATUS_BUFFER_TOO_SHORT &&
            fancy_tree("ab", 2, 0, NULL, 9, NULL, 9, NULL, 9, NULL, 9, NULL).status == FANCY_STATUS_BUFFER_TOO_SHORT &&
            is_nest(832, FANCY_STATUS_OK) && is_nest(833, FANCY_STATUS_NO_TREE);
 }
@@ -311,7 +316,7 @@ static bool are_unknown_precedences_refused(void) {
 static bool is_need_set(void) {
     fancy_info info = {0};
     size_t count = 0;
-    fancy_result text = fancy_pattern("a|b", 3, 0, NULL, 0), tree = fancy_parse("a|b", 3, 0, NULL, 0, NULL, 0, NULL, 0, NULL, 0, &info);
+    fancy_result text = fancy_to_pattern("a|b", 3, 0, NULL, 0), tree = fancy_parse("a|b", 3, 0, NULL, 0, NULL, 0, NULL, 0, NULL, 0, &info);
     bool is_right = text.status == FANCY_STATUS_BUFFER_TOO_SHORT && text.size == 3;
     is_right = is_right && tree.status == FANCY_STATUS_BUFFER_TOO_SHORT && tree.size == 0 && info.node_count == 3;
     tree = fancy_tree("a|b|c", 5, 0, NULL, 0, NULL, 0, NULL, 0, NULL, 0, &info);
@@ -331,7 +336,7 @@ typedef struct {
     size_t count;
 } written;
 
-enum { CALLS = 10, CALLS_WITH_SPANS = 8 };
+enum { CALLS = 12, CALLS_WITH_SPANS = 10 };
 
 static fancy_result write_all(const char *pattern, size_t length, uint32_t flags, written *to) {
     fancy_buffers all = {to->nodes, 3, to->texts, sizeof to->texts, to->names, 3, to->backrefs, 3, to->trivia, 3, to->info, to->count};
@@ -349,13 +354,15 @@ static fancy_result call_with_flags(int which, const char *pattern, uint32_t fla
     case 0: return fancy_check(pattern, length, flags);
     case 1: return fancy_message(pattern, length, flags, to->texts, size);
     case 2: return fancy_print(pattern, length, flags, FANCY_PRECEDENCE_WHOLE, to->texts, size);
-    case 3: return fancy_pattern(pattern, length, flags, to->texts, size);
+    case 3: return fancy_to_pattern(pattern, length, flags, to->texts, size);
     case 4: return fancy_format(pattern, length, flags, FANCY_STYLE_KEPT, 0, to->texts, size);
     case 5: return fancy_trivia(pattern, length, flags, to->trivia, 3, &to->count);
     // a row, or none, which is no tree
-    case 6: return fancy_pattern_nodes(&empty, length % 2, NULL, 0, 0, NULL, 0, NULL, flags, to->texts, size);
+    case 6: return fancy_to_pattern_nodes(&empty, length % 2, NULL, 0, 0, NULL, 0, NULL, flags, to->texts, size);
     case 7: return write_all(pattern, length, flags, to);
-    case 8: return fancy_parse(pattern, length, flags, to->nodes, 3, to->texts, size, to->names, 3, to->backrefs, 3, &to->info);
+    case 8: return fancy_escape(pattern, length, flags, to->texts, size);
+    case 9: return fancy_is_resolved(pattern, length, flags);
+    case 10: return fancy_parse(pattern, length, flags, to->nodes, 3, to->texts, size, to->names, 3, to->backrefs, 3, &to->info);
     default: return fancy_tree(pattern, length, flags, to->nodes, 3, to->texts, size, to->names, 3, to->backrefs, 3, &to->info);
     }
 }
@@ -414,14 +421,14 @@ static bool is_rest_right(void) {
     bool is_right = fancy_version() == FANCY_VERSION && fancy_check(NULL, 0, 0).status == FANCY_STATUS_OK &&
                     fancy_message(NULL, 0, 0, NULL, 0).status == FANCY_STATUS_OK &&
                     fancy_print(NULL, 0, 0, 0, NULL, 0).status == FANCY_STATUS_OK &&
-                    fancy_pattern(NULL, 0, 0, NULL, 0).status == FANCY_STATUS_OK &&
+                    fancy_to_pattern(NULL, 0, 0, NULL, 0).status == FANCY_STATUS_OK &&
                     fancy_parse(NULL, 0, 0, NULL, 0, NULL, 0, NULL, 0, NULL, 0, NULL).status ==
                         FANCY_STATUS_BUFFER_TOO_SHORT &&
                     fancy_parse(NULL, 0, 0, &node, 1, NULL, 0, NULL, 0, NULL, 0, &info).status == FANCY_STATUS_OK &&
                     info.node_count == 1 && node.kind == FANCY_NODE_EMPTY && node.start == 0 && node.stop == 0 && node.end == 1;
     is_right = is_right && are_rows_by_hand_right() && are_trivia_by_hand_right() && are_formatted_by_hand_right();
     is_right = is_right && are_unknown_precedences_refused() && is_need_set() && are_unknown_flags_refused() && are_spans_left_out();
-    is_right = is_right && is_all_by_hand_right();
+    is_right = is_right && is_all_by_hand_right() && are_engine_calls_by_hand_right() && are_old_names_right();
     for (uint32_t kind = 0; kind < 300; kind++) {
         fancy_result got = fancy_error_text(kind, text, sizeof text);
         is_right = is_right && got.size == strlen(fancy_kind_message(kind)) && memcmp(text, fancy_kind_message(kind), got.size) == 0;

@@ -14,6 +14,7 @@ import shutil
 import subprocess
 import sys
 import tempfile
+import warnings
 
 import fancy
 
@@ -123,7 +124,7 @@ def are_trees_written(pattern, flags):
     tree = fancy.parse(pattern, flags)
     nodes = [node.normal_form(fancy.Precedence.PIECE) for node in tree.walk()]
     return (
-        tree.format() == fancy.format(pattern, flags)
+        tree.to_pattern() == fancy.to_pattern(pattern, flags)
         and nodes[0] == fancy.normal_form(pattern, flags, fancy.Precedence.PIECE)
         and all(text is None or isinstance(fancy.check(text), (fancy.Error, type(None))) for text in nodes)
     )
@@ -132,7 +133,7 @@ def are_trees_written(pattern, flags):
 def is_recorded(row):
     if row[0] == "text":
         pattern, flags = unhexed(row[2]).decode(), flags_named(row[1])
-        return fancy.format(pattern, flags).encode() == unhexed(row[3]) and is_kept_by_a_style(pattern, flags)
+        return fancy.to_pattern(pattern, flags).encode() == unhexed(row[3]) and is_kept_by_a_style(pattern, flags)
     if not (row[0] == "-" or (row[0] and set(row[0]) <= set(LETTERS))):
         return row[2] == "2"
     status, out, err = int(row[2]), *(unhexed(field).decode() for field in row[3:5])
@@ -269,7 +270,7 @@ def is_kept_by_a_style(pattern, flags):
         tree, comments = fancy.parse(pattern, flags), comments_of(pattern, flags, style)
         if (text, comments) != (fancy.format(text, flags, style, width=30), comments_of(text, flags, style)):
             return False
-        if tree.format() != fancy.parse(text, flags).format() or tree.named_groups != fancy.parse(text, flags).named_groups:
+        if tree.to_pattern() != fancy.parse(text, flags).to_pattern() or tree.named_groups != fancy.parse(text, flags).named_groups:
             return False
     return True
 
@@ -301,12 +302,49 @@ def are_formatted_right():
         and fancy.format("(abcd|ef)g", style=style.VERBOSE, width=8) == "(?x)\n(\n    abcd\n  | ef\n)\ng"
         and fancy.format("(abcd|ef)g", style=style.VERBOSE, width=2**64) == "(?x)\n(abcd|ef)g"
         and fancy.format("(?x)\n  a{0,1} # é\n| b", style=style.COMPACT) == "a?(?# é)|b"
-        and fancy.format("(?:\\x41){0,1}(?# é)") == "A?"
+        and fancy.to_pattern("(?:\\x41){0,1}(?# é)") == "A?"
         and raises(ValueError, lambda: fancy.format("a", style=len(style)))
         and raises(ValueError, lambda: fancy.format("a", style=style.VERBOSE, width=-1))
         and raises(fancy.Error, lambda: fancy.format("(", style=style.KEPT))
         and raises(fancy.Error, lambda: fancy.format(b"\xff", style=style.KEPT))
     )
+
+
+def are_engine_calls_right():
+    """What an engine asks: whether references are resolved, names of groups, texts as patterns, and what a text begins with."""
+    tree, spaces = fancy.parse("(?<n>a)(b)(?<n>c)"), fancy.UNICODE | fancy.IGNORE_SPACE
+    resolved = {r"(a)\1": True, r"(a)\2": False, r"\g<0>": True, r"\g<n>": False, "(?(2)a|b)(x)": False, "": True}
+    texts = ["", "a b#é", "\\.+*?()|[]{}^$", "\t\x00\u200b\U0001f600-&~"]
+    return (
+        all(fancy.is_resolved(pattern) == wanted == fancy.is_resolved(pattern.encode()) for pattern, wanted in resolved.items())
+        and [tree.group_name(group) for group in range(5)] == [None, "n", None, "n", None]
+        and [fancy.escape(it) for it in ("1+1", b"a b", "\n")] == ["1\\+1", "a b", "\\n"]
+        and fancy.escape("a b", spaces) == "a\\ b"
+        and all(is_text_of(text, fancy.Flag(flags)) for text in texts for flags in range(512))
+        and [fancy.parse_id(it) for it in ("", "année}", b"a-", "{a", "_1")] == ["", "année", "a", "", "_1"]
+        and [fancy.parse_decimal(it) for it in ("", "007a", b"1", "a1")] == [None, (3, 7), (1, 1), None]
+        and [fancy.parse_decimal(str(2**64 - it)) for it in (1, 0)] == [(20, 2**64 - 1), None]
+        and all(raises(fancy.Error, lambda: call(b"a\xff")) for call in (fancy.escape, fancy.parse_id, fancy.parse_decimal))
+        and raises(fancy.Error, lambda: fancy.is_resolved("("))
+        and raises(TypeError, lambda: fancy.parse_id(1))
+    )
+
+
+def is_text_of(text, flags):
+    """Whether a text is escaped to a pattern that has a literal for each character, in order."""
+    root = fancy.parse(fancy.escape(text, flags), flags).root
+    nodes = root.children if isinstance(root, fancy.Concat) else () if isinstance(root, fancy.Empty) else (root,)
+    return all(isinstance(it, fancy.Literal) for it in nodes) and [it.text for it in nodes] == list(text)
+
+
+def are_old_names_right():
+    """Whether the old names of `to_pattern` say that they are deprecated, and do the same."""
+    tree, calls = fancy.parse("(?:a){0,}"), []
+    for call in (lambda: fancy.format("(?:a){0,}"), tree.format):
+        with warnings.catch_warnings(record=True) as caught:
+            warnings.simplefilter("always")
+            calls.append((call(), [(it.category, it.filename) for it in caught]))
+    return calls == [("a*", [(DeprecationWarning, __file__)])] * 2
 
 
 def refusal(call):
@@ -322,9 +360,9 @@ def are_flags_looked_at():
     """Whether each function that takes flags takes the module's own, and no others."""
     tree = fancy.parse("a")
     calls = [
-        fancy.parse, fancy.check, fancy.trivia, fancy.format, fancy.normal_form,
+        fancy.parse, fancy.check, fancy.trivia, fancy.to_pattern, fancy.normal_form, fancy.escape, fancy.is_resolved,
         lambda pattern, flags: fancy.format(pattern, flags, fancy.Style.KEPT),
-        lambda pattern, flags: dataclasses.replace(tree, flags=flags).format(),
+        lambda pattern, flags: dataclasses.replace(tree, flags=flags).to_pattern(),
     ]  # fmt: skip
     of_re = {
         re.I: "fancy.CASEI | fancy.UNICODE", re.M | re.X: "fancy.MULTI | fancy.IGNORE_SPACE | fancy.UNICODE",
@@ -411,7 +449,7 @@ def changed(pattern, kind):
     tree = fancy.parse(pattern)
     first, *rest = tree.root.children
     children = (kind(first.span, first.byte_span, ()), *rest)
-    return dataclasses.replace(tree, root=dataclasses.replace(tree.root, children=children)).format()
+    return dataclasses.replace(tree, root=dataclasses.replace(tree.root, children=children)).to_pattern()
 
 
 def are_names_public():
@@ -472,13 +510,15 @@ def are_null_pointers_taken():
     call, none = fancy._library, (None, 0)
     got = [
         call.fancy_check(*none, 0), call.fancy_message(*none, 0, *none),
-        call.fancy_print(*none, 0, 0, *none), call.fancy_pattern(*none, 0, *none),
+        call.fancy_print(*none, 0, 0, *none), call.fancy_to_pattern(*none, 0, *none),
         call.fancy_parse(*none, 0, *none, *none, *none, *none, None),
         call.fancy_tree(*none, 0, *none, *none, *none, *none, None), call.fancy_print_nodes(*none, *none, 0, 0, *none),
-        call.fancy_pattern_nodes(*none, *none, 0, *none, None, 0, *none), call.fancy_trivia(*none, 0, *none, None),
-        call.fancy_format(*none, 0, fancy.Style.KEPT, 0, *none),
+        call.fancy_to_pattern_nodes(*none, *none, 0, *none, None, 0, *none), call.fancy_trivia(*none, 0, *none, None),
+        call.fancy_format(*none, 0, fancy.Style.KEPT, 0, *none), call.fancy_is_resolved(*none, 0), call.fancy_escape(*none, 0, *none),
+        call.fancy_parse_id(*none), call.fancy_parse_decimal(*none, None),
     ]  # fmt: skip
-    return [it.status for it in got] == [0, 0, 0, 0, 4, 4, 7, 7, 0, 0]
+    call.fancy_group_name.restype = ctypes.c_size_t
+    return [it.status for it in got] == [0, 0, 0, 0, 4, 4, 7, 7, 0, 0, 0, 0, 0, 0] and call.fancy_group_name(None, 0, 1) == 0
 
 
 def is_command_right():
@@ -515,6 +555,8 @@ def main():
         "trees": are_trees_right(),
         "trivia": are_trivia_right(),
         "formatted patterns": are_formatted_right(),
+        "calls for engines": are_engine_calls_right(),
+        "old names": are_old_names_right(),
         "flags": are_flags_looked_at(),
         "numbers in a tree": are_numbers_looked_at(),
         "precedences and styles": are_choices_looked_at(),

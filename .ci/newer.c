@@ -103,7 +103,7 @@ fancy_result fancy_print_nonnull(const char *pattern, size_t length, uint32_t fl
     return text(pattern, length);
 }
 
-fancy_result fancy_pattern_nonnull(const char *pattern, size_t length, uint32_t flags, char *buffer, size_t capacity) {
+fancy_result fancy_to_pattern_nonnull(const char *pattern, size_t length, uint32_t flags, char *buffer, size_t capacity) {
     (void)flags, (void)buffer, (void)capacity;
     return text(pattern, length);
 }
@@ -120,10 +120,32 @@ fancy_result fancy_print_nodes_nonnull(const fancy_node *nodes, size_t node_coun
     return result(NEW);
 }
 
-fancy_result fancy_pattern_nodes_nonnull(const fancy_node *nodes, size_t node_count, const char *texts, size_t texts_size,
-                                         size_t index, const fancy_name *names, size_t name_count, const fancy_info *info,
-                                         uint32_t flags, char *buffer, size_t capacity) {
+fancy_result fancy_to_pattern_nodes_nonnull(const fancy_node *nodes, size_t node_count, const char *texts, size_t texts_size,
+                                            size_t index, const fancy_name *names, size_t name_count, const fancy_info *info,
+                                            uint32_t flags, char *buffer, size_t capacity) {
     (void)nodes, (void)node_count, (void)texts, (void)texts_size, (void)index, (void)names, (void)name_count, (void)info;
     (void)flags, (void)buffer, (void)capacity;
     return result(NEW);
+}
+
+fancy_result fancy_is_resolved_nonnull(const char *pattern, size_t length, uint32_t flags) {
+    (void)flags;
+    return text(pattern, length);
+}
+
+size_t fancy_group_name_nonnull(const fancy_name *names, size_t name_count, size_t group) {
+    (void)names, (void)group;
+    return name_count;
+}
+
+fancy_result fancy_escape_nonnull(const char *words, size_t length, uint32_t flags, char *buffer, size_t capacity) {
+    (void)flags, (void)buffer, (void)capacity;
+    return text(words, length);
+}
+
+fancy_result fancy_parse_id_nonnull(const char *words, size_t length) { return text(words, length); }
+
+fancy_result fancy_parse_decimal_nonnull(const char *words, size_t length, size_t *value) {
+    (void)value;
+    return text(words, length);
 }

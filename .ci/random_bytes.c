@@ -7,6 +7,7 @@
 #include "trivia.h"
 #include "format.h"
 #include "all.h"
+#include "engine.h"
 
 static uint64_t state;
 
@@ -85,16 +86,16 @@ static bool is_refused_by_all(const char *pattern, size_t length, uint32_t flags
            is_not_utf8(fancy_trivia(pattern, length, flags, NULL, 0, NULL), position) &&
            is_not_utf8(fancy_format(pattern, length, flags, FANCY_STYLE_KEPT, 0, NULL, 0), position) &&
            is_not_utf8(fancy_print(pattern, length, flags, 0, NULL, 0), position) &&
-           is_not_utf8(fancy_pattern(pattern, length, flags, NULL, 0), position);
+           is_not_utf8(fancy_to_pattern(pattern, length, flags, NULL, 0), position) && are_engine_calls_right(pattern, length, flags);
 }
 
 // Whether the text that is written for the pattern's tree is written for its own tree too, under the same flags.
 static bool is_written(const char *pattern, size_t length, uint32_t flags) {
-    fancy_result size = fancy_pattern(pattern, length, flags, NULL, 0);
+    fancy_result size = fancy_to_pattern(pattern, length, flags, NULL, 0);
     if (size.status == FANCY_STATUS_REFUSED) return fancy_check(pattern, length, flags).status == FANCY_STATUS_REFUSED;
     char *text = malloc(size.size + 1), *again = malloc(size.size + 1);
-    fancy_result once = fancy_pattern(pattern, length, flags, text, size.size);
-    fancy_result twice = fancy_pattern(text, once.size, flags, again, once.size);
+    fancy_result once = fancy_to_pattern(pattern, length, flags, text, size.size);
+    fancy_result twice = fancy_to_pattern(text, once.size, flags, again, once.size);
     bool is_right = once.status == FANCY_STATUS_OK && twice.status == FANCY_STATUS_OK && once.size == size.size &&
                     twice.size == size.size && memcmp(text, again, size.size) == 0;
     free(text);
@@ -146,7 +147,8 @@ int main(int argument_count, char **arguments) {
         // of one of 16 strings, since a tree has many parts
         if (i % 16 == 0 && prefix == length)
             is_right = is_right && are_rows_right(pattern, length, flags) && are_trivia_right(pattern, length, flags) &&
-                       are_formatted_right(pattern, length, flags) && is_all_right(pattern, length, flags);
+                       are_formatted_right(pattern, length, flags) && is_all_right(pattern, length, flags) &&
+                       are_engine_calls_right(pattern, length, flags);
         free(pattern);
         if (is_right) continue;
         wrong++;

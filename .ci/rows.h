@@ -99,8 +99,8 @@ static fancy_result print_rows(const tree *t, size_t index, uint32_t precedence,
 }
 
 static fancy_result write_rows(const tree *t, size_t index, uint32_t flags, char *buffer, size_t capacity) {
-    return fancy_pattern_nodes(t->nodes, t->info.node_count, t->texts, t->info.texts_size, index, t->names, t->info.name_count,
-                               &t->info, flags, buffer, capacity);
+    return fancy_to_pattern_nodes(t->nodes, t->info.node_count, t->texts, t->info.texts_size, index, t->names, t->info.name_count,
+                                  &t->info, flags, buffer, capacity);
 }
 
 // Whether two calls had the same result, and wrote the same text.
@@ -118,7 +118,7 @@ static bool is_whole_written(const tree *t, const char *pattern, size_t length, 
         fancy_result wanted = fancy_print(pattern, length, flags, precedence, x, capacity);
         is_right = is_right && is_same_text(print_rows(t, 0, precedence, y, capacity), y, wanted, x);
     }
-    fancy_result wanted = fancy_pattern(pattern, length, flags, x, capacity);
+    fancy_result wanted = fancy_to_pattern(pattern, length, flags, x, capacity);
     is_right = is_right && wanted.status == FANCY_STATUS_OK && is_same_text(write_rows(t, 0, flags, y, capacity), y, wanted, x);
     memset(y, 0xA5, capacity);
     fancy_result got = wanted.size == 0 ? wanted : write_rows(t, 0, flags, y, wanted.size - 1);
@@ -135,9 +135,9 @@ static bool is_part_alone(const tree *t, size_t index, size_t length, uint32_t f
     fancy_node *rows = malloc(end * sizeof *rows);
     char *x = malloc(capacity), *y = malloc(capacity);
     memcpy(rows + index, t->nodes + index, (end - index) * sizeof *rows);
-    fancy_result wanted = fancy_pattern_nodes(t->nodes, t->info.node_count, t->texts, t->info.texts_size, index, NULL, 0, &t->info, flags,
-                                              x, capacity);
-    fancy_result got = fancy_pattern_nodes(rows, end, t->texts, t->info.texts_size, index, NULL, 0, &t->info, flags, y, capacity);
+    fancy_result wanted = fancy_to_pattern_nodes(t->nodes, t->info.node_count, t->texts, t->info.texts_size, index, NULL, 0, &t->info, flags,
+                                                 x, capacity);
+    fancy_result got = fancy_to_pattern_nodes(rows, end, t->texts, t->info.texts_size, index, NULL, 0, &t->info, flags, y, capacity);
     bool is_right = is_same_text(got, y, wanted, x);
     free(rows);
     free(x);

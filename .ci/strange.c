@@ -34,7 +34,7 @@ static fancy_result result(uint32_t status, uint32_t kind, size_t position, size
 }
 
 static fancy_result any_result(size_t size) {
-    return result((uint32_t)below(FANCY_STATUS_UNKNOWN_PRECEDENCE + 1), (uint32_t)(below(20) ? below(20) : draw()), number(size), number(size));
+    return result((uint32_t)below(FANCY_STATUS_UNRESOLVED + 1), (uint32_t)(below(20) ? below(20) : draw()), number(size), number(size));
 }
 
 static void write_noise(void *buffer, size_t size) {
@@ -78,7 +78,7 @@ fancy_result fancy_print_nonnull(const char *pattern, size_t length, uint32_t fl
     return text(FANCY_STATUS_OK, length, buffer, capacity);
 }
 
-fancy_result fancy_pattern_nonnull(const char *pattern, size_t length, uint32_t flags, char *buffer, size_t capacity) {
+fancy_result fancy_to_pattern_nonnull(const char *pattern, size_t length, uint32_t flags, char *buffer, size_t capacity) {
     (void)pattern, (void)flags;
     return text(FANCY_STATUS_OK, length, buffer, capacity);
 }
@@ -95,11 +95,32 @@ fancy_result fancy_print_nodes_nonnull(const fancy_node *nodes, size_t node_coun
     return text(below(8) ? FANCY_STATUS_OK : FANCY_STATUS_NO_TREE, node_count, buffer, capacity);
 }
 
-fancy_result fancy_pattern_nodes_nonnull(const fancy_node *nodes, size_t node_count, const char *texts, size_t texts_size,
-                                         size_t index, const fancy_name *names, size_t name_count, const fancy_info *info,
-                                         uint32_t flags, char *buffer, size_t capacity) {
+fancy_result fancy_to_pattern_nodes_nonnull(const fancy_node *nodes, size_t node_count, const char *texts, size_t texts_size,
+                                            size_t index, const fancy_name *names, size_t name_count, const fancy_info *info,
+                                            uint32_t flags, char *buffer, size_t capacity) {
     (void)nodes, (void)texts, (void)texts_size, (void)index, (void)names, (void)name_count, (void)info, (void)flags;
     return text(below(8) ? FANCY_STATUS_OK : FANCY_STATUS_NO_PATTERN, node_count, buffer, capacity);
+}
+
+fancy_result fancy_is_resolved_nonnull(const char *pattern, size_t length, uint32_t flags) {
+    (void)pattern, (void)flags;
+    return below(2) ? result(below(2) ? FANCY_STATUS_OK : FANCY_STATUS_UNRESOLVED, 0, 0, 0) : any_result(length);
+}
+
+fancy_result fancy_escape_nonnull(const char *words, size_t length, uint32_t flags, char *buffer, size_t capacity) {
+    (void)words, (void)flags;
+    return text(FANCY_STATUS_OK, length, buffer, capacity);
+}
+
+fancy_result fancy_parse_id_nonnull(const char *words, size_t length) {
+    (void)words;
+    return below(2) ? result(FANCY_STATUS_OK, 0, 0, below(length + 1)) : any_result(length);
+}
+
+fancy_result fancy_parse_decimal_nonnull(const char *words, size_t length, size_t *value) {
+    (void)words;
+    *value = number(length);
+    return below(2) ? result(FANCY_STATUS_OK, 0, 0, below(length + 1)) : any_result(length);
 }
 
 /* Any parts of the pattern, one of which may be none. */

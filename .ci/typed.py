@@ -45,13 +45,17 @@ def looked_at() -> None:
     span: Tuple[int, int] = tree.root.span
     error: Optional[fancy.Error] = fancy.check(b"(")
     flags: Optional[fancy.Flag] = fancy.trivia("(?i)a")[0].flags_after
-    text: Optional[str] = tree.format()
+    text: Optional[str] = tree.to_pattern()
     formatted: str = fancy.format("a", style=fancy.Style.KEPT)
+    named: Optional[str] = tree.group_name(1)
+    resolved: bool = fancy.is_resolved("a")
+    written: Tuple[str, str, str] = fancy.to_pattern("a"), fancy.escape("a"), fancy.parse_id("a-")
+    decimal: Optional[Tuple[int, int]] = fancy.parse_decimal("12")
     number: int = tree.root  # type: ignore[assignment]
     name: str = tree.root.children[0].span  # type: ignore[assignment]
     first: str = next(records("a.py", b""), {"pattern": ""})["pattern"]
     assert (names, span, text, formatted, first) == ({"n": (1,)}, (0, 8), "(?<n>a)b", "a", "") and error and flags
-    assert number and name
+    assert number and name and (named, resolved, written, decimal) == ("n", True, ("a", "a", "a"), (2, 12))
 
 
 PATTERNS = {

@@ -1,9 +1,20 @@
-/* The functions that fancy.h has inline, as symbols of the library: for callers that have no use for a C header; and those that
- * allocate. */
+/* The functions that fancy.h has inline, as symbols of the library: for callers that have no use for a C header; those that
+ * allocate; and old names of proved functions. */
 #define FANCY_INLINE
 #include "../include/fancy.h"
 
 #include <stdlib.h>
+
+fancy_result fancy_pattern_nonnull(const char *pattern, size_t length, uint32_t flags, char *buffer, size_t capacity) {
+    return fancy_to_pattern_nonnull(pattern, length, flags, buffer, capacity);
+}
+
+fancy_result fancy_pattern_nodes_nonnull(const fancy_node *nodes, size_t node_count, const char *texts, size_t texts_size,
+                                         size_t index, const fancy_name *names, size_t name_count, const fancy_info *info,
+                                         uint32_t flags, char *buffer, size_t capacity) {
+    return fancy_to_pattern_nodes_nonnull(nodes, node_count, texts, texts_size, index, names, name_count, info, flags, buffer,
+                                          capacity);
+}
 
 /* Cuts items off the front of a block. */
 static void *cut(char **block, size_t count, size_t size) {

@@ -26,7 +26,7 @@
  * means. */
 /* ---- version: made by tools/bindings from fancy.toml */
 #define FANCY_VERSION_MAJOR 2
-#define FANCY_VERSION_MINOR 0
+#define FANCY_VERSION_MINOR 1
 #define FANCY_VERSION_PATCH 0
 /* ---- end of version */
 #define FANCY_VERSION (FANCY_VERSION_MAJOR * 1000000 + FANCY_VERSION_MINOR * 1000 + FANCY_VERSION_PATCH)
@@ -55,17 +55,20 @@ enum fancy_flag {
 /* The status of a call. These numbers, and all those below, never change; a later minor version may return new ones. */
 enum fancy_status {
     FANCY_STATUS_OK = 0,
-    FANCY_STATUS_REFUSED = 1,            /* the pattern is invalid: kind and position are set */
-    FANCY_STATUS_NOT_UTF8 = 2,           /* position is the length of the valid UTF-8 prefix */
-    FANCY_STATUS_OUT_OF_MEMORY = 3,      /* the pattern may be valid or not */
-    FANCY_STATUS_BUFFER_TOO_SHORT = 4,   /* no buffer was written; what is needed is set: for a text the size, for a tree *info,
-                                            for trivia *count */
-    FANCY_STATUS_NOT_PRINTABLE = 5,      /* of fancy_print and fancy_print_nodes: there is a tree, and it is not printable */
-    FANCY_STATUS_NO_PATTERN = 6,         /* of fancy_pattern_nodes: what is written for the tree does not parse back as it */
-    FANCY_STATUS_NO_TREE = 7,            /* of fancy_print_nodes and fancy_pattern_nodes: the rows are no tree */
-    FANCY_STATUS_UNKNOWN_STYLE = 8,      /* of fancy_format: no style has this number */
-    FANCY_STATUS_UNKNOWN_FLAG = 9,       /* a bit is set that is no flag, or none that the call takes */
-    FANCY_STATUS_UNKNOWN_PRECEDENCE = 10 /* of fancy_print and fancy_print_nodes: no precedence has this number */
+    FANCY_STATUS_REFUSED = 1,             /* the pattern is invalid: kind and position are set */
+    FANCY_STATUS_NOT_UTF8 = 2,            /* position is the length of the valid UTF-8 prefix */
+    FANCY_STATUS_OUT_OF_MEMORY = 3,       /* the pattern may be valid or not */
+    FANCY_STATUS_BUFFER_TOO_SHORT = 4,    /* no buffer was written; what is needed is set: for a text the size, for a tree
+                                             *info, for trivia *count */
+    FANCY_STATUS_NOT_PRINTABLE = 5,       /* of fancy_print and fancy_print_nodes: there is a tree, and it is not printable */
+    FANCY_STATUS_NO_PATTERN = 6,          /* of fancy_to_pattern_nodes: what is written for the tree does not parse
+                                             back as it */
+    FANCY_STATUS_NO_TREE = 7,             /* of fancy_print_nodes and fancy_to_pattern_nodes: the rows are no tree */
+    FANCY_STATUS_UNKNOWN_STYLE = 8,       /* of fancy_format: no style has this number */
+    FANCY_STATUS_UNKNOWN_FLAG = 9,        /* a bit is set that is no flag, or none that the call takes */
+    FANCY_STATUS_UNKNOWN_PRECEDENCE = 10, /* of fancy_print and fancy_print_nodes: no precedence has this number */
+    FANCY_STATUS_UNRESOLVED = 11          /* of fancy_is_resolved: a reference refers to a group that the pattern does
+                                             not have */
 };
 
 /* Kinds of errors. */
@@ -289,7 +292,7 @@ fancy_result fancy_parse_nonnull(const char *pattern, size_t length, uint32_t fl
                                  size_t *backrefs, size_t backref_capacity, fancy_info *info);
 fancy_result fancy_print_nonnull(const char *pattern, size_t length, uint32_t flags, uint32_t precedence, char *buffer,
                                  size_t capacity);
-fancy_result fancy_pattern_nonnull(const char *pattern, size_t length, uint32_t flags, char *buffer, size_t capacity);
+fancy_result fancy_to_pattern_nonnull(const char *pattern, size_t length, uint32_t flags, char *buffer, size_t capacity);
 fancy_result fancy_format_nonnull(const char *pattern, size_t length, uint32_t flags, uint32_t style, size_t width,
                                   char *buffer, size_t capacity);
 fancy_result fancy_tree_nonnull(const char *pattern, size_t length, uint32_t flags, fancy_node *nodes, size_t node_capacity,
@@ -297,15 +300,20 @@ fancy_result fancy_tree_nonnull(const char *pattern, size_t length, uint32_t fla
                                 size_t backref_capacity, fancy_info *info);
 fancy_result fancy_print_nodes_nonnull(const fancy_node *nodes, size_t node_count, const char *texts, size_t texts_size,
                                        size_t index, uint32_t precedence, char *buffer, size_t capacity);
-fancy_result fancy_pattern_nodes_nonnull(const fancy_node *nodes, size_t node_count, const char *texts, size_t texts_size,
-                                         size_t index, const fancy_name *names, size_t name_count, const fancy_info *info,
-                                         uint32_t flags, char *buffer, size_t capacity);
+fancy_result fancy_to_pattern_nodes_nonnull(const fancy_node *nodes, size_t node_count, const char *texts, size_t texts_size,
+                                            size_t index, const fancy_name *names, size_t name_count, const fancy_info *info,
+                                            uint32_t flags, char *buffer, size_t capacity);
 fancy_result fancy_trivia_nonnull(const char *pattern, size_t length, uint32_t flags, fancy_trivium *trivia, size_t capacity,
                                   size_t *count);
 fancy_result fancy_parse_into_nonnull(const char *pattern, size_t length, uint32_t flags, fancy_node *nodes,
                                       size_t node_capacity, char *texts, size_t texts_capacity, fancy_name *names,
                                       size_t name_capacity, size_t *backrefs, size_t backref_capacity, fancy_trivium *trivia,
                                       size_t trivium_capacity, fancy_info *info, size_t *trivium_count);
+fancy_result fancy_is_resolved_nonnull(const char *pattern, size_t length, uint32_t flags);
+size_t fancy_group_name_nonnull(const fancy_name *names, size_t name_count, size_t group);
+fancy_result fancy_escape_nonnull(const char *text, size_t length, uint32_t flags, char *buffer, size_t capacity);
+fancy_result fancy_parse_id_nonnull(const char *text, size_t length);
+fancy_result fancy_parse_decimal_nonnull(const char *text, size_t length, size_t *value);
 
 /* ---- The functions to call. They are inline, and libfancy has them as symbols too, for callers without this header. Each that
  * takes flags returns UNKNOWN_FLAG if a bit is set that it does not take, whatever the pattern or the rows are. A style or a
@@ -377,9 +385,9 @@ FANCY_INLINE fancy_result fancy_print(const char *pattern, size_t length, uint32
 /* Writes a pattern that is parsed, under the same flags, as the same tree with the same groups and names. Comments, ignored
  * whitespace, and the choice among several ways to write the same node are lost. Returns OK or BUFFER_TOO_SHORT, each with
  * the size of the text. Otherwise it returns what fancy_check returns. Unless it returns OK, nothing is written. */
-FANCY_INLINE fancy_result fancy_pattern(const char *pattern, size_t length, uint32_t flags, char *buffer, size_t capacity) {
+FANCY_INLINE fancy_result fancy_to_pattern(const char *pattern, size_t length, uint32_t flags, char *buffer, size_t capacity) {
     char none;
-    return fancy_pattern_nonnull(pattern ? pattern : "", length, flags, buffer ? buffer : &none, buffer ? capacity : 0);
+    return fancy_to_pattern_nonnull(pattern ? pattern : "", length, flags, buffer ? buffer : &none, buffer ? capacity : 0);
 }
 
 /* Formats a pattern, and keeps how it is written: escapes, classes, names, comments, and the flags that it sets. What
@@ -437,16 +445,53 @@ FANCY_INLINE fancy_result fancy_print_nodes(const fancy_node *nodes, size_t node
  * numbers, as far as there is a choice. Returns OK, BUFFER_TOO_SHORT, NO_TREE or OUT_OF_MEMORY as fancy_print_nodes does;
  * UNKNOWN_FLAG; or NO_PATTERN if what is written for the tree does not parse back as this tree, which never happens to all the
  * rows of a pattern, under its flags, with its names and info. */
-FANCY_INLINE fancy_result fancy_pattern_nodes(const fancy_node *nodes, size_t node_count, const char *texts,
-                                              size_t texts_size, size_t index, const fancy_name *names, size_t name_count,
-                                              const fancy_info *info, uint32_t flags, char *buffer, size_t capacity) {
+FANCY_INLINE fancy_result fancy_to_pattern_nodes(const fancy_node *nodes, size_t node_count, const char *texts,
+                                                 size_t texts_size, size_t index, const fancy_name *names, size_t name_count,
+                                                 const fancy_info *info, uint32_t flags, char *buffer, size_t capacity) {
     static fancy_node no_node;
     static fancy_name no_name;
     static fancy_info no_info;
     char none;
-    return fancy_pattern_nodes_nonnull(nodes ? nodes : &no_node, node_count, texts ? texts : "", texts_size, index,
-                                       names ? names : &no_name, name_count, info ? info : &no_info, flags,
-                                       buffer ? buffer : &none, buffer ? capacity : 0);
+    return fancy_to_pattern_nodes_nonnull(nodes ? nodes : &no_node, node_count, texts ? texts : "", texts_size, index,
+                                          names ? names : &no_name, name_count, info ? info : &no_info, flags,
+                                          buffer ? buffer : &none, buffer ? capacity : 0);
+}
+
+/* Checks whether each reference of a pattern refers to a group that the pattern has, or to the whole pattern. Returns OK if so;
+ * or UNRESOLVED, if a back reference, a condition or a call has a number above total_groups, or a call is a FANCY_NODE_AST_NODE.
+ * Otherwise it returns what fancy_check returns. */
+FANCY_INLINE fancy_result fancy_is_resolved(const char *pattern, size_t length, uint32_t flags) {
+    return fancy_is_resolved_nonnull(pattern ? pattern : "", length, flags);
+}
+
+/* Returns the index in names of the name of a group; name_count if the group has no name. */
+FANCY_INLINE size_t fancy_group_name(const fancy_name *names, size_t name_count, size_t group) {
+    static fancy_name no_name;
+    return fancy_group_name_nonnull(names ? names : &no_name, name_count, group);
+}
+
+/* Writes a pattern that matches a text: under the flags, which are those that hold where it is put, it is parsed as a
+ * FANCY_NODE_LITERAL for each character. What is written for a character is the same whatever stands beside it: a character with
+ * a meaning of its own is after a backslash, and one that cannot be seen is its letter or its code. Returns OK or
+ * BUFFER_TOO_SHORT, each with the size of the pattern; NOT_UTF8, OUT_OF_MEMORY or UNKNOWN_FLAG. Unless it returns OK, nothing is
+ * written. */
+FANCY_INLINE fancy_result fancy_escape(const char *text, size_t length, uint32_t flags, char *buffer, size_t capacity) {
+    char none;
+    return fancy_escape_nonnull(text ? text : "", length, flags, buffer ? buffer : &none, buffer ? capacity : 0);
+}
+
+/* Reads the id that a text begins with, as for a template of a replacement: all letters and numbers, in any script, and _ at the
+ * front. Returns OK with the size of the id, which is 0 if there is none; or NOT_UTF8. */
+FANCY_INLINE fancy_result fancy_parse_id(const char *text, size_t length) {
+    return fancy_parse_id_nonnull(text ? text : "", length);
+}
+
+/* Reads the number that a text begins with: all ASCII digits at the front. Returns OK with their size, and sets *value, unless
+ * value is null. The size is 0, and *value is not set, if there is no digit, or if the number is above SIZE_MAX. Or returns
+ * NOT_UTF8. */
+FANCY_INLINE fancy_result fancy_parse_decimal(const char *text, size_t length, size_t *value) {
+    size_t no_value;
+    return fancy_parse_decimal_nonnull(text ? text : "", length, value ? value : &no_value);
 }
 
 /* Parses a pattern, and sets *count to the number of its trivia, which are what no node of its tree has, if it returns OK
@@ -516,6 +561,34 @@ FANCY_INLINE const char *fancy_kind_message(uint32_t kind) {
 /* ---- end of messages */
     default: return "";
     }
+}
+
+/* ---- Deprecated: the next major version does not have these names. Call fancy_to_pattern and fancy_to_pattern_nodes. */
+
+#if !defined(FANCY_DEPRECATED) && defined(__GNUC__)
+#define FANCY_DEPRECATED(call) __attribute__((deprecated("call " #call)))
+#elif !defined(FANCY_DEPRECATED)
+#define FANCY_DEPRECATED(call)
+#endif
+
+FANCY_DEPRECATED(fancy_to_pattern_nonnull)
+fancy_result fancy_pattern_nonnull(const char *pattern, size_t length, uint32_t flags, char *buffer, size_t capacity);
+
+FANCY_DEPRECATED(fancy_to_pattern_nodes_nonnull)
+fancy_result fancy_pattern_nodes_nonnull(const fancy_node *nodes, size_t node_count, const char *texts, size_t texts_size,
+                                         size_t index, const fancy_name *names, size_t name_count, const fancy_info *info,
+                                         uint32_t flags, char *buffer, size_t capacity);
+
+FANCY_DEPRECATED(fancy_to_pattern)
+FANCY_INLINE fancy_result fancy_pattern(const char *pattern, size_t length, uint32_t flags, char *buffer, size_t capacity) {
+    return fancy_to_pattern(pattern, length, flags, buffer, capacity);
+}
+
+FANCY_DEPRECATED(fancy_to_pattern_nodes)
+FANCY_INLINE fancy_result fancy_pattern_nodes(const fancy_node *nodes, size_t node_count, const char *texts,
+                                              size_t texts_size, size_t index, const fancy_name *names, size_t name_count,
+                                              const fancy_info *info, uint32_t flags, char *buffer, size_t capacity) {
+    return fancy_to_pattern_nodes(nodes, node_count, texts, texts_size, index, names, name_count, info, flags, buffer, capacity);
 }
 
 #ifdef __cplusplus

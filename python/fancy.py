@@ -6,7 +6,7 @@
     {'year': (1,)}
     >>> [(type(node).__name__, node.span) for node in tree.walk()]
     [('Concat', (0, 15)), ('Group', (0, 14)), ('Repeat', (8, 13)), ('Delegate', (8, 10)), ('Literal', (14, 15))]
-    >>> fancy.format("(?x) a {2,2}  # twice", fancy.UNICODE)
+    >>> fancy.to_pattern("(?x) a {2,2}  # twice", fancy.UNICODE)
     'a{2}'
     >>> try:
     ...     fancy.parse("(é")
@@ -39,11 +39,13 @@ import operator
 import os
 import re
 import sys
+import warnings
 from dataclasses import dataclass, field
 from typing import ClassVar, Dict, Iterator, List, Mapping, Optional, Sequence, Tuple, Type, TypeVar, Union
 
 __all__ = [
-    "Error", "Node", "Pattern", "Relative", "Span", "Tree", "Trivium", "check", "format", "normal_form", "parse", "trivia",
+    "Error", "Node", "Pattern", "Relative", "Span", "Tree", "Trivium", "check", "escape", "format", "is_resolved",
+    "normal_form", "parse", "parse_decimal", "parse_id", "to_pattern", "trivia",
 ]  # fmt: skip
 
 Pattern = Union[str, bytes]
@@ -568,7 +570,15 @@ class Tree:
         not depend on changes of the tree."""
         return trivia(self.pattern, self.flags)
 
-    def format(self) -> Optional[str]:
+    def group_name(self, group: int) -> Optional[str]:
+        """The name of the group with this number; None if it has none.
+
+        >>> [parse("(?<n>a)(b)").group_name(group) for group in (1, 2)]
+        ['n', None]
+        """
+        return next((name for name, numbers in self.named_groups.items() if group in numbers), None)
+
+    def to_pattern(self) -> Optional[str]:
         """Returns a pattern that is parsed, under the same flags, as this tree with these names; or None if no pattern is, which can
         happen after the tree was changed. Of the group information it needs only the names, by the numbers that groups have in the
         tree, and the two fields that say whether references are written by numbers. Raises `ValueError` if a number in the tree is
@@ -577,7 +587,7 @@ class Tree:
         >>> from dataclasses import replace
         >>> tree = parse("(?<n>a+)b")
         >>> group, rest = tree.root.children
-        >>> replace(tree, root=replace(tree.root, children=(rest, group))).format()
+        >>> replace(tree, root=replace(tree.root, children=(rest, group))).to_pattern()
         'b(?<n>a+)'
         """
         rows, flags = _Rows(self.root), _flags_given(self.flags)
@@ -586,11 +596,16 @@ class Tree:
             numeric_capture_group_references=self.numeric_capture_group_references, self_recursive=self.self_recursive
         )
         got, text = _text(
-            "fancy_pattern_nodes", *rows.arguments(), names, len(names), ctypes.byref(info), int(flags)
+            "fancy_to_pattern_nodes", *rows.arguments(), names, len(names), ctypes.byref(info), int(flags)
         )
         if got.status == _OUT_OF_MEMORY:
             raise MemoryError
         return text.decode() if got.status == _OK else None
+
+    def format(self) -> Optional[str]:
+        """Deprecated: the old name of `to_pattern`, which the next major version does not have."""
+        warnings.warn("Tree.format is deprecated: call Tree.to_pattern", DeprecationWarning, stacklevel=2)
+        return self.to_pattern()
 
 
 # ---- the library
@@ -714,10 +729,11 @@ _NO_TREE = 7
 _UNKNOWN_STYLE = 8
 _UNKNOWN_FLAG = 9
 _UNKNOWN_PRECEDENCE = 10
+_UNRESOLVED = 11
 _BY_NUMBER = 1
 _BY_NAME = 2
 _RELATIVE = 3
-_MAJOR, _MINOR = 2, 0
+_MAJOR, _MINOR = 2, 1
 # ---- end of structs and statuses
 
 
@@ -752,12 +768,16 @@ def _load() -> ctypes.CDLL:
         "fancy_message": pattern + buffer,
         "fancy_parse": pattern + 4 * buffer + [ctypes.POINTER(_Info)],
         "fancy_print": pattern + [ctypes.c_uint32] + buffer,
-        "fancy_pattern": pattern + buffer,
+        "fancy_to_pattern": pattern + buffer,
         "fancy_format": pattern + [ctypes.c_uint32, ctypes.c_size_t] + buffer,
         "fancy_tree": pattern + 4 * buffer + [ctypes.POINTER(_Info)],
         "fancy_print_nodes": rows + [ctypes.c_uint32] + buffer,
         "fancy_trivia": pattern + buffer + [ctypes.POINTER(ctypes.c_size_t)],
-        "fancy_pattern_nodes": rows + buffer + [ctypes.POINTER(_Info), ctypes.c_uint32] + buffer,
+        "fancy_to_pattern_nodes": rows + buffer + [ctypes.POINTER(_Info), ctypes.c_uint32] + buffer,
+        "fancy_is_resolved": pattern,
+        "fancy_escape": pattern + buffer,
+        "fancy_parse_id": pattern[:2],
+        "fancy_parse_decimal": pattern[:2] + [ctypes.POINTER(ctypes.c_size_t)],
     }.items():
         function = getattr(library, call)
         function.argtypes, function.restype = arguments, _Result
@@ -1107,13 +1127,45 @@ def check(pattern: Pattern, flags: int = UNICODE) -> Optional[Error]:
     return _Source(pattern, flags).refusal()
 
 
-def format(pattern: Pattern, flags: int = UNICODE, style: Optional[Style] = None, width: int = 80) -> str:
-    """Returns a pattern that is parsed, under the same flags, as the same tree with the same groups and names. Raises `Error`
-    if the pattern is invalid.
+def is_resolved(pattern: Pattern, flags: int = UNICODE) -> bool:
+    """Whether each reference of a pattern refers to a group that the pattern has, or to the whole pattern. It is not so if a back
+    reference, a condition or a call has a number above `total_groups`, or a call is an `AstNode`. Raises `Error` if the pattern is
+    invalid.
 
-    With a style, it is written as its author wrote it: escapes, classes, names and comments stay. Simpler forms of quantifiers
-    are used, and groups, flags and ignored whitespace that are not needed go. `width` is how many characters a line may have
-    in the style `VERBOSE`.
+    >>> [is_resolved(pattern) for pattern in (r"(a)\\1", r"(a)\\2", r"\\g<n>")]
+    [True, False, False]
+    """
+    source = _Source(pattern, flags)
+    got = _called("fancy_is_resolved", *source.arguments)
+    if got.status == _OUT_OF_MEMORY:
+        raise MemoryError
+    if got.status not in (_OK, _UNRESOLVED):
+        raise source.refusal() or AssertionError
+    return got.status == _OK
+
+
+def to_pattern(pattern: Pattern, flags: int = UNICODE) -> str:
+    """Returns a pattern that is parsed, under the same flags, as the same tree with the same groups and names. There is one for each
+    tree: comments, ignored whitespace, and the choice among several ways to write the same node are lost. Raises `Error` if the
+    pattern is invalid. Raises `RuntimeError` if the text for the tree does not parse back as it; by what is proved of the library,
+    this does not happen.
+
+    >>> to_pattern(r"(?:a){0,1}(?# or)|\\x41")
+    'a?|A'
+    """
+    status, text = _Source(pattern, flags).text("fancy_to_pattern")
+    if status == _NO_PATTERN:
+        raise RuntimeError("what is written for the tree does not parse back as it")
+    return text
+
+
+def format(pattern: Pattern, flags: int = UNICODE, style: Optional[Style] = None, width: int = 80) -> str:
+    """Formats a pattern: returns one that is parsed, under the same flags, as the same tree with the same groups and names. Raises
+    `Error` if the pattern is invalid.
+
+    It is written as its author wrote it: escapes, classes, names and comments stay. Simpler forms of quantifiers are used, and
+    groups, flags and ignored whitespace that are not needed go. `width` is how many characters a line may have in the style
+    `VERBOSE`.
 
     >>> format("(?:a){0,1}|\\\\x41", style=Style.KEPT)
     'a?|\\\\x41'
@@ -1122,19 +1174,15 @@ def format(pattern: Pattern, flags: int = UNICODE, style: Optional[Style] = None
       a?
     | \\x41
 
-    Without a style, the pattern has one form for each tree: comments, ignored whitespace, and the choice among several ways to
-    write the same node are lost. Then it raises `RuntimeError` if the text for the tree does not parse back as it; by what is
-    proved of the library, this does not happen."""
-    source = _Source(pattern, flags)
-    if style is not None:
-        number, columns = _member(Style, style), min(operator.index(width), _UNBOUNDED)
-        if columns < 0:
-            raise ValueError("a width is not negative")
-        return source.text("fancy_format", number, columns)[1]
-    status, text = source.text("fancy_pattern")
-    if status == _NO_PATTERN:
-        raise RuntimeError("what is written for the tree does not parse back as it")
-    return text
+    Without a style it is deprecated, and does what `to_pattern` does."""
+    if style is None:
+        warnings.warn("format without a style is deprecated: call to_pattern", DeprecationWarning, stacklevel=2)
+        return to_pattern(pattern, flags)
+    source, number = _Source(pattern, flags), _member(Style, style)
+    columns = min(operator.index(width), _UNBOUNDED)
+    if columns < 0:
+        raise ValueError("a width is not negative")
+    return source.text("fancy_format", number, columns)[1]
 
 
 def normal_form(pattern: Pattern, flags: int = UNICODE, precedence: int = Precedence.WHOLE) -> Optional[str]:
@@ -1143,6 +1191,45 @@ def normal_form(pattern: Pattern, flags: int = UNICODE, precedence: int = Preced
     source, number = _Source(pattern, flags), _member(Precedence, precedence)
     status, text = source.text("fancy_print", number)
     return None if status == _NOT_PRINTABLE else text
+
+
+def escape(text: Pattern, flags: int = UNICODE) -> str:
+    """Returns a pattern that matches a text: under the flags, which are those that hold where it is put, it is parsed as a `Literal`
+    for each character. What is written for a character is the same whatever stands beside it. Raises `Error` if the text is not
+    UTF-8.
+
+    >>> escape("1+1\\t= 2"), escape("a b", UNICODE | IGNORE_SPACE)
+    ('1\\\\+1\\\\t= 2', 'a\\\\ b')
+    """
+    return _Source(text, flags).text("fancy_escape")[1]
+
+
+def parse_id(text: Pattern) -> str:
+    """Returns the id that a text begins with, as for a template of a replacement: all letters and numbers, in any script, and `_` at
+    the front. It is empty if there is none. Raises `Error` if the text is not UTF-8.
+
+    >>> parse_id("year}-"), parse_id("{year}")
+    ('year', '')
+    """
+    source = _Source(text, 0)
+    got = _called("fancy_parse_id", *source.arguments[:2])
+    if got.status != _OK:
+        raise source.refusal() or AssertionError
+    return source.bytes[: got.size].decode()
+
+
+def parse_decimal(text: Pattern) -> Optional[Tuple[int, int]]:
+    """Reads the number that a text begins with: all ASCII digits at the front. Returns how many they are, and the number; None if
+    there is no digit, or if the number does not fit in 64 bits. Raises `Error` if the text is not UTF-8.
+
+    >>> parse_decimal("12a"), parse_decimal("a12")
+    ((2, 12), None)
+    """
+    source, value = _Source(text, 0), ctypes.c_size_t()
+    got = _called("fancy_parse_decimal", *source.arguments[:2], ctypes.byref(value))
+    if got.status != _OK:
+        raise source.refusal() or AssertionError
+    return (got.size, value.value) if got.size else None
 
 
 # ---- the command line
@@ -1207,7 +1294,7 @@ def _write_lines(subcommand: str, files: Sequence[str], flags: int) -> int:
                     where = sys.stdout if subcommand == "check" else sys.stderr
                     print(f"{file}:{number}:{error.position + 1}: {error.message}", file=where)
                 if subcommand == "format":
-                    text = pattern if error is not None else format(pattern, flags)
+                    text = pattern if error is not None else to_pattern(pattern, flags)
                     sys.stdout.flush()
                     sys.stdout.buffer.write((text.encode() if isinstance(text, str) else text) + b"\n")
         except OSError as error:

@@ -17,13 +17,17 @@ extern "C" {
         texts: *mut c_char, texts_capacity: usize, names: *mut Name, name_capacity: usize,
         backrefs: *mut usize, backref_capacity: usize, info: *mut Info) -> CallResult;
     fn fancy_print_nonnull(pattern: *const c_char, length: usize, flags: u32, precedence: u32, buffer: *mut c_char, capacity: usize) -> CallResult;
-    fn fancy_pattern_nonnull(pattern: *const c_char, length: usize, flags: u32, buffer: *mut c_char, capacity: usize) -> CallResult;
+    fn fancy_to_pattern_nonnull(pattern: *const c_char, length: usize, flags: u32, buffer: *mut c_char, capacity: usize) -> CallResult;
     fn fancy_format_nonnull(pattern: *const c_char, length: usize, flags: u32, style: u32, width: usize, buffer: *mut c_char, capacity: usize) -> CallResult;
     fn fancy_print_nodes_nonnull(nodes: *const Node, node_count: usize, texts: *const c_char, texts_size: usize, index: usize,
         precedence: u32, buffer: *mut c_char, capacity: usize) -> CallResult;
-    fn fancy_pattern_nodes_nonnull(nodes: *const Node, node_count: usize, texts: *const c_char, texts_size: usize, index: usize,
+    fn fancy_to_pattern_nodes_nonnull(nodes: *const Node, node_count: usize, texts: *const c_char, texts_size: usize, index: usize,
         names: *const Name, name_count: usize, info: *const Info, flags: u32, buffer: *mut c_char, capacity: usize) -> CallResult;
     fn fancy_trivia_nonnull(pattern: *const c_char, length: usize, flags: u32, trivia: *mut Trivium, capacity: usize, count: *mut usize) -> CallResult;
+    fn fancy_is_resolved_nonnull(pattern: *const c_char, length: usize, flags: u32) -> CallResult;
+    fn fancy_escape_nonnull(text: *const c_char, length: usize, flags: u32, buffer: *mut c_char, capacity: usize) -> CallResult;
+    fn fancy_parse_id_nonnull(text: *const c_char, length: usize) -> CallResult;
+    fn fancy_parse_decimal_nonnull(text: *const c_char, length: usize, value: *mut usize) -> CallResult;
 }
 
 // All that `docs/c.md` asks of a caller about pointers is asked of each call below: none is null, each is aligned, each points
@@ -66,9 +70,9 @@ pub(crate) fn print(pattern: &str, flags: u32, precedence: u32, buffer: &mut [u8
 }
 
 #[rustfmt::skip]
-pub(crate) fn pattern(pattern: &str, flags: u32, buffer: &mut [u8]) -> CallResult {
+pub(crate) fn to_pattern(pattern: &str, flags: u32, buffer: &mut [u8]) -> CallResult {
     // SAFETY: the pattern and the buffer are slices, the second a mutable borrow
-    unsafe { fancy_pattern_nonnull(pattern.as_ptr().cast(), pattern.len(), flags, buffer.as_mut_ptr().cast(), buffer.len()) }
+    unsafe { fancy_to_pattern_nonnull(pattern.as_ptr().cast(), pattern.len(), flags, buffer.as_mut_ptr().cast(), buffer.len()) }
 }
 
 #[rustfmt::skip]
@@ -96,11 +100,32 @@ pub(crate) fn print_nodes(rows: RowsIn<'_>, precedence: u32, buffer: &mut [u8]) 
 }
 
 #[rustfmt::skip]
-pub(crate) fn pattern_nodes(rows: RowsIn<'_>, names: &[Name], info: &Info, flags: u32, buffer: &mut [u8]) -> CallResult {
+pub(crate) fn to_pattern_nodes(rows: RowsIn<'_>, names: &[Name], info: &Info, flags: u32, buffer: &mut [u8]) -> CallResult {
     let RowsIn { nodes, texts, index } = rows;
     // SAFETY: all are slices, the last a mutable borrow, and `info` is a borrow
     unsafe {
-        fancy_pattern_nodes_nonnull(nodes.as_ptr(), nodes.len(), texts.as_ptr().cast(), texts.len(), index,
+        fancy_to_pattern_nodes_nonnull(nodes.as_ptr(), nodes.len(), texts.as_ptr().cast(), texts.len(), index,
             names.as_ptr(), names.len(), info, flags, buffer.as_mut_ptr().cast(), buffer.len())
     }
+}
+
+pub(crate) fn is_resolved(pattern: &str, flags: u32) -> CallResult {
+    // SAFETY: the pattern is a slice
+    unsafe { fancy_is_resolved_nonnull(pattern.as_ptr().cast(), pattern.len(), flags) }
+}
+
+#[rustfmt::skip]
+pub(crate) fn escape(text: &str, flags: u32, buffer: &mut [u8]) -> CallResult {
+    // SAFETY: the text and the buffer are slices, the second a mutable borrow
+    unsafe { fancy_escape_nonnull(text.as_ptr().cast(), text.len(), flags, buffer.as_mut_ptr().cast(), buffer.len()) }
+}
+
+pub(crate) fn parse_id(text: &str) -> CallResult {
+    // SAFETY: the text is a slice
+    unsafe { fancy_parse_id_nonnull(text.as_ptr().cast(), text.len()) }
+}
+
+pub(crate) fn parse_decimal(text: &str, value: &mut usize) -> CallResult {
+    // SAFETY: the text is a slice, and `value` a mutable borrow
+    unsafe { fancy_parse_decimal_nonnull(text.as_ptr().cast(), text.len(), value) }
 }

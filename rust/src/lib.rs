@@ -23,6 +23,8 @@
 //! - [`format_pattern`] formats a pattern, and keeps its spelling and its comments.
 //! - [`to_pattern`] and [`print()`] write the tree of a pattern as a pattern again; [`Tree::to_pattern`] and [`Expr::print`] do this
 //!   for a tree that may have been changed, and [`NodeRef::print`] for a part of one.
+//! - [`is_resolved`], [`escape`], [`parse_id`] and [`parse_decimal`] are for engines: whether all references of a pattern refer to
+//!   groups, a text as a pattern, and what a template of a replacement begins with.
 //!
 //! Positions and spans are byte offsets. The functions may be called in several threads at once. What the library returns is
 //! checked. A library that is too old for the crate is an error ([`Error::Version`]), and so are a number of a newer library that
@@ -33,6 +35,7 @@
 #![deny(unsafe_code, unsafe_op_in_unsafe_fn)]
 
 mod call;
+mod engine;
 mod error;
 mod expr;
 #[allow(unsafe_code)]
@@ -50,6 +53,7 @@ mod trivia;
 mod version;
 mod written;
 
+pub use engine::{escape, is_resolved, parse_decimal, parse_id};
 pub use error::Error;
 pub use expr::{Absent, AstNode, CaptureGroupTarget, Expr, ExprChildrenIter, ExprChildrenIterMut, Walk};
 pub use flags::Flags;
@@ -171,7 +175,7 @@ fn error_of(result: CallResult, pattern: &str, flags: Flags) -> Error {
 /// # Ok::<(), fancy_syntax::Error>(())
 /// ```
 pub fn to_pattern(pattern: &str, flags: Flags) -> Result<String, Error> {
-    let write = |buffer: &mut [u8]| ffi::pattern(pattern, flags.bits(), buffer);
+    let write = |buffer: &mut [u8]| ffi::to_pattern(pattern, flags.bits(), buffer);
     match call::written(Extent::of_pattern(pattern), write, numbers::STATUS_OK)? {
         Text::Written(text) => Ok(text),
         Text::Not(result) => Err(error_of(result, pattern, flags)),

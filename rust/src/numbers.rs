@@ -23,6 +23,7 @@ pub(crate) const STATUS_NO_TREE: u32 = 7;
 pub(crate) const STATUS_UNKNOWN_STYLE: u32 = 8;
 pub(crate) const STATUS_UNKNOWN_FLAG: u32 = 9;
 pub(crate) const STATUS_UNKNOWN_PRECEDENCE: u32 = 10;
+pub(crate) const STATUS_UNRESOLVED: u32 = 11;
 
 pub(crate) const ERROR_NONE: u32 = 0;
 pub(crate) const ERROR_GENERAL_PARSE_ERROR: u32 = 1;
@@ -118,7 +119,7 @@ pub(crate) const STYLE_COMPACT: u32 = 2;
 
 // the largest number of a group
 pub(crate) const LAST_FLAG: u32 = 65536;
-pub(crate) const LAST_STATUS: u32 = 10;
+pub(crate) const LAST_STATUS: u32 = 11;
 pub(crate) const LAST_ERROR: u32 = 16;
 pub(crate) const LAST_NODE: u32 = 24;
 pub(crate) const LAST_ASSERTION: u32 = 12;
@@ -134,5 +135,5 @@ pub(crate) const LAST_STYLE: u32 = 2;
 pub(crate) const FLAG_LETTERS: &str = "imsUxuRon";
 
 pub(crate) const VERSION_MAJOR: u32 = 2;
-pub(crate) const VERSION_MINOR: u32 = 0;
+pub(crate) const VERSION_MINOR: u32 = 1;
 pub(crate) const VERSION_PATCH: u32 = 0;

@@ -211,6 +211,19 @@ impl Rows {
         self.names[..self.info.name_count].iter().map(|name| (self.name(name).unwrap_or_default(), name.group))
     }
 
+    /// The name of the group with this number; `None` if it has none.
+    ///
+    /// ```
+    /// use fancy_syntax::{Flags, Rows};
+    /// let mut rows = Rows::new();
+    /// let rows = rows.parse("(?<n>a)(b)", Flags::UNICODE)?;
+    /// assert_eq!((rows.group_name(1), rows.group_name(2)), (Some("n"), None));
+    /// # Ok::<(), fancy_syntax::Error>(())
+    /// ```
+    pub fn group_name(&self, group: usize) -> Option<&str> {
+        self.names().find(|(_, number)| *number == group).map(|(name, _)| name)
+    }
+
     /// The group numbers of back references, from 0 up to [`total_groups`](Rows::total_groups), in ascending order, each once.
     ///
     /// ```

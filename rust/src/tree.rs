@@ -39,6 +39,21 @@ pub struct GroupInfo {
     pub numbered_groups_ignored: bool,
 }
 
+impl GroupInfo {
+    /// The name of the group with this number; `None` if it has none.
+    ///
+    /// ```
+    /// use fancy_syntax::{parse, Flags};
+    /// let groups = parse("(?<n>a)(b)", Flags::UNICODE)?.groups;
+    /// assert_eq!((groups.group_name(1), groups.group_name(2)), (Some("n"), None));
+    /// # Ok::<(), fancy_syntax::Error>(())
+    /// ```
+    pub fn group_name(&self, group: usize) -> Option<&str> {
+        let named = self.named_groups.iter().find(|(_, numbers)| numbers.contains(&group));
+        named.map(|(name, _)| name.as_str())
+    }
+}
+
 impl Tree {
     /// Writes a pattern that is parsed, under the flags, as this tree with these names, also after the tree was changed.
     /// [`Expr::to_pattern`] says more; of the spans nothing is used.
@@ -78,5 +93,19 @@ impl Tree {
     pub fn walk(&self) -> impl Iterator<Item = (&Expr, Span)> {
         let spans = self.spans.iter().cloned().chain(std::iter::repeat(0..0));
         self.expr.walk().zip(spans)
+    }
+
+    /// The capturing groups in preorder, each with its number and its name.
+    ///
+    /// ```
+    /// use fancy_syntax::{parse, Flags};
+    /// let tree = parse("(?<n>a(b))", Flags::UNICODE)?;
+    /// let groups: Vec<_> = tree.walk_groups().map(|(number, name, _)| (number, name)).collect();
+    /// assert_eq!(groups, [(1, Some("n")), (2, None)]);
+    /// # Ok::<(), fancy_syntax::Error>(())
+    /// ```
+    pub fn walk_groups(&self) -> impl Iterator<Item = (usize, Option<&str>, &Expr)> {
+        let groups = self.expr.walk().filter(|node| matches!(node, Expr::Group(_)));
+        (1..).zip(groups).map(move |(number, group)| (number, self.groups.group_name(number), group))
     }
 }

@@ -189,7 +189,7 @@ pub(crate) fn pattern_of_rows(
     info: &Info,
     flags: Flags,
 ) -> Result<Option<String>, Error> {
-    let write = |buffer: &mut [u8]| ffi::pattern_nodes(rows, names, info, flags.bits(), buffer);
+    let write = |buffer: &mut [u8]| ffi::to_pattern_nodes(rows, names, info, flags.bits(), buffer);
     text_of(call::written(extent_of_rows(rows), write, numbers::STATUS_OK)?)
 }
 

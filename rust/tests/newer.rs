@@ -1,7 +1,9 @@
 //! What a library that is newer returns: a number that the crate has no name for is an error that says so, and not one of something else than
 //! libfancy. Where `FANCY_NEWER` is set, `.ci/newer.c` is linked, and 1000 is the number; with libfancy there is nothing to see here.
 
-use fancy_syntax::{check, format_pattern, parse, print, to_pattern, trivia};
+use fancy_syntax::{
+    check, escape, format_pattern, is_resolved, parse, parse_decimal, parse_id, print, to_pattern, trivia,
+};
 use fancy_syntax::{Error, Expr, Flags, GroupInfo, ParseError, Precedence, Rows, Style};
 
 const U: Flags = Flags::UNICODE;
@@ -43,6 +45,10 @@ fn a_number_that_is_new_is_unknown() {
     assert_eq!(to_pattern("status", U), unknown("a status"));
     assert_eq!(print("status", U, Precedence::Whole), unknown("a status"));
     assert_eq!(format_pattern("status", U, Style::Kept), unknown("a status"));
+    assert_eq!(is_resolved("status", U), unknown("a status"));
+    assert_eq!(escape("status", U), unknown("a status"));
+    assert_eq!(parse_id("status"), unknown("a status"));
+    assert_eq!(parse_decimal("status"), unknown("a status"));
     assert_eq!(Expr::Empty.print(Precedence::Whole), unknown("a status"));
     assert_eq!(Expr::Empty.to_pattern(&GroupInfo::default(), U), unknown("a status"));
     assert_eq!(parse("ab", U).map(|tree| tree.expr), Ok(Expr::Empty));

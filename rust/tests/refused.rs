@@ -1,7 +1,8 @@
 //! What a failed allocation of the library does: the call returns an error that says so, and the next call has the result of any other. With
 //! libfancy no allocation fails here; where `FANCY_REFUSES` is set, it is linked with `.ci/refusing.c`.
 
-use fancy_syntax::{check, format_pattern, parse, print, to_pattern, trivia, Error, Flags, Precedence, Rows, Style};
+use fancy_syntax::{check, escape, format_pattern, is_resolved, parse, print, to_pattern, trivia};
+use fancy_syntax::{Error, Flags, Precedence, Rows, Style};
 use std::fmt::Debug;
 
 /// Makes a call many times. Each result has to be the same, unless memory was refused. Returns how often it was.
@@ -32,6 +33,8 @@ fn a_failed_allocation_is_an_error() {
         refused += refusals(|| check(pattern, flags));
         refused += refusals(|| trivia(pattern, flags));
         refused += refusals(|| to_pattern(pattern, flags));
+        refused += refusals(|| is_resolved(pattern, flags));
+        refused += refusals(|| escape(pattern, flags));
         refused += refusals(|| format_pattern(pattern, flags, Style::Verbose { width: 8 }));
         refused += refusals(|| print(pattern, flags, Precedence::Piece));
         let _ = rows.parse(pattern, flags);

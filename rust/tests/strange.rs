@@ -1,7 +1,9 @@
 //! Everything is called and looked at, for whatever the library returns. With libfancy there is no error of the library; with
 //! `.ci/strange.c`, which is linked instead where `FANCY_STRANGE` is set, there are many. Nothing may panic.
 
-use fancy_syntax::{check, format_pattern, parse, print, to_pattern, trivia};
+use fancy_syntax::{
+    check, escape, format_pattern, is_resolved, parse, parse_decimal, parse_id, print, to_pattern, trivia,
+};
 use fancy_syntax::{Error, Expr, Flags, GroupInfo, Precedence, Rows, Style};
 use std::collections::BTreeMap;
 
@@ -26,6 +28,7 @@ fn look(rows: &Rows, pattern: &str) -> usize {
     let tree = rows.to_tree();
     assert_eq!(tree, tree.clone());
     assert_eq!(tree.walk().count(), root.walk().len());
+    assert!(tree.walk_groups().all(|(number, _, _)| number <= root.walk().len()));
     assert!(rows.names().all(|(name, _)| name.len() < 1 << 20));
     assert!(rows.backrefs().len() <= 64 * (pattern.len() + 64));
     format!("{rows:?}{:?}", tree.groups).len().min(root.walk().len())
@@ -48,6 +51,10 @@ fn nothing_panics() {
             kind_of(&to_pattern(pattern, Flags::UNICODE)),
             kind_of(&format_pattern(pattern, Flags::UNICODE, Style::Kept)),
             kind_of(&print(pattern, Flags::UNICODE, Precedence::Whole)),
+            kind_of(&is_resolved(pattern, Flags::UNICODE)),
+            kind_of(&escape(pattern, Flags::UNICODE)),
+            kind_of(&parse_id(pattern)),
+            kind_of(&parse_decimal(pattern)),
             kind_of(&Expr::KeepOut.print(Precedence::Whole)),
             kind_of(&Expr::KeepOut.to_pattern(&GroupInfo::default(), Flags::UNICODE)),
         ];

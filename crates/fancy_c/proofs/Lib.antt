@@ -22,3 +22,9 @@ mod RowTreeLemmas
 mod TriviumLemmas
 -- ---- formatted patterns
 mod FormatLemmas
+-- ---- a text as a pattern
+mod EscapeLemmas
+-- ---- references that are resolved
+mod ResolvedLemmas
+-- ---- what a text begins with
+mod TextStartLemmas

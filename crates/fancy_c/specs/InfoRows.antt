@@ -1,5 +1,6 @@
 -- The group information of a tree, as a caller in C gets it.
-use Rattle.std.specs.Prelude.{◌≡◌, ℕ, ◌+◌, ◌*◌, ◌≤◌, true, false, List, [], ◌∷◌, ◌++◌, chars, length, map, encode_utf8_all}
+use Rattle.std.specs.Prelude.{◌≡◌, ℕ, ◌+◌, ◌*◌, ◌≤◌, true, false, List, [], ◌∷◌, ◌++◌, chars, get_or, length, map}
+use Rattle.std.specs.Prelude.{encode_utf8_all}
 use Rattle.std.specs.Option.{unwrap_or, is_some}
 use Rattle.fancy_lex.specs.Bits.{has_bit}
 use Rattle.fancy_lex.specs.Flags.{flags_of}
@@ -25,6 +26,10 @@ use Rattle.fancy_c.specs.declared.call_flags.TheConstants.{FLAG_WITHOUT_SPANS}
 -- the rows of a name that begins at the byte o and has n bytes: one for each of its numbers
 abbrev pub rows_of_name : ℕ → ℕ → List ℕ → List Name
 rows_of_name o n ks = map (λ k. record { text = o; text_size = n; group = k }) ks
+
+-- the row with an index; zeros past the end of the rows
+abbrev pub name_at : List Name → ℕ → Name
+name_at names i = get_or names i (record { text = 0; text_size = 0; group = 0 })
 
 -- the names, one after the other
 abbrev pub name_texts : List (Text × List ℕ) → List ℕ

@@ -8,3 +8,6 @@ pub mod Numbered
 pub mod RowTree
 pub mod InfoRows
 pub mod TriviumRows
+pub mod EscapedText
+pub mod TextStart
+pub mod References

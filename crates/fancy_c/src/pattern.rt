@@ -77,7 +77,7 @@ pub(crate) fn put_pattern(
 /// `fancy_check_nonnull` returns. It never returns `STATUS_NO_PATTERN`. Unless it returns `STATUS_OK`, nothing is
 /// written.
 #[unsafe(no_mangle)]
-pub extern "C" fn fancy_pattern_nonnull(
+pub extern "C" fn fancy_to_pattern_nonnull(
     alloc: Global,
     pattern: &[u8],
     flags: u32,

@@ -58,7 +58,7 @@ fn tree_with_groups(
 /// `STATUS_NO_PATTERN` if the text for the tree is not parsed as the tree; `STATUS_UNKNOWN_FLAG` if a bit is set that is no
 /// flag of a pattern, whatever the rows are; or `STATUS_OUT_OF_MEMORY`. Unless it returns `STATUS_OK`, nothing is written.
 #[unsafe(no_mangle)]
-pub extern "C" fn fancy_pattern_nodes_nonnull(
+pub extern "C" fn fancy_to_pattern_nodes_nonnull(
     alloc: Global,
     nodes: &[Node],
     texts: &[u8],

@@ -5,7 +5,7 @@ ghost use Rattle.std.specs.Prelude.{◌≡◌, ◌+◌, ◌*◌};
 pub const VERSION_MAJOR: u32 = 2;
 
 /// Counts additions: a new call, status, kind or flag. It starts again at 0 after each change of the major number.
-pub const VERSION_MINOR: u32 = 0;
+pub const VERSION_MINOR: u32 = 1;
 
 /// Counts corrections. It starts again at 0 after each change of the minor number.
 pub const VERSION_PATCH: u32 = 0;

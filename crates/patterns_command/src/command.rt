@@ -4,7 +4,7 @@ use crate::subcommands::{Subcommand, VERBS, Verb};
 use clap::Command;
 use std::alloc::{AllocError, Global};
 
-const VERSION: &str = "2.0.0";
+const VERSION: &str = "2.1.0";
 
 const ABOUT: &str =
     "Checks, shows and formats patterns in the syntax of fancy-regex. It does not match them.

@@ -1,6 +1,6 @@
 use Rattle.std.proofs.Common.{arith}
 use Rattle.fancy_c.proofs.TextLemmas.{of_pattern}
-use Rattle.fancy_c.proofs.pattern.fancy_pattern_nonnull.Goals as goal
+use Rattle.fancy_c.proofs.pattern.fancy_to_pattern_nonnull.Goals as goal
 
 pub returns-in-Ok-clause-never : goal.returns-in-Ok-clause-never
 returns-in-Ok-clause-never c = λ is.
