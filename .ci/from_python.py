@@ -204,7 +204,7 @@ def are_trees_right():
         and sum(1 for _ in fancy.parse(deep).walk()) == 64
         and fancy.parse("a{2,}").root.hi is None
         and len(list(fancy.parse("a" * 5000).walk())) == 5001
-        and fancy.format("(?x) a {2,2}  # twice") == "a{2}"
+        and fancy.to_pattern("(?x) a {2,2}  # twice") == "a{2}"
         and fancy.normal_form("(?=a)") is None
         and fancy.normal_form("a|b", precedence=fancy.Precedence.PIECE) == "(?:a|b)"
         and changed(r"(?<n>a)\1", fancy.KeepOut) == r"\K\1"
@@ -391,7 +391,7 @@ def replaced(pattern, **fields):
     tree = fancy.parse(pattern)
     node = dataclasses.replace(tree.root.children[1], **fields)
     root = dataclasses.replace(tree.root, children=(tree.root.children[0], node))
-    calls = [dataclasses.replace(tree, root=root).format, root.normal_form, node.normal_form]
+    calls = [dataclasses.replace(tree, root=root).to_pattern, root.normal_form, node.normal_form]
     refusals = {refusal(call) for call in calls}
     return refusals.pop() if len(refusals) == 1 else refusals
 
@@ -424,7 +424,7 @@ def are_numbers_looked_at():
         and replaced(r"b\g<n>", target=two) == out_of_range("AstNode.target", two)
         and replaced(r"b\g<n>", target=fancy.Relative(two)) == out_of_range("AstNode.target", two, lowest, highest)
         and replaced(r"b\g<n>", byte_position=two) == out_of_range("AstNode.byte_position", two)
-        and refusal(named.format) == out_of_range("a group of the name 'n'", two)
+        and refusal(named.to_pattern) == out_of_range("a group of the name 'n'", two)
         and fancy.parse("ba{2,3}").root.children[1].normal_form() == "a{2,3}"
     )
 

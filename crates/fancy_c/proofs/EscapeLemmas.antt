@@ -350,8 +350,3 @@ literals_next f es new e t rest all c pushed is made so_far =
     ∙ append_assoc (views es) (view e ∷ []) (literals f rest)
     ∙ ap (λ u. views es ++ u ∷ literals f rest) made
     ∙ ap (λ v. views es ++ literals f v) (sym is) ∙ so_far
-
-pub literals_end : (f : Flags) (es : List Expr) (t all : Text) → t ≡ [] →
-    views es ++ map (literal_of f) t ≡ map (literal_of f) all → views es ≡ map (literal_of f) all
-literals_end f es t all is so_far =
-    sym (append-nil (views es)) ∙ ap (λ v. views es ++ literals f v) (sym is) ∙ so_far

@@ -1,5 +1,5 @@
 -- Whether a test holds of each node of a tree: of the node and of those of its children.
-use Rattle.std.proofs.Common.{◌≡◌, Bool, true, false, ◌&&◌, List, [], ◌++◌, sym, ap, ◌∙◌}
+use Rattle.std.proofs.Common.{◌≡◌, Bool, true, ◌&&◌, List, ◌++◌, sym, ap, ◌∙◌}
 use Rattle.std.specs.List.{list_all}
 use Rattle.std.proofs.lemmas.List.Folds.{list_all-append}
 use Rattle.fancy_grammar.specs.Tree.{Tree, children}
@@ -14,19 +14,7 @@ module _ (p : Tree → Bool) where
       ap (list_all p) (listed_is t) ∙ ap (λ b. b && list_all p (listed_each (children t))) here
       ∙ ap (list_all p) (sym is)
 
-  pub tests_fail_here : (t : Tree) → p t ≡ false → list_all p (listed t) ≡ false
-  tests_fail_here t here =
-      ap (list_all p) (listed_is t) ∙ ap (λ b. b && list_all p (listed_each (children t))) here
-
   pub tests_next : (all : Bool) (t : Tree) (before left : List Tree) → before ≡ listed t ++ left →
       list_all p (listed t) ≡ true → all ≡ list_all p before → all ≡ list_all p left
   tests_next all t before left is here so_far =
       so_far ∙ ap (list_all p) is ∙ list_all-append p (listed t) left ∙ ap (λ b. b && list_all p left) here
-
-  pub tests_fail : (all : Bool) (t : Tree) (before left : List Tree) → before ≡ listed t ++ left →
-      list_all p (listed t) ≡ false → all ≡ list_all p before → all ≡ false
-  tests_fail all t before left is here so_far =
-      so_far ∙ ap (list_all p) is ∙ list_all-append p (listed t) left ∙ ap (λ b. b && list_all p left) here
-
-  pub tests_end : (all : Bool) (left : List Tree) → left ≡ [] → all ≡ list_all p left → all ≡ true
-  tests_end all left is so_far = so_far ∙ ap (list_all p) is
