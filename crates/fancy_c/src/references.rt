@@ -22,17 +22,22 @@ use std::alloc::Global;
 fn is_resolved(node: &Expr, groups: usize) -> bool
     ensures { result ≡ spec.is_resolved groups (view node.now) }
 {
-    match node {
-        Expr::Backref { group, .. } => *group <= groups,
-        Expr::BackrefWithRelativeRecursionLevel { group, .. } => *group <= groups,
-        Expr::BackrefExistsCondition { group, .. } => *group <= groups,
-        Expr::SubroutineCall(group) => *group <= groups,
-        Expr::AstNode(AstNode::Backref { .. }, _) => false,
-        Expr::AstNode(AstNode::SubroutineCall(_), _) => false,
-        Expr::AstNode(AstNode::BackrefExistsCondition { .. }, _) => false,
-        Expr::AstNode(AstNode::AstGroup { .. }, _) => true,
-        _ => true,
+    if let Expr::Backref { group, .. }
+    | Expr::BackrefWithRelativeRecursionLevel { group, .. }
+    | Expr::BackrefExistsCondition { group, .. }
+    | Expr::SubroutineCall(group) = node
+    {
+        return *group <= groups;
     }
+    !matches!(
+        node,
+        Expr::AstNode(
+            AstNode::Backref { .. }
+                | AstNode::SubroutineCall(_)
+                | AstNode::BackrefExistsCondition { .. },
+            _
+        )
+    )
 }
 
 /// Whether this is so for each node of the tree.
