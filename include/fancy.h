@@ -481,7 +481,7 @@ FANCY_INLINE fancy_result fancy_escape(const char *text, size_t length, uint32_t
 }
 
 /* Reads the id that a text begins with, as for a template of a replacement: all letters and numbers, in any script, and _ at the
- * front. Returns OK with the size of the id, which is 0 if there is none; or NOT_UTF8. */
+ * front. Returns OK with the size of the id, or with 0 if the text begins with no id; or NOT_UTF8. */
 FANCY_INLINE fancy_result fancy_parse_id(const char *text, size_t length) {
     return fancy_parse_id_nonnull(text ? text : "", length);
 }

@@ -1206,7 +1206,7 @@ def escape(text: Pattern, flags: int = UNICODE) -> str:
 
 def parse_id(text: Pattern) -> str:
     """Returns the id that a text begins with, as for a template of a replacement: all letters and numbers, in any script, and `_` at
-    the front. It is empty if there is none. Raises `Error` if the text is not UTF-8.
+    the front. It is empty if the text begins with no id. Raises `Error` if the text is not UTF-8.
 
     >>> parse_id("year}-"), parse_id("{year}")
     ('year', '')

@@ -51,7 +51,7 @@ pub fn escape(text: &str, flags: Flags) -> Result<String, Error> {
 }
 
 /// Returns the id that a text begins with, as for a template of a replacement: all letters and numbers, in any script, and `_`
-/// at the front. It is empty if there is none.
+/// at the front. It is empty if the text begins with no id.
 ///
 /// # Errors
 ///
