@@ -13,7 +13,7 @@ ENUMS = {
 # The groups of the numbers that definitions give, and names there of what has another name in the table.
 DEFINITIONS = {
     "number_of_kind": "error", "assertion_number": "assertion", "look_around_number": "look", "verb_number": "verb", "kind_number": "trivium",
-    "IsStyleOf": "style", "row": "node", "IsRowOf": "node", "row_of_call": "target", "HasTarget": "target",
+    "IsStyleOf": "style", "row": "node", "HasFields": "absent", "row_of_call": "target", "HasTarget": "target",
 }  # fmt: skip
 DEFINED = {"INLINE_FLAGS": "flags", "BACKREF_EXISTS_CONDITION": "backref_exists", "AST_NODE": "ast_group"}
 

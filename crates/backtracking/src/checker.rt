@@ -24,7 +24,7 @@ pub(crate) struct Turned<'a> {
     pub(crate) rest: Remaining<'a>,
 }
 
-/// What remains after the node has matched one character.
+/// What remains after the node has matched one character. None if it does not match it, or is no node of one character.
 fn go_over_character<'a>(
     alloc: Global,
     tree: &Expr,

@@ -16,8 +16,8 @@ fn moved(span: Span, start: usize) -> Span {
     }
 }
 
-/// Adds what is wrong with the node, if it is a class. If it looks like something else, that is said in place of the items that can be
-/// left out.
+/// Adds what is wrong with the node, if it is a class. If it looks like something else, that is said in place of the items
+/// that can be left out.
 fn add_of_class(
     node: SpannedNode<'_>,
     pattern: &str,

@@ -13,8 +13,8 @@ use Rattle.fancy_lex.proofs.TextLemmas.{bytes-append, strip_is}
 use Rattle.fancy_lex.specs.Class.{class, class_from, class_start, with_symbol, escape_in_class, joint, is_negated}
 use Rattle.fancy_lex.specs.Class.{char_text, byte_text, upper_hex_digit, needs_backslash_in_class}
 use Rattle.fancy_lex.specs.Escape.{escape}
-use Rattle.fancy_lex.specs.Escaped.{Escape, literal, literal_bytes, any, assertion, general_newline, keep_out}
-use Rattle.fancy_lex.specs.Escaped.{continue_from_previous_match_end, delegate, backref, subroutine_call}
+use Rattle.fancy_lex.specs.Escaped.{Escape, literal, literal_bytes}
+use Rattle.fancy_lex.specs.Escaped.{delegate}
 use Rattle.fancy_lex.specs.Property.{is_negated_set}
 use Rattle.fancy_lex.specs.Reading.{Reading, gives, fails, choose, ◌>=>◌}
 use Rattle.fancy_lex.specs.Text.{Text, bytes, strip}
@@ -71,13 +71,7 @@ escape_written t p (gives e u) (leaves (w, cut)) s h = λ seen.
         omega (arith, shorter, joint_none seen, byte_size b s.1, bytes-append (joint (seen && false)) (byte_text b))
     text seen (delegate w casei) s h =
         omega (arith, h, joint_less seen (is_negated_set w), bytes-append (joint (seen && is_negated_set w)) w)
-    text seen (any newline crlf) s h = none seen
-    text seen (assertion a) s h = none seen
-    text seen (general_newline unicode) s h = none seen
-    text seen keep_out s h = none seen
-    text seen continue_from_previous_match_end s h = none seen
-    text seen (backref r casei) s h = none seen
-    text seen (subroutine_call c) s h = none seen
+    text seen e s h = none seen
 escape_written t p (fails e) l s h = tt
 
 -- ---- classes

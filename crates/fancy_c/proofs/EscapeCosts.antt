@@ -23,8 +23,8 @@ use Rattle.fancy_lex.specs.Escape.{lone_escape, lone_anywhere, lone_outside}
 use Rattle.fancy_lex.specs.EscapeReference.{group_number, numbered_reference, back_reference, is_relative}
 use Rattle.fancy_lex.specs.EscapeReference.{relative_target, call_target, written_call, delimited_call, numbered_call}
 use Rattle.fancy_lex.specs.EscapeReference as reference
-use Rattle.fancy_lex.specs.Escaped.{Escape, literal, literal_bytes, any, assertion, general_newline, keep_out}
-use Rattle.fancy_lex.specs.Escaped.{continue_from_previous_match_end, delegate, backref, subroutine_call, hex_class}
+use Rattle.fancy_lex.specs.Escaped.{Escape}
+use Rattle.fancy_lex.specs.Escaped.{delegate, subroutine_call, hex_class}
 use Rattle.fancy_lex.specs.Escaped.{negated_hex_class}
 use Rattle.fancy_lex.specs.ErrorTable.{property_not_closed}
 use Rattle.fancy_lex.specs.Hex as hexes
@@ -289,17 +289,10 @@ paid_both t (fails e) f h = tt
 
 paid_past : (c : ℕ) (t : Text) (o : Reading Escape) → IsPaidIn t o → IsPaidIn (c ∷ t) o
 unfolding bytes
-paid_past c t (gives (literal v casei) u) h = h
-paid_past c t (gives (literal_bytes b) u) h = h
-paid_past c t (gives (any newline crlf) u) h = h
-paid_past c t (gives (assertion a) u) h = h
-paid_past c t (gives (general_newline unicode) u) h = h
-paid_past c t (gives keep_out u) h = h
-paid_past c t (gives continue_from_previous_match_end u) h = h
 paid_past c t (gives (delegate w casei) u) h = omega (arith, h)
-paid_past c t (gives (backref r casei) u) h = h
 paid_past c t (gives (subroutine_call r) u) h =
     more_within (bytes t - bytes u) (bytes (c ∷ t) - bytes u) r.target (omega arith) h
+paid_past c t (gives e u) h = h
 paid_past c t (fails e) h = tt
 
 module _ (f : Flags) where

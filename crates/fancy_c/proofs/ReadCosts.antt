@@ -21,7 +21,7 @@ use Rattle.fancy_grammar.specs.Grammar.{closed, branches_of, conditional_of}
 use Rattle.fancy_grammar.specs.Grammar.{conditional_after, is_condition, clear_or_stopper}
 use Rattle.fancy_grammar.specs.GroupKind.{GroupKind, capture, flag_group, look, atomic, define, repeater}
 use Rattle.fancy_grammar.specs.Label as label
-use Rattle.fancy_grammar.specs.Label.{ast_backref, ast_call, ast_condition}
+use Rattle.fancy_grammar.specs.Label.{ast_call}
 use Rattle.fancy_grammar.specs.Quantified.{quants, adjacent, max_adjacent, is_unmoved, quant, with_counts}
 use Rattle.fancy_grammar.specs.Quantified.{quantified, suffix, is_repeatable, is_dropped, Suffix}
 use Rattle.fancy_grammar.specs.State.{skipped, State, at, Outcome, done, failed, mapped}
@@ -163,20 +163,7 @@ read_leaf_paid s (done r t) h w = by_leaf r h.alone w
     by_leaf (leaf (label.literal_bytes v)) i w = omega (arith, past, i.0.0)
     by_leaf (leaf (label.delegate v casei)) i w = w
     by_leaf (leaf (label.ast_node (ast_call g) reach)) i w = by_target g w
-    by_leaf (leaf (label.ast_node (ast_backref g casei level) reach)) i w = omega (arith, past)
-    by_leaf (leaf (label.ast_node (ast_condition g level) reach)) i w = omega (arith, past)
-    by_leaf (leaf label.empty) i w = omega (arith, past)
-    by_leaf (leaf (label.any newline crlf)) i w = omega (arith, past)
-    by_leaf (leaf (label.assertion a)) i w = omega (arith, past)
-    by_leaf (leaf (label.general_newline u)) i w = omega (arith, past)
-    by_leaf (leaf (label.backref k casei)) i w = omega (arith, past)
-    by_leaf (leaf (label.backref_at_level k z casei)) i w = omega (arith, past)
-    by_leaf (leaf label.keep_out) i w = omega (arith, past)
-    by_leaf (leaf label.continue_from_previous_match_end) i w = omega (arith, past)
-    by_leaf (leaf (label.backref_exists k z)) i w = omega (arith, past)
-    by_leaf (leaf (label.subroutine_call k)) i w = omega (arith, past)
-    by_leaf (leaf (label.verb k)) i w = omega (arith, past)
-    by_leaf (leaf label.clear) i w = omega (arith, past)
+    by_leaf (leaf l) i w = omega (arith, past)
     by_leaf (over k u) i w = absurd (two_levels u i.2)
     by_leaf (row k ts) i w = omega (arith, past, no_cost ts i.2)
 

@@ -62,17 +62,10 @@ word_fits w t u e = omega (arith, ap bytes (strip_word_is w t u e), bytes-append
 
 escape_within : (n : ℕ) (s : State) (t : Text) (o : Reading Escape) → bytes t + 1 ≤ n → IsPaidIn t o →
     LeafWithin n (leaf_outcome leaf_node s o)
-escape_within n s t (gives (escaped.literal c casei) u) l h = tt
-escape_within n s t (gives (escaped.literal_bytes b) u) l h = tt
-escape_within n s t (gives (escaped.any newline crlf) u) l h = tt
-escape_within n s t (gives (escaped.assertion a) u) l h = tt
-escape_within n s t (gives (escaped.general_newline unicode) u) l h = tt
-escape_within n s t (gives escaped.keep_out u) l h = tt
-escape_within n s t (gives escaped.continue_from_previous_match_end u) l h = tt
 escape_within n s t (gives (escaped.delegate w casei) u) l h = omega (arith, l, h)
-escape_within n s t (gives (escaped.backref r casei) u) l h = tt
 escape_within n s t (gives (escaped.subroutine_call c) u) l h =
     more_within (bytes t - bytes u) (n - bytes u) c.target (omega (arith, l)) h
+escape_within n s t (gives e u) l h = tt
 escape_within n s t (fails e) l h = tt
 
 class_read : (n : ℕ) (s : State) (casei : Bool) (m : ℕ) (o : Reading Text) → m ≤ 6 * n → IsClassWithin m o →

@@ -153,6 +153,10 @@ row s (define_group t) = plain number.NODE_DEFINE_GROUP s 0
 row s (ast_node r offset) = row_of_read s r offset
 row s (ast_group name offset t) = plain number.NODE_AST_NODE s 0
 
+-- the kind in a node's row, which no position changes
+abbrev pub node_number : Tree → ℕ
+node_number t = (row (record { end = 0; text = 0; span = record { start = 0; end = 0 } }) t).kind
+
 -- ---- the rows of a tree
 
 -- The nodes of a parsed tree in preorder: each before the nodes in it, in text order. No parsed tree holds a group that

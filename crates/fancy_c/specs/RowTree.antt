@@ -1,17 +1,17 @@
 -- The tree that rows of a caller are.
-use Rattle.std.specs.Prelude.{◌≡◌, ℕ, ◌+◌, ◌≤◌, Bool, List, [], ◌∷◌, length, take, drop, reverse, Some, None, if◌then◌else◌}
-use Rattle.std.specs.Prelude.{encode_utf8_all}
+use Rattle.std.specs.Prelude.{◌≡◌, ℕ, ◌+◌, ◌≤◌, Bool, true, List, [], ◌∷◌, length, take, drop, reverse, Some, None}
+use Rattle.std.specs.Prelude.{encode_utf8_all, if◌then◌else◌}
 use Rattle.fancy_lex.specs.Target.{Target, by_number, by_name, relative}
 use Rattle.fancy_lex.specs.declared.escape.Assertion.{Assertion}
 use Rattle.fancy_lex.specs.declared.escape.Assertion.TheVariants as is
 use Rattle.fancy_grammar.specs.Label as label
-use Rattle.fancy_grammar.specs.Label.{ast_call}
-use Rattle.fancy_grammar.specs.Tree.{Tree, empty, any, assertion, general_newline, literal, literal_bytes, concat, alt}
-use Rattle.fancy_grammar.specs.Tree.{group, look_around, repeat, delegate, backref, backref_at_level, atomic_group}
-use Rattle.fancy_grammar.specs.Tree.{keep_out, continue_from_previous_match_end, backref_exists, subroutine_call, verb}
-use Rattle.fancy_grammar.specs.Tree.{define_group, ast_node, repeater, stopper, clear, row as row_of}
+use Rattle.fancy_grammar.specs.Label.{ast_call, is_bare}
+use Rattle.fancy_grammar.specs.Tree.{Tree, leaf, any, assertion, general_newline, literal, literal_bytes, concat, alt}
+use Rattle.fancy_grammar.specs.Tree.{group, look_around, repeat, delegate, backref, backref_at_level, backref_exists}
+use Rattle.fancy_grammar.specs.Tree.{atomic_group, subroutine_call, verb, define_group, repeater, stopper, clear}
+use Rattle.fancy_grammar.specs.Tree.{ast_node, row as row_of}
 use Rattle.fancy_syntax.specs.View.{view}
-use Rattle.fancy_c.specs.Node.{listed, listed_each, assertion_number, look_around_number, verb_number}
+use Rattle.fancy_c.specs.Node.{listed, listed_each, node_number, assertion_number, look_around_number, verb_number}
 use Rattle.fancy_c.specs.declared.built.Built.{Built}
 use Rattle.fancy_c.specs.declared.node.Node.{Node}
 use Rattle.fancy_c.specs.declared.node.TheConstants as number
@@ -35,47 +35,39 @@ HasCrlf b (is.StartLineOniguruma crlf) = crlf ≡ b
 HasCrlf b (is.EndLine crlf) = crlf ≡ b
 HasCrlf b _ = Unit {0}
 
--- the row is an absent form
-abbrev pub IsAbsentRow : Node → ℕ → Type 0
-IsAbsentRow r n = (r.kind ≡ number.NODE_ABSENT) × (r.which ≡ n)
+-- the row has what the node holds except the nodes below it; of the row's other fields nothing is said. No tree that is
+-- built from rows holds a node that is not resolved, except calls
+abbrev pub HasFields : List ℕ → Node → Tree → Type 0
+HasFields texts r (any newline crlf) = (r.newline ≡ newline) × (r.crlf ≡ crlf)
+HasFields texts r (assertion a) = (r.which ≡ assertion_number a) × HasCrlf r.crlf a
+HasFields texts r (general_newline u) = r.unicode ≡ u
+HasFields texts r (literal w casei) = HasText texts r (encode_utf8_all w) × (r.casei ≡ casei)
+HasFields texts r (literal_bytes w) = HasText texts r w
+HasFields texts r (look_around t l) = r.which ≡ look_around_number l
+HasFields texts r (repeat t lo hi greedy) = (r.lo ≡ lo) × (r.hi ≡ hi) × (r.greedy ≡ greedy)
+HasFields texts r (delegate w casei) = HasText texts r (encode_utf8_all w) × (r.casei ≡ casei)
+HasFields texts r (backref n casei) = (r.group ≡ n) × (r.casei ≡ casei)
+HasFields texts r (backref_at_level n l casei) = (r.group ≡ n) × (r.level ≡ l) × (r.casei ≡ casei)
+HasFields texts r (backref_exists n level) = (r.group ≡ n) × (level ≡ (if r.has_level then Some r.level else None))
+HasFields texts r (subroutine_call n) = r.group ≡ n
+HasFields texts r (verb v) = r.which ≡ verb_number v
+HasFields texts r (repeater t) = r.which ≡ number.ABSENT_REPEATER
+HasFields texts r (row_of label.expression ts) = r.which ≡ number.ABSENT_EXPRESSION
+HasFields texts r (stopper t) = r.which ≡ number.ABSENT_STOPPER
+HasFields texts r clear = r.which ≡ number.ABSENT_CLEAR
+HasFields texts r (ast_node (ast_call t) p) = HasTarget texts r t × (r.position ≡ p)
+HasFields texts r (leaf l) = is_bare l ≡ true
+HasFields texts r (group t) = Unit {0}
+HasFields texts r (atomic_group t) = Unit {0}
+HasFields texts r (define_group t) = Unit {0}
+HasFields texts r (concat ts) = Unit {0}
+HasFields texts r (alt ts) = Unit {0}
+HasFields texts r (row_of label.conditional ts) = Unit {0}
+HasFields texts r _ = ⊥
 
--- the row has the kind of the node, and what the node holds except the nodes below it; of the row's other fields
--- nothing is said
+-- the row has the kind of the node and its fields
 abbrev pub IsRowOf : List ℕ → Node → Tree → Type 0
-IsRowOf texts r empty = r.kind ≡ number.NODE_EMPTY
-IsRowOf texts r (any newline crlf) = (r.kind ≡ number.NODE_ANY) × (r.newline ≡ newline) × (r.crlf ≡ crlf)
-IsRowOf texts r (assertion a) = (r.kind ≡ number.NODE_ASSERTION) × (r.which ≡ assertion_number a) × HasCrlf r.crlf a
-IsRowOf texts r (general_newline u) = (r.kind ≡ number.NODE_GENERAL_NEWLINE) × (r.unicode ≡ u)
-IsRowOf texts r (literal w casei) =
-    (r.kind ≡ number.NODE_LITERAL) × HasText texts r (encode_utf8_all w) × (r.casei ≡ casei)
-IsRowOf texts r (literal_bytes w) = (r.kind ≡ number.NODE_LITERAL_BYTES) × HasText texts r w
-IsRowOf texts r (concat ts) = r.kind ≡ number.NODE_CONCAT
-IsRowOf texts r (alt ts) = r.kind ≡ number.NODE_ALT
-IsRowOf texts r (group t) = r.kind ≡ number.NODE_GROUP
-IsRowOf texts r (look_around t l) = (r.kind ≡ number.NODE_LOOK_AROUND) × (r.which ≡ look_around_number l)
-IsRowOf texts r (repeat t lo hi greedy) =
-    (r.kind ≡ number.NODE_REPEAT) × (r.lo ≡ lo) × (r.hi ≡ hi) × (r.greedy ≡ greedy)
-IsRowOf texts r (delegate w casei) =
-    (r.kind ≡ number.NODE_DELEGATE) × HasText texts r (encode_utf8_all w) × (r.casei ≡ casei)
-IsRowOf texts r (backref n casei) = (r.kind ≡ number.NODE_BACKREF) × (r.group ≡ n) × (r.casei ≡ casei)
-IsRowOf texts r (backref_at_level n l casei) =
-    (r.kind ≡ number.NODE_BACKREF_AT_LEVEL) × (r.group ≡ n) × (r.level ≡ l) × (r.casei ≡ casei)
-IsRowOf texts r (atomic_group t) = r.kind ≡ number.NODE_ATOMIC_GROUP
-IsRowOf texts r keep_out = r.kind ≡ number.NODE_KEEP_OUT
-IsRowOf texts r continue_from_previous_match_end = r.kind ≡ number.NODE_CONTINUE_FROM_PREVIOUS_MATCH_END
-IsRowOf texts r (backref_exists n level) =
-    (r.kind ≡ number.NODE_BACKREF_EXISTS_CONDITION) × (r.group ≡ n)
-    × (level ≡ (if r.has_level then Some r.level else None))
-IsRowOf texts r (row_of label.conditional ts) = r.kind ≡ number.NODE_CONDITIONAL
-IsRowOf texts r (subroutine_call n) = (r.kind ≡ number.NODE_SUBROUTINE_CALL) × (r.group ≡ n)
-IsRowOf texts r (verb v) = (r.kind ≡ number.NODE_VERB) × (r.which ≡ verb_number v)
-IsRowOf texts r (repeater t) = IsAbsentRow r number.ABSENT_REPEATER
-IsRowOf texts r (row_of label.expression ts) = IsAbsentRow r number.ABSENT_EXPRESSION
-IsRowOf texts r (stopper t) = IsAbsentRow r number.ABSENT_STOPPER
-IsRowOf texts r clear = IsAbsentRow r number.ABSENT_CLEAR
-IsRowOf texts r (define_group t) = r.kind ≡ number.NODE_DEFINE_GROUP
-IsRowOf texts r (ast_node (ast_call t) p) = (r.kind ≡ number.NODE_AST_NODE) × HasTarget texts r t × (r.position ≡ p)
-IsRowOf texts r _ = ⊥
+IsRowOf texts r t = (r.kind ≡ node_number t) × HasFields texts r t
 
 -- the rows, from the index i on, begin with those of the nodes, and each says where the nodes below it end
 abbrev pub BeginWith : List ℕ → ℕ → List Node → List Tree → Type 0

@@ -236,16 +236,11 @@ escape_reads s z t h m (gives e u) (leaves l) p =
     by_leaf : (e : Escape) → Sound t (gives e u) → ItemSpan (items (leaf_node e)) s.rest u × IsReadLeaf (leaf_node e)
     by_leaf (escaped.literal c casei) p = (plain, (refl, refl, refl))
     by_leaf (escaped.literal_bytes b) p = (plain, ((refl, (p, tt)), refl, refl))
-    by_leaf (escaped.any newline crlf) p = (plain, (tt, refl, refl))
-    by_leaf (escaped.assertion a) p = (plain, (tt, refl, refl))
-    by_leaf (escaped.general_newline unicode) p = (plain, (tt, refl, refl))
-    by_leaf escaped.keep_out p = (plain, (tt, refl, refl))
-    by_leaf escaped.continue_from_previous_match_end p = (plain, (tt, refl, refl))
-    by_leaf (escaped.delegate t casei) p = (plain, (tt, refl, refl))
     by_leaf (escaped.backref r casei) p =
         (referred _ _ (on h.0 (cut_slice p.ends)) p.takes p.reach, (tt, refl, refl))
     by_leaf (escaped.subroutine_call c) p =
         (referred _ _ (on h.0 (cut_slice p.ends)) p.takes p.reach, (tt, refl, refl))
+    by_leaf e p = (plain, (tt, refl, refl))
 escape_reads s z t h m (fails e) (errs l) p = lies_trans m (lies_past (to_ends h.0) l)
 
 -- a class, after its bracket

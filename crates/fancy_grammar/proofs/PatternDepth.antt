@@ -6,15 +6,14 @@ use Rattle.fancy_lex.specs.declared.flags.Flags.{Flags}
 use Rattle.fancy_grammar.specs.Depth.{max_depth}
 use Rattle.fancy_grammar.specs.Join.{is_empty}
 use Rattle.fancy_grammar.specs.Label.{Leaf, empty, backref_exists, verb, clear, ast_node, group, look_around, repeat}
-use Rattle.fancy_grammar.specs.Label.{atomic_group, define_group, repeater, stopper, expression, conditional, concat}
-use Rattle.fancy_grammar.specs.Label.{alt}
+use Rattle.fancy_grammar.specs.Label.{stopper, ast_group, expression, conditional, concat, alt}
 use Rattle.fancy_grammar.specs.Pattern.{Context, under, past_groups, deeper, takes_pieces, takes_branches, is_operand}
 use Rattle.fancy_grammar.specs.Pattern.{is_last_operand, allowed, after}
 use Rattle.fancy_grammar.specs.PatternNeeds.{settled, turns_on}
 use Rattle.fancy_grammar.specs.PatternQuantifier.{is_possessive}
 use Rattle.fancy_grammar.specs.PatternReference.{unresolved_text}
 use Rattle.fancy_grammar.specs.Quantified.{is_repeatable}
-use Rattle.fancy_grammar.specs.Tree.{Tree, leaf, over, row, Trees, no_trees, more_trees}
+use Rattle.fancy_grammar.specs.Tree.{Tree, leaf, over, row, Trees, no_trees, more_trees, atomic_repeat}
 use Rattle.fancy_grammar.specs.declared.precedence.Precedence.{Precedence}
 use Rattle.fancy_grammar.specs.declared.precedence.Precedence.TheVariants.{Whole, Branch, Piece, Operand}
 
@@ -81,15 +80,14 @@ abbrev mutual
       FitsAfterInlineFlags (over (look_around l) t) (FitsAsAtom (over (look_around l) t) p (FitsInParens (Fits t Whole))) h
   Fits (over (repeat lo hi greedy) t) p h =
       FitsAfterInlineFlags t (FitsInParensIf (is_last_operand p) (λ q i. Fits t (Operand (allowed q i)) i) p) h
-  Fits (over atomic_group (over (repeat lo hi greedy) t)) p h =
+  Fits (atomic_repeat t lo hi greedy) p h =
       FitsAfterInlineFlags t
       (λ i. FitsInParensIf (is_last_operand p || not (is_possessive i.flags lo hi))
       (λ q j. Fits t (Operand (allowed q j)) j) p i) h
-  Fits (over atomic_group t) p h = FitsAfterInlineFlags t (FitsInParens (Fits t Whole)) h
-  Fits (over define_group t) p h = FitsAfterInlineFlags t (FitsInParens (Fits t Whole)) h
-  Fits (over repeater t) p h = FitsAfterInlineFlags t (FitsInParens (Fits t Whole)) h
   Fits (over stopper t) p h =
       FitsAfterInlineFlags t (FitsInParens (λ i. MayOpenIf (is_empty t) i × Fits t Branch i)) h
+  Fits (over (ast_group name position) t) p h = Unit {0}
+  Fits (over w t) p h = FitsAfterInlineFlags t (FitsInParens (Fits t Whole)) h
   Fits (row expression (more_trees a (more_trees e no_trees))) p h =
       FitsAfterInlineFlags (row expression (more_trees a (more_trees e no_trees)))
       (FitsInParens (λ i. Fits a Branch i × Fits e Branch (after a Branch i))) h

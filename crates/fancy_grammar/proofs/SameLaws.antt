@@ -6,11 +6,8 @@ use Rattle.std.specs.Cmp.Lexicographic.{bytes_decides}
 use Rattle.std.proofs.lemmas.Bool.{false≢true}
 use Rattle.std.proofs.lemmas.Bool.Decides.{Decides-and, Decides-like}
 use Rattle.fancy_lex.specs.declared.escape.Assertion.{Assertion}
-use Rattle.fancy_lex.specs.declared.escape.Assertion.TheVariants.{StartText, EndText, EndTextIgnoreTrailingNewlines}
-use Rattle.fancy_lex.specs.declared.escape.Assertion.TheVariants.{StartLine, StartLineOniguruma, EndLine}
-use Rattle.fancy_lex.specs.declared.escape.Assertion.TheVariants.{LeftWordBoundary, LeftWordHalfBoundary}
-use Rattle.fancy_lex.specs.declared.escape.Assertion.TheVariants.{RightWordBoundary, RightWordHalfBoundary}
-use Rattle.fancy_lex.specs.declared.escape.Assertion.TheVariants.{WordBoundary, NotWordBoundary}
+use Rattle.fancy_lex.specs.declared.escape.Assertion.TheVariants.{EndTextIgnoreTrailingNewlines, StartLine}
+use Rattle.fancy_lex.specs.declared.escape.Assertion.TheVariants.{StartLineOniguruma, EndLine}
 use Rattle.fancy_lex.specs.Target.{same_target-Decides}
 use Rattle.fancy_lex.specs.Text.{Text}
 use Rattle.fancy_grammar.specs.declared.kinds.BacktrackingControlVerb.{BacktrackingControlVerb}
@@ -20,15 +17,14 @@ use Rattle.fancy_grammar.specs.declared.kinds.LookAround.TheVariants.{LookAhead,
 use Rattle.fancy_grammar.specs.declared.kinds.LookAround.TheVariants.{LookBehindNeg}
 use Rattle.fancy_grammar.specs.Same.{same, same_all, same_leaf, same_wrap, same_row, same_reference, same_look}
 use Rattle.fancy_grammar.specs.Same.{same_assertion, same_verb, same_level, same_name}
-use Rattle.fancy_grammar.specs.Label.{Leaf, Wrap, Row, empty, any, assertion, general_newline, literal, literal_bytes}
-use Rattle.fancy_grammar.specs.Label.{delegate, backref, backref_at_level, keep_out, continue_from_previous_match_end}
-use Rattle.fancy_grammar.specs.Label.{backref_exists, subroutine_call, verb, clear, ast_node, group, look_around}
-use Rattle.fancy_grammar.specs.Label.{repeat, atomic_group, define_group, repeater, stopper, ast_group, expression}
-use Rattle.fancy_grammar.specs.Label.{conditional}
-use Rattle.fancy_grammar.specs.Label.{concat, alt, AstReference, ast_backref, ast_call, ast_condition}
+use Rattle.fancy_grammar.specs.Label.{Leaf, Wrap, Row, any, assertion, general_newline, literal, literal_bytes}
+use Rattle.fancy_grammar.specs.Label.{delegate, backref, backref_at_level, backref_exists, subroutine_call, verb}
+use Rattle.fancy_grammar.specs.Label.{ast_node, look_around, repeat, ast_group, concat, alt, expression, conditional}
+use Rattle.fancy_grammar.specs.Label.{AstReference, ast_backref, ast_call, ast_condition}
 use Rattle.fancy_grammar.specs.Tree.{Tree, leaf, over, row, Trees, no_trees, more_trees}
 
--- ---- rows: nodes that are always the same, that never are, with one field, and with two
+-- ---- rows: nodes that are always the same, that never are, with one field, and with two. The row before
+-- the last makes the check split the second argument, so that the last row is tried for each pair
 
 always : {A : Type 0} {x : A} → Decides true (x ≡ x)
 always = (λ h. refl, λ h. refl)
@@ -60,20 +56,13 @@ verb_decides Prune Prune = always
 verb_decides _ _ = never (λ h. cc)
 
 assertion_decides : (a b : Assertion) → Decides (same_assertion a b) (a ≡ b)
-assertion_decides StartText StartText = always
-assertion_decides EndText EndText = always
 assertion_decides (EndTextIgnoreTrailingNewlines c) (EndTextIgnoreTrailingNewlines d) =
     so (booleans_Decides c d) (λ h. cc) (λ h. cc)
 assertion_decides (StartLine c) (StartLine d) = so (booleans_Decides c d) (λ h. cc) (λ h. cc)
 assertion_decides (StartLineOniguruma c) (StartLineOniguruma d) = so (booleans_Decides c d) (λ h. cc) (λ h. cc)
 assertion_decides (EndLine c) (EndLine d) = so (booleans_Decides c d) (λ h. cc) (λ h. cc)
-assertion_decides LeftWordBoundary LeftWordBoundary = always
-assertion_decides LeftWordHalfBoundary LeftWordHalfBoundary = always
-assertion_decides RightWordBoundary RightWordBoundary = always
-assertion_decides RightWordHalfBoundary RightWordHalfBoundary = always
-assertion_decides WordBoundary WordBoundary = always
-assertion_decides NotWordBoundary NotWordBoundary = always
-assertion_decides _ _ = never (λ h. cc)
+assertion_decides _ (EndLine d) = never (λ h. cc)
+assertion_decides _ _ = (λ h. cc, λ h. cc)
 
 level_decides : (a b : Option ℤ) → Decides (same_level a b) (a ≡ b)
 level_decides None None = always
@@ -116,11 +105,8 @@ leaf_decides (subroutine_call m) (subroutine_call n) = so (unsigned_Decides m n)
 leaf_decides (verb v) (verb w) = so (verb_decides v w) (λ h. cc) (λ h. cc)
 leaf_decides (ast_node r p) (ast_node s q) =
     so (pair (reference_decides r s) (unsigned_Decides p q)) (λ h. cc) (λ h. (cc, cc))
-leaf_decides empty empty = always
-leaf_decides keep_out keep_out = always
-leaf_decides continue_from_previous_match_end continue_from_previous_match_end = always
-leaf_decides clear clear = always
-leaf_decides _ _ = never (λ h. cc)
+leaf_decides _ (ast_node s q) = never (λ h. cc)
+leaf_decides _ _ = (λ h. cc, λ h. cc)
 
 wrap_decides : (w v : Wrap) → Decides (same_wrap w v) (w ≡ v)
 wrap_decides (look_around a) (look_around b) = so (look_decides a b) (λ h. cc) (λ h. cc)
@@ -129,12 +115,8 @@ wrap_decides (repeat k m a) (repeat l n b) =
     (λ h. ((cc, cc), cc))
 wrap_decides (ast_group a p) (ast_group b q) =
     so (pair (name_decides a b) (unsigned_Decides p q)) (λ h. cc) (λ h. (cc, cc))
-wrap_decides group group = always
-wrap_decides atomic_group atomic_group = always
-wrap_decides define_group define_group = always
-wrap_decides repeater repeater = always
-wrap_decides stopper stopper = always
-wrap_decides _ _ = never (λ h. cc)
+wrap_decides _ (ast_group b q) = never (λ h. cc)
+wrap_decides _ _ = (λ h. cc, λ h. cc)
 
 row_decides : (r q : Row) → Decides (same_row r q) (r ≡ q)
 row_decides concat concat = always

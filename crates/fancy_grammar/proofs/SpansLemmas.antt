@@ -4,7 +4,7 @@ use Rattle.std.proofs.Common.{if◌then◌else◌, subst, arith}
 use Rattle.fancy_lex.specs.Text.{Text, reach_of}
 use Rattle.fancy_grammar.specs.Ranks.{is_counted}
 use Rattle.fancy_grammar.specs.Grammar.{branches_of, conditional_of, clear_or_stopper}
-use Rattle.fancy_grammar.specs.GroupKind.{GroupKind, capture, flag_group, look, atomic, define, repeater, group_node}
+use Rattle.fancy_grammar.specs.GroupKind.{GroupKind, capture, flag_group, group_node}
 use Rattle.fancy_grammar.specs.Join.{choice, solid, is_empty, one_or}
 use Rattle.fancy_grammar.specs.Label as label
 use Rattle.fancy_grammar.specs.Label.{Wrap, Row}
@@ -154,10 +154,7 @@ module _ (named : Bool) where
       by_test true e = over_at (label.ast_group name p) e (current t) (wider k (current v) i) (current v)
       by_test false e = inside_at e (wider k (current v) i)
   group_lies {v} flag_group p k i = wider k (current v) i
-  group_lies {t} {v} (look l) p k i = over_at (label.look_around l) refl (current t) (wider k (current v) i) (current v)
-  group_lies {t} {v} atomic p k i = over_at label.atomic_group refl (current t) (wider k (current v) i) (current v)
-  group_lies {t} {v} define p k i = over_at label.define_group refl (current t) (wider k (current v) i) (current v)
-  group_lies {t} {v} repeater p k i = over_at label.repeater refl (current t) (wider k (current v) i) (current v)
+  group_lies {t} {v} h p k i = over_at _ refl (current t) (wider k (current v) i) (current v)
 
   -- the branches of a body that ends at v
   pub parts_lie : {t : Text} {r : Tree} {x : Spans} (v : State) → Lies t v.rest r x →

@@ -20,7 +20,7 @@ use Rattle.fancy_grammar.specs.Slices.{Slice}
 use Rattle.fancy_grammar.specs.Spans.{Spans, around, if_done, under, quantifier_end, counted, quant_spans}
 use Rattle.fancy_grammar.specs.Spans.{adjacent_spans, quants_spans}
 use Rattle.fancy_grammar.specs.State.{skipped, after_skipped, State, at, Outcome, done, failed, and_then, mapped}
-use Rattle.fancy_grammar.specs.Tree.{Tree, repeat, atomic_group}
+use Rattle.fancy_grammar.specs.Tree.{Tree, repeat, atomic_repeat}
 use Rattle.fancy_grammar.proofs.OutcomeLemmas.{Holds}
 use Rattle.fancy_grammar.proofs.ReadLaws.{suffix_reads}
 use Rattle.fancy_grammar.proofs.Slices.{Reads, current, on, layout_slice, SkippedSlice}
@@ -46,13 +46,13 @@ module _ (named : Bool) where
           Lies named t z (repeat a low high (is_greedy f m.lazy)) (around (reaches t e) x)
       once low high g = over_at (label.repeat low high (is_greedy f m.lazy)) refl (current t) h g
 
-      twice : (low high : ℕ) → Lies named t v (atomic_group (repeat a low high (is_greedy f m.lazy)))
+      twice : (low high : ℕ) → Lies named t v (atomic_repeat a low high (is_greedy f m.lazy))
           (around (reaches t e) (around (reaches t e) x))
-      twice low high = over_at label.atomic_group refl (current t) (once low high (current e)) k
+      twice low high = over_at _ refl (current t) (once low high (current e)) k
 
       by_test : (b d : Bool) → Lies named t v
-          (if b then atomic_group (repeat a c.high c.low (is_greedy f m.lazy))
-          else if d then atomic_group (repeat a c.low c.high (is_greedy f m.lazy))
+          (if b then atomic_repeat a c.high c.low (is_greedy f m.lazy)
+          else if d then atomic_repeat a c.low c.high (is_greedy f m.lazy)
           else repeat a c.low c.high (is_greedy f m.lazy))
           (if b || d then around (reaches t e) (around (reaches t e) x) else around (reaches t e) x)
       by_test true d = twice c.high c.low

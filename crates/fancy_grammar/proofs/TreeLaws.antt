@@ -295,7 +295,7 @@ repeatable_solid f _ e = refl
 pub solid_weight : (a : Tree) → is_empty a ≡ false → weight a ≡ nodes a + 1
 solid_weight a e = ap (λ b. if b then 0 else nodes a + 1) e
 
--- a Repeat, or one in an AtomicGroup
+-- a Repeat, or a possessive one
 abbrev IsOver : Tree → Tree → Type 0
 IsOver a b = (weight b ≤ nodes a + 3) × (levels b ≤ levels a + 2)
 

@@ -21,11 +21,9 @@ use Rattle.fancy_grammar.specs.Meaning.{call, refers_to, unresolved}
 use Rattle.fancy_grammar.specs.Ranks.{Opening, is_counted, only_named, named_groups, numbers}
 use Rattle.fancy_grammar.specs.ParsedTree.{groups_referred, has_call}
 use Rattle.fancy_grammar.specs.Join.{is_empty}
-use Rattle.fancy_grammar.specs.Label.{Leaf, empty, any, assertion, general_newline, literal, literal_bytes, delegate}
-use Rattle.fancy_grammar.specs.Label.{keep_out, continue_from_previous_match_end, verb, clear, group, look_around}
-use Rattle.fancy_grammar.specs.Label.{repeat, atomic_group, define_group, repeater, stopper, expression, conditional}
-use Rattle.fancy_grammar.specs.Label.{concat, alt, backref, subroutine_call, backref_at_level, backref_exists, ast_node}
-use Rattle.fancy_grammar.specs.Label.{ast_call}
+use Rattle.fancy_grammar.specs.Label.{Leaf, assertion, general_newline, literal, literal_bytes, delegate, group, repeat}
+use Rattle.fancy_grammar.specs.Label.{stopper, ast_group, expression, conditional, concat, alt, backref, ast_call}
+use Rattle.fancy_grammar.specs.Label.{subroutine_call, backref_at_level, backref_exists, ast_node}
 use Rattle.fancy_grammar.specs.GroupInfo.{GroupInfo, ascending}
 use Rattle.fancy_grammar.specs.Pattern.{group_count}
 use Rattle.fancy_grammar.specs.PatternReference.{name_of}
@@ -107,25 +105,21 @@ IsCalledTarget (by_number n) = ⊥
 -- back reference, a call, which may refer to no group, or a condition on a group without branches
 abbrev pub IsWritableLeaf : Flags → GroupInfo → ℕ → Leaf → Type 0
 IsWritableLeaf f m c (literal (d ∷ []) casei) = Unit {0}
+IsWritableLeaf f m c (literal text casei) = ⊥
 IsWritableLeaf f m c (literal_bytes (b ∷ [])) = (f.unicode ≡ false) × (0x80 ≤ b) × (b ≤ 0xFF)
+IsWritableLeaf f m c (literal_bytes bytes) = ⊥
 IsWritableLeaf f m c (delegate s casei) = HasSource f s casei
 IsWritableLeaf f m c (general_newline unicode) = f.unicode ≡ unicode
 IsWritableLeaf f m c (assertion (StartLine crlf)) = f.oniguruma_mode ≡ false
 IsWritableLeaf f m c (assertion (StartLineOniguruma crlf)) = f.oniguruma_mode ≡ true
-IsWritableLeaf f m c (assertion a) = Unit {0}
-IsWritableLeaf f m c (any newline crlf) = Unit {0}
-IsWritableLeaf f m c (verb v) = Unit {0}
-IsWritableLeaf f m c empty = Unit {0}
-IsWritableLeaf f m c keep_out = Unit {0}
-IsWritableLeaf f m c continue_from_previous_match_end = Unit {0}
-IsWritableLeaf f m c clear = Unit {0}
 IsWritableLeaf f m c (backref n casei) = n < 2 ^ 64
 IsWritableLeaf f m c (backref_at_level n level casei) = (n < 2 ^ 64) × IsLevelWritable level
 IsWritableLeaf f m c (subroutine_call n) = IsCallWritable (is_called_by_number m n) c n
 IsWritableLeaf f m c (backref_exists n level) = (n < 2 ^ 64) × IfSome level IsLevelWritable
 IsWritableLeaf f m c (ast_node (ast_call t) position) = IsCalledTarget t ×
     (refers_to (info_numbers m) c call t ≡ unresolved)
-IsWritableLeaf f m c _ = ⊥
+IsWritableLeaf f m c (ast_node r position) = ⊥
+IsWritableLeaf f m c _ = Unit {0}
 
 abbrev mutual
   -- Each group has a number, a Concat or an Alt has two parts or more, and in Oniguruma mode the counts of a quantifier
@@ -140,12 +134,10 @@ abbrev mutual
       × (lo < 2 ^ 64) × (hi < 2 ^ 64) × (f.oniguruma_mode ≡ true → lo ≤ hi)
   AreNodesWritable f m c (over group t) =
       (is_counted m.numbered_groups_ignored (name_at m (c + 1)) ≡ true) × AreNodesWritable f m (c + 1) t
-  AreNodesWritable f m c (over (look_around l) t) = AreNodesWritable f m c t
-  AreNodesWritable f m c (over atomic_group t) = AreNodesWritable f m c t
-  AreNodesWritable f m c (over define_group t) = AreNodesWritable f m c t
-  AreNodesWritable f m c (over repeater t) = AreNodesWritable f m c t
   AreNodesWritable f m c (over stopper t) =
       AreNodesWritable f m c t × (m.numbered_groups_ignored ≡ false → is_empty t ≡ false)
+  AreNodesWritable f m c (over (ast_group name position) t) = ⊥
+  AreNodesWritable f m c (over w t) = AreNodesWritable f m c t
   AreNodesWritable f m c (row expression (more_trees a (more_trees e no_trees))) =
       AreNodesWritable f m c a × AreNodesWritable f m (c + group_count a) e
   AreNodesWritable f m c (row conditional (more_trees k (more_trees t (more_trees e no_trees)))) =

@@ -1,6 +1,6 @@
 -- The labels of a tree's nodes: everything that a node holds except the trees below it. Texts are lists of characters.
 -- An unresolved node holds its reach, and one that remains after references are resolved holds its position.
-use Rattle.std.specs.Prelude.{ℕ, ℤ, Bool, List, Option}
+use Rattle.std.specs.Prelude.{ℕ, ℤ, Bool, true, false, List, Option}
 use Rattle.fancy_lex.specs.declared.escape.Assertion.{Assertion}
 use Rattle.fancy_lex.specs.Target.{Target}
 use Rattle.fancy_grammar.specs.declared.kinds.LookAround.{LookAround}
@@ -30,6 +30,14 @@ pub data Leaf : Type 0 where
   verb : BacktrackingControlVerb → Leaf
   clear : Leaf
   ast_node : AstReference → ℕ → Leaf
+
+-- whether a leaf holds nothing
+abbrev pub is_bare : Leaf → Bool
+is_bare empty = true
+is_bare keep_out = true
+is_bare continue_from_previous_match_end = true
+is_bare clear = true
+is_bare _ = false
 
 -- a node over one tree
 pub data Wrap : Type 0 where

@@ -23,7 +23,7 @@ use Rattle.fancy_grammar.specs.PatternReference.{backref_text, backref_at_level_
 use Rattle.fancy_grammar.specs.PatternReference.{unresolved_text, group_opening}
 use Rattle.fancy_grammar.specs.PatternSource.{delegate_text}
 use Rattle.fancy_grammar.specs.Quantified.{is_repeatable}
-use Rattle.fancy_grammar.specs.Tree.{Tree, leaf, over, row, Trees, no_trees, more_trees}
+use Rattle.fancy_grammar.specs.Tree.{Tree, leaf, over, row, Trees, no_trees, more_trees, atomic_repeat}
 use Rattle.fancy_grammar.specs.Verb.{word}
 use Rattle.fancy_grammar.specs.declared.kinds.LookAround.{LookAround}
 use Rattle.fancy_grammar.specs.declared.kinds.LookAround.TheVariants.{LookAhead, LookAheadNeg, LookBehind}
@@ -224,7 +224,7 @@ module _ (m : GroupInfo) where
     written (over (repeat lo hi greedy) t) p h =
         after_inline_flags t
         (in_parens_if (is_last_operand p) (codes "?:") (repeated false t lo hi greedy (written t)) p) h
-    written (over atomic_group (over (repeat lo hi greedy) t)) p h =
+    written (atomic_repeat t lo hi greedy) p h =
         after_inline_flags t
         (λ i. if is_last_operand p || not (is_possessive i.flags lo hi) then
         in_parens (codes "?>") (repeated false t lo hi greedy (written t) Whole) i

@@ -12,10 +12,9 @@ use Rattle.fancy_lex.specs.Text.{Text}
 use Rattle.fancy_lex.specs.declared.escape.Assertion.{Assertion}
 use Rattle.fancy_lex.specs.declared.escape.Assertion.TheVariants.{StartText, EndText, EndTextIgnoreTrailingNewlines}
 use Rattle.fancy_lex.specs.declared.escape.Assertion.TheVariants.{StartLine, StartLineOniguruma, EndLine}
-use Rattle.fancy_lex.specs.declared.escape.Assertion.TheVariants.{LeftWordBoundary, LeftWordHalfBoundary}
-use Rattle.fancy_lex.specs.declared.escape.Assertion.TheVariants.{RightWordBoundary, RightWordHalfBoundary}
-use Rattle.fancy_lex.specs.declared.escape.Assertion.TheVariants.{WordBoundary, NotWordBoundary}
+use Rattle.fancy_lex.specs.declared.escape.Assertion.TheVariants.{LeftWordBoundary, RightWordBoundary}
 use Rattle.fancy_lex.specs.declared.flags.Flags.{Flags}
+use Rattle.fancy_grammar.specs.Printed as printed
 
 -- ---- characters
 
@@ -63,6 +62,7 @@ any_text f newline crlf =
     else if newline then codes "\\O"
     else codes "\\N"
 
+-- an assertion, under flags that suit it; the boundaries that are written alike under all flags, as `to_str` prints them
 abbrev pub assertion_text : Flags → Assertion → Text
 assertion_text f StartText = if f.multi then codes "\\A" else codes "^"
 assertion_text f EndText = if f.multi then codes "\\z" else codes "$"
@@ -70,9 +70,6 @@ assertion_text f (EndTextIgnoreTrailingNewlines crlf) = codes "\\Z"
 assertion_text f (StartLine crlf) = codes "^"
 assertion_text f (StartLineOniguruma crlf) = codes "^"
 assertion_text f (EndLine crlf) = codes "$"
-assertion_text f WordBoundary = codes "\\b"
-assertion_text f NotWordBoundary = codes "\\B"
 assertion_text f LeftWordBoundary = if f.oniguruma_mode then codes "\\b{start}" else codes "\\<"
 assertion_text f RightWordBoundary = if f.oniguruma_mode then codes "\\b{end}" else codes "\\>"
-assertion_text f LeftWordHalfBoundary = codes "\\b{start-half}"
-assertion_text f RightWordHalfBoundary = codes "\\b{end-half}"
+assertion_text f a = printed.assertion_text a

@@ -7,9 +7,9 @@ use Rattle.fancy_lex.specs.Text.{Text}
 use Rattle.fancy_lex.specs.declared.flags.Flags.{Flags}
 use Rattle.fancy_grammar.specs.Quote.{operator, counts_as}
 use Rattle.fancy_grammar.specs.Depth.{max_depth}
-use Rattle.fancy_grammar.specs.Label.{repeat, atomic_group}
+use Rattle.fancy_grammar.specs.Label.{repeat}
 use Rattle.fancy_grammar.specs.Quantified.{max_adjacent}
-use Rattle.fancy_grammar.specs.Tree.{Tree, over}
+use Rattle.fancy_grammar.specs.Tree.{Tree, over, atomic_repeat}
 
 -- an atomic group of a Repeat with these counts is what a quantifier is parsed as: a possessive one, or in Oniguruma
 -- mode one whose counts are exchanged
@@ -19,7 +19,7 @@ is_possessive f lo hi = not f.oniguruma_mode || nat_lt lo hi
 -- the tree's text ends with its own quantifier
 abbrev pub is_quantified : Flags → Tree → Bool
 is_quantified f (over (repeat lo hi greedy) t) = true
-is_quantified f (over atomic_group (over (repeat lo hi greedy) t)) = is_possessive f lo hi
+is_quantified f (atomic_repeat t lo hi greedy) = is_possessive f lo hi
 is_quantified f _ = false
 
 -- the operator for the counts, if it can be used; directly after another quantifier, `?` and `+` would belong to that

@@ -12,7 +12,7 @@ use Rattle.fancy_grammar.specs.Depth.{max_depth}
 use Rattle.fancy_grammar.specs.Join.{is_empty}
 use Rattle.fancy_grammar.specs.State.{skipped, after_skipped, State, at, Outcome, done, failed, and_then, mapped}
 use Rattle.fancy_grammar.specs.Label as label
-use Rattle.fancy_grammar.specs.Tree.{Tree, leaf, over, repeat, atomic_group}
+use Rattle.fancy_grammar.specs.Tree.{Tree, leaf, over, repeat, atomic_repeat}
 
 -- whether a quantifier may follow the tree; in Oniguruma mode none follows an assertion
 abbrev pub is_repeatable : Flags → Tree → Bool
@@ -46,11 +46,12 @@ pub record Suffix : Type 0 where
   pub lazy : Bool
   pub possessive : Bool
 
--- the tree under a quantifier with these counts and operators
+-- the tree under a quantifier with these counts and operators; if it is possessive, or its counts are exchanged, in an
+-- atomic group
 abbrev pub quantified : Flags → Counts → Suffix → Tree → Tree
 quantified f c m a =
-    if is_swapped f c then atomic_group (repeat a c.high c.low (is_greedy f m.lazy))
-    else if m.possessive then atomic_group (repeat a c.low c.high (is_greedy f m.lazy))
+    if is_swapped f c then atomic_repeat a c.high c.low (is_greedy f m.lazy)
+    else if m.possessive then atomic_repeat a c.low c.high (is_greedy f m.lazy)
     else repeat a c.low c.high (is_greedy f m.lazy)
 
 -- the possessive operator; it follows the lazy one at once, or is where the lazy one could be

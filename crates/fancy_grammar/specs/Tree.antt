@@ -86,6 +86,10 @@ repeat t lo hi greedy = over (label.repeat lo hi greedy) t
 pattern abbrev pub atomic_group : Tree → Tree
 atomic_group t = over label.atomic_group t
 
+-- a Repeat directly in an AtomicGroup: what a possessive quantifier is parsed as
+pattern abbrev pub atomic_repeat : Tree → ℕ → ℕ → Bool → Tree
+atomic_repeat t lo hi greedy = over label.atomic_group (over (label.repeat lo hi greedy) t)
+
 pattern abbrev pub define_group : Tree → Tree
 define_group t = over label.define_group t
 

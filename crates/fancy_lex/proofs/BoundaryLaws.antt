@@ -1,23 +1,22 @@
 -- A boundary's name, and the known names at the front of a text.
-use Rattle.std.proofs.Common.{◌≡◌, ℕ, zero, suc, ◌<◌, Bool, true, false, not, ◌&&◌, ◌==◌, [], ◌∷◌, length, codes}
-use Rattle.std.proofs.Common.{Option, Some, None, refl, ap, sym, ◌∙◌, arith}
-use Rattle.std.proofs.lemmas.Bool.{false≢true}
+use Rattle.std.proofs.Common.{◌≡◌, ℕ, zero, suc, ◌<◌, Bool, true, false, not, ◌&&◌, ◌==◌, List, [], ◌∷◌, length}
+use Rattle.std.proofs.Common.{codes, Option, Some, None, refl, ap, sym, ◌∙◌, arith}
+use Rattle.std.proofs.lemmas.Bool.{false≢true, cond-true, cond-false, and_parts}
+use Rattle.std.specs.Map.{lookup}
 use Rattle.std.specs.Str.{bytes_eq}
 use Rattle.std.proofs.lemmas.Slice.Eq.{bytes_eq-Decides}
 use Prim.Native.Char.{code}
 use Rattle.fancy_lex.specs.declared.escape.Assertion.{Assertion}
-use Rattle.fancy_lex.specs.declared.escape.Assertion.TheVariants.{LeftWordBoundary, RightWordBoundary}
-use Rattle.fancy_lex.specs.declared.escape.Assertion.TheVariants.{LeftWordHalfBoundary, RightWordHalfBoundary}
-use Rattle.fancy_lex.specs.Boundary.{boundary_of_name}
+use Rattle.fancy_lex.specs.Boundary.{boundary_names, boundary_of_name}
 use Rattle.fancy_lex.specs.BoundarySteps.{name, named_boundary}
-use Rattle.fancy_lex.specs.BoundaryName.{after_name, known_boundary, name_error, name_error_after}
+use Rattle.fancy_lex.specs.BoundaryName.{after_name, boundary_among, known_boundary, name_error, name_error_after}
 use Rattle.fancy_lex.specs.Escaped.{assertion}
 use Rattle.fancy_lex.specs.Located.{unclosed_open_paren, invalid_escape}
 use Rattle.fancy_lex.specs.LayoutSteps.{Skipped, rest, failed, rest_of, layout}
 use Rattle.fancy_lex.specs.Reading.{Reading, gives, fails, ◌>=>◌, error_at}
 use Rattle.fancy_lex.specs.Text.{Text, strip}
 use Rattle.fancy_lex.proofs.BoundaryLemmas.{after_name_open, after_name_end, after_name_step, after_name_other}
-use Rattle.fancy_lex.proofs.BoundaryLemmas.{name_start, name_end, name_start_half, name_end_half}
+use Rattle.fancy_lex.proofs.BoundaryLemmas.{named_first, named_later}
 use Rattle.fancy_lex.proofs.LayoutLaws.{layout_length}
 use Rattle.fancy_lex.proofs.TextLemmas.{strip_is, strip_same}
 
@@ -134,83 +133,85 @@ module _ (x : Bool) (p : ℕ) (t v : Text) where
       after_name_gives x p (suc (length t)) v w t b (omega arith) e in
       rw (name_is, q) refl
 
-  braced_as : (a b : Assertion) (r : Text) → known_boundary x t ≡ Some (b, r) →
-      named_boundary x p false t ≡ gives (assertion b) r → known_boundary x t ≡ Some (a, v) →
-      named_boundary x p false t ≡ gives (assertion a) v
-  braced_as a b r s h e =
-      let both = sym s ∙ e in
-      let pair : ◌≡◌ {A = Assertion × Text} (b, r) (a, v) = cc in
-      h ∙ ap (λ (q : Assertion × Text). gives (assertion q.0) q.1) pair
+-- no name in the list has a closing brace
+abbrev are_plain : List (Text × Assertion) → Bool
+are_plain [] = true
+are_plain (row ∷ rows) = no_brace row.0 && are_plain rows
 
--- which of the known names is at the front
-data Word (x : Bool) (t : Text) : Type 0 where
-  word : (w v : Text) (a : Assertion) → no_brace w ≡ true → boundary_of_name false w ≡ Some a →
-      after_name x w t ≡ Some v → known_boundary x t ≡ Some (a, v) → Word x t
-  no_word : after_name x (codes "start") t ≡ None → after_name x (codes "end") t ≡ None →
-      after_name x (codes "start-half") t ≡ None → after_name x (codes "end-half") t ≡ None →
-      known_boundary x t ≡ None → Word x t
+module _ (x : Bool) (t : Text) where
+  -- two words, of which one alone is at the front, are different
+  differ : (w u v : Text) → after_name x w t ≡ Some v → after_name x u t ≡ None → bytes_eq w u ≡ false
+  differ w u v e h = by (bytes_eq w u) refl where
+    by : (b : Bool) → bytes_eq w u ≡ b → bytes_eq w u ≡ false
+    by false q = q
+    by true q =
+        let some = sym h ∙ ap (λ s. after_name x s t) (sym ((bytes_eq-Decides w u).0 q)) ∙ e in
+        absurd (cc)
 
-which_word : (x : Bool) (t : Text) → Word x t
-which_word x t = first (after_name x (codes "start") t) refl where
-  fourth : after_name x (codes "start") t ≡ None → after_name x (codes "end") t ≡ None →
-      after_name x (codes "start-half") t ≡ None → (o : Option Text) → after_name x (codes "end-half") t ≡ o →
-      Word x t
-  fourth a b d (Some v) h = word (codes "end-half") v RightWordHalfBoundary refl refl h
-      (name_end_half x t (Some v) a b d h)
-  fourth a b d None h = no_word a b d h (name_end_half x t None a b d h)
+  same_word : (w : Text) → bytes_eq w w ≡ true
+  same_word w = (bytes_eq-Decides w w).1 refl
 
-  third : after_name x (codes "start") t ≡ None → after_name x (codes "end") t ≡ None → (o : Option Text) →
-      after_name x (codes "start-half") t ≡ o → Word x t
-  third a b (Some v) h = word (codes "start-half") v LeftWordHalfBoundary refl refl h (name_start_half x t v a b h)
-  third a b None h = fourth a b h (after_name x (codes "end-half") t) refl
+  -- the name at the front of a boundary among those in a list
+  record Named (rows : List (Text × Assertion)) (v : Text) (a : Assertion) : Type 0 where
+    word : Text
+    plain : no_brace word ≡ true
+    read : after_name x word t ≡ Some v
+    is : lookup (λ known. bytes_eq word known) rows ≡ Some a
 
-  second : after_name x (codes "start") t ≡ None → (o : Option Text) → after_name x (codes "end") t ≡ o → Word x t
-  second a (Some v) h = word (codes "end") v RightWordBoundary refl refl h (name_end x t v a h)
-  second a None h = third a h (after_name x (codes "start-half") t) refl
+  named : (rows : List (Text × Assertion)) (v : Text) (a : Assertion) → are_plain rows ≡ true →
+      boundary_among x t rows ≡ Some (a, v) → Named rows v a
+  unfolding boundary_among
+  named [] v a b e = absurd cc
+  named (row ∷ rows) v a b e = by (named rows v a) (after_name x row.0 t) refl where
+    each : (no_brace row.0 ≡ true) × (are_plain rows ≡ true)
+    each = and_parts (no_brace row.0) (are_plain rows) b
 
-  first : (o : Option Text) → after_name x (codes "start") t ≡ o → Word x t
-  first (Some v) h = word (codes "start") v LeftWordBoundary refl refl h (name_start x t v h)
-  first None h = second h (after_name x (codes "end") t) refl
+    by : (are_plain rows ≡ true → boundary_among x t rows ≡ Some (a, v) → Named rows v a) → (o : Option Text) →
+        after_name x row.0 t ≡ o → Named (row ∷ rows) v a
+    by more (Some u) h =
+        let both = sym (named_first x t row.0 row.1 rows u h) ∙ e in
+        let pair : ◌≡◌ {A = Assertion × Text} (row.1, u) (a, v) = cc in
+        record {
+          word = row.0;
+          plain = each.0;
+          read = h ∙ ap (λ (q : Assertion × Text). Some q.1) pair;
+          is = cond-true _ _ _ (same_word row.0) ∙ ap (λ (q : Assertion × Text). Some q.0) pair;
+        }
+    by more None h =
+        let n = more each.1 (sym (named_later x t row.0 row.1 rows h) ∙ e) in
+        record {
+          word = n.word;
+          plain = n.plain;
+          read = n.read;
+          is = cond-false _ _ _ (differ n.word row.0 v n.read h) ∙ n.is;
+        }
+
+  -- if no name in the list is at the front, a word that is there is none of them
+  unnamed : (w v : Text) → after_name x w t ≡ Some v → (rows : List (Text × Assertion)) →
+      boundary_among x t rows ≡ None → lookup (λ known. bytes_eq w known) rows ≡ None
+  unfolding boundary_among
+  unnamed w v h [] e = refl
+  unnamed w v h (row ∷ rows) e = by (unnamed w v h rows) (after_name x row.0 t) refl where
+    by : (boundary_among x t rows ≡ None → lookup (λ known. bytes_eq w known) rows ≡ None) → (o : Option Text) →
+        after_name x row.0 t ≡ o → lookup (λ known. bytes_eq w known) (row ∷ rows) ≡ None
+    by more (Some u) q = let some = sym (named_first x t row.0 row.1 rows u q) ∙ e in absurd (cc)
+    by more None q =
+        cond-false _ _ _ (differ w row.0 v h q) ∙ more (sym (named_later x t row.0 row.1 rows q) ∙ e)
 
 pub braced_named : (x : Bool) (p : ℕ) (t v : Text) (a : Assertion) → known_boundary x t ≡ Some (a, v) →
     named_boundary x p false t ≡ gives (assertion a) v
-braced_named x p t v a e =
-    elim (which_word x t) [
-      | word w r b m q h s ↦ braced_as x p t v a b r s (braced_word x p t r w m b q h) e
-      | no_word _ _ _ _ s ↦ let none = sym s ∙ e in absurd (cc)
-    ]
-
--- the name is different from a word that is not at the front
-not_word : (x : Bool) (p k : ℕ) (t w v known : Text) → name x p k t ≡ gives w v →
-    after_name x known t ≡ None → bytes_eq w known ≡ false
-not_word x p k t w v known e h = by (bytes_eq w known) refl where
-  by : (b : Bool) → bytes_eq w known ≡ b → bytes_eq w known ≡ false
-  by false q = q
-  by true q =
-      let same : w ≡ known = (bytes_eq-Decides w known).0 q in
-      let some = sym h ∙ gives_after_name x p k known t v (e ∙ ap (λ u. gives u v) same) in
-      absurd (cc)
-
--- so the name is unknown
-module _ (x : Bool) (p : ℕ) (t : Text) (a : after_name x (codes "start") t ≡ None)
-    (b : after_name x (codes "end") t ≡ None) (d : after_name x (codes "start-half") t ≡ None)
-    (e : after_name x (codes "end-half") t ≡ None) where
-  name_unknown : (o : Reading Text) → name x p (suc (length t)) t ≡ o →
-      named_boundary x p false t ≡ name_error x p false t
-  unfolding named_boundary name_error name_error_after
-  name_unknown (gives w v) h =
-      let no : (known : Text) → after_name x known t ≡ None → bytes_eq w known ≡ false =
-      λ known none. not_word x p (suc (length t)) t w v known h none in
-      rw (h, no (codes "start") a, no (codes "end") b, no (codes "start-half") d, no (codes "end-half") e) refl
-  name_unknown (fails f) h = rw h refl
+unfolding known_boundary
+braced_named x p t v a e = let n = named x t boundary_names v a refl e in braced_word x p t v n.word n.plain a n.is n.read
 
 pub braced_unknown : (x : Bool) (p : ℕ) (t : Text) → known_boundary x t ≡ None →
     named_boundary x p false t ≡ name_error x p false t
-braced_unknown x p t e =
-    elim (which_word x t) [
-      | word w r b m q h s ↦ let none = sym s ∙ e in absurd (cc)
-      | no_word a b d f s ↦ name_unknown x p t a b d f (name x p (suc (length t)) t) refl
-    ]
+unfolding known_boundary named_boundary name_error name_error_after
+braced_unknown x p t e = by (name x p (suc (length t)) t) refl where
+  by : (o : Reading Text) → name x p (suc (length t)) t ≡ o → named_boundary x p false t ≡ name_error x p false t
+  by (gives w v) h =
+      let none = unnamed x t w v (gives_after_name x p (suc (length t)) w t v h) boundary_names e in
+      rw (h, none) refl
+  by (fails f) h = rw h refl
 
 pub braced_negated : (x : Bool) (p : ℕ) (t : Text) → named_boundary x p true t ≡ name_error x p true t
 unfolding named_boundary name_error name_error_after

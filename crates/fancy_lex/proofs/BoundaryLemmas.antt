@@ -1,8 +1,9 @@
 -- One step of a boundary's name.
-use Rattle.std.proofs.Common.{◌≡◌, ◌≢◌, ℕ, zero, suc, pred, ◌<◌, ◌≤◌, Bool, false, ◌==◌, [], ◌∷◌, ◌++◌, length, codes}
-use Rattle.std.proofs.Common.{Option, Some, None, option_map, refl, ap, sym, ◌∙◌, append_assoc, arith}
+use Rattle.std.proofs.Common.{◌≡◌, ◌≢◌, ℕ, zero, suc, pred, ◌<◌, ◌≤◌, Bool, false, ◌==◌, List, [], ◌∷◌, ◌++◌, length}
+use Rattle.std.proofs.Common.{codes, Option, Some, None, option_map, refl, ap, sym, ◌∙◌, append_assoc, arith}
 use Rattle.std.proofs.lemmas.Bool.Decides.{nat_tests}
 use Prim.Native.Char.{code}
+use Rattle.fancy_lex.specs.declared.escape.Assertion.{Assertion}
 use Rattle.fancy_lex.specs.declared.error.ReadError.{ReadError}
 use Rattle.fancy_lex.specs.declared.error.ReadError.TheVariants.{At, OutOfMemory}
 use Rattle.fancy_lex.specs.BoundarySteps.{name}
@@ -12,9 +13,7 @@ use Rattle.fancy_lex.specs.Reading.{Reading, gives, fails, error_at, ◌>=>◌, 
 use Rattle.fancy_lex.specs.LayoutSteps.{Skipped, rest, failed, layout, past_layout}
 use Rattle.fancy_lex.specs.Text.{Text, strip}
 use Rattle.fancy_lex.proofs.LayoutLaws.{layout_length}
-use Rattle.fancy_lex.specs.BoundaryName.{after_name, known_boundary, name_error_after, name_error}
-use Rattle.fancy_lex.specs.declared.escape.Assertion.TheVariants.{LeftWordBoundary, RightWordBoundary}
-use Rattle.fancy_lex.specs.declared.escape.Assertion.TheVariants.{LeftWordHalfBoundary, RightWordHalfBoundary}
+use Rattle.fancy_lex.specs.BoundaryName.{after_name, boundary_among, name_error_after, name_error}
 
 -- if a comment is not closed, the text begins with no name
 pub after_name_open : (x : Bool) (word t : Text) → past_layout x t ≡ None → after_name x word t ≡ None
@@ -39,28 +38,23 @@ module _ (x : Bool) (word t : Text) where
 
 pub ruleset after_name_steps = (after_name_open, after_name_end, after_name_step, after_name_other)
 
--- the known names, by the names that are at the front
-module _ (x : Bool) (t : Text) where
-  pub name_start : (v : Text) → after_name x (codes "start") t ≡ Some v →
-      known_boundary x t ≡ Some (LeftWordBoundary, v)
-  unfolding known_boundary
-  name_start v a = rw a refl
+-- the first of the boundaries in a list, by the name that its first row has
+module _ (x : Bool) (t word : Text) (a : Assertion) where
+  pub named_first : (rows : List (Text × Assertion)) (v : Text) → after_name x word t ≡ Some v →
+      boundary_among x t ((word, a) ∷ rows) ≡ Some (a, v)
+  unfolding boundary_among
+  named_first rows v e = rw e refl
 
-  pub name_end : (v : Text) → after_name x (codes "start") t ≡ None → after_name x (codes "end") t ≡ Some v →
-      known_boundary x t ≡ Some (RightWordBoundary, v)
-  unfolding known_boundary
-  name_end v a b = rw (a, b) refl
+  pub named_later : (rows : List (Text × Assertion)) → after_name x word t ≡ None →
+      boundary_among x t ((word, a) ∷ rows) ≡ boundary_among x t rows
+  unfolding boundary_among
+  named_later rows e = rw e refl
 
-  pub name_start_half : (v : Text) → after_name x (codes "start") t ≡ None → after_name x (codes "end") t ≡ None →
-      after_name x (codes "start-half") t ≡ Some v → known_boundary x t ≡ Some (LeftWordHalfBoundary, v)
-  unfolding known_boundary
-  name_start_half v a b d = rw (a, b, d) refl
-
-  pub name_end_half : (o : Option Text) → after_name x (codes "start") t ≡ None →
-      after_name x (codes "end") t ≡ None → after_name x (codes "start-half") t ≡ None →
-      after_name x (codes "end-half") t ≡ o → known_boundary x t ≡ option_map (λ v. (RightWordHalfBoundary, v)) o
-  unfolding known_boundary
-  name_end_half o a b d e = rw (a, b, d, e) refl
+  pub named_last : (o : Option Text) → after_name x word t ≡ o →
+      boundary_among x t ((word, a) ∷ []) ≡ option_map (λ v. (a, v)) o
+  unfolding boundary_among
+  named_last None e = rw e refl
+  named_last (Some v) e = rw e refl
 
 -- layout whose reading gives a rest has that rest
 pub rest_from_reading : (o : Skipped) (u : Text) → layout_reading o ≡ gives tt u → o ≡ rest u

@@ -11,8 +11,8 @@ use Rattle.fancy_lex.specs.Characters.{◌∈◌}
 use Rattle.fancy_lex.specs.Escape.{escape, escape_at, number_escape, call_escape, backref_leaf, property}
 use Rattle.fancy_lex.specs.Escape.{outside, lone_escape, lone_outside}
 use Rattle.fancy_lex.specs.EscapeReference.{group_number, numbered_reference, back_reference, subroutine_call}
-use Rattle.fancy_lex.specs.Escaped.{Escape, literal, literal_bytes, any, assertion, general_newline, keep_out}
-use Rattle.fancy_lex.specs.Escaped.{continue_from_previous_match_end, delegate, backref, subroutine_call as called}
+use Rattle.fancy_lex.specs.Escaped.{Escape, literal_bytes}
+use Rattle.fancy_lex.specs.Escaped.{backref, subroutine_call as called}
 use Rattle.fancy_lex.specs.Hex as hexes
 use Rattle.fancy_lex.specs.LayoutSteps.{layout}
 use Rattle.fancy_lex.specs.Property.{read_property}
@@ -52,16 +52,9 @@ before_past : (c : ℕ) (t u : Text) (p : ℕ) → LiesBefore t u p → LiesBefo
 before_past c t u p h = record { tail = h.tail; ends = ends_past c t h.tail h.ends; takes = h.takes; reach = h.reach }
 
 past_one : (c : ℕ) (t u : Text) (e : Escape) → IsSound t u e → IsSound (c ∷ t) u e
-past_one c t u (literal v casei) h = h
-past_one c t u (literal_bytes b) h = h
-past_one c t u (any newline crlf) h = h
-past_one c t u (assertion a) h = h
-past_one c t u (general_newline unicode) h = h
-past_one c t u keep_out h = h
-past_one c t u continue_from_previous_match_end h = h
-past_one c t u (delegate w casei) h = h
 past_one c t u (backref r casei) h = before_past c t u r.reach h
 past_one c t u (called r) h = before_past c t u r.reach h
+past_one c t u e h = h
 
 sound_past : (c : ℕ) (t : Text) (o : Reading Escape) → Sound t o → Sound (c ∷ t) o
 sound_past c t (gives e u) h = past_one c t u e h

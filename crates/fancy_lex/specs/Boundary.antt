@@ -1,6 +1,7 @@
 -- Word boundaries after `\b` and `\B`.
-use Rattle.std.specs.Prelude.{◌≡◌, ◌≢◌, ℕ, Bool, true, false, ◌||◌, ◌==◌, if◌then◌else◌, [], ◌∷◌, codes, Option, Some}
-use Rattle.std.specs.Prelude.{None}
+use Rattle.std.specs.Prelude.{◌≡◌, ◌≢◌, ℕ, Bool, true, false, ◌||◌, ◌==◌, if◌then◌else◌, List, [], ◌∷◌, codes, Option}
+use Rattle.std.specs.Prelude.{Some, None}
+use Rattle.std.specs.Map.{lookup}
 use Rattle.std.specs.Str.{bytes_eq}
 use Rattle.std.specs.Char.{is_ascii_digit}
 use Prim.Native.Char.{code}
@@ -15,15 +16,17 @@ use Rattle.fancy_lex.specs.Layout.{Before, Unclosed}
 use Rattle.fancy_lex.specs.Reading.{Reading, gives, fails, ◌>=>◌}
 use Rattle.fancy_lex.specs.Text.{Text, strip}
 
--- the names of `\b`; `\B`, which is negated, has none
+-- the boundaries that have a name
+abbrev pub boundary_names : List (Text × Assertion)
+boundary_names =
+    (codes "start", LeftWordBoundary)
+    ∷ (codes "end", RightWordBoundary)
+    ∷ (codes "start-half", LeftWordHalfBoundary)
+    ∷ (codes "end-half", RightWordHalfBoundary) ∷ []
+
+-- the boundary with this name after `\b`; after `\B`, which is negated, there is none
 abbrev pub boundary_of_name : Bool → Text → Option Assertion
-boundary_of_name negated name =
-    if negated then None
-    else if bytes_eq name (codes "start") then Some LeftWordBoundary
-    else if bytes_eq name (codes "end") then Some RightWordBoundary
-    else if bytes_eq name (codes "start-half") then Some LeftWordHalfBoundary
-    else if bytes_eq name (codes "end-half") then Some RightWordHalfBoundary
-    else None
+boundary_of_name negated name = if negated then None else lookup (λ w. bytes_eq name w) boundary_names
 
 -- the boundary with no name
 abbrev pub unnamed_boundary : Bool → Escape

@@ -1,9 +1,8 @@
 -- The name of a boundary, as it is matched against the known names and as an error reports it.
-use Rattle.std.specs.Prelude.{ℕ, suc, Bool, [], ◌∷◌, ◌++◌, length, codes, Option, Some, option_map, option_and_then}
+use Rattle.std.specs.Prelude.{ℕ, suc, Bool, List, [], ◌∷◌, ◌++◌, length, codes, Option, Some, None, option_and_then}
 use Prim.Native.Char.{code}
 use Rattle.fancy_lex.specs.declared.escape.Assertion.{Assertion}
-use Rattle.fancy_lex.specs.declared.escape.Assertion.TheVariants.{LeftWordBoundary, RightWordBoundary}
-use Rattle.fancy_lex.specs.declared.escape.Assertion.TheVariants.{LeftWordHalfBoundary, RightWordHalfBoundary}
+use Rattle.fancy_lex.specs.Boundary.{boundary_names}
 use Rattle.fancy_lex.specs.BoundarySteps.{name}
 use Rattle.fancy_lex.specs.Escaped.{Escape}
 use Rattle.fancy_lex.specs.Located.{invalid_escape}
@@ -17,13 +16,14 @@ unfoldable pub after_name : Bool → Text → Text → Option Text
 after_name x [] t = option_and_then (strip (code "}")) (past_layout x t)
 after_name x (c ∷ word) t = option_and_then (after_name x word) (option_and_then (strip c) (past_layout x t))
 
+-- the first boundary of a list whose name and closing brace are at the front, and the text after them
+unfoldable pub boundary_among : Bool → Text → List (Text × Assertion) → Option (Assertion × Text)
+boundary_among x t [] = None
+boundary_among x t (row ∷ rows) = choose (after_name x row.0 t) (λ v. Some (row.1, v)) (boundary_among x t rows)
+
 -- the boundary whose name and closing brace are at the front, and the text after them
 unfoldable pub known_boundary : Bool → Text → Option (Assertion × Text)
-known_boundary x t =
-    choose (after_name x (codes "start") t) (λ v. Some (LeftWordBoundary, v))
-    (choose (after_name x (codes "end") t) (λ v. Some (RightWordBoundary, v))
-    (choose (after_name x (codes "start-half") t) (λ v. Some (LeftWordHalfBoundary, v))
-    (option_map (λ v. (RightWordHalfBoundary, v)) (after_name x (codes "end-half") t))))
+known_boundary x t = boundary_among x t boundary_names
 
 -- the error of a name that is unknown; `out` is the text that the error carries before the name
 unfoldable pub name_error_after : Bool → ℕ → Text → ℕ → Text → Reading Escape

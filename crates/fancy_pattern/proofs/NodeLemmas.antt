@@ -19,7 +19,7 @@ use Rattle.fancy_grammar.specs.PatternQuantifier.{is_possessive, is_quantified, 
 use Rattle.fancy_grammar.specs.PatternReference.{group_opening}
 use Rattle.fancy_grammar.specs.PatternWalk.{needs_listed, all_listed, after_all}
 use Rattle.fancy_grammar.specs.Quantified.{is_repeatable}
-use Rattle.fancy_grammar.specs.Tree.{Tree, leaf, over, row, Trees, empty, group, look_around, repeat}
+use Rattle.fancy_grammar.specs.Tree.{Tree, leaf, over, Trees, empty, group, look_around, repeat, atomic_repeat}
 use Rattle.fancy_grammar.specs.Tree.{atomic_group, define_group, repeater, stopper, expression, conditional, concat, alt}
 use Rattle.fancy_grammar.specs.declared.kinds.LookAround.{LookAround}
 use Rattle.fancy_grammar.specs.declared.needs.Needs.{Needs}
@@ -55,23 +55,7 @@ is_text_condition _ = true
 
 empty_is : (t : Tree) → is_empty t ≡ true → t ≡ empty
 empty_is (leaf label.empty) e = refl
-empty_is (leaf (label.any newline crlf)) e = absurd (cc)
-empty_is (leaf (label.assertion a)) e = absurd (cc)
-empty_is (leaf (label.general_newline u)) e = absurd (cc)
-empty_is (leaf (label.literal s casei)) e = absurd (cc)
-empty_is (leaf (label.literal_bytes s)) e = absurd (cc)
-empty_is (leaf (label.delegate s casei)) e = absurd (cc)
-empty_is (leaf (label.backref n casei)) e = absurd (cc)
-empty_is (leaf (label.backref_at_level n level casei)) e = absurd (cc)
-empty_is (leaf label.keep_out) e = absurd (cc)
-empty_is (leaf label.continue_from_previous_match_end) e = absurd (cc)
-empty_is (leaf (label.backref_exists n level)) e = absurd (cc)
-empty_is (leaf (label.subroutine_call n)) e = absurd (cc)
-empty_is (leaf (label.verb v)) e = absurd (cc)
-empty_is (leaf label.clear) e = absurd (cc)
-empty_is (leaf (label.ast_node r position)) e = absurd (cc)
-empty_is (over w t) e = absurd (cc)
-empty_is (row r ts) e = absurd (cc)
+empty_is t e = absurd (cc)
 
 both_true : (a b : Bool) → (a && b) ≡ true → (a ≡ true) × (b ≡ true)
 both_true true true e = (refl, refl)
@@ -84,37 +68,14 @@ neither false b e = absurd (cc)
 
 text_condition : (m : GroupInfo) (c : Tree) (t : Text) → is_text_condition c ≡ true →
     separated Condition t ≡ condition_text m c t
-text_condition m (leaf label.empty) t e = refl
-text_condition m (leaf (label.any newline crlf)) t e = refl
-text_condition m (leaf (label.assertion a)) t e = refl
-text_condition m (leaf (label.general_newline u)) t e = refl
-text_condition m (leaf (label.literal s casei)) t e = refl
-text_condition m (leaf (label.literal_bytes s)) t e = refl
-text_condition m (leaf (label.delegate s casei)) t e = refl
-text_condition m (leaf (label.backref n casei)) t e = refl
-text_condition m (leaf (label.backref_at_level n level casei)) t e = refl
-text_condition m (leaf label.keep_out) t e = refl
-text_condition m (leaf label.continue_from_previous_match_end) t e = refl
 text_condition m (leaf (label.backref_exists n level)) t e = absurd (cc)
-text_condition m (leaf (label.subroutine_call n)) t e = refl
 text_condition m (leaf (label.verb v)) t e = absurd (cc)
-text_condition m (leaf label.clear) t e = refl
-text_condition m (leaf (label.ast_node r position)) t e = refl
-text_condition m (over w u) t e = refl
-text_condition m (row r ts) t e = refl
+text_condition m c t e = refl
 
 atomic_alone : (m : GroupInfo) (t : Tree) (p : Precedence) (h : Context) → is_repeat t ≡ false →
     written m (atomic_group t) p h ≡ after_inline_flags (atomic_group t) (in_parens (codes "?>") (written m t Whole)) h
-atomic_alone m (leaf l) p h e = refl
-atomic_alone m (over label.group t) p h e = refl
-atomic_alone m (over (label.look_around l) t) p h e = refl
 atomic_alone m (over (label.repeat lo hi greedy) t) p h e = absurd (cc)
-atomic_alone m (over label.atomic_group t) p h e = refl
-atomic_alone m (over label.define_group t) p h e = refl
-atomic_alone m (over label.repeater t) p h e = refl
-atomic_alone m (over label.stopper t) p h e = refl
-atomic_alone m (over (label.ast_group name position) t) p h e = refl
-atomic_alone m (row r ts) p h e = refl
+atomic_alone m t p h e = refl
 
 -- ---- a text without bytes
 
@@ -223,10 +184,10 @@ quantified_writes a b c i j k m t p possessive lo hi greedy left enough w symbol
 pub atomic_writes : (a b : TextOutput) (i j : code.Context) (m : GroupInfo) (t : Tree) (lo hi : ℕ) (greedy : Bool)
     (p : Precedence)
     (choice : Bool) → choice ≡ (is_last_operand p || not (is_possessive i.flags lo hi)) →
-    Writes a b i j (λ o. needs_below o (atomic_group (repeat t lo hi greedy)))
+    Writes a b i j (λ o. needs_below o (atomic_repeat t lo hi greedy))
     (λ h. if choice then in_parens (codes "?>") (repeated false t lo hi greedy (written m t) Whole) h
     else repeated true t lo hi greedy (written m t) p h) (past_groups (group_count t)) →
-    WritesSettled a b i j m (atomic_group (repeat t lo hi greedy)) p
+    WritesSettled a b i j m (atomic_repeat t lo hi greedy) p
 atomic_writes a b i j m t lo hi greedy p choice e w = record {
   text = λ h. if is_last_operand p || not (is_possessive h.flags lo hi) then
       in_parens (codes "?>") (repeated false t lo hi greedy (written m t) Whole) h
@@ -260,20 +221,7 @@ leaf_after : (l : label.Leaf) (p : Precedence) (h : Context) → is_text_conditi
     h ≡ after (leaf l) p h
 leaf_after (label.backref_exists n level) p h e = no_more_groups h
 leaf_after (label.verb v) p h e = no_more_groups h
-leaf_after label.empty p h e = absurd (cc)
-leaf_after (label.any newline crlf) p h e = absurd (cc)
-leaf_after (label.assertion a) p h e = absurd (cc)
-leaf_after (label.general_newline u) p h e = absurd (cc)
-leaf_after (label.literal s casei) p h e = absurd (cc)
-leaf_after (label.literal_bytes s) p h e = absurd (cc)
-leaf_after (label.delegate s casei) p h e = absurd (cc)
-leaf_after (label.backref n casei) p h e = absurd (cc)
-leaf_after (label.backref_at_level n level casei) p h e = absurd (cc)
-leaf_after label.keep_out p h e = absurd (cc)
-leaf_after label.continue_from_previous_match_end p h e = absurd (cc)
-leaf_after (label.subroutine_call n) p h e = absurd (cc)
-leaf_after label.clear p h e = absurd (cc)
-leaf_after (label.ast_node r position) p h e = absurd (cc)
+leaf_after l p h e = absurd (cc)
 
 -- a condition that is written as a word of its own
 pub word_writes : (a b : TextOutput) (i j : code.Context) (m : GroupInfo) (l : label.Leaf) (text : Text) →

@@ -67,16 +67,8 @@ settled_end : (t : Tree) (p : Precedence) (h : Context) → takes_inline_flags t
 settled_end t p h e = ap (λ f. past_groups (group_count t) (under f h)) (sym (settled_flags t p h.flags e))
 
 listed_node : (o : Bool) (t : Tree) → needs_listed o t ≡ needs first o t ∷ needs_below o t
-listed_node o (leaf l) = refl
-listed_node o (over label.group t) = refl
-listed_node o (over (label.look_around l) t) = refl
-listed_node o (over (label.repeat lo hi greedy) t) = refl
-listed_node o (over label.atomic_group t) = refl
-listed_node o (over label.define_group t) = refl
-listed_node o (over label.repeater t) = refl
-listed_node o (over label.stopper t) = refl
 listed_node o (over (label.ast_group name position) t) = refl
-listed_node o (row r ts) = refl
+listed_node o t = refl
 
 -- ---- a leaf
 
@@ -88,56 +80,21 @@ no_atom false text h = refl
 leaf_settled : (m : GroupInfo) (t : Tree) (p : Precedence) (h : Context) → is_leaf t ≡ true → takes_inline_flags t ≡ true →
     written m t p h ≡ after_inline_flags t (as_atom t p (leaf_text_of m t)) h
 leaf_settled m (leaf label.empty) p h e k = absurd (cc)
-leaf_settled m (leaf (label.any newline crlf)) p h e k = refl
-leaf_settled m (leaf (label.assertion a)) p h e k = refl
-leaf_settled m (leaf (label.general_newline u)) p h e k = refl
-leaf_settled m (leaf (label.literal s casei)) p h e k = refl
-leaf_settled m (leaf (label.literal_bytes s)) p h e k = refl
-leaf_settled m (leaf (label.delegate s casei)) p h e k = refl
-leaf_settled m (leaf (label.backref n casei)) p h e k = refl
-leaf_settled m (leaf (label.backref_at_level n level casei)) p h e k = refl
-leaf_settled m (leaf label.keep_out) p h e k = refl
-leaf_settled m (leaf label.continue_from_previous_match_end) p h e k = refl
-leaf_settled m (leaf (label.backref_exists n level)) p h e k = refl
-leaf_settled m (leaf (label.subroutine_call n)) p h e k = refl
-leaf_settled m (leaf (label.verb v)) p h e k = refl
-leaf_settled m (leaf label.clear) p h e k = refl
-leaf_settled m (leaf (label.ast_node r position)) p h e k = refl
+leaf_settled m (leaf l) p h e k = refl
 leaf_settled m (over (label.ast_group name position) t) p h e k =
     sym (ap (λ s. s ++ as_atom (over (label.ast_group name position) t) p (λ i. []) h) (nothing_set h.flags)
     ∙ no_atom (is_operand p) (λ i. []) h)
-leaf_settled m (over label.group t) p h e k = absurd (cc)
-leaf_settled m (over (label.look_around l) t) p h e k = absurd (cc)
-leaf_settled m (over (label.repeat lo hi greedy) t) p h e k = absurd (cc)
-leaf_settled m (over label.atomic_group t) p h e k = absurd (cc)
-leaf_settled m (over label.define_group t) p h e k = absurd (cc)
-leaf_settled m (over label.repeater t) p h e k = absurd (cc)
-leaf_settled m (over label.stopper t) p h e k = absurd (cc)
-leaf_settled m (row r ts) p h e k = absurd (cc)
+leaf_settled m t p h e k = absurd (cc)
 
 leaf_below : (o : Bool) (t : Tree) → is_leaf t ≡ true → [] ≡ needs_below o t
 leaf_below o (leaf l) e = refl
 leaf_below o (over (label.ast_group name position) t) e = refl
-leaf_below o (over label.group t) e = absurd (cc)
-leaf_below o (over (label.look_around l) t) e = absurd (cc)
-leaf_below o (over (label.repeat lo hi greedy) t) e = absurd (cc)
-leaf_below o (over label.atomic_group t) e = absurd (cc)
-leaf_below o (over label.define_group t) e = absurd (cc)
-leaf_below o (over label.repeater t) e = absurd (cc)
-leaf_below o (over label.stopper t) e = absurd (cc)
-leaf_below o (row r ts) e = absurd (cc)
+leaf_below o t e = absurd (cc)
 
 leaf_groups : (t : Tree) → is_leaf t ≡ true → 0 ≡ group_count t
 leaf_groups (leaf l) e = refl
 leaf_groups (over (label.ast_group name position) t) e = refl
-leaf_groups (over label.group t) e = absurd (cc)
-leaf_groups (over (label.look_around l) t) e = absurd (cc)
-leaf_groups (over (label.repeat lo hi greedy) t) e = absurd (cc)
-leaf_groups (over label.atomic_group t) e = absurd (cc)
-leaf_groups (over label.define_group t) e = absurd (cc)
-leaf_groups (over label.repeater t) e = absurd (cc)
-leaf_groups (over label.stopper t) e = absurd (cc)
-leaf_groups (row r ts) e = absurd (cc)
+leaf_groups t e = absurd (cc)
 
 pub leaf_writes : (a b : TextOutput) (i j : code.Context) (m : GroupInfo) (t : Tree) (p : Precedence) → is_leaf t ≡ true →
     takes_inline_flags t ≡ true → Writes a b i j (λ o. []) (as_atom t p (leaf_text_of m t)) (λ h. h) →

@@ -20,7 +20,7 @@ use Rattle.fancy_grammar.specs.Quantified.{Suffix, quantified, is_swapped, is_re
 use Rattle.fancy_grammar.specs.Quantified.{with_counts, quant, quants, adjacent, max_adjacent, is_unmoved}
 use Rattle.fancy_grammar.specs.State.{State, at, skipped, after_skipped, Outcome, done, failed, and_then, mapped}
 use Rattle.fancy_grammar.specs.Tree.{Tree, leaf, over, row, Trees, no_trees, more_trees, concat, alt, trees_of, list_of}
-use Rattle.fancy_grammar.specs.Tree.{repeat, atomic_group, stopper, clear, conditional}
+use Rattle.fancy_grammar.specs.Tree.{repeat, stopper, clear, conditional, atomic_repeat}
 use Rattle.fancy_syntax.specs.Decided.{decided, decided_all, all_decided, made, IsDecidedKind}
 use Rattle.fancy_syntax.specs.Parsed.{group_kind}
 use Rattle.fancy_syntax.specs.declared.grammar.group.kind.GroupKind.{GroupKind}
@@ -69,11 +69,11 @@ pub decided_quantified : (i : Bool) (f : Flags) (c : Counts) (m : Suffix) (a : T
 decided_quantified i f c m a = by_tests (is_swapped f c) m.possessive
   where
     by_tests : (x y : Bool) →
-        (if x then atomic_group (repeat (decided i a) c.high c.low (is_greedy f m.lazy))
-        else if y then atomic_group (repeat (decided i a) c.low c.high (is_greedy f m.lazy))
+        (if x then atomic_repeat (decided i a) c.high c.low (is_greedy f m.lazy)
+        else if y then atomic_repeat (decided i a) c.low c.high (is_greedy f m.lazy)
         else repeat (decided i a) c.low c.high (is_greedy f m.lazy))
-        ≡ decided i (if x then atomic_group (repeat a c.high c.low (is_greedy f m.lazy))
-        else if y then atomic_group (repeat a c.low c.high (is_greedy f m.lazy))
+        ≡ decided i (if x then atomic_repeat a c.high c.low (is_greedy f m.lazy)
+        else if y then atomic_repeat a c.low c.high (is_greedy f m.lazy)
         else repeat a c.low c.high (is_greedy f m.lazy))
     by_tests true y = refl
     by_tests false true = refl

@@ -85,15 +85,7 @@ is_plain_literal s c t x e h = record {
 
 leaf_is_solid : (e : Escape) → is_empty (leaf_node e) ≡ false
 leaf_is_solid (escaped.literal c casei) = refl
-leaf_is_solid (escaped.literal_bytes b) = refl
-leaf_is_solid (escaped.any newline crlf) = refl
-leaf_is_solid (escaped.assertion a) = refl
-leaf_is_solid (escaped.general_newline unicode) = refl
-leaf_is_solid escaped.keep_out = refl
-leaf_is_solid escaped.continue_from_previous_match_end = refl
-leaf_is_solid (escaped.delegate t casei) = refl
-leaf_is_solid (escaped.backref r casei) = refl
-leaf_is_solid (escaped.subroutine_call c) = refl
+leaf_is_solid e = refl
 
 pub is_plain_escape : (s : State) (t u : Text) (e : Escape) → s.rest ≡ code "\\" ∷ t →
     escape s.flags false t ≡ gives e u → IsPlainLeaf s (leaf_node e) (at s u)

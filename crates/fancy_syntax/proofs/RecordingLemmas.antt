@@ -24,7 +24,7 @@ use Rattle.fancy_grammar.specs.Spans.{Span, Spans, node, Forest, no_spans, more_
 use Rattle.fancy_grammar.specs.Spans.{in_preorder, all_in_preorder, if_done, under, quantifier_end, counted, quant_spans}
 use Rattle.fancy_grammar.specs.Spans.{adjacent_spans, quants_spans}
 use Rattle.fancy_grammar.specs.State.{skipped, after_skipped, State, at, Outcome, done, failed, and_then, mapped}
-use Rattle.fancy_grammar.specs.Tree.{Tree, leaf, over, row, Trees, trees_of, alt, repeat, atomic_group}
+use Rattle.fancy_grammar.specs.Tree.{Tree, leaf, over, row, Trees, trees_of, alt, repeat, atomic_repeat}
 use Rattle.fancy_grammar.proofs.OutcomeLemmas.{Holds}
 use Rattle.fancy_grammar.specs.Trivia.{Passed, layout_end, with_dropped}
 use Rattle.fancy_syntax.specs.Log.{Log, put, others_put, alt_split, bar_split, body_split, shown, under_node, wrapped, layout_passed, text_dropped}
@@ -185,13 +185,13 @@ module _ (named : Bool) where
         p = record { start = start; end = end }
 
         twice : (low high : ℕ) → PieceRecorded start l (under_node end (under_node end m))
-            (atomic_group (repeat a low high (is_greedy f k.lazy))) (around p (around p x))
-        twice low high = once label.atomic_group end (once (label.repeat low high (is_greedy f k.lazy)) end h)
+            (atomic_repeat a low high (is_greedy f k.lazy)) (around p (around p x))
+        twice low high = once _ end (once (label.repeat low high (is_greedy f k.lazy)) end h)
 
         by_test : (b d : Bool) → PieceRecorded start l
             (under_node end (if b || d then under_node end m else m))
-            (if b then atomic_group (repeat a c.high c.low (is_greedy f k.lazy))
-            else if d then atomic_group (repeat a c.low c.high (is_greedy f k.lazy))
+            (if b then atomic_repeat a c.high c.low (is_greedy f k.lazy)
+            else if d then atomic_repeat a c.low c.high (is_greedy f k.lazy)
             else repeat a c.low c.high (is_greedy f k.lazy))
             (if b || d then around p (around p x) else around p x)
         by_test true d = twice c.high c.low

@@ -14,15 +14,12 @@ and_assoc : (a b c : Bool) → (a && (b && c)) ≡ ((a && b) && c)
 and_assoc true b c = refl
 and_assoc false b c = refl
 
+-- the row before the last makes the check split the second argument, so that the last row is tried for each pair
 eq_is_same : (a b : Wrap) → wrap_eq.ghosts.eq a b ≡ same_wrap (label_of a) (label_of b)
 eq_is_same (wrap.LookAround l) (wrap.LookAround m) = refl
 eq_is_same (wrap.Repeat lo hi greedy) (wrap.Repeat low high is_greedy) =
     and_assoc (nat_eq lo low) (nat_eq hi high) (beq greedy is_greedy)
-eq_is_same wrap.Group wrap.Group = refl
-eq_is_same wrap.AtomicGroup wrap.AtomicGroup = refl
-eq_is_same wrap.DefineGroup wrap.DefineGroup = refl
-eq_is_same wrap.Repeater wrap.Repeater = refl
-eq_is_same wrap.Stopper wrap.Stopper = refl
+eq_is_same a (wrap.LookAround m) = refl
 eq_is_same a b = refl
 
 equal_label : (w v : label.Wrap) → same_wrap w v ≡ true → w ≡ v

@@ -1,4 +1,4 @@
-//! The names of the variants of a tree, as `Expr` has them, and a field that several assertions have.
+//! The names of the variants of a tree, as `Expr` has them, what has such a name, and a field that several assertions have.
 use fancy_lex::escape::Assertion;
 use fancy_syntax::expr::{Absent, BacktrackingControlVerb, Expr, LookAround};
 
@@ -32,6 +32,16 @@ pub fn node_name(node: &Expr) -> &'static str {
     }
 }
 
+/// Returns the node of this name that holds nothing.
+pub fn bare_node_named(name: &str) -> Option<Expr> {
+    Some(match name {
+        "Empty" => Expr::Empty,
+        "KeepOut" => Expr::KeepOut,
+        "ContinueFromPreviousMatchEnd" => Expr::ContinueFromPreviousMatchEnd,
+        _ => return None,
+    })
+}
+
 /// Returns the name of an assertion, such as `StartText`.
 pub fn assertion_name(assertion: Assertion) -> &'static str {
     match assertion {
@@ -48,6 +58,25 @@ pub fn assertion_name(assertion: Assertion) -> &'static str {
         Assertion::WordBoundary => "WordBoundary",
         Assertion::NotWordBoundary => "NotWordBoundary",
     }
+}
+
+/// Returns the assertion of this name, with this field if the variant has it.
+pub fn assertion_named(name: &str, crlf: bool) -> Option<Assertion> {
+    Some(match name {
+        "StartText" => Assertion::StartText,
+        "EndText" => Assertion::EndText,
+        "EndTextIgnoreTrailingNewlines" => Assertion::EndTextIgnoreTrailingNewlines { crlf },
+        "StartLine" => Assertion::StartLine { crlf },
+        "StartLineOniguruma" => Assertion::StartLineOniguruma { crlf },
+        "EndLine" => Assertion::EndLine { crlf },
+        "LeftWordBoundary" => Assertion::LeftWordBoundary,
+        "LeftWordHalfBoundary" => Assertion::LeftWordHalfBoundary,
+        "RightWordBoundary" => Assertion::RightWordBoundary,
+        "RightWordHalfBoundary" => Assertion::RightWordHalfBoundary,
+        "WordBoundary" => Assertion::WordBoundary,
+        "NotWordBoundary" => Assertion::NotWordBoundary,
+        _ => return None,
+    })
 }
 
 /// Returns whether CR is a line terminator too for an assertion; `None` if the variant has no such field.

@@ -4,6 +4,7 @@ use anyhow::{Context, Result, bail};
 use fancy_lex::escape::Assertion;
 use fancy_lex::name::CaptureGroupTarget;
 use fancy_syntax::expr::{Absent, AstNode, BacktrackingControlVerb, Expr, LookAround};
+use fre_program::names::{assertion_named, bare_node_named, crlf_of};
 use std::alloc::Global;
 
 /// The value of a field with this name and an equals sign.
@@ -34,28 +35,12 @@ fn target(alloc: Global, field: &str) -> Result<CaptureGroupTarget> {
     Ok(CaptureGroupTarget::ByNumber(number(group)?))
 }
 
-fn assertion(name: &str) -> Result<Assertion> {
-    Ok(match name {
-        "StartText" => Assertion::StartText,
-        "EndText" => Assertion::EndText,
-        "LeftWordBoundary" => Assertion::LeftWordBoundary,
-        "LeftWordHalfBoundary" => Assertion::LeftWordHalfBoundary,
-        "RightWordBoundary" => Assertion::RightWordBoundary,
-        "RightWordHalfBoundary" => Assertion::RightWordHalfBoundary,
-        "WordBoundary" => Assertion::WordBoundary,
-        "NotWordBoundary" => Assertion::NotWordBoundary,
-        _ => bail!("no assertion"),
-    })
-}
-
-fn line_assertion(name: &str, crlf: bool) -> Result<Assertion> {
-    Ok(match name {
-        "EndTextIgnoreTrailingNewlines" => Assertion::EndTextIgnoreTrailingNewlines { crlf },
-        "StartLine" => Assertion::StartLine { crlf },
-        "StartLineOniguruma" => Assertion::StartLineOniguruma { crlf },
-        "EndLine" => Assertion::EndLine { crlf },
-        _ => bail!("no assertion of lines"),
-    })
+fn assertion(name: &str, crlf: Option<bool>) -> Result<Assertion> {
+    let assertion = assertion_named(name, crlf.unwrap_or(false)).context("no assertion")?;
+    if crlf_of(assertion) != crlf {
+        bail!("another field");
+    }
+    Ok(assertion)
 }
 
 fn look_around(name: &str) -> Result<LookAround> {
@@ -82,13 +67,14 @@ fn verb(name: &str) -> Result<BacktrackingControlVerb> {
 /// The node of a line that has no children below it.
 fn leaf(alloc: Global, words: &[&str]) -> Result<Expr> {
     Ok(match words {
-        ["Empty"] => Expr::Empty,
         ["Any", newline, crlf] => Expr::Any {
             newline: flag(newline, "newline=")?,
             crlf: flag(crlf, "crlf=")?,
         },
-        ["Assertion", name] => Expr::Assertion(assertion(name)?),
-        ["Assertion", name, crlf] => Expr::Assertion(line_assertion(name, flag(crlf, "crlf=")?)?),
+        ["Assertion", name] => Expr::Assertion(assertion(name, None)?),
+        ["Assertion", name, crlf] => {
+            Expr::Assertion(assertion(name, Some(flag(crlf, "crlf=")?))?)
+        }
         ["GeneralNewline", unicode] => Expr::GeneralNewline {
             unicode: flag(unicode, "unicode=")?,
         },
@@ -109,11 +95,10 @@ fn leaf(alloc: Global, words: &[&str]) -> Result<Expr> {
             group: number(group)?,
             casei: flag(casei, "casei=")?,
         },
-        ["KeepOut"] => Expr::KeepOut,
-        ["ContinueFromPreviousMatchEnd"] => Expr::ContinueFromPreviousMatchEnd,
         ["SubroutineCall", group] => Expr::SubroutineCall(number(group)?),
         ["BacktrackingControlVerb", name] => Expr::BacktrackingControlVerb(verb(name)?),
         ["Absent", "Clear"] => Expr::Absent(Absent::Clear),
+        [name] => bare_node_named(name).context("no node that holds nothing")?,
         _ => reference(alloc, words)?,
     })
 }

@@ -4,11 +4,7 @@ use Rattle.std.proofs.Common.{append_assoc, append-nil}
 use Prim.Native.Char.{code}
 use Rattle.fancy_lex.specs.Text.{Text}
 use Rattle.fancy_lex.specs.declared.escape.Assertion.{Assertion}
-use Rattle.fancy_lex.specs.declared.escape.Assertion.TheVariants.{StartText, EndText, EndTextIgnoreTrailingNewlines}
 use Rattle.fancy_lex.specs.declared.escape.Assertion.TheVariants.{StartLine, StartLineOniguruma, EndLine}
-use Rattle.fancy_lex.specs.declared.escape.Assertion.TheVariants.{LeftWordBoundary, LeftWordHalfBoundary}
-use Rattle.fancy_lex.specs.declared.escape.Assertion.TheVariants.{RightWordBoundary, RightWordHalfBoundary}
-use Rattle.fancy_lex.specs.declared.escape.Assertion.TheVariants.{WordBoundary, NotWordBoundary}
 use Rattle.fancy_grammar.specs.Quote.{after_backslash, quote_as, quote, quotes, quantifier}
 use Rattle.fancy_grammar.specs.Printed.{any_text, assertion_text, grouped, caseless, is_long, printed, operand_text}
 use Rattle.fancy_grammar.specs.Printed.{printed_all, printed_branches, barred}
@@ -35,20 +31,10 @@ put_line c false v = code "(" ∷ code "?" ∷ code "m" ∷ code ":" ∷ c ∷ c
 put_line c true v = code "(" ∷ code "?" ∷ code "R" ∷ code "m" ∷ code ":" ∷ c ∷ code ")" ∷ v
 
 abbrev pub put_assertion : Assertion → Text → Text
-put_assertion StartText v = code "^" ∷ v
-put_assertion EndText v = code "$" ∷ v
 put_assertion (StartLine crlf) v = put_line (code "^") crlf v
 put_assertion (StartLineOniguruma crlf) v = put_line (code "^") crlf v
 put_assertion (EndLine crlf) v = put_line (code "$") crlf v
-put_assertion WordBoundary v = code "\\" ∷ code "b" ∷ v
-put_assertion NotWordBoundary v = code "\\" ∷ code "B" ∷ v
-put_assertion LeftWordBoundary v = code "\\" ∷ code "<" ∷ v
-put_assertion RightWordBoundary v = code "\\" ∷ code ">" ∷ v
-put_assertion LeftWordHalfBoundary v = code "\\" ∷ code "b" ∷ code "{" ∷ code "s" ∷ code "t" ∷ code "a" ∷ code
-    "r" ∷ code "t" ∷ code "-" ∷ code "h" ∷ code "a" ∷ code "l" ∷ code "f" ∷ code "}" ∷ v
-put_assertion RightWordHalfBoundary v = code "\\" ∷ code "b" ∷ code "{" ∷ code "e" ∷ code "n" ∷ code "d" ∷ code
-    "-" ∷ code "h" ∷ code "a" ∷ code "l" ∷ code "f" ∷ code "}" ∷ v
-put_assertion (EndTextIgnoreTrailingNewlines crlf) v = v
+put_assertion a v = assertion_text a ++ v
 
 abbrev pub open_if : Bool → Text → Text
 open_if true v = code "(" ∷ code "?" ∷ code ":" ∷ v

@@ -1,8 +1,9 @@
 -- Nodes that hold no branches, as they are printed.
 use Rattle.std.proofs.Common.{◌≡◌, ℕ, ◌+◌, ◌<◌, Bool, true, false, not, ◌&&◌, ◌||◌, ◌==◌, [], ◌∷◌, map, Option, Some}
-use Rattle.std.proofs.Common.{None, refl, ap, ◌∙◌, arith, ne_eqb}
+use Rattle.std.proofs.Common.{None, refl, ap, ◌∙◌, arith, ne_eqb, ◌++◌, codes, drop}
 use Rattle.std.proofs.lemmas.Bool.{cond-false}
 use Prim.Native.Char.{code}
+use Rattle.fancy_lex.specs.Boundary.{unnamed_boundary}
 use Rattle.fancy_lex.specs.BoundarySteps.{boundary, named_boundary, name}
 use Rattle.fancy_lex.specs.Escape.{escape, escape_at, lone_escape, outside}
 use Rattle.fancy_lex.specs.Escaped as escaped
@@ -23,6 +24,7 @@ use Rattle.fancy_grammar.specs.Quote.{after_backslash, needs_backslash}
 use Rattle.fancy_grammar.specs.State as states
 use Rattle.fancy_grammar.specs.AtomStart.{read, atom_start, leaf_node, leaf_outcome}
 use Rattle.fancy_grammar.specs.Normal.{normal_character, unicode_flags}
+use Rattle.fancy_grammar.specs.Printed.{assertion_text}
 use Rattle.fancy_grammar.specs.State.{done}
 use Rattle.fancy_grammar.specs.Tree.{Tree, any, assertion}
 use Rattle.fancy_grammar.specs.Over.{is_at_line}
@@ -224,29 +226,45 @@ reads_assertion_escape d u t v a e =
     ∙ ap (λ r. read (leaf_outcome leaf_node (st (unicode_flags u) (code "\\" ∷ t)) r)) e)
     (record { is = λ n u c. refl; groups = tt })
 
-half_start : (p : ℕ) (v : Text) →
-    boundary false p false (code "{" ∷ code "s" ∷ code "t" ∷ code "a" ∷ code "r" ∷ code "t" ∷ code "-" ∷ code
-    "h" ∷ code "a" ∷ code "l" ∷ code "f" ∷ code "}" ∷ v) ≡ gives
-    (escaped.assertion LeftWordHalfBoundary) v
-unfolding boundary named_boundary name layout_from
-half_start p v = refl
-
-half_end : (p : ℕ) (v : Text) →
-    boundary false p false (code "{" ∷ code "e" ∷ code "n" ∷ code "d" ∷ code "-" ∷ code "h" ∷ code "a" ∷ code
-    "l" ∷ code "f" ∷ code "}" ∷ v) ≡ gives
-    (escaped.assertion RightWordHalfBoundary) v
-unfolding boundary named_boundary name layout_from
-half_end p v = refl
-
-boundary_escape : (u : Bool) (t : Text) →
-    escape (unicode_flags u) false (code "b" ∷ t) ≡ boundary false (reach_of (code "b" ∷ t) + 1) false t
+pub escape_b : (f : Flags) (v : Text) →
+    escape f false (code "b" ∷ v) ≡ boundary f.ignore_space (reach_of (code "b" ∷ v) + 1) false v
 unfolding escape_at lone_escape outside
-boundary_escape u t = refl
+escape_b f v = refl
 
-no_boundary_escape : (u : Bool) (t : Text) →
-    escape (unicode_flags u) false (code "B" ∷ t) ≡ boundary false (reach_of (code "B" ∷ t) + 1) true t
+escape_B : (f : Flags) (v : Text) →
+    escape f false (code "B" ∷ v) ≡ boundary f.ignore_space (reach_of (code "B" ∷ v) + 1) true v
 unfolding escape_at lone_escape outside
-no_boundary_escape u t = refl
+escape_B f v = refl
+
+half_start : (x : Bool) (p : ℕ) (v : Text) →
+    boundary x p false (codes "{start-half}" ++ v) ≡ gives (escaped.assertion LeftWordHalfBoundary) v
+unfolding boundary named_boundary name layout_from
+half_start true p v = refl
+half_start false p v = refl
+
+half_end : (x : Bool) (p : ℕ) (v : Text) →
+    boundary x p false (codes "{end-half}" ++ v) ≡ gives (escaped.assertion RightWordHalfBoundary) v
+unfolding boundary named_boundary name layout_from
+half_end true p v = refl
+half_end false p v = refl
+
+-- a boundary whose text no flag changes
+abbrev pub IsFlaglessBoundary : Assertion → Type 0
+IsFlaglessBoundary WordBoundary = Unit {0}
+IsFlaglessBoundary NotWordBoundary = Unit {0}
+IsFlaglessBoundary LeftWordHalfBoundary = Unit {0}
+IsFlaglessBoundary RightWordHalfBoundary = Unit {0}
+IsFlaglessBoundary _ = ⊥
+
+-- its text after the backslash, before a text that is no name in braces
+pub boundary_reads : (f : Flags) (a : Assertion) → IsFlaglessBoundary a → (v : Text) →
+    ((p : ℕ) (negated : Bool) → boundary f.ignore_space p negated v ≡ gives (unnamed_boundary negated) v) →
+    escape f false (drop 1 (assertion_text a) ++ v) ≡ gives (escaped.assertion a) v
+boundary_reads f WordBoundary h v m = escape_b f v ∙ m _ false
+boundary_reads f NotWordBoundary h v m = escape_B f v ∙ m _ true
+boundary_reads f LeftWordHalfBoundary h v m = escape_b f _ ∙ half_start f.ignore_space _ v
+boundary_reads f RightWordHalfBoundary h v m = escape_b f _ ∙ half_end f.ignore_space _ v
+boundary_reads f _ h v m = absurd h
 
 left_escape : (u : Bool) (t : Text) →
     escape (unicode_flags u) false (code "<" ∷ t) ≡ gives (escaped.assertion LeftWordBoundary) t
@@ -278,18 +296,12 @@ reads_assertion d u (EndTextIgnoreTrailingNewlines crlf) v h l m = absurd h
 reads_assertion d u (StartLine crlf) v h l m = start_line d u crlf v l
 reads_assertion d u (StartLineOniguruma crlf) v h l m = start_line d u crlf v l
 reads_assertion d u (EndLine crlf) v h l m = end_line d u crlf v l
-reads_assertion d u WordBoundary v h l m =
-    reads_assertion_escape d u (code "b" ∷ v) v WordBoundary (boundary_escape u v ∙ m _ false)
-reads_assertion d u NotWordBoundary v h l m =
-    reads_assertion_escape d u (code "B" ∷ v) v NotWordBoundary (no_boundary_escape u v ∙ m _ true)
 reads_assertion d u LeftWordBoundary v h l m =
     reads_assertion_escape d u (code "<" ∷ v) v LeftWordBoundary (left_escape u v)
 reads_assertion d u RightWordBoundary v h l m =
     reads_assertion_escape d u (code ">" ∷ v) v RightWordBoundary (right_escape u v)
-reads_assertion d u LeftWordHalfBoundary v h l m =
-    reads_assertion_escape d u _ v LeftWordHalfBoundary (boundary_escape u _ ∙ half_start _ v)
-reads_assertion d u RightWordHalfBoundary v h l m =
-    reads_assertion_escape d u _ v RightWordHalfBoundary (boundary_escape u _ ∙ half_end _ v)
+reads_assertion d u a v h l m =
+    reads_assertion_escape d u (drop 1 (assertion_text a) ++ v) v a (boundary_reads (unicode_flags u) a tt v m)
 
 begins_line : (c : ℕ) (r : Bool) (v : Text) → Begins (put_line c r v)
 begins_line c false v = begins_by refl refl refl

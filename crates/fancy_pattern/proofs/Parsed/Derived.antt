@@ -214,16 +214,13 @@ module _ (f : Flags) (text : Text) where
         where
           by_leaf : (e : Escape) → escape s.flags false t ≡ gives e u → IsOfMode s.flags t e →
               IsParsed f text (leaf_node e)
-          by_leaf (escaped.literal c casei) is h = (tt, tt)
           by_leaf (escaped.literal_bytes b) is h = (sym (same_unicode s.flags m) ∙ h, tt)
-          by_leaf (escaped.any newline crlf) is h = (tt, tt)
           by_leaf (escaped.assertion a) is h = (no_line f a h, tt)
           by_leaf (escaped.general_newline unicode) is h = (sym (same_unicode s.flags m) ∙ h, tt)
-          by_leaf escaped.keep_out is h = (tt, tt)
-          by_leaf escaped.continue_from_previous_match_end is h = (tt, tt)
           by_leaf (escaped.delegate w casei) is h = (by_escape s.flags t u m is, tt)
           by_leaf (escaped.backref r casei) is h = ((h.0.0, h.0.1, levelled r.level r.reach h.1), tt)
           by_leaf (escaped.subroutine_call c) is h = (h, tt)
+          by_leaf e is h = (tt, tt)
 
   class_part : (s : State) (t : Text) → IsSameMode f s.flags →
       P (leaf_outcome (λ w. leaf (label.delegate w s.flags.casei)) s (class s.flags t))

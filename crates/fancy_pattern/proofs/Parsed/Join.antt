@@ -70,7 +70,6 @@ module _ (f : Flags) (m : GroupInfo) where
 
   leaf_writable : (c : ℕ) (l : Leaf) → IsParsedTreeNode (leaf l) → IsResolvedNode f m.numbered_groups_ignored (leaf l) →
       AreReferencesWritable f m c (leaf l) → IsWritableLeaf f m c l
-  leaf_writable c (label.literal (d ∷ []) casei) a h r = tt
   leaf_writable c (label.literal [] casei) a h r = absurd (omega (arith, a))
   leaf_writable c (label.literal (d ∷ e ∷ w) casei) a h r = absurd (omega (arith, a))
   leaf_writable c (label.literal_bytes (b ∷ [])) a h r = (h, a.1.0.0, a.1.0.1)
@@ -79,17 +78,12 @@ module _ (f : Flags) (m : GroupInfo) where
   leaf_writable c (label.delegate s casei) a h r = source_had f s casei h
   leaf_writable c (label.general_newline unicode) a h r = h
   leaf_writable c (label.assertion x) a h r = assertion_writable c x h
-  leaf_writable c (label.any newline crlf) a h r = tt
-  leaf_writable c (label.verb v) a h r = tt
-  leaf_writable c label.empty a h r = tt
-  leaf_writable c label.keep_out a h r = tt
-  leaf_writable c label.continue_from_previous_match_end a h r = tt
-  leaf_writable c label.clear a h r = tt
   leaf_writable c (label.backref n casei) a h r = r
   leaf_writable c (label.backref_at_level n level casei) a h r = r
   leaf_writable c (label.backref_exists n level) a h r = r
   leaf_writable c (label.subroutine_call n) a h r = r
   leaf_writable c (label.ast_node x position) a h r = r
+  leaf_writable c l a h r = tt
 
   expression_writable : (c : ℕ) (ts : Trees) → AreTwo ts → AreAllWritable f m c ts →
       AreNodesWritable f m c (row label.expression ts)
@@ -136,12 +130,9 @@ module _ (f : Flags) (m : GroupInfo) where
         (nodes_writable c t a.1 h.1 r q, h.0.0, h.0.1, h.0.2, h.0.3)
     nodes_writable c (over label.group t) a h r q =
         let (x, y) = counted_first c (group_count t) q in (x, nodes_writable (c + 1) t a.1 h.1 r y)
-    nodes_writable c (over (label.look_around l) t) a h r q = nodes_writable c t a.1 h.1 r q
-    nodes_writable c (over label.atomic_group t) a h r q = nodes_writable c t a.1 h.1 r q
-    nodes_writable c (over label.define_group t) a h r q = nodes_writable c t a.1 h.1 r q
-    nodes_writable c (over label.repeater t) a h r q = nodes_writable c t a.1 h.1 r q
     nodes_writable c (over label.stopper t) a h r q = (nodes_writable c t a.1 h.1 r q, h.0)
     nodes_writable c (over (label.ast_group name position) t) a h r q = absurd a.0
+    nodes_writable c (over w t) a h r q = nodes_writable c t a.1 h.1 r q
     nodes_writable c (row label.concat (more_trees t (more_trees u ts))) a h r q =
         pieces_writable c (more_trees t (more_trees u ts)) a.1 h.1 h.0.1 r q
     nodes_writable c (row label.concat no_trees) a h r q = absurd (omega (arith, h.0.0))

@@ -164,16 +164,9 @@ module _ (in_mode : Bool) (d : ℕ) (s : State) (o : s.flags.oniguruma_mode ≡ 
 
   escape_in_mode : (q : Reading Escape) → IfGives (IsSuited s.flags) q →
       Holds (LeafRead in_mode d s) (leaf_outcome leaf_node s q)
-  escape_in_mode (gives (escaped.literal c casei) u) h = plain_leaf _ u (λ _. (refl, h))
-  escape_in_mode (gives (escaped.literal_bytes b) u) h = plain_leaf _ u (λ _. (refl, h))
-  escape_in_mode (gives (escaped.any newline crlf) u) h = plain_leaf _ u (λ _. (refl, h))
-  escape_in_mode (gives (escaped.assertion a) u) h = plain_leaf _ u (λ _. (refl, h))
-  escape_in_mode (gives (escaped.general_newline unicode) u) h = plain_leaf _ u (λ _. (refl, h))
-  escape_in_mode (gives escaped.keep_out u) h = plain_leaf _ u (λ _. (refl, h))
-  escape_in_mode (gives escaped.continue_from_previous_match_end u) h = plain_leaf _ u (λ _. (refl, h))
-  escape_in_mode (gives (escaped.delegate t casei) u) h = plain_leaf _ u (λ _. (refl, h))
   escape_in_mode (gives (escaped.backref r casei) u) h = plain_leaf _ u (λ _. h)
   escape_in_mode (gives (escaped.subroutine_call c) u) h = plain_leaf _ u (λ _. h)
+  escape_in_mode (gives e u) h = plain_leaf _ u (λ _. (refl, h))
   escape_in_mode (fails e) h = tt
 
   class_in_mode : (q : Reading Text) → Holds (LeafRead in_mode d s) (leaf_outcome (λ w. delegate w s.flags.casei) s q)

@@ -38,7 +38,7 @@ use Rattle.fancy_pattern.proofs.PatternLaws.Groups.{parens_text, question_at, re
 use Rattle.fancy_pattern.proofs.PatternLaws.Groups.{reads_define, reads_group, capture_at, opening_read}
 use Rattle.fancy_pattern.proofs.PatternLaws.Induction.{ReadsBy}
 use Rattle.fancy_pattern.proofs.PatternLaws.Induction.{by_atom, by_nothing}
-use Rattle.fancy_pattern.proofs.PatternLaws.Leaves.{LeafAt, literal_at, byte_at, keep_at, continue_at, newline_at, any_at}
+use Rattle.fancy_pattern.proofs.PatternLaws.Leaves.{LeafAt, literal_at, byte_at, of_letter_at, newline_at, any_at}
 use Rattle.fancy_pattern.proofs.PatternLaws.Leaves.{assertion_at, verb_leaf_at, clear_at, source_at}
 use Rattle.fancy_pattern.proofs.PatternLaws.Needed.{like_repeatable, settled_again, case_fits, any_fits, IsLineOfMode}
 use Rattle.fancy_pattern.proofs.PatternLaws.Needed.{assertion_fits}
@@ -147,11 +147,6 @@ module _ (μ : GroupInfo) where
       let i = under (settled h.flags (leaf l)) h in
       leaf_by l h refl (λ _. source_at μ i s casei _ (k i.flags like (settled_again h.flags (leaf l))))
       (λ e. absurd (true≢false e))
-  leaf_reads numbered f label.keep_out h like k = leaf_by label.keep_out h refl (λ _. keep_at μ h)
-      (λ _ _. keep_at μ _)
-  leaf_reads numbered f label.continue_from_previous_match_end h like k =
-      leaf_by label.continue_from_previous_match_end h refl (λ _. continue_at μ h)
-      (λ _ _. continue_at μ _)
   leaf_reads numbered f (label.verb v) h like k = leaf_by (label.verb v) h refl (λ d. verb_leaf_at μ h v (d refl))
       (λ _ d. verb_leaf_at μ _ v (d refl))
   leaf_reads numbered f label.clear h like k = leaf_by label.clear h refl (λ d. clear_at μ h (d refl))
@@ -174,7 +169,8 @@ module _ (μ : GroupInfo) where
   leaf_reads numbered f (label.ast_node (label.ast_call t) position) h like k =
       leaf_by (label.ast_node (label.ast_call t) position) h refl (λ d. unresolved_at μ h t position d k.0 k.1)
       (λ e. absurd (true≢false e))
-  leaf_reads numbered f _ h like k = absurd k
+  leaf_reads numbered f (label.ast_node r position) h like k = absurd k
+  leaf_reads numbered f l h like k = leaf_by l h refl (λ _. of_letter_at μ _ l tt) (λ _ _. of_letter_at μ _ l tt)
 
   -- ---- groups
 

@@ -63,15 +63,7 @@ same_quants d l m a s e =
 
 node_solid : (e : Escape) → is_empty (leaf_node e) ≡ false
 node_solid (escaped.literal c casei) = refl
-node_solid (escaped.literal_bytes b) = refl
-node_solid (escaped.any newline crlf) = refl
-node_solid (escaped.assertion a) = refl
-node_solid (escaped.general_newline unicode) = refl
-node_solid escaped.keep_out = refl
-node_solid escaped.continue_from_previous_match_end = refl
-node_solid (escaped.delegate t casei) = refl
-node_solid (escaped.backref r casei) = refl
-node_solid (escaped.subroutine_call c) = refl
+node_solid e = refl
 
 -- ---- after an atom that opens no group, it does not matter where the piece began
 

@@ -11,7 +11,7 @@ use Rattle.fancy_grammar.specs.Pattern.{Context, under, past_groups, deeper, tak
 use Rattle.fancy_grammar.specs.Pattern.{is_last_operand, allowed, after}
 use Rattle.fancy_grammar.specs.PatternNeeds.{settled}
 use Rattle.fancy_grammar.specs.Quantified.{is_repeatable}
-use Rattle.fancy_grammar.specs.Tree.{Tree, leaf, over, row, Trees, no_trees, more_trees}
+use Rattle.fancy_grammar.specs.Tree.{Tree, leaf, over, row, Trees, no_trees, more_trees, atomic_repeat}
 use Rattle.fancy_grammar.specs.declared.kinds.LookAround.{LookAround}
 use Rattle.fancy_grammar.specs.declared.precedence.Precedence.{Precedence}
 use Rattle.fancy_grammar.specs.declared.precedence.Precedence.TheVariants.{Whole, Branch, Piece, Operand}
@@ -106,7 +106,7 @@ leaf_fit in_mode l d p e s b h o m r =
 
 abbrev pub IsUnquantified : Tree → Type 0
 IsUnquantified (over (label.repeat lo hi greedy) t) = ⊥
-IsUnquantified (over label.atomic_group (over (label.repeat lo hi greedy) t)) = ⊥
+IsUnquantified (atomic_repeat t lo hi greedy) = ⊥
 IsUnquantified t = Unit {0}
 
 pub enclosed : (t : Tree) (p : Precedence) → IsUnquantified t → (h : Context) → MayOpen h → Fits t Whole h →
@@ -124,7 +124,7 @@ enclosed (over (label.look_around l) t) p u h d x y =
     let again = subst (λ g. FitsInParens (Fits t Whole) (under g (deeper i))) (settled_again h.flags t) y.1 in
     (x.0, parens_fit _ (λ q. FitsInParens (Fits t Whole)) p i d again x.1)
 enclosed (over (label.repeat lo hi greedy) t) p u h d x y = absurd u
-enclosed (over label.atomic_group (over (label.repeat lo hi greedy) t)) p u h d x y = absurd u
+enclosed (atomic_repeat t lo hi greedy) p u h d x y = absurd u
 enclosed (row label.expression no_trees) p u h d x y = x
 enclosed (row label.expression (more_trees a no_trees)) p u h d x y = x
 enclosed (row label.expression (more_trees a (more_trees e no_trees))) p u h d x y = x

@@ -172,26 +172,8 @@ pub over_becomes : (μ : GroupInfo) (s : Text) (w : Wrap) (c : ℕ) (r x : Tree)
     Becomes μ s c (over w r) (over w x)
 over_becomes μ s label.group c r x k b = absurd k
 over_becomes μ s (label.ast_group name position) c r x k b = absurd k
-over_becomes μ s (label.look_around l) c r x k b =
-    record {
-      is = λ n u e. ap (over (label.look_around l)) (b.is n u e);
-      count = b.count;
-      groups = b.groups;
-    }
-over_becomes μ s (label.repeat lo hi greedy) c r x k b =
-    record {
-      is = λ n u e. ap (over (label.repeat lo hi greedy)) (b.is n u e);
-      count = b.count;
-      groups = b.groups;
-    }
-over_becomes μ s label.atomic_group c r x k b =
-    record { is = λ n u e. ap (over label.atomic_group) (b.is n u e); count = b.count; groups = b.groups }
-over_becomes μ s label.define_group c r x k b =
-    record { is = λ n u e. ap (over label.define_group) (b.is n u e); count = b.count; groups = b.groups }
-over_becomes μ s label.repeater c r x k b =
-    record { is = λ n u e. ap (over label.repeater) (b.is n u e); count = b.count; groups = b.groups }
-over_becomes μ s label.stopper c r x k b =
-    record { is = λ n u e. ap (over label.stopper) (b.is n u e); count = b.count; groups = b.groups }
+over_becomes μ s w c r x k b =
+    record { is = λ n u e. ap (over w) (b.is n u e); count = b.count; groups = b.groups }
 
 pub reads_look : (μ : GroupInfo) (h : Context) (l : LookAround) (g : Flags) (s t v : Text) (x : Tree) →
     atom_start h.depth (st h.flags s) ≡ of_kind (look l) (st h.flags t) → WholeAt μ (deeper h) t g (code ")" ∷ v) x →

@@ -1,6 +1,6 @@
 -- The text of a leaf is read as that leaf, whatever follows.
 use Rattle.std.proofs.Common.{◌≡◌, ℕ, ◌+◌, ◌/◌, ◌%◌, ◌<◌, ◌≤◌, Bool, true, false, ◌&&◌, ◌==◌, [], ◌∷◌, ◌++◌}
-use Rattle.std.proofs.Common.{codes, Option, Some, refl, sym, ap, ◌∙◌, subst, append-nil, if◌then◌else◌}
+use Rattle.std.proofs.Common.{codes, Option, Some, refl, sym, ap, ◌∙◌, subst, append-nil, if◌then◌else◌, drop}
 use Rattle.std.proofs.Math.Bool.{beq}
 use Rattle.std.proofs.lemmas.Bool.{cond-true, cond-false, cond_both, and_parts, and_from}
 use Prim.Native.Char.{code}
@@ -8,18 +8,16 @@ use Rattle.fancy_lex.specs.Boundary.{unnamed_boundary}
 use Rattle.fancy_lex.specs.BoundarySteps.{boundary, named_boundary, name}
 use Rattle.fancy_lex.specs.Characters.{is_among, metacharacters}
 use Rattle.fancy_lex.specs.Class.{upper_hex_digit}
-use Rattle.fancy_lex.specs.Escape.{escape, escape_at, lone_escape, outside}
+use Rattle.fancy_lex.specs.Escape.{escape, escape_at, lone_escape}
 use Rattle.fancy_lex.specs.Escaped as escaped
 use Rattle.fancy_lex.specs.Escaped.{Escape}
 use Rattle.fancy_lex.specs.LayoutSteps.{layout, layout_from, is_layout, rest}
 use Rattle.fancy_lex.specs.Reading.{gives, choose}
-use Rattle.fancy_lex.specs.Text.{Text, reach_of}
+use Rattle.fancy_lex.specs.Text.{Text}
 use Rattle.fancy_lex.specs.declared.escape.Assertion.{Assertion}
 use Rattle.fancy_lex.specs.declared.escape.Assertion.TheVariants.{StartText, EndText, EndTextIgnoreTrailingNewlines}
 use Rattle.fancy_lex.specs.declared.escape.Assertion.TheVariants.{StartLine, StartLineOniguruma, EndLine}
-use Rattle.fancy_lex.specs.declared.escape.Assertion.TheVariants.{LeftWordBoundary, LeftWordHalfBoundary}
-use Rattle.fancy_lex.specs.declared.escape.Assertion.TheVariants.{RightWordBoundary, RightWordHalfBoundary}
-use Rattle.fancy_lex.specs.declared.escape.Assertion.TheVariants.{WordBoundary, NotWordBoundary}
+use Rattle.fancy_lex.specs.declared.escape.Assertion.TheVariants.{LeftWordBoundary, RightWordBoundary}
 use Rattle.fancy_lex.specs.declared.flags.Flags.{Flags}
 use Rattle.fancy_lex.specs.ErrorTable.{unknown_verb}
 use Rattle.fancy_grammar.specs.Depth.{max_depth}
@@ -32,12 +30,13 @@ use Rattle.fancy_grammar.specs.Grammar.{atom, a_read, one_branch, branch, stop}
 use Rattle.fancy_grammar.specs.Label as label
 use Rattle.fancy_grammar.specs.Label.{Leaf}
 use Rattle.fancy_grammar.specs.GroupInfo.{GroupInfo}
-use Rattle.fancy_grammar.specs.Pattern.{Context, parenthesized, verb_text}
+use Rattle.fancy_grammar.specs.Pattern.{Context, leaf_text, parenthesized, verb_text}
 use Rattle.fancy_grammar.specs.PatternLetters.{any_text, assertion_text, character}
 use Rattle.fancy_grammar.specs.State.{done}
 use Rattle.fancy_grammar.specs.Tree.{leaf, assertion}
 use Rattle.fancy_grammar.proofs.Writable.{IsSource, an_escape, a_class}
 use Rattle.fancy_grammar.proofs.ReadBack.ClearLemmas.{apart, not_open}
+use Rattle.fancy_grammar.proofs.ReadBack.LeafLemmas.{escape_b, boundary_reads}
 use Rattle.fancy_grammar.proofs.ReadBack.RuleLemmas.{st, leaf_at}
 use Rattle.fancy_pattern.proofs.PatternLaws.Becomes.{Becomes}
 use Rattle.fancy_pattern.proofs.PatternLaws.Characters.{Spells, itself, by_escape, CaseFits, character_spells}
@@ -209,21 +208,17 @@ unfolding escape_at lone_escape
 escape_right f v o =
     ap (λ b. gives (if b then escaped.literal (code ">") false else escaped.assertion RightWordBoundary) v) o
 
-escape_b : (f : Flags) (v : Text) → escape f false (code "b" ∷ v)
-    ≡ boundary f.ignore_space (reach_of (code "b" ∷ v) + 1) false v
-unfolding escape_at lone_escape outside
-escape_b f v = refl
+-- a leaf that holds nothing and is written as an escape of one letter
+abbrev pub IsOfLetter : Leaf → Type 0
+IsOfLetter label.keep_out = Unit {0}
+IsOfLetter label.continue_from_previous_match_end = Unit {0}
+IsOfLetter _ = ⊥
 
-escape_B : (f : Flags) (v : Text) → escape f false (code "B" ∷ v)
-    ≡ boundary f.ignore_space (reach_of (code "B" ∷ v) + 1) true v
-unfolding escape_at lone_escape outside
-escape_B f v = refl
-
-pub keep_at : (μ : GroupInfo) (h : Context) → LeafAt μ h (codes "\\K") label.keep_out
-keep_at μ h = letter_at μ h (code "K") _ label.keep_out tt refl (escape_K h.flags)
-
-pub continue_at : (μ : GroupInfo) (h : Context) → LeafAt μ h (codes "\\G") label.continue_from_previous_match_end
-continue_at μ h = letter_at μ h (code "G") _ label.continue_from_previous_match_end tt refl (escape_G h.flags)
+pub of_letter_at : (μ : GroupInfo) (h : Context) (l : Leaf) → IsOfLetter l → LeafAt μ h (leaf_text μ l h) l
+of_letter_at μ h label.keep_out k = letter_at μ h (code "K") _ label.keep_out tt refl (escape_K h.flags)
+of_letter_at μ h label.continue_from_previous_match_end k =
+    letter_at μ h (code "G") _ label.continue_from_previous_match_end tt refl (escape_G h.flags)
+of_letter_at μ h l k = absurd k
 
 pub newline_at : (μ : GroupInfo) (h : Context) (u : Bool) → h.flags.unicode ≡ u →
     LeafAt μ h (codes "\\R") (label.general_newline u)
@@ -313,18 +308,6 @@ AssertionFits f (EndLine crlf) = (f.multi ≡ true) × (f.crlf ≡ crlf)
 AssertionFits f (EndTextIgnoreTrailingNewlines crlf) = f.crlf ≡ crlf
 AssertionFits f _ = Unit {0}
 
-half_start : (x : Bool) (p : ℕ) (v : Text) →
-    boundary x p false (codes "{start-half}" ++ v) ≡ gives (escaped.assertion LeftWordHalfBoundary) v
-unfolding boundary named_boundary name layout_from
-half_start true p v = refl
-half_start false p v = refl
-
-half_end : (x : Bool) (p : ℕ) (v : Text) →
-    boundary x p false (codes "{end-half}" ++ v) ≡ gives (escaped.assertion RightWordHalfBoundary) v
-unfolding boundary named_boundary name layout_from
-half_end true p v = refl
-half_end false p v = refl
-
 word_start : (x : Bool) (p : ℕ) (v : Text) →
     boundary x p false (codes "{start}" ++ v) ≡ gives (escaped.assertion LeftWordBoundary) v
 unfolding boundary named_boundary name layout_from
@@ -366,10 +349,6 @@ assertion_at μ h (StartLine crlf) k =
 assertion_at μ h (StartLineOniguruma crlf) k =
     caret_at μ h (StartLineOniguruma crlf) (cond-true _ _ _ k.0 ∙ (cond-true _ _ _ k.2 ∙ ap StartLineOniguruma k.1))
 assertion_at μ h (EndLine crlf) k = dollar_at μ h (EndLine crlf) (cond-true _ _ _ k.0 ∙ ap EndLine k.1)
-assertion_at μ h WordBoundary k =
-    boundary_at μ h (codes "b") WordBoundary (λ v m. escape_b h.flags v ∙ m _ false)
-assertion_at μ h NotWordBoundary k =
-    boundary_at μ h (codes "B") NotWordBoundary (λ v m. escape_B h.flags v ∙ m _ true)
 assertion_at μ h LeftWordBoundary k =
     cond_both h.flags.oniguruma_mode _ _ (λ t. LeafAt μ h t (label.assertion LeftWordBoundary))
     (λ e. boundary_at μ h (codes "b{start}") LeftWordBoundary
@@ -380,12 +359,7 @@ assertion_at μ h RightWordBoundary k =
     (λ e. boundary_at μ h (codes "b{end}") RightWordBoundary
     (λ v m. escape_b h.flags _ ∙ word_end h.flags.ignore_space _ v))
     (λ e. letter_at μ h (code ">") _ (label.assertion RightWordBoundary) tt refl (λ v. escape_right h.flags v e))
-assertion_at μ h LeftWordHalfBoundary k =
-    boundary_at μ h (codes "b{start-half}") LeftWordHalfBoundary
-    (λ v m. escape_b h.flags _ ∙ half_start h.flags.ignore_space _ v)
-assertion_at μ h RightWordHalfBoundary k =
-    boundary_at μ h (codes "b{end-half}") RightWordHalfBoundary
-    (λ v m. escape_b h.flags _ ∙ half_end h.flags.ignore_space _ v)
+assertion_at μ h a k = boundary_at μ h (drop 1 (assertion_text h.flags a)) a (λ v m. boundary_reads h.flags a tt v m)
 
 -- ---- verbs
 

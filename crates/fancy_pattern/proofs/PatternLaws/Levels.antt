@@ -10,6 +10,7 @@ use Rattle.fancy_grammar.specs.Pattern.{is_last_operand, allowed, after}
 use Rattle.fancy_grammar.specs.PatternNeeds.{settled, agreed}
 use Rattle.fancy_grammar.specs.Quantified.{is_repeatable}
 use Rattle.fancy_grammar.specs.Tree.{Tree, leaf, over, row, Trees, no_trees, more_trees, levels, levels_all}
+use Rattle.fancy_grammar.specs.Tree.{atomic_repeat}
 use Rattle.fancy_grammar.specs.declared.precedence.Precedence.{Precedence}
 use Rattle.fancy_grammar.specs.declared.precedence.Precedence.TheVariants.{Whole, Branch, Piece, Operand}
 use Rattle.fancy_grammar.proofs.PatternDepth.{MayOpen, FitsInParensIf, FitsAsAtom, Fits, FitAll}
@@ -104,7 +105,7 @@ module _ (f : Flags) (μ : GroupInfo) where
               ))
               (levels_fit t (Operand (allowed p i)) i c k.0 e (λ _. omega arith) (omega arith)),
         )
-    levels_fit (over label.atomic_group (over (label.repeat lo hi greedy) t)) p h c k e s d =
+    levels_fit (atomic_repeat t lo hi greedy) p h c k e s d =
         let i = under (settled h.flags t) h in (
           λ _. omega arith,
           parens_fit_if _ (λ q j. Fits t (Operand (allowed q j)) j) p i
@@ -114,27 +115,6 @@ module _ (f : Flags) (μ : GroupInfo) where
               ))
               (levels_fit t (Operand (allowed p i)) i c k.0 e (λ _. omega arith) (omega arith)),
         )
-    levels_fit (over label.atomic_group t) p h c k e s d = (
-      λ _. omega arith,
-      (
-        omega arith,
-        levels_fit t Whole (deeper (under (settled h.flags t) h)) c k e (λ x. absurd (false≢true x)) (omega arith),
-      ),
-    )
-    levels_fit (over label.define_group t) p h c k e s d = (
-      λ _. omega arith,
-      (
-        omega arith,
-        levels_fit t Whole (deeper (under (settled h.flags t) h)) c k e (λ x. absurd (false≢true x)) (omega arith),
-      ),
-    )
-    levels_fit (over label.repeater t) p h c k e s d = (
-      λ _. omega arith,
-      (
-        omega arith,
-        levels_fit t Whole (deeper (under (settled h.flags t) h)) c k e (λ x. absurd (false≢true x)) (omega arith),
-      ),
-    )
     levels_fit (over label.stopper t) p h c k e s d = (
       λ _. omega arith,
       (
@@ -143,6 +123,14 @@ module _ (f : Flags) (μ : GroupInfo) where
           λ x. omega (arith, some_level t),
           levels_fit t Branch (deeper (under (settled h.flags t) h)) c k.0 e (λ x. absurd (false≢true x)) (omega arith),
         ),
+      ),
+    )
+    levels_fit (over (label.ast_group name position) t) p h c k e s d = absurd k
+    levels_fit (over w t) p h c k e s d = (
+      λ _. omega arith,
+      (
+        omega arith,
+        levels_fit t Whole (deeper (under (settled h.flags t) h)) c k e (λ x. absurd (false≢true x)) (omega arith),
       ),
     )
     levels_fit (row label.expression (more_trees a (more_trees b no_trees))) p h c k e s d =

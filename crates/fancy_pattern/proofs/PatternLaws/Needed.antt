@@ -7,8 +7,7 @@ use Rattle.fancy_lex.specs.declared.escape.Assertion.{Assertion}
 use Rattle.fancy_lex.specs.declared.escape.Assertion.TheVariants.{EndTextIgnoreTrailingNewlines, StartLine}
 use Rattle.fancy_lex.specs.declared.escape.Assertion.TheVariants.{StartLineOniguruma, EndLine}
 use Rattle.fancy_lex.specs.declared.flags.Flags.{Flags}
-use Rattle.fancy_grammar.specs.Label.{concat, alt, literal, any, assertion, empty, keep_out, verb, look_around}
-use Rattle.fancy_grammar.specs.Label.{continue_from_previous_match_end}
+use Rattle.fancy_grammar.specs.Label.{concat, alt, literal, any, assertion, look_around}
 use Rattle.fancy_grammar.specs.Pattern.{takes_pieces, takes_branches, flags_after, flags_after_all}
 use Rattle.fancy_grammar.specs.PatternNeeds.{is_kept_by_backslash, first, needs, fixed_or, with_needs, settled}
 use Rattle.fancy_grammar.specs.PatternNeeds.{turns_on}
@@ -81,10 +80,6 @@ mutual
 pub like_repeatable : (t : Tree) (f g : Flags) → f.oniguruma_mode ≡ g.oniguruma_mode →
     is_repeatable f t ≡ is_repeatable g t
 like_repeatable (leaf (assertion a)) f g e = ap not e
-like_repeatable (leaf empty) f g e = refl
-like_repeatable (leaf keep_out) f g e = refl
-like_repeatable (leaf continue_from_previous_match_end) f g e = refl
-like_repeatable (leaf (verb v)) f g e = refl
 like_repeatable (over (look_around l) t) f g e = refl
 like_repeatable _ f g e = refl
 

@@ -19,7 +19,7 @@ use Rattle.fancy_grammar.specs.Quantified.{quants, adjacent, max_adjacent, is_un
 use Rattle.fancy_grammar.specs.Resolved.{resolved_in}
 use Rattle.fancy_grammar.specs.Slices.{Slice}
 use Rattle.fancy_grammar.specs.State.{skipped, State, at, Outcome, done, failed}
-use Rattle.fancy_grammar.specs.Tree.{Tree, over}
+use Rattle.fancy_grammar.specs.Tree.{Tree, over, atomic_repeat}
 use Rattle.fancy_grammar.specs.declared.precedence.Precedence.{Precedence}
 use Rattle.fancy_grammar.specs.declared.precedence.Precedence.TheVariants.{Operand}
 use Rattle.fancy_grammar.proofs.OutcomeLemmas.{Holds, then_holds, skipped_both}
@@ -184,12 +184,12 @@ module _ (in_mode : Bool) (z : ℕ) (named : Bool) (numbers_of : Text → List �
     }
 
     possessive_fitted : CanBePossessive in_mode lo hi →
-        Fitted in_mode R 2 d (over label.atomic_group (over (label.repeat lo hi greedy) a))
+        Fitted in_mode R 2 d (atomic_repeat a lo hi greedy)
     possessive_fitted e = record {
       fits =
           λ c p u i o l r. as_possessive in_mode (R c a) lo hi greedy e p i o
           (repeat_fit in_mode (R c a) lo hi greedy d j (h c) k p
-          (low in_mode 2 (over label.atomic_group (over (label.repeat lo hi greedy) a)) p (omega arith) u) i o l r);
+          (low in_mode 2 (atomic_repeat a lo hi greedy) p (omega arith) u) i o l r);
       alone =
           λ c p i o l b r. as_possessive in_mode (R c a) lo hi greedy e p i o
           (repeat_alone in_mode (R c a) lo hi greedy d j (h c) k (x c) p i o l b r);
@@ -197,7 +197,7 @@ module _ (in_mode : Bool) (z : ℕ) (named : Bool) (numbers_of : Text → List �
     }
 
     possessive_operands : CanBePossessive in_mode lo hi → (c : ℕ) →
-        FitOperands in_mode d (suc j) (over label.atomic_group (over (label.repeat lo hi greedy) (R c a)))
+        FitOperands in_mode d (suc j) (atomic_repeat (R c a) lo hi greedy)
     possessive_operands e c n l i o m r =
         as_possessive in_mode (R c a) lo hi greedy e (Operand n) i o
         (repeat_operands in_mode (R c a) lo hi greedy d j (h c) n l i o m r)
@@ -218,7 +218,7 @@ module _ (in_mode : Bool) (z : ℕ) (named : Bool) (numbers_of : Text → List �
         }
 
     possessive_over : (lo hi : ℕ) (greedy : Bool) → CanBePossessive in_mode lo hi →
-        Quantified (suc j) d s (over label.atomic_group (over (label.repeat lo hi greedy) a)) w
+        Quantified (suc j) d s (atomic_repeat a lo hi greedy) w
     possessive_over lo hi greedy y =
         let x = possessive_fitted j d a lo hi greedy (h.operands e) h.part.fitted.alone k y in record {
           part = record {

@@ -11,7 +11,7 @@ use Rattle.fancy_grammar.specs.Pattern.{Context, under, deeper, is_last_operand,
 use Rattle.fancy_grammar.specs.PatternNeeds.{settled}
 use Rattle.fancy_grammar.specs.PatternQuantifier.{is_possessive, most_quantifiers}
 use Rattle.fancy_grammar.specs.Quantified.{max_adjacent}
-use Rattle.fancy_grammar.specs.Tree.{Tree, over}
+use Rattle.fancy_grammar.specs.Tree.{Tree, over, atomic_repeat}
 use Rattle.fancy_grammar.specs.declared.precedence.Precedence.{Precedence}
 use Rattle.fancy_grammar.specs.declared.precedence.Precedence.TheVariants.{Whole, Branch, Piece, Operand}
 use Rattle.fancy_grammar.proofs.PatternDepth.{FitsInParensIf, Fits}
@@ -94,7 +94,7 @@ CanBePossessive in_mode lo hi = (not in_mode || nat_lt lo hi) ≡ true
 -- it fits as a quantifier that is not possessive does
 pub as_possessive : (in_mode : Bool) (t : Tree) (lo hi : ℕ) (greedy : Bool) → CanBePossessive in_mode lo hi →
     (p : Precedence) (h : Context) → h.flags.oniguruma_mode ≡ in_mode → Fits (over (label.repeat lo hi greedy) t) p h →
-    Fits (over label.atomic_group (over (label.repeat lo hi greedy) t)) p h
+    Fits (atomic_repeat t lo hi greedy) p h
 as_possessive in_mode t lo hi greedy e p h o x =
     let i = under (settled h.flags t) h in
     let can_be_possessive : is_possessive i.flags lo hi ≡ true = ap (λ b. not b || nat_lt lo hi) o ∙ e in

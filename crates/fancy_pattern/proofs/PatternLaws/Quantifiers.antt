@@ -31,7 +31,7 @@ use Rattle.fancy_grammar.specs.Quantified as quantified
 use Rattle.fancy_grammar.specs.Quantified.{is_repeatable, may_be_possessive, quant, after_lazy, suffix}
 use Rattle.fancy_grammar.specs.Quantified.{is_swapped}
 use Rattle.fancy_grammar.specs.State.{done, mapped}
-use Rattle.fancy_grammar.specs.Tree.{Tree, repeat, atomic_group}
+use Rattle.fancy_grammar.specs.Tree.{Tree, repeat, atomic_repeat}
 use Rattle.fancy_grammar.specs.Join.{is_empty}
 use Rattle.fancy_grammar.specs.Label.{atomic_group as atomic, repeat as repeated}
 use Rattle.fancy_grammar.specs.GroupInfo.{GroupInfo}
@@ -291,14 +291,14 @@ greed false false = refl
 
 -- the tree under the quantifier
 abbrev pub quantified_tree : Bool → Tree → ℕ → ℕ → Bool → Tree
-quantified_tree true a lo hi greedy = atomic_group (repeat a lo hi greedy)
+quantified_tree true a lo hi greedy = atomic_repeat a lo hi greedy
 quantified_tree false a lo hi greedy = repeat a lo hi greedy
 
 quantified_as : (f : Flags) (a : Tree) (c : Counts) (possessive greedy : Bool) → is_swapped f c ≡ false →
     quantified.quantified f c (record { lazy = beq greedy f.swap_greed; possessive = possessive }) a
     ≡ quantified_tree possessive a c.low c.high greedy
 quantified_as f a c true greedy o =
-    cond-false _ _ _ o ∙ ap (λ g. atomic_group (repeat a c.low c.high g)) (greed f.swap_greed greedy)
+    cond-false _ _ _ o ∙ ap (λ g. atomic_repeat a c.low c.high g) (greed f.swap_greed greedy)
 quantified_as f a c false greedy o =
     cond-false _ _ _ o ∙ ap (λ g. repeat a c.low c.high g) (greed f.swap_greed greedy)
 
@@ -307,7 +307,7 @@ quantified_swapped : (f : Flags) (a : Tree) (c : Counts) (greedy : Bool) → is_
     quantified.quantified f c (record { lazy = beq greedy f.swap_greed; possessive = false }) a
     ≡ quantified_tree true a c.high c.low greedy
 quantified_swapped f a c greedy o =
-    cond-true _ _ _ o ∙ ap (λ g. atomic_group (repeat a c.high c.low g)) (greed f.swap_greed greedy)
+    cond-true _ _ _ o ∙ ap (λ g. atomic_repeat a c.high c.low g) (greed f.swap_greed greedy)
 
 quant_by : (left : ℕ) (f : Flags) (a b : Tree) (q v : Text) (possessive : Bool) (lo hi : ℕ) (braces greedy : Bool) →
     let c : Counts = record { low = lo; high = hi; braces = braces } in

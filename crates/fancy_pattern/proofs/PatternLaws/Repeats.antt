@@ -17,7 +17,7 @@ use Rattle.fancy_grammar.specs.Pattern.{written}
 use Rattle.fancy_grammar.specs.Pattern.{repeated, allowed}
 use Rattle.fancy_grammar.specs.PatternNeeds.{settled, inline_flags}
 use Rattle.fancy_grammar.specs.PatternQuantifier.{quantifier_text, is_possessive}
-use Rattle.fancy_grammar.specs.Tree.{Tree, over}
+use Rattle.fancy_grammar.specs.Tree.{Tree, over, atomic_repeat}
 use Rattle.fancy_grammar.specs.declared.precedence.Precedence.{Precedence}
 use Rattle.fancy_grammar.specs.declared.precedence.Precedence.TheVariants.{Whole, Branch, Piece, Operand}
 use Rattle.fancy_grammar.proofs.PatternDepth.{Fits, FitsInParensIf, MaySet, MayOpen}
@@ -192,7 +192,7 @@ module _ (μ : GroupInfo) where
       -- ---- a possessive quantifier, or an atomic group of a Repeat that no quantifier can be written for
 
       abbrev atomic : Tree
-      atomic = over label.atomic_group (over (label.repeat lo hi greedy) t)
+      atomic = atomic_repeat t lo hi greedy
 
       -- the text, if this many quantifiers may come before its own
       abbrev one_text : Bool → ℕ → Text

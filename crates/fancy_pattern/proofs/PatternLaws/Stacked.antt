@@ -17,7 +17,7 @@ use Rattle.fancy_grammar.specs.PatternNeeds.{settled}
 use Rattle.fancy_grammar.specs.PatternQuantifier.{is_quantified, most_quantifiers}
 use Rattle.fancy_grammar.specs.Quantified.{is_repeatable, is_unmoved, quant, quants, adjacent, max_adjacent}
 use Rattle.fancy_grammar.specs.State.{done, failed, and_then}
-use Rattle.fancy_grammar.specs.Tree.{Tree, leaf, over, row, no_trees, more_trees}
+use Rattle.fancy_grammar.specs.Tree.{Tree, leaf, over, row, no_trees, more_trees, atomic_repeat}
 use Rattle.fancy_grammar.specs.declared.precedence.Precedence.{Precedence}
 use Rattle.fancy_grammar.specs.declared.precedence.Precedence.TheVariants.{Operand}
 use Rattle.fancy_grammar.proofs.PatternDepth.{Fits, FitsInParensIf, MayOpenIf, is_in_parens}
@@ -203,7 +203,7 @@ as_operand μ t h r a d = at (is_repeatable h.flags t) refl
 -- the text of the tree depends on how many quantifiers may come before the one that follows
 abbrev pub is_stacking : Tree → Bool
 is_stacking (over (label.repeat lo hi greedy) t) = true
-is_stacking (over label.atomic_group (over (label.repeat lo hi greedy) t)) = true
+is_stacking (atomic_repeat t lo hi greedy) = true
 is_stacking _ = false
 
 -- the text, and where it fits, do not depend on the number
@@ -234,15 +234,9 @@ module _ (μ : GroupInfo) (h : Context) (r : ℕ) where
   alike (leaf l) e = record { text = refl; fits = λ d. d }
   alike (row label.concat ts) e = record { text = refl; fits = λ d. d }
   alike (row label.alt ts) e = record { text = refl; fits = λ d. d }
-  alike (over label.group t) e = record { text = refl; fits = λ d. d }
-  alike (over (label.look_around l) t) e = record { text = refl; fits = λ d. d }
   alike (over (label.repeat lo hi greedy) t) e = absurd cc
-  alike (over label.atomic_group (over (label.repeat lo hi greedy) t)) e = absurd cc
-  alike (over label.atomic_group t) e = record { text = refl; fits = λ d. d }
-  alike (over label.define_group t) e = record { text = refl; fits = λ d. d }
-  alike (over label.repeater t) e = record { text = refl; fits = λ d. d }
-  alike (over label.stopper t) e = record { text = refl; fits = λ d. d }
-  alike (over (label.ast_group name position) t) e = record { text = refl; fits = λ d. d }
+  alike (atomic_repeat t lo hi greedy) e = absurd cc
+  alike (over w t) e = record { text = refl; fits = λ d. d }
   alike (row label.expression no_trees) e = record { text = refl; fits = λ d. d }
   alike (row label.expression (more_trees a no_trees)) e = record { text = refl; fits = λ d. d }
   alike (row label.expression (more_trees a (more_trees b no_trees))) e = record { text = refl; fits = λ d. d }

@@ -28,7 +28,7 @@ use Rattle.fancy_grammar.specs.PatternReference.{Named, name_of}
 use Rattle.fancy_grammar.specs.Preorder.{preorder}
 use Rattle.fancy_grammar.specs.ReadAs.{IsReadAs, unpositioned}
 use Rattle.fancy_grammar.specs.Resolved.{error_of, resolved}
-use Rattle.fancy_grammar.specs.Tree.{Tree, leaf, over, row, Trees, no_trees, more_trees}
+use Rattle.fancy_grammar.specs.Tree.{Tree, leaf, over, row, Trees, no_trees, more_trees, atomic_repeat}
 use Rattle.fancy_grammar.specs.declared.precedence.Precedence.TheVariants.{Whole, Branch as BranchAlone}
 use Rattle.fancy_grammar.proofs.ParsedTreeLaws.{parsed_tree_with}
 use Rattle.fancy_grammar.proofs.ReadAsLaws.{read_as}
@@ -104,37 +104,14 @@ module _ (μ : GroupInfo) where
           reads_all μ (over label.define_group t) h refl
           (define_reads μ t h
           (reads t (deeper (under (settled h.flags t) h)) k e).tree)
-      reads (over label.atomic_group (over (label.repeat lo hi greedy) t)) h k e =
+      reads (atomic_repeat t lo hi greedy) h k e =
           let i = under (settled h.flags t) h in
           possessive_reads μ t lo hi greedy k.2 k.3 h
           (ordered f h.flags lo hi (ap (λ j. j.oniguruma_mode) e) k.4)
           (λ n. like_repeatable t h.flags f (ap (λ j. j.oniguruma_mode) e) ∙ k.1 n)
           (reads t i k.0 e).operands (reads t (deeper i) k.0 e).operands
-      reads (over label.atomic_group (leaf l)) h k e =
-          atomic_reads (leaf l) refl h
-          (reads (leaf l) (deeper (under (settled h.flags (leaf l)) h)) k e).tree
-      reads (over label.atomic_group (row w ts)) h k e =
-          atomic_reads (row w ts) refl h
-          (reads (row w ts) (deeper (under (settled h.flags (row w ts)) h)) k e).tree
-      reads (over label.atomic_group (over label.group t)) h k e =
-          atomic_reads (over label.group t) refl h
-          (reads (over label.group t) (deeper (under (settled h.flags t) h)) k e).tree
-      reads (over label.atomic_group (over (label.look_around l) t)) h k e =
-          atomic_reads (over (label.look_around l) t) refl h
-          (reads (over (label.look_around l) t) (deeper (under (settled h.flags t) h)) k e).tree
-      reads (over label.atomic_group (over label.define_group t)) h k e =
-          atomic_reads (over label.define_group t) refl h
-          (reads (over label.define_group t) (deeper (under (settled h.flags t) h)) k e).tree
-      reads (over label.atomic_group (over label.atomic_group t)) h k e =
-          atomic_reads (over label.atomic_group t) refl h
-          (reads (over label.atomic_group t) (deeper (under (settled h.flags t) h)) k e).tree
-      reads (over label.atomic_group (over label.repeater t)) h k e =
-          atomic_reads (over label.repeater t) refl h
-          (reads (over label.repeater t) (deeper (under (settled h.flags t) h)) k e).tree
-      reads (over label.atomic_group (over label.stopper t)) h k e =
-          atomic_reads (over label.stopper t) refl h
-          (reads (over label.stopper t) (deeper (under (settled h.flags t) h)) k e).tree
-      reads (over label.atomic_group (over (label.ast_group name position) t)) h k e = absurd k
+      reads (over label.atomic_group t) h k e =
+          atomic_reads t refl h (reads t (deeper (under (settled h.flags t) h)) k e).tree
       reads (over label.repeater t) h k e =
           reads_all μ (over label.repeater t) h refl
           (repeater_reads μ h t
