@@ -16,7 +16,7 @@ struct Quoted<'a>(&'a str);
 impl Display for Json<'_> {
     fn fmt(&self, f: &mut Formatter<'_>) -> Result {
         let (span, mut below) = self.spans.split_first().unwrap_or((&(0..0), &[]));
-        write!(f, r#"{{"kind":"{}","span":[{},{}]"#, kind(self.node), span.start, span.end)?;
+        write!(f, r#"{{"kind":"{}","span":[{},{}]"#, self.node.kind_name(), span.start, span.end)?;
         write_fields(self.node, f)?;
         for (index, child) in self.node.children_iter().enumerate() {
             f.write_str(if index == 0 { r#","children":["# } else { "," })?;
@@ -39,38 +39,6 @@ impl Display for Quoted<'_> {
             }
         }
         f.write_str("\"")
-    }
-}
-
-/// The name of the variant.
-fn kind(node: &Expr) -> &'static str {
-    match node {
-        Expr::Empty => "Empty",
-        Expr::Any { .. } => "Any",
-        Expr::Assertion(_) => "Assertion",
-        Expr::GeneralNewline { .. } => "GeneralNewline",
-        Expr::Literal { .. } => "Literal",
-        Expr::LiteralBytes { .. } => "LiteralBytes",
-        Expr::Concat(_) => "Concat",
-        Expr::Alt(_) => "Alt",
-        Expr::Group(_) => "Group",
-        Expr::LookAround(..) => "LookAround",
-        Expr::Repeat { .. } => "Repeat",
-        Expr::Delegate { .. } => "Delegate",
-        Expr::Backref { .. } => "Backref",
-        Expr::BackrefWithRelativeRecursionLevel { .. } => "BackrefWithRelativeRecursionLevel",
-        Expr::AtomicGroup(_) => "AtomicGroup",
-        Expr::KeepOut => "KeepOut",
-        Expr::ContinueFromPreviousMatchEnd => "ContinueFromPreviousMatchEnd",
-        Expr::BackrefExistsCondition { .. } => "BackrefExistsCondition",
-        Expr::Conditional { .. } => "Conditional",
-        Expr::SubroutineCall(_) => "SubroutineCall",
-        Expr::BacktrackingControlVerb(_) => "BacktrackingControlVerb",
-        Expr::Absent(_) => "Absent",
-        Expr::DefineGroup { .. } => "DefineGroup",
-        Expr::AstNode(..) => "AstNode",
-        // a later version of the crate may have more
-        _ => "Unknown",
     }
 }
 

@@ -203,6 +203,41 @@ pub struct Walk<'a> {
 }
 
 impl Expr {
+    /// The name of the node's variant.
+    ///
+    /// ```
+    /// use fancy_syntax::Expr;
+    /// assert_eq!(Expr::KeepOut.kind_name(), "KeepOut");
+    /// ```
+    pub fn kind_name(&self) -> &'static str {
+        match self {
+            Expr::Empty => "Empty",
+            Expr::Any { .. } => "Any",
+            Expr::Assertion(_) => "Assertion",
+            Expr::GeneralNewline { .. } => "GeneralNewline",
+            Expr::Literal { .. } => "Literal",
+            Expr::LiteralBytes { .. } => "LiteralBytes",
+            Expr::Concat(_) => "Concat",
+            Expr::Alt(_) => "Alt",
+            Expr::Group(_) => "Group",
+            Expr::LookAround(..) => "LookAround",
+            Expr::Repeat { .. } => "Repeat",
+            Expr::Delegate { .. } => "Delegate",
+            Expr::Backref { .. } => "Backref",
+            Expr::BackrefWithRelativeRecursionLevel { .. } => "BackrefWithRelativeRecursionLevel",
+            Expr::AtomicGroup(_) => "AtomicGroup",
+            Expr::KeepOut => "KeepOut",
+            Expr::ContinueFromPreviousMatchEnd => "ContinueFromPreviousMatchEnd",
+            Expr::BackrefExistsCondition { .. } => "BackrefExistsCondition",
+            Expr::Conditional { .. } => "Conditional",
+            Expr::SubroutineCall(_) => "SubroutineCall",
+            Expr::BacktrackingControlVerb(_) => "BacktrackingControlVerb",
+            Expr::Absent(_) => "Absent",
+            Expr::DefineGroup { .. } => "DefineGroup",
+            Expr::AstNode(..) => "AstNode",
+        }
+    }
+
     /// Whether the node is of a kind that has no children. An [`AstNode`] counts as such.
     ///
     /// ```

@@ -3,7 +3,7 @@
 use crate::ffi::Node;
 use crate::rows::MAX_LEVELS;
 use crate::written::{pattern_of_rows, print_rows};
-use crate::{numbers, AbsentKind, Assertion, BacktrackingControlVerb, CaptureGroupTarget};
+use crate::{numbers, Absent, AbsentKind, Assertion, AstNode, BacktrackingControlVerb, CaptureGroupTarget};
 use crate::{Error, Expr, Flags, LookAround, Precedence, Rows, Span};
 use std::fmt;
 
@@ -333,6 +333,41 @@ impl<'a> Kind<'a> {
             kind => return (kind > numbers::LAST_NODE).then_some(("a kind of node", kind)),
         };
         (!is_known).then_some((what, row.which))
+    }
+
+    /// A node of this kind without children; `None` if nodes of the kind always have some.
+    pub(crate) fn alone(self) -> Option<Expr> {
+        Some(match self {
+            Kind::Empty => Expr::Empty,
+            Kind::Any { newline, crlf } => Expr::Any { newline, crlf },
+            Kind::Assertion(which) => Expr::Assertion(which),
+            Kind::GeneralNewline { unicode } => Expr::GeneralNewline { unicode },
+            Kind::Literal { val, casei } => Expr::Literal { val: val.to_owned(), casei },
+            Kind::LiteralBytes { bytes } => Expr::LiteralBytes { bytes: bytes.to_owned() },
+            Kind::Concat => Expr::Concat(Vec::new()),
+            Kind::Alt => Expr::Alt(Vec::new()),
+            Kind::Delegate { inner, casei } => Expr::Delegate { inner: inner.to_owned(), casei },
+            Kind::Backref { group, casei } => Expr::Backref { group, casei },
+            Kind::BackrefWithRelativeRecursionLevel { group, relative_level, casei } => {
+                Expr::BackrefWithRelativeRecursionLevel { group, relative_level, casei }
+            }
+            Kind::KeepOut => Expr::KeepOut,
+            Kind::ContinueFromPreviousMatchEnd => Expr::ContinueFromPreviousMatchEnd,
+            Kind::BackrefExistsCondition { group, relative_recursion_level } => {
+                Expr::BackrefExistsCondition { group, relative_recursion_level }
+            }
+            Kind::SubroutineCall(group) => Expr::SubroutineCall(group),
+            Kind::BacktrackingControlVerb(which) => Expr::BacktrackingControlVerb(which),
+            Kind::Absent(AbsentKind::Clear) => Expr::Absent(Absent::Clear),
+            Kind::AstNode(target, position) => Expr::AstNode(AstNode::SubroutineCall(target.to_owned()), position),
+            Kind::Group
+            | Kind::LookAround(_)
+            | Kind::Repeat { .. }
+            | Kind::AtomicGroup
+            | Kind::Conditional
+            | Kind::Absent(AbsentKind::Repeater | AbsentKind::Expression | AbsentKind::Stopper)
+            | Kind::DefineGroup => return None,
+        })
     }
 
     /// Whether a node of this kind may have so many children.

@@ -2,7 +2,7 @@
 
 use crate::ffi::Node;
 use crate::node::{Kind, Texts};
-use crate::{Absent, AbsentKind, AstNode, Expr};
+use crate::{Absent, AbsentKind, Expr};
 
 /// Builds trees from the first row to the last: each node is put at once where its parent holds it.
 pub(crate) struct Builder<'a> {
@@ -24,7 +24,7 @@ impl<'a> Builder<'a> {
         self.next += 1;
         let kind = Kind::read(row, self.texts)?;
         if row.end == self.next {
-            return alone(kind);
+            return kind.alone();
         }
         let end = row.end;
         Some(match kind {
@@ -98,39 +98,4 @@ impl<'a> Builder<'a> {
         }
         (next == end).then_some(count)
     }
-}
-
-/// A node without children; `None` if its kind has some.
-fn alone(kind: Kind<'_>) -> Option<Expr> {
-    Some(match kind {
-        Kind::Empty => Expr::Empty,
-        Kind::Any { newline, crlf } => Expr::Any { newline, crlf },
-        Kind::Assertion(which) => Expr::Assertion(which),
-        Kind::GeneralNewline { unicode } => Expr::GeneralNewline { unicode },
-        Kind::Literal { val, casei } => Expr::Literal { val: val.to_owned(), casei },
-        Kind::LiteralBytes { bytes } => Expr::LiteralBytes { bytes: bytes.to_owned() },
-        Kind::Concat => Expr::Concat(Vec::new()),
-        Kind::Alt => Expr::Alt(Vec::new()),
-        Kind::Delegate { inner, casei } => Expr::Delegate { inner: inner.to_owned(), casei },
-        Kind::Backref { group, casei } => Expr::Backref { group, casei },
-        Kind::BackrefWithRelativeRecursionLevel { group, relative_level, casei } => {
-            Expr::BackrefWithRelativeRecursionLevel { group, relative_level, casei }
-        }
-        Kind::KeepOut => Expr::KeepOut,
-        Kind::ContinueFromPreviousMatchEnd => Expr::ContinueFromPreviousMatchEnd,
-        Kind::BackrefExistsCondition { group, relative_recursion_level } => {
-            Expr::BackrefExistsCondition { group, relative_recursion_level }
-        }
-        Kind::SubroutineCall(group) => Expr::SubroutineCall(group),
-        Kind::BacktrackingControlVerb(which) => Expr::BacktrackingControlVerb(which),
-        Kind::Absent(AbsentKind::Clear) => Expr::Absent(Absent::Clear),
-        Kind::AstNode(target, position) => Expr::AstNode(AstNode::SubroutineCall(target.to_owned()), position),
-        Kind::Group
-        | Kind::LookAround(_)
-        | Kind::Repeat { .. }
-        | Kind::AtomicGroup
-        | Kind::Conditional
-        | Kind::Absent(AbsentKind::Repeater | AbsentKind::Expression | AbsentKind::Stopper)
-        | Kind::DefineGroup => return None,
-    })
 }

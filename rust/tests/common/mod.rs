@@ -43,15 +43,11 @@ pub fn letters_of(flags: Flags) -> String {
 /// The words of a node of an owned tree.
 fn words_of_expr(node: &Expr) -> String {
     match node {
-        Expr::Empty => "Empty".to_owned(),
         Expr::Any { newline, crlf } => format!("Any newline={newline} crlf={crlf}"),
         Expr::Assertion(which) => assertion_words(format!("{which:?}")),
         Expr::GeneralNewline { unicode } => format!("GeneralNewline unicode={unicode}"),
         Expr::Literal { val, casei } => format!("Literal {} casei={casei}", hex(val.as_bytes())),
         Expr::LiteralBytes { bytes } => format!("LiteralBytes {}", hex(bytes)),
-        Expr::Concat(_) => "Concat".to_owned(),
-        Expr::Alt(_) => "Alt".to_owned(),
-        Expr::Group(_) => "Group".to_owned(),
         Expr::LookAround(_, which) => format!("LookAround {which:?}"),
         Expr::Repeat { child: _, lo, hi, greedy } => format!("Repeat {lo} {hi} greedy={greedy}"),
         Expr::Delegate { inner, casei } => format!("Delegate {} casei={casei}", hex(inner.as_bytes())),
@@ -59,20 +55,15 @@ fn words_of_expr(node: &Expr) -> String {
         Expr::BackrefWithRelativeRecursionLevel { group, relative_level, casei } => {
             format!("BackrefWithRelativeRecursionLevel {group} {relative_level} casei={casei}")
         }
-        Expr::AtomicGroup(_) => "AtomicGroup".to_owned(),
-        Expr::KeepOut => "KeepOut".to_owned(),
-        Expr::ContinueFromPreviousMatchEnd => "ContinueFromPreviousMatchEnd".to_owned(),
         Expr::BackrefExistsCondition { group, relative_recursion_level } => {
             format!("BackrefExistsCondition {group} {}", or_none(*relative_recursion_level))
         }
-        Expr::Conditional { .. } => "Conditional".to_owned(),
         Expr::SubroutineCall(group) => format!("SubroutineCall {group}"),
         Expr::BacktrackingControlVerb(which) => format!("BacktrackingControlVerb {which:?}"),
         Expr::Absent(Absent::Repeater(_)) => "Absent Repeater".to_owned(),
         Expr::Absent(Absent::Expression { .. }) => "Absent Expression".to_owned(),
         Expr::Absent(Absent::Stopper(_)) => "Absent Stopper".to_owned(),
         Expr::Absent(Absent::Clear) => "Absent Clear".to_owned(),
-        Expr::DefineGroup { .. } => "DefineGroup".to_owned(),
         Expr::AstNode(AstNode::SubroutineCall(target), position) => {
             let target = match target {
                 CaptureGroupTarget::ByNumber(group) => format!("number:{group}"),
@@ -86,6 +77,15 @@ fn words_of_expr(node: &Expr) -> String {
             AstNode::AstGroup { .. } | AstNode::Backref { .. } | AstNode::BackrefExistsCondition { .. },
             position,
         ) => format!("AstNode that no parsed tree has at {position}"),
+        Expr::Empty
+        | Expr::Concat(_)
+        | Expr::Alt(_)
+        | Expr::Group(_)
+        | Expr::AtomicGroup(_)
+        | Expr::KeepOut
+        | Expr::ContinueFromPreviousMatchEnd
+        | Expr::Conditional { .. }
+        | Expr::DefineGroup { .. } => node.kind_name().to_owned(),
         _ => panic!("a kind of node that is new: {node:?}"),
     }
 }
