@@ -1,4 +1,5 @@
-// The calls for engines: whether references are resolved, the names of groups, texts as patterns, and what a text begins with.
+// The calls for engines: whether references are resolved, the names of groups, texts as patterns, what a text begins with, and the
+// characters of classes.
 
 static bool is_resolved_row(const fancy_node *node, size_t groups) {
     switch (node->kind) {
@@ -99,8 +100,81 @@ static bool is_start_right(const char *text, size_t length) {
            (ends ? id.size == letters : id.size >= letters);
 }
 
+static bool is_character(uint32_t code) { return code < 0xD800 || (code > 0xDFFF && code <= 0x10FFFF); }
+
+// Whether the ranges of a text that may be a class are of characters, in order and with gaps; and whether a buffer that is one too short
+// is said to be, and is left alone, as it is if there are none.
+static bool are_ranges_right(const char *text, size_t length, uint32_t flags) {
+    size_t count = SIZE_MAX, again = 0, least = 0;
+    fancy_result got = fancy_class_ranges(text, length, flags, NULL, 0, &count), read = fancy_check(text, length, flags);
+    if (read.status == FANCY_STATUS_NOT_UTF8) return is_same_result(got, read) && count == SIZE_MAX;
+    bool is_class = got.status == FANCY_STATUS_OK || got.status == FANCY_STATUS_BUFFER_TOO_SHORT;
+    bool is_right = got.size == 0 && is_class == (count != SIZE_MAX) && (got.status == FANCY_STATUS_OK) == (count == 0);
+    bool is_refused = got.status == FANCY_STATUS_REFUSED && got.kind == FANCY_ERROR_INVALID_CLASS && got.position <= length;
+    bool is_several = got.status == FANCY_STATUS_NOT_ONE_CHARACTER && got.kind == FANCY_ERROR_NONE && got.position == 0;
+    if (!is_class) return is_right && (is_refused || is_several);
+    // the last is beyond the capacity
+    fancy_range *ranges = malloc((count + 1) * sizeof *ranges);
+    memset(ranges, 0xA5, (count + 1) * sizeof *ranges);
+    if (count > 0) {
+        fancy_result kept = fancy_class_ranges(text, length, flags, ranges, count - 1, &again);
+        is_right = is_right && is_same_result(kept, got) && again == count;
+    }
+    for (size_t i = 0; i <= count; i++) is_right = is_right && ranges[i].first == 0xA5A5A5A5 && ranges[i].last == 0xA5A5A5A5;
+    got = fancy_class_ranges(text, length, flags, ranges, count, &again);
+    is_right = is_right && got.status == FANCY_STATUS_OK && got.kind == 0 && got.position == 0 && again == count;
+    for (size_t i = 0; i < count; i++) {
+        is_right = is_right && least <= ranges[i].first && ranges[i].first <= ranges[i].last && is_character(ranges[i].first) &&
+                   is_character(ranges[i].last) && (ranges[i].last < 0xD800) == (ranges[i].first < 0xD800);
+        least = (size_t)ranges[i].last + 2;
+    }
+    is_right = is_right && ranges[count].first == 0xA5A5A5A5;
+    free(ranges);
+    return is_right;
+}
+
+// Whether each node of a pattern has the characters of its text, if it is a class, and those of a literal contain it. Without Unicode
+// a dot is refused, and a letter beyond ASCII in any case.
+static bool are_nodes_ranges_right(const char *pattern, size_t length, uint32_t flags) {
+    tree t;
+    bool is_right = true;
+    take_at_once(&t, pattern, length, flags);
+    for (size_t i = 0; i < t.info.node_count; i++) {
+        const fancy_node *node = &t.nodes[i];
+        const char *text = t.texts + node->text;
+        size_t count = 0, of_class = 0;
+        fancy_range ranges[16], wanted[16];
+        uint32_t case_flags = (flags & FANCY_FLAG_UNICODE) | (node->casei ? FANCY_FLAG_CASEI : 0), code;
+        fancy_result got = fancy_node_ranges(node, t.texts, t.info.texts_size, flags, ranges, 16, &count);
+        switch (node->kind) {
+        case FANCY_NODE_DELEGATE: {
+            fancy_result class = fancy_class_ranges(text, node->text_size, case_flags, wanted, 16, &of_class);
+            is_right = is_right && got.status == class.status && got.kind == class.kind && got.position == 0 && count == of_class &&
+                       (got.status != FANCY_STATUS_OK || memcmp(ranges, wanted, count * sizeof *ranges) == 0);
+            break;
+        }
+        case FANCY_NODE_LITERAL: {
+            bool has_itself = false;
+            code_of((const unsigned char *)text, &code);
+            for (size_t k = 0; k < count && k < 16; k++) has_itself = has_itself || (ranges[k].first <= code && code <= ranges[k].last);
+            bool is_right_size = node->casei || (count == 1 && ranges[0].first == ranges[0].last);
+            bool is_refused = got.status == FANCY_STATUS_REFUSED && node->casei && code >= 0x80 && !(flags & FANCY_FLAG_UNICODE);
+            is_right = is_right && (is_refused || (got.status == FANCY_STATUS_OK && has_itself && is_right_size));
+            break;
+        }
+        case FANCY_NODE_ANY:
+            is_right = is_right && got.status == (flags & FANCY_FLAG_UNICODE ? FANCY_STATUS_OK : FANCY_STATUS_REFUSED);
+            break;
+        default: is_right = is_right && got.status == FANCY_STATUS_NOT_ONE_CHARACTER && count == 0;
+        }
+    }
+    release(&t);
+    return is_right;
+}
+
 static bool are_engine_calls_right(const char *text, size_t length, uint32_t flags) {
-    return are_references_right(text, length, flags) && is_escaped_right(text, length, flags) && is_start_right(text, length);
+    return are_references_right(text, length, flags) && is_escaped_right(text, length, flags) && is_start_right(text, length) &&
+           are_ranges_right(text, length, flags) && are_nodes_ranges_right(text, length, flags);
 }
 
 static bool is_escaped(const char *text, uint32_t flags, const char *wanted) {
@@ -115,6 +189,38 @@ static bool begins_with_number(const char *text, size_t size, size_t wanted) {
     size_t value = 7;
     fancy_result got = fancy_parse_decimal(text, strlen(text), &value);
     return got.status == FANCY_STATUS_OK && got.size == size && value == wanted && fancy_parse_decimal(text, strlen(text), NULL).size == size;
+}
+
+static bool has_ranges(const char *class, uint32_t flags, size_t wanted, uint32_t first, uint32_t last) {
+    fancy_range ranges[8];
+    size_t count = 99;
+    fancy_result got = fancy_class_ranges(class, strlen(class), flags, ranges, 8, &count);
+    return got.status == FANCY_STATUS_OK && count == wanted && (wanted == 0 || (ranges[0].first == first && ranges[wanted - 1].last == last));
+}
+
+static bool is_no_class(const char *class, uint32_t flags, uint32_t status, size_t position) {
+    fancy_result got = fancy_class_ranges(class, strlen(class), flags, NULL, 0, NULL);
+    return got.status == status && got.position == position;
+}
+
+static bool are_ranges_by_hand_right(void) {
+    const uint32_t u = FANCY_FLAG_UNICODE, i = FANCY_FLAG_CASEI;
+    const uint32_t refused = FANCY_STATUS_REFUSED, several = FANCY_STATUS_NOT_ONE_CHARACTER;
+    bool is_right = has_ranges("[a-cx]", u, 2, 'a', 'x') && has_ranges("[^a]", u, 3, 0, 0x10FFFF) && has_ranges("\\d", 0, 1, '0', '9') &&
+                    has_ranges("\\w", 0, 4, '0', 'z') && has_ranges("[k]", u | i, 3, 'K', 0x212A) && has_ranges("[k]", i, 2, 'K', 'k') &&
+                    has_ranges("[k]", u | FANCY_FLAG_MULTI, 1, 'k', 'k') && has_ranges("\xc3\xa9", u, 1, 0xE9, 0xE9) &&
+                    has_ranges("[a&&b]", u, 0, 0, 0) && has_ranges("(?s:.)", u, 2, 0, 0x10FFFF);
+    is_right = is_right && is_no_class("[z-a]", u, refused, 1) && is_no_class("[\xc3\xa9z-a]", u, refused, 3) &&
+               is_no_class("\\p{Greeek}", u, refused, 0) && is_no_class("[^a]", 0, refused, 0) && is_no_class("", u, several, 0) &&
+               is_no_class("ab", u, several, 0) && is_no_class("[0-[a]b]", u, several, 0) && is_no_class("[a]{2}", u, several, 0);
+    // rows by hand: two characters, a text that is not there or not UTF-8, and a node that has no text
+    fancy_node node = {.kind = FANCY_NODE_LITERAL, .end = 1, .text_size = 2};
+    is_right = is_right && fancy_node_ranges(&node, "ab", 2, u, NULL, 0, NULL).status == several &&
+               fancy_node_ranges(&node, "ab", 1, u, NULL, 0, NULL).status == FANCY_STATUS_NO_TREE &&
+               fancy_node_ranges(&node, "a\xff", 2, u, NULL, 0, NULL).status == FANCY_STATUS_NO_TREE;
+    node.kind = FANCY_NODE_CONCAT;
+    return is_right && fancy_node_ranges(&node, NULL, 0, u, NULL, 0, NULL).status == several &&
+           is_no_class("a", 512, FANCY_STATUS_UNKNOWN_FLAG, 0);
 }
 
 static bool resolves(const char *pattern, uint32_t flags) {
@@ -142,7 +248,7 @@ static bool are_engine_calls_by_hand_right(void) {
     is_right = is_right && fancy_group_name(names, 3, 1) == 1 && fancy_group_name(names, 3, 2) == 0 && fancy_group_name(names, 3, 3) == 2 &&
                fancy_group_name(names, 3, 0) == 3 && fancy_group_name(names, 2, 3) == 2 && fancy_group_name(NULL, 0, 1) == 0;
     char text[8];
-    return is_right && fancy_escape(NULL, 0, 0, NULL, 0).status == FANCY_STATUS_OK && fancy_parse_id(NULL, 0).status == FANCY_STATUS_OK &&
+    return is_right && are_ranges_by_hand_right() && fancy_escape(NULL, 0, 0, NULL, 0).status == FANCY_STATUS_OK && fancy_parse_id(NULL, 0).status == FANCY_STATUS_OK &&
            fancy_parse_decimal(NULL, 0, NULL).status == FANCY_STATUS_OK && fancy_is_resolved(NULL, 0, 0).status == FANCY_STATUS_OK &&
            fancy_escape("a", 1, 0, NULL, 9).status == FANCY_STATUS_BUFFER_TOO_SHORT &&
            fancy_escape("\xff", 1, 1024, text, 8).status == FANCY_STATUS_UNKNOWN_FLAG;

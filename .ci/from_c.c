@@ -1,6 +1,7 @@
 // Compares what C gets with recorded answers: `from_c FILE [refuse]`, where a line of the file has flags, a pattern, a status,
 // and what `fre` writes on standard output and on standard error, in hexadecimal with tabs between; or the word `text`, flags,
-// a pattern, and the text that is written for its tree. A line of the first kind is answered by `examples/lines.c` with
+// a pattern, and the text that is written for its tree; or the word `characters`, flags, a pattern, and the characters that its node
+// matches, or the error. A line of the first kind is answered by `examples/lines.c` with
 // buffers of just the size, then with each buffer one too short, which has to be said and to leave every buffer as it was,
 // and with `refuse` with the first request of the library for memory refused, then with the second, and so on. Other lines
 // are passed over. The status is 1 where an answer is another. It is linked with --wrap for malloc, realloc and free.
@@ -167,7 +168,14 @@ static fancy_result parse_and_free(const char *pattern, size_t length, uint32_t 
     return got;
 }
 
-// Makes the call of a number, of those that take rows, write a tree at once, write what no node has, format, or allocate; and two for
+// Writes the ranges of the last node.
+static fancy_result last_ranges(const tree *t, uint32_t flags, fancy_range *ranges, size_t capacity) {
+    static const fancy_node none = {.kind = FANCY_NODE_EMPTY, .end = 1};
+    const fancy_node *last = t->nodes ? &t->nodes[t->info.node_count - 1] : &none;
+    return fancy_node_ranges(last, t->texts, t->info.texts_size, flags, ranges, capacity, NULL);
+}
+
+// Makes the call of a number, of those that take rows, write a tree at once, write what no node has, format, or allocate; and those for
 // engines.
 static fancy_result call_with_rows(int which, const tree *t, const char *pattern, size_t length, uint32_t flags, char *text) {
     size_t capacity = CAPACITY(length);
@@ -178,6 +186,8 @@ static fancy_result call_with_rows(int which, const tree *t, const char *pattern
     if (which == 6) return parse_and_free(pattern, length, flags);
     if (which == 7) return fancy_escape(pattern, length, flags, text, capacity);
     if (which == 8) return fancy_is_resolved(pattern, length, flags);
+    if (which == 9) return fancy_class_ranges(pattern, length, flags, (fancy_range *)(void *)text, capacity / sizeof(fancy_range), NULL);
+    if (which == 10) return last_ranges(t, flags, (fancy_range *)(void *)text, capacity / sizeof(fancy_range));
     return fancy_format(pattern, length, flags, which == 4 ? FANCY_STYLE_KEPT : FANCY_STYLE_VERBOSE, 80, text, capacity);
 }
 
@@ -187,7 +197,7 @@ static bool are_rows_refused_memory(const char *pattern, size_t length, uint32_t
     take(&t, pattern, length, flags);
     char *text = untouched(CAPACITY(length));
     bool is_right = true;
-    for (int which = t.nodes ? 0 : 2; which < 9; which++) {
+    for (int which = t.nodes ? 0 : 2; which < 11; which++) {
         fancy_result usual = call_with_rows(which, &t, pattern, length, flags, text);
         memset(text, 0xA5, CAPACITY(length));
         for (size_t n = 1; is_right; n++) {
@@ -243,6 +253,47 @@ static bool is_written(char **fields) {
     free(pattern);
     free(wanted);
     free(text);
+    return is_right;
+}
+
+// Whether a call wrote the recorded ranges, or returned that there are none. Of an error this looks at the status and the kind.
+static bool are_ranges(fancy_result got, const fancy_range *ranges, size_t count, const char *wanted, size_t wanted_size) {
+    if (memchr(wanted, ':', wanted_size)) return got.status == FANCY_STATUS_REFUSED && got.kind == FANCY_ERROR_INVALID_CLASS;
+    char *text;
+    size_t size;
+    FILE *out = open_memstream(&text, &size);
+    if (got.status == FANCY_STATUS_NOT_ONE_CHARACTER) fputs("not one character", out);
+    else if (got.status != FANCY_STATUS_OK) fprintf(out, "status %u", (unsigned)got.status);
+    for (size_t i = 0; i < count; i++) fprintf(out, "%s%X-%X", i ? " " : "", (unsigned)ranges[i].first, (unsigned)ranges[i].last);
+    fclose(out);
+    bool is_same = size == wanted_size && memcmp(text, wanted, size) == 0;
+    free(text);
+    return is_same;
+}
+
+// Whether the node of a pattern, and its text if it is a class, match the recorded characters, or are refused.
+static bool has_characters(char **fields) {
+    uint32_t flags = 0;
+    size_t length, wanted_size, count = 0;
+    if (!read_flags(fields[1], &flags)) return false;
+    char *pattern = decode(fields[2], &length), *wanted = decode(fields[3], &wanted_size);
+    tree t;
+    fancy_range ranges[64];
+    bool is_right = take_at_once(&t, pattern, length, flags).status == FANCY_STATUS_OK;
+    const fancy_node *node = t.nodes;
+    fancy_result got = fancy_node_ranges(node, t.texts, t.info.texts_size, flags, ranges, 64, &count);
+    is_right = is_right && are_ranges(got, ranges, count, wanted, wanted_size) && got.position == 0;
+    if (node->kind == FANCY_NODE_DELEGATE) {
+        flags = (flags & FANCY_FLAG_UNICODE) | (node->casei ? FANCY_FLAG_CASEI : 0);
+        count = 0;
+        got = fancy_class_ranges(t.texts + node->text, node->text_size, flags, ranges, 64, &count);
+        // the position of an error is a digit
+        is_right = is_right && are_ranges(got, ranges, count, wanted, wanted_size) &&
+                   (got.status != FANCY_STATUS_REFUSED || got.position == (size_t)(wanted[0] - '0'));
+    }
+    release(&t);
+    free(pattern);
+    free(wanted);
     return is_right;
 }
 
@@ -322,7 +373,9 @@ static bool is_need_set(void) {
     tree = fancy_tree("a|b|c", 5, 0, NULL, 0, NULL, 0, NULL, 0, NULL, 0, &info);
     is_right = is_right && tree.status == FANCY_STATUS_BUFFER_TOO_SHORT && tree.size == 0 && info.node_count == 4;
     fancy_result trivia = fancy_trivia("(?i)a(?#b)", 10, 0, NULL, 0, &count);
-    return is_right && trivia.status == FANCY_STATUS_BUFFER_TOO_SHORT && trivia.size == 0 && count == 2;
+    is_right = is_right && trivia.status == FANCY_STATUS_BUFFER_TOO_SHORT && trivia.size == 0 && count == 2;
+    fancy_result ranges = fancy_class_ranges("[a-cx-zA]", 9, 0, NULL, 0, &count);
+    return is_right && ranges.status == FANCY_STATUS_BUFFER_TOO_SHORT && ranges.size == 0 && count == 3;
 }
 
 // All that a call may write.
@@ -333,10 +386,11 @@ typedef struct {
     size_t backrefs[3];
     fancy_info info;
     fancy_trivium trivia[3];
+    fancy_range ranges[3];
     size_t count;
 } written;
 
-enum { CALLS = 12, CALLS_WITH_SPANS = 10 };
+enum { CALLS = 14, CALLS_WITH_SPANS = 12 };
 
 static fancy_result write_all(const char *pattern, size_t length, uint32_t flags, written *to) {
     fancy_buffers all = {to->nodes, 3, to->texts, sizeof to->texts, to->names, 3, to->backrefs, 3, to->trivia, 3, to->info, to->count};
@@ -350,6 +404,7 @@ static fancy_result write_all(const char *pattern, size_t length, uint32_t flags
 static fancy_result call_with_flags(int which, const char *pattern, uint32_t flags, written *to) {
     static const fancy_node empty = {.kind = FANCY_NODE_EMPTY, .end = 1};
     size_t length = strlen(pattern), size = sizeof to->texts;
+    fancy_node literal = {.kind = FANCY_NODE_LITERAL, .end = 1, .text_size = length};
     switch (which) {
     case 0: return fancy_check(pattern, length, flags);
     case 1: return fancy_message(pattern, length, flags, to->texts, size);
@@ -362,7 +417,9 @@ static fancy_result call_with_flags(int which, const char *pattern, uint32_t fla
     case 7: return write_all(pattern, length, flags, to);
     case 8: return fancy_escape(pattern, length, flags, to->texts, size);
     case 9: return fancy_is_resolved(pattern, length, flags);
-    case 10: return fancy_parse(pattern, length, flags, to->nodes, 3, to->texts, size, to->names, 3, to->backrefs, 3, &to->info);
+    case 10: return fancy_class_ranges(pattern, length, flags, to->ranges, 3, &to->count);
+    case 11: return fancy_node_ranges(&literal, pattern, length, flags, to->ranges, 3, &to->count);
+    case 12: return fancy_parse(pattern, length, flags, to->nodes, 3, to->texts, size, to->names, 3, to->backrefs, 3, &to->info);
     default: return fancy_tree(pattern, length, flags, to->nodes, 3, to->texts, size, to->names, 3, to->backrefs, 3, &to->info);
     }
 }
@@ -449,7 +506,8 @@ int main(int count, char **arguments) {
         char *fields[5];
         part(line, fields);
         if (!fields[3]) continue; // a tree that is printed, which C cannot make
-        if (strcmp(fields[0], "text") == 0 ? is_written(fields) : is_line_right(fields, count > 2)) same++;
+        bool is_text = strcmp(fields[0], "text") == 0, is_node = strcmp(fields[0], "characters") == 0;
+        if (is_text ? is_written(fields) : is_node ? has_characters(fields) : is_line_right(fields, count > 2)) same++;
         else printf("different: %s %s %s\n", fields[0], fields[1], fields[2]), different++;
     }
     free(line);

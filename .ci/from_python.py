@@ -1,5 +1,5 @@
-"""Compares what Python gets with recorded answers: `from_python.py FOLDER`, where the folder holds rows.tsv, numbered.tsv and
-texts.tsv. From the nodes and fields of `fancy.parse` it writes what `fre` writes. Besides, it runs the examples of the
+"""Compares what Python gets with recorded answers: `from_python.py FOLDER`, where the folder holds rows.tsv, numbered.tsv,
+texts.tsv and characters.tsv. From the nodes and fields of `fancy.parse` it writes what `fre` writes. Besides, it runs the examples of the
 module's docstring, and compares positions and spans, in characters and in bytes, with those written here. FANCY_LIBRARY names
 the library."""
 
@@ -130,7 +130,28 @@ def are_trees_written(pattern, flags):
     )
 
 
+def characters(call, *arguments):
+    """The characters as they are recorded, and the position of an error."""
+    try:
+        ranges = call(*arguments)
+    except fancy.Error as error:
+        return f"{error.position}.." if error.kind is fancy.ErrorKind.INVALID_CLASS else ""
+    return "not one character" if ranges is None else " ".join(f"{first:X}-{last:X}" for first, last in ranges)
+
+
+def are_characters(pattern, flags, wanted):
+    """Whether a node matches these characters, or is refused, at this position if it is a class."""
+    node, position = fancy.parse(pattern, flags).root, re.match(r"\d+\.\.", wanted)
+    is_right = characters(node.character_ranges, flags) == ("0.." if position else wanted)
+    if not isinstance(node, fancy.Delegate):
+        return is_right
+    of_class = flags | fancy.CASEI if node.casei else flags & ~fancy.CASEI
+    return is_right and characters(fancy.class_ranges, node.text, of_class) == (position[0] if position else wanted)
+
+
 def is_recorded(row):
+    if row[0] == "characters":
+        return are_characters(unhexed(row[2]).decode(), flags_named(row[1]), unhexed(row[3]).decode())
     if row[0] == "text":
         pattern, flags = unhexed(row[2]).decode(), flags_named(row[1])
         return fancy.to_pattern(pattern, flags).encode() == unhexed(row[3]) and is_kept_by_a_style(pattern, flags)
@@ -330,6 +351,48 @@ def are_engine_calls_right():
     )
 
 
+def are_ranges_right():
+    """The characters of classes and other nodes, beside those that are recorded."""
+    ascii_only, any_case = fancy.Flag(0), fancy.UNICODE | fancy.CASEI
+    classes = {
+        ("[a-cx]", fancy.UNICODE): [(97, 99), (120, 120)], ("é", fancy.UNICODE): [(233, 233)], ("[é]".encode(), fancy.UNICODE): [(233, 233)],
+        (r"\d", ascii_only): [(48, 57)], ("[s]", any_case): [(83, 83), (115, 115), (383, 383)], ("[s]", fancy.CASEI): [(83, 83), (115, 115)],
+        ("[a&&b]", fancy.UNICODE): [], ("[0-[a]b]", fancy.UNICODE): None, ("", fancy.UNICODE): None, ("ab", fancy.UNICODE): None,
+    }  # fmt: skip
+    nodes = list(fancy.parse("(?i:k)(a)").walk())
+    return (
+        all(fancy.class_ranges(*given) == wanted for given, wanted in classes.items())
+        and all(is_class_of_re(it) for it in ("[^a-c]", r"\d", r"[^\d_]", r"[\x00-\x1f\u00e9α-ω]", "[^\x00-\u2000]"))
+        and is_class_of_re("[k-t]", re.I)
+        and is_refused_class("[é-a]", 1, 1)
+        and is_refused_class("[éz-a]", 2, 3)
+        and is_refused_class("[éz-a]".encode(), 3, 3)
+        and is_refused_class(r"\p{Greeek}", 0, 0)
+        and [it.character_ranges() for it in nodes] == [None, [(75, 75), (107, 107), (8490, 8490)], None, [(97, 97)]]
+        and fancy.Literal((0, 1), (0, 1), (), "ab", False).character_ranges() is None
+        and raises(fancy.Error, lambda: fancy.class_ranges(b"a\xff"))
+        and raises(fancy.Error, lambda: fancy.parse(".").root.character_ranges(ascii_only))
+        and raises(TypeError, lambda: fancy.class_ranges(1))
+    )
+
+
+def is_class_of_re(text, flags=0):
+    """Whether a class has the characters that Python's engine finds, among the first."""
+    codes, matches = range(0x3000), re.compile(text, flags).fullmatch
+    ranges = fancy.class_ranges(text, fancy.UNICODE | (fancy.CASEI if flags & re.I else 0))
+    found = {code for first, last in ranges for code in range(first, min(last + 1, len(codes)))}
+    return found == {code for code in codes if matches(chr(code))}
+
+
+def is_refused_class(text, position, byte_position):
+    try:
+        fancy.class_ranges(text)
+    except fancy.Error as error:
+        got = error.pattern, error.kind, error.message, error.position, error.byte_position
+        return got == (text, fancy.ErrorKind.INVALID_CLASS, "Invalid character class", position, byte_position)
+    return False
+
+
 def is_text_of(text, flags):
     """Whether a text is escaped to a pattern that has a literal for each character, in order."""
     root = fancy.parse(fancy.escape(text, flags), flags).root
@@ -360,8 +423,9 @@ def are_flags_looked_at():
     """Whether each function that takes flags takes the module's own, and no others."""
     tree = fancy.parse("a")
     calls = [
-        fancy.parse, fancy.check, fancy.trivia, fancy.to_pattern, fancy.normal_form, fancy.escape, fancy.is_resolved,
+        fancy.parse, fancy.check, fancy.trivia, fancy.to_pattern, fancy.normal_form, fancy.escape, fancy.is_resolved, fancy.class_ranges,
         lambda pattern, flags: fancy.format(pattern, flags, fancy.Style.KEPT),
+        lambda pattern, flags: fancy.parse(pattern).root.character_ranges(flags),
         lambda pattern, flags: dataclasses.replace(tree, flags=flags).to_pattern(),
     ]  # fmt: skip
     of_re = {
@@ -459,7 +523,7 @@ def are_names_public():
     shared = ("children", "span", "byte_span")
     own = {kind: tuple(it.name for it in dataclasses.fields(kind) if it.name not in shared) for kind in kinds}
     return (
-        sorted(fancy.__all__) == sorted(names | {"Pattern", "Span"})
+        sorted(fancy.__all__) == sorted(names | {"Pattern", "Ranges", "Span"})
         and all(kind.__match_args__ == fields + shared for kind, fields in own.items())
         and [kind.number for kind in kinds] == list(range(len(kinds)))
     )
@@ -515,10 +579,11 @@ def are_null_pointers_taken():
         call.fancy_tree(*none, 0, *none, *none, *none, *none, None), call.fancy_print_nodes(*none, *none, 0, 0, *none),
         call.fancy_to_pattern_nodes(*none, *none, 0, *none, None, 0, *none), call.fancy_trivia(*none, 0, *none, None),
         call.fancy_format(*none, 0, fancy.Style.KEPT, 0, *none), call.fancy_is_resolved(*none, 0), call.fancy_escape(*none, 0, *none),
-        call.fancy_parse_id(*none), call.fancy_parse_decimal(*none, None),
+        call.fancy_parse_id(*none), call.fancy_parse_decimal(*none, None), call.fancy_class_ranges(*none, 0, *none, None),
+        call.fancy_node_ranges(ctypes.byref(fancy._Node(kind=2)), *none, 32, *none, None),
     ]  # fmt: skip
     call.fancy_group_name.restype = ctypes.c_size_t
-    return [it.status for it in got] == [0, 0, 0, 0, 4, 4, 7, 7, 0, 0, 0, 0, 0, 0] and call.fancy_group_name(None, 0, 1) == 0
+    return [it.status for it in got] == [0, 0, 0, 0, 4, 4, 7, 7, 0, 0, 0, 0, 0, 0, 12, 4] and call.fancy_group_name(None, 0, 1) == 0
 
 
 def is_command_right():
@@ -556,6 +621,7 @@ def main():
         "trivia": are_trivia_right(),
         "formatted patterns": are_formatted_right(),
         "calls for engines": are_engine_calls_right(),
+        "characters": are_ranges_right(),
         "old names": are_old_names_right(),
         "flags": are_flags_looked_at(),
         "numbers in a tree": are_numbers_looked_at(),
@@ -565,7 +631,7 @@ def main():
         "null pointers": are_null_pointers_taken(),
         "the names": are_names_public(),
         "finding the library": is_library_found(),
-        "the recorded answers": all([replay(folder / f"{name}.tsv") for name in ("rows", "numbered", "texts")]),
+        "the recorded answers": all([replay(folder / f"{name}.tsv") for name in ("rows", "numbered", "texts", "characters")]),
     }
     failed = [name for name, is_right in results.items() if not is_right]
     print("Python", fancy.__version__, "failed: " + ", ".join(failed) if failed else "passed")

@@ -143,6 +143,18 @@ fancy_result fancy_escape_nonnull(const char *words, size_t length, uint32_t fla
     return text(words, length);
 }
 
+fancy_result fancy_class_ranges_nonnull(const char *words, size_t length, uint32_t flags, fancy_range *ranges, size_t capacity, size_t *count) {
+    (void)flags, (void)ranges, (void)capacity;
+    *count = 0;
+    return text(words, length);
+}
+
+fancy_result fancy_node_ranges_nonnull(const fancy_node *node, const char *texts, size_t texts_size, uint32_t flags, fancy_range *ranges,
+                                       size_t capacity, size_t *count) {
+    (void)node, (void)texts, (void)texts_size, (void)flags, (void)ranges, (void)capacity, (void)count;
+    return result(NEW);
+}
+
 fancy_result fancy_parse_id_nonnull(const char *words, size_t length) { return text(words, length); }
 
 fancy_result fancy_parse_decimal_nonnull(const char *words, size_t length, size_t *value) {

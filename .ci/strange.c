@@ -34,7 +34,7 @@ static fancy_result result(uint32_t status, uint32_t kind, size_t position, size
 }
 
 static fancy_result any_result(size_t size) {
-    return result((uint32_t)below(FANCY_STATUS_UNRESOLVED + 1), (uint32_t)(below(20) ? below(20) : draw()), number(size), number(size));
+    return result((uint32_t)below(FANCY_STATUS_NOT_ONE_CHARACTER + 1), (uint32_t)(below(20) ? below(20) : draw()), number(size), number(size));
 }
 
 static void write_noise(void *buffer, size_t size) {
@@ -110,6 +110,32 @@ fancy_result fancy_is_resolved_nonnull(const char *pattern, size_t length, uint3
 fancy_result fancy_escape_nonnull(const char *words, size_t length, uint32_t flags, char *buffer, size_t capacity) {
     (void)words, (void)flags;
     return text(FANCY_STATUS_OK, length, buffer, capacity);
+}
+
+/* Ranges that may be in order, of which one may be no range. */
+static fancy_result ranges_of(size_t length, fancy_range *ranges, size_t capacity, size_t *count) {
+    uint32_t next = 0;
+    *count = below(8) ? below(capacity + 1) : number(capacity);
+    for (size_t i = 0; i < capacity; i++) {
+        fancy_range it = {next, next + (uint32_t)below(9)};
+        ranges[i] = it;
+        next = it.last + 2 + (uint32_t)below(9);
+    }
+    if (below(4) == 0) ranges[below(capacity)].first = (uint32_t)draw();
+    if (below(4) == 0) ranges[below(capacity)].last = (uint32_t)number(0x110000);
+    return below(2) ? result(FANCY_STATUS_OK, 0, 0, 0) : any_result(length);
+}
+
+fancy_result fancy_class_ranges_nonnull(const char *words, size_t length, uint32_t flags, fancy_range *ranges, size_t capacity,
+                                        size_t *count) {
+    (void)words, (void)flags;
+    return ranges_of(length, ranges, capacity, count);
+}
+
+fancy_result fancy_node_ranges_nonnull(const fancy_node *node, const char *texts, size_t texts_size, uint32_t flags,
+                                       fancy_range *ranges, size_t capacity, size_t *count) {
+    (void)node, (void)texts, (void)flags;
+    return ranges_of(texts_size, ranges, capacity, count);
 }
 
 fancy_result fancy_parse_id_nonnull(const char *words, size_t length) {

@@ -3,7 +3,7 @@ to report an error, since it reports each such comment that is not needed."""
 
 from __future__ import annotations
 
-from typing import Dict, Optional, Tuple
+from typing import Dict, List, Optional, Tuple
 
 import fancy
 from fancy_extract import records
@@ -51,11 +51,13 @@ def looked_at() -> None:
     resolved: bool = fancy.is_resolved("a")
     written: Tuple[str, str, str] = fancy.to_pattern("a"), fancy.escape("a"), fancy.parse_id("a-")
     decimal: Optional[Tuple[int, int]] = fancy.parse_decimal("12")
+    ranges: List[Optional[List[Tuple[int, int]]]] = [fancy.class_ranges("[a]"), tree.root.character_ranges()]
     number: int = tree.root  # type: ignore[assignment]
     name: str = tree.root.children[0].span  # type: ignore[assignment]
     first: str = next(records("a.py", b""), {"pattern": ""})["pattern"]
     assert (names, span, text, formatted, first) == ({"n": (1,)}, (0, 8), "(?<n>a)b", "a", "") and error and flags
     assert number and name and (named, resolved, written, decimal) == ("n", True, ("a", "a", "a"), (2, 12))
+    assert ranges == [[(97, 97)], None]
 
 
 PATTERNS = {

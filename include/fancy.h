@@ -55,20 +55,23 @@ enum fancy_flag {
 /* The status of a call. These numbers, and all those below, never change; a later minor version may return new ones. */
 enum fancy_status {
     FANCY_STATUS_OK = 0,
-    FANCY_STATUS_REFUSED = 1,             /* the pattern is invalid: kind and position are set */
+    FANCY_STATUS_REFUSED = 1,             /* the pattern is invalid, or fancy-regex refuses the class: kind and position
+                                             are set */
     FANCY_STATUS_NOT_UTF8 = 2,            /* position is the length of the valid UTF-8 prefix */
     FANCY_STATUS_OUT_OF_MEMORY = 3,       /* the pattern may be valid or not */
     FANCY_STATUS_BUFFER_TOO_SHORT = 4,    /* no buffer was written; what is needed is set: for a text the size, for a tree
-                                             *info, for trivia *count */
+                                             *info, for trivia and ranges *count */
     FANCY_STATUS_NOT_PRINTABLE = 5,       /* of fancy_print and fancy_print_nodes: there is a tree, and it is not printable */
     FANCY_STATUS_NO_PATTERN = 6,          /* of fancy_to_pattern_nodes: what is written for the tree does not parse
                                              back as it */
-    FANCY_STATUS_NO_TREE = 7,             /* of fancy_print_nodes and fancy_to_pattern_nodes: the rows are no tree */
+    FANCY_STATUS_NO_TREE = 7,             /* of the calls that take rows: the rows are no tree */
     FANCY_STATUS_UNKNOWN_STYLE = 8,       /* of fancy_format: no style has this number */
     FANCY_STATUS_UNKNOWN_FLAG = 9,        /* a bit is set that is no flag, or none that the call takes */
     FANCY_STATUS_UNKNOWN_PRECEDENCE = 10, /* of fancy_print and fancy_print_nodes: no precedence has this number */
-    FANCY_STATUS_UNRESOLVED = 11          /* of fancy_is_resolved: a reference refers to a group that the pattern does
+    FANCY_STATUS_UNRESOLVED = 11,         /* of fancy_is_resolved: a reference refers to a group that the pattern does
                                              not have */
+    FANCY_STATUS_NOT_ONE_CHARACTER = 12   /* of fancy_class_ranges and fancy_node_ranges: it does not match exactly one
+                                             character */
 };
 
 /* Kinds of errors. */
@@ -191,7 +194,8 @@ struct fancy_result {
     uint32_t status; /* FANCY_STATUS_.. */
     uint32_t kind;   /* FANCY_ERROR_.., FANCY_ERROR_NONE if no error is reported */
     size_t position; /* of the error, at most the length of the pattern + 1; or the length of the valid UTF-8 prefix; else 0 */
-    size_t size;     /* of the text that was to be written, whether or not it fitted; else 0, also for a tree and for trivia */
+    size_t size;     /* of the text that was to be written, whether or not it fitted; else 0, also for a tree, trivia and
+                        ranges */
 };
 
 /* A node of a tree. What its kind does not use is 0 or false, and text is 0 if text_size is 0. */
@@ -251,6 +255,13 @@ struct fancy_trivium {
     uint32_t kind;         /* FANCY_TRIVIUM_.. */
     uint32_t flags_before; /* the flags that hold before inline flags, or around a flag group */
     uint32_t flags_after;  /* the flags that hold after inline flags, or in a flag group */
+};
+
+/* Characters whose codes follow one another. */
+typedef struct fancy_range fancy_range;
+struct fancy_range {
+    uint32_t first; /* the code of the first */
+    uint32_t last;  /* the code of the last */
 };
 /* ---- end of numbers and structs */
 
@@ -312,6 +323,10 @@ fancy_result fancy_parse_into_nonnull(const char *pattern, size_t length, uint32
 fancy_result fancy_is_resolved_nonnull(const char *pattern, size_t length, uint32_t flags);
 size_t fancy_group_name_nonnull(const fancy_name *names, size_t name_count, size_t group);
 fancy_result fancy_escape_nonnull(const char *text, size_t length, uint32_t flags, char *buffer, size_t capacity);
+fancy_result fancy_class_ranges_nonnull(const char *text, size_t length, uint32_t flags, fancy_range *ranges, size_t capacity,
+                                        size_t *count);
+fancy_result fancy_node_ranges_nonnull(const fancy_node *node, const char *texts, size_t texts_size, uint32_t flags,
+                                       fancy_range *ranges, size_t capacity, size_t *count);
 fancy_result fancy_parse_id_nonnull(const char *text, size_t length);
 fancy_result fancy_parse_decimal_nonnull(const char *text, size_t length, size_t *value);
 
@@ -478,6 +493,32 @@ FANCY_INLINE size_t fancy_group_name(const fancy_name *names, size_t name_count,
 FANCY_INLINE fancy_result fancy_escape(const char *text, size_t length, uint32_t flags, char *buffer, size_t capacity) {
     char none;
     return fancy_escape_nonnull(text ? text : "", length, flags, buffer ? buffer : &none, buffer ? capacity : 0);
+}
+
+/* Writes the characters that a class matches, as ranges in ascending order, with a gap between any two and without surrogates. The
+ * text is that of a FANCY_NODE_DELEGATE, and read as fancy-regex reads it: under FANCY_FLAG_CASEI, for a node with casei, and under
+ * FANCY_FLAG_UNICODE; other flags change nothing. Sets *count to the number of ranges if it returns OK or BUFFER_TOO_SHORT, unless
+ * count is null. Returns OK if all of them fit; BUFFER_TOO_SHORT if they do not; REFUSED, with FANCY_ERROR_INVALID_CLASS and a
+ * position in the text, if fancy-regex refuses the class, as [z-a]; NOT_ONE_CHARACTER if it reads the text as something else
+ * than a class or a character, as [0-[a]b]; NOT_UTF8, OUT_OF_MEMORY or UNKNOWN_FLAG. Unless it returns OK, no range is written. */
+FANCY_INLINE fancy_result fancy_class_ranges(const char *text, size_t length, uint32_t flags, fancy_range *ranges,
+                                             size_t capacity, size_t *count) {
+    fancy_range no_range;
+    size_t no_count;
+    return fancy_class_ranges_nonnull(text ? text : "", length, flags, ranges ? ranges : &no_range, ranges ? capacity : 0,
+                                      count ? count : &no_count);
+}
+
+/* Does the same for a node, which is not null: a FANCY_NODE_DELEGATE, FANCY_NODE_LITERAL or FANCY_NODE_ANY, whose row and texts are
+ * as fancy_parse or fancy_tree wrote them, or made by hand. The row has casei; of the flags only FANCY_FLAG_UNICODE changes
+ * anything. Returns what fancy_class_ranges returns, with the position 0; NOT_ONE_CHARACTER for another kind too; and in place of
+ * NOT_UTF8 it returns NO_TREE, also if the text of the node is not in texts. */
+FANCY_INLINE fancy_result fancy_node_ranges(const fancy_node *node, const char *texts, size_t texts_size, uint32_t flags,
+                                            fancy_range *ranges, size_t capacity, size_t *count) {
+    fancy_range no_range;
+    size_t no_count;
+    return fancy_node_ranges_nonnull(node, texts ? texts : "", texts_size, flags, ranges ? ranges : &no_range,
+                                     ranges ? capacity : 0, count ? count : &no_count);
 }
 
 /* Reads the id that a text begins with, as for a template of a replacement: all letters and numbers, in any script, and _ at the

@@ -44,12 +44,13 @@ from dataclasses import dataclass, field
 from typing import ClassVar, Dict, Iterator, List, Mapping, Optional, Sequence, Tuple, Type, TypeVar, Union
 
 __all__ = [
-    "Error", "Node", "Pattern", "Relative", "Span", "Tree", "Trivium", "check", "escape", "format", "is_resolved",
-    "normal_form", "parse", "parse_decimal", "parse_id", "to_pattern", "trivia",
+    "Error", "Node", "Pattern", "Ranges", "Relative", "Span", "Tree", "Trivium", "check", "class_ranges", "escape", "format",
+    "is_resolved", "normal_form", "parse", "parse_decimal", "parse_id", "to_pattern", "trivia",
 ]  # fmt: skip
 
 Pattern = Union[str, bytes]
 Span = Tuple[int, int]
+Ranges = List[Tuple[int, int]]
 _Kind = TypeVar("_Kind", bound=enum.IntEnum)
 
 
@@ -268,6 +269,20 @@ class Node:
         if got.status == _OUT_OF_MEMORY:
             raise MemoryError
         return text.decode() if got.status == _OK else None
+
+    def character_ranges(self, flags: int = UNICODE) -> Optional[Ranges]:
+        """Returns the characters that this node matches, as the function `class_ranges` does for a class; or None unless it is a
+        `Delegate`, a `Literal` or an `Any` that matches exactly one character. Of the flags only `UNICODE` matters. Raises `Error`, at
+        the position 0, if fancy-regex refuses the node.
+
+        >>> [node.character_ranges() for node in parse("(?i)k.").root.children]
+        [[(75, 75), (107, 107), (8490, 8490)], [(0, 9), (11, 55295), (57344, 1114111)]]
+        """
+        source = _Source(self.text if isinstance(self, (Literal, Delegate)) else ".", flags)
+        if not isinstance(self, (Any, Literal, Delegate)):
+            return None
+        nodes, _, texts, size, _ = _Rows(self).arguments()
+        return source.ranges("fancy_node_ranges", nodes, texts, size, int(source.flags))
 
     def walk(self) -> Iterator[Node]:
         """The node and its descendants in preorder: each before its children, these in the order of the pattern."""
@@ -718,6 +733,15 @@ class _Trivium(ctypes.Structure):
     ]
 
 
+class _Range(ctypes.Structure):
+    first: int
+    last: int
+    _fields_ = [
+        ("first", ctypes.c_uint32),
+        ("last", ctypes.c_uint32),
+    ]
+
+
 _OK = 0
 _REFUSED = 1
 _NOT_UTF8 = 2
@@ -730,6 +754,7 @@ _UNKNOWN_STYLE = 8
 _UNKNOWN_FLAG = 9
 _UNKNOWN_PRECEDENCE = 10
 _UNRESOLVED = 11
+_NOT_ONE_CHARACTER = 12
 _BY_NUMBER = 1
 _BY_NAME = 2
 _RELATIVE = 3
@@ -776,6 +801,8 @@ def _load() -> ctypes.CDLL:
         "fancy_to_pattern_nodes": rows + buffer + [ctypes.POINTER(_Info), ctypes.c_uint32] + buffer,
         "fancy_is_resolved": pattern,
         "fancy_escape": pattern + buffer,
+        "fancy_class_ranges": pattern + buffer + [ctypes.POINTER(ctypes.c_size_t)],
+        "fancy_node_ranges": [ctypes.c_void_p] + buffer + [ctypes.c_uint32] + buffer + [ctypes.POINTER(ctypes.c_size_t)],
         "fancy_parse_id": pattern[:2],
         "fancy_parse_decimal": pattern[:2] + [ctypes.POINTER(ctypes.c_size_t)],
     }.items():
@@ -930,6 +957,23 @@ class _Source:
         if got.status in (_REFUSED, _NOT_UTF8):
             raise self.refusal() or AssertionError
         return got.status, text.decode()
+
+    def ranges(self, name: str, *arguments: object) -> Optional[Ranges]:
+        """The ranges that a call writes; None if what it is called for does not match exactly one character."""
+        count, capacity = ctypes.c_size_t(), 64
+        while True:
+            rows = (_Range * capacity)()
+            got = _called(name, *arguments, rows, capacity, ctypes.byref(count))
+            if got.status != _BUFFER_TOO_SHORT:
+                break
+            capacity = count.value
+        if got.status == _OUT_OF_MEMORY:
+            raise MemoryError
+        if got.status == _REFUSED:
+            raise self.error(got, _member_of(ErrorKind, got.kind).text)
+        if got.status == _NOT_UTF8:
+            raise self.refusal() or AssertionError
+        return [(row.first, row.last) for row in rows[: count.value]] if got.status == _OK else None
 
 
 class _Builder:
@@ -1202,6 +1246,19 @@ def escape(text: Pattern, flags: int = UNICODE) -> str:
     ('1\\\\+1\\\\t= 2', 'a\\\\ b')
     """
     return _Source(text, flags).text("fancy_escape")[1]
+
+
+def class_ranges(text: Pattern, flags: int = UNICODE) -> Optional[Ranges]:
+    """Returns the characters that a class matches: pairs of the first and the last code of each range, in ascending order, with a gap
+    between any two. The text is that of a `Delegate`, and read as fancy-regex reads it: under `CASEI`, for a node with `casei`, and
+    under `UNICODE`; other flags change nothing. None if it is read as something else than a class or a character. Raises `Error` if
+    fancy-regex refuses the class, and if the text is not UTF-8. `Node.character_ranges` does this for a node.
+
+    >>> class_ranges("[a-cx]"), class_ranges("[k]", UNICODE | CASEI), class_ranges("[0-[a]b]")
+    ([(97, 99), (120, 120)], [(75, 75), (107, 107), (8490, 8490)], None)
+    """
+    source = _Source(text, flags)
+    return source.ranges("fancy_class_ranges", *source.arguments)
 
 
 def parse_id(text: Pattern) -> str:

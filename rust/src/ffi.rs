@@ -4,7 +4,7 @@
 //! has one.
 
 use crate::call::RowsIn;
-pub(crate) use crate::structs::{CallResult, Info, Name, Node, Trivium};
+pub(crate) use crate::structs::{CallResult, Info, Name, Node, Range, Trivium};
 use core::ffi::c_char;
 
 #[rustfmt::skip]
@@ -26,6 +26,8 @@ extern "C" {
     fn fancy_trivia_nonnull(pattern: *const c_char, length: usize, flags: u32, trivia: *mut Trivium, capacity: usize, count: *mut usize) -> CallResult;
     fn fancy_is_resolved_nonnull(pattern: *const c_char, length: usize, flags: u32) -> CallResult;
     fn fancy_escape_nonnull(text: *const c_char, length: usize, flags: u32, buffer: *mut c_char, capacity: usize) -> CallResult;
+    fn fancy_class_ranges_nonnull(text: *const c_char, length: usize, flags: u32, ranges: *mut Range, capacity: usize, count: *mut usize) -> CallResult;
+    fn fancy_node_ranges_nonnull(node: *const Node, texts: *const c_char, texts_size: usize, flags: u32, ranges: *mut Range, capacity: usize, count: *mut usize) -> CallResult;
     fn fancy_parse_id_nonnull(text: *const c_char, length: usize) -> CallResult;
     fn fancy_parse_decimal_nonnull(text: *const c_char, length: usize, value: *mut usize) -> CallResult;
 }
@@ -118,6 +120,18 @@ pub(crate) fn is_resolved(pattern: &str, flags: u32) -> CallResult {
 pub(crate) fn escape(text: &str, flags: u32, buffer: &mut [u8]) -> CallResult {
     // SAFETY: the text and the buffer are slices, the second a mutable borrow
     unsafe { fancy_escape_nonnull(text.as_ptr().cast(), text.len(), flags, buffer.as_mut_ptr().cast(), buffer.len()) }
+}
+
+#[rustfmt::skip]
+pub(crate) fn class_ranges(text: &str, flags: u32, ranges: &mut [Range], count: &mut usize) -> CallResult {
+    // SAFETY: the text and the buffer are slices, the second a mutable borrow of integers, and `count` is another
+    unsafe { fancy_class_ranges_nonnull(text.as_ptr().cast(), text.len(), flags, ranges.as_mut_ptr(), ranges.len(), count) }
+}
+
+#[rustfmt::skip]
+pub(crate) fn node_ranges(node: &Node, texts: &[u8], flags: u32, ranges: &mut [Range], count: &mut usize) -> CallResult {
+    // SAFETY: the same, and the node is a borrow, in which each bool is 0 or 1
+    unsafe { fancy_node_ranges_nonnull(node, texts.as_ptr().cast(), texts.len(), flags, ranges.as_mut_ptr(), ranges.len(), count) }
 }
 
 pub(crate) fn parse_id(text: &str) -> CallResult {

@@ -25,6 +25,8 @@
 //!   for a tree that may have been changed, and [`NodeRef::print`] for a part of one.
 //! - [`is_resolved`], [`escape`], [`parse_id`] and [`parse_decimal`] are for engines: whether all references of a pattern refer to
 //!   groups, a text as a pattern, and what a template of a replacement begins with.
+//! - [`class_ranges`] returns the characters that a class matches; [`Expr::character_ranges`] and [`NodeRef::character_ranges`] do
+//!   this for a node.
 //!
 //! Positions and spans are byte offsets. The functions may be called in several threads at once. What the library returns is
 //! checked. A library that is too old for the crate is an error ([`Error::Version`]), and so are a number of a newer library that
@@ -46,6 +48,7 @@ mod kinds;
 mod node;
 mod numbers;
 mod owned;
+mod ranges;
 mod rows;
 mod structs;
 mod tree;
@@ -60,6 +63,7 @@ pub use flags::Flags;
 pub use format::{format_pattern, Style};
 pub use kinds::{AbsentKind, Assertion, BacktrackingControlVerb, LookAround, ParseError};
 pub use node::{CallTarget, Children, Kind, NodeRef};
+pub use ranges::class_ranges;
 pub use rows::Rows;
 pub use tree::{GroupInfo, Span, Tree};
 pub use trivia::{trivia, Trivium, TriviumKind};

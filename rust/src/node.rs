@@ -1,13 +1,15 @@
 //! The nodes of a tree, seen in the rows that the library wrote.
 
 use crate::ffi::Node;
+use crate::ranges::ranges_of_row;
 use crate::rows::MAX_LEVELS;
 use crate::written::{pattern_of_rows, print_rows};
 use crate::{numbers, Absent, AbsentKind, Assertion, AstNode, BacktrackingControlVerb, CaptureGroupTarget};
 use crate::{Error, Expr, Flags, LookAround, Precedence, Rows, Span};
 use std::fmt;
+use std::ops::RangeInclusive;
 
-/// A node of a tree that is in [`Rows`]. It is as small as two words, and only what returns a tree or a text allocates.
+/// A node of a tree that is in [`Rows`]. It is as small as two words, and only what returns a tree, a text or ranges allocates.
 #[derive(Clone, Copy)]
 pub struct NodeRef<'a> {
     rows: &'a Rows,
@@ -233,6 +235,27 @@ impl<'a> NodeRef<'a> {
     pub fn to_pattern(self, flags: Flags) -> Result<Option<String>, Error> {
         let (names, info) = self.rows.names_and_info();
         pattern_of_rows(self.rows.rows_from(self.index), names, info, flags)
+    }
+
+    /// The characters that the node matches, as [`class_ranges`](crate::class_ranges) returns them; `None` unless it is a
+    /// `Delegate`, a `Literal` or an `Any` that matches exactly one character. Of the flags only [`Flags::UNICODE`] matters.
+    ///
+    /// # Errors
+    ///
+    /// Those of [`class_ranges`](crate::class_ranges), with the position 0.
+    ///
+    /// ```
+    /// use fancy_syntax::{Flags, Rows};
+    /// let mut rows = Rows::new();
+    /// let root = rows.parse("(?i)k.", Flags::UNICODE)?.root();
+    /// let ranges: Result<Vec<_>, _> = root.children().map(|child| child.character_ranges(Flags::UNICODE)).collect();
+    /// let in_any_case = vec!['K'..='K', 'k'..='k', '\u{212A}'..='\u{212A}'];
+    /// let all_but_line_feed = vec!['\0'..='\t', '\u{B}'..='\u{D7FF}', '\u{E000}'..=char::MAX];
+    /// assert_eq!(ranges?, [Some(in_any_case), Some(all_but_line_feed)]);
+    /// # Ok::<(), fancy_syntax::Error>(())
+    /// ```
+    pub fn character_ranges(self, flags: Flags) -> Result<Option<Vec<RangeInclusive<char>>>, Error> {
+        ranges_of_row(self.row(), self.rows.texts(), flags)
     }
 
     /// The node and its descendants as an owned tree.

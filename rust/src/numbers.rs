@@ -24,6 +24,7 @@ pub(crate) const STATUS_UNKNOWN_STYLE: u32 = 8;
 pub(crate) const STATUS_UNKNOWN_FLAG: u32 = 9;
 pub(crate) const STATUS_UNKNOWN_PRECEDENCE: u32 = 10;
 pub(crate) const STATUS_UNRESOLVED: u32 = 11;
+pub(crate) const STATUS_NOT_ONE_CHARACTER: u32 = 12;
 
 pub(crate) const ERROR_NONE: u32 = 0;
 pub(crate) const ERROR_GENERAL_PARSE_ERROR: u32 = 1;
@@ -119,7 +120,7 @@ pub(crate) const STYLE_COMPACT: u32 = 2;
 
 // the largest number of a group
 pub(crate) const LAST_FLAG: u32 = 65536;
-pub(crate) const LAST_STATUS: u32 = 11;
+pub(crate) const LAST_STATUS: u32 = 12;
 pub(crate) const LAST_ERROR: u32 = 16;
 pub(crate) const LAST_NODE: u32 = 24;
 pub(crate) const LAST_ASSERTION: u32 = 12;

@@ -72,3 +72,11 @@ pub(crate) struct Trivium {
     pub flags_before: u32,
     pub flags_after: u32,
 }
+
+/// `fancy_range`
+#[repr(C)]
+#[derive(Debug, Clone, Copy, Default)]
+pub(crate) struct Range {
+    pub first: u32,
+    pub last: u32,
+}

@@ -2,8 +2,10 @@
 
 use crate::call::{self, Extent, RowsIn, Text};
 use crate::ffi::{self, CallResult, Info, Name, Node};
+use crate::ranges::ranges_of_row;
 use crate::{numbers, Absent, AbsentKind, Assertion, AstNode, CaptureGroupTarget};
 use crate::{Error, Expr, Flags, GroupInfo, Precedence};
+use std::ops::RangeInclusive;
 
 /// The rows of a tree, and the texts of its nodes.
 #[derive(Default)]
@@ -249,5 +251,29 @@ impl Expr {
             ..Info::default()
         };
         pattern_of_rows(written.rows(), &written.names, &info, flags)
+    }
+    /// The characters that the node matches, as [`class_ranges`](crate::class_ranges) returns them; `None` unless it is a
+    /// `Delegate`, a `Literal` or an `Any` that matches exactly one character. Of the flags only [`Flags::UNICODE`] matters.
+    ///
+    /// # Errors
+    ///
+    /// Those of [`class_ranges`](crate::class_ranges), with the position 0.
+    ///
+    /// ```
+    /// use fancy_syntax::{parse, Flags};
+    /// let ranges = |pattern| parse(pattern, Flags::UNICODE)?.expr.character_ranges(Flags::UNICODE);
+    /// assert_eq!(ranges("[0-9&&[^5]]")?, Some(vec!['0'..='4', '6'..='9']));
+    /// assert_eq!(ranges("(?i)s")?, Some(vec!['S'..='S', 's'..='s', 'ſ'..='ſ']));
+    /// assert_eq!(ranges("ab")?, None);
+    /// # Ok::<(), fancy_syntax::Error>(())
+    /// ```
+    pub fn character_ranges(&self, flags: Flags) -> Result<Option<Vec<RangeInclusive<char>>>, Error> {
+        if !matches!(self, Expr::Any { .. } | Expr::Literal { .. } | Expr::Delegate { .. }) {
+            return Ok(None);
+        }
+        match Written::of(self) {
+            Ok(Written { nodes, texts, .. }) => ranges_of_row(&nodes[0], &texts, flags),
+            Err(Unresolved) => Ok(None),
+        }
     }
 }

@@ -3,7 +3,9 @@
 mod common;
 
 use common::*;
-use fancy_syntax::{check, parse, to_pattern, AstNode, CaptureGroupTarget, Expr, Flags, GroupInfo, Precedence, Rows};
+use fancy_syntax::{check, class_ranges, parse, to_pattern, AstNode, CaptureGroupTarget, Expr, Flags};
+use fancy_syntax::{Error, GroupInfo, ParseError, Precedence, Rows};
+use std::ops::RangeInclusive;
 
 fn lines(name: &str) -> Vec<Vec<String>> {
     let file = format!("{}/../crates/conformance/data/{name}.tsv", env!("CARGO_MANIFEST_DIR"));
@@ -86,6 +88,44 @@ fn the_texts() {
         assert_eq!((word.as_str(), to_pattern(&pattern, flags)), ("text", Ok(pattern_of(text))), "{letters} {pattern}");
         let tree = parse(&pattern, flags).unwrap();
         assert_eq!(tree.to_pattern(flags), Ok(Some(pattern_of(text))), "{letters} {pattern}");
+    }
+}
+
+/// The characters of a node as they are written in `characters.tsv`: the error without its position, and none of a node that does
+/// not match one character.
+fn characters(ranges: Result<Option<Vec<RangeInclusive<char>>>, Error>) -> String {
+    let hexed = |range: &RangeInclusive<char>| format!("{:X}-{:X}", u32::from(*range.start()), u32::from(*range.end()));
+    match ranges {
+        Ok(Some(ranges)) => ranges.iter().map(hexed).collect::<Vec<_>>().join(" "),
+        Ok(None) => "not one character".to_owned(),
+        Err(Error::ParseError(_, ParseError::InvalidClass)) => "refused".to_owned(),
+        Err(error) => panic!("{error}"),
+    }
+}
+
+#[test]
+fn the_characters_of_nodes() {
+    let all = lines("characters");
+    assert_eq!(all.len(), 18);
+    let mut rows = Rows::new();
+    for line in all {
+        let [_, letters, pattern, wanted] = &line[..] else { panic!("{line:?}") };
+        let (flags, pattern, wanted) = (flags_of(letters).unwrap(), pattern_of(pattern), pattern_of(wanted));
+        // what is written of an error begins with its position
+        let (position, wanted) = match wanted.split_once("..") {
+            Some((position, _)) => (position.parse().ok(), "refused"),
+            None => (None, wanted.as_str()),
+        };
+        let expr = parse(&pattern, flags).unwrap().expr;
+        assert_eq!(characters(expr.character_ranges(flags)), wanted, "{letters} {pattern}");
+        let node = rows.parse(&pattern, flags).unwrap().root();
+        assert_eq!(node.character_ranges(flags), expr.character_ranges(flags), "{letters} {pattern}");
+        if let Expr::Delegate { inner, casei } = expr {
+            let flags = if casei { flags | Flags::CASEI } else { flags - Flags::CASEI };
+            let ranges = class_ranges(&inner, flags);
+            assert_eq!(ranges.as_ref().map_or_else(Error::position, |_| None), position, "{letters} {pattern}");
+            assert_eq!(characters(ranges), wanted, "{letters} {pattern}");
+        }
     }
 }
 

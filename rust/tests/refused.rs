@@ -1,7 +1,7 @@
 //! What a failed allocation of the library does: the call returns an error that says so, and the next call has the result of any other. With
 //! libfancy no allocation fails here; where `FANCY_REFUSES` is set, it is linked with `.ci/refusing.c`.
 
-use fancy_syntax::{check, escape, format_pattern, is_resolved, parse, print, to_pattern, trivia};
+use fancy_syntax::{check, class_ranges, escape, format_pattern, is_resolved, parse, print, to_pattern, trivia};
 use fancy_syntax::{Error, Flags, Precedence, Rows, Style};
 use std::fmt::Debug;
 
@@ -35,11 +35,13 @@ fn a_failed_allocation_is_an_error() {
         refused += refusals(|| to_pattern(pattern, flags));
         refused += refusals(|| is_resolved(pattern, flags));
         refused += refusals(|| escape(pattern, flags));
+        refused += refusals(|| class_ranges(pattern, flags));
         refused += refusals(|| format_pattern(pattern, flags, Style::Verbose { width: 8 }));
         refused += refusals(|| print(pattern, flags, Precedence::Piece));
         let _ = rows.parse(pattern, flags);
         let root = rows.root();
         let (expr, groups) = (root.to_expr(), rows.groups());
+        refused += refusals(|| root.children().last().unwrap_or(root).character_ranges(flags));
         refused += refusals(|| root.print(Precedence::Piece));
         refused += refusals(|| root.to_pattern(flags));
         refused += refusals(|| expr.print(Precedence::Piece));

@@ -147,7 +147,8 @@ def rows(table: Table) -> list:
 def layouts(table: Table) -> list:
     """The order of fields where definitions have a whole struct."""
     problems = []
-    for name, of, key in (("Node", "plain k s n", "node"), ("InfoRows", "summary t m", "info"), ("TriviumRows", "row x", "trivium")):
+    made = ("Node", "plain k s n", "node"), ("InfoRows", "summary t m", "info"), ("TriviumRows", "row x", "trivium"), ("ClassRanges", "row r", "range")
+    for name, of, key in made:
         found = [it for it in equations(f"fancy_c/specs/{name}.antt") if it.startswith(f"{of} = record")]
         own = [it.name for it in table.struct(key).fields]
         if [re.findall(r"(\w+) = (?!record)", it) for it in found] != [own]:

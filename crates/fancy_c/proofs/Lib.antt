@@ -28,3 +28,5 @@ mod EscapeLemmas
 mod ResolvedLemmas
 -- ---- what a text begins with
 mod TextStartLemmas
+-- ---- the characters of a class or of another node
+mod ClassRangeLemmas

@@ -10,4 +10,5 @@ pub mod InfoRows
 pub mod TriviumRows
 pub mod EscapedText
 pub mod TextStart
+pub mod ClassRanges
 pub mod References

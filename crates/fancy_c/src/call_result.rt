@@ -29,6 +29,8 @@ pub const STATUS_UNKNOWN_FLAG: u32 = 9;
 pub const STATUS_UNKNOWN_PRECEDENCE: u32 = 10;
 /// The pattern is valid, and a reference in it refers to a group that the pattern does not have.
 pub const STATUS_UNRESOLVED: u32 = 11;
+/// The text or the node does not match exactly one character.
+pub const STATUS_NOT_ONE_CHARACTER: u32 = 12;
 
 // Callers in C compare with these numbers.
 const _: () = prove!(STATUS_OK == 0 && STATUS_REFUSED == 1 && STATUS_NOT_UTF8 == 2);
@@ -41,7 +43,7 @@ const _: () = prove!(
     STATUS_UNKNOWN_STYLE == 8 && STATUS_UNKNOWN_FLAG == 9 && STATUS_UNKNOWN_PRECEDENCE == 10
 );
 
-const _: () = prove!(STATUS_UNRESOLVED == 11);
+const _: () = prove!(STATUS_UNRESOLVED == 11 && STATUS_NOT_ONE_CHARACTER == 12);
 
 /// No error.
 pub const ERROR_NONE: u32 = 0;
@@ -104,7 +106,7 @@ const _: () = prove!(ERROR_INVALID_GROUP_NAME_BACKREF == 16);
 #[repr(C)]
 #[derive(Clone, Copy)]
 pub struct CallResult {
-    /// `STATUS_OK` to `STATUS_UNRESOLVED`.
+    /// `STATUS_OK` to `STATUS_NOT_ONE_CHARACTER`.
     pub status: u32,
     /// The kind of the error, `ERROR_NONE` if none is reported.
     pub kind: u32,

@@ -112,7 +112,7 @@ fn without_groups(alloc: Global, expr: Expr) -> ExprTree
     }
 }
 
-/// The pattern that matches the text, which there always is.
+/// The pattern that matches the text. Each text has one.
 fn escaped(alloc: Global, text: &str, flags: u32) -> Result<String, AllocError>
     ensures { IfOk result (λ s. IsEscapeOf (flags_of flags) (chars text.now) (string_bytes s)) }
 {

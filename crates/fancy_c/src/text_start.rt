@@ -12,7 +12,7 @@ use fancy_lex::name::id::id;
 use fancy_lex::name::number::number;
 use fancy_lex::text::byte_len;
 
-/// The size in bytes of the id that the text begins with; 0 if it begins with none.
+/// The size in bytes of the id that the text begins with; 0 if it begins with no id.
 fn id_size(text: &str) -> usize
     ensures { result ≡ spec.id_size (chars text.now) }
 {
@@ -30,8 +30,8 @@ fn size_before(text: &str, rest: &str) -> usize
     text.len() - rest.len()
 }
 
-/// Sets the value to the number that the text begins with, and returns its size in bytes; 0 if the text begins with none,
-/// or with one that does not fit.
+/// Sets the value to the number that the text begins with, and returns its size in bytes; 0 if the text begins with no
+/// number, or with one that does not fit.
 fn read_decimal(text: &str, value: &mut usize) -> usize
     ensures { IsDecimalOf (chars text.now) result value.old value.new }
 {
@@ -61,8 +61,8 @@ fn of_size(size: usize) -> CallResult
 }
 
 /// Reads the id at the front of a text: all the letters and numbers, in any script, and `_` there. Returns `STATUS_OK` with
-/// the size of the id in bytes, which is 0 if there is none; or `STATUS_NOT_UTF8` if the text is not UTF-8, with the length
-/// of the valid UTF-8 prefix.
+/// the size of the id in bytes, which is 0 if the text begins with no id; or `STATUS_NOT_UTF8` if the text is not UTF-8,
+/// with the length of the valid UTF-8 prefix.
 #[unsafe(no_mangle)]
 pub extern "C" fn fancy_parse_id_nonnull(text: &[u8]) -> CallResult
     ensures read { result.status ≡ STATUS_OK → IsUtf8 text.now × (result.size ≡ spec.id_size (chars text.now)) }
