@@ -191,29 +191,33 @@ static fancy_result call_with_rows(int which, const tree *t, const char *pattern
     return fancy_format(pattern, length, flags, which == 4 ? FANCY_STYLE_KEPT : FANCY_STYLE_VERBOSE, 80, text, capacity);
 }
 
-// Makes these calls with each request for memory refused in turn: then the status has to say so, and else to be the usual one.
+// Makes these calls with each request for memory refused in turn: then the status has to say so, and else the result to be the usual one.
+// The engine, which reads classes, goes on if some of its requests are refused; then the result is the usual one too.
 static bool are_rows_refused_memory(const char *pattern, size_t length, uint32_t flags) {
     tree t;
     take(&t, pattern, length, flags);
-    char *text = untouched(CAPACITY(length));
+    char *text = untouched(CAPACITY(length)), *wanted = untouched(CAPACITY(length));
     bool is_right = true;
     for (int which = t.nodes ? 0 : 2; which < 11; which++) {
-        fancy_result usual = call_with_rows(which, &t, pattern, length, flags, text);
-        memset(text, 0xA5, CAPACITY(length));
+        memset(wanted, 0xA5, CAPACITY(length));
+        fancy_result usual = call_with_rows(which, &t, pattern, length, flags, wanted);
         for (size_t n = 1; is_right; n++) {
+            memset(text, 0xA5, CAPACITY(length));
             left_until_refusal = n;
             was_refused = false;
             size_t before = in_use;
             fancy_result got = call_with_rows(which, &t, pattern, length, flags, text);
             left_until_refusal = 0;
-            is_right = in_use == before && got.status == (was_refused ? FANCY_STATUS_OUT_OF_MEMORY : usual.status);
+            bool has_none = was_refused && got.status == FANCY_STATUS_OUT_OF_MEMORY && is_untouched(text, CAPACITY(length));
+            bool is_usual = is_same_result(got, usual) && memcmp(text, wanted, CAPACITY(length)) == 0;
+            is_right = in_use == before && (has_none || (is_usual && (!was_refused || which > 8)));
             if (!was_refused) break;
-            is_right = is_right && is_untouched(text, CAPACITY(length));
             refused++;
         }
     }
     was_refused = false;
     free(text);
+    free(wanted);
     release(&t);
     return is_right;
 }
