@@ -233,6 +233,43 @@ def are_trees_right():
     )
 
 
+def is_long_right(count):
+    """Whether what a call writes is right if it has so many items, or so many characters."""
+    named = {f"n{number:04}": (number + 1,) for number in range(count)}
+    groups, references = "".join(f"(?<{name}>a)" for name in named), "".join(f"\\k<{name}>" for name in named)
+    tree, name = fancy.parse(groups + references), "n" * count
+    unordered = fancy.check(f"\\k<{name}>(?<{name}>a)")
+    return (
+        [node.text for node in fancy.parse("a|" * count).walk() if isinstance(node, fancy.Literal)] == ["a"] * count
+        and [node.text for node in fancy.parse("\\h" * count).walk() if isinstance(node, fancy.Delegate)] == ["[0-9A-Fa-f]"] * count
+        and (tree.named_groups, tree.backrefs) == (named, tuple(range(1, count + 1)))
+        and fancy.to_pattern("a" * count) == fancy.format("a" * count, style=fancy.Style.KEPT) == "a" * count
+        and len(fancy.to_pattern("(?<" + "n" * 99 + ">)" + "\\k<-1>" * count)) == 104 + 103 * count
+        and len(fancy.trivia("a(?:)*" * count, fancy.UNICODE | fancy.ONIGURUMA_MODE)) == 3 * count
+        and (count == 0 or unordered.message == fancy.ErrorKind.INVALID_GROUP_NAME_BACKREF.text + name)
+    )
+
+
+def are_buffers_right():
+    """Whether results are right where the first buffers of a call are long enough, and where they are too short; and whether a comment
+    of 1 MB takes little memory."""
+    code = """
+import fancy, resource
+def call(pattern):
+    tree = fancy.parse(pattern)
+    texts = fancy.to_pattern(pattern), fancy.normal_form(pattern), *[fancy.format(pattern, style=style) for style in fancy.Style]
+    return tree.root.kind, fancy.check(pattern), len(fancy.trivia(pattern)), texts
+call("a")
+with open("/proc/self/statm") as file:
+    size = int(file.read().split()[0]) * resource.getpagesize()
+resource.setrlimit(resource.RLIMIT_AS, (size + 16_000_000, size + 16_000_000))
+pattern = "(?#" + "a" * 1_000_000 + ")"
+assert call(pattern) == ("Empty", None, 1, ("", "", pattern, "(?x)\\n" + pattern, pattern))
+"""
+    counts = [*range(36), *range(60, 68), *range(124, 132), *range(252, 260), *range(508, 516), *range(764, 772), *range(1020, 1028), 5000]
+    return all(map(is_long_right, counts)) and subprocess.run([sys.executable, "-W", "error", "-c", code]).returncode == 0
+
+
 def letters_of(flags):
     return None if flags is None else "".join(letter for bit, letter in enumerate(LETTERS) if flags & 1 << bit)
 
@@ -619,6 +656,7 @@ def main():
         "errors": are_errors_right(),
         "trees": are_trees_right(),
         "trivia": are_trivia_right(),
+        "long patterns": are_buffers_right(),
         "formatted patterns": are_formatted_right(),
         "calls for engines": are_engine_calls_right(),
         "characters": are_ranges_right(),

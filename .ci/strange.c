@@ -1,6 +1,6 @@
 /* A library with the symbols of libfancy that returns what `fancy.h` rules out: wrong counts, kinds, ends, spans, sizes and bools, and texts that
- * are not UTF-8. It keeps to the capacities of the buffers, since no caller can see to that. `.ci/from-rust` links the crate in `rust/` with it.
- * The answers are drawn at random, always the same; it is for one thread. */
+ * are not UTF-8. It keeps to the capacities of the buffers, and writes as many items as it says, since no caller can see to that. `.ci/from-rust`
+ * links the crate in `rust/` with it. The answers are drawn at random, always the same; it is for one thread. */
 #include "../include/fancy.h"
 
 #include <string.h>
@@ -42,6 +42,11 @@ static void write_noise(void *buffer, size_t size) {
     for (size_t i = 0; i < size; i++) bytes[i] = (unsigned char)draw();
 }
 
+/* Writes noise over the items that a call says it wrote. More than the capacity are none. */
+static void write_items(void *buffer, size_t count, size_t capacity, size_t size) {
+    if (count <= capacity) write_noise(buffer, count * size);
+}
+
 uint32_t fancy_version(void) { return below(200) ? FANCY_VERSION : (uint32_t)draw(); }
 
 fancy_result fancy_check_nonnull(const char *pattern, size_t length, uint32_t flags) {
@@ -54,8 +59,9 @@ static fancy_result text(uint32_t status, size_t length, char *buffer, size_t ca
     static const char words[] = "Invalid escape: \\y, General parsing error: \xc3\xa9";
     size_t size = below(sizeof words);
     if (below(4) == 0) {
-        write_noise(buffer, below(capacity + 1));
-        return any_result(length);
+        fancy_result it = any_result(length);
+        write_items(buffer, it.size, capacity, 1);
+        return it;
     }
     if (size > capacity) return result(FANCY_STATUS_BUFFER_TOO_SHORT, 0, 0, size);
     memcpy(buffer, words, size);
@@ -231,7 +237,7 @@ fancy_result fancy_tree_nonnull(const char *pattern, size_t length, uint32_t fla
                                 size_t backref_capacity, fancy_info *info) {
     (void)pattern, (void)flags;
     if (below(8) == 0) return text(FANCY_STATUS_REFUSED, length, texts, texts_capacity);
-    tree t = {nodes, below(2 * length + 1) + 1, 0, below(texts_capacity + 1)};
+    tree t = {nodes, below(2 * length + 1) + 1, 0, below((texts_capacity < 6 * length ? texts_capacity : 6 * length) + 1)};
     if (t.capacity > node_capacity) t.capacity = node_capacity;
     size_t mode = below(16);
     memset(info, 0, sizeof *info);
@@ -241,7 +247,14 @@ fancy_result fancy_tree_nonnull(const char *pattern, size_t length, uint32_t fla
         info->texts_size = number(texts_capacity);
         info->name_count = number(name_capacity);
         info->backref_count = number(backref_capacity);
-        return mode == 0 ? any_result(length) : result(mode == 1 ? FANCY_STATUS_BUFFER_TOO_SHORT : FANCY_STATUS_OK, 0, 0, 0);
+        write_items(nodes, info->node_count, node_capacity, sizeof *nodes);
+        write_items(texts, info->texts_size, texts_capacity, 1);
+        write_items(names, info->name_count, name_capacity, sizeof *names);
+        write_items(backrefs, info->backref_count, backref_capacity, sizeof *backrefs);
+        if (mode > 0) return result(mode == 1 ? FANCY_STATUS_BUFFER_TOO_SHORT : FANCY_STATUS_OK, 0, 0, 0);
+        fancy_result it = any_result(length);
+        write_items(texts, it.size, texts_capacity, 1);
+        return it;
     }
     memset(texts, 0, t.texts_size);
     for (size_t i = 0; i + 1 < t.texts_size; i += 2) memcpy(texts + i, "\xc3\xa9", 2);

@@ -41,7 +41,7 @@ import re
 import sys
 import warnings
 from dataclasses import dataclass, field
-from typing import ClassVar, Dict, Iterator, List, Mapping, Optional, Sequence, Tuple, Type, TypeVar, Union
+from typing import ClassVar, Dict, Iterator, List, Mapping, Optional, Sequence, Set, Tuple, Type, TypeVar, Union
 
 __all__ = [
     "Error", "Node", "Pattern", "Ranges", "Relative", "Span", "Tree", "Trivium", "check", "class_ranges", "escape", "format",
@@ -52,6 +52,7 @@ Pattern = Union[str, bytes]
 Span = Tuple[int, int]
 Ranges = List[Tuple[int, int]]
 _Kind = TypeVar("_Kind", bound=enum.IntEnum)
+_Array = TypeVar("_Array")
 
 
 # ---- flags, and kinds of things. The numbers are those of fancy.h.
@@ -841,15 +842,31 @@ def _called(name: str, *arguments: object) -> _Result:
     return result
 
 
-def _text(name: str, *arguments: object) -> Tuple[_Result, bytes]:
-    """What a call returns, and the text that it writes, into a buffer that is large enough: its last two arguments."""
-    capacity = 256
+_ARRAYS: Set[type] = set()  #: the types of all first buffers, so that ctypes does not make them anew
+
+
+def _first(array: Type[_Array]) -> _Array:
+    """A first buffer for a call. If it is too short, the call says what it needs, and is made once more. No buffer is kept."""
+    _ARRAYS.add(array)
+    return array()
+
+
+def _capacity(count: int, most: int = 1024) -> int:
+    """The capacity of a first buffer for so many items. It is one of a few, for each of which there is a type."""
+    return min(1 << max(count - 1, 31).bit_length(), most)
+
+
+_SHORT, _FEW_TRIVIA = ctypes.c_char * 256, _Trivium * 64
+
+
+def _text(name: str, *arguments: object, size: int = 256) -> Tuple[_Result, bytes]:
+    """What a call returns, and the text that it writes, of about this size, into a buffer: its last two arguments."""
+    buffer = _SHORT() if size <= 256 else _first(ctypes.c_char * _capacity(size, 2**16))
     while True:
-        buffer = ctypes.create_string_buffer(capacity)
-        got = _called(name, *arguments, buffer, capacity)
+        got = _called(name, *arguments, buffer, len(buffer))
         if got.status != _BUFFER_TOO_SHORT:
             return got, buffer.raw[: got.size]
-        capacity = got.size
+        buffer = (ctypes.c_char * got.size)()
 
 
 def _member_of(kind: Type[_Kind], number: int) -> _Kind:
@@ -951,7 +968,7 @@ class _Source:
 
     def text(self, name: str, *arguments: object) -> Tuple[int, str]:
         """The status of a call, and the text that it writes. Raises the error of a pattern that is not valid."""
-        got, text = _text(name, *self.arguments, *arguments)
+        got, text = _text(name, *self.arguments, *arguments, size=2 * len(self.bytes) + 128)
         if got.status == _OUT_OF_MEMORY:
             raise MemoryError
         if got.status in (_REFUSED, _NOT_UTF8):
@@ -1116,13 +1133,17 @@ def _named_groups(names: Sequence[_Name], texts: bytes) -> Dict[str, Tuple[int, 
 def parse(pattern: Pattern, flags: int = UNICODE) -> Tree:
     """Parses a pattern. Raises `Error` if it is invalid."""
     source, info = _Source(pattern, flags), _Info()
-    # what the header says that is enough for a pattern of n bytes
-    count = 2 * len(source.bytes) + 1
-    nodes, names, backrefs = (_Node * count)(), (_Name * count)(), (ctypes.c_size_t * count)()
-    texts = ctypes.create_string_buffer(6 * len(source.bytes) + 128)
-    got = _called(
-        "fancy_tree", *source.arguments, nodes, count, texts, len(texts), names, count, backrefs, count, ctypes.byref(info)
-    )
+    length = len(source.bytes)
+    # few patterns of this length have more nodes or longer texts
+    nodes, names = _first(_Node * _capacity(length + length // 3 + 2)), _first(_Name * _capacity(0))
+    texts, backrefs = _first(ctypes.c_char * _capacity(length + 128, 2**16)), _first(ctypes.c_size_t * _capacity(0))
+    while True:
+        buffers = (nodes, len(nodes), texts, len(texts), names, len(names), backrefs, len(backrefs))
+        got = _called("fancy_tree", *source.arguments, *buffers, ctypes.byref(info))
+        if got.status != _BUFFER_TOO_SHORT:
+            break
+        nodes, names = (_Node * info.node_count)(), (_Name * info.name_count)()
+        texts, backrefs = (ctypes.c_char * max(info.texts_size, got.size))(), (ctypes.c_size_t * info.backref_count)()
     if got.status == _OUT_OF_MEMORY:
         raise MemoryError
     if got.status == _REFUSED:
@@ -1156,9 +1177,16 @@ def trivia(pattern: Pattern, flags: int = UNICODE) -> Tuple[Trivium, ...]:
     [('INLINE_FLAGS', (0, 4)), ('COMMENT', (5, 11)), ('OPENING', (11, 14)), ('CLOSING', (15, 16))]
     """
     source, count = _Source(pattern, flags), ctypes.c_size_t()
-    capacity = len(source.bytes) + 1
-    rows = (_Trivium * capacity)()
-    got = _called("fancy_trivia", *source.arguments, rows, capacity, ctypes.byref(count))
+    if len(source.bytes) <= 64:
+        rows = _FEW_TRIVIA()
+    else:
+        # each trivium begins with another one of these, but for a few that leave nothing in the tree
+        rows = _first(_Trivium * _capacity(sum(map(source.bytes.count, (b"(", b")", b"#")))))
+    while True:
+        got = _called("fancy_trivia", *source.arguments, rows, len(rows), ctypes.byref(count))
+        if got.status != _BUFFER_TOO_SHORT:
+            break
+        rows = (_Trivium * count.value)()
     if got.status == _OUT_OF_MEMORY:
         raise MemoryError
     if got.status != _OK:

@@ -63,29 +63,49 @@ pub(crate) fn is_newer() -> bool {
 /// call returns this status.
 pub(crate) fn written(
     extent: Extent,
-    mut call: impl FnMut(&mut [u8]) -> CallResult,
+    mut call: impl FnMut(&mut Vec<u8>) -> CallResult,
     status: u32,
 ) -> Result<Text, Error> {
     ready()?;
     let mut buffer = Vec::new();
-    grow(&mut buffer, extent.usual.saturating_mul(2).saturating_add(64))?;
+    guessed(&mut buffer, extent.usual.saturating_mul(2).saturating_add(64));
     let mut result = call(&mut buffer);
     if result.status == numbers::STATUS_BUFFER_TOO_SHORT {
         if result.size > extent.most() {
             return Err(Error::Library("a text that is longer than any"));
         }
-        grow(&mut buffer, result.size)?;
+        reserve(&mut buffer, result.size)?;
         result = call(&mut buffer);
     }
     if result.status != status {
         return Ok(Text::Not(result));
     }
-    if result.size > buffer.len() {
+    if result.size != buffer.len() {
         return Err(Error::Library("a text that is longer than its buffer"));
     }
-    buffer.truncate(result.size);
+    // of a long comment nothing may be left
+    if buffer.capacity() / 4 > buffer.len().saturating_add(256) {
+        buffer.shrink_to_fit();
+    }
     let text = String::from_utf8(buffer).map_err(|_| Error::Library("a text that is not UTF-8"))?;
     Ok(Text::Written(text))
+}
+
+/// Empties a buffer, and makes its capacity so many items at least. Nothing is written to it. If there is no memory for it, the
+/// capacity stays.
+pub(crate) fn reserve<T>(buffer: &mut Vec<T>, count: usize) -> Result<(), Error> {
+    buffer.clear();
+    if count > buffer.capacity() {
+        let mut longer = Vec::new();
+        longer.try_reserve_exact(count).map_err(|_| Error::OutOfMemory)?;
+        *buffer = longer;
+    }
+    Ok(())
+}
+
+/// Does the same for a guess. Without memory for it the buffer is too short, and the library says how much is needed.
+pub(crate) fn guessed<T>(buffer: &mut Vec<T>, count: usize) {
+    let _ = reserve(buffer, count);
 }
 
 /// Makes a buffer at least this long, with initialized items; it is never made shorter.

@@ -43,7 +43,7 @@ pub fn is_resolved(pattern: &str, flags: Flags) -> Result<bool, Error> {
 /// # Ok::<(), fancy_syntax::Error>(())
 /// ```
 pub fn escape(text: &str, flags: Flags) -> Result<String, Error> {
-    let write = |buffer: &mut [u8]| ffi::escape(text, flags.bits(), buffer);
+    let write = |buffer: &mut Vec<u8>| ffi::escape(text, flags.bits(), buffer);
     match call::written(Extent::of_pattern(text), write, numbers::STATUS_OK)? {
         Text::Written(pattern) => Ok(pattern),
         Text::Not(result) => Err(Error::of_status(result.status)),

@@ -189,7 +189,7 @@ mod tests {
         let mut buffer = [0; 64];
         assert_eq!(ffi::message("(", 512, &mut buffer).status, numbers::STATUS_UNKNOWN_FLAG);
         assert_eq!(ffi::message("a", numbers::FLAG_WITHOUT_SPANS, &mut buffer).status, numbers::STATUS_UNKNOWN_FLAG);
-        assert_eq!(ffi::print("a", 32, 256, &mut buffer).status, numbers::STATUS_UNKNOWN_PRECEDENCE);
+        assert_eq!(ffi::print("a", 32, 256, &mut Vec::new()).status, numbers::STATUS_UNKNOWN_PRECEDENCE);
         for status in [numbers::STATUS_UNKNOWN_FLAG, numbers::STATUS_UNKNOWN_PRECEDENCE] {
             assert_eq!(Error::of_status(status), Error::Library("a status that the call does not have"));
         }

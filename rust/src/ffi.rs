@@ -1,13 +1,10 @@
-//! The calls of `fancy.h`. This is the only file of the crate with `unsafe` code.
-//!
-//! What is called are the proved functions, whose names end in `_nonnull`: they take no null pointer, and a slice never
-//! has one.
+//! The calls of `fancy.h`. This is the only file of the crate with `unsafe` code. What is called are the proved functions, whose
+//! names end in `_nonnull`: they take no null pointer, and neither a slice nor a vector has one.
 
-use crate::call::RowsIn;
+use crate::{call::RowsIn, numbers};
 pub(crate) use crate::structs::{CallResult, Info, Name, Node, Range, Trivium};
 use core::ffi::c_char;
 
-#[rustfmt::skip]
 extern "C" {
     fn fancy_version() -> u32;
     fn fancy_message_nonnull(pattern: *const c_char, length: usize, flags: u32, buffer: *mut c_char, capacity: usize) -> CallResult;
@@ -34,14 +31,28 @@ extern "C" {
 
 // All that `docs/c.md` asks of a caller about pointers is asked of each call below: none is null, each is aligned, each points
 // to as many items as the length or capacity beside it says, no two buffers overlap, and nobody else uses a buffer meanwhile.
-// Slices and distinct mutable borrows have all of this, and their items are initialized integers.
+// Slices and distinct mutable borrows have all of this. What a call reads is initialized. What it writes need not be: mostly it
+// is the capacity of a vector, which then has the length that was written, by the clause in parentheses (`docs/c.md`).
+
+/// Makes a vector as long as what was written to it; empty if it has not the capacity for that.
+unsafe fn set_written<T>(buffer: &mut Vec<T>, count: usize) {
+    // SAFETY: there is capacity for so many items, and who calls this had them written
+    unsafe { buffer.set_len(if count <= buffer.capacity() { count } else { 0 }) }
+}
+
+/// Lets a call write a text to a vector. With OK it has to write `size` bytes.
+unsafe fn text(buffer: &mut Vec<u8>, call: impl FnOnce(*mut c_char, usize) -> CallResult) -> CallResult {
+    let result = call(buffer.as_mut_ptr().cast(), buffer.capacity());
+    // SAFETY: the call wrote the text, or there is none
+    unsafe { set_written(buffer, if result.status == numbers::STATUS_OK { result.size } else { 0 }) }
+    result
+}
 
 pub(crate) fn version() -> u32 {
     // SAFETY: it has no argument, and returns a constant
     unsafe { fancy_version() }
 }
 
-#[rustfmt::skip]
 pub(crate) fn message(pattern: &str, flags: u32, buffer: &mut [u8]) -> CallResult {
     // SAFETY: the pattern and the buffer are slices, the second a mutable borrow
     unsafe { fancy_message_nonnull(pattern.as_ptr().cast(), pattern.len(), flags, buffer.as_mut_ptr().cast(), buffer.len()) }
@@ -53,62 +64,59 @@ pub(crate) fn error_text(kind: u32, buffer: &mut [u8]) -> CallResult {
     unsafe { fancy_error_text_nonnull(kind, buffer.as_mut_ptr().cast(), buffer.len()) }
 }
 
-#[rustfmt::skip]
-pub(crate) fn tree(pattern: &str, flags: u32, nodes: &mut [Node], texts: &mut [u8], names: &mut [Name],
-    backrefs: &mut [usize], info: &mut Info) -> CallResult {
-    // SAFETY: the pattern is a slice; the four buffers are slices, and these and `info` are distinct mutable borrows; their
-    // items are integers, so whatever is written to them is valid; the structs are laid out as those of `fancy.h`
+pub(crate) fn tree(pattern: &str, flags: u32, nodes: &mut Vec<Node>, texts: &mut Vec<u8>, names: &mut Vec<Name>,
+    backrefs: &mut Vec<usize>, info: &mut Info) -> CallResult {
+    // SAFETY: the pattern is a slice; the four buffers and `info` are distinct mutable borrows; the structs are laid out as
+    // those of `fancy.h`, and all fields are integers; with OK a tree of the sizes in `info` is written (`read`), with REFUSED
+    // a message of `size` bytes (`refused`)
     unsafe {
-        fancy_tree_nonnull(pattern.as_ptr().cast(), pattern.len(), flags, nodes.as_mut_ptr(), nodes.len(),
-            texts.as_mut_ptr().cast(), texts.len(), names.as_mut_ptr(), names.len(),
-            backrefs.as_mut_ptr(), backrefs.len(), info)
+        let result = fancy_tree_nonnull(pattern.as_ptr().cast(), pattern.len(), flags, nodes.as_mut_ptr(), nodes.capacity(),
+            texts.as_mut_ptr().cast(), texts.capacity(), names.as_mut_ptr(), names.capacity(),
+            backrefs.as_mut_ptr(), backrefs.capacity(), info);
+        let sizes = if result.status == numbers::STATUS_OK { *info } else { Info::default() };
+        set_written(nodes, sizes.node_count);
+        set_written(texts, if result.status == numbers::STATUS_REFUSED { result.size } else { sizes.texts_size });
+        set_written(names, sizes.name_count);
+        set_written(backrefs, sizes.backref_count);
+        result
     }
 }
 
-#[rustfmt::skip]
-pub(crate) fn print(pattern: &str, flags: u32, precedence: u32, buffer: &mut [u8]) -> CallResult {
-    // SAFETY: the pattern and the buffer are slices, the second a mutable borrow
-    unsafe { fancy_print_nonnull(pattern.as_ptr().cast(), pattern.len(), flags, precedence, buffer.as_mut_ptr().cast(), buffer.len()) }
+pub(crate) fn print(pattern: &str, flags: u32, precedence: u32, buffer: &mut Vec<u8>) -> CallResult {
+    // SAFETY: the pattern is a slice, and the buffer a mutable borrow; with OK the text is written (`read`)
+    unsafe { text(buffer, |to, capacity| fancy_print_nonnull(pattern.as_ptr().cast(), pattern.len(), flags, precedence, to, capacity)) }
 }
 
-#[rustfmt::skip]
-pub(crate) fn to_pattern(pattern: &str, flags: u32, buffer: &mut [u8]) -> CallResult {
-    // SAFETY: the pattern and the buffer are slices, the second a mutable borrow
-    unsafe { fancy_to_pattern_nonnull(pattern.as_ptr().cast(), pattern.len(), flags, buffer.as_mut_ptr().cast(), buffer.len()) }
+pub(crate) fn to_pattern(pattern: &str, flags: u32, buffer: &mut Vec<u8>) -> CallResult {
+    // SAFETY: the pattern is a slice, and the buffer a mutable borrow; with OK the text is written (`read`)
+    unsafe { text(buffer, |to, capacity| fancy_to_pattern_nonnull(pattern.as_ptr().cast(), pattern.len(), flags, to, capacity)) }
 }
 
-#[rustfmt::skip]
-pub(crate) fn format(pattern: &str, flags: u32, style: u32, width: usize, buffer: &mut [u8]) -> CallResult {
-    // SAFETY: the pattern and the buffer are slices, the second a mutable borrow
+pub(crate) fn format(pattern: &str, flags: u32, style: u32, width: usize, buffer: &mut Vec<u8>) -> CallResult {
+    // SAFETY: the pattern is a slice, and the buffer a mutable borrow; with OK the text is written (`read`)
+    unsafe { text(buffer, |to, capacity| fancy_format_nonnull(pattern.as_ptr().cast(), pattern.len(), flags, style, width, to, capacity)) }
+}
+
+pub(crate) fn trivia(pattern: &str, flags: u32, trivia: &mut Vec<Trivium>, count: &mut usize) -> CallResult {
+    // SAFETY: the pattern is a slice; the buffer, of integers, and `count` are mutable borrows; with OK so many are written (`read`)
     unsafe {
-        fancy_format_nonnull(pattern.as_ptr().cast(), pattern.len(), flags, style, width, buffer.as_mut_ptr().cast(), buffer.len())
+        let result = fancy_trivia_nonnull(pattern.as_ptr().cast(), pattern.len(), flags, trivia.as_mut_ptr(), trivia.capacity(), count);
+        set_written(trivia, if result.status == numbers::STATUS_OK { *count } else { 0 });
+        result
     }
 }
 
-#[rustfmt::skip]
-pub(crate) fn trivia(pattern: &str, flags: u32, trivia: &mut [Trivium], count: &mut usize) -> CallResult {
-    // SAFETY: the pattern and the buffer are slices, the second a mutable borrow of integers, and `count` is another
-    unsafe { fancy_trivia_nonnull(pattern.as_ptr().cast(), pattern.len(), flags, trivia.as_mut_ptr(), trivia.len(), count) }
+pub(crate) fn print_nodes(RowsIn { nodes, texts, index }: RowsIn<'_>, precedence: u32, buffer: &mut Vec<u8>) -> CallResult {
+    // SAFETY: these are slices, and the buffer is a mutable borrow; with OK the text is written (`read`)
+    unsafe { text(buffer, |to, capacity| fancy_print_nodes_nonnull(nodes.as_ptr(), nodes.len(), texts.as_ptr().cast(), texts.len(),
+        index, precedence, to, capacity)) }
 }
 
-#[rustfmt::skip]
-pub(crate) fn print_nodes(rows: RowsIn<'_>, precedence: u32, buffer: &mut [u8]) -> CallResult {
-    let RowsIn { nodes, texts, index } = rows;
-    // SAFETY: all are slices, the last a mutable borrow
-    unsafe {
-        fancy_print_nodes_nonnull(nodes.as_ptr(), nodes.len(), texts.as_ptr().cast(), texts.len(), index, precedence,
-            buffer.as_mut_ptr().cast(), buffer.len())
-    }
-}
-
-#[rustfmt::skip]
-pub(crate) fn to_pattern_nodes(rows: RowsIn<'_>, names: &[Name], info: &Info, flags: u32, buffer: &mut [u8]) -> CallResult {
-    let RowsIn { nodes, texts, index } = rows;
-    // SAFETY: all are slices, the last a mutable borrow, and `info` is a borrow
-    unsafe {
-        fancy_to_pattern_nodes_nonnull(nodes.as_ptr(), nodes.len(), texts.as_ptr().cast(), texts.len(), index,
-            names.as_ptr(), names.len(), info, flags, buffer.as_mut_ptr().cast(), buffer.len())
-    }
+pub(crate) fn to_pattern_nodes(RowsIn { nodes, texts, index }: RowsIn<'_>, names: &[Name], info: &Info, flags: u32,
+    buffer: &mut Vec<u8>) -> CallResult {
+    // SAFETY: these and the names are slices, `info` is a borrow, and the buffer a mutable one; with OK the text is written (`read`)
+    unsafe { text(buffer, |to, capacity| fancy_to_pattern_nodes_nonnull(nodes.as_ptr(), nodes.len(), texts.as_ptr().cast(), texts.len(),
+        index, names.as_ptr(), names.len(), info, flags, to, capacity)) }
 }
 
 pub(crate) fn is_resolved(pattern: &str, flags: u32) -> CallResult {
@@ -116,19 +124,16 @@ pub(crate) fn is_resolved(pattern: &str, flags: u32) -> CallResult {
     unsafe { fancy_is_resolved_nonnull(pattern.as_ptr().cast(), pattern.len(), flags) }
 }
 
-#[rustfmt::skip]
-pub(crate) fn escape(text: &str, flags: u32, buffer: &mut [u8]) -> CallResult {
-    // SAFETY: the text and the buffer are slices, the second a mutable borrow
-    unsafe { fancy_escape_nonnull(text.as_ptr().cast(), text.len(), flags, buffer.as_mut_ptr().cast(), buffer.len()) }
+pub(crate) fn escape(words: &str, flags: u32, buffer: &mut Vec<u8>) -> CallResult {
+    // SAFETY: the words are a slice, and the buffer a mutable borrow; with OK the text is written (`read`)
+    unsafe { text(buffer, |to, capacity| fancy_escape_nonnull(words.as_ptr().cast(), words.len(), flags, to, capacity)) }
 }
 
-#[rustfmt::skip]
 pub(crate) fn class_ranges(text: &str, flags: u32, ranges: &mut [Range], count: &mut usize) -> CallResult {
     // SAFETY: the text and the buffer are slices, the second a mutable borrow of integers, and `count` is another
     unsafe { fancy_class_ranges_nonnull(text.as_ptr().cast(), text.len(), flags, ranges.as_mut_ptr(), ranges.len(), count) }
 }
 
-#[rustfmt::skip]
 pub(crate) fn node_ranges(node: &Node, texts: &[u8], flags: u32, ranges: &mut [Range], count: &mut usize) -> CallResult {
     // SAFETY: the same, and the node is a borrow, in which each bool is 0 or 1
     unsafe { fancy_node_ranges_nonnull(node, texts.as_ptr().cast(), texts.len(), flags, ranges.as_mut_ptr(), ranges.len(), count) }

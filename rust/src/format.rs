@@ -50,7 +50,7 @@ impl Style {
 /// ```
 pub fn format_pattern(pattern: &str, flags: Flags, style: Style) -> Result<String, Error> {
     let (style, width) = style.numbers();
-    let write = |buffer: &mut [u8]| ffi::format(pattern, flags.bits(), style, width, buffer);
+    let write = |buffer: &mut Vec<u8>| ffi::format(pattern, flags.bits(), style, width, buffer);
     match call::written(Extent::of_pattern(pattern), write, numbers::STATUS_OK)? {
         Text::Written(text) => Ok(text),
         Text::Not(result) => Err(error_of(result, pattern, flags)),

@@ -37,13 +37,16 @@
 #![deny(unsafe_code, unsafe_op_in_unsafe_fn)]
 
 mod call;
+mod checked;
 mod engine;
 mod error;
 mod expr;
 #[allow(unsafe_code)]
+#[rustfmt::skip]
 mod ffi;
 mod flags;
 mod format;
+mod guess;
 mod kinds;
 mod node;
 mod numbers;
@@ -179,7 +182,7 @@ fn error_of(result: CallResult, pattern: &str, flags: Flags) -> Error {
 /// # Ok::<(), fancy_syntax::Error>(())
 /// ```
 pub fn to_pattern(pattern: &str, flags: Flags) -> Result<String, Error> {
-    let write = |buffer: &mut [u8]| ffi::to_pattern(pattern, flags.bits(), buffer);
+    let write = |buffer: &mut Vec<u8>| ffi::to_pattern(pattern, flags.bits(), buffer);
     match call::written(Extent::of_pattern(pattern), write, numbers::STATUS_OK)? {
         Text::Written(text) => Ok(text),
         Text::Not(result) => Err(error_of(result, pattern, flags)),
@@ -218,7 +221,7 @@ pub enum Precedence {
 /// # Ok::<(), fancy_syntax::Error>(())
 /// ```
 pub fn print(pattern: &str, flags: Flags, precedence: Precedence) -> Result<Option<String>, Error> {
-    let write = |buffer: &mut [u8]| ffi::print(pattern, flags.bits(), precedence as u32, buffer);
+    let write = |buffer: &mut Vec<u8>| ffi::print(pattern, flags.bits(), precedence as u32, buffer);
     match call::written(Extent::of_pattern(pattern), write, numbers::STATUS_OK)? {
         Text::Written(text) => Ok(Some(text)),
         Text::Not(result) if result.status == numbers::STATUS_NOT_PRINTABLE => Ok(None),

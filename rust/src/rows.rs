@@ -1,8 +1,10 @@
 //! The buffers that the library writes a tree to.
 
-use crate::call::{grow, ready, RowsIn};
+use crate::call::{guessed, ready, reserve, RowsIn};
+use crate::checked::{self, Checker};
 use crate::ffi::{self, CallResult, Info, Name, Node};
-use crate::node::{self, Kind, NodeRef, Texts};
+use crate::guess::Guess;
+use crate::node::{self, Kind, NodeRef};
 use crate::owned::Builder;
 use crate::{numbers, Error, Expr, Flags, GroupInfo, Span, Tree};
 use std::cell::Cell;
@@ -28,20 +30,17 @@ pub(crate) const MAX_LEVELS: usize = 832;
 /// ```
 #[derive(Clone)]
 pub struct Rows {
-    /// At least one. The first `info.node_count` are the tree, and were checked; so it is with the other buffers.
+    /// Those of the tree, which were checked; there is capacity for one at least. The other buffers too hold what the tree has.
     nodes: Vec<Node>,
     texts: Vec<u8>,
     names: Vec<Name>,
     backrefs: Vec<usize>,
+    /// Its sizes are the lengths of the buffers.
     info: Info,
-    /// The buffers are long enough for patterns with fewer bytes than this, as long as the header says or nearly so.
-    enough_below: usize,
-    /// How many levels each node has below it, while rows are checked.
-    levels: Vec<usize>,
 }
 
-/// A thread keeps the buffers of an owned tree for the next one, unless they hold more nodes: 400 KB at most.
-const MOST_KEPT: usize = 2048;
+/// A thread keeps the buffers of an owned tree for the next one, unless they have more bytes.
+const MOST_KEPT: usize = 400_000;
 
 /// Calls with buffers that this thread used before, if there are any.
 pub(crate) fn with_kept<T>(call: impl FnOnce(&mut Rows) -> T) -> T {
@@ -50,7 +49,7 @@ pub(crate) fn with_kept<T>(call: impl FnOnce(&mut Rows) -> T) -> T {
     }
     let mut rows = KEPT.try_with(Cell::take).ok().flatten().unwrap_or_default();
     let result = call(&mut rows);
-    if rows.nodes.len() <= MOST_KEPT {
+    if rows.bytes() <= MOST_KEPT {
         // while the thread ends nothing is kept
         let _ = KEPT.try_with(|kept| kept.set(Some(rows)));
     }
@@ -77,8 +76,6 @@ impl Rows {
             names: Vec::new(),
             backrefs: Vec::new(),
             info: Info::default(),
-            enough_below: 0,
-            levels: Vec::new(),
         };
         rows.clear();
         rows
@@ -147,7 +144,7 @@ impl Rows {
     /// Why no tree is made of the rows: one has a number that the crate has no name for, or what the text says.
     #[cold]
     fn refused(&self, what: &'static str) -> Error {
-        match self.nodes[..self.info.node_count].iter().find_map(Kind::unknown) {
+        match self.nodes.iter().find_map(Kind::unknown) {
             Some((what, number)) => Error::unknown(what, number),
             None => Error::Library(what),
         }
@@ -155,16 +152,15 @@ impl Rows {
 
     /// The spans of the nodes, if each is a part of the pattern.
     pub(crate) fn checked_spans(&self, pattern: &str) -> Result<Vec<Span>, Error> {
-        let rows = &self.nodes[..self.info.node_count];
-        let mut spans = Vec::with_capacity(rows.len());
-        for row in rows {
-            spans.push(checked_span(row, pattern)?);
+        let mut spans = Vec::with_capacity(self.nodes.len());
+        for row in &self.nodes {
+            spans.push(checked::span(row, pattern).map_err(Error::Library)?);
         }
         Ok(spans)
     }
 
     pub(crate) fn builder_at(&self, index: usize) -> Builder<'_> {
-        Builder::at(&self.nodes[..self.info.node_count], self.texts(), index)
+        Builder::at(&self.nodes, &self.texts, index)
     }
 
     /// Writes a pattern that is parsed, under these flags, as this tree with its names; `None` if what is written is not, which
@@ -208,7 +204,7 @@ impl Rows {
     /// # Ok::<(), fancy_syntax::Error>(())
     /// ```
     pub fn names(&self) -> impl ExactSizeIterator<Item = (&str, usize)> {
-        self.names[..self.info.name_count].iter().map(|name| (self.name(name).unwrap_or_default(), name.group))
+        self.names.iter().map(|name| (self.name(name).unwrap_or_default(), name.group))
     }
 
     /// The name of the group with this number; `None` if it has none.
@@ -233,7 +229,7 @@ impl Rows {
     /// # Ok::<(), fancy_syntax::Error>(())
     /// ```
     pub fn backrefs(&self) -> &[usize] {
-        &self.backrefs[..self.info.backref_count]
+        &self.backrefs
     }
 
     /// How many groups have a number.
@@ -307,44 +303,61 @@ impl Rows {
 
     /// The rows from an index on, as the library takes them.
     pub(crate) fn rows_from(&self, index: usize) -> RowsIn<'_> {
-        RowsIn { nodes: &self.nodes[..self.info.node_count], texts: self.texts(), index }
+        RowsIn { nodes: &self.nodes, texts: &self.texts, index }
     }
 
     /// The rows of the names, and the group information, as the library takes them.
     pub(crate) fn names_and_info(&self) -> (&[Name], &Info) {
-        (&self.names[..self.info.name_count], &self.info)
+        (&self.names, &self.info)
     }
 
     pub(crate) fn texts(&self) -> &[u8] {
-        &self.texts[..self.info.texts_size]
+        &self.texts
     }
 
     fn name(&self, name: &Name) -> Option<&str> {
         std::str::from_utf8(node::bytes(self.texts(), name.text, name.text_size)?).ok()
     }
 
-    /// Makes these the rows of the empty pattern. The buffers stay.
+    /// Makes these the rows of the empty pattern. The buffers keep their capacities.
     fn clear(&mut self) {
-        self.nodes[0] = Node { kind: numbers::NODE_EMPTY, end: 1, ..Node::default() };
+        self.nodes.clear();
+        self.nodes.push(Node { kind: numbers::NODE_EMPTY, end: 1, ..Node::default() });
+        self.texts.clear();
+        self.names.clear();
+        self.backrefs.clear();
         self.info = Info { node_count: 1, ..Info::default() };
     }
 
-    /// Lets the library write, into buffers as long as the header says that they have to be, or as long as a pattern needs that
-    /// spells names and references as shortly as it can. If a buffer is too short all the same, the library says what it needs.
+    /// The bytes of all buffers.
+    fn bytes(&self) -> usize {
+        self.nodes.capacity() * size_of::<Node>()
+            + self.texts.capacity()
+            + self.names.capacity() * size_of::<Name>()
+            + self.backrefs.capacity() * size_of::<usize>()
+    }
+
+    /// Lets the library write a tree, into buffers that are long enough for nearly all patterns.
     fn fill(&mut self, pattern: &str, bits: u32) -> Result<(), Error> {
-        let length = pattern.len();
-        if length >= self.enough_below {
+        let enough = Guess::of_length(pattern.len());
+        if self.nodes.capacity() < enough.nodes || self.texts.capacity() < enough.texts {
             ready()?;
-            grow(&mut self.nodes, length.saturating_mul(2).saturating_add(1))?;
-            grow(&mut self.texts, length.saturating_mul(6).saturating_add(128))?;
-            grow(&mut self.names, length / 4 + 1)?;
-            grow(&mut self.backrefs, length / 2 + 1)?;
-            self.enough_below = length.saturating_add(1);
+            let guess = Guess::of(pattern);
+            guessed(&mut self.nodes, guess.nodes);
+            guessed(&mut self.texts, guess.texts);
+            guessed(&mut self.names, guess.groups);
+            guessed(&mut self.backrefs, guess.groups);
         }
+        self.write(pattern, bits)
+    }
+
+    /// Lets the library write a tree. If a buffer is too short, the library says what it needs.
+    fn write(&mut self, pattern: &str, bits: u32) -> Result<(), Error> {
+        let length = pattern.len();
         let mut result = self.call(pattern, bits);
         if result.status == numbers::STATUS_BUFFER_TOO_SHORT {
             self.check_sizes(length)?;
-            self.lengthen(result.size)?;
+            self.lengthen(result.size, length)?;
             result = self.call(pattern, bits);
         }
         match result.status {
@@ -374,76 +387,106 @@ impl Rows {
         Ok(())
     }
 
-    /// Makes each buffer as long as the library said that it has to be, for a tree or for a message of this size.
-    fn lengthen(&mut self, message: usize) -> Result<(), Error> {
+    /// Makes each buffer as long as the library said that it has to be, for the tree of a pattern of this length, or for a message.
+    fn lengthen(&mut self, message: usize, length: usize) -> Result<(), Error> {
         let info = self.info;
-        if message > info.texts_size.max(self.texts.len()).saturating_mul(64) {
+        if message > length.saturating_mul(6).saturating_add(128).saturating_mul(64) {
             return Err(Error::Library("a text that is longer than any"));
         }
-        grow(&mut self.nodes, info.node_count)?;
-        grow(&mut self.texts, info.texts_size.max(message))?;
-        grow(&mut self.names, info.name_count)?;
-        grow(&mut self.backrefs, info.backref_count)
+        reserve(&mut self.nodes, info.node_count)?;
+        reserve(&mut self.texts, info.texts_size.max(message))?;
+        reserve(&mut self.names, info.name_count)?;
+        reserve(&mut self.backrefs, info.backref_count)
     }
 
     /// Checks that the sizes of a tree are within the buffers, its root is the first row, and its names are texts.
     fn check_buffers(&self) -> Result<(), Error> {
         let info = &self.info;
-        if info.node_count > self.nodes.len()
-            || info.texts_size > self.texts.len()
-            || info.name_count > self.names.len()
-            || info.backref_count > self.backrefs.len()
+        if info.node_count != self.nodes.len()
+            || info.texts_size != self.texts.len()
+            || info.name_count != self.names.len()
+            || info.backref_count != self.backrefs.len()
         {
             return Err(Error::Library("a tree that is larger than its buffers"));
         }
-        if info.node_count == 0 || self.node(0).end != info.node_count {
+        if self.nodes.first().is_none_or(|root| root.end != info.node_count) {
             return Err(Error::Library("a node that is in no tree"));
         }
-        if self.names[..info.name_count].iter().any(|name| self.name(name).is_none()) {
+        if self.names.iter().any(|name| self.name(name).is_none()) {
             return Err(Error::Library("a name that is not UTF-8"));
         }
         Ok(())
     }
 
     /// Checks that what the library wrote is a tree, so that nobody who looks at it later has to.
-    fn check(&mut self, pattern: &str) -> Result<(), Error> {
+    fn check(&self, pattern: &str) -> Result<(), Error> {
         self.check_buffers()?;
-        let mut levels = std::mem::take(&mut self.levels);
-        grow(&mut levels, self.info.node_count)?;
-        let texts = Texts::of(self.texts());
-        let checked = (0..self.info.node_count).rev().try_for_each(|i| self.check_node(i, texts, pattern, &mut levels));
-        self.levels = levels;
-        checked
-    }
-
-    /// Checks a node, after those with higher indices: so the ends of its descendants lie after them.
-    fn check_node(&self, index: usize, texts: Texts<'_>, pattern: &str, below: &mut [usize]) -> Result<(), Error> {
-        let row = &self.nodes[index];
-        let kind = Kind::read(row, texts).ok_or_else(|| self.refused("a node with a text that is not UTF-8"))?;
-        let (mut children, mut levels, mut child) = (0, 0, index + 1);
-        while child < row.end.min(self.info.node_count) {
-            children += 1;
-            levels = levels.max(below[child]);
-            child = self.nodes[child].end;
-        }
-        if child != row.end || !kind.takes(children) || levels >= MAX_LEVELS {
-            return Err(Error::Library("nodes that are no tree"));
-        }
-        below[index] = levels + 1;
-        checked_span(row, pattern).map(drop)
-    }
-}
-
-/// The span of a node, if it is a part of the pattern.
-fn checked_span(row: &Node, pattern: &str) -> Result<Span, Error> {
-    match pattern.get(row.start..row.stop) {
-        Some(_) => Ok(row.start..row.stop),
-        None => Err(Error::Library("a span that is no part of the pattern")),
+        let checked = Checker::of(&self.nodes, &self.texts, pattern).trees(self.nodes.len(), MAX_LEVELS);
+        checked.map(drop).map_err(|what| self.refused(what))
     }
 }
 
 impl fmt::Debug for Rows {
     fn fmt(&self, f: &mut fmt::Formatter<'_>) -> fmt::Result {
         f.debug_list().entries(self.root().walk()).finish()
+    }
+}
+
+#[cfg(test)]
+mod tests {
+    use super::*;
+    use crate::{parse, Flags};
+
+    /// The rows of a pattern, in buffers that have these capacities at first.
+    fn parsed(pattern: &str, [nodes, texts, names, backrefs]: [usize; 4]) -> Result<Rows, Error> {
+        let mut rows = Rows {
+            nodes: Vec::with_capacity(nodes),
+            texts: Vec::with_capacity(texts),
+            names: Vec::with_capacity(names),
+            backrefs: Vec::with_capacity(backrefs),
+            info: Info::default(),
+        };
+        rows.write(pattern, Flags::UNICODE.bits())?;
+        rows.check(pattern)?;
+        Ok(rows)
+    }
+
+    /// What buffers have to hold: a tree, or the message of an error.
+    fn sizes(outcome: &Result<Rows, Error>) -> [usize; 4] {
+        match outcome {
+            Ok(rows) => [rows.nodes.len(), rows.texts.len(), rows.names.len(), rows.backrefs.len()],
+            Err(error) => [0, error.kind().map_or(0, |kind| kind.to_string().len()), 0, 0],
+        }
+    }
+
+    #[test]
+    fn a_buffer_that_is_too_short_is_made_longer() {
+        let long = r"\h[a-z]é|".repeat(9) + r"(?<n>\h)(?<m>b)\k<n>\2\k<m>";
+        for pattern in ["", "a", r"(?<n>a|b)(?<m>c)\k<n>\2d*", &long, r"a\q", "(?z)", "(((", r"\k<nnnnn>(?<nnnnn>a)"] {
+            let wanted = parse(pattern, Flags::UNICODE);
+            let large = parsed(pattern, [10_000; 4]);
+            let exact = sizes(&large);
+            assert_eq!(large.map(|rows| rows.to_tree()), wanted, "{pattern}");
+            for buffer in 0..4 {
+                for size in [0, exact[buffer].saturating_sub(1), exact[buffer], exact[buffer] + 1] {
+                    let mut capacities = exact;
+                    capacities[buffer] = size;
+                    let rows = parsed(pattern, capacities);
+                    assert_eq!(sizes(&rows), exact, "{pattern} {capacities:?}");
+                    assert_eq!(rows.map(|rows| rows.to_tree()), wanted, "{pattern} {capacities:?}");
+                }
+            }
+        }
+    }
+
+    #[test]
+    fn a_thread_keeps_no_large_buffers() {
+        for pattern in ["a".repeat(1_000_000), format!("[{}]", "a".repeat(1_000_000)), "(?<n>a)".repeat(20_000)] {
+            drop(parse(&pattern, Flags::UNICODE));
+            assert_eq!(with_kept(|rows| rows.bytes()), size_of::<Node>());
+            assert!(parse("(?<n>a)", Flags::UNICODE).is_ok());
+            let kept = with_kept(|rows| rows.bytes());
+            assert!(size_of::<Node>() < kept && kept <= MOST_KEPT);
+        }
     }
 }

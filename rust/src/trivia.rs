@@ -1,6 +1,6 @@
 //! What no node of a tree has.
 
-use crate::call::{grow, ready};
+use crate::call::{guessed, ready, reserve};
 use crate::ffi::{self, Trivium as Row};
 use crate::{error_of, numbers, Error, Flags, Span};
 
@@ -61,16 +61,30 @@ pub enum TriviumKind {
 /// ```
 pub fn trivia(pattern: &str, flags: Flags) -> Result<Vec<Trivium>, Error> {
     ready()?;
-    // each trivium has a byte of its own
-    let mut rows = Vec::new();
-    grow(&mut rows, pattern.len().saturating_add(1))?;
-    let mut count = 0;
-    let result = ffi::trivia(pattern, flags.bits(), &mut rows, &mut count);
+    let (mut rows, mut count) = (Vec::new(), 0);
+    guessed(&mut rows, most_usual(pattern));
+    let mut result = ffi::trivia(pattern, flags.bits(), &mut rows, &mut count);
+    if result.status == numbers::STATUS_BUFFER_TOO_SHORT {
+        // each trivium has a byte of its own
+        if count > pattern.len() {
+            return Err(Error::Library("more trivia than bytes"));
+        }
+        reserve(&mut rows, count)?;
+        result = ffi::trivia(pattern, flags.bits(), &mut rows, &mut count);
+    }
     if result.status != numbers::STATUS_OK {
         return Err(error_of(result, pattern, flags));
     }
-    let rows = rows.get(..count).ok_or(Error::Library("more trivia than their buffer holds"))?;
+    if rows.len() != count {
+        return Err(Error::Library("more trivia than their buffer holds"));
+    }
     rows.iter().map(|row| checked_trivium(row, pattern)).collect()
+}
+
+/// How many trivia a pattern has at most, but for what leaves nothing in the tree: each of the others begins with another one of
+/// these characters.
+fn most_usual(pattern: &str) -> usize {
+    pattern.bytes().filter(|byte| matches!(byte, b'(' | b')' | b'#')).count() + 1
 }
 
 /// The trivium of a row, if it is a part of the pattern, of some kind.

@@ -180,7 +180,7 @@ fn extent_of_rows(rows: RowsIn<'_>) -> Extent {
 
 /// Prints the tree of rows.
 pub(crate) fn print_rows(rows: RowsIn<'_>, precedence: Precedence) -> Result<Option<String>, Error> {
-    let write = |buffer: &mut [u8]| ffi::print_nodes(rows, precedence as u32, buffer);
+    let write = |buffer: &mut Vec<u8>| ffi::print_nodes(rows, precedence as u32, buffer);
     text_of(call::written(extent_of_rows(rows), write, numbers::STATUS_OK)?)
 }
 
@@ -191,7 +191,7 @@ pub(crate) fn pattern_of_rows(
     info: &Info,
     flags: Flags,
 ) -> Result<Option<String>, Error> {
-    let write = |buffer: &mut [u8]| ffi::to_pattern_nodes(rows, names, info, flags.bits(), buffer);
+    let write = |buffer: &mut Vec<u8>| ffi::to_pattern_nodes(rows, names, info, flags.bits(), buffer);
     text_of(call::written(extent_of_rows(rows), write, numbers::STATUS_OK)?)
 }
 

@@ -261,6 +261,7 @@ fn random_strings() {
             Ok(tree) => {
                 check_tree(&pattern, flags, tree);
                 assert_eq!(rows.parse(&pattern, flags).unwrap().to_tree(), *tree);
+                assert_eq!(Rows::new().parse(&pattern, flags).unwrap().to_tree(), *tree);
                 check_rows(&rows, flags, tree);
                 check_changed(&mut random, flags, tree);
                 let bare = parse_without_spans(&pattern, flags).unwrap();
