@@ -43,7 +43,7 @@ unsafe fn set_written<T>(buffer: &mut Vec<T>, count: usize) {
 /// Lets a call write a text to a vector. With OK it has to write `size` bytes.
 unsafe fn text(buffer: &mut Vec<u8>, call: impl FnOnce(*mut c_char, usize) -> CallResult) -> CallResult {
     let result = call(buffer.as_mut_ptr().cast(), buffer.capacity());
-    // SAFETY: the call wrote the text, or there is none
+    // SAFETY: with OK the call wrote `size` bytes
     unsafe { set_written(buffer, if result.status == numbers::STATUS_OK { result.size } else { 0 }) }
     result
 }

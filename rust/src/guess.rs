@@ -34,9 +34,10 @@ impl Guess {
         Guess { nodes: length + length / 3 + 2, texts: length + MESSAGE, groups: FEW_GROUPS }
     }
 
-    /// That of a pattern by its characters, each of which is a node at most, as are an escape and a class. A comment is none. With
-    /// a bar, with a closing parenthesis and with the pattern a branch ends, which may be a node itself: a concatenation, or one
-    /// for nothing. Where there are bars, an alternation is around the branches of a group or of the pattern.
+    /// That of a pattern by its characters, each of which is a node at most, as are an escape and a class. A comment makes no
+    /// node. With a bar, with a closing parenthesis and with the pattern a branch ends, which may be a node itself: a
+    /// concatenation, or one for nothing. Where there are bars, an alternation is around the branches of a group or of the
+    /// pattern.
     fn counted(pattern: &str) -> Guess {
         let bytes = pattern.as_bytes();
         // from the bytes are taken those that are no node of their own
