@@ -81,7 +81,7 @@ def letters(table: Table) -> list:
     to = re.findall(r"Flag::(\w+) => '(.)',", code)
     back = [(name, letter) for letter, name in re.findall(r"'(.)' => Some\(Flag::(\w+)\)", code)]
     rows = re.findall(r'^letter (\w+) = code "(.)"', read("fancy_lex/specs/Flag.antt"), re.M)
-    words = re.search(r'FLAG_WORD: &str = "letters of (\w+),', read("fre_program/src/flag_word.rt"))
+    words = re.search(r'FLAG_WORD: &str = "letters of (\w+),', read("fancy_lex/src/flag_word.rt"))
     problems = [it for pairs in (to, back, rows) for it in compared("letters", own, dict(pairs))]
     return problems + compared("letters", {"FLAG_WORD": table.letters}, {"FLAG_WORD": words and words[1]})
 

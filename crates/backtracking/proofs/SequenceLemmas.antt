@@ -1,31 +1,25 @@
 -- Repeats of a concatenation, by the expressions that hold them, and lists of slow pairs.
-use Rattle.std.proofs.Common.{◌≡◌, ℕ, ◌-◌, ◌<◌, Bool, List, [], ◌∷◌, map, Box, Vec, Global, refl}
+use Rattle.std.proofs.Common.{◌≡◌, ℕ, ◌-◌, ◌<◌, Bool, List, [], ◌∷◌, map, Vec, Global, refl}
 use Rattle.std.proofs.Common.{zero, suc, arith, sym, ap, ◌∙◌, subst, ◌+◌, length, get_or, take, drop}
 use Rattle.std.proofs.lemmas.List.{drop-map, take-map}
 use Rattle.std.proofs.lemmas.Option.{slice_get-map, slice_get_read}
 use Rattle.std.specs.List.{AllByRecursion, slice_range}
 use Rattle.std.specs.Prelude.{IsSomeAnd, slice_get, option_map}
-use Rattle.fancy_grammar.specs.Tree.{Tree, concat, trees_of}
+use Rattle.fancy_grammar.specs.Tree.{Tree, concat, group, repeat, trees_of}
 use Rattle.fancy_syntax.specs.Spanned.{Spanned, first_span}
 use Rattle.fancy_syntax.proofs.ChildrenLemmas.{view_Concat}
 use Rattle.fancy_syntax.specs.View.{view, views}
-use Rattle.fancy_syntax.specs.declared.expr.Expr.{Expr, Repeat, Group, Concat}
+use Rattle.fancy_syntax.specs.declared.expr.Expr.{Expr, Concat}
 use Rattle.fancy_syntax.specs.declared.span.Span.{Span}
-use Rattle.backtracking.proofs.RepeatLemmas.{repeats}
-use Rattle.backtracking.proofs.WayLemmas.{view_Group}
 use Rattle.backtracking.specs.SlowRepeats.{IsNodeOf, spanned_children}
 use Rattle.backtracking.specs.SlowSequences.{IsRepeatOf, itself, inside, IsSlowAcross, IsSlowSequenceIn}
 use Rattle.backtracking.specs.declared.sequences.SlowSequence.{SlowSequence}
 
-pub is_repeat : (e x : Expr) (b : Box Expr Global) (lo hi : ℕ) (greedy : Bool) → e ≡ Repeat b lo hi greedy → x ≡ b.value → 20 < hi - lo →
-    IsRepeatOf (view x) (view e)
-is_repeat e x b lo hi greedy h is less =
-    subst (IsRepeatOf (view x)) (sym (repeats e x b lo hi greedy h is)) (itself less)
+pub is_repeat : (t x : Tree) (lo hi : ℕ) (greedy : Bool) → t ≡ repeat x lo hi greedy → 20 < hi - lo → IsRepeatOf x t
+is_repeat t x lo hi greedy is less = subst (IsRepeatOf x) (sym is) (itself less)
 
-pub group_of_repeat : (e x : Expr) (part : Tree) (b : Box Expr Global) → e ≡ Group b → x ≡ b.value → IsRepeatOf part (view x) →
-    IsRepeatOf part (view e)
-group_of_repeat e x part b h is k = subst (IsRepeatOf part) (sym (ap view h ∙ view_Group b))
-    (inside (subst (λ y. IsRepeatOf part (view y)) is k))
+pub group_of_repeat : (t x part : Tree) → t ≡ group x → IsRepeatOf part x → IsRepeatOf part t
+group_of_repeat t x part is k = subst (IsRepeatOf part) (sym is) (inside k)
 
 pub concat_of : (e : Expr) (es : List Expr) (v : Vec Expr Global) → e ≡ Concat v → es ≡ v.items → view e ≡ concat (trees_of (views es))
 concat_of e es v h is = ap view h ∙ view_Concat v ∙ ap (λ ys. concat (trees_of (views ys))) (sym is)

@@ -1,14 +1,14 @@
 -- Steps of the checker, one node at a time.
-use Rattle.std.proofs.Common.{◌≡◌, ◌≢◌, ℕ, ◌+◌, ◌<◌, ◌≤◌, Bool, List, ◌∷◌, length, drop, get_or, Result, Option, Vec, Box, Global}
+use Rattle.std.proofs.Common.{◌≡◌, ◌≢◌, ℕ, ◌+◌, ◌<◌, ◌≤◌, Bool, List, ◌∷◌, length, drop, get_or, Result, Option}
 use Rattle.std.proofs.Common.{IfOk, IfSome, Some, rules, refl, sym, ap, subst, ◌∙◌, drop-cons, add-one}
 use Rattle.std.specs.Prelude.{slice_get, option_map}
 use Rattle.std.proofs.lemmas.Option.{IfSome_then, slice_get-map, slice_get_read}
 use Rattle.std.proofs.lemmas.Result.{IfOk-weaker}
-use Rattle.fancy_grammar.specs.Tree.{Tree, list_of, trees_of, empty, group, alt, repeat}
-use Rattle.fancy_syntax.proofs.ChildrenLemmas.{list_of_trees_of, view_Concat}
+use Rattle.fancy_grammar.specs.Tree.{Tree, Trees, list_of, trees_of, empty, group, concat, alt, repeat}
+use Rattle.fancy_syntax.proofs.ChildrenLemmas.{list_of_trees_of}
 use Rattle.fancy_syntax.proofs.PrintLemmas.{left, left_step, left_end}
 use Rattle.fancy_syntax.specs.View.{view, views}
-use Rattle.fancy_syntax.specs.declared.expr.Expr.{Expr, Empty, Group, Concat, the_lemmas}
+use Rattle.fancy_syntax.specs.declared.expr.Expr.{Expr, Empty, the_lemmas}
 use Rattle.backtracking.specs.OneCharacter.{MayMatch}
 use Rattle.backtracking.specs.TwoWays.{Rest, at, Goes, nothing, one, within, each, branch, turns, GoesAll, no_more, next}
 use Rattle.backtracking.specs.TwoWays.{Turns, turn, Part, here, later}
@@ -30,21 +30,14 @@ at_some P o x h k = subst (λ p. IfSome p P) h k
 view_Empty : view Empty ≡ empty
 view_Empty = search (rules, the_lemmas)
 
-pub view_Group : (b : Box Expr Global) → view (Group b) ≡ group (view b.value)
-view_Group b = search (rules, the_lemmas)
-
 pub went_empty : (unicode : Bool) (e : Expr) (s : Rest) → e ≡ Empty → Goes unicode (view e) s s
 went_empty unicode e s h = subst (λ t. Goes unicode t s s) (sym (ap view h ∙ view_Empty)) nothing
 
-pub went_group : (unicode : Bool) (e x : Expr) (b : Box Expr Global) (s u : Rest) → e ≡ Group b → x ≡ b.value → Goes unicode (view x) s u →
-    Goes unicode (view e) s u
-went_group unicode e x b s u h is k =
-    subst (λ t. Goes unicode t s u) (sym (ap view h ∙ view_Group b)) (within (subst (λ y. Goes unicode (view y) s u) is k))
+pub went_group : (unicode : Bool) (t x : Tree) (s u : Rest) → t ≡ group x → Goes unicode x s u → Goes unicode t s u
+went_group unicode t x s u is k = subst (λ y. Goes unicode y s u) (sym is) (within k)
 
-pub went_concat : (unicode : Bool) (e : Expr) (es : List Expr) (v : Vec Expr Global) (s u : Rest) → e ≡ Concat v → es ≡ v.items →
-    GoesAll unicode (trees_of (views es)) s u → Goes unicode (view e) s u
-went_concat unicode e es v s u h is k = subst (λ t. Goes unicode t s u) (sym (ap view h ∙ view_Concat v))
-    (each (subst (λ ys. GoesAll unicode (trees_of (views ys)) s u) is k))
+pub went_concat : (unicode : Bool) (t : Tree) (ts : Trees) (s u : Rest) → t ≡ concat ts → GoesAll unicode ts s u → Goes unicode t s u
+went_concat unicode t ts s u is k = subst (λ y. Goes unicode y s u) (sym is) (each k)
 
 pub went_one : (unicode : Bool) (t : Tree) (c : ℕ) (ds : List Decision) (w v : List ℕ) → w ≡ c ∷ v → MayMatch unicode t c → Goes unicode t (at ds w) (at ds v)
 went_one unicode t c ds w v h m = subst (λ x. Goes unicode t (at ds x) (at ds v)) (sym h) (one m)

@@ -1,9 +1,10 @@
 //! The steps that an engine takes through turns of a part of a pattern.
+use crate::characters::is_one_character;
 use crate::cut::Cut;
 use crate::decision::Decision;
 use crate::known_sets::KnownSets;
 use class_meaning::CharacterSet;
-use fancy_syntax::expr::Expr;
+use fancy_syntax::expr::{Expr, Shape, Wrap};
 use std::alloc::{AllocError, Global};
 use thiserror::Error;
 
@@ -174,22 +175,27 @@ impl Automaton {
         tree: &'a Expr,
         next: usize,
     ) -> Result<usize, NotBuilt> {
-        if let Expr::Empty = tree {
-            return Ok(next);
+        match tree.shape() {
+            Shape::Leaf if matches!(tree, Expr::Empty) => Ok(next),
+            Shape::Leaf if is_one_character(tree) => self.add_position(sets, tree, next),
+            Shape::Around(Wrap::Group, child) => self.add_tree(sets, child, next),
+            Shape::Around(Wrap::Repeat { lo, hi, .. }, child) => {
+                self.add_repeat(sets, child, lo, hi, next)
+            }
+            Shape::Concat(trees) => self.add_all(sets, trees, next),
+            Shape::Alt(branches) => self.add_branches(sets, branches, next),
+            Shape::Leaf
+            | Shape::Around(
+                Wrap::LookAround(_)
+                | Wrap::AtomicGroup
+                | Wrap::DefineGroup
+                | Wrap::Repeater
+                | Wrap::Stopper,
+                _,
+            )
+            | Shape::Conditional { .. }
+            | Shape::Expression { .. } => Err(NotBuilt::Irregular),
         }
-        if let Expr::Group(child) = tree {
-            return self.add_tree(sets, child, next);
-        }
-        if let Expr::Concat(trees) = tree {
-            return self.add_all(sets, trees, next);
-        }
-        if let Expr::Alt(branches) = tree {
-            return self.add_branches(sets, branches, next);
-        }
-        if let Expr::Repeat { child, lo, hi, .. } = tree {
-            return self.add_repeat(sets, child, *lo, *hi, next);
-        }
-        self.add_position(sets, tree, next)
     }
 
     /// Adds the steps of the trees, one after another.
@@ -286,7 +292,7 @@ impl Automaton {
         Ok(())
     }
 
-    /// Adds the node if it matches one character. What does not is irregular.
+    /// Adds a node that matches one character. It is irregular if its characters are not known.
     fn add_position<'a>(
         &mut self,
         sets: &mut KnownSets<'a, '_>,

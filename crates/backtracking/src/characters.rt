@@ -7,6 +7,14 @@ use class_meaning::{ClassMeaning, characters_of};
 use fancy_syntax::expr::Expr;
 use std::alloc::{AllocError, Global};
 
+/// Whether the node is of a kind that matches one character: a dot, a literal or a class.
+pub(crate) fn is_one_character(node: &Expr) -> bool {
+    matches!(
+        node,
+        Expr::Any { .. } | Expr::Literal { .. } | Expr::Delegate { .. }
+    )
+}
+
 /// Whether the node matches one character, and may match this one.
 pub(crate) fn may_match(
     alloc: Global,

@@ -5,9 +5,9 @@ ghost use Rattle.fancy_syntax.specs.View.{view, views};
 ghost use Rattle.backtracking.specs.TwoWays.{Goes, GoesAll, Turns, Part, IsWay, AreTwoWays};
 ghost use Rattle.backtracking.specs.Remains.{rest_of};
 
-use crate::characters::may_match;
+use crate::characters::{is_one_character, may_match};
 use crate::decision::Decision;
-use fancy_syntax::expr::Expr;
+use fancy_syntax::expr::{Expr, Shape, Wrap};
 use std::alloc::{AllocError, Global};
 
 /// The decisions that are still to be taken, and the characters that are still to be matched.
@@ -24,7 +24,7 @@ pub(crate) struct Turned<'a> {
     pub(crate) rest: Remaining<'a>,
 }
 
-/// What remains after the node has matched one character. None if it does not match it, or is no node of one character.
+/// What remains after the node has matched one character. None if it does not match the next one.
 fn go_over_character<'a>(
     alloc: Global,
     tree: &Expr,
@@ -56,22 +56,27 @@ fn go_over<'a>(
 ) -> Result<Option<Remaining<'a>>, AllocError>
     ensures { IfOk result (λ o. IfSome o (λ u. Goes unicode (view tree.now) (rest_of from.entry) (rest_of u))) }
 {
-    if let Expr::Empty = tree {
-        return Ok(Some(from));
+    match tree.shape() {
+        Shape::Leaf if matches!(tree, Expr::Empty) => Ok(Some(from)),
+        Shape::Leaf if is_one_character(tree) => go_over_character(alloc, tree, unicode, from),
+        Shape::Around(Wrap::Group, child) => go_over(alloc, child, unicode, from),
+        Shape::Around(Wrap::Repeat { lo, hi, .. }, child) => {
+            go_over_repeat(alloc, child, unicode, lo, hi, from)
+        }
+        Shape::Concat(trees) => go_over_all(alloc, trees, unicode, from),
+        Shape::Alt(branches) => go_over_branch(alloc, branches, unicode, from),
+        Shape::Leaf
+        | Shape::Around(
+            Wrap::LookAround(_)
+            | Wrap::AtomicGroup
+            | Wrap::DefineGroup
+            | Wrap::Repeater
+            | Wrap::Stopper,
+            _,
+        )
+        | Shape::Conditional { .. }
+        | Shape::Expression { .. } => Ok(None),
     }
-    if let Expr::Group(child) = tree {
-        return go_over(alloc, child, unicode, from);
-    }
-    if let Expr::Concat(trees) = tree {
-        return go_over_all(alloc, trees, unicode, from);
-    }
-    if let Expr::Alt(branches) = tree {
-        return go_over_branch(alloc, branches, unicode, from);
-    }
-    if let Expr::Repeat { child, lo, hi, .. } = tree {
-        return go_over_repeat(alloc, child, unicode, *lo, *hi, from);
-    }
-    go_over_character(alloc, tree, unicode, from)
 }
 
 /// What remains after the trees have gone one after another.

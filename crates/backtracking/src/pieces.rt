@@ -1,10 +1,11 @@
 //! Which trees of a concatenation a text can go across.
+use crate::characters::is_one_character;
 use crate::common::have_common;
 use crate::known_sets::KnownSets;
+use crate::part_kind::{PartKind, kind_of};
 use crate::sequences::repeated_part;
-use crate::shape::{PartKind, kind_of};
 use class_meaning::CharacterSet;
-use fancy_syntax::expr::Expr;
+use fancy_syntax::expr::{Expr, Shape, Wrap};
 use std::alloc::{AllocError, Global};
 
 /// A tree of a concatenation.
@@ -51,13 +52,22 @@ impl<'s, 'a, 'k> Alphabet<'s, 'a, 'k> {
     /// Adds the characters of the tree.
     #[cycle(add)]
     fn add(&mut self, tree: &'a Expr) -> Result<(), AllocError> {
-        if let Expr::Group(child) | Expr::Repeat { child, .. } = tree {
-            return self.add(child);
+        match tree.shape() {
+            Shape::Leaf if is_one_character(tree) => self.add_node(tree),
+            Shape::Around(Wrap::Group | Wrap::Repeat { .. }, child) => self.add(child),
+            Shape::Concat(trees) | Shape::Alt(trees) => self.add_all(trees),
+            Shape::Leaf
+            | Shape::Around(
+                Wrap::LookAround(_)
+                | Wrap::AtomicGroup
+                | Wrap::DefineGroup
+                | Wrap::Repeater
+                | Wrap::Stopper,
+                _,
+            )
+            | Shape::Conditional { .. }
+            | Shape::Expression { .. } => Ok(()),
         }
-        if let Expr::Concat(trees) | Expr::Alt(trees) = tree {
-            return self.add_all(trees);
-        }
-        self.add_node(tree)
     }
 
     /// Adds the characters of the trees.
@@ -69,7 +79,7 @@ impl<'s, 'a, 'k> Alphabet<'s, 'a, 'k> {
         Ok(())
     }
 
-    /// Adds the characters of the node, if it matches one.
+    /// Adds the characters of the node, if they are known.
     fn add_node(&mut self, tree: &'a Expr) -> Result<(), AllocError> {
         if let Some(set) = self.sets.of(tree)? {
             self.set = Some(match &self.set {
@@ -84,19 +94,23 @@ impl<'s, 'a, 'k> Alphabet<'s, 'a, 'k> {
 /// Whether the tree may match the empty text. Only trees with ways of their own are looked at.
 #[cycle(can_be_empty)]
 fn can_be_empty(tree: &Expr) -> bool {
-    if let Expr::Group(child) = tree {
-        return can_be_empty(child);
+    match tree.shape() {
+        Shape::Leaf => matches!(tree, Expr::Empty),
+        Shape::Around(Wrap::Group, child) => can_be_empty(child),
+        Shape::Around(Wrap::Repeat { lo, .. }, child) => lo == 0 || can_be_empty(child),
+        Shape::Concat(trees) => can_all_be_empty(trees),
+        Shape::Alt(branches) => can_any_be_empty(branches),
+        Shape::Around(
+            Wrap::LookAround(_)
+            | Wrap::AtomicGroup
+            | Wrap::DefineGroup
+            | Wrap::Repeater
+            | Wrap::Stopper,
+            _,
+        )
+        | Shape::Conditional { .. }
+        | Shape::Expression { .. } => false,
     }
-    if let Expr::Repeat { child, lo, .. } = tree {
-        return *lo == 0 || can_be_empty(child);
-    }
-    if let Expr::Concat(trees) = tree {
-        return can_all_be_empty(trees);
-    }
-    if let Expr::Alt(branches) = tree {
-        return can_any_be_empty(branches);
-    }
-    matches!(tree, Expr::Empty)
 }
 
 /// Whether each tree may match the empty text.

@@ -6,7 +6,7 @@ ghost use Rattle.backtracking.specs.SlowRepeats.{IsNodeOf, IsSlowIn, IsLooked};
 
 use crate::attack::{Attack, Surroundings, Target, enclosing_of, find_attack};
 use crate::known_sets::ClassSets;
-use crate::shape::{PartKind, kind_of};
+use crate::part_kind::{PartKind, kind_of};
 use crate::witness::{RepeatWays, Witness, ways_of_turns};
 use fancy_syntax::expr::{Expr, LookAround};
 use fancy_syntax::span::Span;

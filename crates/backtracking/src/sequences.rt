@@ -14,7 +14,7 @@ use crate::known_sets::ClassSets;
 use crate::pieces::{Piece, Reach, pieces_of};
 use crate::repeats::{SMALL_LIMIT, SearchOptions, is_left_alone};
 use crate::sequence::ways_of_cut;
-use fancy_syntax::expr::Expr;
+use fancy_syntax::expr::{Expr, Shape, Wrap};
 use fancy_syntax::span::Span;
 use fancy_syntax::spanned::{SpannedNode, SpannedTree};
 use std::alloc::{AllocError, Global};
@@ -60,15 +60,29 @@ struct Row<'a, 's> {
 pub(crate) fn repeated_part(tree: &Expr) -> Option<&Expr>
     ensures { IfSome result (λ part. IsRepeatOf (view part.now) (view tree.now)) }
 {
-    if let Expr::Group(child) = tree {
-        return repeated_part(child);
+    match tree.shape() {
+        Shape::Around(Wrap::Group, child) => repeated_part(child),
+        Shape::Around(Wrap::Repeat { lo, hi, .. }, child) => {
+            if hi.saturating_sub(lo) > SMALL_LIMIT {
+                Some(child)
+            } else {
+                None
+            }
+        }
+        Shape::Around(
+            Wrap::LookAround(_)
+            | Wrap::AtomicGroup
+            | Wrap::DefineGroup
+            | Wrap::Repeater
+            | Wrap::Stopper,
+            _,
+        )
+        | Shape::Concat(_)
+        | Shape::Alt(_)
+        | Shape::Conditional { .. }
+        | Shape::Expression { .. }
+        | Shape::Leaf => None,
     }
-    if let Expr::Repeat { child, lo, hi, .. } = tree
-        && hi.saturating_sub(*lo) > SMALL_LIMIT
-    {
-        return Some(child);
-    }
-    None
 }
 
 /// The cut at the trees with these indices, if both are repeats.

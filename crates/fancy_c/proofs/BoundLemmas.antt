@@ -50,10 +50,10 @@ few_backrefs f bytes t m tree =
     let in_range : ℕ → Bool = λ n. nat_le n m.total_groups in
     omega (
       arith,
-      ap length tree.returned.backrefs,
+      ap length tree.parsed.returned.backrefs,
       fold_length [] (filter in_range (groups_referred t)),
       filter_length in_range (groups_referred t),
       referred_length (preorder t),
       nodes_preorder t,
-      tree.small.0,
+      tree.parsed.bounds.0,
     )

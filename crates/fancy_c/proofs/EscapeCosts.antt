@@ -1,5 +1,5 @@
 -- What an escape or a class is read as has at most six bytes of text for each byte that is read.
-use Rattle.std.proofs.Common.{◌≡◌, ℕ, ◌+◌, ◌-◌, ◌*◌, ◌<◌, ◌≤◌, ◌==◌, Bool, true, false, ◌&&◌}
+use Rattle.std.proofs.Common.{◌≡◌, ℕ, ◌+◌, ◌-◌, ◌*◌, ◌<◌, ◌≤◌, ◌==◌, Bool, true, false, ◌&&◌, if◌then◌else◌}
 use Rattle.std.proofs.Common.{[], ◌∷◌, ◌++◌, Option, Some, None, IfSome, option_map, nat_le, refl, ap, arith, rules}
 use Rattle.std.proofs.lemmas.Bool.{cond_both}
 use Rattle.std.proofs.lemmas.Bool.Decides.{nat_tests}
@@ -34,10 +34,10 @@ use Rattle.fancy_lex.specs.LayoutSteps.{layout}
 use Rattle.fancy_lex.specs.Number.{at_digit}
 use Rattle.fancy_lex.specs.NumberText.{number_text}
 use Rattle.fancy_lex.specs.Property.{Property, PropertyName, single, braced, name_at, read_property, Form, set, pair}
-use Rattle.fancy_lex.specs.Property.{look_up, form_by, form, form_text, without_caret, lowercase, braced_text, property_text}
+use Rattle.fancy_lex.specs.Property.{look_up, form, form_text, without_caret, lowercase, braced_text, property_text}
 use Rattle.fancy_lex.specs.Property.{is_negated_set}
 use Rattle.fancy_lex.specs.Reading.{Reading, gives, fails, choose, ◌>=>◌, layout_reading}
-use Rattle.fancy_lex.specs.Referred.{Reference, Call, call_to, number_or_name, target_of_name, name_reading}
+use Rattle.fancy_lex.specs.Referred.{Reference, Call, call_to, target_of_name, name_reading}
 use Rattle.fancy_lex.specs.Target.{Target, by_number, by_name, relative}
 use Rattle.fancy_lex.specs.Text.{Text, bytes, strip, reach_of, cut_at}
 use Rattle.fancy_lex.specs.declared.flags.Flags.{Flags}
@@ -110,7 +110,7 @@ form_short unicode word name =
     (λ _. known_pair (bytes name) _ _ refl refl) (λ _. other)))))))
   where
     either : (b : Bool) (with without : Form) → IsShort (23 + bytes name) with → IsShort (23 + bytes name) without →
-        IsShort (23 + bytes name) (form_by b with without)
+        IsShort (23 + bytes name) (if b then with else without)
     either true with without h k = h
     either false with without h k = k
 
@@ -198,7 +198,7 @@ pub target_within : (w : Text) → NamesWithin (bytes w) (target_of_name w)
 unfolding target_of_name
 target_within w = by_number_text (number_text w)
   where
-    by_number_text : (o : Option ℕ) → NamesWithin (bytes w) (number_or_name w o)
+    by_number_text : (o : Option ℕ) → NamesWithin (bytes w) (choose o by_number (by_name w))
     by_number_text (Some n) = tt
     by_number_text None = omega arith
 

@@ -1,10 +1,8 @@
 -- Formatted patterns.
-use Rattle.std.proofs.Common.{◌≡◌, ℕ, List, chars, sym, subst}
+use Rattle.std.proofs.Common.{◌≡◌, ℕ, List, sym, subst}
 use Rattle.std.specs.Str.{IsUtf8}
 use Rattle.fancy_lex.specs.declared.flags.Flags.{Flags}
-use Rattle.fancy_grammar.proofs.BoundLaws.{bounded}
-use Rattle.fancy_grammar.proofs.ParsedTreeLaws.{parsed_tree_with}
-use Rattle.fancy_grammar.proofs.Verdict.{only_tree, no_error}
+use Rattle.fancy_grammar.proofs.PromiseLaws.{parsed}
 use Rattle.fancy_c.proofs.ReadLemmas.{tree_returned}
 use Rattle.pattern_format.specs.Formatted.{IsFormatted}
 use Rattle.pattern_format.specs.declared.style.Style.{Style}
@@ -15,13 +13,7 @@ pub formatted_of_bytes : (s : Style) (f : Flags) (text bytes w : List ℕ) → t
     IsFormatted s f text w → IsFormattedOfBytes s f bytes w
 formatted_of_bytes style f text bytes w is utf8 written (t, m, l, tree, trivia, back) =
     record {
-      tree = (
-        t,
-        m,
-        tree_returned f text bytes t m is utf8 tree (λ s k found. only_tree f (chars text) t s m k tree found)
-            (λ k p found. no_error f (chars text) t m k p tree found) (bounded (subst IsUtf8 (sym is) utf8) tree)
-            (parsed_tree_with tree),
-      );
+      tree = (t, m, tree_returned is utf8 (parsed (subst IsUtf8 (sym is) utf8) tree));
       utf8 = written;
       formatted = subst (λ b. IsFormatted style f b w) is (t, m, l, tree, trivia, back);
     }

@@ -24,8 +24,6 @@ mod TriviumLemmas
 mod FormatLemmas
 -- ---- a text as a pattern
 mod EscapeLemmas
--- ---- references that are resolved
-mod ResolvedLemmas
 -- ---- what a text begins with
 mod TextStartLemmas
 -- ---- the characters of a class or of another node

@@ -1,14 +1,12 @@
 -- A tree and its group information in the buffers.
-use Rattle.std.proofs.Common.{◌≡◌, ◌<◌, ◌⊎◌, inl, inr, ℕ, zero, suc, ◌+◌, ◌≤◌, List, [], ◌∷◌, ◌++◌, length, drop, map, chars, ap, ◌∙◌}
+use Rattle.std.proofs.Common.{◌≡◌, ◌<◌, ◌⊎◌, inl, inr, ℕ, zero, suc, ◌+◌, ◌≤◌, List, [], ◌∷◌, ◌++◌, length, drop, map, ap, ◌∙◌}
 use Rattle.std.proofs.Common.{subst, length-append, zero-add, arith}
 use Rattle.std.specs.List.{AllByRecursion}
 use Rattle.fancy_lex.specs.declared.flags.Flags.{Flags}
 use Rattle.fancy_grammar.specs.GroupInfo.{GroupInfo}
 use Rattle.fancy_c.specs.CallResult.{IsTreeOfBytes}
 use Rattle.fancy_grammar.specs.Label as label
-use Rattle.fancy_grammar.specs.Preorder.{preorder}
-use Rattle.fancy_grammar.specs.Spans as spec
-use Rattle.fancy_grammar.specs.Spans.{AreSpansOf, Nests}
+use Rattle.fancy_grammar.specs.Promises.{AreParsedSpans}
 use Rattle.fancy_grammar.specs.Tree.{Tree, leaf, over, row, Trees, no_trees, more_trees, nodes, nodes_all}
 use Rattle.fancy_c.specs.Buffer.{Fills, put_at}
 use Rattle.fancy_grammar.proofs.ParsedSpans.{nests_within}
@@ -48,16 +46,16 @@ pub is_summary_of : (f : Flags) (bytes : List ℕ) (t : Tree) (m : GroupInfo) (i
 is_summary_of f bytes t m info tree is = record {
   tree = tree;
   is = is;
-  few = omega (arith, tree.small.0, listed_nodes t, ap (λ k. k.node_count) is);
+  few = omega (arith, tree.parsed.bounds.0, listed_nodes t, ap (λ k. k.node_count) is);
   few_backrefs = omega (arith, few_backrefs f bytes t m tree, ap (λ k. k.backref_count) is);
   short_texts =
       omega (
         arith,
-        parsed_cost f bytes t m tree.utf8 tree.tree,
+        parsed_cost f bytes t m tree.utf8 tree.parsed.found,
         length-append (texts (listed t)) (name_texts m.named_groups),
         ap (λ k. k.texts_size) is,
       );
-  few_names = omega (arith, parsed_cost f bytes t m tree.utf8 tree.tree, ap (λ k. k.name_count) is);
+  few_names = omega (arith, parsed_cost f bytes t m tree.utf8 tree.parsed.found, ap (λ k. k.name_count) is);
 }
 
 -- no buffer with such a capacity is too short
@@ -89,13 +87,9 @@ span_within n [] e i = (omega arith, omega arith)
 span_within n (p ∷ l) e zero = (e.0.1, e.0.2)
 span_within n (p ∷ l) e (suc i) = span_within n l e.1 i
 
-pub spans_of_bytes : (f : Flags) (text bytes : List ℕ) (t : Tree) (l : List Span) → text ≡ bytes →
-    AreSpansOf f (chars text) (map span_of l) →
-    ((k : List spec.Span) → AreSpansOf f (chars text) k → k ≡ map span_of l) → length l ≡ length (preorder t) →
-    Nests 0 (length text) t (map span_of l) → AreSpansOfBytes f bytes t l
-spans_of_bytes f text bytes t l is spans only each nests = subst (λ b. AreSpansOfBytes f b t l) is (record {
-  spans_are = spans;
-  only = only;
-  each = each;
-  within = span_within (length text) l (nests_within nests).1;
+pub spans_of_bytes : {f : Flags} {text bytes : List ℕ} {t : Tree} {l : List Span} → text ≡ bytes →
+    AreParsedSpans f text t (map span_of l) → AreSpansOfBytes f bytes t l
+spans_of_bytes {f} {text} {bytes} {t} {l} is spans = subst (λ b. AreSpansOfBytes f b t l) is (record {
+  parsed = spans;
+  within = span_within (length text) l (nests_within spans.nested).1;
 })

@@ -42,4 +42,4 @@ pattern_returned f t m (Err e) text reads none = tt
 pub of_pattern : (f : Flags) (bytes : List ℕ) (t : Tree) (m : GroupInfo) → IsTreeOfBytes f bytes t m →
     length bytes < 2 ^ 63 → IsOfPattern f t m
 of_pattern f bytes t m tree few =
-    (chars bytes, tree.tree, subst (λ n. n < 2 ^ 63) (sym (bytes_chars bytes tree.utf8)) few)
+    (chars bytes, tree.parsed.found, subst (λ n. n < 2 ^ 63) (sym (bytes_chars bytes tree.utf8)) few)

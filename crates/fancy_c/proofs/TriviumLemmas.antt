@@ -1,14 +1,14 @@
 -- Rows of what no node has, written one after another.
-use Rattle.std.proofs.Common.{◌≡◌, ℕ, ◌+◌, ◌<◌, ◌≤◌, List, length, map, chars, set, get_or, ap, sym, subst, ◌∙◌, zero-add}
+use Rattle.std.proofs.Common.{◌≡◌, ℕ, ◌+◌, ◌<◌, ◌≤◌, List, length, map, set, get_or, ap, sym, subst, ◌∙◌, zero-add}
 use Rattle.std.proofs.Common.{arith}
 use Rattle.std.proofs.Math.Seq.{paste}
 use Rattle.std.proofs.lemmas.List.{length-map, get_or-map}
 use Rattle.std.proofs.lemmas.List.Edits.{paste_more}
 use Rattle.fancy_lex.specs.declared.flags.Flags.{Flags}
 use Rattle.fancy_grammar.specs.GroupInfo.{GroupInfo}
+use Rattle.fancy_grammar.specs.Promises.{AreParsedTrivia}
 use Rattle.fancy_grammar.specs.Tree.{Tree}
 use Rattle.fancy_grammar.specs.Trivia as grammar
-use Rattle.fancy_grammar.specs.Trivia.{IsTriviaOf}
 use Rattle.fancy_syntax.specs.TriviaViews.{trivium_of}
 use Rattle.fancy_syntax.specs.declared.trivium.Trivium.{Trivium}
 use Rattle.fancy_c.specs.CallResult.{IsTreeOfBytes}
@@ -33,7 +33,7 @@ trivium_put rows rows' l i z x is put capacity here =
     ∙ ap (λ k. set (paste rows 0 s i) k (get_or s i (row (trivium_of z)))) (sym (zero-add i))
     ∙ paste_more rows 0 s i (row (trivium_of z)) (omega (arith, here, capacity)) (omega (arith, size, here))
 
-pub trivia_of_bytes : (f : Flags) (text bytes : List ℕ) (t : Tree) (m : GroupInfo) (l : List grammar.Trivium) → text ≡ bytes →
-    IsTreeOfBytes f bytes t m → IsTriviaOf f (chars text) l → AreTriviaOfBytes f bytes l
-trivia_of_bytes f text bytes t m l is tree trivia =
-    record { tree = (t, m, tree); trivia = subst (λ b. IsTriviaOf f (chars b) l) is trivia }
+pub trivia_of_bytes : {f : Flags} {text bytes : List ℕ} {t : Tree} {m : GroupInfo} {l : List grammar.Trivium} → text ≡ bytes →
+    IsTreeOfBytes f bytes t m → AreParsedTrivia f text l → AreTriviaOfBytes f bytes l
+trivia_of_bytes {f} {text} {bytes} {t} {m} {l} is tree trivia =
+    record { tree = (t, m, tree); parsed = subst (λ b. AreParsedTrivia f b l) is trivia }

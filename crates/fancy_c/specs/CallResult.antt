@@ -13,7 +13,7 @@ use Rattle.fancy_lex.specs.Located.{invalid_group_name_backref}
 use Rattle.fancy_lex.specs.declared.error.Error.TheVariants.{ParseError, OutOfMemory}
 use Rattle.fancy_lex.specs.declared.flags.Flags.{Flags}
 use Rattle.fancy_grammar.specs.ParseResult.{IsTreeOf, IsErrorOf}
-use Rattle.fancy_grammar.specs.ParsedTree.{IsParsedTreeWith, IsSmall}
+use Rattle.fancy_grammar.specs.Promises.{IsParsed}
 use Rattle.fancy_grammar.specs.GroupInfo.{GroupInfo}
 use Rattle.fancy_grammar.specs.Tree.{Tree}
 use Rattle.fancy_c.specs.declared.call_result.TheConstants.{STATUS_NOT_UTF8, STATUS_REFUSED, STATUS_OUT_OF_MEMORY}
@@ -52,15 +52,10 @@ number_of_kind target_not_repeatable = ERROR_TARGET_NOT_REPEATABLE
 number_of_kind invalid_group_name = ERROR_INVALID_GROUP_NAME
 number_of_kind (invalid_group_name_backref s) = ERROR_INVALID_GROUP_NAME_BACKREF
 
--- The bytes are the UTF-8 of a pattern that has this tree with this group information, no other tree and no error. A
--- pattern of n bytes has at most 2 n + 1 nodes and 832 levels. The group information is that of its nodes.
+-- the bytes are the UTF-8 of a pattern that has this tree with this group information, no other tree and no error
 pub record IsTreeOfBytes (f : Flags) (bytes : List ℕ) (t : Tree) (m : GroupInfo) : Type 0 where
   pub utf8 : IsUtf8 bytes
-  pub tree : IsTreeOf f (chars bytes) t m
-  pub only : (s : Tree) (l : GroupInfo) → IsTreeOf f (chars bytes) s l → (s ≡ t) × (l ≡ m)
-  pub no_error : (k : Kind) (p : ℕ) → IsErrorOf f (chars bytes) k p → ⊥
-  pub small : IsSmall t (length bytes)
-  pub returned : IsParsedTreeWith t m
+  pub parsed : IsParsed f bytes t m
 
 -- The bytes are the UTF-8 of a pattern that has this error, no other error and no tree. Its position is one past the
 -- end, or one at which the pattern may be split.

@@ -1,5 +1,5 @@
 -- The characters of a class, or of another node that matches one character, as ranges.
-use Rattle.std.specs.Prelude.{◌≡◌, ℕ, Bool, true, ◌==◌, ◌||◌, List, chars, IsUtf8, IsCharBoundary, IsSome, IsSomeAnd, IfSome}
+use Rattle.std.specs.Prelude.{◌≡◌, ℕ, Bool, true, ◌==◌, ◌||◌, List, IsSome, IsSomeAnd, IfSome}
 use Rattle.fancy_lex.specs.declared.flags.Flags.{Flags}
 use Rattle.fancy_grammar.specs.Tree.{Tree}
 use Rattle.regex_class.specs.Ranges.{Range, in_ranges, IsCanonical}

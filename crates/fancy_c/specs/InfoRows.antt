@@ -1,5 +1,5 @@
 -- The group information of a tree, as a caller in C gets it.
-use Rattle.std.specs.Prelude.{◌≡◌, ℕ, ◌+◌, ◌*◌, ◌≤◌, true, false, List, [], ◌∷◌, ◌++◌, chars, get_or, length, map}
+use Rattle.std.specs.Prelude.{◌≡◌, ℕ, ◌+◌, ◌*◌, ◌≤◌, true, false, List, [], ◌∷◌, ◌++◌, get_or, length, map}
 use Rattle.std.specs.Prelude.{encode_utf8_all}
 use Rattle.std.specs.Option.{unwrap_or, is_some}
 use Rattle.fancy_lex.specs.Bits.{has_bit}
@@ -8,9 +8,7 @@ use Rattle.fancy_lex.specs.Text.{Text}
 use Rattle.fancy_lex.specs.declared.flags.Flags.{Flags}
 use Rattle.fancy_syntax.specs.Capacity.{in_word}
 use Rattle.fancy_grammar.specs.GroupInfo.{GroupInfo}
-use Rattle.fancy_grammar.specs.Preorder.{preorder}
-use Rattle.fancy_grammar.specs.Spans as spec
-use Rattle.fancy_grammar.specs.Spans.{AreSpansOf}
+use Rattle.fancy_grammar.specs.Promises.{AreParsedSpans}
 use Rattle.fancy_grammar.specs.Tree.{Tree}
 use Rattle.fancy_syntax.specs.SpanViews.{span_of}
 use Rattle.fancy_syntax.specs.declared.span.Span.{Span}
@@ -71,12 +69,9 @@ pub record AreWritten (t : Tree) (m : GroupInfo) (spans : SpanAt) (nodes nodes' 
   pub names_are : Fills names names' (name_rows (length (texts (listed t))) m.named_groups)
   pub backrefs_are : Fills backrefs backrefs' m.backrefs
 
--- the spans are those of a derivation of the bytes, and no others; there is one for each node of the tree, and each is
--- within the bytes
+-- the spans are those of the tree of the bytes, and each is within the bytes
 pub record AreSpansOfBytes (f : Flags) (bytes : List ℕ) (t : Tree) (spans : List Span) : Type 0 where
-  pub spans_are : AreSpansOf f (chars bytes) (map span_of spans)
-  pub only : (l : List spec.Span) → AreSpansOf f (chars bytes) l → l ≡ map span_of spans
-  pub each : length spans ≡ length (preorder t)
+  pub parsed : AreParsedSpans f bytes t (map span_of spans)
   pub within : (i : ℕ) → ((span_at spans i).start ≤ (span_at spans i).end) × ((span_at spans i).end ≤ length bytes)
 
 -- the spans are those of the bytes under the flags with these bits; or there are none, if a bit says so

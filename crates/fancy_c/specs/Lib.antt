@@ -1,6 +1,7 @@
 pub mod CallResult
 pub mod CallFlags
 pub mod Buffer
+pub mod Calls
 pub mod WrittenText
 pub mod FormattedText
 pub mod Node
@@ -11,4 +12,3 @@ pub mod TriviumRows
 pub mod EscapedText
 pub mod TextStart
 pub mod ClassRanges
-pub mod References

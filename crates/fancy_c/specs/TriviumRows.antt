@@ -1,9 +1,10 @@
 -- What no node of a tree has, as an array: a row for each part.
-use Rattle.std.specs.Prelude.{ℕ, List, chars}
+use Rattle.std.specs.Prelude.{ℕ, List}
 use Rattle.fancy_lex.specs.declared.flags.Flags.{Flags}
 use Rattle.fancy_grammar.specs.GroupInfo.{GroupInfo}
 use Rattle.fancy_grammar.specs.Tree.{Tree}
-use Rattle.fancy_grammar.specs.Trivia.{Trivium, TriviumKind, IsTriviaOf, comment, line_comment, flags, opening, closing}
+use Rattle.fancy_grammar.specs.Promises.{AreParsedTrivia}
+use Rattle.fancy_grammar.specs.Trivia.{Trivium, TriviumKind, comment, line_comment, flags, opening, closing}
 use Rattle.fancy_grammar.specs.Trivia.{dropped}
 use Rattle.fancy_syntax.specs.declared.span.Span.{Span}
 use Rattle.fancy_c.specs.CallResult.{IsTreeOfBytes}
@@ -54,4 +55,4 @@ bare_row s k = record { start = s.start; stop = s.end; kind = k; flags_before = 
 -- the bytes are the UTF-8 of a pattern with a tree, and this is what no node of it has, in the order of the pattern
 pub record AreTriviaOfBytes (f : Flags) (bytes : List ℕ) (l : List Trivium) : Type 0 where
   pub tree : (t : Tree) × (m : GroupInfo) × IsTreeOfBytes f bytes t m
-  pub trivia : IsTriviaOf f (chars bytes) l
+  pub parsed : AreParsedTrivia f bytes l

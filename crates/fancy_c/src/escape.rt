@@ -1,46 +1,30 @@
 //! A text as a pattern that matches it.
-ghost use Rattle.std.specs.Prelude.{◌≡◌, ◌≢◌, ◌<◌, ◌≤◌, ◌⊎◌, ◌++◌, ℕ, List, IfOk, chars, codes, length, map, string_bytes};
-ghost use Rattle.fancy_lex.specs.Characters.{is_among, metacharacters};
+ghost use Rattle.std.specs.Prelude.{◌≡◌, ◌≤◌, ◌⊎◌, IfOk, chars, map, string_bytes};
 ghost use Rattle.fancy_lex.specs.Flags.{flags_of};
-ghost use Rattle.fancy_grammar.specs.PatternLetters as letters;
 ghost use Rattle.fancy_grammar.specs.ReadBack.{info_of_groups};
 ghost use Rattle.fancy_syntax.specs.InfoViews.{info_of};
 ghost use Rattle.fancy_syntax.specs.View.{view, views};
-ghost use Rattle.fancy_c.specs.Buffer.{Fills};
 ghost use Rattle.fancy_c.specs.CallFlags.{AreFlags};
 ghost use Rattle.fancy_c.specs.CallResult.{IsNoUtf8};
+ghost use Rattle.fancy_c.specs.Calls.{Refuses, TakesOnly, WritesText};
 ghost use Rattle.fancy_c.specs.EscapedText as spec;
 ghost use Rattle.fancy_c.specs.EscapedText.{literal_of, IsEscapeOf, IsEscapeOfBytes};
 
 use crate::buffer::write;
 use crate::call_flags::are_flags;
 use crate::call_result::{
-    CallResult, ERROR_NONE, STATUS_BUFFER_TOO_SHORT, STATUS_NOT_UTF8, STATUS_OK,
-    STATUS_OUT_OF_MEMORY, STATUS_REFUSED, STATUS_UNKNOWN_FLAG,
+    CallResult, STATUS_BUFFER_TOO_SHORT, STATUS_OUT_OF_MEMORY, STATUS_UNKNOWN_FLAG,
 };
 use crate::utf8::utf8_of;
-use fancy_lex::escape::{is_metacharacter, letter_of};
+use fancy_lex::escape::letter_of;
 use fancy_lex::flags::Flags;
 use fancy_lex::text::{next, push};
+use fancy_pattern::letters::{is_printable_layout, needs_backslash};
 use fancy_pattern::to_pattern;
 use fancy_syntax::expr::Expr;
 use fancy_syntax::tree::ExprTree;
 use std::alloc::{AllocError, Global};
 use std::collections::{BTreeMap, BTreeSet};
-
-/// Whether the character needs a backslash under all flags.
-fn needs_backslash(c: char) -> bool
-    ensures { result ≡ is_among c (metacharacters ++ codes "]}") }
-{
-    is_metacharacter(c) || matches!(c, ']' | '}')
-}
-
-/// Whether the character is layout under these flags, and printable: a space, or the start of a comment.
-fn is_printable_layout(c: char, flags: Flags) -> bool
-    ensures { result ≡ letters.is_printable_layout flags c }
-{
-    flags.ignore_space && (c == ' ' || c == '#')
-}
 
 /// Whether the character is written after a backslash.
 fn is_escaped(c: char, flags: Flags) -> bool
@@ -136,19 +120,10 @@ pub extern "C" fn fancy_escape_nonnull(
     flags: u32,
     buffer: &mut [u8],
 ) -> CallResult
-    ensures read { result.status ≡ STATUS_OK → (w : List ℕ) × IsEscapeOfBytes (flags_of flags) text.now w
-        × (result.size ≡ length w) × Fills buffer.old buffer.new w }
-    ensures short { result.status ≡ STATUS_BUFFER_TOO_SHORT → (w : List ℕ) × IsEscapeOfBytes (flags_of flags) text.now w
-        × (result.size ≡ length w) × (length buffer.old < length w) }
-    ensures no_utf8 { result.status ≡ STATUS_NOT_UTF8 → IsNoUtf8 text.now result.position }
-    ensures kept { result.status ≢ STATUS_OK → buffer.new ≡ buffer.old }
-    ensures no_pattern { result.status ≢ STATUS_REFUSED }
-    ensures known_flags { AreFlags flags → result.status ≢ STATUS_UNKNOWN_FLAG }
-    ensures unknown_flag { (AreFlags flags → ⊥) → result.status ≡ STATUS_UNKNOWN_FLAG }
+    ensures text { WritesText (IsEscapeOfBytes (flags_of flags) text.now) buffer.old buffer.new result }
+    ensures refusal { Refuses (λ _ _. ⊥) (IsNoUtf8 text.now) result }
+    ensures flags { TakesOnly (AreFlags flags) STATUS_UNKNOWN_FLAG result }
     ensures status { (result.status ≤ STATUS_BUFFER_TOO_SHORT) ⊎ (result.status ≡ STATUS_UNKNOWN_FLAG) }
-    ensures no_kind { result.kind ≡ ERROR_NONE }
-    ensures no_position { result.status ≢ STATUS_NOT_UTF8 → result.position ≡ 0 }
-    ensures no_size { result.status ≢ STATUS_OK → result.status ≢ STATUS_BUFFER_TOO_SHORT → result.size ≡ 0 }
 {
     if !are_flags(flags) {
         return CallResult::of_status(STATUS_UNKNOWN_FLAG);

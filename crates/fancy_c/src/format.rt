@@ -1,18 +1,16 @@
 //! A pattern formatted, with its spelling and its comments kept.
-ghost use Rattle.std.specs.Prelude.{◌≡◌, ◌≢◌, ◌<◌, ◌≤◌, ◌⊎◌, ℕ, List, IfOk, IfErr, MatchOption, length, string_bytes};
-ghost use Rattle.fancy_lex.specs.Located.{Kind};
+ghost use Rattle.std.specs.Prelude.{◌≡◌, ◌≢◌, ◌≤◌, ◌⊎◌, IfOk, IfErr, MatchOption, string_bytes};
 ghost use Rattle.fancy_lex.specs.Flags.{flags_of};
-ghost use Rattle.fancy_c.specs.Buffer.{Fills};
 ghost use Rattle.fancy_c.specs.CallFlags.{AreFlags};
-ghost use Rattle.fancy_c.specs.CallResult.{number_of_kind, IsErrorOfBytes, IsNoUtf8, IsRefusalOf};
+ghost use Rattle.fancy_c.specs.CallResult.{IsNoUtf8, IsRefusalOf};
+ghost use Rattle.fancy_c.specs.Calls.{IsErrorAt, Refuses, TakesOnly, WritesText};
 ghost use Rattle.pattern_format.specs.declared.style.Style.{Style};
 ghost use Rattle.fancy_c.specs.FormattedText.{NamesStyle, IsStyleOf, IsFormattedOfBytes};
 
 use crate::buffer::write;
 use crate::call_flags::are_flags;
 use crate::call_result::{
-    CallResult, ERROR_NONE, STATUS_BUFFER_TOO_SHORT, STATUS_NOT_UTF8, STATUS_OK, STATUS_REFUSED,
-    STATUS_UNKNOWN_FLAG, STATUS_UNKNOWN_STYLE,
+    CallResult, STATUS_BUFFER_TOO_SHORT, STATUS_UNKNOWN_FLAG, STATUS_UNKNOWN_STYLE,
 };
 use crate::read::{BytesRefusal, text_of};
 use pattern_format::format::{Formatted, format_pattern};
@@ -73,24 +71,14 @@ pub extern "C" fn fancy_format_nonnull(
     width: usize,
     buffer: &mut [u8],
 ) -> CallResult
-    ensures read { result.status ≡ STATUS_OK → (s : Style) × (w : List ℕ) × IsStyleOf style width s
-        × IsFormattedOfBytes s (flags_of flags) pattern.now w × (result.size ≡ length w) × Fills buffer.old buffer.new w }
-    ensures short { result.status ≡ STATUS_BUFFER_TOO_SHORT → (s : Style) × (w : List ℕ)
-        × IsStyleOf style width s × IsFormattedOfBytes s (flags_of flags) pattern.now w
-        × (result.size ≡ length w) × (length buffer.old < length w) }
-    ensures known { NamesStyle style → result.status ≢ STATUS_UNKNOWN_STYLE }
-    ensures unknown { (NamesStyle style → ⊥) → result.status ≡ STATUS_UNKNOWN_STYLE }
+    ensures text { WritesText (λ w. (s : Style) × IsStyleOf style width s
+        × IsFormattedOfBytes s (flags_of flags) pattern.now w) buffer.old buffer.new result }
+    ensures style { TakesOnly (NamesStyle style) STATUS_UNKNOWN_STYLE result }
     ensures known_flags { AreFlags flags → result.status ≢ STATUS_UNKNOWN_FLAG }
     ensures unknown_flag { NamesStyle style → (AreFlags flags → ⊥) → result.status ≡ STATUS_UNKNOWN_FLAG }
-    ensures refused { result.status ≡ STATUS_REFUSED → (k : Kind) × (result.kind ≡ number_of_kind k)
-        × IsErrorOfBytes (flags_of flags) pattern.now k result.position }
-    ensures no_utf8 { result.status ≡ STATUS_NOT_UTF8 → IsNoUtf8 pattern.now result.position }
-    ensures kept { result.status ≢ STATUS_OK → buffer.new ≡ buffer.old }
+    ensures refusal { Refuses (IsErrorAt (flags_of flags) pattern.now) (IsNoUtf8 pattern.now) result }
     ensures status { (result.status ≤ STATUS_BUFFER_TOO_SHORT) ⊎ ((result.status ≡ STATUS_UNKNOWN_STYLE)
         ⊎ (result.status ≡ STATUS_UNKNOWN_FLAG)) }
-    ensures no_kind { result.status ≢ STATUS_REFUSED → result.kind ≡ ERROR_NONE }
-    ensures no_position { result.status ≢ STATUS_REFUSED → result.status ≢ STATUS_NOT_UTF8 → result.position ≡ 0 }
-    ensures no_size { result.status ≢ STATUS_OK → result.status ≢ STATUS_BUFFER_TOO_SHORT → result.size ≡ 0 }
 {
     let Some(style) = style_of(style, width) else {
         return CallResult::of_status(STATUS_UNKNOWN_STYLE);

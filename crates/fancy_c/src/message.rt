@@ -1,13 +1,14 @@
 //! The message of an error.
-ghost use Rattle.std.specs.Prelude.{◌≡◌, ◌≢◌, ◌<◌, ◌≤◌, ◌⊎◌, ℕ, List, [], IfOk, length, string_bytes};
-ghost use Rattle.fancy_lex.specs.Located.{Kind, kind_text};
+ghost use Rattle.std.specs.Prelude.{◌≡◌, ◌≢◌, ◌<◌, ◌≤◌, ◌⊎◌, [], IfOk, length, string_bytes};
+ghost use Rattle.fancy_lex.specs.Located.{kind_text};
 ghost use Rattle.fancy_lex.specs.ErrorViews.{kind_of};
 ghost use Rattle.fancy_lex.specs.Flags.{flags_of};
 ghost use Rattle.fancy_grammar.specs.GroupInfo.{GroupInfo};
 ghost use Rattle.fancy_grammar.specs.Tree.{Tree};
 ghost use Rattle.fancy_c.specs.CallFlags.{AreFlags};
-ghost use Rattle.fancy_c.specs.CallResult.{number_of_kind, IsReported, IsTreeOfBytes, IsErrorOfBytes, IsNoUtf8};
+ghost use Rattle.fancy_c.specs.CallResult.{number_of_kind, IsReported, IsTreeOfBytes};
 ghost use Rattle.fancy_c.specs.Buffer.{Fills};
+ghost use Rattle.fancy_c.specs.Calls.{Refuses, TakesOnly, WritesMessage, WritesText};
 ghost use Rattle.fancy_c.specs.WrittenText.{carried, NamesKind, IsErrorText};
 
 use crate::buffer::{fill, write};
@@ -84,20 +85,11 @@ pub extern "C" fn fancy_message_nonnull(
 ) -> CallResult
     ensures read { result.status ≡ STATUS_OK → (t : Tree) × (m : GroupInfo)
         × IsTreeOfBytes (flags_of flags) pattern.now t m }
-    ensures refused { result.status ≡ STATUS_REFUSED → (k : Kind) × IsReported result result.position k
-        × IsErrorOfBytes (flags_of flags) pattern.now k result.position × Fills buffer.old buffer.new (kind_text k) }
-    ensures short { result.status ≡ STATUS_BUFFER_TOO_SHORT → (k : Kind) × IsReported result result.position k
-        × IsErrorOfBytes (flags_of flags) pattern.now k result.position × (length buffer.old < result.size) }
-    ensures no_utf8 { result.status ≡ STATUS_NOT_UTF8 → IsNoUtf8 pattern.now result.position }
+    ensures message { WritesMessage (flags_of flags) pattern.now buffer.old buffer.new result }
+    ensures short { result.status ≡ STATUS_BUFFER_TOO_SHORT → result.kind ≢ ERROR_NONE }
     ensures kept { result.status ≢ STATUS_REFUSED → buffer.new ≡ buffer.old }
-    ensures known_flags { AreFlags flags → result.status ≢ STATUS_UNKNOWN_FLAG }
-    ensures unknown_flag { (AreFlags flags → ⊥) → result.status ≡ STATUS_UNKNOWN_FLAG }
+    ensures flags { TakesOnly (AreFlags flags) STATUS_UNKNOWN_FLAG result }
     ensures status { (result.status ≤ STATUS_BUFFER_TOO_SHORT) ⊎ (result.status ≡ STATUS_UNKNOWN_FLAG) }
-    ensures no_kind { result.status ≢ STATUS_REFUSED → result.status ≢ STATUS_BUFFER_TOO_SHORT →
-        result.kind ≡ ERROR_NONE }
-    ensures no_position { result.status ≢ STATUS_REFUSED → result.status ≢ STATUS_BUFFER_TOO_SHORT →
-        result.status ≢ STATUS_NOT_UTF8 → result.position ≡ 0 }
-    ensures no_size { result.status ≢ STATUS_REFUSED → result.status ≢ STATUS_BUFFER_TOO_SHORT → result.size ≡ 0 }
 {
     if !are_flags(flags) {
         return CallResult::of_status(STATUS_UNKNOWN_FLAG);
@@ -164,16 +156,9 @@ pub extern "C" fn fancy_error_text_nonnull(
     kind: u32,
     buffer: &mut [u8],
 ) -> CallResult
-    ensures read { result.status ≡ STATUS_OK → (w : List ℕ) × IsErrorText kind w × (result.size ≡ length w)
-        × Fills buffer.old buffer.new w }
-    ensures short { result.status ≡ STATUS_BUFFER_TOO_SHORT → (w : List ℕ) × IsErrorText kind w
-        × (result.size ≡ length w) × (length buffer.old < length w) }
-    ensures kept { result.status ≢ STATUS_OK → buffer.new ≡ buffer.old }
+    ensures text { WritesText (IsErrorText kind) buffer.old buffer.new result }
     ensures status { result.status ≤ STATUS_BUFFER_TOO_SHORT }
-    ensures no_pattern { (result.status ≢ STATUS_REFUSED) × (result.status ≢ STATUS_NOT_UTF8) }
-    ensures no_kind { result.kind ≡ ERROR_NONE }
-    ensures no_position { result.position ≡ 0 }
-    ensures no_size { result.status ≡ STATUS_OUT_OF_MEMORY → result.size ≡ 0 }
+    ensures refusal { Refuses (λ _ _. ⊥) (λ _. ⊥) result }
 {
     if kind == ERROR_NONE || kind > ERROR_INVALID_GROUP_NAME_BACKREF {
         return write(buffer, &[]);

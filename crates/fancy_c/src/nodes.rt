@@ -1,6 +1,5 @@
 //! A pattern's tree as an array, with its group information.
 ghost use Rattle.std.specs.Prelude.{◌≡◌, ◌≢◌, ◌<◌, ◌≤◌, ◌⊎◌, List, length, true, false};
-ghost use Rattle.fancy_lex.specs.Located.{Kind};
 ghost use Rattle.fancy_lex.specs.Flags.{flags_of};
 ghost use Rattle.fancy_grammar.specs.GroupInfo.{GroupInfo};
 ghost use Rattle.fancy_grammar.specs.Tree.{Tree};
@@ -8,14 +7,14 @@ ghost use Rattle.fancy_syntax.specs.InfoViews.{info_of};
 ghost use Rattle.fancy_syntax.specs.View.{view};
 ghost use Rattle.fancy_syntax.specs.declared.span.Span.{Span};
 ghost use Rattle.fancy_c.specs.CallFlags.{AreTreeFlags};
-ghost use Rattle.fancy_c.specs.CallResult.{number_of_kind, IsErrorOfBytes, IsNoUtf8};
+ghost use Rattle.fancy_c.specs.CallResult.{IsNoUtf8};
+ghost use Rattle.fancy_c.specs.Calls.{IsErrorAt, KeepsTree, Refuses, TakesOnly};
 ghost use Rattle.fancy_c.specs.InfoRows.{summary, all_texts, name_rows, AreEnough, AreWritten, AreSpansAsked, IsSummaryOf};
 ghost use Rattle.fancy_c.specs.Node.{listed, span_at};
 
 use crate::call_flags::are_tree_flags;
 use crate::call_result::{
-    CallResult, ERROR_NONE, STATUS_BUFFER_TOO_SHORT, STATUS_NOT_UTF8, STATUS_OK, STATUS_REFUSED,
-    STATUS_UNKNOWN_FLAG,
+    CallResult, ERROR_NONE, STATUS_BUFFER_TOO_SHORT, STATUS_OK, STATUS_UNKNOWN_FLAG,
 };
 use crate::group_numbers::number_groups;
 use crate::info_rows::{Name, TreeInfo, count_names, put_backrefs, put_names};
@@ -181,19 +180,12 @@ pub extern "C" fn fancy_parse_nonnull(
     ensures enough { AreEnough (length pattern.now) (length nodes.old) (length texts.old) (length names.old)
         (length backrefs.old) →
         result.status ≢ STATUS_BUFFER_TOO_SHORT }
-    ensures refused { result.status ≡ STATUS_REFUSED → (k : Kind) × (result.kind ≡ number_of_kind k)
-        × IsErrorOfBytes (flags_of flags) pattern.now k result.position }
-    ensures no_utf8 { result.status ≡ STATUS_NOT_UTF8 → IsNoUtf8 pattern.now result.position }
-    ensures nodes_kept { result.status ≢ STATUS_OK → nodes.new ≡ nodes.old }
+    ensures refusal { Refuses (IsErrorAt (flags_of flags) pattern.now) (IsNoUtf8 pattern.now) result }
+    ensures tree_kept { KeepsTree nodes.old nodes.new names.old names.new backrefs.old backrefs.new
+        info.old info.new result }
     ensures texts_kept { result.status ≢ STATUS_OK → texts.new ≡ texts.old }
-    ensures names_kept { result.status ≢ STATUS_OK → names.new ≡ names.old }
-    ensures backrefs_kept { result.status ≢ STATUS_OK → backrefs.new ≡ backrefs.old }
-    ensures info_kept { result.status ≢ STATUS_OK → result.status ≢ STATUS_BUFFER_TOO_SHORT → info.new ≡ info.old }
-    ensures known_flags { AreTreeFlags flags → result.status ≢ STATUS_UNKNOWN_FLAG }
-    ensures unknown_flag { (AreTreeFlags flags → ⊥) → result.status ≡ STATUS_UNKNOWN_FLAG }
+    ensures flags { TakesOnly (AreTreeFlags flags) STATUS_UNKNOWN_FLAG result }
     ensures status { (result.status ≤ STATUS_BUFFER_TOO_SHORT) ⊎ (result.status ≡ STATUS_UNKNOWN_FLAG) }
-    ensures no_kind { result.status ≢ STATUS_REFUSED → result.kind ≡ ERROR_NONE }
-    ensures no_position { result.status ≢ STATUS_REFUSED → result.status ≢ STATUS_NOT_UTF8 → result.position ≡ 0 }
     ensures no_size { result.size ≡ 0 }
 {
     if !are_tree_flags(flags) {

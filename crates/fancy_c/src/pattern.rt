@@ -1,13 +1,13 @@
 //! The text of any pattern's tree, for the flags that the pattern was parsed under.
 ghost use Rattle.std.specs.Prelude.{◌≡◌, ◌≢◌, ◌<◌, ◌≤◌, ◌⊎◌, ℕ, List, IfOk, MatchOption, length, string_bytes};
-ghost use Rattle.fancy_lex.specs.Located.{Kind};
 ghost use Rattle.fancy_lex.specs.Flags.{flags_of};
 ghost use Rattle.fancy_grammar.specs.OfPattern.{IsOfPattern};
 ghost use Rattle.fancy_syntax.specs.InfoViews.{info_of};
 ghost use Rattle.fancy_syntax.specs.View.{view};
 ghost use Rattle.fancy_c.specs.CallFlags.{AreFlags};
-ghost use Rattle.fancy_c.specs.CallResult.{number_of_kind, IsErrorOfBytes, IsNoUtf8};
+ghost use Rattle.fancy_c.specs.CallResult.{IsNoUtf8};
 ghost use Rattle.fancy_c.specs.Buffer.{Fills};
+ghost use Rattle.fancy_c.specs.Calls.{IsErrorAt, Refuses, TakesOnly, WritesText};
 ghost use Rattle.fancy_c.specs.WrittenText.{IsPatternText, IsPatternTextOfBytes};
 
 use crate::buffer::write;
@@ -83,23 +83,12 @@ pub extern "C" fn fancy_to_pattern_nonnull(
     flags: u32,
     buffer: &mut [u8],
 ) -> CallResult
-    ensures read { result.status ≡ STATUS_OK → (w : List ℕ) × IsPatternTextOfBytes (flags_of flags) pattern.now w
-        × (result.size ≡ length w) × Fills buffer.old buffer.new w }
-    ensures short { result.status ≡ STATUS_BUFFER_TOO_SHORT → (w : List ℕ)
-        × IsPatternTextOfBytes (flags_of flags) pattern.now w
-        × (result.size ≡ length w) × (length buffer.old < length w) }
+    ensures text { WritesText (IsPatternTextOfBytes (flags_of flags) pattern.now) buffer.old buffer.new result }
     ensures never { result.status ≢ STATUS_NO_PATTERN }
-    ensures refused { result.status ≡ STATUS_REFUSED → (k : Kind) × (result.kind ≡ number_of_kind k)
-        × IsErrorOfBytes (flags_of flags) pattern.now k result.position }
-    ensures no_utf8 { result.status ≡ STATUS_NOT_UTF8 → IsNoUtf8 pattern.now result.position }
-    ensures kept { result.status ≢ STATUS_OK → buffer.new ≡ buffer.old }
+    ensures refusal { Refuses (IsErrorAt (flags_of flags) pattern.now) (IsNoUtf8 pattern.now) result }
     ensures printed { result.status ≢ STATUS_NOT_PRINTABLE }
-    ensures known_flags { AreFlags flags → result.status ≢ STATUS_UNKNOWN_FLAG }
-    ensures unknown_flag { (AreFlags flags → ⊥) → result.status ≡ STATUS_UNKNOWN_FLAG }
+    ensures flags { TakesOnly (AreFlags flags) STATUS_UNKNOWN_FLAG result }
     ensures status { (result.status ≤ STATUS_NO_PATTERN) ⊎ (result.status ≡ STATUS_UNKNOWN_FLAG) }
-    ensures no_kind { result.status ≢ STATUS_REFUSED → result.kind ≡ ERROR_NONE }
-    ensures no_position { result.status ≢ STATUS_REFUSED → result.status ≢ STATUS_NOT_UTF8 → result.position ≡ 0 }
-    ensures no_size { result.status ≢ STATUS_OK → result.status ≢ STATUS_BUFFER_TOO_SHORT → result.size ≡ 0 }
 {
     if !are_flags(flags) {
         return CallResult::of_status(STATUS_UNKNOWN_FLAG);

@@ -1,20 +1,19 @@
 //! The pattern for a tree that is given by its rows.
-ghost use Rattle.std.specs.Prelude.{◌≡◌, ◌≢◌, ◌<◌, ◌≤◌, ◌⊎◌, ℕ, IfOk, List, length};
+ghost use Rattle.std.specs.Prelude.{◌≡◌, ◌≢◌, ◌≤◌, ◌⊎◌, IfOk};
 ghost use Rattle.fancy_lex.specs.Flags.{flags_of};
 ghost use Rattle.fancy_grammar.specs.GroupInfo.{GroupInfo};
 ghost use Rattle.fancy_grammar.specs.OfPattern.{IsOfPattern};
 ghost use Rattle.fancy_grammar.specs.Tree.{Tree};
 ghost use Rattle.fancy_syntax.specs.View.{view};
-ghost use Rattle.fancy_c.specs.Buffer.{Fills};
 ghost use Rattle.fancy_c.specs.CallFlags.{AreFlags};
+ghost use Rattle.fancy_c.specs.Calls.{Refuses, TakesOnly, WritesText};
 ghost use Rattle.fancy_c.specs.RowTree.{AreRowsOfTree};
 ghost use Rattle.fancy_c.specs.WrittenText.{IsPatternText};
 
 use crate::built::{RowsError, rows_below, tree_at};
 use crate::call_flags::are_flags;
 use crate::call_result::{
-    CallResult, ERROR_NONE, STATUS_BUFFER_TOO_SHORT, STATUS_NO_PATTERN, STATUS_NO_TREE,
-    STATUS_NOT_PRINTABLE, STATUS_NOT_UTF8, STATUS_OK, STATUS_REFUSED, STATUS_UNKNOWN_FLAG,
+    CallResult, STATUS_NO_PATTERN, STATUS_NO_TREE, STATUS_NOT_PRINTABLE, STATUS_UNKNOWN_FLAG,
 };
 use crate::group_rows::{names_from, with_groups};
 use crate::info_rows::{Name, TreeInfo};
@@ -68,23 +67,14 @@ pub extern "C" fn fancy_to_pattern_nodes_nonnull(
     flags: u32,
     buffer: &mut [u8],
 ) -> CallResult
-    ensures read { result.status ≡ STATUS_OK → (t : Tree) × (m : GroupInfo) × (w : List ℕ)
-        × AreRowsOfTree texts.now nodes.now index t × IsPatternText (flags_of flags) t m w
-        × (result.size ≡ length w) × Fills buffer.old buffer.new w }
-    ensures short { result.status ≡ STATUS_BUFFER_TOO_SHORT → (t : Tree) × (m : GroupInfo) × (w : List ℕ)
-        × AreRowsOfTree texts.now nodes.now index t × IsPatternText (flags_of flags) t m w
-        × (result.size ≡ length w) × (length buffer.old < length w) }
+    ensures text { WritesText (λ w. (t : Tree) × (m : GroupInfo)
+        × AreRowsOfTree texts.now nodes.now index t × IsPatternText (flags_of flags) t m w) buffer.old buffer.new result }
     ensures unwritten { result.status ≡ STATUS_NO_PATTERN → (t : Tree) × (m : GroupInfo)
         × AreRowsOfTree texts.now nodes.now index t × (IsOfPattern (flags_of flags) t m → ⊥) }
-    ensures kept { result.status ≢ STATUS_OK → buffer.new ≡ buffer.old }
-    ensures no_pattern { (result.status ≢ STATUS_REFUSED) × (result.status ≢ STATUS_NOT_UTF8) }
+    ensures refusal { Refuses (λ _ _. ⊥) (λ _. ⊥) result }
     ensures printed { result.status ≢ STATUS_NOT_PRINTABLE }
-    ensures known_flags { AreFlags flags → result.status ≢ STATUS_UNKNOWN_FLAG }
-    ensures unknown_flag { (AreFlags flags → ⊥) → result.status ≡ STATUS_UNKNOWN_FLAG }
+    ensures flags { TakesOnly (AreFlags flags) STATUS_UNKNOWN_FLAG result }
     ensures status { (result.status ≤ STATUS_NO_TREE) ⊎ (result.status ≡ STATUS_UNKNOWN_FLAG) }
-    ensures no_kind { result.kind ≡ ERROR_NONE }
-    ensures no_position { result.position ≡ 0 }
-    ensures no_size { result.status ≢ STATUS_OK → result.status ≢ STATUS_BUFFER_TOO_SHORT → result.size ≡ 0 }
 {
     if !are_flags(flags) {
         return CallResult::of_status(STATUS_UNKNOWN_FLAG);

@@ -1,14 +1,14 @@
 //! The text of a pattern's tree.
 ghost use Rattle.std.specs.Prelude.{◌≡◌, ◌≢◌, ◌<◌, ◌≤◌, ◌⊎◌, ℕ, List, IfOk, MatchOption, length, string_bytes, true, false};
-ghost use Rattle.fancy_lex.specs.Located.{Kind};
 ghost use Rattle.fancy_lex.specs.Flags.{flags_of};
 ghost use Rattle.fancy_grammar.specs.GroupInfo.{GroupInfo};
 ghost use Rattle.fancy_grammar.specs.Printable.{printable};
 ghost use Rattle.fancy_grammar.specs.Tree.{Tree};
 ghost use Rattle.fancy_syntax.specs.View.{view};
 ghost use Rattle.fancy_c.specs.CallFlags.{AreFlags};
-ghost use Rattle.fancy_c.specs.CallResult.{number_of_kind, IsTreeOfBytes, IsErrorOfBytes, IsNoUtf8};
+ghost use Rattle.fancy_c.specs.CallResult.{IsTreeOfBytes, IsNoUtf8};
 ghost use Rattle.fancy_c.specs.Buffer.{Fills};
+ghost use Rattle.fancy_c.specs.Calls.{IsErrorAt, Refuses, TakesOnly, WritesText};
 ghost use Rattle.fancy_c.specs.WrittenText.{IsText, IsTextOfBytes, NamesPrecedence};
 
 use crate::buffer::write;
@@ -84,26 +84,15 @@ pub extern "C" fn fancy_print_nonnull(
     precedence: u32,
     buffer: &mut [u8],
 ) -> CallResult
-    ensures read { result.status ≡ STATUS_OK → (w : List ℕ) × IsTextOfBytes (flags_of flags) pattern.now precedence w
-        × (result.size ≡ length w) × Fills buffer.old buffer.new w }
-    ensures short { result.status ≡ STATUS_BUFFER_TOO_SHORT → (w : List ℕ)
-        × IsTextOfBytes (flags_of flags) pattern.now precedence w
-        × (result.size ≡ length w) × (length buffer.old < length w) }
+    ensures text { WritesText (IsTextOfBytes (flags_of flags) pattern.now precedence) buffer.old buffer.new result }
     ensures not_printable { result.status ≡ STATUS_NOT_PRINTABLE → (t : Tree) × (m : GroupInfo)
         × IsTreeOfBytes (flags_of flags) pattern.now t m × (printable t ≡ false) }
-    ensures refused { result.status ≡ STATUS_REFUSED → (k : Kind) × (result.kind ≡ number_of_kind k)
-        × IsErrorOfBytes (flags_of flags) pattern.now k result.position }
-    ensures no_utf8 { result.status ≡ STATUS_NOT_UTF8 → IsNoUtf8 pattern.now result.position }
-    ensures kept { result.status ≢ STATUS_OK → buffer.new ≡ buffer.old }
-    ensures known_precedence { NamesPrecedence precedence → result.status ≢ STATUS_UNKNOWN_PRECEDENCE }
-    ensures unknown_precedence { (NamesPrecedence precedence → ⊥) → result.status ≡ STATUS_UNKNOWN_PRECEDENCE }
+    ensures refusal { Refuses (IsErrorAt (flags_of flags) pattern.now) (IsNoUtf8 pattern.now) result }
+    ensures precedence { TakesOnly (NamesPrecedence precedence) STATUS_UNKNOWN_PRECEDENCE result }
     ensures known_flags { AreFlags flags → result.status ≢ STATUS_UNKNOWN_FLAG }
     ensures unknown_flag { NamesPrecedence precedence → (AreFlags flags → ⊥) → result.status ≡ STATUS_UNKNOWN_FLAG }
     ensures status { (result.status ≤ STATUS_NOT_PRINTABLE) ⊎ ((result.status ≡ STATUS_UNKNOWN_FLAG)
         ⊎ (result.status ≡ STATUS_UNKNOWN_PRECEDENCE)) }
-    ensures no_kind { result.status ≢ STATUS_REFUSED → result.kind ≡ ERROR_NONE }
-    ensures no_position { result.status ≢ STATUS_REFUSED → result.status ≢ STATUS_NOT_UTF8 → result.position ≡ 0 }
-    ensures no_size { result.status ≢ STATUS_OK → result.status ≢ STATUS_BUFFER_TOO_SHORT → result.size ≡ 0 }
 {
     if !is_precedence(precedence) {
         return CallResult::of_status(STATUS_UNKNOWN_PRECEDENCE);

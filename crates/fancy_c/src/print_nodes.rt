@@ -1,15 +1,14 @@
 //! The text of a tree that is given by its rows.
-ghost use Rattle.std.specs.Prelude.{◌≡◌, ◌≢◌, ◌<◌, ◌≤◌, ◌⊎◌, ℕ, List, length, false};
+ghost use Rattle.std.specs.Prelude.{◌≡◌, ◌≢◌, ◌≤◌, ◌⊎◌, false};
 ghost use Rattle.fancy_grammar.specs.Printable.{printable};
 ghost use Rattle.fancy_grammar.specs.Tree.{Tree};
-ghost use Rattle.fancy_c.specs.Buffer.{Fills};
 ghost use Rattle.fancy_c.specs.RowTree.{AreRowsOfTree};
 ghost use Rattle.fancy_c.specs.WrittenText.{IsText, NamesPrecedence};
+ghost use Rattle.fancy_c.specs.Calls.{Refuses, TakesOnly, WritesText};
 
 use crate::built::tree_at;
 use crate::call_result::{
-    CallResult, ERROR_NONE, STATUS_BUFFER_TOO_SHORT, STATUS_NO_PATTERN, STATUS_NO_TREE,
-    STATUS_NOT_PRINTABLE, STATUS_NOT_UTF8, STATUS_OK, STATUS_REFUSED, STATUS_UNKNOWN_PRECEDENCE,
+    CallResult, STATUS_NO_PATTERN, STATUS_NO_TREE, STATUS_NOT_PRINTABLE, STATUS_UNKNOWN_PRECEDENCE,
 };
 use crate::node::Node;
 use crate::print::{is_precedence, print};
@@ -29,23 +28,14 @@ pub extern "C" fn fancy_print_nodes_nonnull(
     precedence: u32,
     buffer: &mut [u8],
 ) -> CallResult
-    ensures read { result.status ≡ STATUS_OK → (t : Tree) × (w : List ℕ)
-        × AreRowsOfTree texts.now nodes.now index t × IsText t precedence w
-        × (result.size ≡ length w) × Fills buffer.old buffer.new w }
-    ensures short { result.status ≡ STATUS_BUFFER_TOO_SHORT → (t : Tree) × (w : List ℕ)
-        × AreRowsOfTree texts.now nodes.now index t × IsText t precedence w
-        × (result.size ≡ length w) × (length buffer.old < length w) }
+    ensures text { WritesText (λ w. (t : Tree) × AreRowsOfTree texts.now nodes.now index t × IsText t precedence w)
+        buffer.old buffer.new result }
     ensures not_printable { result.status ≡ STATUS_NOT_PRINTABLE → (t : Tree)
         × AreRowsOfTree texts.now nodes.now index t × (printable t ≡ false) }
-    ensures kept { result.status ≢ STATUS_OK → buffer.new ≡ buffer.old }
-    ensures no_pattern { (result.status ≢ STATUS_REFUSED) × (result.status ≢ STATUS_NOT_UTF8)
-        × (result.status ≢ STATUS_NO_PATTERN) }
-    ensures known_precedence { NamesPrecedence precedence → result.status ≢ STATUS_UNKNOWN_PRECEDENCE }
-    ensures unknown_precedence { (NamesPrecedence precedence → ⊥) → result.status ≡ STATUS_UNKNOWN_PRECEDENCE }
+    ensures no_pattern { result.status ≢ STATUS_NO_PATTERN }
+    ensures precedence { TakesOnly (NamesPrecedence precedence) STATUS_UNKNOWN_PRECEDENCE result }
     ensures status { (result.status ≤ STATUS_NO_TREE) ⊎ (result.status ≡ STATUS_UNKNOWN_PRECEDENCE) }
-    ensures no_kind { result.kind ≡ ERROR_NONE }
-    ensures no_position { result.position ≡ 0 }
-    ensures no_size { result.status ≢ STATUS_OK → result.status ≢ STATUS_BUFFER_TOO_SHORT → result.size ≡ 0 }
+    ensures refusal { Refuses (λ _ _. ⊥) (λ _. ⊥) result }
 {
     if !is_precedence(precedence) {
         return CallResult::of_status(STATUS_UNKNOWN_PRECEDENCE);

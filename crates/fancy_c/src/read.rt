@@ -1,7 +1,6 @@
 //! Bytes parsed as a pattern.
-ghost use Rattle.std.specs.Prelude.{◌≡◌, ◌≢◌, ◌≤◌, ◌⊎◌, IfOk, IfErr};
+ghost use Rattle.std.specs.Prelude.{◌≡◌, ◌≤◌, ◌⊎◌, IfOk, IfErr};
 ghost use Rattle.std.specs.Str.{IsUtf8};
-ghost use Rattle.fancy_lex.specs.Located.{Kind};
 ghost use Rattle.fancy_lex.specs.Flags.{flags_of};
 ghost use Rattle.fancy_lex.specs.declared.flags.Flags.{Flags};
 ghost use Rattle.fancy_grammar.specs.GroupInfo.{GroupInfo};
@@ -10,8 +9,9 @@ ghost use Rattle.fancy_syntax.specs.InfoViews.{info_of};
 ghost use Rattle.fancy_syntax.specs.TriviaViews.{trivia_of};
 ghost use Rattle.fancy_syntax.specs.View.{view};
 ghost use Rattle.fancy_c.specs.CallFlags.{AreFlags};
-ghost use Rattle.fancy_c.specs.CallResult.{number_of_kind, IsTreeOfBytes, IsErrorOfBytes, IsNoUtf8, IsRefusalOf};
+ghost use Rattle.fancy_c.specs.CallResult.{IsTreeOfBytes, IsNoUtf8, IsRefusalOf};
 ghost use Rattle.fancy_c.specs.CallResult.{result_of};
+ghost use Rattle.fancy_c.specs.Calls.{IsErrorAt, Refuses, TakesOnly};
 ghost use Rattle.fancy_c.specs.InfoRows.{AreSpansOfBytes, AreSpansAsked};
 ghost use Rattle.fancy_c.specs.TriviumRows.{AreTriviaOfBytes};
 
@@ -185,14 +185,9 @@ pub(crate) fn read_trivia(
 pub extern "C" fn fancy_check_nonnull(alloc: Global, pattern: &[u8], flags: u32) -> CallResult
     ensures read { result.status ≡ STATUS_OK → (t : Tree) × (m : GroupInfo)
         × IsTreeOfBytes (flags_of flags) pattern.now t m }
-    ensures refused { result.status ≡ STATUS_REFUSED → (k : Kind) × (result.kind ≡ number_of_kind k)
-        × IsErrorOfBytes (flags_of flags) pattern.now k result.position }
-    ensures no_utf8 { result.status ≡ STATUS_NOT_UTF8 → IsNoUtf8 pattern.now result.position }
-    ensures known_flags { AreFlags flags → result.status ≢ STATUS_UNKNOWN_FLAG }
-    ensures unknown_flag { (AreFlags flags → ⊥) → result.status ≡ STATUS_UNKNOWN_FLAG }
+    ensures refusal { Refuses (IsErrorAt (flags_of flags) pattern.now) (IsNoUtf8 pattern.now) result }
+    ensures flags { TakesOnly (AreFlags flags) STATUS_UNKNOWN_FLAG result }
     ensures status { (result.status ≤ STATUS_OUT_OF_MEMORY) ⊎ (result.status ≡ STATUS_UNKNOWN_FLAG) }
-    ensures no_kind { result.status ≢ STATUS_REFUSED → result.kind ≡ ERROR_NONE }
-    ensures no_position { result.status ≢ STATUS_REFUSED → result.status ≢ STATUS_NOT_UTF8 → result.position ≡ 0 }
     ensures no_size { result.size ≡ 0 }
 {
     if !are_flags(flags) {

@@ -1,7 +1,6 @@
 //! A node without children, from its row. The row may have been changed, so all of it is tested.
 ghost use Rattle.std.specs.Prelude.{◌≡◌, ◌+◌, ◌≤◌, IfOk, [], length, take, drop, encode_utf8_all};
 ghost use Rattle.fancy_lex.specs.Text.{text_of as chars_of};
-ghost use Rattle.std.specs.Str.{IsUtf8};
 ghost use Rattle.fancy_lex.specs.NameViews.{view_target};
 ghost use Rattle.fancy_grammar.specs.Tree.{children};
 ghost use Rattle.fancy_syntax.specs.View.{view};

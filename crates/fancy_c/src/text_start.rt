@@ -3,6 +3,7 @@ ghost use Rattle.std.specs.Prelude.{◌≡◌, ◌≢◌, ◌+◌, ◌≤◌, �
 ghost use Rattle.std.specs.Str.{IsUtf8};
 ghost use Rattle.fancy_lex.specs.Text.{bytes};
 ghost use Rattle.fancy_c.specs.CallResult.{IsNoUtf8};
+ghost use Rattle.fancy_c.specs.Calls.{Refuses};
 ghost use Rattle.fancy_c.specs.TextStart as spec;
 ghost use Rattle.fancy_c.specs.TextStart.{IsDecimalOf};
 
@@ -66,10 +67,8 @@ fn of_size(size: usize) -> CallResult
 #[unsafe(no_mangle)]
 pub extern "C" fn fancy_parse_id_nonnull(text: &[u8]) -> CallResult
     ensures read { result.status ≡ STATUS_OK → IsUtf8 text.now × (result.size ≡ spec.id_size (chars text.now)) }
-    ensures no_utf8 { result.status ≡ STATUS_NOT_UTF8 → IsNoUtf8 text.now result.position }
+    ensures refusal { Refuses (λ _ _. ⊥) (IsNoUtf8 text.now) result }
     ensures status { (result.status ≡ STATUS_OK) ⊎ (result.status ≡ STATUS_NOT_UTF8) }
-    ensures no_kind { result.kind ≡ ERROR_NONE }
-    ensures no_position { result.status ≢ STATUS_NOT_UTF8 → result.position ≡ 0 }
     ensures no_size { result.status ≢ STATUS_OK → result.size ≡ 0 }
 {
     match utf8_of(text) {
@@ -85,11 +84,9 @@ pub extern "C" fn fancy_parse_id_nonnull(text: &[u8]) -> CallResult
 pub extern "C" fn fancy_parse_decimal_nonnull(text: &[u8], value: &mut usize) -> CallResult
     ensures read { result.status ≡ STATUS_OK → IsUtf8 text.now
         × IsDecimalOf (chars text.now) result.size value.old value.new }
-    ensures no_utf8 { result.status ≡ STATUS_NOT_UTF8 → IsNoUtf8 text.now result.position }
+    ensures refusal { Refuses (λ _ _. ⊥) (IsNoUtf8 text.now) result }
     ensures kept { result.status ≢ STATUS_OK → value.new ≡ value.old }
     ensures status { (result.status ≡ STATUS_OK) ⊎ (result.status ≡ STATUS_NOT_UTF8) }
-    ensures no_kind { result.kind ≡ ERROR_NONE }
-    ensures no_position { result.status ≢ STATUS_NOT_UTF8 → result.position ≡ 0 }
     ensures no_size { result.status ≢ STATUS_OK → result.size ≡ 0 }
 {
     match utf8_of(text) {

@@ -1,15 +1,11 @@
 //! A pattern's tree, or the message of its error, in one call.
 ghost use Rattle.std.specs.Prelude.{◌≡◌, ◌≢◌, ◌<◌, ◌≤◌, ◌⊎◌, List, length};
-ghost use Rattle.fancy_lex.specs.Located.{Kind, kind_text};
 ghost use Rattle.fancy_lex.specs.Flags.{flags_of};
 ghost use Rattle.fancy_grammar.specs.GroupInfo.{GroupInfo};
 ghost use Rattle.fancy_grammar.specs.Tree.{Tree};
-ghost use Rattle.fancy_syntax.specs.InfoViews.{info_of};
-ghost use Rattle.fancy_syntax.specs.View.{view};
 ghost use Rattle.fancy_syntax.specs.declared.span.Span.{Span};
-ghost use Rattle.fancy_c.specs.Buffer.{Fills};
 ghost use Rattle.fancy_c.specs.CallFlags.{AreTreeFlags};
-ghost use Rattle.fancy_c.specs.CallResult.{IsReported, IsErrorOfBytes, IsNoUtf8};
+ghost use Rattle.fancy_c.specs.Calls.{KeepsTree, TakesOnly, WritesMessage};
 ghost use Rattle.fancy_c.specs.InfoRows.{AreEnough, AreWritten, AreSpansAsked, IsSummaryOf};
 ghost use Rattle.fancy_c.specs.Node.{span_at};
 
@@ -51,25 +47,13 @@ pub extern "C" fn fancy_tree_nonnull(
     ensures enough { AreEnough (length pattern.now) (length nodes.old) (length texts.old) (length names.old)
         (length backrefs.old) →
         result.status ≡ STATUS_BUFFER_TOO_SHORT → result.kind ≢ ERROR_NONE }
-    ensures short_message { result.status ≡ STATUS_BUFFER_TOO_SHORT → result.kind ≢ ERROR_NONE →
-        (k : Kind) × IsReported result result.position k
-        × IsErrorOfBytes (flags_of flags) pattern.now k result.position × (length texts.old < result.size) }
-    ensures refused { result.status ≡ STATUS_REFUSED → (k : Kind) × IsReported result result.position k
-        × IsErrorOfBytes (flags_of flags) pattern.now k result.position × Fills texts.old texts.new (kind_text k) }
-    ensures no_utf8 { result.status ≡ STATUS_NOT_UTF8 → IsNoUtf8 pattern.now result.position }
-    ensures nodes_kept { result.status ≢ STATUS_OK → nodes.new ≡ nodes.old }
+    ensures message { WritesMessage (flags_of flags) pattern.now texts.old texts.new result }
+    ensures tree_kept { KeepsTree nodes.old nodes.new names.old names.new backrefs.old backrefs.new
+        info.old info.new result }
     ensures texts_kept { result.status ≢ STATUS_OK → result.status ≢ STATUS_REFUSED → texts.new ≡ texts.old }
-    ensures names_kept { result.status ≢ STATUS_OK → names.new ≡ names.old }
-    ensures backrefs_kept { result.status ≢ STATUS_OK → backrefs.new ≡ backrefs.old }
-    ensures info_kept { result.status ≢ STATUS_OK → result.status ≢ STATUS_BUFFER_TOO_SHORT → info.new ≡ info.old }
     ensures info_without_tree { result.kind ≢ ERROR_NONE → info.new ≡ info.old }
-    ensures known_flags { AreTreeFlags flags → result.status ≢ STATUS_UNKNOWN_FLAG }
-    ensures unknown_flag { (AreTreeFlags flags → ⊥) → result.status ≡ STATUS_UNKNOWN_FLAG }
+    ensures flags { TakesOnly (AreTreeFlags flags) STATUS_UNKNOWN_FLAG result }
     ensures status { (result.status ≤ STATUS_BUFFER_TOO_SHORT) ⊎ (result.status ≡ STATUS_UNKNOWN_FLAG) }
-    ensures no_kind { result.status ≢ STATUS_REFUSED → result.status ≢ STATUS_BUFFER_TOO_SHORT →
-        result.kind ≡ ERROR_NONE }
-    ensures no_position { result.kind ≡ ERROR_NONE → result.status ≢ STATUS_NOT_UTF8 → result.position ≡ 0 }
-    ensures no_size { result.kind ≡ ERROR_NONE → result.size ≡ 0 }
 {
     if !are_tree_flags(flags) {
         return CallResult::of_status(STATUS_UNKNOWN_FLAG);

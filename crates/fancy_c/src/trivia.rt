@@ -1,19 +1,18 @@
 //! What no node of a pattern's tree has, as an array.
 ghost use Rattle.std.specs.Prelude.{◌≡◌, ◌≢◌, ◌<◌, ◌≤◌, ◌⊎◌, List, length, map};
-ghost use Rattle.fancy_lex.specs.Located.{Kind};
 ghost use Rattle.fancy_lex.specs.Flags.{flags_of};
 ghost use Rattle.fancy_grammar.specs.Trivia as grammar;
 ghost use Rattle.fancy_syntax.specs.TriviaViews.{trivium_of};
 ghost use Rattle.fancy_c.specs.Buffer.{put_at, Fills};
 ghost use Rattle.fancy_c.specs.CallFlags.{AreFlags};
-ghost use Rattle.fancy_c.specs.CallResult.{number_of_kind, IsErrorOfBytes, IsNoUtf8};
+ghost use Rattle.fancy_c.specs.CallResult.{IsNoUtf8};
+ghost use Rattle.fancy_c.specs.Calls.{IsErrorAt, Refuses, TakesOnly};
 ghost use Rattle.fancy_c.specs.TriviumRows as spec;
 ghost use Rattle.fancy_c.specs.TriviumRows.{AreTriviaOfBytes};
 
 use crate::call_flags::are_flags;
 use crate::call_result::{
-    CallResult, ERROR_NONE, STATUS_BUFFER_TOO_SHORT, STATUS_NOT_UTF8, STATUS_OK, STATUS_REFUSED,
-    STATUS_UNKNOWN_FLAG,
+    CallResult, ERROR_NONE, STATUS_BUFFER_TOO_SHORT, STATUS_OK, STATUS_UNKNOWN_FLAG,
 };
 use crate::read::read_trivia;
 use fancy_syntax::span::Span;
@@ -146,16 +145,11 @@ pub extern "C" fn fancy_trivia_nonnull(
     ensures short { result.status ≡ STATUS_BUFFER_TOO_SHORT → (l : List grammar.Trivium)
         × AreTriviaOfBytes (flags_of flags) pattern.now l × (count.new ≡ length l)
         × (length trivia.old < count.new) }
-    ensures refused { result.status ≡ STATUS_REFUSED → (k : Kind) × (result.kind ≡ number_of_kind k)
-        × IsErrorOfBytes (flags_of flags) pattern.now k result.position }
-    ensures no_utf8 { result.status ≡ STATUS_NOT_UTF8 → IsNoUtf8 pattern.now result.position }
+    ensures refusal { Refuses (IsErrorAt (flags_of flags) pattern.now) (IsNoUtf8 pattern.now) result }
     ensures kept { result.status ≢ STATUS_OK → trivia.new ≡ trivia.old }
     ensures count_kept { result.status ≢ STATUS_OK → result.status ≢ STATUS_BUFFER_TOO_SHORT → count.new ≡ count.old }
-    ensures known_flags { AreFlags flags → result.status ≢ STATUS_UNKNOWN_FLAG }
-    ensures unknown_flag { (AreFlags flags → ⊥) → result.status ≡ STATUS_UNKNOWN_FLAG }
+    ensures flags { TakesOnly (AreFlags flags) STATUS_UNKNOWN_FLAG result }
     ensures status { (result.status ≤ STATUS_BUFFER_TOO_SHORT) ⊎ (result.status ≡ STATUS_UNKNOWN_FLAG) }
-    ensures no_kind { result.status ≢ STATUS_REFUSED → result.kind ≡ ERROR_NONE }
-    ensures no_position { result.status ≢ STATUS_REFUSED → result.status ≢ STATUS_NOT_UTF8 → result.position ≡ 0 }
     ensures no_size { result.size ≡ 0 }
 {
     if !are_flags(flags) {

@@ -37,7 +37,7 @@ use Rattle.fancy_grammar.specs.AtomStart.{named_start, target_start, backref_nod
 use Rattle.fancy_grammar.specs.Depth.{max_depth}
 use Rattle.fancy_grammar.specs.Items.{items}
 use Rattle.fancy_grammar.specs.Slices.{Slice}
-use Rattle.fancy_grammar.specs.State.{skipped, State, at, Outcome, after_skipped}
+use Rattle.fancy_grammar.specs.State.{skipped, State, at, Outcome, done, after_skipped}
 use Rattle.fancy_grammar.specs.Tree.{Tree, delegate, verb}
 use Rattle.fancy_grammar.specs.Verb.{verb_at}
 use Rattle.fancy_grammar.specs.declared.kinds.BacktrackingControlVerb.{BacktrackingControlVerb}
@@ -218,7 +218,8 @@ group_reads s z t h =
         let cut : Slice s.rest (code "?" ∷ u) = subst (Slice s.rest) (strip_word_is (codes "?") t u e) h.0 in
         question_reads s z u (after (codes "?") u e, lies_before (omega arith) (to_ends cut))
 
-    starred : (u : Text) → strip_word (codes "*") t ≡ Some u → StartReads s (verb_start z u)
+    starred : (u : Text) → strip_word (codes "*") t ≡ Some u → StartReads s
+        (verb_start (λ v y. read (done v y)) z u)
     starred u e =
         let cut : Slice s.rest (code "*" ∷ u) = subst (Slice s.rest) (strip_word_is (codes "*") t u e) h.0 in
         choose_both (StartReads s) (verb_at u) _ _

@@ -18,7 +18,7 @@ use Rattle.fancy_lex.specs.Quantifier.{counts, as_operator, most}
 use Rattle.fancy_lex.specs.declared.counts.Counts.{Counts}
 use Rattle.fancy_grammar.specs.AtomStart.{AtomStart, nothing, read, of_kind, condition, body, atom_start, start_of}
 use Rattle.fancy_grammar.specs.AtomStart.{group_start, after_question, condition_start, repeater_start, verb_start}
-use Rattle.fancy_grammar.specs.AtomStart.{verb_condition, named_start, target_start, flags_start, group_start}
+use Rattle.fancy_grammar.specs.AtomStart.{named_start, target_start, flags_start, group_start}
 use Rattle.fancy_grammar.specs.AtomStart.{error_start, leaf_of, begins_no_atom}
 use Rattle.fancy_grammar.specs.Depth.{max_depth}
 use Rattle.fancy_grammar.specs.GroupKind as kinds
@@ -65,17 +65,15 @@ condition_there s e = cc
 body_there : (c : Tree) (s : State) → IsThere (body c s)
 body_there c s e = cc
 
-verb_there : (s : State) (t : Text) → IsThere (verb_start s t)
-verb_there s t = choose_both IsThere (verb_at t) _ _ (λ p _. read_there _) (read_there _)
-
-verb_condition_there : (s : State) (t : Text) → IsThere (verb_condition s t)
-verb_condition_there s t = choose_both IsThere (verb_at t) _ _ (λ p _. body_there _ _) (read_there _)
+verb_there : (f : Tree → State → AtomStart) → ((v : Tree) (z : State) → IsThere (f v z)) → (s : State) (t : Text) →
+    IsThere (verb_start f s t)
+verb_there f there s t = choose_both IsThere (verb_at t) _ _ (λ p _. there _ _) (read_there _)
 
 condition_start_there : (s : State) (t : Text) → IsThere (condition_start s t)
 condition_start_there s [] = read_there _
 condition_start_there s (c ∷ t) =
     either_there (begins_target (c ∷ t)) (target_there s _)
-    (either_there (c == code "*") (verb_condition_there s t) (condition_there _))
+    (either_there (c == code "*") (verb_there body body_there s t) (condition_there _))
 
 repeater_there : (s : State) (t : Text) → IsThere (repeater_start s t)
 repeater_there s [] = read_there _
@@ -101,7 +99,8 @@ question_there s t =
 group_there : (s : State) (t : Text) → IsThere (group_start s t)
 group_there s t =
     choose_both IsThere (strip_word (codes "?") t) _ _ (λ u _. question_there s u) (
-    choose_both IsThere (strip_word (codes "*") t) _ _ (λ u _. verb_there s u) (opens_there _ _))
+    choose_both IsThere (strip_word (codes "*") t) _ _
+    (λ u _. verb_there (λ v z. read (done v z)) (λ v z. read_there _) s u) (opens_there _ _))
 
 deep_there : (d c : ℕ) (s : State) (t : Text) →
     IsThere (if nat_le max_depth (d + 1) then error_start (group_too_deep (c ∷ t))

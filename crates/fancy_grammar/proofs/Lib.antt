@@ -52,3 +52,5 @@ pub mod TriviaUnique
 pub mod TriviaAppend
 pub mod TriviaLemmas
 pub mod TriviaLaws
+-- ---- what a parse promises
+pub mod PromiseLaws

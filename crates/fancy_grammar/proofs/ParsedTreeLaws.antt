@@ -19,7 +19,8 @@ use Rattle.fancy_grammar.specs.ParsedTree.{is_group, groups}
 use Rattle.fancy_grammar.specs.ParsedTree.{is_call_node, has_call, group_referred, groups_referred, numbered_in}
 use Rattle.fancy_grammar.specs.ParsedTree.{numbered_groups, HasGroupsOf}
 use Rattle.fancy_grammar.specs.Grammar.{DerivesTree}
-use Rattle.fancy_grammar.specs.Items.{openings_in, openings, role_of, target_of, meanings_in, numbers_in, meanings}
+use Rattle.fancy_grammar.specs.Items.{openings_in, openings, role_of, target_of, MeantReference, meanings_in, numbers_in}
+use Rattle.fancy_grammar.specs.Items.{meanings}
 use Rattle.fancy_grammar.specs.Label as label
 use Rattle.fancy_grammar.specs.Label.{AstReference, ast_backref, ast_call, ast_condition}
 use Rattle.fancy_grammar.specs.GroupInfo.{GroupInfo, group_info, is_call, back_number, back_numbers, ascending}
@@ -97,7 +98,7 @@ module _ (z : ℕ) (named : Bool) (numbers_of : Text → List ℕ) where
   abbrev front_here : Bool → ℕ → Tree → List Tree → List Tree
   front_here = kept_if z named numbers_of
 
-  abbrev meant : ℕ → List Tree → List (AstReference × ℕ × Meaning)
+  abbrev meant : ℕ → List Tree → List MeantReference
   meant c l = meanings_in named numbers_of c (items_of_all l)
 
   abbrev numbered_if : Bool → ℕ → Opening × Tree → List Tree → List (ℕ × Opening × Tree)
@@ -141,11 +142,11 @@ module _ (z : ℕ) (named : Bool) (numbers_of : Text → List ℕ) where
 
   -- calls stay calls
   calls_kept : (c : ℕ) (l : List Tree) → AllByRecursion IsReadNode l →
-      list_any is_call_node (kept_here c l) ≡ list_any (λ x. is_call (role_of x.0)) (meant c l)
+      list_any is_call_node (kept_here c l) ≡ list_any (λ (x : MeantReference). is_call (role_of x.reference)) (meant c l)
   calls_kept c [] h = refl
   calls_kept c (ast_group name position t ∷ l) h =
       elim (is_counted named name) as (λ b. list_any is_call_node (front_here b c t l)
-      ≡ list_any (λ x. is_call (role_of x.0)) (meant (if b then c + 1 else c) l)) [
+      ≡ list_any (λ (x : MeantReference). is_call (role_of x.reference)) (meant (if b then c + 1 else c) l)) [
         | true ↦ calls_kept (c + 1) l h.1
         | false ↦ calls_kept c l h.1
       ]
@@ -168,13 +169,13 @@ module _ (z : ℕ) (named : Bool) (numbers_of : Text → List ℕ) where
       by_option (Some n) e = rw e refl
       by_option None e = rw e refl
 
-  numbers_step : (x : Tree) (r : AstReference × ℕ × Meaning) (l : List Tree) (m : List (AstReference × ℕ × Meaning)) →
-      group_referred x ≡ back_number (role_of r.0) r.2 →
+  numbers_step : (x : Tree) (r : MeantReference) (l : List Tree) (m : List MeantReference) →
+      group_referred x ≡ back_number (role_of r.reference) r.meaning →
       filter_map group_referred l ≡ back_numbers m → filter_map group_referred (x ∷ l) ≡ back_numbers (r ∷ m)
   numbers_step x r l m e h =
       filter_map_step group_referred x l ∙ ap (λ o. in_front o (filter_map group_referred l)) e
-      ∙ ap (in_front (back_number (role_of r.0) r.2)) h
-      ∙ sym (filter_map_step (λ (x : AstReference × ℕ × Meaning). back_number (role_of x.0) x.2) r m)
+      ∙ ap (in_front (back_number (role_of r.reference) r.meaning)) h
+      ∙ sym (filter_map_step (λ (x : MeantReference). back_number (role_of x.reference) x.meaning) r m)
 
   -- the numbers of back references
   numbers_kept : (c : ℕ) (l : List Tree) → AllByRecursion IsReadNode l →
@@ -188,7 +189,7 @@ module _ (z : ℕ) (named : Bool) (numbers_of : Text → List ℕ) where
       ]
   numbers_kept c (ast_node r position ∷ l) h =
       numbers_step (resolved_in z named numbers_of c (ast_node r position))
-      (r, position, refers_here c r) (kept_here c l) (meant c l)
+      (record { reference = r; reach = position; meaning = refers_here c r }) (kept_here c l) (meant c l)
       (of_reference z (refers_here c r) r position).refers (numbers_kept c l h.1)
   numbers_kept c (leaf (label.backref n casei) ∷ l) h = absurd h.0
   numbers_kept c (leaf (label.backref_at_level n level casei) ∷ l) h = absurd h.0
@@ -284,7 +285,7 @@ module _ {f : Flags} {text : Text} {t : Tree} {m : GroupInfo} (a : IsTreeOf f te
   calls_recorded : has_call t ≡ m.contains_subroutines
   calls_recorded =
       ap (list_any is_call_node) nodes ∙ calls_kept (bytes text) named numbers_of 0 (preorder raw) nodes_read
-      ∙ ap (list_any (λ x. is_call (role_of x.0))) (sym meanings_of_nodes)
+      ∙ ap (list_any (λ (x : MeantReference). is_call (role_of x.reference))) (sym meanings_of_nodes)
       ∙ ap (λ k. k.contains_subroutines) (sym is_info)
 
   pub numbers_referred : groups_referred t ≡ back_numbers (meanings f raw)

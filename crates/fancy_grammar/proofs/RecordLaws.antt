@@ -8,7 +8,7 @@ use Rattle.std.specs.Ordering.{nat_cmp}
 use Rattle.fancy_lex.specs.Located.{Located}
 use Rattle.fancy_lex.specs.Text.{Text, bytes, position_at}
 use Rattle.fancy_grammar.specs.Groups.{numbers_under}
-use Rattle.fancy_grammar.specs.Items.{Item, opening, reference, meanings_in, role_of, target_of}
+use Rattle.fancy_grammar.specs.Items.{Item, opening, reference, MeantReference, meanings_in, role_of, target_of}
 use Rattle.fancy_grammar.specs.Label.{AstReference}
 use Rattle.fancy_grammar.specs.Resolved.{first_error}
 use Rattle.fancy_grammar.specs.GroupInfo.{back_number, back_numbers, is_call, is_call_of_all}
@@ -19,8 +19,16 @@ use Rattle.fancy_grammar.specs.Walk.{Scope, Progress, progress_after, record_ite
 abbrev numbers_of : Scope → Text → List ℕ
 numbers_of k = numbers_under k.groups.names
 
+-- a reference with its meaning to the walk
+abbrev meant_by : Scope → Progress → AstReference → ℕ → MeantReference
+meant_by k s r p = record {
+  reference = r;
+  reach = p;
+  meaning = refers_to (numbers_of k) s.passed (role_of r) (target_of r);
+}
+
 -- the references among the items, each with its meaning to the walk
-abbrev meant : Scope → Progress → List Item → List (AstReference × ℕ × Meaning)
+abbrev meant : Scope → Progress → List Item → List MeantReference
 meant k s l = meanings_in k.named (numbers_of k) s.passed l
 
 or_assoc : (a b c : Bool) → ((a || b) || c) ≡ (a || (b || c))
@@ -47,20 +55,24 @@ error_first (invalid k) p o = refl
 pub recorded_numeric : (k : Scope) (s : Progress) (l : List Item) →
     (progress_after k s l).numeric
     ≡ (s.numeric
-    || list_any (λ x. is_numeric k.text (position_at (bytes k.text) x.1) (role_of x.0) (target_of x.0)) (meant k s l))
+    || list_any
+    (λ (x : MeantReference).
+    is_numeric k.text (position_at (bytes k.text) x.reach) (role_of x.reference) (target_of x.reference)) (meant k s l))
 recorded_numeric k s [] = sym (or_false s.numeric)
 recorded_numeric k s (opening o ∷ l) = recorded_numeric k (record_item k s (opening o)) l
 recorded_numeric k s (reference r p ∷ l) = recorded_numeric k (record_item k s (reference r p)) l ∙ or_assoc s.numeric _ _
 
 pub recorded_calls : (k : Scope) (s : Progress) (l : List Item) →
-    (progress_after k s l).calls ≡ (s.calls || list_any (λ x. is_call (role_of x.0)) (meant k s l))
+    (progress_after k s l).calls
+    ≡ (s.calls || list_any (λ (x : MeantReference). is_call (role_of x.reference)) (meant k s l))
 recorded_calls k s [] = sym (or_false s.calls)
 recorded_calls k s (opening o ∷ l) = recorded_calls k (record_item k s (opening o)) l
 recorded_calls k s (reference r p ∷ l) = recorded_calls k (record_item k s (reference r p)) l ∙ or_assoc s.calls _ _
 
 pub recorded_self : (k : Scope) (s : Progress) (l : List Item) →
     (progress_after k s l).self_recursive
-    ≡ (s.self_recursive || list_any (λ x. is_call_of_all (role_of x.0) (target_of x.0)) (meant k s l))
+    ≡ (s.self_recursive
+    || list_any (λ (x : MeantReference). is_call_of_all (role_of x.reference) (target_of x.reference)) (meant k s l))
 recorded_self k s [] = sym (or_false s.self_recursive)
 recorded_self k s (opening o ∷ l) = recorded_self k (record_item k s (opening o)) l
 recorded_self k s (reference r p ∷ l) = recorded_self k (record_item k s (reference r p)) l ∙ or_assoc s.self_recursive _ _
@@ -81,8 +93,8 @@ in_range : (total n : ℕ) (l ns : List ℕ) (b : Bool) → nat_le n total ≡ b
 in_range total n l ns true h = rw h refl
 in_range total n l ns false h = rw h refl
 
-inside : (total : ℕ) (l : List ℕ) (x : AstReference × ℕ × Meaning) (xs : List (AstReference × ℕ × Meaning))
-    (o : Option ℕ) → back_number (role_of x.0) x.2 ≡ o →
+inside : (total : ℕ) (l : List ℕ) (x : MeantReference) (xs : List MeantReference)
+    (o : Option ℕ) → back_number (role_of x.reference) x.meaning ≡ o →
     fold (insert_key nat_cmp) (with_backref total l o) (filter (λ n. nat_le n total) (back_numbers xs))
     ≡ fold (insert_key nat_cmp) l (filter (λ n. nat_le n total) (back_numbers (x ∷ xs)))
 inside total l x xs None e = rw e refl
@@ -95,11 +107,10 @@ recorded_backrefs k s [] = refl
 recorded_backrefs k s (opening o ∷ l) = recorded_backrefs k (record_item k s (opening o)) l
 recorded_backrefs k s (reference r p ∷ l) =
     recorded_backrefs k (record_item k s (reference r p)) l
-    ∙ inside k.groups.total s.backrefs (r, p, refers_to (numbers_of k) s.passed (role_of r) (target_of r)) (meant k s l) _
-    refl
+    ∙ inside k.groups.total s.backrefs (meant_by k s r p) (meant k s l) _ refl
 
-outside : (total : ℕ) (x : AstReference × ℕ × Meaning) (xs : List (AstReference × ℕ × Meaning)) (o : Option ℕ) →
-    back_number (role_of x.0) x.2 ≡ o →
+outside : (total : ℕ) (x : MeantReference) (xs : List MeantReference) (o : Option ℕ) →
+    back_number (role_of x.reference) x.meaning ≡ o →
     or_else (number_above total o) (find (λ n. nat_lt total n) (back_numbers xs))
     ≡ find (λ n. nat_lt total n) (back_numbers (x ∷ xs))
 outside total x xs None e = rw e refl
@@ -113,4 +124,4 @@ recorded_outside k s (opening o ∷ l) = recorded_outside k (record_item k s (op
 recorded_outside k s (reference r p ∷ l) =
     recorded_outside k (record_item k s (reference r p)) l ∙ else_assoc s.out_of_range _ _
     ∙ ap (or_else s.out_of_range)
-    (outside k.groups.total (r, p, refers_to (numbers_of k) s.passed (role_of r) (target_of r)) (meant k s l) _ refl)
+    (outside k.groups.total (meant_by k s r p) (meant k s l) _ refl)

@@ -6,12 +6,10 @@ use Rattle.fancy_lex.specs.Text.{Text, bytes, position_at}
 use Rattle.fancy_lex.specs.declared.flags.Flags.{Flags}
 use Rattle.fancy_grammar.proofs.NamedLaws.{under_named}
 use Rattle.fancy_grammar.specs.Groups.{numbers_under}
-use Rattle.fancy_grammar.specs.Meaning.{Meaning}
 use Rattle.fancy_grammar.specs.Ranks.{only_named, numbered_openings_in, named_groups}
 use Rattle.fancy_grammar.specs.Written.{is_numeric}
 use Rattle.fancy_grammar.specs.Items.{Item, items, openings, meanings_in, numbers_in, meanings, role_of}
-use Rattle.fancy_grammar.specs.Items.{target_of}
-use Rattle.fancy_grammar.specs.Label.{AstReference}
+use Rattle.fancy_grammar.specs.Items.{MeantReference, target_of}
 use Rattle.fancy_grammar.specs.GroupInfo.{GroupInfo, group_info, ascending, back_numbers, is_call, is_call_of_all}
 use Rattle.fancy_grammar.specs.Resolved.{resolved, resolved_in, first_error, error_of}
 use Rattle.fancy_grammar.specs.Tree.{Tree}
@@ -45,14 +43,14 @@ info_recorded k s = record {
 }
 
 -- the group information of references with these meanings, if this many groups have a number
-abbrev pub info_from : Text → Bool → ℕ → List (Text × List ℕ) → List (AstReference × ℕ × Meaning) → GroupInfo
+abbrev pub info_from : Text → Bool → ℕ → List (Text × List ℕ) → List MeantReference → GroupInfo
 info_from text named total names l = record {
   backrefs = ascending (filter (λ n. nat_le n total) (back_numbers l));
   named_groups = names;
   numeric_capture_group_references =
-      list_any (λ x. is_numeric text (position_at (bytes text) x.1) (role_of x.0) (target_of x.0)) l;
-  contains_subroutines = list_any (λ x. is_call (role_of x.0)) l;
-  self_recursive = list_any (λ x. is_call_of_all (role_of x.0) (target_of x.0)) l;
+      list_any (λ x. is_numeric text (position_at (bytes text) x.reach) (role_of x.reference) (target_of x.reference)) l;
+  contains_subroutines = list_any (λ x. is_call (role_of x.reference)) l;
+  self_recursive = list_any (λ x. is_call_of_all (role_of x.reference) (target_of x.reference)) l;
   total_groups = total;
   out_of_range_backref = find (λ n. nat_lt total n) (back_numbers l);
   numbered_groups_ignored = named;

@@ -42,13 +42,9 @@ pub data AtomStart : Type 0 where
 abbrev pub error_start : Located → AtomStart
 error_start e = read (failed e)
 
--- the assertion of the start of a line; in Oniguruma mode it is another variant
-abbrev pub start_of_line : Flags → Assertion
-start_of_line f = if f.oniguruma_mode then StartLineOniguruma f.crlf else StartLine f.crlf
-
--- what `^` stands for: under MULTI the start of each line
+-- what `^` stands for: under MULTI the start of each line, which in Oniguruma mode is another variant
 abbrev pub start_anchor : Flags → Assertion
-start_anchor f = if f.multi then start_of_line f else StartText
+start_anchor f = if f.multi then (if f.oniguruma_mode then StartLineOniguruma f.crlf else StartLine f.crlf) else StartText
 
 -- what `$` stands for: under MULTI the end of each line
 abbrev pub end_anchor : Flags → Assertion
@@ -112,22 +108,16 @@ flags_start (gives (inline_flags f) u) = read (done empty (record { flags = f; r
 flags_start (gives (scoped f) u) = of_kind flag_group (record { flags = f; rest = u })
 flags_start (fails e) = error_start e
 
--- a verb; its name and closing parenthesis follow its asterisk
-abbrev pub verb_start : State → Text → AtomStart
-verb_start s t =
-    choose (verb_at t) (λ p. read (done (verb p.0) (at s p.1))) (error_start (unknown_verb (code "*" ∷ t)))
-
--- a verb as the condition of a conditional, after its asterisk
-abbrev pub verb_condition : State → Text → AtomStart
-verb_condition s t =
-    choose (verb_at t) (λ p. body (verb p.0) (at s p.1)) (error_start (unknown_verb (code "*" ∷ t)))
+-- after an asterisk: the start that f makes of the verb whose name and closing parenthesis follow
+abbrev pub verb_start : (Tree → State → AtomStart) → State → Text → AtomStart
+verb_start f s t = choose (verb_at t) (λ p. f (verb p.0) (at s p.1)) (error_start (unknown_verb (code "*" ∷ t)))
 
 -- after `(?(`, which may not end the text: a condition, which is a target, a verb, or an alternation
 abbrev pub condition_start : State → Text → AtomStart
 condition_start s [] = error_start group_not_closed
 condition_start s (c ∷ t) =
     if begins_target (c ∷ t) then target_start s (condition_target (c ∷ t))
-    else if c == code "*" then verb_condition s t
+    else if c == code "*" then verb_start body s t
     else condition (at s (c ∷ t))
 
 -- after `(?~`, which may not end the text: an alternation
@@ -163,7 +153,7 @@ after_question s t = by_word (after_question_words s t) t (flags_start (letters 
 -- name
 abbrev pub group_start : State → Text → AtomStart
 group_start s t =
-    by_word ((codes "?", λ u. after_question s u) ∷ (codes "*", λ u. verb_start s u) ∷ []) t
+    by_word ((codes "?", λ u. after_question s u) ∷ (codes "*", λ u. verb_start (λ v z. read (done v z)) s u) ∷ []) t
     (of_kind (capture None) (at s t))
 
 -- the start of an atom, inside d groups

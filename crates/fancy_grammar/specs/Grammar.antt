@@ -16,7 +16,7 @@ use Rattle.fancy_lex.specs.declared.flags.Flags.{Flags}
 use Rattle.fancy_grammar.specs.AtomStart.{AtomStart, nothing, read, of_kind, condition, body, absent_branch, atom_start}
 use Rattle.fancy_grammar.specs.GroupKind.{group_node}
 use Rattle.fancy_grammar.specs.Join.{join, choice, is_empty}
-use Rattle.fancy_grammar.specs.Label.{AstReference, ast_condition}
+use Rattle.fancy_grammar.specs.Label.{ast_condition}
 use Rattle.fancy_grammar.specs.Quantified.{quants}
 use Rattle.fancy_grammar.specs.State.{ends, skipped, State, at, Outcome, done, failed, and_then, mapped}
 use Rattle.fancy_grammar.specs.Tree.{Tree, more_trees, list_of, empty, alt, conditional, clear, stopper}
@@ -35,12 +35,8 @@ abbrev pub closed : Tree → State → Outcome Tree
 closed r s = choose (strip (code ")") s.rest) (λ t. done r (at s t)) (failed (not_closed s.rest))
 
 -- whether the tree is a condition on a group, before it is resolved
-abbrev pub is_condition_node : AstReference → Bool
-is_condition_node (ast_condition t level) = true
-is_condition_node _ = false
-
 abbrev pub is_condition : Tree → Bool
-is_condition (ast_node node position) = is_condition_node node
+is_condition (ast_node (ast_condition t level) reach) = true
 is_condition _ = false
 
 -- a conditional of these branches; if both are Empty, only the condition

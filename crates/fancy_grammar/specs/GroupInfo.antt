@@ -10,8 +10,7 @@ use Rattle.fancy_lex.specs.declared.flags.Flags.{Flags}
 use Rattle.fancy_grammar.specs.Meaning.{Role, back_reference, call, Meaning, number}
 use Rattle.fancy_grammar.specs.Ranks.{only_named, numbered_openings, named_groups}
 use Rattle.fancy_grammar.specs.Written.{is_numeric}
-use Rattle.fancy_grammar.specs.Items.{openings, meanings, role_of, target_of}
-use Rattle.fancy_grammar.specs.Label.{AstReference}
+use Rattle.fancy_grammar.specs.Items.{openings, MeantReference, meanings, role_of, target_of}
 use Rattle.fancy_grammar.specs.Tree.{Tree}
 
 pub record GroupInfo : Type 0 where
@@ -30,8 +29,8 @@ back_number back_reference (number n) = Some n
 back_number _ _ = None
 
 -- the numbers of the back references, in text order
-abbrev pub back_numbers : List (AstReference × ℕ × Meaning) → List ℕ
-back_numbers l = filter_map (λ x. back_number (role_of x.0) x.2) l
+abbrev pub back_numbers : List MeantReference → List ℕ
+back_numbers l = filter_map (λ x. back_number (role_of x.reference) x.meaning) l
 
 -- the numbers ascending, each once
 abbrev pub ascending : List ℕ → List ℕ
@@ -56,9 +55,10 @@ group_info f text r =
       backrefs = ascending (filter (λ n. nat_le n total) (back_numbers references));
       named_groups = named_groups groups;
       numeric_capture_group_references =
-          list_any (λ x. is_numeric text (position_at (bytes text) x.1) (role_of x.0) (target_of x.0)) references;
-      contains_subroutines = list_any (λ x. is_call (role_of x.0)) references;
-      self_recursive = list_any (λ x. is_call_of_all (role_of x.0) (target_of x.0)) references;
+          list_any (λ x. is_numeric text (position_at (bytes text) x.reach) (role_of x.reference) (target_of x.reference))
+          references;
+      contains_subroutines = list_any (λ x. is_call (role_of x.reference)) references;
+      self_recursive = list_any (λ x. is_call_of_all (role_of x.reference) (target_of x.reference)) references;
       total_groups = total;
       out_of_range_backref = find (λ n. nat_lt total n) (back_numbers references);
       numbered_groups_ignored = only_named f (openings r);

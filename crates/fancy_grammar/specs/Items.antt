@@ -57,19 +57,26 @@ openings r = openings_in (items r)
 
 -- ---- what the references refer to
 
--- the references among the items, each with its reach and its meaning; `numbers_of` gives the numbers of each name, and
--- c groups that have a number open before the items
-abbrev pub meanings_in : Bool → (Text → List ℕ) → ℕ → List Item → List (AstReference × ℕ × Meaning)
+-- a reference with its reach and its meaning
+pub record MeantReference : Type 0 where
+  pub reference : AstReference
+  pub reach : ℕ
+  pub meaning : Meaning
+
+-- the references among the items, with their meanings; `numbers_of` gives the numbers of each name, and c groups that
+-- have a number open before the items
+abbrev pub meanings_in : Bool → (Text → List ℕ) → ℕ → List Item → List MeantReference
 meanings_in named numbers_of c [] = []
 meanings_in named numbers_of c (opening o ∷ l) =
     meanings_in named numbers_of (if is_counted named o.name then c + 1 else c) l
 meanings_in named numbers_of c (reference r reach ∷ l) =
-    (r, reach, refers_to numbers_of c (role_of r) (target_of r)) ∷ meanings_in named numbers_of c l
+    record { reference = r; reach = reach; meaning = refers_to numbers_of c (role_of r) (target_of r) }
+    ∷ meanings_in named numbers_of c l
 
 -- the numbers of each name in a raw tree, under the flags that the caller gives
 abbrev pub numbers_in : Flags → Tree → Text → List ℕ
 numbers_in f r name = numbers name (numbered_openings f (openings r))
 
--- the references of a raw tree in text order, each with its reach and its meaning
-abbrev pub meanings : Flags → Tree → List (AstReference × ℕ × Meaning)
+-- the references of a raw tree in text order, with their meanings
+abbrev pub meanings : Flags → Tree → List MeantReference
 meanings f r = meanings_in (only_named f (openings r)) (numbers_in f r) 0 (items r)

@@ -26,9 +26,12 @@ pub mod GroupInfo
 pub mod ParseResult
 pub mod Preorder
 pub mod ParsedTree
+pub mod References
 -- ---- the spans of nodes
 pub mod Spans
 pub mod Trivia
+-- ---- what a parse promises
+pub mod Promises
 -- ---- printing, and how a printed text reads
 pub mod Quote
 pub mod Printed

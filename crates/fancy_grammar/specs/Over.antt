@@ -48,20 +48,11 @@ abbrev mutual
   parens_all no_trees = []
   parens_all (more_trees t ts) = parens t PIECE ++ moved (bytes (printed t PIECE)) 0 (parens_all ts)
 
+  -- the same for branches, with a bar between each two
   pub parens_branches : Trees → List Paren
   parens_branches no_trees = []
-  parens_branches (more_trees t ts) = parens t BRANCH ++ moved (bytes (printed t BRANCH)) 0 (parens_barred ts)
+  parens_branches (more_trees t ts) = parens t BRANCH ++ moved (bytes (printed t BRANCH) + 1) 0 (parens_branches ts)
 
-  -- the parentheses of branches, from the bar before the first of them
-  pub parens_barred : Trees → List Paren
-  parens_barred no_trees = []
-  parens_barred (more_trees t ts) =
-      moved 1 0 (parens t BRANCH ++ moved (bytes (printed t BRANCH)) 0 (parens_barred ts))
-
--- a group that opens here is too deep, and the groups around it are not
-abbrev pub is_too_deep : Paren → Bool
-is_too_deep q = q.round + 1 == max_depth
-
--- the first parenthesis in the tree's text at a precedence that is too deep
+-- the parenthesis of the first group that is too deep in the tree's text at a precedence
 abbrev pub too_deep : Tree → ℕ → Option Paren
-too_deep t p = find is_too_deep (parens t p)
+too_deep t p = find (λ q. q.round + 1 == max_depth) (parens t p)

@@ -23,6 +23,14 @@ pub data IsErrorOf : Flags → Text → Kind → ℕ → Type 0 where
   of_resolving : {f text k p q r : _} → DerivesTree f text r → error_of f r ≡ Some (record { reach = q; kind = k }) →
       IsPositionOf (bytes text) q p → IsErrorOf f text k p
 
+-- the text has a tree
+abbrev pub HasTree : Flags → Text → Type 0
+HasTree f text = (t : Tree) × (m : GroupInfo) × IsTreeOf f text t m
+
+-- the text has an error
+abbrev pub HasError : Flags → Text → Type 0
+HasError f text = (k : Kind) × (position : ℕ) × IsErrorOf f text k position
+
 -- memory ran out, or the text has this error and no other, and it has no tree
 abbrev pub IsOnlyError : Error → Flags → Text → Type 0
 IsOnlyError e f text = IfParseError e (λ k p.

@@ -12,13 +12,9 @@ use Rattle.fancy_grammar.specs.Tree.{group, repeat, delegate, define_group}
 abbrev pub is_count : ℕ → Bool
 is_count n = nat_le n most
 
--- what a quantifier may follow; whether a normal form is Empty does not depend on UNICODE
-abbrev pub takes_quantifier : Tree → Bool
-takes_quantifier t = not (is_empty (normal false t))
-
 abbrev mutual
-  -- every node has a text, the text of a Delegate is one whole class or class escape, and the operand of each Repeat
-  -- takes a quantifier; the contents of a DefineGroup are not checked
+  -- every node has a text, that of a Delegate is one class or class escape, the limits of a Repeat are counts, and the
+  -- normal form of its operand, under UNICODE or not, is not Empty; the contents of a DefineGroup are not checked
   pub printable : Tree → Bool
   printable empty = true
   printable (any newline crlf) = true
@@ -29,7 +25,7 @@ abbrev mutual
   printable (concat ts) = all_printable ts
   printable (alt ts) = all_printable ts
   printable (group t) = printable t
-  printable (repeat t lo hi greedy) = printable t && (takes_quantifier t && (is_count lo && is_count hi))
+  printable (repeat t lo hi greedy) = printable t && (not (is_empty (normal false t)) && (is_count lo && is_count hi))
   printable (define_group t) = true
   printable _ = false
 

@@ -1,14 +1,13 @@
 -- What is parsed when the text that was printed for a tree is read again.
-use Rattle.std.specs.Prelude.{◌≡◌, ℕ, Bool, true, false, [], length, Option, Some, None}
+use Rattle.std.specs.Prelude.{◌≡◌, ℕ, Bool, false, [], length, Option, Some, None}
 use Rattle.fancy_lex.specs.Located.{Kind, recursion_exceeded}
-use Rattle.fancy_lex.specs.Flags.{no_flag, unicode_alone}
 use Rattle.fancy_lex.specs.Text.{Text}
 use Rattle.fancy_lex.specs.declared.flags.Flags.{Flags}
 use Rattle.fancy_grammar.specs.ParseResult.{IsTreeOf, IsErrorOf}
 use Rattle.fancy_grammar.specs.ParsedTree.{groups}
 use Rattle.fancy_grammar.specs.GroupInfo.{GroupInfo}
 use Rattle.fancy_grammar.specs.Tree.{Tree}
-use Rattle.fancy_grammar.specs.Normal.{normal}
+use Rattle.fancy_grammar.specs.Normal.{normal, unicode_flags}
 use Rattle.fancy_grammar.specs.Over.{Paren, too_deep}
 
 -- the group information of a tree with this many groups, without names and without references
@@ -48,6 +47,5 @@ abbrev pub read_back : Bool → Tree → ℕ → ParseResult
 read_back u t p = read_or_refused (normal u t) (too_deep t p)
 
 -- the text has this result and no other, both with no flag and with only FLAG_UNICODE
-pub record IsReadBack (t : Tree) (p : ℕ) (text : Text) : Type 0 where
-  pub plain : IsOnlyResult no_flag text (read_back false t p)
-  pub unicode : IsOnlyResult unicode_alone text (read_back true t p)
+abbrev pub IsReadBack : Tree → ℕ → Text → Type 0
+IsReadBack t p text = (u : Bool) → IsOnlyResult (unicode_flags u) text (read_back u t p)

@@ -5,7 +5,7 @@ use Rattle.fancy_lex.specs.Text.{Text, position_at}
 use Rattle.fancy_lex.specs.declared.flags.Flags.{Flags}
 use Rattle.fancy_grammar.specs.Meaning.{Meaning, number, refers_to, error_or}
 use Rattle.fancy_grammar.specs.Ranks.{only_named, is_counted, numbered_openings_in}
-use Rattle.fancy_grammar.specs.Items.{openings, role_of, target_of, numbers_in, meanings}
+use Rattle.fancy_grammar.specs.Items.{openings, role_of, target_of, numbers_in, MeantReference, meanings}
 use Rattle.fancy_grammar.specs.Label.{AstReference, ast_backref, ast_call, ast_condition}
 use Rattle.fancy_grammar.specs.Tree.{Tree, leaf, over, row, Trees, no_trees, more_trees, group, ast_group, ast_node}
 use Rattle.fancy_grammar.specs.Tree.{backref, backref_at_level, subroutine_call, backref_exists}
@@ -42,10 +42,10 @@ module _ (m : ℕ) (named : Bool) (numbers_of : Text → List ℕ) where
 abbrev pub resolved : Flags → ℕ → Tree → Tree
 resolved f m r = resolved_in m (only_named f (openings r)) (numbers_in f r) 0 r
 
--- the first error among references with their reaches and meanings
-abbrev pub first_error : List (AstReference × ℕ × Meaning) → Option Located
+-- the first error among references
+abbrev pub first_error : List MeantReference → Option Located
 first_error [] = None
-first_error ((r, reach, m) ∷ l) = error_or m reach (first_error l)
+first_error (x ∷ l) = error_or x.meaning x.reach (first_error l)
 
 -- the first error among the references of the raw tree
 abbrev pub error_of : Flags → Tree → Option Located

@@ -90,8 +90,8 @@ alone p = node p no_spans
 abbrev pub around : Span → Spans → Spans
 around p x = node p (more_spans x no_spans)
 
--- the node of the pieces or branches that span p: if there is none, an Empty; if there is one, that one; otherwise a
--- node around them
+-- the node of the pieces or branches that span p: without any an Empty, a single one itself, otherwise a node around
+-- them
 abbrev pub one_or_node : Span → Forest → Spans
 one_or_node p no_spans = alone p
 one_or_node p (more_spans x no_spans) = x
@@ -131,7 +131,7 @@ group_spans named _ p x = around p x
 abbrev pub body_parts : Tree → State → Spans → Spans × Spans
 body_parts (alt ts) v (node p (more_spans x (after_bar b xs))) =
     (x, one_or_node (record { start = b; end = p.end }) xs)
-body_parts r v x = (x, alone (between v (done r v)))
+body_parts r v x = (x, alone (record { start = reach_of v.rest; end = reach_of v.rest }))
 
 -- a conditional that spans p, with its condition and its body; if both branches are Empty, only the condition
 abbrev pub conditional_spans : Span → Spans → Outcome Tree → Spans → Spans

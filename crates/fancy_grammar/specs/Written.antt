@@ -9,12 +9,8 @@ use Rattle.fancy_grammar.specs.Meaning.{Role, back_reference, call, condition}
 abbrev pub is_after_backslash : Text → ℕ → Bool
 is_after_backslash text position = nat_lt 0 position && slice_index (encode_utf8_all text) (position - 1) == code "\\"
 
--- whether a reference by number counts as numeric: each call, and a back reference directly after its backslash
-abbrev pub is_numeric_role : Text → ℕ → Role → Bool
-is_numeric_role text position call = true
-is_numeric_role text position back_reference = is_after_backslash text position
-is_numeric_role text position condition = false
-
+-- whether a reference counts as numeric: a call by number, and a back reference by number directly after its backslash
 abbrev pub is_numeric : Text → ℕ → Role → Target → Bool
-is_numeric text position role (by_number n) = is_numeric_role text position role
+is_numeric text position role (by_number n) =
+    elim role [ call ↦ true | back_reference ↦ is_after_backslash text position | condition ↦ false ]
 is_numeric text position role _ = false

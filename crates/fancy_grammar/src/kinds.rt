@@ -16,6 +16,18 @@ pub enum LookAround {
     LookBehindNeg,
 }
 
+impl LookAround {
+    /// Returns the name of the variant, such as `LookAhead`.
+    pub fn name(self) -> &'static str {
+        match self {
+            LookAround::LookAhead => "LookAhead",
+            LookAround::LookAheadNeg => "LookAheadNeg",
+            LookAround::LookBehind => "LookBehind",
+            LookAround::LookBehindNeg => "LookBehindNeg",
+        }
+    }
+}
+
 /// A backtracking control verb: it consumes nothing and steers the search.
 #[derive(Clone, Copy, PartialEq, Eq, Debug, Drop)]
 pub enum BacktrackingControlVerb {
@@ -52,6 +64,17 @@ impl BacktrackingControlVerb {
             BacktrackingControlVerb::Commit => "COMMIT",
             BacktrackingControlVerb::Skip => "SKIP",
             BacktrackingControlVerb::Prune => "PRUNE",
+        }
+    }
+
+    /// Returns the name of the variant, such as `Fail`.
+    pub fn name(self) -> &'static str {
+        match self {
+            BacktrackingControlVerb::Fail => "Fail",
+            BacktrackingControlVerb::Accept => "Accept",
+            BacktrackingControlVerb::Commit => "Commit",
+            BacktrackingControlVerb::Skip => "Skip",
+            BacktrackingControlVerb::Prune => "Prune",
         }
     }
 }

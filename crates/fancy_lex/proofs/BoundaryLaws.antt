@@ -186,7 +186,7 @@ module _ (x : Bool) (t : Text) where
           is = cond-false _ _ _ (differ n.word row.0 v n.read h) ∙ n.is;
         }
 
-  -- if no name in the list is at the front, a word that is there is none of them
+  -- if no name in the list is at the front, a word there is not in the list
   unnamed : (w v : Text) → after_name x w t ≡ Some v → (rows : List (Text × Assertion)) →
       boundary_among x t rows ≡ None → lookup (λ known. bytes_eq w known) rows ≡ None
   unfolding boundary_among

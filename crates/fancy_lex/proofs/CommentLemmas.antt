@@ -5,7 +5,7 @@ use Rattle.std.proofs.lemmas.Bool.Decides.{nat_tests}
 use Prim.Native.Char.{code}
 use Rattle.fancy_lex.specs.Comments.{comments, comments_from, closed_before, line_before}
 use Rattle.fancy_lex.specs.Layout.{is_blank}
-use Rattle.fancy_lex.specs.LayoutSteps.{two, comment, escaped, line, after_comment_start}
+use Rattle.fancy_lex.specs.LayoutSteps.{comment, escaped, line, after_comment_start}
 use Rattle.fancy_lex.specs.Text.{Text, reach_of}
 
 module _ (x : Bool) (p : ℕ) (t : Text) where
@@ -74,7 +74,7 @@ none_at_end x t e = rw e refl
 -- the cases of a step, by the tests of the code
 module _ (x : Bool) (t : Text) (c : ℕ) (r : Text) (e : t ≡ c ∷ r) (none : after_comment_start t ≡ None)
     (ignore_space : x ≡ true) where
-  next_is : comments x t ≡ (if is_some (after_comment_start t) then comments_from x two (reach_of t) r
+  next_is : comments x t ≡ (if is_some (after_comment_start t) then comments_from x comment (reach_of t) r
       else if x && c == code "#" then comments_from x line (reach_of t) r
       else if x && is_blank c then comments x r else [])
   unfolding comments_from

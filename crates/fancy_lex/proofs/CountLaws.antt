@@ -2,7 +2,7 @@
 -- which is an ASCII one.
 use Rattle.std.proofs.Common.{◌≡◌, ℕ, ◌<◌, ◌^◌, nat_lt, ◌==◌, true, [], ◌∷◌, ◌++◌, List, chars, ap, sym, ◌∙◌}
 use Rattle.std.proofs.Common.{append_assoc, length-append, Bor, Option, Some, None, IfSome, option_map, unwrap_or, refl}
-use Rattle.std.proofs.Common.{subst, arith, Bool}
+use Rattle.std.proofs.Common.{subst, arith, Bool, if◌then◌else◌}
 use Rattle.std.specs.Prelude.{option_and_then}
 use Rattle.std.proofs.lemmas.Bool.{cond_both}
 use Prim.Native.Char.{code}
@@ -16,7 +16,8 @@ use Rattle.fancy_lex.specs.Number.{number}
 use Rattle.fancy_lex.specs.Text.{Text, EndsWith, strip}
 use Rattle.fancy_lex.proofs.GroupStartLaws.{takes_strip}
 use Rattle.fancy_lex.specs.Quantifier.{counts, braced_counts, counts_from, in_braces, spaced_count}
-use Rattle.fancy_lex.specs.Quantifier.{count, count_of, exact_or_range, most}
+use Rattle.fancy_lex.specs.Quantifier.{count, exact_or_range, most}
+use Rattle.fancy_lex.specs.Reading.{choose}
 use Rattle.fancy_lex.specs.declared.counts.Counts.{Counts}
 
 takes_none : (t : Text) → Takes 0 t t
@@ -34,7 +35,9 @@ takes_count : (t : Text) → TakesSome 0 t (count t)
 unfolding count
 takes_count t = by_number (number t) (takes_number t)
   where
-    by_number : (o : Option (ℕ × Text)) → TakesSome 0 t o → TakesSome 0 t (count_of t o)
+    by_number : (o : Option (ℕ × Text)) → TakesSome 0 t o →
+        TakesSome 0 t (choose {B = Option (Option ℕ × Text)} o
+        (λ p. if nat_lt p.0 (2 ^ 64) then Some (Some p.0, p.1) else None) (Some (None, t)))
     by_number None h = takes_none t
     by_number (Some (n, u)) h = cond_both (nat_lt n (2 ^ 64)) _ _ (TakesSome 0 t) (λ _. h) (λ _. tt)
 

@@ -7,7 +7,8 @@ use Rattle.std.proofs.lemmas.Bool.Decides.{nat_tests}
 use Rattle.std.specs.Char.{digit_value, is_ascii_digit}
 use Prim.Native.Char.{code}
 use Rattle.fancy_lex.specs.Characters.{◌∈◌}
-use Rattle.fancy_lex.specs.Escape.{escape, escape_at, number_escape, property, lone_escape, unknown_escape}
+use Rattle.fancy_lex.specs.Escape.{escape, escape_at, number_escape, property, lone_escape}
+use Rattle.fancy_lex.specs.ErrorTable.{letter_of_no_escape}
 use Rattle.fancy_lex.specs.EscapeReference.{group_number}
 use Rattle.fancy_lex.specs.Escaped.{Escape, delegate, literal, literal_bytes}
 use Rattle.fancy_lex.specs.Located.{invalid_class, invalid_hex, invalid_codepoint_value, unclosed_unicode_name}
@@ -15,7 +16,7 @@ use Rattle.fancy_lex.specs.Hex.{hex, value, braced_value, hex_digits, fixed_digi
 use Rattle.fancy_lex.specs.Hex.{leaf_of_value}
 use Rattle.fancy_lex.specs.Hex.{is_scalar}
 use Rattle.fancy_lex.specs.Layout.{is_blank}
-use Rattle.fancy_lex.specs.LayoutSteps.{layout, layout_from, Skipped, rest, failed, Phase, between, two, one, comment}
+use Rattle.fancy_lex.specs.LayoutSteps.{layout, layout_from, Skipped, rest, failed, Phase, between, comment}
 use Rattle.fancy_lex.specs.LayoutSteps.{escaped, line, after_comment_start}
 use Rattle.fancy_lex.specs.Property.{Property, PropertyName, read_property, name_at, property_text}
 use Rattle.fancy_lex.specs.Property as property_spec
@@ -54,7 +55,7 @@ first_same c d t u e = cc
 -- a step between units; b says whether a comment opens
 abbrev step_on : Bool → Bool → ℕ → Text → Skipped
 step_on x b d t =
-    if b then layout_from x two t
+    if b then layout_from x comment t
     else if x && d == code "#" then layout_from x line t
     else if x && is_blank d then layout_from x between t
     else rest (d ∷ t)
@@ -72,7 +73,7 @@ module _ (x : Bool) (s : Text) (c : ℕ) (r : Text) (paren : c ≢ code "(") whe
         is_some (after_comment_start (d ∷ (t ++ s))) ≡ b → From between (d ∷ t)
     from_step b q z e =
         step_is x b d (t ++ s) z
-        ∙ from_if b _ _ _ _ _ _ (rec two) (from_if (x && d == code "#") _ _ _ _ _ _ (rec line)
+        ∙ from_if b _ _ _ _ _ _ (rec comment) (from_if (x && d == code "#") _ _ _ _ _ _ (rec line)
         (from_if (x && is_blank d) _ _ _ _ _ _ (rec between)
         (λ q. ap (λ (l : Text). rest (l ++ s)) (rest_same (d ∷ t) (c ∷ r) q)))) (sym (step_is x b d t q) ∙ e)
 
@@ -87,8 +88,6 @@ module _ (x : Bool) (s : Text) (c : ℕ) (r : Text) (paren : c ≢ code "(") whe
     from_next : (st : Phase) → From st (d ∷ t)
     unfolding layout_from
     from_next between e = from_between _ refl (cases_eq d (code "(")) e
-    from_next two e = rec one e
-    from_next one e = rec comment e
     from_next comment e = from_if (d == code ")") _ _ _ _ _ _ (rec between)
         (from_if (d == code "\\") _ _ _ _ _ _ (rec escaped) (rec comment)) e
     from_next escaped e = rec comment e
@@ -97,8 +96,6 @@ module _ (x : Bool) (s : Text) (c : ℕ) (r : Text) (paren : c ≢ code "(") whe
   layout_from_frame : (t : Text) (st : Phase) → From st t
   unfolding layout_from
   layout_from_frame [] between e = absurd cc
-  layout_from_frame [] two e = absurd cc
-  layout_from_frame [] one e = absurd cc
   layout_from_frame [] comment e = absurd cc
   layout_from_frame [] escaped e = absurd cc
   layout_from_frame [] line e = absurd cc
@@ -357,7 +354,8 @@ unfolding number_escape
 number_escape_stays f p t there = numbered_on p there (group_number t)
 
 lone_stays : (p q c : ℕ) (t : Text) (o : Option Escape) →
-    Stays (choose o (λ e. gives e t) (unknown_escape p c)) (λ s. choose o (λ e. gives e (t ++ s)) (unknown_escape q c))
+    Stays (choose o (λ e. gives e t) (fails (letter_of_no_escape p c)))
+    (λ s. choose o (λ e. gives e (t ++ s)) (fails (letter_of_no_escape q c)))
 lone_stays p q c t (Some e) = λ s. refl
 lone_stays p q c t None = tt
 

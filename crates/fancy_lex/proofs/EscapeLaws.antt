@@ -1,6 +1,6 @@
 -- What holds of every escape: the rest of the text is a suffix of it, and the error is at a character boundary of the
 -- text or one past its end.
-use Rattle.std.proofs.Common.{length, codes, ◌≡◌, ℕ, zero, suc, ◌+◌, ◌*◌, ◌≤◌, Bool, true, false, ◌==◌, nat_lt}
+use Rattle.std.proofs.Common.{length, ◌≡◌, ℕ, zero, suc, ◌+◌, ◌*◌, ◌≤◌, Bool, true, false, ◌==◌, nat_lt}
 use Rattle.std.proofs.Common.{if◌then◌else◌, [], ◌∷◌, ◌++◌, Option, Some, None, option_map, refl, subst, arith}
 use Rattle.std.specs.Char.{digit_value}
 use Prim.Native.Char.{code}
@@ -11,7 +11,8 @@ use Rattle.fancy_lex.specs.Characters.{◌∈◌}
 use Rattle.fancy_lex.specs.Escape.{escape, escape_at, number_escape, call_escape, backref_leaf, property, outside}
 use Rattle.fancy_lex.specs.EscapeReference.{back_reference}
 use Rattle.fancy_lex.specs.Escaped.{Escape}
-use Rattle.fancy_lex.specs.Located.{Kind, invalid_escape}
+use Rattle.fancy_lex.specs.Located.{Kind}
+use Rattle.fancy_lex.specs.ErrorTable.{boundary_not_closed}
 use Rattle.fancy_lex.specs.Hex as hexes
 use Rattle.fancy_lex.specs.LayoutSteps.{Skipped, rest, failed, layout}
 use Rattle.fancy_lex.specs.Property.{single, braced, name_at, read_property}
@@ -132,8 +133,10 @@ module _ (p : ℕ) where
   -- word boundaries
   module _ (x : Bool) where
     leaves_name_after : (k : ℕ) → ((t : Text) → Leaves p t (boundary_steps.name x p k t)) → (t : Text) →
-        Leaves p t (boundary_steps.up_to_brace (error_at p (invalid_escape (codes "\\b{...}"))) (gives [])
-        (λ c v. boundary_steps.name x p k v >=> (λ w v. gives (c ∷ w) v)) t)
+        Leaves {A = Text} p t (elim t [
+          | [] ↦ fails (boundary_not_closed p)
+          | c ∷ v ↦ if c == code "}" then gives [] v else (boundary_steps.name x p k v >=> (λ w v. gives (c ∷ w) v))
+        ])
     leaves_name_after k more [] = leaves_given
     leaves_name_after k more (c ∷ t) =
         let past = ends_past c t t (ends_whole t) in

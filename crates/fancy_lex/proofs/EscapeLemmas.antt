@@ -3,18 +3,19 @@ use Rattle.std.proofs.Common.{◌≡◌, ℕ, Bool, [], ◌∷◌, Option, Some,
 use Rattle.fancy_lex.specs.declared.flags.Flags.{Flags}
 use Rattle.fancy_lex.specs.Characters.{◌∈◌}
 use Rattle.fancy_lex.specs.Delimited.{delimited_name}
-use Rattle.fancy_lex.specs.Escape.{call_escape, property, unknown_escape}
+use Rattle.fancy_lex.specs.Escape.{call_escape, property}
+use Rattle.fancy_lex.specs.ErrorTable.{letter_of_no_escape}
 use Rattle.fancy_lex.specs.EscapeReference.{delimited_call, subroutine_call}
 use Rattle.fancy_lex.specs.Escaped as leaf
 use Rattle.fancy_lex.specs.Escaped.{delegate}
 use Rattle.fancy_lex.specs.Located.{unclosed_unicode_name}
 use Rattle.fancy_lex.specs.Property.{Property, read_property, name_at, property_text}
-use Rattle.fancy_lex.specs.Reading.{gives, error_at}
+use Rattle.fancy_lex.specs.Reading.{gives, fails, error_at}
 use Rattle.fancy_lex.specs.Referred.{Call}
 use Rattle.fancy_lex.specs.Text.{Text}
 
 module _ (f : Flags) (inside : Bool) (p c : ℕ) (t : Text) where
-  pub property_end : t ≡ [] → property f inside p c t ≡ unknown_escape p c
+  pub property_end : t ≡ [] → property f inside p c t ≡ fails (letter_of_no_escape p c)
   unfolding property
   property_end e = rw e refl
 

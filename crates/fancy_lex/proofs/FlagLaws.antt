@@ -5,11 +5,11 @@ use Rattle.fancy_lex.proofs.EscapeLaws.{leaves_layout}
 use Rattle.fancy_lex.proofs.LeaveLaws.{ends_whole, lies_at_start, lies_at_end, Leaves, leaves, whole_next, leaves_none}
 use Rattle.fancy_lex.proofs.LeaveLaws.{leaves_given, leaves_if, leaves_both}
 use Rattle.fancy_lex.specs.ErrorTable.{mode_changed}
-use Rattle.fancy_lex.specs.Reading.{Reading, fails}
+use Rattle.fancy_lex.specs.Reading.{Reading, gives, fails, choose}
 use Rattle.fancy_lex.specs.Text.{Text, bytes, reach_of}
 use Rattle.fancy_lex.specs.declared.flags.Flags.{Flags}
 use Rattle.fancy_lex.specs.FlagLetters.{Letters, LetterStep, flags_end, flags_go_on}
-use Rattle.fancy_lex.specs.LetterSteps.{step, unknown_letter, flag_or_error, after_step, letters_in, letters}
+use Rattle.fancy_lex.specs.LetterSteps.{step, unknown_letter, after_step, letters_in, letters}
 
 -- t is the text that begins with the letters; its reach is given
 module _ (t : Text) where
@@ -19,10 +19,10 @@ module _ (t : Text) where
   leaves_unknown : (u v : Text) → Leaves given v (unknown_letter t u)
   leaves_unknown u v = leaves_given
 
-  leaves_flag_or_error : (clears : Bool) (c : ℕ) (u : Text) (o : Option Flags) →
-      Leaves given (c ∷ u) (flag_or_error t clears u o)
-  leaves_flag_or_error clears c u (Some f) = whole_next u
-  leaves_flag_or_error clears c u None = leaves_unknown u (c ∷ u)
+  leaves_letter : (clears : Bool) (c : ℕ) (u : Text) (o : Option Flags) →
+      Leaves given (c ∷ u) (choose o (λ g. gives (flags_go_on clears g) u) (unknown_letter t u))
+  leaves_letter clears c u (Some f) = whole_next u
+  leaves_letter clears c u None = leaves_unknown u (c ∷ u)
 
   leaves_changing : (c : ℕ) (u : Text) → Leaves {A = LetterStep} given (c ∷ u) (fails (mode_changed (c ∷ u)))
   leaves_changing c u = leaves_none (lies_at_start (c ∷ u))
@@ -30,7 +30,7 @@ module _ (t : Text) where
   leaves_step : (clears : Bool) (f : Flags) (u : Text) → Leaves given u (step t clears f u)
   leaves_step clears f [] = leaves_none (lies_at_end [])
   leaves_step clears f (c ∷ u) =
-      search (leaves_if, whole_next, leaves_unknown, leaves_changing, leaves_flag_or_error) depth 60 fits 3000
+      search (leaves_if, whole_next, leaves_unknown, leaves_changing, leaves_letter) depth 60 fits 3000
 
   leaves_after : (more : Bool → Flags → Text → Reading Letters) →
       ((c : Bool) (f : Flags) (u : Text) → Leaves given u (more c f u)) →

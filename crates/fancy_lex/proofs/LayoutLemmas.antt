@@ -6,7 +6,7 @@ use Prim.Native.Char.{code}
 use Rattle.fancy_lex.specs.Text.{Text, at_end, past_end}
 use Rattle.fancy_lex.specs.Layout.{is_blank}
 use Rattle.fancy_lex.specs.LayoutSteps.{rest, failed, layout_from, between}
-use Rattle.fancy_lex.specs.LayoutSteps.{two, comment, escaped, line, is_layout, after_comment_start}
+use Rattle.fancy_lex.specs.LayoutSteps.{comment, escaped, line, is_layout, after_comment_start}
 
 module _ (x : Bool) (t : Text) where
   pub comment_end : t ≡ [] → layout_from x comment t ≡ failed at_end
@@ -42,8 +42,9 @@ module _ (x : Bool) (t : Text) where
     line_step e = ap (layout_from x line) e
 
     pub between_step : t ≡ c ∷ r → layout_from x between
-        t ≡ (if is_some (after_comment_start t) then layout_from x two r else if x && c == code "#" then layout_from x
-        line r else if x && is_blank c then layout_from x between r else rest t)
+        t ≡ (if is_some (after_comment_start t) then layout_from x comment r
+        else if x && c == code "#" then layout_from x line r
+        else if x && is_blank c then layout_from x between r else rest t)
     unfolding layout_from
     between_step e = rw e refl
 

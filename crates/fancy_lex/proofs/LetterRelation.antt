@@ -17,14 +17,14 @@ use Rattle.fancy_lex.specs.ErrorTable.{comment_not_closed, group_not_closed, no_
 use Rattle.fancy_lex.specs.Layout.{Units, none, more as unit_more, IsUnit, is_blank}
 use Rattle.fancy_lex.specs.LayoutSteps.{Skipped, rest, failed, layout}
 use Rattle.fancy_lex.specs.Layout.{Before}
-use Rattle.fancy_lex.specs.Reading.{Reading, gives, fails, ◌>=>◌, Returns, Derives}
+use Rattle.fancy_lex.specs.Reading.{Reading, gives, fails, ◌>=>◌, choose, Returns, Derives}
 use Rattle.fancy_lex.specs.Text.{Text, bytes}
 use Rattle.fancy_lex.specs.declared.error.ReadError.{ReadError}
 use Rattle.fancy_lex.specs.declared.flags.Flags.{Flags}
 use Rattle.fancy_lex.specs.FlagLetters.{Letters, inline_flags, flag_group, with_letter, LetterStep, flags_end}
 use Rattle.fancy_lex.specs.FlagLetters.{flags_go_on}
 use Rattle.fancy_lex.specs.FlagLetters.{NoLetter, closed_without_letter, scoped_without_letter, second_minus, names_no_flag}
-use Rattle.fancy_lex.specs.LetterSteps.{is_first, is_after_minus, unknown_letter, flag_or_error, step, after_step}
+use Rattle.fancy_lex.specs.LetterSteps.{is_first, is_after_minus, unknown_letter, step, after_step}
 use Rattle.fancy_lex.specs.LetterSteps.{letters_in, letters}
 use Rattle.fancy_lex.specs.FlagLetters.{Letter, flag, same_mode, minus, parenthesis, colon, no_letter, other_mode}
 use Rattle.fancy_lex.specs.FlagLetters.{Next, LettersFrom, last, more, letter_error, text_end, open_layout, GroupLetters}
@@ -246,7 +246,8 @@ module _ (t w : Text) (clears : Bool) (f : Flags) (c : ℕ) (u : Text) (cleared 
       rw (a, d, g, is, h) refl
 
   at_other : c ≢ code ")" → c ≢ code ":" → c ≢ code "-" → c ≢ code "u" →
-      step t clears f (c ∷ u) ≡ flag_or_error t clears u (with_letter f (not clears) c)
+      step t clears f (c ∷ u) ≡
+      choose (with_letter f (not clears) c) (λ g. gives (flags_go_on clears g) u) (unknown_letter t u)
   at_other a b d e =
       let a : (c == code ")") ≡ false = other_test c (code ")") a in
       let b : (c == code ":") ≡ false = other_test c (code ":") b in

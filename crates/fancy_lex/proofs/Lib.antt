@@ -3,8 +3,9 @@ pub mod TextLemmas
 pub mod LeaveLaws
 pub mod TakeLaws
 pub mod ReadingLemmas
--- ---- flags as bits
+-- ---- flags as bits, and as a word
 mod FlagLemmas
+mod FlagWordLemmas
 -- ---- layout, numbers, names and references
 pub mod LayoutLemmas
 pub mod CommentLemmas

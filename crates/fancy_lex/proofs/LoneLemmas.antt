@@ -8,9 +8,10 @@ use Rattle.std.specs.List.{AllByRecursion}
 use Rattle.std.specs.Option.{option_or}
 use Rattle.fancy_lex.specs.Characters.{is_among, ◌∈◌}
 use Rattle.fancy_lex.specs.Escape.{escape_at, outside, is_itself, lone_anywhere, lone_in_class, lone_outside, row_of}
-use Rattle.fancy_lex.specs.Escape.{lone_escape, unknown_escape}
+use Rattle.fancy_lex.specs.Escape.{lone_escape}
+use Rattle.fancy_lex.specs.ErrorTable.{letter_of_no_escape}
 use Rattle.fancy_lex.specs.Escaped.{Escape, literal}
-use Rattle.fancy_lex.specs.Reading.{gives, choose}
+use Rattle.fancy_lex.specs.Reading.{gives, fails, choose}
 use Rattle.fancy_lex.specs.Text.{Text}
 use Rattle.fancy_lex.specs.declared.flags.Flags.{Flags}
 
@@ -44,7 +45,7 @@ reads_on inside c = is_ascii_digit c || (c ∈ "xuUpP" || (not inside && c ∈ "
 module _ (f : Flags) (p c : ℕ) (t : Text) where
   by_position : (inside : Bool) → is_ascii_digit c ≡ false → (c ∈ "xuUpP") ≡ false →
       escape_at f inside p (c ∷ t) ≡ choose (lone_escape f inside c) (λ e. gives e t)
-      (if inside then unknown_escape p c else outside f p c t)
+      (if inside then fails (letter_of_no_escape p c) else outside f p c t)
   unfolding escape_at
   by_position inside digit on =
       let two : (c ∈ "x") ≡ false = grind (arith, nat_tests) in
@@ -53,7 +54,7 @@ module _ (f : Flags) (p c : ℕ) (t : Text) where
       let property : (c ∈ "pP") ≡ false = grind (arith, nat_tests) in
       rw (digit, two, four, eight, property) refl
 
-  no_other : (c ∈ "kgbB") ≡ false → outside f p c t ≡ unknown_escape p c
+  no_other : (c ∈ "kgbB") ≡ false → outside f p c t ≡ fails (letter_of_no_escape p c)
   unfolding outside
   no_other on =
       let name : (c ∈ "k") ≡ false = grind (arith, nat_tests) in
@@ -63,7 +64,7 @@ module _ (f : Flags) (p c : ℕ) (t : Text) where
 
   -- if nothing more belongs to it, the character is the whole escape, or is no escape
   pub alone : (inside : Bool) → reads_on inside c ≡ false →
-      escape_at f inside p (c ∷ t) ≡ choose (lone_escape f inside c) (λ e. gives e t) (unknown_escape p c)
+      escape_at f inside p (c ∷ t) ≡ choose (lone_escape f inside c) (λ e. gives e t) (fails (letter_of_no_escape p c))
   alone true on = by_position true (grind (arith, nat_tests)) (grind (arith, nat_tests))
   alone false on =
       by_position false (grind (arith, nat_tests)) (grind (arith, nat_tests))

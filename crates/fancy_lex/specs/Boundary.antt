@@ -24,7 +24,7 @@ boundary_names =
     ∷ (codes "start-half", LeftWordHalfBoundary)
     ∷ (codes "end-half", RightWordHalfBoundary) ∷ []
 
--- the boundary with this name after `\b`; after `\B`, which is negated, there is none
+-- the boundary with this name after `\b`; None after `\B`, which is negated
 abbrev pub boundary_of_name : Bool → Text → Option Assertion
 boundary_of_name negated name = if negated then None else lookup (λ w. bytes_eq name w) boundary_names
 

@@ -8,11 +8,6 @@ use Rattle.fancy_lex.specs.LayoutSteps.{layout}
 use Rattle.fancy_lex.specs.Reading.{Reading, gives, fails, ◌>=>◌, choose, layout_reading}
 use Rattle.fancy_lex.specs.Text.{Text, strip}
 
--- the text after a closing brace, or one more step, or the end of the text
-abbrev pub up_to_brace : {A : Type 0} → A → (Text → A) → (ℕ → Text → A) → Text → A
-up_to_brace end closed more [] = end
-up_to_brace end closed more (c ∷ t) = if c == code "}" then closed t else more c t
-
 -- the backslash is at the reach p; if x is true, blanks are layout
 module _ (x : Bool) (p : ℕ) where
   -- the name up to the first closing brace outside layout, with layout taken out; k is the number of steps left: each
@@ -21,11 +16,10 @@ module _ (x : Bool) (p : ℕ) where
   name zero t = fails (boundary_not_closed p)
   name (suc k) t =
       layout_reading (layout x t) >=> (λ _ u.
-      up_to_brace
-      (fails (boundary_not_closed p))
-      (gives [])
-      (λ c v. name k v >=> (λ w v. gives (c ∷ w) v))
-      u)
+      elim u [
+        | [] ↦ fails (boundary_not_closed p)
+        | c ∷ v ↦ if c == code "}" then gives [] v else (name k v >=> (λ w v. gives (c ∷ w) v))
+      ])
 
   -- after the opening brace
   unfoldable pub named_boundary : Bool → Text → Reading Escape

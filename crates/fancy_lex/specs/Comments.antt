@@ -2,7 +2,7 @@
 use Rattle.std.specs.Prelude.{ℕ, Bool, true, false, ◌&&◌, ◌==◌, if◌then◌else◌, List, [], ◌∷◌, is_some}
 use Prim.Native.Char.{code}
 use Rattle.fancy_lex.specs.Layout.{is_blank}
-use Rattle.fancy_lex.specs.LayoutSteps.{Phase, between, two, one, comment, escaped, line, after_comment_start}
+use Rattle.fancy_lex.specs.LayoutSteps.{Phase, between, comment, escaped, line, after_comment_start}
 use Rattle.fancy_lex.specs.Text.{Text, reach_of}
 
 -- a comment: the reaches at which it begins and ends, and whether a line feed or the end of the text ends it
@@ -24,14 +24,10 @@ line_before p t = record { start = p; end = reach_of t; is_line = true }
 unfoldable pub comments_from : Bool → Phase → ℕ → Text → List Comment
 comments_from x between p [] = []
 comments_from x between p (c ∷ t) =
-    if is_some (after_comment_start (c ∷ t)) then comments_from x two p t
+    if is_some (after_comment_start (c ∷ t)) then comments_from x comment p t
     else if x && c == code "#" then comments_from x line p t
     else if x && is_blank c then comments_from x between (reach_of t) t
     else []
-comments_from x two p [] = []
-comments_from x two p (c ∷ t) = comments_from x one p t
-comments_from x one p [] = []
-comments_from x one p (c ∷ t) = comments_from x comment p t
 comments_from x comment p [] = []
 comments_from x comment p (c ∷ t) =
     if c == code ")"

@@ -20,15 +20,11 @@ use Rattle.fancy_lex.specs.Reading.{Reading, gives, fails, ◌>=>◌, choose}
 use Rattle.fancy_lex.specs.Referred.{Reference}
 use Rattle.fancy_lex.specs.Text.{Text, reach_of}
 
--- the error of a letter that is no escape; here and below the backslash is at the reach p
-abbrev pub unknown_escape : ℕ → ℕ → Reading Escape
-unknown_escape p c = fails (letter_of_no_escape p c)
-
 -- the leaf of a back reference
 abbrev pub backref_leaf : Flags → Reading Reference → Reading Escape
 backref_leaf f o = o >=> (λ r u. gives (backref r f.casei) u)
 
--- digits are a back reference, which is an error in a class
+-- digits are a back reference, which is an error in a class; here and below the backslash is at the reach p
 unfoldable pub number_escape : Flags → Bool → ℕ → Text → Reading Escape
 number_escape f inside p t =
     if inside then reference.group_number t >=> (λ k u. fails (number_in_class p))
@@ -36,12 +32,12 @@ number_escape f inside p t =
 
 -- a call after its letter
 unfoldable pub call_escape : ℕ → ℕ → Text → Reading Escape
-call_escape p c [] = unknown_escape p c
+call_escape p c [] = fails (letter_of_no_escape p c)
 call_escape p c (d ∷ t) = reference.subroutine_call (d ∷ t) >=> (λ r u. gives (subroutine_call r) u)
 
 -- a property after its letter
 unfoldable pub property : Flags → Bool → ℕ → ℕ → Text → Reading Escape
-property f inside p c [] = unknown_escape p c
+property f inside p c [] = fails (letter_of_no_escape p c)
 property f inside p c (d ∷ t) =
     choose (read_property (c ∈ "P") (d ∷ t))
     (λ q. gives (delegate (property_text f.unicode inside q.0) f.casei) q.1)
@@ -108,7 +104,7 @@ outside f p c t =
     if c ∈ "k" then backref_leaf f (reference.back_reference t)
     else if c ∈ "g" then call_escape p c t
     else if c ∈ "bB" then boundary f.ignore_space p (c ∈ "B") t
-    else unknown_escape p c
+    else fails (letter_of_no_escape p c)
 
 -- the escape after the backslash, in a class or outside
 unfoldable pub escape_at : Flags → Bool → ℕ → Text → Reading Escape
@@ -119,7 +115,8 @@ escape_at f inside p (c ∷ t) =
     else if c ∈ "u" then hex f 4 t
     else if c ∈ "U" then hex f 8 t
     else if c ∈ "pP" then property f inside p c t
-    else choose (lone_escape f inside c) (λ e. gives e t) (if inside then unknown_escape p c else outside f p c t)
+    else choose (lone_escape f inside c) (λ e. gives e t)
+    (if inside then fails (letter_of_no_escape p c) else outside f p c t)
 
 -- the escape after a backslash that is right before t, in a class or outside
 abbrev pub escape : Flags → Bool → Text → Reading Escape

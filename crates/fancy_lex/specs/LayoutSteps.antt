@@ -15,12 +15,9 @@ abbrev pub rest_of : Skipped → Option Text
 rest_of (rest t) = Some t
 rest_of (failed p) = None
 
--- what the reader is inside: nothing, `(?#` with two characters or one left, a comment, a pair in a comment after its
--- backslash, or a line comment
+-- what the reader is inside: nothing, a comment, a pair in a comment after its backslash, or a line comment
 pub data Phase : Type 0 where
   between : Phase
-  two : Phase
-  one : Phase
   comment : Phase
   escaped : Phase
   line : Phase
@@ -33,19 +30,15 @@ is_layout x c = x && (c == code "#" || is_blank c)
 abbrev pub after_comment_start : Text → Option Text
 after_comment_start t = option_and_then (strip (code "#")) (option_and_then (strip (code "?")) (strip (code "(") t))
 
--- the text after the rest of the layout, or the reach of the error if a comment is not closed; no text ends inside
--- `(?#`, since all three characters are seen before the first is read
+-- the text after the rest of the layout, or the reach of the error if a comment is not closed; the phase is
+-- comment right after the `(`, since `?#` neither closes a comment nor begins a pair
 unfoldable pub layout_from : Bool → Phase → Text → Skipped
 layout_from x between [] = rest []
 layout_from x between (c ∷ t) =
-    if is_some (after_comment_start (c ∷ t)) then layout_from x two t
+    if is_some (after_comment_start (c ∷ t)) then layout_from x comment t
     else if x && c == code "#" then layout_from x line t
     else if x && is_blank c then layout_from x between t
     else rest (c ∷ t)
-layout_from x two [] = rest []
-layout_from x two (c ∷ t) = layout_from x one t
-layout_from x one [] = rest []
-layout_from x one (c ∷ t) = layout_from x comment t
 layout_from x comment [] = failed at_end
 layout_from x comment (c ∷ t) =
     if c == code ")" then layout_from x between t

@@ -1,11 +1,11 @@
 -- The letters of a flag group as they are read, one after another.
 use Rattle.std.specs.Prelude.{ℕ, zero, suc, ◌+◌, ◌-◌, ◌==◌, ◌&&◌, ◌||◌, Bool, true, false, not, [], ◌∷◌, length, take}
-use Rattle.std.specs.Prelude.{Option, Some, None, if◌then◌else◌}
+use Rattle.std.specs.Prelude.{if◌then◌else◌}
 use Rattle.std.proofs.Math.Bool.{beq}
 use Prim.Native.Char.{code}
 use Rattle.fancy_lex.specs.ErrorTable.{group_not_closed, no_flag_letter, mode_changed}
 use Rattle.fancy_lex.specs.LayoutSteps.{layout}
-use Rattle.fancy_lex.specs.Reading.{Reading, gives, fails, ◌>=>◌, layout_reading}
+use Rattle.fancy_lex.specs.Reading.{Reading, gives, fails, ◌>=>◌, choose, layout_reading}
 use Rattle.fancy_lex.specs.Text.{Text, bytes}
 use Rattle.fancy_lex.specs.declared.flags.Flags.{Flags}
 use Rattle.fancy_lex.specs.FlagLetters.{Letters, inline_flags, flag_group, with_letter, LetterStep, flags_end}
@@ -34,11 +34,6 @@ module _ (t : Text) where
   abbrev pub unknown_letter : Text → Reading LetterStep
   unknown_letter u = fails (no_flag_letter t (letters_before t u))
 
-  -- the letters go on under these flags, if the letter before `u` is a flag
-  abbrev pub flag_or_error : Bool → Text → Option Flags → Reading LetterStep
-  flag_or_error clears u (Some f) = gives (flags_go_on clears f) u
-  flag_or_error clears u None = unknown_letter u
-
   -- the letter at the front of the text
   abbrev pub step : Bool → Flags → Text → Reading LetterStep
   step clears f [] = fails group_not_closed
@@ -54,7 +49,7 @@ module _ (t : Text) where
       else if c == code "u" then (
       if beq clears f.unicode then fails (mode_changed (c ∷ u))
       else gives (flags_go_on clears f) u)
-      else flag_or_error clears u (with_letter f (not clears) c)
+      else choose (with_letter f (not clears) c) (λ g. gives (flags_go_on clears g) u) (unknown_letter u)
 
   -- at most k letters, each with layout before it; each step reads a byte or more, so in `letters` the steps are never
   -- used up

@@ -6,6 +6,7 @@ pub mod Text
 pub mod Flags
 pub mod FlagBits
 pub mod Flag
+pub mod FlagWord
 pub mod Located
 pub mod ErrorTable
 pub mod Reading

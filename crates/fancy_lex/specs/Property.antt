@@ -49,22 +49,18 @@ look_up name =
     else if bytes_eq name (codes "cs") then Cs
     else Other
 
--- the first form with UNICODE, and the second without
-abbrev pub form_by : Bool → Form → Form → Form
-form_by unicode with without = if unicode then with else without
-
 -- the table: how each name is written with UNICODE, and without
 abbrev pub form : Bool → KnownName → Text → Form
-form unicode Alnum name = form_by unicode (set (codes "\\p{alpha}\\p{digit}")) (set (codes "[:alnum:]"))
-form unicode Blank name = form_by unicode (set (codes "\\p{Zs}\\x09")) (set (codes "\\t "))
-form unicode Cntrl name = form_by unicode (set (codes "\\x00-\\x1F\\x7F-\\x9F")) (set (codes "[:cntrl:]"))
-form unicode Word name = form_by unicode (pair (codes "\\w") (codes "\\W")) (set (codes "_[:alnum:]"))
+form unicode Alnum name = if unicode then set (codes "\\p{alpha}\\p{digit}") else set (codes "[:alnum:]")
+form unicode Blank name = if unicode then set (codes "\\p{Zs}\\x09") else set (codes "\\t ")
+form unicode Cntrl name = if unicode then set (codes "\\x00-\\x1F\\x7F-\\x9F") else set (codes "[:cntrl:]")
+form unicode Word name = if unicode then pair (codes "\\w") (codes "\\W") else set (codes "_[:alnum:]")
 form unicode Graph name =
-    form_by unicode (pair (codes "[^\\p{White_Space}\\p{C}]") (codes "[\\p{White_Space}\\p{C}]"))
-    (set (codes "[:graph:]"))
+    if unicode then pair (codes "[^\\p{White_Space}\\p{C}]") (codes "[\\p{White_Space}\\p{C}]")
+    else set (codes "[:graph:]")
 form unicode Print name =
-    form_by unicode (pair (codes "[^\\p{C}\\t\\n\\v\\f\\r]") (codes "[\\p{C}\\t\\n\\v\\f\\r]"))
-    (set (codes "[:print:]"))
+    if unicode then pair (codes "[^\\p{C}\\t\\n\\v\\f\\r]") (codes "[\\p{C}\\t\\n\\v\\f\\r]")
+    else set (codes "[:print:]")
 form unicode Cs name = pair (codes "\\P{any}") (codes "\\p{any}")
 form unicode Other name = pair (codes "\\p{" ++ name ++ codes "}") (codes "\\P{" ++ name ++ codes "}")
 

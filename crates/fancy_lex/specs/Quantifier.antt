@@ -5,6 +5,7 @@ use Prim.Native.Char.{code}
 use Rattle.fancy_lex.specs.Text.{Text, strip}
 use Rattle.fancy_lex.specs.LayoutSteps.{past_layout}
 use Rattle.fancy_lex.specs.Number.{number}
+use Rattle.fancy_lex.specs.Reading.{choose}
 use Rattle.fancy_lex.specs.declared.counts.Counts.{Counts}
 
 -- the greatest count, which stands for no limit
@@ -16,14 +17,9 @@ infixl 10 ◌>>=◌
 abbrev pub ◌>>=◌ : {A B : Type 0} → Option A → (A → Option B) → Option B
 o >>= f = option_and_then f o
 
--- a number as a count: None if there is no digit; a number above the greatest count fails
-abbrev pub count_of : Text → Option (ℕ × Text) → Option (Option ℕ × Text)
-count_of t None = Some (None, t)
-count_of t (Some (n, u)) = if nat_lt n (2 ^ 64) then Some (Some n, u) else None
-
--- the count at the front, if there is one
+-- the count at the front, which is None if there is no digit; a number above the greatest count gives no result
 unfoldable pub count : Text → Option (Option ℕ × Text)
-count t = count_of t (number t)
+count t = choose (number t) (λ (n, u). if nat_lt n (2 ^ 64) then Some (Some n, u) else None) (Some (None, t))
 
 -- a count with layout around it
 unfoldable pub spaced_count : Bool → Text → Option (Option ℕ × Text)

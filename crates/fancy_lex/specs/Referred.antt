@@ -4,7 +4,7 @@ use Rattle.fancy_lex.specs.Delimited.{of_name}
 use Rattle.fancy_lex.specs.ErrorTable.{reference_not_read}
 use Rattle.fancy_lex.specs.IdReference.{IdReference, id_alone, id_and_amount, amount_alone, id_reference}
 use Rattle.fancy_lex.specs.NumberText.{number_text}
-use Rattle.fancy_lex.specs.Reading.{Reading, read_or}
+use Rattle.fancy_lex.specs.Reading.{Reading, choose, read_or}
 use Rattle.fancy_lex.specs.Target.{Target, by_number, by_name, relative}
 use Rattle.fancy_lex.specs.Text.{Text}
 
@@ -27,14 +27,9 @@ reference_to p g l = record { target = g; level = l; reach = p }
 abbrev pub call_to : ℕ → Target → Call
 call_to p g = record { target = g; reach = p }
 
--- the group of the number if there is one, and otherwise of the name
-abbrev pub number_or_name : Text → Option ℕ → Target
-number_or_name w (Some n) = by_number n
-number_or_name w None = by_name w
-
 -- a number text refers to a group by number; any other name refers to it by name
 unfoldable pub target_of_name : Text → Target
-target_of_name w = number_or_name w (number_text w)
+target_of_name w = choose (number_text w) by_number (by_name w)
 
 -- the reference at the reach p by an id reference; an amount without an id is relative, and one after an id is a level
 unfoldable pub reference_of : ℕ → IdReference → Reference

@@ -45,7 +45,7 @@ pub fn upper_hex_digit(digit: u8) -> char
 }
 
 /// Adds `\x` and the two digits of the byte.
-fn push_byte(out: &mut String, byte: u8) -> Result<(), AllocError>
+pub fn push_byte(out: &mut String, byte: u8) -> Result<(), AllocError>
     ensures { OnOk result (text_of out.new ≡ text_of out.old ++ spec.byte_text byte) }
 {
     append(out, r"\x")?;

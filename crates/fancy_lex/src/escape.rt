@@ -6,8 +6,9 @@ ghost use Rattle.fancy_lex.specs.Escape as spec;
 ghost use Rattle.fancy_lex.specs.EscapeReference as references;
 ghost use Rattle.fancy_lex.specs.Escaped as leaf;
 ghost use Rattle.fancy_lex.specs.EscapeViews.{escape_of, delegate_text};
-ghost use Rattle.fancy_lex.specs.Reading.{Reads, Returns, Reports};
+ghost use Rattle.fancy_lex.specs.Reading.{fails, Reads, Returns, Reports};
 ghost use Rattle.fancy_lex.specs.Text.{EndsWith, text_of};
+ghost use Rattle.fancy_lex.specs.ErrorTable.{letter_of_no_escape};
 ghost use Rattle.fancy_lex.specs.ErrorViews.{LiesWithin};
 
 use crate::error::{ParseError, ReadError};
@@ -54,6 +55,63 @@ pub enum Assertion {
     WordBoundary,
     /// Neither the start nor the end of a word: `\B`.
     NotWordBoundary,
+}
+
+impl Assertion {
+    /// Returns the name of the variant, such as `StartText`.
+    pub fn name(self) -> &'static str {
+        match self {
+            Assertion::StartText => "StartText",
+            Assertion::EndText => "EndText",
+            Assertion::EndTextIgnoreTrailingNewlines { .. } => "EndTextIgnoreTrailingNewlines",
+            Assertion::StartLine { .. } => "StartLine",
+            Assertion::StartLineOniguruma { .. } => "StartLineOniguruma",
+            Assertion::EndLine { .. } => "EndLine",
+            Assertion::LeftWordBoundary => "LeftWordBoundary",
+            Assertion::LeftWordHalfBoundary => "LeftWordHalfBoundary",
+            Assertion::RightWordBoundary => "RightWordBoundary",
+            Assertion::RightWordHalfBoundary => "RightWordHalfBoundary",
+            Assertion::WordBoundary => "WordBoundary",
+            Assertion::NotWordBoundary => "NotWordBoundary",
+        }
+    }
+
+    /// Returns the assertion of this name, with this `crlf` if the variant has that field.
+    pub fn named(name: &str, crlf: bool) -> Option<Assertion> {
+        Some(match name {
+            "StartText" => Assertion::StartText,
+            "EndText" => Assertion::EndText,
+            "EndTextIgnoreTrailingNewlines" => Assertion::EndTextIgnoreTrailingNewlines { crlf },
+            "StartLine" => Assertion::StartLine { crlf },
+            "StartLineOniguruma" => Assertion::StartLineOniguruma { crlf },
+            "EndLine" => Assertion::EndLine { crlf },
+            "LeftWordBoundary" => Assertion::LeftWordBoundary,
+            "LeftWordHalfBoundary" => Assertion::LeftWordHalfBoundary,
+            "RightWordBoundary" => Assertion::RightWordBoundary,
+            "RightWordHalfBoundary" => Assertion::RightWordHalfBoundary,
+            "WordBoundary" => Assertion::WordBoundary,
+            "NotWordBoundary" => Assertion::NotWordBoundary,
+            _ => return None,
+        })
+    }
+
+    /// Returns whether CR is a line terminator too; `None` if the variant has no such field.
+    pub fn crlf(self) -> Option<bool> {
+        match self {
+            Assertion::EndTextIgnoreTrailingNewlines { crlf }
+            | Assertion::StartLine { crlf }
+            | Assertion::StartLineOniguruma { crlf }
+            | Assertion::EndLine { crlf } => Some(crlf),
+            Assertion::StartText
+            | Assertion::EndText
+            | Assertion::LeftWordBoundary
+            | Assertion::LeftWordHalfBoundary
+            | Assertion::RightWordBoundary
+            | Assertion::RightWordHalfBoundary
+            | Assertion::WordBoundary
+            | Assertion::NotWordBoundary => None,
+        }
+    }
 }
 
 /// What an escape is parsed as: a leaf of the tree, in fields of the same names.
@@ -146,7 +204,7 @@ fn letter_name(alloc: Global, c: char) -> Result<String, AllocError>
 /// The error of a letter that is no escape.
 #[cold]
 fn unknown_escape(alloc: Global, c: char, reach: Reach) -> ReadError
-    ensures { Reports result (spec.unknown_escape reach c) }
+    ensures { Reports {A = leaf.Escape} result (fails (letter_of_no_escape reach c)) }
 {
     match letter_name(alloc, c) {
         Ok(name) => ReadError::At(reach, ParseError::InvalidEscape(name)),

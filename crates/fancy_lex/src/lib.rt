@@ -6,6 +6,7 @@ pub mod class;
 pub mod counts;
 pub mod error;
 pub mod escape;
+pub mod flag_word;
 pub mod flags;
 pub mod group_starts;
 pub mod layout;

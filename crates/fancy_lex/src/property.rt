@@ -103,7 +103,7 @@ fn look_up(name: &str) -> KnownName
 /// The first form with UNICODE, and the second without.
 #[inline]
 fn form_by<'a>(unicode: bool, with: Form<'a>, without: Form<'a>) -> Form<'a>
-    ensures { view_form result ≡ spec.form_by unicode (view_form with.entry) (view_form without.entry) }
+    ensures { view_form result ≡ (if unicode then view_form with.entry else view_form without.entry) }
 {
     if unicode { with } else { without }
 }
@@ -222,7 +222,7 @@ fn push_name(out: &mut String, name: &str, negated: bool) -> Result<(), AllocErr
 }
 
 /// `\p`, or `\P` for a negated property.
-fn letter(negated: bool) -> &'static str
+pub fn letter(negated: bool) -> &'static str
     ensures { chars result.now ≡ spec.letter negated }
 {
     if negated { r"\P" } else { r"\p" }

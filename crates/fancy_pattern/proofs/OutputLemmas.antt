@@ -108,3 +108,8 @@ pub text_pushed : {X E : Type 0} (r : Result X E) (a b : TextOutput) (w : Text) 
     text_of b.text ≡ (if is_ok r then text_of a.text ++ w else text_of a.text) → OnOk r (Added a b w)
 text_pushed (Ok v) a b w e = record { after = e }
 text_pushed (Err v) a b w e = tt
+
+pub text_added : {X E : Type 0} (r : Result X E) (a b : TextOutput) (w : Text) →
+    OnOk r (text_of b.text ≡ text_of a.text ++ w) → OnOk r (Added a b w)
+text_added (Ok v) a b w e = record { after = e }
+text_added (Err v) a b w e = tt

@@ -32,14 +32,16 @@ fn is_unseen(c: char) -> bool
 }
 
 /// Whether a character of a Literal needs a backslash under all flags.
-fn needs_backslash(c: char) -> bool
+#[inline]
+pub fn needs_backslash(c: char) -> bool
     ensures { result ≡ is_among c (metacharacters ++ codes "]}") }
 {
     is_metacharacter(c) || matches!(c, ']' | '}')
 }
 
 /// Whether the character is layout under these flags, and printable: a space, or the start of a comment.
-fn is_printable_layout(c: char, flags: Flags) -> bool
+#[inline]
+pub fn is_printable_layout(c: char, flags: Flags) -> bool
     ensures { result ≡ spec.is_printable_layout flags c }
 {
     flags.ignore_space && (c == ' ' || c == '#')
@@ -51,15 +53,6 @@ fn put_hex_digit(out: &mut TextOutput, digit: u8) -> Result<(), AllocError>
     ensures { OnOk result (Added out.old out.new (upper_hex_digit digit ∷ [])) }
 {
     out.put(upper_hex_digit(digit))
-}
-
-/// Writes a byte by its code.
-fn put_byte(out: &mut TextOutput, byte: u8) -> Result<(), AllocError>
-    ensures { OnOk result (Added out.old out.new (byte_text byte)) }
-{
-    put_ascii(out, r"\x")?;
-    put_hex_digit(out, byte / 16)?;
-    put_hex_digit(out, byte % 16)
 }
 
 /// Writes four digits.
@@ -82,7 +75,7 @@ fn put_code(out: &mut TextOutput, c: char) -> Result<(), AllocError>
 {
     let code = u32::from(c);
     if code < 0x80 {
-        return put_byte(out, code as u8);
+        return out.put_byte(code as u8);
     }
     put_ascii(out, r"\u")?;
     put_hex_digits(out, code)
@@ -205,7 +198,7 @@ pub(crate) fn put_bytes(out: &mut TextOutput, bytes: &[u8]) -> Result<(), AllocE
     ensures { OnOk result (Added out.old out.new (flat_map byte_text bytes.now)) }
 {
     for byte in bytes {
-        put_byte(out, *byte)?;
+        out.put_byte(*byte)?;
     }
     Ok(())
 }

@@ -1,12 +1,15 @@
 //! The output that a text is written to.
 ghost use Rattle.std.specs.Prelude.{◌≡◌, ◌∷◌, [], true, nat_lt, chars, decimal, IfOk, OnOk, if◌then◌else◌};
 ghost use Rattle.std.specs.List.{list_all};
+ghost use Rattle.fancy_lex.specs.Class.{byte_text};
 ghost use Rattle.fancy_lex.specs.Text.{bytes, text_of};
+ghost use Rattle.fancy_grammar.specs.Quote.{range};
 ghost use Rattle.fancy_pattern.specs.TextOutput.{Added, Changed, separated};
 
 use crate::separator::Separator;
+use fancy_lex::class::push_byte;
 use fancy_lex::text::{append, byte_len, push};
-use fancy_syntax::print::quote::{number_len, put_number};
+use fancy_syntax::print::quote::{number_len, put_number, put_range, range_len};
 use std::alloc::{AllocError, Global};
 
 /// The output that a text is written to, piece by piece.
@@ -54,6 +57,22 @@ impl TextOutput {
         self.text.reserve(number_len(n))?;
         put_number(&mut self.text, n);
         Ok(())
+    }
+
+    /// Writes the contents of the braces of a quantifier.
+    pub(crate) fn put_range(&mut self, lo: usize, hi: usize) -> Result<(), AllocError>
+        ensures { OnOk result (Added self.old self.new (range lo hi)) }
+    {
+        self.text.reserve(range_len(lo, hi))?;
+        put_range(&mut self.text, lo, hi);
+        Ok(())
+    }
+
+    /// Writes a byte by its code.
+    pub(crate) fn put_byte(&mut self, byte: u8) -> Result<(), AllocError>
+        ensures { OnOk result (Added self.old self.new (byte_text byte)) }
+    {
+        push_byte(&mut self.text, byte)
     }
 
     /// How many bytes were written.

@@ -1,6 +1,6 @@
 //! Quantifiers.
 ghost use Rattle.std.specs.Prelude.{◌≡◌, ◌-◌, ℕ, ◌++◌, codes, decimal, OnOk};
-ghost use Rattle.fancy_grammar.specs.Quote.{range, counts_as};
+ghost use Rattle.fancy_grammar.specs.Quote.{counts_as};
 ghost use Rattle.fancy_grammar.specs.Depth.{max_depth};
 ghost use Rattle.fancy_grammar.specs.PatternQuantifier as spec;
 ghost use Rattle.fancy_grammar.specs.Tree.{atomic_group};
@@ -8,6 +8,7 @@ ghost use Rattle.fancy_pattern.specs.TextOutput.{Added};
 ghost use Rattle.fancy_syntax.specs.View.{view};
 
 use crate::output::{TextOutput, put_if};
+use fancy_grammar::depth::MAX_ADJACENT;
 use fancy_lex::flags::Flags;
 use fancy_syntax::expr::Expr;
 use fancy_syntax::print::quote::operator;
@@ -50,34 +51,14 @@ pub(crate) fn is_quantified(tree: &Expr, flags: Flags) -> bool
     matches!(tree, Expr::Repeat { .. })
 }
 
-/// How many quantifiers may follow one another in Oniguruma mode: the first, and those adjacent to it.
-const MAX_QUANTIFIERS: usize = 5;
-
 /// How many quantifiers may follow one another if `left` levels are left.
 pub(crate) fn most_quantifiers(flags: Flags, left: usize) -> usize
     ensures { (d : ℕ) → left ≡ max_depth - d → result ≡ spec.most_quantifiers flags d }
 {
     if flags.oniguruma_mode {
-        left.min(MAX_QUANTIFIERS)
+        left.min(MAX_ADJACENT + 1)
     } else {
         1
-    }
-}
-
-/// Writes the contents of the braces of a quantifier.
-#[tactic(auto, using(crate::proofs::OutputLemmas::added_steps, fancy_syntax::proofs::QuoteLemmas::range_steps))]
-fn put_range(out: &mut TextOutput, lo: usize, hi: usize) -> Result<(), AllocError>
-    ensures { OnOk result (Added out.old out.new (range lo hi)) }
-{
-    if lo == hi {
-        out.put_number(lo)
-    } else if hi == usize::MAX {
-        out.put_number(lo)?;
-        out.put(',')
-    } else {
-        out.put_number(lo)?;
-        out.put(',')?;
-        out.put_number(hi)
     }
 }
 
@@ -105,7 +86,7 @@ fn put_counts(
         Some(c) => out.put(c),
         None => {
             out.put('{')?;
-            put_range(out, lo, hi)?;
+            out.put_range(lo, hi)?;
             out.put('}')
         }
     }

@@ -1,9 +1,7 @@
 //! The source of a Delegate: a text that the reader turns into the text of the Delegate.
-ghost use Rattle.std.specs.Prelude.{◌≡◌, ◌∷◌, [], Bool, true, nat_lt, chars, option_map, IfOk, OnOk};
-ghost use Rattle.std.specs.List.{list_all};
+ghost use Rattle.std.specs.Prelude.{◌≡◌, ◌∷◌, [], Bool, true, chars, option_map, IfOk, OnOk};
 ghost use Rattle.fancy_lex.specs.Characters.{◌∈◌};
 ghost use Rattle.fancy_lex.specs.Class.{joint};
-ghost use Rattle.fancy_lex.specs.Property as property;
 ghost use Rattle.fancy_lex.specs.Text.{Text, strip_word};
 ghost use Rattle.fancy_grammar.specs.PatternSource as spec;
 ghost use Rattle.fancy_pattern.specs.TextOutput.{Added};
@@ -13,6 +11,7 @@ use crate::letters::put_class_character;
 use crate::output::{TextOutput, put_ascii};
 use crate::separator::is_text;
 use fancy_lex::flags::Flags;
+use fancy_lex::property::letter;
 use fancy_lex::text::{after, after_word, next, split_at};
 use std::alloc::AllocError;
 
@@ -113,14 +112,6 @@ fn replaced_at(c: char, text: &str, unicode: bool, seen: bool) -> Option<FoundEs
     }
 }
 
-/// `\P`, or `\p`.
-fn letter(upper: bool) -> &'static str
-    ensures text { property.letter upper ≡ result.now }
-    ensures ascii { list_all (λ b. nat_lt b 128) result.now ≡ true }
-{
-    if upper { r"\P" } else { r"\p" }
-}
-
 /// Writes a property by its name: the reader removes one caret, and changes the case of the letter.
 fn put_property(out: &mut TextOutput, upper: bool, name: &str) -> Result<(), AllocError>
     ensures { OnOk result (Added out.old out.new (spec.named_property upper (chars name.now))) }
@@ -135,12 +126,12 @@ fn put_property_front(out: &mut TextOutput, upper: bool, name: &str) -> Result<(
 {
     match after(name, '^') {
         Some(name) => {
-            put_ascii(out, letter(!upper))?;
+            out.put_text(letter(!upper))?;
             put_ascii(out, "{^^")?;
             out.put_text(name)
         }
         None => {
-            put_ascii(out, letter(upper))?;
+            out.put_text(letter(upper))?;
             out.put('{')?;
             out.put_text(name)
         }
@@ -156,11 +147,11 @@ fn put_property_at<'a>(
     ensures { IfOk result (λ r. AddedPart out.old out.new (spec.property_part upper (chars text.now)) (chars r.now)) }
 {
     let Some((c, rest)) = next(text) else {
-        put_ascii(out, letter(upper))?;
+        out.put_text(letter(upper))?;
         return Ok(text);
     };
     if c != '{' {
-        put_ascii(out, letter(upper))?;
+        out.put_text(letter(upper))?;
         out.put(c)?;
         return Ok(rest);
     }
@@ -170,7 +161,7 @@ fn put_property_at<'a>(
             Ok(tail)
         }
         None => {
-            put_ascii(out, letter(upper))?;
+            out.put_text(letter(upper))?;
             Ok(text)
         }
     }

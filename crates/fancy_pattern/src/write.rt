@@ -1,6 +1,6 @@
 //! The walk that writes a tree's text.
 ghost use Rattle.std.specs.Prelude.{◌≡◌, ◌+◌, ◌++◌, not, ◌&&◌, ◌||◌, [], codes, nat_lt, true, false, if◌then◌else◌};
-ghost use Rattle.std.specs.Prelude.{List, OnOk};
+ghost use Rattle.std.specs.Prelude.{OnOk};
 ghost use Rattle.std.specs.List.{list_all};
 ghost use Rattle.fancy_lex.specs.Number.{at_digit};
 ghost use Rattle.fancy_lex.specs.declared.flags.Flags.{Flags};
@@ -11,10 +11,8 @@ ghost use Rattle.fancy_grammar.specs.PatternNeeds as needs;
 ghost use Rattle.fancy_grammar.specs.PatternNeeds.{with_needs};
 ghost use Rattle.fancy_grammar.specs.PatternQuantifier as spec_quantifier;
 ghost use Rattle.fancy_grammar.specs.PatternReference.{group_opening};
-ghost use Rattle.fancy_grammar.specs.Quantified as spec_quantified;
 ghost use Rattle.fancy_grammar.specs.PatternWalk.{needs_listed, all_listed, after_all};
 ghost use Rattle.fancy_grammar.specs.Tree.{concat, alt, look_around, atomic_group, conditional, expression, trees_of};
-ghost use Rattle.fancy_grammar.specs.declared.needs.Needs.{Needs};
 ghost use Rattle.fancy_grammar.specs.declared.precedence.Precedence.{Precedence};
 ghost use Rattle.fancy_grammar.specs.declared.precedence.Precedence.TheVariants.{Whole, Branch, Piece};
 ghost use Rattle.fancy_pattern.specs.TextOutput.{Added, Changed};
@@ -29,15 +27,15 @@ use crate::leaf::{put_leaf, put_verb_text};
 use crate::letters::put_literal;
 use crate::names::GroupNames;
 use crate::output::{TextOutput, put_ascii, put_if};
-use crate::quantifier::{
-    Quantifier, is_possessive, is_quantified, most_quantifiers, put_quantifier,
+use crate::precedence::{
+    allowed, is_adjacent, is_last_operand, is_operand, needs_group, takes_branches, takes_pieces,
 };
+use crate::quantifier::{Quantifier, is_possessive, put_quantifier};
 use crate::reference::{put_group_opening, put_target};
 use crate::separator::Separator;
 use fancy_grammar::needs::Needs;
 use fancy_grammar::precedence::Precedence;
 use fancy_lex::flags::Flags;
-use fancy_syntax::expr::repeatable::is_repeatable;
 use fancy_syntax::expr::{Absent, Expr, LookAround};
 use std::alloc::AllocError;
 
@@ -136,45 +134,6 @@ fn put_empty(out: &mut TextOutput, precedence: Precedence) -> Result<(), AllocEr
         Ok(())
     } else {
         put_ascii(out, "()")
-    }
-}
-
-/// Whether several pieces are allowed at this precedence.
-fn takes_pieces(precedence: Precedence) -> bool
-    ensures { result ≡ spec.takes_pieces precedence }
-{
-    matches!(precedence, Precedence::Whole | Precedence::Branch)
-}
-
-/// Whether several branches are allowed at this precedence.
-fn takes_branches(precedence: Precedence) -> bool
-    ensures { result ≡ spec.takes_branches precedence }
-{
-    matches!(precedence, Precedence::Whole)
-}
-
-/// Whether a quantifier follows.
-fn is_operand(precedence: Precedence) -> bool
-    ensures { result ≡ spec.is_operand precedence }
-{
-    matches!(precedence, Precedence::Operand(_))
-}
-
-/// Whether a quantifier follows, and no other is allowed before it.
-fn is_last_operand(precedence: Precedence) -> bool
-    ensures { result ≡ spec.is_last_operand precedence }
-{
-    matches!(precedence, Precedence::Operand(0))
-}
-
-/// How many quantifiers are allowed before the quantifier of a tree at this precedence.
-fn allowed(precedence: Precedence, context: &Context) -> usize
-    ensures { (k : Known) (h : spec.Context) (l : List Needs) → IsContext k context.now h l →
-        result ≡ spec.allowed precedence h }
-{
-    match precedence {
-        Precedence::Operand(allowed) if allowed > 0 => allowed - 1,
-        _ => most_quantifiers(context.flags, context.left).saturating_sub(1),
     }
 }
 
@@ -360,13 +319,6 @@ fn put_settled(
     }
 }
 
-/// Whether a quantifier follows that the tree cannot take.
-fn needs_group(tree: &Expr, precedence: Precedence, flags: Flags) -> bool
-    ensures { result ≡ (spec.is_operand precedence && not (spec_quantified.is_repeatable flags (view tree.now))) }
-{
-    is_operand(precedence) && !is_repeatable(flags, tree)
-}
-
 /// Writes a leaf, in a group if a quantifier follows that the leaf cannot take.
 fn put_leaf_at(
     out: &mut TextOutput,
@@ -541,13 +493,6 @@ fn put_quantified_in_group(
     open(out, opening, context)?;
     put_quantified(out, names, child, quantifier, Precedence::Whole, context)?;
     close(out, &outside, context)
-}
-
-/// Whether the quantifier directly follows another, that of the child.
-fn is_adjacent(allowed: usize, child: &Expr, flags: Flags) -> bool
-    ensures { result ≡ (nat_lt 0 allowed && spec_quantifier.is_quantified flags (view child.now)) }
-{
-    allowed > 0 && is_quantified(child, flags)
 }
 
 /// Writes a tree and the quantifier after it.

@@ -92,29 +92,6 @@ writing_later a b c xs ys whole w p =
 pub writing_ends : (a b : String Global) (whole : Text) → Writing a b [] whole → Appended a b whole
 writing_ends a b whole w = w.ends b (nothing_written b)
 
--- a length that counts all but the rest
-pub record Counting (len : ℕ) (rest whole : Text) : Type 0 where
-  pub so_far : ℕ
-  pub len_is : len ≡ in_word so_far
-  pub sum : so_far + bytes rest ≡ bytes whole
-
-pub counting_as : (len : ℕ) (rest other whole : Text) → rest ≡ other → Counting len rest whole
-    → Counting len other whole
-counting_as len rest other whole e n = subst (λ t. Counting len t whole) e n
-
-pub counting_later : (len more next : ℕ) (xs ys whole : Text) → Counting len (xs ++ ys) whole
-    → more ≡ in_word (bytes xs) → next ≡ in_word (len + more) → Counting next ys whole
-counting_later len more next xs ys whole c w s =
-    record {
-      so_far = c.so_far + bytes xs;
-      len_is = omega (arith, c.len_is);
-      sum = omega (arith, c.sum, bytes-append xs ys);
-    }
-
-pub counting_ends : (len : ℕ) (whole : Text) → Counting len [] whole → len ≡ in_word (bytes whole)
-unfolding bytes
-counting_ends len whole c = omega (arith, c.len_is, c.sum)
-
 -- capacity for the length is capacity for the text, since no string has capacity for the greatest word
 pub capacity_counted : (s : String Global) (t : Text) (len : ℕ) → len ≡ in_word (bytes t)
     → string_len s + len ≤ string_capacity s → HasCapacity s t

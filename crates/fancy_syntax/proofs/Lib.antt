@@ -1,6 +1,7 @@
 -- ---- the texts that are printed
 pub mod CapacityLemmas
 pub mod QuoteLemmas
+pub mod SinkLemmas
 -- ---- trees: equality, children, descendants, and borrowed parts
 pub mod ApartLemmas
 pub mod ChildrenLemmas
@@ -34,6 +35,7 @@ pub mod WalkLemmas
 mod RegroupedLemmas
 pub mod NoItems
 pub mod PartLemmas
+mod ResolvedLemmas
 -- ---- printing
 pub mod PrintLemmas
 mod EmptyLemmas

@@ -3,7 +3,8 @@ use Rattle.std.specs.Prelude.{map}
 use Rattle.fancy_grammar.specs.Groups.{entry_of}
 use Rattle.fancy_grammar.specs.GroupInfo.{GroupInfo}
 use Rattle.fancy_syntax.specs.declared.tree.ExprTree.{ExprTree}
-pub use Rattle.fancy_grammar.specs.ParseResult.{IsTreeOf, IsErrorOf, of_reading, of_resolving, IsOnlyError, IsPositionedIn}
+pub use Rattle.fancy_grammar.specs.ParseResult.{IsTreeOf, IsErrorOf, of_reading, of_resolving, HasTree, HasError}
+pub use Rattle.fancy_grammar.specs.ParseResult.{IsOnlyError, IsPositionedIn}
 
 -- the group information in an `ExprTree`
 abbrev pub info_of : ExprTree → GroupInfo

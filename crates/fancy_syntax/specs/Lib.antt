@@ -24,11 +24,14 @@ pub use Rattle.fancy_grammar.specs.GroupInfo
 pub mod InfoViews
 pub use Rattle.fancy_grammar.specs.Preorder
 pub use Rattle.fancy_grammar.specs.ParsedTree
+pub use Rattle.fancy_grammar.specs.References
 -- ---- the positions of the nodes
 pub use Rattle.fancy_grammar.specs.Spans
 pub mod SpanViews
 pub use Rattle.fancy_grammar.specs.Trivia
 pub mod TriviaViews
+-- ---- what a parse promises
+pub use Rattle.fancy_grammar.specs.Promises
 -- ---- printing, and what a printed text is read as
 pub use Rattle.fancy_grammar.specs.Printed
 pub use Rattle.fancy_grammar.specs.HasDelegate
@@ -53,4 +56,5 @@ pub mod RecordedWhole
 pub mod Regrouped
 pub mod WalkViews
 pub mod Capacity
+pub mod Sinks
 pub mod Spanned

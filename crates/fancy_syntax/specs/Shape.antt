@@ -19,7 +19,7 @@ label_of wrap.DefineGroup = label.define_group
 label_of wrap.Repeater = label.repeater
 label_of wrap.Stopper = label.stopper
 
--- the tree has this shape
+-- The tree has this shape. An `ast_group` is a `shape.Leaf` too, although its label is a `Wrap`.
 abbrev pub HasShape : Shape → Tree → Type 0
 HasShape shape.Leaf t = is_leaf t ≡ true
 HasShape (shape.Around w child) t = t ≡ over (label_of w) (view child.now)

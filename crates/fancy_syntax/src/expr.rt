@@ -67,6 +67,18 @@ pub enum Absent {
     Clear,
 }
 
+impl Absent {
+    /// Returns the name of the variant, such as `Repeater`.
+    pub fn name(&self) -> &'static str {
+        match self {
+            Absent::Repeater(_) => "Repeater",
+            Absent::Expression { .. } => "Expression",
+            Absent::Stopper(_) => "Stopper",
+            Absent::Clear => "Clear",
+        }
+    }
+}
+
 /// A pattern as a tree. Each variant is documented with a pattern that is parsed as one.
 ///
 /// Trees can be built and changed by hand, and then need not be the tree of any pattern: a `Literal` may hold several
@@ -184,4 +196,46 @@ pub enum Expr {
     /// call that cannot be resolved, which is no error: by a name that no group has, such as `\g<b>` at position 2, or
     /// that several have; or by a relative number that leads below group 0, such as `\g<-2>`.
     AstNode(AstNode, usize),
+}
+
+impl Expr {
+    /// Returns the name of the node's variant, such as `Literal`.
+    pub fn kind_name(&self) -> &'static str {
+        match self {
+            Expr::Empty => "Empty",
+            Expr::Any { .. } => "Any",
+            Expr::Assertion(_) => "Assertion",
+            Expr::GeneralNewline { .. } => "GeneralNewline",
+            Expr::Literal { .. } => "Literal",
+            Expr::LiteralBytes { .. } => "LiteralBytes",
+            Expr::Concat(_) => "Concat",
+            Expr::Alt(_) => "Alt",
+            Expr::Group(_) => "Group",
+            Expr::LookAround(_, _) => "LookAround",
+            Expr::Repeat { .. } => "Repeat",
+            Expr::Delegate { .. } => "Delegate",
+            Expr::Backref { .. } => "Backref",
+            Expr::BackrefWithRelativeRecursionLevel { .. } => "BackrefWithRelativeRecursionLevel",
+            Expr::AtomicGroup(_) => "AtomicGroup",
+            Expr::KeepOut => "KeepOut",
+            Expr::ContinueFromPreviousMatchEnd => "ContinueFromPreviousMatchEnd",
+            Expr::BackrefExistsCondition { .. } => "BackrefExistsCondition",
+            Expr::Conditional { .. } => "Conditional",
+            Expr::SubroutineCall(_) => "SubroutineCall",
+            Expr::BacktrackingControlVerb(_) => "BacktrackingControlVerb",
+            Expr::Absent(_) => "Absent",
+            Expr::DefineGroup { .. } => "DefineGroup",
+            Expr::AstNode(_, _) => "AstNode",
+        }
+    }
+
+    /// Returns the node of this name, if it is one that holds nothing, such as `KeepOut`.
+    pub fn bare_named(name: &str) -> Option<Expr> {
+        Some(match name {
+            "Empty" => Expr::Empty,
+            "KeepOut" => Expr::KeepOut,
+            "ContinueFromPreviousMatchEnd" => Expr::ContinueFromPreviousMatchEnd,
+            _ => return None,
+        })
+    }
 }

@@ -19,6 +19,7 @@ mod found;
 mod frame;
 mod group;
 mod parser;
+mod part_end;
 pub(crate) mod quantified;
 pub(crate) mod recorded;
 mod reference;

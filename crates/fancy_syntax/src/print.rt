@@ -10,20 +10,21 @@ ghost use Rattle.fancy_grammar.specs.Printable.{printable};
 ghost use Rattle.fancy_grammar.specs.Printed.{printed, has_text};
 ghost use Rattle.fancy_grammar.specs.ReadBack.{IsReadBack};
 ghost use Rattle.fancy_grammar.specs.Tree.{Tree};
+ghost use Rattle.fancy_syntax.specs.Capacity.{in_word};
 ghost use Rattle.fancy_syntax.specs.View.{view};
 
-mod count;
 mod delegate;
 mod fixed;
 mod printable;
 pub mod quote;
 mod repeated;
 mod reserved;
+mod sink;
 mod write;
 
 use crate::expr::Expr;
-use crate::print::count::tree_len;
 use crate::print::printable::is_printable;
+use crate::print::sink::Length;
 use crate::print::write::put_tree;
 use std::alloc::{AllocError, Global};
 
@@ -35,6 +36,16 @@ pub const BRANCH: u8 = 1;
 pub const PIECE: u8 = 2;
 /// The precedence of the operand of a quantifier.
 pub const OPERAND: u8 = 3;
+
+/// The number of bytes that a tree is printed as, or `usize::MAX` if a word cannot hold it.
+#[inline]
+fn tree_len(tree: &Expr, precedence: u8) -> usize
+    ensures { result ≡ in_word (bytes (printed (view tree.now) precedence)) }
+{
+    let mut length = Length { len: 0 };
+    put_tree(&mut length, tree, precedence);
+    length.len
+}
 
 impl Expr {
     /// Returns whether the tree is printable: the tree of `(?:a|b)c` is, and that of `(?=a)` is not. It is if each node

@@ -1,15 +1,10 @@
 //! A tree with the spans of its nodes, and what no node has.
-ghost use Rattle.std.specs.Prelude.{◌≡◌, ◌++◌, chars, drop, length, map, take, IfErr, IfOk, OnOk};
+ghost use Rattle.std.specs.Prelude.{◌≡◌, ◌++◌, drop, map, take, IfErr, IfOk, OnOk};
 ghost use Rattle.std.specs.Iterator.{YieldsFirstBy, item_count};
 ghost use Rattle.std.specs.List.{AllByRecursion, flat_map};
 ghost use Rattle.std.specs.Str.Pattern.{GetsRange};
 ghost use Rattle.fancy_lex.specs.Flags.{flags_of};
-ghost use Rattle.fancy_grammar.specs.ParseResult.{IsTreeOf, IsErrorOf, IsOnlyError, IsPositionedIn};
-ghost use Rattle.fancy_grammar.specs.ParsedTree.{IsParsedTreeWith, HasGroupsOf, IsSmall};
-ghost use Rattle.fancy_grammar.specs.Grammar.{DerivesTree};
-ghost use Rattle.fancy_grammar.specs.Preorder.{preorder};
-ghost use Rattle.fancy_grammar.specs.Spans.{AreSpansOf, IsCutOut, Nests};
-ghost use Rattle.fancy_grammar.specs.Trivia.{IsTriviaOf, IsPartOf, AreInOrder};
+ghost use Rattle.fancy_grammar.specs.Promises.{IsParsed, AreParsedSpans, AreParsedTrivia, IsParseError};
 ghost use Rattle.fancy_grammar.specs.Tree.{children};
 ghost use Rattle.fancy_syntax.specs.InfoViews.{info_of};
 ghost use Rattle.fancy_syntax.specs.Children.{children_of};
@@ -50,31 +45,12 @@ impl SpannedTree {
     /// }
     /// ```
     pub fn parse(alloc: Global, re: &str, flags: u32) -> Result<SpannedTree>
-        ensures found { IfOk result (λ t. IsTreeOf (flags_of flags) (chars re.now) (view t.tree.expr)
-            (info_of t.tree)) }
-        ensures only { IfOk result (λ t. (e : _) (m : _) → IsTreeOf (flags_of flags) (chars re.now) e m → (e ≡
-            view t.tree.expr) × (m ≡ info_of t.tree)) }
-        ensures exact { IfOk result (λ t. (k : _) (p : _) → IsErrorOf (flags_of flags) (chars re.now) k p → ⊥) }
-        ensures bounds { IfOk result (λ t. IsSmall (view t.tree.expr) (length re.now)) }
-        ensures returned { IfOk result (λ t. IsParsedTreeWith (view t.tree.expr) (info_of t.tree)) }
-        ensures groups { IfOk result (λ t. (r : _) → DerivesTree (flags_of flags) (chars re.now) r →
-            HasGroupsOf (flags_of flags) (chars re.now) r (view t.tree.expr)) }
-        ensures trivia { IfOk result (λ t. IsTriviaOf (flags_of flags) (chars re.now) (trivia_of t.trivia)) }
-        ensures only_trivia { IfOk result (λ t. (l : _) → IsTriviaOf (flags_of flags) (chars re.now) l →
-            l ≡ trivia_of t.trivia) }
-        ensures parts { IfOk result (λ t. AllByRecursion (IsPartOf (chars re.now)) (trivia_of t.trivia)) }
-        ensures in_order { IfOk result (λ t. AreInOrder 0 (length re.now) (trivia_of t.trivia)) }
-        ensures cut_trivia { IfOk result (λ t. AllByRecursion (λ x. IsCutOut re.now x.span) (trivia_of t.trivia)) }
+        ensures tree { IfOk result (λ t. IsParsed (flags_of flags) re.now (view t.tree.expr) (info_of t.tree)) }
+        ensures spans { IfOk result (λ t. AreParsedSpans (flags_of flags) re.now (view t.tree.expr) (spans_of t.spans)) }
+        ensures trivia { IfOk result (λ t. AreParsedTrivia (flags_of flags) re.now (trivia_of t.trivia)) }
         ensures sized { IfOk result (λ t. (spanned_of_tree t).sizes ≡ spec.sizes (view t.tree.expr)) }
-        ensures spans { IfOk result (λ t. AreSpansOf (flags_of flags) (chars re.now) (spans_of t.spans)) }
-        ensures only_spans { IfOk result (λ t. (l : _) → AreSpansOf (flags_of flags) (chars re.now) l →
-            l ≡ spans_of t.spans) }
-        ensures each { IfOk result (λ t. length t.spans.items ≡ length (preorder (view t.tree.expr))) }
-        ensures nested { IfOk result (λ t. Nests 0 (length re.now) (view t.tree.expr) (spans_of t.spans)) }
-        ensures cut { IfOk result (λ t. AllByRecursion (IsCutOut re.now) (spans_of t.spans)) }
         ensures whole { IfOk result (λ t. IsWhole (spanned_of_tree t)) }
-        ensures error { IfErr result (λ e. IsOnlyError e (flags_of flags) (chars re.now)) }
-        ensures position { IfErr result (λ e. IsPositionedIn e re.now) }
+        ensures error { IfErr result (λ e. IsParseError (flags_of flags) re.now e) }
     {
         let (tree, spans, trivia) = Expr::parse_tree_with_trivia(alloc, re, flags)?;
         let sizes = all_sizes(alloc, &tree.expr, spans.len())?;

@@ -1,16 +1,13 @@
 //! Parsing a pattern.
-ghost use Rattle.std.specs.List.{AllByRecursion};
-ghost use Rattle.std.specs.Prelude.{◌≡◌, chars, length, IfOk, IfErr};
+ghost use Rattle.std.specs.Prelude.{◌≡◌, chars, IfOk, IfErr};
 ghost use Rattle.fancy_lex.specs.ErrorViews.{error_in};
 ghost use Rattle.fancy_lex.specs.Flags.{flags_of, unicode_alone};
 ghost use Rattle.fancy_lex.specs.Text.{reach_of};
-ghost use Rattle.fancy_grammar.specs.ParseResult.{IsTreeOf, IsErrorOf, IsOnlyError, IsPositionedIn};
+ghost use Rattle.fancy_grammar.specs.ParseResult.{IsTreeOf, IsOnlyError, IsPositionedIn};
+ghost use Rattle.fancy_grammar.specs.Promises.{IsParsed, AreParsedSpans, AreParsedTrivia, IsParseError};
+ghost use Rattle.fancy_grammar.specs.Spans.{AreSpansOf};
+ghost use Rattle.fancy_grammar.specs.Trivia.{IsTriviaOf};
 ghost use Rattle.fancy_syntax.specs.InfoViews.{info_of};
-ghost use Rattle.fancy_grammar.specs.ParsedTree.{IsParsedTreeWith, HasGroupsOf, IsSmall};
-ghost use Rattle.fancy_grammar.specs.Grammar.{DerivesTree};
-ghost use Rattle.fancy_grammar.specs.Preorder.{preorder};
-ghost use Rattle.fancy_grammar.specs.Spans.{AreSpansOf, IsCutOut, Nests};
-ghost use Rattle.fancy_grammar.specs.Trivia.{IsTriviaOf, IsPartOf, AreInOrder};
 ghost use Rattle.fancy_syntax.specs.Log.{Log, started};
 ghost use Rattle.fancy_syntax.specs.LogViews.{log_of, returned_spans, returned_trivia};
 ghost use Rattle.fancy_syntax.specs.SpanViews.{spans_of};
@@ -18,6 +15,7 @@ ghost use Rattle.fancy_syntax.specs.TriviaViews.{trivia_of};
 ghost use Rattle.fancy_syntax.specs.View.{view};
 
 mod equality;
+mod resolved;
 
 use crate::expr::Expr;
 use crate::grammar::parse;
@@ -93,16 +91,8 @@ impl Expr {
     /// let groups = tree.total_groups; // 1
     /// ```
     pub fn parse_tree_with_flags(alloc: Global, re: &str, flags: u32) -> Result<ExprTree>
-        ensures found { IfOk result (λ t. IsTreeOf (flags_of flags) (chars re.now) (view t.expr) (info_of t)) }
-        ensures only { IfOk result (λ t. (e : _) (m : _) → IsTreeOf (flags_of flags) (chars re.now) e m → (e ≡
-            view t.expr) × (m ≡ info_of t)) }
-        ensures exact { IfOk result (λ t. (k : _) (p : _) → IsErrorOf (flags_of flags) (chars re.now) k p → ⊥) }
-        ensures bounds { IfOk result (λ t. IsSmall (view t.expr) (length re.now)) }
-        ensures returned { IfOk result (λ t. IsParsedTreeWith (view t.expr) (info_of t)) }
-        ensures groups { IfOk result (λ t. (r : _) → DerivesTree (flags_of flags) (chars re.now) r →
-            HasGroupsOf (flags_of flags) (chars re.now) r (view t.expr)) }
-        ensures error { IfErr result (λ e. IsOnlyError e (flags_of flags) (chars re.now)) }
-        ensures position { IfErr result (λ e. IsPositionedIn e re.now) }
+        ensures tree { IfOk result (λ t. IsParsed (flags_of flags) re.now (view t.expr) (info_of t)) }
+        ensures error { IfErr result (λ e. IsParseError (flags_of flags) re.now e) }
     {
         let flags = Flags::from_bits(flags);
         match read(alloc, re, flags, &mut NoSpans) {
@@ -124,22 +114,9 @@ impl Expr {
         re: &str,
         flags: u32,
     ) -> Result<(ExprTree, Vec<Span>)>
-        ensures found { IfOk result (λ p. IsTreeOf (flags_of flags) (chars re.now) (view p.0.expr) (info_of p.0)) }
-        ensures only { IfOk result (λ p. (e : _) (m : _) → IsTreeOf (flags_of flags) (chars re.now) e m → (e ≡
-            view p.0.expr) × (m ≡ info_of p.0)) }
-        ensures exact { IfOk result (λ p. (k : _) (q : _) → IsErrorOf (flags_of flags) (chars re.now) k q → ⊥) }
-        ensures bounds { IfOk result (λ p. IsSmall (view p.0.expr) (length re.now)) }
-        ensures returned { IfOk result (λ p. IsParsedTreeWith (view p.0.expr) (info_of p.0)) }
-        ensures groups { IfOk result (λ p. (r : _) → DerivesTree (flags_of flags) (chars re.now) r →
-            HasGroupsOf (flags_of flags) (chars re.now) r (view p.0.expr)) }
-        ensures spans { IfOk result (λ p. AreSpansOf (flags_of flags) (chars re.now) (spans_of p.1)) }
-        ensures only_spans { IfOk result (λ p. (l : _) → AreSpansOf (flags_of flags) (chars re.now) l →
-            l ≡ spans_of p.1) }
-        ensures each { IfOk result (λ p. length p.1.items ≡ length (preorder (view p.0.expr))) }
-        ensures nested { IfOk result (λ p. Nests 0 (length re.now) (view p.0.expr) (spans_of p.1)) }
-        ensures cut { IfOk result (λ p. AllByRecursion (IsCutOut re.now) (spans_of p.1)) }
-        ensures error { IfErr result (λ e. IsOnlyError e (flags_of flags) (chars re.now)) }
-        ensures position { IfErr result (λ e. IsPositionedIn e re.now) }
+        ensures tree { IfOk result (λ p. IsParsed (flags_of flags) re.now (view p.0.expr) (info_of p.0)) }
+        ensures spans { IfOk result (λ p. AreParsedSpans (flags_of flags) re.now (view p.0.expr) (spans_of p.1)) }
+        ensures error { IfErr result (λ e. IsParseError (flags_of flags) re.now e) }
     {
         let flags = Flags::from_bits(flags);
         match read_with_spans(alloc, re, flags) {
@@ -163,28 +140,10 @@ impl Expr {
         re: &str,
         flags: u32,
     ) -> Result<(ExprTree, Vec<Span>, Vec<Trivium>)>
-        ensures found { IfOk result (λ p. IsTreeOf (flags_of flags) (chars re.now) (view p.0.expr) (info_of p.0)) }
-        ensures only { IfOk result (λ p. (e : _) (m : _) → IsTreeOf (flags_of flags) (chars re.now) e m → (e ≡
-            view p.0.expr) × (m ≡ info_of p.0)) }
-        ensures exact { IfOk result (λ p. (k : _) (q : _) → IsErrorOf (flags_of flags) (chars re.now) k q → ⊥) }
-        ensures bounds { IfOk result (λ p. IsSmall (view p.0.expr) (length re.now)) }
-        ensures returned { IfOk result (λ p. IsParsedTreeWith (view p.0.expr) (info_of p.0)) }
-        ensures groups { IfOk result (λ p. (r : _) → DerivesTree (flags_of flags) (chars re.now) r →
-            HasGroupsOf (flags_of flags) (chars re.now) r (view p.0.expr)) }
-        ensures spans { IfOk result (λ p. AreSpansOf (flags_of flags) (chars re.now) (spans_of p.1)) }
-        ensures only_spans { IfOk result (λ p. (l : _) → AreSpansOf (flags_of flags) (chars re.now) l →
-            l ≡ spans_of p.1) }
-        ensures each { IfOk result (λ p. length p.1.items ≡ length (preorder (view p.0.expr))) }
-        ensures nested { IfOk result (λ p. Nests 0 (length re.now) (view p.0.expr) (spans_of p.1)) }
-        ensures cut { IfOk result (λ p. AllByRecursion (IsCutOut re.now) (spans_of p.1)) }
-        ensures trivia { IfOk result (λ p. IsTriviaOf (flags_of flags) (chars re.now) (trivia_of p.2)) }
-        ensures only_trivia { IfOk result (λ p. (l : _) → IsTriviaOf (flags_of flags) (chars re.now) l →
-            l ≡ trivia_of p.2) }
-        ensures parts { IfOk result (λ p. AllByRecursion (IsPartOf (chars re.now)) (trivia_of p.2)) }
-        ensures in_order { IfOk result (λ p. AreInOrder 0 (length re.now) (trivia_of p.2)) }
-        ensures cut_trivia { IfOk result (λ p. AllByRecursion (λ x. IsCutOut re.now x.span) (trivia_of p.2)) }
-        ensures error { IfErr result (λ e. IsOnlyError e (flags_of flags) (chars re.now)) }
-        ensures position { IfErr result (λ e. IsPositionedIn e re.now) }
+        ensures tree { IfOk result (λ p. IsParsed (flags_of flags) re.now (view p.0.expr) (info_of p.0)) }
+        ensures spans { IfOk result (λ p. AreParsedSpans (flags_of flags) re.now (view p.0.expr) (spans_of p.1)) }
+        ensures trivia { IfOk result (λ p. AreParsedTrivia (flags_of flags) re.now (trivia_of p.2)) }
+        ensures error { IfErr result (λ e. IsParseError (flags_of flags) re.now e) }
     {
         let flags = Flags::from_bits(flags);
         match read_with_trivia(alloc, re, flags) {
@@ -200,16 +159,8 @@ impl Expr {
     /// let has_year = tree.named_groups.contains_key("year"); // true
     /// ```
     pub fn parse_tree(alloc: Global, re: &str) -> Result<ExprTree>
-        ensures found { IfOk result (λ t. IsTreeOf unicode_alone (chars re.now) (view t.expr) (info_of t)) }
-        ensures only { IfOk result (λ t. (e : _) (m : _) → IsTreeOf unicode_alone (chars re.now) e m →
-            (e ≡ view t.expr) × (m ≡ info_of t)) }
-        ensures exact { IfOk result (λ t. (k : _) (p : _) → IsErrorOf unicode_alone (chars re.now) k p → ⊥) }
-        ensures bounds { IfOk result (λ t. IsSmall (view t.expr) (length re.now)) }
-        ensures returned { IfOk result (λ t. IsParsedTreeWith (view t.expr) (info_of t)) }
-        ensures groups { IfOk result (λ t. (r : _) → DerivesTree unicode_alone (chars re.now) r →
-            HasGroupsOf unicode_alone (chars re.now) r (view t.expr)) }
-        ensures error { IfErr result (λ e. IsOnlyError e unicode_alone (chars re.now)) }
-        ensures position { IfErr result (λ e. IsPositionedIn e re.now) }
+        ensures tree { IfOk result (λ t. IsParsed unicode_alone re.now (view t.expr) (info_of t)) }
+        ensures error { IfErr result (λ e. IsParseError unicode_alone re.now e) }
     {
         Expr::parse_tree_with_flags(alloc, re, FLAG_UNICODE)
     }

@@ -18,7 +18,7 @@ fn measured(out: &[u8]) -> (usize, usize) {
 }
 
 /// How many groups can be open.
-const MOST_OPEN: usize = 63;
+const MAX_OPEN: usize = 63;
 
 /// How many quantifiers may be adjacent to an earlier one.
 const MAX_ADJACENT: usize = 4;
@@ -26,7 +26,7 @@ const MAX_ADJACENT: usize = 4;
 /// Adds as many possessive quantifiers as a piece inside so many groups may have in Oniguruma's mode: one, and up to
 /// four adjacent ones, each of which is one deeper.
 fn push_quantifiers(pattern: &mut String, depth: usize) -> Result<(), AllocError> {
-    let adjacent = MOST_OPEN.saturating_sub(depth).min(MAX_ADJACENT);
+    let adjacent = MAX_OPEN.saturating_sub(depth).min(MAX_ADJACENT);
     for _ in 0..adjacent.saturating_add(1) {
         pattern.push_str("*+")?;
     }
@@ -35,10 +35,10 @@ fn push_quantifiers(pattern: &mut String, depth: usize) -> Result<(), AllocError
 
 /// An Alt, a Concat, a Group and all quantifiers on each of 64 levels.
 fn deepest(alloc: Global) -> Result<String, AllocError> {
-    let mut pattern = "|a(".repeat(alloc, MOST_OPEN)?;
+    let mut pattern = "|a(".repeat(alloc, MAX_OPEN)?;
     pattern.push_str("|aa")?;
-    push_quantifiers(&mut pattern, MOST_OPEN)?;
-    for depth in (0..MOST_OPEN).rev() {
+    push_quantifiers(&mut pattern, MAX_OPEN)?;
+    for depth in (0..MAX_OPEN).rev() {
         pattern.push(')')?;
         push_quantifiers(&mut pattern, depth)?;
     }

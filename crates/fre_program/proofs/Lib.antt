@@ -1,3 +1,2 @@
 -- ---- the words that the program is called with
-mod FlagLemmas
 mod WordLemmas

@@ -1,2 +1,1 @@
-pub mod FlagWord
 pub mod Words

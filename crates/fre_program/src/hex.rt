@@ -3,7 +3,7 @@ use std::fmt;
 
 /// Bytes in hexadecimal, two digits each; `-` if there are none.
 #[derive(Clone, Copy)]
-pub struct Hex<'a>(pub &'a [u8]);
+pub(crate) struct Hex<'a>(pub(crate) &'a [u8]);
 
 impl fmt::Display for Hex<'_> {
     fn fmt<W: fmt::Write>(&self, f: &mut fmt::Formatter<W>) -> fmt::Result {

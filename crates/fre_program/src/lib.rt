@@ -3,8 +3,6 @@
 #![tactic(auto)]
 
 mod error;
-pub mod flag_word;
-pub mod hex;
-pub mod names;
+mod hex;
 pub mod program;
 mod report;

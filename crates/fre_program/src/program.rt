@@ -1,11 +1,12 @@
 //! A run of the program.
 ghost use Rattle.std.specs.Prelude.{◌≡◌, ◌≤◌, chars, IfOk, Ok, MatchOption};
 ghost use Rattle.fancy_lex.specs.Flags.{flags_of};
-ghost use Rattle.fre_program.specs.Words.{IsWellFormed, OfWords, HasTree, HasError};
+ghost use Rattle.fancy_syntax.specs.InfoViews.{HasTree, HasError};
+ghost use Rattle.fre_program.specs.Words.{IsWellFormed, OfWords};
 
 use crate::error::ProgramError;
-use crate::flag_word::flags_named;
 use crate::report::{write_group_info, write_nodes, write_text};
+use fancy_lex::flag_word::flags_named;
 use fancy_syntax::{Error, Expr, ExprTree, WHOLE};
 use std::alloc::{AllocError, Global};
 use std::io::Write;

@@ -1,6 +1,5 @@
 //! The lines that show what a pattern is read as. Each ends with LF.
 use crate::hex::Hex;
-use crate::names::{absent_name, assertion_name, crlf_of, look_around_name, node_name, verb_name};
 use fancy_lex::escape::Assertion;
 use fancy_lex::name::CaptureGroupTarget;
 use fancy_syntax::expr::{AstNode, Expr};
@@ -91,8 +90,8 @@ impl fmt::Display for ShownTarget<'_> {
 
 /// Writes an assertion's name, and its field if it has one.
 fn write_assertion<W: fmt::Write>(f: &mut fmt::Formatter<W>, assertion: Assertion) -> fmt::Result {
-    write!(f, " {}", assertion_name(assertion))?;
-    match crlf_of(assertion) {
+    write!(f, " {}", assertion.name())?;
+    match assertion.crlf() {
         Some(crlf) => write!(f, " crlf={crlf}"),
         None => Ok(()),
     }
@@ -107,36 +106,6 @@ fn write_text_fields<W: fmt::Write>(
     write!(f, " {} casei={casei}", Hex(text.as_bytes()))
 }
 
-/// Writes the fields of a node that refers to a group; nothing for another node.
-fn write_reference_fields<W: fmt::Write>(f: &mut fmt::Formatter<W>, node: &Expr) -> fmt::Result {
-    if let Expr::Backref { group, .. }
-    | Expr::BackrefWithRelativeRecursionLevel { group, .. }
-    | Expr::BackrefExistsCondition { group, .. }
-    | Expr::SubroutineCall(group) = node
-    {
-        write!(f, " {group}")?;
-    }
-    if let Expr::BackrefWithRelativeRecursionLevel { relative_level, .. } = node {
-        write!(f, " {relative_level}")?;
-    }
-    if let Expr::BackrefExistsCondition {
-        relative_recursion_level,
-        ..
-    } = node
-    {
-        write!(f, " {}", OrNone(*relative_recursion_level))?;
-    }
-    if let Expr::Backref { casei, .. }
-    | Expr::BackrefWithRelativeRecursionLevel { casei, .. } = node
-    {
-        write!(f, " casei={casei}")?;
-    }
-    if let Expr::AstNode(AstNode::SubroutineCall(target), position) = node {
-        write!(f, " SubroutineCall {} {position}", ShownTarget(target))?;
-    }
-    Ok(())
-}
-
 /// A node's fields after its name, without its children.
 #[derive(Clone, Copy)]
 struct Fields<'a>(&'a Expr);
@@ -149,12 +118,35 @@ impl fmt::Display for Fields<'_> {
             Expr::GeneralNewline { unicode } => write!(f, " unicode={unicode}"),
             Expr::Literal { val, casei } => write_text_fields(f, val, *casei),
             Expr::LiteralBytes { bytes } => write!(f, " {}", Hex(bytes)),
-            Expr::LookAround(_, look_around) => write!(f, " {}", look_around_name(*look_around)),
+            Expr::LookAround(_, look_around) => write!(f, " {}", look_around.name()),
             Expr::Repeat { lo, hi, greedy, .. } => write!(f, " {lo} {hi} greedy={greedy}"),
             Expr::Delegate { inner, casei } => write_text_fields(f, inner, *casei),
-            Expr::BacktrackingControlVerb(verb) => write!(f, " {}", verb_name(*verb)),
-            Expr::Absent(absent) => write!(f, " {}", absent_name(absent)),
-            node => write_reference_fields(f, node),
+            Expr::Backref { group, casei } => write!(f, " {group} casei={casei}"),
+            Expr::BackrefWithRelativeRecursionLevel {
+                group,
+                relative_level,
+                casei,
+            } => { write!(f, " {group} {relative_level} casei={casei}") }
+            Expr::BackrefExistsCondition {
+                group,
+                relative_recursion_level,
+            } => { write!(f, " {group} {}", OrNone(*relative_recursion_level)) }
+            Expr::SubroutineCall(group) => write!(f, " {group}"),
+            Expr::BacktrackingControlVerb(verb) => write!(f, " {}", verb.name()),
+            Expr::Absent(absent) => write!(f, " {}", absent.name()),
+            Expr::AstNode(AstNode::SubroutineCall(target), position) => {
+                write!(f, " SubroutineCall {} {position}", ShownTarget(target))
+            }
+            Expr::Empty
+            | Expr::Concat(_)
+            | Expr::Alt(_)
+            | Expr::Group(_)
+            | Expr::AtomicGroup(_)
+            | Expr::KeepOut
+            | Expr::ContinueFromPreviousMatchEnd
+            | Expr::Conditional { .. }
+            | Expr::DefineGroup { .. }
+            | Expr::AstNode(..) => Ok(()),
         }
     }
 }
@@ -164,7 +156,7 @@ fn write_node<O: Write>(out: &mut O, node: &Expr, level: usize) -> io::Result<()
     for _ in 0..level {
         out.write_all(b"  ")?;
     }
-    writeln!(out, "{}{}", node_name(node), Fields(node))
+    writeln!(out, "{}{}", node.kind_name(), Fields(node))
 }
 
 /// Writes a line for each node of the tree in preorder, indented by its level.

@@ -1,8 +1,8 @@
 //! Records of patterns that were extracted from sources: each is an object of JSON.
 use crate::entry::Entry;
 use crate::values::trail::Tokens;
+use fancy_lex::flag_word::{FLAG_WORD, flags_named};
 use fancy_syntax::span::Span;
-use fre_program::flag_word::{FLAG_WORD, flags_named};
 use json::{Scratch, Token};
 use patterns_text::position::{FilePosition, Spot};
 use patterns_text::source_positions::SourcePositions;

@@ -55,11 +55,11 @@ pub last_of_two : {E : Type 0} (o : Result Bool E) (u : Bool) (old new a b c d :
 last_of_two o u old new a b c d is_old is_new one h =
     rw (is_old, is_new) (if_true o (λ two. fixed.within (fixed.more one (fixed.more two fixed.none))) h)
 
-pub last_of_three : {E : Type 0} (o : Result Bool E) (u : Bool) (old new a b c d e f : Tree) →
-    old ≡ conditional a b c → new ≡ conditional d e f → IsFixed u a d → IsFixed u b e →
-    IfOk o (λ t. IsTrue t → IsFixed u c f) → IfOk o (λ t. IsTrue t → IsFixed u old new)
-last_of_three o u old new a b c d e f is_old is_new one two h =
-    rw (is_old, is_new)
+pub last_of_three : {E : Type 0} (o : Result Bool E) (u : Bool) (new a b c d e f : Tree) →
+    new ≡ conditional d e f → IsFixed u a d → IsFixed u b e →
+    IfOk o (λ t. IsTrue t → IsFixed u c f) → IfOk o (λ t. IsTrue t → IsFixed u (conditional a b c) new)
+last_of_three o u new a b c d e f is one two h =
+    rw is
     (if_true o (λ three. fixed.within (fixed.more one (fixed.more two (fixed.more three fixed.none)))) h)
 
 -- ---- lists

@@ -1,6 +1,6 @@
 //! Whether a tree is another one with reports fixed, and nothing else changed.
 ghost use Rattle.std.specs.Prelude.{[], IfOk, IfSome, IsTrue, Contains};
-ghost use Rattle.fancy_grammar.specs.Tree.{alt, over, trees_of};
+ghost use Rattle.fancy_grammar.specs.Tree.{alt, conditional, over, trees_of};
 ghost use Rattle.fancy_syntax.specs.Shape.{label_of};
 ghost use Rattle.fancy_syntax.specs.View.{view, views};
 ghost use Rattle.pattern_fixes.specs.Fixed.{MatchesOne, HasSameCharacters, IsFixed, AreFixed, AreBranches};
@@ -154,6 +154,36 @@ fn is_fixed_around(
     Ok(false)
 }
 
+/// Whether the tree is a conditional of these parts, each fixed.
+#[cycle(is_fixed)]
+fn is_fixed_conditional(
+    alloc: Global,
+    condition: &Expr,
+    true_branch: &Expr,
+    false_branch: &Expr,
+    new: &Expr,
+    unicode: bool,
+) -> Result<bool, AllocError>
+    ensures { IfOk result (λ b. IsTrue b → IsFixed unicode
+        (conditional (view condition.now) (view true_branch.now) (view false_branch.now)) (view new.now)) }
+{
+    let Shape::Conditional {
+        condition: other,
+        true_branch: other_true,
+        false_branch: other_false,
+    } = new.shape()
+    else {
+        return Ok(false);
+    };
+    if !is_fixed(alloc, condition, other, unicode)? {
+        return Ok(false);
+    }
+    if !is_fixed(alloc, true_branch, other_true, unicode)? {
+        return Ok(false);
+    }
+    is_fixed(alloc, false_branch, other_false, unicode)
+}
+
 /// Whether the tree is the other one with reports fixed: a quantifier that repeats exactly once is left out, or a branch
 /// that is equal to an earlier one, or a class has another text, or a literal in its place, but the same characters.
 #[cycle(is_fixed)]
@@ -187,22 +217,6 @@ pub fn is_fixed(alloc: Global, old: &Expr, new: &Expr, unicode: bool) -> Result<
             condition,
             true_branch,
             false_branch,
-        } => {
-            let Shape::Conditional {
-                condition: other,
-                true_branch: other_true,
-                false_branch: other_false,
-            } = new.shape()
-            else {
-                return Ok(false);
-            };
-            if !is_fixed(alloc, condition, other, unicode)? {
-                return Ok(false);
-            }
-            if !is_fixed(alloc, true_branch, other_true, unicode)? {
-                return Ok(false);
-            }
-            is_fixed(alloc, false_branch, other_false, unicode)
-        }
+        } => is_fixed_conditional(alloc, condition, true_branch, false_branch, new, unicode),
     }
 }

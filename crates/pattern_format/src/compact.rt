@@ -282,7 +282,7 @@ impl<'p> Line<'p> {
 }
 
 /// The tokens of a pattern with these comments in one line, without those that are needless.
-fn text_of(
+fn in_one_line(
     alloc: Global,
     pattern: &str,
     tokens: &[Token<'_>],
@@ -349,7 +349,7 @@ fn in_line_once(alloc: Global, pattern: &str, flags: u32) -> Result<Option<Strin
     let comments = all_comments(alloc, pattern, &parsed)?;
     let oniguruma_mode = Flags::from_bits(flags).oniguruma_mode;
     for loss in losses(&tokens) {
-        let text = text_of(alloc, pattern, &tokens, &comments, *loss, oniguruma_mode)?;
+        let text = in_one_line(alloc, pattern, &tokens, &comments, *loss, oniguruma_mode)?;
         if reads_back(
             alloc,
             pattern,

@@ -1,7 +1,7 @@
 //! Patterns formatted, and read again.
-ghost use Rattle.std.specs.Prelude.{◌≡◌, chars, string_bytes, IfErr, IfOk, IfSome};
+ghost use Rattle.std.specs.Prelude.{string_bytes, IfErr, IfOk, IfSome};
 ghost use Rattle.fancy_lex.specs.Flags.{flags_of};
-ghost use Rattle.fancy_grammar.specs.ParseResult.{IsOnlyError, IsPositionedIn};
+ghost use Rattle.fancy_grammar.specs.Promises.{IsParseError};
 ghost use Rattle.fancy_syntax.specs.InfoViews.{info_of};
 ghost use Rattle.fancy_syntax.specs.TriviaViews.{trivia_of};
 ghost use Rattle.fancy_syntax.specs.View.{view};
@@ -14,7 +14,7 @@ use crate::read_back::reads_back;
 use crate::style::Style;
 use crate::verbose::laid_out;
 use crate::written::text_of;
-use fancy_lex::error::{Error, Result};
+use fancy_lex::error::Result;
 use fancy_lex::flags::Flags;
 use fancy_syntax::spanned::SpannedTree;
 use std::alloc::{AllocError, Global};
@@ -168,8 +168,7 @@ fn most_styled(
 /// ```
 pub fn format_pattern(alloc: Global, pattern: &str, flags: u32, style: Style) -> Result<Formatted>
     ensures formatted { IfOk result (λ r. IsFormatted style (flags_of flags) pattern.now (string_bytes r.text)) }
-    ensures error { IfErr result (λ e. IsOnlyError e (flags_of flags) (chars pattern.now)) }
-    ensures position { IfErr result (λ e. IsPositionedIn e pattern.now) }
+    ensures error { IfErr result (λ e. IsParseError (flags_of flags) pattern.now e) }
 {
     let parsed = SpannedTree::parse(alloc, pattern, flags)?;
     let first = match first_text(alloc, pattern, &parsed, flags, style)? {

@@ -26,7 +26,7 @@ fn sets_ignore_space(token: Token<'_>) -> bool {
 }
 
 /// The tokens, over lines of up to so many characters. None if they cannot be laid out.
-fn text_of(
+fn over_lines(
     alloc: Global,
     tokens: &[Token<'_>],
     flags: Flags,
@@ -77,7 +77,7 @@ fn laid_out_once(
     width: usize,
 ) -> Result<Option<String>, AllocError> {
     match valid_tokens(alloc, pattern, flags)? {
-        Some(tokens) => text_of(alloc, &tokens, Flags::from_bits(flags), width),
+        Some(tokens) => over_lines(alloc, &tokens, Flags::from_bits(flags), width),
         None => Ok(None),
     }
 }

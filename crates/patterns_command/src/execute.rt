@@ -9,7 +9,7 @@ use crate::rules::levels_chosen;
 use crate::subcommands::{PatternVerb, Verb};
 use clap::error::ErrorKind;
 use clap::{ArgMatches, Error};
-use fre_program::flag_word::{FLAG_WORD, flags_named};
+use fancy_lex::flag_word::{FLAG_WORD, flags_named};
 use lint_rules::rule::write_rules;
 use pattern_files::file_pattern::read_pattern;
 use pattern_files::form::FileFormat;

@@ -1,5 +1,5 @@
 //! Why a configuration is refused.
-use fre_program::flag_word::FLAG_WORD;
+use fancy_lex::flag_word::FLAG_WORD;
 use std::alloc::AllocError;
 use std::fmt;
 use thiserror::Error;

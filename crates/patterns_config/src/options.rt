@@ -2,7 +2,7 @@
 use crate::choices::LEVELS;
 use crate::config_error::{Problem, TableError};
 use crate::tables::{flag_of, text_of, texts_of};
-use fre_program::flag_word::flags_named;
+use fancy_lex::flag_word::flags_named;
 use lint_rules::chosen::Level;
 use std::alloc::Global;
 use toml::{Table, Value};

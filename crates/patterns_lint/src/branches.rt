@@ -202,7 +202,7 @@ impl<'b> Earlier<'b> {
         let i = self.nodes.len();
         self.nodes.push(branch)?;
         add_first(&mut self.whole, whole, i)?;
-        if let Some(text) = text_of(branch.expr()) {
+        if let Some(text) = literals_fingerprint(branch.expr()) {
             return add_first(&mut self.literals, text, i);
         }
         if self.others.len() < MAX_COMPARED {
@@ -364,7 +364,7 @@ impl<'b> Earlier<'b> {
 }
 
 /// The fingerprint of the text of a branch that is literals only.
-fn text_of(branch: &Expr) -> Option<Fingerprint> {
+fn literals_fingerprint(branch: &Expr) -> Option<Fingerprint> {
     let mut text = Fingerprint::new();
     for piece in pieces(branch) {
         let Expr::Literal { val, .. } = piece else {

@@ -4,7 +4,7 @@ use patterns_text::shown::Code;
 use std::fmt;
 
 /// How many ranges of a class are written.
-const MOST_RANGES: usize = 8;
+const MAX_RANGES: usize = 8;
 
 /// A character of a class, by its code: as it is, if it is a letter, a digit or punctuation of ASCII, and otherwise as an escape.
 #[derive(Clone, Copy)]
@@ -59,13 +59,13 @@ impl fmt::Display for FirstRanges<'_> {
         if ranges.is_empty() {
             return f.write_str("no character");
         }
-        for (i, (first, last)) in ranges.iter().take(MOST_RANGES).enumerate() {
+        for (i, (first, last)) in ranges.iter().take(MAX_RANGES).enumerate() {
             if i > 0 {
                 f.write_char(' ')?;
             }
             write!(f, "{}", Members(*first, *last))?;
         }
-        match ranges.len().saturating_sub(MOST_RANGES) {
+        match ranges.len().saturating_sub(MAX_RANGES) {
             0 => Ok(()),
             1 => f.write_str(" and 1 more range"),
             more => write!(f, " and {more} more ranges"),

@@ -1,28 +1,28 @@
 //! What the children of a node take together.
-use crate::shape::Shape;
+use crate::figure::Figure;
 use crate::size::{RETURN, SIDE, Size};
 
 /// The children of a node, as far as they are measured. Those of a row are in lines.
 #[derive(Clone, Copy)]
 pub(crate) struct Content {
-    shape: Shape,
+    figure: Figure,
     /// How wide a child, or a line, may be.
     pub(crate) limit: usize,
     /// The lines before the last one, one above another.
     lines: Option<Size>,
     /// The index of the first child of the last line.
     pub(crate) first: usize,
-    /// The last line; of another shape all children.
+    /// The last line of a row; for any other figure all children.
     line: Size,
-    last: Option<Shape>,
+    last: Option<Figure>,
 }
 
 impl Content {
     /// That of a node which may be so wide, before its first child, which has this index.
-    pub(crate) fn new(shape: Shape, width: usize, first: usize) -> Content {
+    pub(crate) fn new(figure: Figure, width: usize, first: usize) -> Content {
         Content {
-            shape,
-            limit: shape.inside(width),
+            figure,
+            limit: figure.inside(width),
             lines: None,
             first,
             line: Size::EMPTY,
@@ -37,11 +37,11 @@ impl Content {
 
     /// The size of the last line of a row.
     pub(crate) fn last_line(&self) -> Option<Size> {
-        (self.shape == Shape::Row).then_some(self.line)
+        (self.figure == Figure::Row).then_some(self.line)
     }
 
     /// Whether the last line of a row ends before a child. Characters stay together in a line up to a quarter wider.
-    pub(crate) fn is_full(&self, next: (Shape, Size)) -> bool {
+    pub(crate) fn is_full(&self, next: (Figure, Size)) -> bool {
         let Some(last) = self.last else {
             return false;
         };
@@ -51,7 +51,7 @@ impl Content {
         } else {
             self.limit
         };
-        self.shape == Shape::Row && self.line.beside(gap, next.1).width > limit
+        self.figure == Figure::Row && self.line.beside(gap, next.1).width > limit
     }
 
     /// Begins a line of a row, with the child at this index.
@@ -66,8 +66,8 @@ impl Content {
     }
 
     /// Adds a child to the last line.
-    pub(crate) fn add(&mut self, next: (Shape, Size)) {
-        self.line = self.shape.joined(self.line, self.last, next);
+    pub(crate) fn add(&mut self, next: (Figure, Size)) {
+        self.line = self.figure.joined(self.line, self.last, next);
         self.last = Some(next.0);
     }
 

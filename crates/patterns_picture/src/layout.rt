@@ -1,7 +1,7 @@
 //! Where each node is drawn in the picture.
 use crate::content::Content;
+use crate::figure::Figure;
 use crate::label::Words;
-use crate::shape::Shape;
 use crate::size::{GAP, RETURN, ROLE, SIDE, Size, WORD_LINE};
 use crate::text::columns;
 use fancy_syntax::expr::Expr;
@@ -16,7 +16,7 @@ use std::alloc::AllocError;
 pub(crate) struct Drawn<'a> {
     pub(crate) node: &'a Expr,
     pub(crate) span: Span,
-    pub(crate) shape: Shape,
+    pub(crate) figure: Figure,
     /// How many groups have opened, the node itself counted.
     pub(crate) groups: usize,
     children: usize,
@@ -61,11 +61,11 @@ impl Drawn<'_> {
         }
     }
 
-    /// The size of its text, where its shape has one.
+    /// The size of its text, where its figure has one.
     fn text_size(&self, pattern: &str) -> Size {
-        match self.shape {
-            Shape::Character => Size::of_text(columns(self.text(pattern)), 2),
-            Shape::Leaf => Size::of_text(columns(self.text(pattern)), 0),
+        match self.figure {
+            Figure::Character => Size::of_text(columns(self.text(pattern)), 2),
+            Figure::Leaf => Size::of_text(columns(self.text(pattern)), 0),
             _ => Size::EMPTY,
         }
     }
@@ -115,13 +115,13 @@ struct Cursor {
     top: usize,
     /// The height of the rail of a row's line.
     rail: usize,
-    last: Option<Shape>,
+    last: Option<Figure>,
 }
 
 impl Cursor {
     /// That of the first child.
     fn of(parent: &Drawn<'_>) -> Cursor {
-        let is_parts = parent.shape == Shape::Parts;
+        let is_parts = parent.figure == Figure::Parts;
         let role = if is_parts { GAP + ROLE } else { 0 };
         let words = if is_parts { WORD_LINE } else { 0 };
         Cursor {
@@ -146,23 +146,23 @@ impl Cursor {
         if let Some(line) = child.line {
             self.begin_line(parent, line);
         }
-        let gap = self.last.map_or(0, |last| last.gap(child.shape));
+        let gap = self.last.map_or(0, |last| last.gap(child.figure));
         let free = parent.size.width.saturating_sub(child.size.width);
-        child.left = match parent.shape {
-            Shape::Row => self.left.saturating_add(gap),
-            Shape::Parts => self.left,
+        child.left = match parent.figure {
+            Figure::Row => self.left.saturating_add(gap),
+            Figure::Parts => self.left,
             _ => parent.left.saturating_add(free / 2),
         };
-        child.top = match parent.shape {
-            Shape::Fork | Shape::Parts => self.top,
+        child.top = match parent.figure {
+            Figure::Fork | Figure::Parts => self.top,
             _ => self.rail.saturating_sub(child.size.rail),
         };
-        if parent.shape == Shape::Row {
+        if parent.figure == Figure::Row {
             self.left = child.right();
         } else {
             self.top = child.bottom().saturating_add(GAP);
         }
-        self.last = Some(child.shape);
+        self.last = Some(child.figure);
     }
 }
 
@@ -221,7 +221,7 @@ impl<'a> Layout<'a> {
         self.nodes.push(Drawn {
             node: node.expr(),
             span: node.span(),
-            shape: Shape::of(node.expr()),
+            figure: Figure::of(node.expr()),
             groups: self.groups,
             children: 0,
             nodes: 1,
@@ -235,7 +235,7 @@ impl<'a> Layout<'a> {
     }
 
     /// Adds a child, which is measured, to the content of a node: to a new line if the last one is full.
-    fn add(&mut self, content: &mut Content, child: usize, next: (Shape, Size)) {
+    fn add(&mut self, content: &mut Content, child: usize, next: (Figure, Size)) {
         if content.is_full(next) {
             self.end_line(content);
             content.begin_line(child);
@@ -265,7 +265,7 @@ impl<'a> Layout<'a> {
         };
         let text = drawn.text_size(self.pattern);
         let on_box = columns(words.on_box(drawn.node, drawn.groups)?);
-        drawn.size = drawn.shape.round(content.size().beside(0, text), on_box);
+        drawn.size = drawn.figure.round(content.size().beside(0, text), on_box);
         drawn.is_wrapped = content.is_wrapped();
         drawn.children = children;
         drawn.nodes = len.saturating_sub(index);
@@ -303,16 +303,16 @@ impl<'a> Layout<'a> {
     }
 }
 
-/// Adds the node and those below it, and returns its shape and its size. It may be so wide.
+/// Adds the node and those below it, and returns its figure and its size. It may be so wide.
 fn measure<'a>(
     layout: &mut Layout<'a>,
     words: &mut Words<'_>,
     node: SpannedNode<'a>,
     width: usize,
-) -> Result<(Shape, Size), RunError> {
+) -> Result<(Figure, Size), RunError> {
     let index = layout.begin(node)?;
-    let shape = Shape::of(node.expr());
-    let mut content = Content::new(shape, width, layout.nodes.len());
+    let figure = Figure::of(node.expr());
+    let mut content = Content::new(figure, width, layout.nodes.len());
     let mut children: usize = 0;
     for child in node.children() {
         let at = layout.nodes.len();
@@ -320,5 +320,5 @@ fn measure<'a>(
         layout.add(&mut content, at, next);
         children = children.saturating_add(1);
     }
-    Ok((shape, layout.end(index, words, children, content)?))
+    Ok((figure, layout.end(index, words, children, content)?))
 }

@@ -2,13 +2,13 @@
 #![tactic(auto)]
 
 mod content;
+mod figure;
 mod grid;
 mod label;
 mod layout;
 mod page;
 pub mod picture;
 mod rails;
-mod shape;
 mod size;
 mod style;
 mod svg;

@@ -1,9 +1,9 @@
 //! The picture, as SVG.
+use crate::figure::Figure;
 use crate::grid::Grid;
 use crate::label::Words;
 use crate::layout::{Drawn, Layout};
 use crate::rails::{Arrow, past_child, to_branch, to_end, to_line, to_start};
-use crate::shape::Shape;
 use crate::size::{COLUMN, GAP, LINE, SIDE, Size, WORD_LINE, narrowed};
 use crate::style::STYLE;
 use crate::text::Xml;
@@ -34,17 +34,17 @@ struct Picture<'a> {
     grid: Grid<'a>,
 }
 
-/// The name of the shape in the style sheet.
-fn class(shape: Shape) -> &'static str {
-    match shape {
-        Shape::Nothing => "nothing",
-        Shape::Character => "character",
-        Shape::Leaf => "leaf",
-        Shape::Row => "row",
-        Shape::Fork => "fork",
-        Shape::Loop { .. } => "loop",
-        Shape::Frame => "frame",
-        Shape::Parts => "parts",
+/// The name of the figure in the style sheet.
+fn class(figure: Figure) -> &'static str {
+    match figure {
+        Figure::Nothing => "nothing",
+        Figure::Character => "character",
+        Figure::Leaf => "leaf",
+        Figure::Row => "row",
+        Figure::Fork => "fork",
+        Figure::Loop { .. } => "loop",
+        Figure::Frame => "frame",
+        Figure::Parts => "parts",
     }
 }
 
@@ -231,11 +231,11 @@ fn write_rails<O: Write>(
     index: usize,
     node: &Drawn<'_>,
 ) -> io::Result<()> {
-    match node.shape {
-        Shape::Row => write_lines(out, layout, index, node),
-        Shape::Fork => write_branches(out, layout, index, node),
-        Shape::Parts => write_parts(out, layout, index, node),
-        Shape::Loop { repeats, skips } => match layout.children(index).next() {
+    match node.figure {
+        Figure::Row => write_lines(out, layout, index, node),
+        Figure::Fork => write_branches(out, layout, index, node),
+        Figure::Parts => write_parts(out, layout, index, node),
+        Figure::Loop { repeats, skips } => match layout.children(index).next() {
             Some(child) => write_loop(out, node, child, repeats, skips),
             None => Ok(()),
         },
@@ -245,9 +245,9 @@ fn write_rails<O: Write>(
 
 /// Writes the words on the node's box.
 fn write_words<O: Write>(out: &mut O, node: &Drawn<'_>, words: &str) -> io::Result<()> {
-    let (left, base) = match node.shape {
-        Shape::Leaf => (node.middle(), LINE.saturating_add(8)),
-        Shape::Loop { .. } => (node.middle(), 11),
+    let (left, base) = match node.figure {
+        Figure::Leaf => (node.middle(), LINE.saturating_add(8)),
+        Figure::Loop { .. } => (node.middle(), 11),
         _ => (node.left.saturating_add(GAP / 2), 12),
     };
     write_text(out, "words", left, node.top.saturating_add(base), words)
@@ -255,9 +255,9 @@ fn write_words<O: Write>(out: &mut O, node: &Drawn<'_>, words: &str) -> io::Resu
 
 /// Writes the area of the node.
 fn write_box<O: Write>(out: &mut O, node: &Drawn<'_>) -> io::Result<()> {
-    let round = match node.shape {
-        Shape::Frame | Shape::Parts => 8,
-        Shape::Leaf => 4,
+    let round = match node.figure {
+        Figure::Frame | Figure::Parts => 8,
+        Figure::Leaf => 4,
         _ => 0,
     };
     let Drawn {
@@ -312,7 +312,7 @@ impl<'a> Picture<'a> {
         index: usize,
         node: &Drawn<'_>,
     ) -> io::Result<()> {
-        write!(out, "<g class=\"node node{index} {}", class(node.shape))?;
+        write!(out, "<g class=\"node node{index} {}", class(node.figure))?;
         if is_insensitive(node.node) {
             out.write_all(b" insensitive")?;
         }
@@ -339,7 +339,7 @@ impl<'a> Picture<'a> {
         )?;
         write_box(out, node)?;
         write_rails(out, &self.layout, index, node)?;
-        if let Shape::Character | Shape::Leaf = node.shape {
+        if let Figure::Character | Figure::Leaf = node.figure {
             let base = node.top.saturating_add(17);
             write_text(out, "text", node.middle(), base, node.text(self.pattern))?;
         }

@@ -1,7 +1,7 @@
 -- Patterns that are accepted.
 use Rattle.std.specs.Prelude.{ℕ, All, chars, unwrap_or}
 use Rattle.fancy_lex.specs.Flags.{flags_of}
-use Rattle.fre_program.specs.Words.{HasTree}
+use Rattle.fancy_syntax.specs.InfoViews.{HasTree}
 use Rattle.pattern_files.specs.declared.entry.Entry.{Entry}
 use Rattle.patterns_program.specs.declared.job.Job.{Job}
 

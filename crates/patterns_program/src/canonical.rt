@@ -37,7 +37,7 @@ pub enum Comments {
 
 /// The text of the pattern's tree, for the pattern's line. None if it would break the line: the pattern itself is written
 /// then.
-fn text_of(
+fn line_of(
     alloc: Global,
     flags: u32,
     pattern: &str,
@@ -102,7 +102,7 @@ pub(crate) fn canonical(
         reports.refuse(subject, position, LOST)?;
         return Ok(Rewriting::Stays(Outcome::Refused));
     }
-    let Some(text) = text_of(alloc, flags, pattern, &parsed.tree)? else {
+    let Some(text) = line_of(alloc, flags, pattern, &parsed.tree)? else {
         return Ok(Rewriting::Stays(Outcome::Good));
     };
     if text.as_str() == pattern {

@@ -1,7 +1,7 @@
 //! A run over files of patterns.
 ghost use Rattle.std.specs.Prelude.{◌≡◌, ◌≤◌, chars, All, IsTrue, IsSome, Ok, OnOk};
 ghost use Rattle.fancy_lex.specs.Flags.{flags_of};
-ghost use Rattle.fre_program.specs.Words.{HasTree};
+ghost use Rattle.fancy_syntax.specs.InfoViews.{HasTree};
 ghost use Rattle.patterns_program.specs.Accepted.{IsEntryAccepted, AreArgumentsAccepted};
 ghost use Rattle.patterns_program.specs.declared.job.Command.{Command};
 ghost use Rattle.patterns_program.specs.declared.outcome.Outcome.{Outcome};

@@ -1,10 +1,9 @@
 -- Patterns that are reported on.
 use Rattle.std.specs.Prelude.{chars}
 use Rattle.fancy_lex.specs.Flags.{flags_of}
-use Rattle.fancy_syntax.specs.InfoViews.{IsTreeOf, info_of}
+use Rattle.fancy_syntax.specs.InfoViews.{IsTreeOf, HasTree, HasError, info_of}
 use Rattle.fancy_syntax.specs.View.{view}
 use Rattle.fancy_syntax.specs.declared.tree.ExprTree.{ExprTree}
-use Rattle.fre_program.specs.Words.{HasTree, HasError}
 use Rattle.patterns_text.specs.declared.subject.Subject.{Subject}
 
 -- the pattern has a tree under its flags

@@ -1,7 +1,7 @@
 //! Patterns that are reported on.
 ghost use Rattle.std.specs.Prelude.{◌≡◌, chars, IfOk, OnOk, OnErr};
 ghost use Rattle.fancy_lex.specs.Flags.{flags_of};
-ghost use Rattle.fre_program.specs.Words.{HasTree, HasError};
+ghost use Rattle.fancy_syntax.specs.InfoViews.{HasTree, HasError};
 ghost use Rattle.patterns_text.specs.Subject.{IsAccepted, IsRefused, IsParsedAs};
 
 use crate::error::RunError;

@@ -6,7 +6,6 @@ use crate::shown::{Code, is_hidden};
 use fancy_lex::escape::Assertion;
 use fancy_lex::name::CaptureGroupTarget;
 use fancy_syntax::expr::{Absent, AstNode, Expr, LookAround};
-use fre_program::hex::Hex;
 use std::io::Write;
 use std::{fmt, io};
 
@@ -243,6 +242,22 @@ pub fn is_reference(node: &Expr) -> bool {
     )
 }
 
+/// Bytes in hexadecimal, two digits each; `-` for no bytes.
+#[derive(Clone, Copy)]
+struct HexDigits<'a>(&'a [u8]);
+
+impl fmt::Display for HexDigits<'_> {
+    fn fmt<W: fmt::Write>(&self, f: &mut fmt::Formatter<W>) -> fmt::Result {
+        if self.0.is_empty() {
+            return f.write_str("-");
+        }
+        for byte in self.0 {
+            write!(f, "{byte:02x}")?;
+        }
+        Ok(())
+    }
+}
+
 /// A literal, described. Each control character is written as an escape.
 #[derive(Clone, Copy)]
 pub struct LiteralWords<'a> {
@@ -270,7 +285,7 @@ impl fmt::Display for Held<'_> {
                 };
                 write!(f, "{literal}")
             }
-            Expr::LiteralBytes { bytes } => write!(f, "bytes {}", Hex(bytes)),
+            Expr::LiteralBytes { bytes } => write!(f, "bytes {}", HexDigits(bytes)),
             Expr::Delegate { inner, casei } => {
                 write!(f, "class {}{}", Visible(inner.as_str()), case_words(*casei))
             }

@@ -4,7 +4,6 @@ use anyhow::{Context, Result, bail};
 use fancy_lex::escape::Assertion;
 use fancy_lex::name::CaptureGroupTarget;
 use fancy_syntax::expr::{Absent, AstNode, BacktrackingControlVerb, Expr, LookAround};
-use fre_program::names::{assertion_named, bare_node_named, crlf_of};
 use std::alloc::Global;
 
 /// The value of a field with this name and an equals sign.
@@ -36,8 +35,8 @@ fn target(alloc: Global, field: &str) -> Result<CaptureGroupTarget> {
 }
 
 fn assertion(name: &str, crlf: Option<bool>) -> Result<Assertion> {
-    let assertion = assertion_named(name, crlf.unwrap_or(false)).context("no assertion")?;
-    if crlf_of(assertion) != crlf {
+    let assertion = Assertion::named(name, crlf.unwrap_or(false)).context("no assertion")?;
+    if assertion.crlf() != crlf {
         bail!("another field");
     }
     Ok(assertion)
@@ -98,7 +97,7 @@ fn leaf(alloc: Global, words: &[&str]) -> Result<Expr> {
         ["SubroutineCall", group] => Expr::SubroutineCall(number(group)?),
         ["BacktrackingControlVerb", name] => Expr::BacktrackingControlVerb(verb(name)?),
         ["Absent", "Clear"] => Expr::Absent(Absent::Clear),
-        [name] => bare_node_named(name).context("no node that holds nothing")?,
+        [name] => Expr::bare_named(name).context("no node that holds nothing")?,
         _ => reference(alloc, words)?,
     })
 }

@@ -1,9 +1,9 @@
 //! How far a pattern is taken.
 use crate::speed::sample::Sample;
 use anyhow::{Context, Result, bail};
+use fancy_lex::flag_word::flags_named;
 use fancy_pattern::to_pattern;
 use fancy_syntax::{Error, Expr, ExprTree, WHOLE};
-use fre_program::flag_word::flags_named;
 use std::alloc::{AllocError, Global};
 
 /// What is done to a pattern last. Each stage does those before it too.

@@ -12,7 +12,7 @@ use Rattle.fancy_lex.specs.Characters.{◌∈◌}
 use Rattle.fancy_lex.specs.Class.{class_from, class, class_start, with_symbol, escape_in_class, is_negated}
 use Rattle.fancy_lex.specs.Escape.{escape, escape_at, backref_leaf, number_escape, call_escape, property, outside}
 use Rattle.fancy_lex.specs.Escape.{is_itself, lone_anywhere, lone_in_class, lone_outside, row_of, lone_escape}
-use Rattle.fancy_lex.specs.Escape.{unknown_escape}
+use Rattle.fancy_lex.specs.ErrorTable.{letter_of_no_escape}
 use Rattle.fancy_lex.specs.EscapeReference as reference
 use Rattle.fancy_lex.specs.EscapeReference.{group_number}
 use Rattle.fancy_lex.specs.Escaped.{Escape, literal, literal_bytes, assertion, delegate, backref, subroutine_call}
@@ -149,7 +149,8 @@ lone_alike f g inside c =
     by_position false = search (alike_if, boundary_alike) depth 30
 
 lone_too : (p c : ℕ) (t : Text) (o q : Option Escape) → Alike o q →
-    Too (choose o (λ e. gives e t) (unknown_escape p c)) (choose q (λ e. gives e t) (unknown_escape p c))
+    Too (choose o (λ e. gives e t) (fails (letter_of_no_escape p c)))
+    (choose q (λ e. gives e t) (fails (letter_of_no_escape p c)))
 lone_too p c t (Some e) (Some d) h = (d, refl)
 lone_too p c t (Some e) None h = absurd h
 lone_too p c t None q h = tt

@@ -11,7 +11,7 @@ use Rattle.fancy_lex.specs.declared.escape.Assertion.TheVariants.{StartLineOnigu
 use Rattle.fancy_grammar.specs.Quote.{after_backslash}
 use Rattle.fancy_grammar.specs.Join.{is_empty, solid, one_or, join, choice}
 use Rattle.fancy_grammar.specs.Normal.{normal_character, pieces_of, normal, normal_pieces, normals}
-use Rattle.fancy_grammar.specs.Printable.{is_count, printable, all_printable, takes_quantifier}
+use Rattle.fancy_grammar.specs.Printable.{is_count, printable, all_printable}
 use Rattle.fancy_grammar.specs.Tree.{Tree, Trees, no_trees, more_trees, empty, any, assertion, literal, concat, alt}
 use Rattle.fancy_grammar.specs.Tree.{group, repeat, delegate, define_group, trees_of}
 use Rattle.fancy_grammar.specs.HasDelegate.{has_delegate, any_has_delegate}
@@ -188,12 +188,13 @@ repeat_kept : (u : Bool) (t : Tree) (lo hi : ℕ) (greedy : Bool) → printable 
 repeat_kept u t lo hi greedy h r =
     let k = second_so (printable t) _ h in
     let full = first_so _ (is_count lo && is_count hi) k in
-    let counts = second_so (takes_quantifier t) _ k in
+    let counts = second_so (not (is_empty (normal false t))) _ k in
     let again : is_empty (normal false (normal u t)) ≡ is_empty (normal false t) =
     normal_empty false (normal u t) ∙ r.stays ∙ normal_empty u t ∙ sym (normal_empty false t) in
     record {
       is = and_from (printable (normal u t)) _ r.is
-          (and_from (takes_quantifier (normal u t)) (is_count lo && is_count hi) (ap not again ∙ full) counts);
+          (and_from (not (is_empty (normal false (normal u t)))) (is_count lo && is_count hi) (ap not again ∙ full)
+          counts);
       stays = refl;
     }
 

@@ -15,7 +15,7 @@ use Rattle.fancy_grammar.specs.Tree.{Tree, Trees, no_trees, more_trees, any, ass
 use Rattle.fancy_grammar.specs.Tree.{repeat, delegate}
 use Rattle.fancy_grammar.proofs.ReadBack.Nest.{one_if, nest, nests}
 use Rattle.fancy_grammar.specs.Over.{Paren, moved, in_group, parens, parens_all, parens_branches}
-use Rattle.fancy_grammar.specs.Over.{parens_barred, is_at_line, is_too_deep, too_deep}
+use Rattle.fancy_grammar.specs.Over.{is_at_line, too_deep}
 
 -- for a group whose opening has this many bytes, if d groups are open around it
 abbrev pub at_open : ℕ → ℕ → ℕ → ℕ
@@ -55,6 +55,10 @@ abbrev mutual
       else bytes (printed t BRANCH) + barred_positions ts d)
 
 -- ---- parentheses with this nesting have their first that is too deep there
+
+-- a group that opens here is too deep, and the groups around it are not
+abbrev is_too_deep : Paren → Bool
+is_too_deep q = q.round + 1 == max_depth
 
 abbrev first : List Paren → Option Paren
 first l = find is_too_deep l
@@ -187,16 +191,34 @@ module _ (k l : List Paren) (w : ℕ) where
       same : (d : ℕ) → d ≡ d + 0
       same d = omega arith
 
--- one byte later
-shifted : (k : List Paren) (m : ℕ) (o : ℕ → ℕ) → Finds k m o → Finds (moved 1 0 k) m (λ d. 1 + o d)
-shifted k m o f = record {
-  deep = λ start d l h. ap first (again start d) ∙ f.deep (start + 1) d l h ∙ at_same _ _ (omega arith);
-  shallow = λ start d h. ap first (again start d) ∙ f.shallow (start + 1) d h;
+-- positions that agree wherever a group is too deep may replace each other
+finds_same : (k : List Paren) (m : ℕ) (o r : ℕ → ℕ) → Finds k m o →
+    ((d : ℕ) → d < max_depth → max_depth ≤ d + m → o d ≡ r d) → Finds k m r
+finds_same k m o r f same = record {
+  deep = λ start d l h. f.deep start d l h ∙ at_same _ _ (ap (λ x. start + x) (same d l h));
+  shallow = f.shallow;
 }
+
+-- the branches after a bar, if one of them is too deep
+after_bar : (ts : Trees) (d : ℕ) → d < max_depth → max_depth ≤ d + nests ts BRANCH →
+    barred_positions ts d ≡ 1 + branch_positions ts d
+after_bar no_trees d l h = absurd (omega arith)
+after_bar (more_trees t ts) d l h = refl
+
+with_bar : (t : Tree) (ts : Trees) (d : ℕ) → d < max_depth → max_depth ≤ d + max (nest t BRANCH) (nests ts BRANCH) →
+    (if nat_le max_depth (d + nest t BRANCH) then position t BRANCH d
+    else bytes (printed t BRANCH) + 1 + branch_positions ts d) ≡ branch_positions (more_trees t ts) d
+with_bar t ts d l h = by_test (nat_le max_depth (d + nest t BRANCH)) refl
   where
-    again : (start d : ℕ) → moved start d (moved 1 0 k) ≡ moved (start + 1) d k
-    again start d =
-        let same : d + 0 ≡ d = omega arith in moved_again start d 1 0 k ∙ ap (λ e. moved (start + 1) e k) same
+    by_test : (b : Bool) → nat_le max_depth (d + nest t BRANCH) ≡ b →
+        (if b then position t BRANCH d else bytes (printed t BRANCH) + 1 + branch_positions ts d)
+        ≡ (if b then position t BRANCH d else bytes (printed t BRANCH) + barred_positions ts d)
+    by_test true e = refl
+    by_test false e =
+        let less = leb-false max_depth (d + nest t BRANCH) e in
+        let later = after_bar ts d l (omega arith) in
+        let same : bytes (printed t BRANCH) + 1 + branch_positions ts d
+        ≡ bytes (printed t BRANCH) + barred_positions ts d = omega arith in same
 
 one_group : (t : Tree) → Finds (parens t WHOLE) (nest t WHOLE) (position t WHOLE) →
     Finds (in_group true (codes "(") (parens t WHOLE)) (1 + nest t WHOLE) (λ d. at_open d 1 (position t WHOLE (d + 1)))
@@ -231,16 +253,10 @@ mutual
   branches_find : (ts : Trees) → Finds (parens_branches ts) (nests ts BRANCH) (branch_positions ts)
   branches_find no_trees = none_find
   branches_find (more_trees t ts) =
-      both_find (parens t BRANCH) (parens_barred ts) (bytes (printed t BRANCH)) (nest t BRANCH) (nests ts BRANCH)
-      (position t BRANCH)
-      (barred_positions ts) (parens_find t BRANCH) (barred_find ts)
-
-  barred_find : (ts : Trees) → Finds (parens_barred ts) (nests ts BRANCH) (barred_positions ts)
-  barred_find no_trees = none_find
-  barred_find (more_trees t ts) = shifted _ _ _
-      (both_find (parens t BRANCH) (parens_barred ts) (bytes (printed t BRANCH)) (nest t BRANCH) (nests ts BRANCH)
-      (position t BRANCH)
-      (barred_positions ts) (parens_find t BRANCH) (barred_find ts))
+      finds_same _ _ _ _
+      (both_find (parens t BRANCH) (parens_branches ts) (bytes (printed t BRANCH) + 1) (nest t BRANCH) (nests ts BRANCH)
+      (position t BRANCH) (branch_positions ts) (parens_find t BRANCH) (branches_find ts))
+      (with_bar t ts)
 
 -- the first that is too deep is there; if fewer groups nest, no group is too deep
 pub over_position : (t : Tree) (p : ℕ) → max_depth ≤ nest t p →

@@ -14,7 +14,7 @@ use Rattle.fancy_grammar.specs.Join.{is_empty, solid, one_or, join, choice}
 use Rattle.fancy_grammar.specs.Normal.{normal_character, pieces_of, unicode_flags, class_of, whole_leaf, whole_of}
 use Rattle.fancy_grammar.specs.Normal.{normal}
 use Rattle.fancy_grammar.specs.Normal.{normal_pieces, normals}
-use Rattle.fancy_grammar.specs.Printable.{is_count, printable, all_printable, takes_quantifier}
+use Rattle.fancy_grammar.specs.Printable.{is_count, printable, all_printable}
 use Rattle.fancy_grammar.specs.Quantified.{is_repeatable}
 use Rattle.fancy_grammar.specs.State.{Outcome, done, failed}
 use Rattle.fancy_grammar.specs.Tree.{Tree, Trees, no_trees, more_trees, empty, any, assertion, literal, concat, alt}
@@ -163,7 +163,7 @@ mutual
   is_printable (repeat t lo hi greedy) h =
       let child = is_printable t (first_so (printable t) _ h) in
       let k = second_so (printable t) _ h in
-      let counts = second_so (takes_quantifier t) _ k in (
+      let counts = second_so (not (is_empty (normal false t))) _ k in (
         child,
         takes t child (first_so _ (is_count lo && is_count hi) k),
         count_below lo (first_so _ (is_count hi) counts),

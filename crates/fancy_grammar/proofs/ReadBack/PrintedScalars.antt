@@ -1,6 +1,6 @@
 -- What is printed for a printable tree consists of scalar values, so its bytes spell it.
 use Rattle.std.proofs.Common.{◌≡◌, ℕ, ◌^◌, ◌<◌, Bool, true, false, ◌&&◌, ◌==◌, nat_lt, [], ◌∷◌, ◌++◌, Option, codes}
-use Rattle.std.proofs.Common.{decimal, chars, refl, arith}
+use Rattle.std.proofs.Common.{not, decimal, chars, refl, arith}
 use Rattle.std.specs.Prelude.{encode_utf8_all}
 use Rattle.std.proofs.lemmas.Bool.{and_from, and_parts, cond_both}
 use Rattle.std.proofs.lemmas.Bool.Decides.{nat_tests}
@@ -16,7 +16,9 @@ use Rattle.fancy_lex.specs.declared.escape.Assertion.TheVariants.{StartLine, Sta
 use Rattle.fancy_lex.specs.Quantifier.{most}
 use Rattle.fancy_grammar.specs.Quote.{quote_as, quote, quotes, range, operator, counts_as, counts_text}
 use Rattle.fancy_grammar.specs.Quote.{quantifier}
-use Rattle.fancy_grammar.specs.Printable.{is_count, printable, all_printable, takes_quantifier}
+use Rattle.fancy_grammar.specs.Join.{is_empty}
+use Rattle.fancy_grammar.specs.Normal.{normal}
+use Rattle.fancy_grammar.specs.Printable.{is_count, printable, all_printable}
 use Rattle.fancy_grammar.specs.Printed.{any_text, assertion_text, grouped, caseless, is_long, printed, operand_text}
 use Rattle.fancy_grammar.specs.Printed.{printed_all, printed_branches, barred}
 use Rattle.fancy_grammar.specs.Printed.{WHOLE, BRANCH, PIECE, OPERAND}
@@ -113,7 +115,7 @@ mutual
   printed_scalars (alt ts) p h = grouped_scalars (nat_lt WHOLE p) (printed_branches ts) (branches_printed ts h)
   printed_scalars (group t) p h = scalars_append (printed t WHOLE) (codes ")") (printed_scalars t WHOLE h) refl
   printed_scalars (repeat t lo hi greedy) p h =
-      repeat_scalars t lo hi greedy p (second_so (takes_quantifier t) _ (second_so (printable t) _ h))
+      repeat_scalars t lo hi greedy p (second_so (not (is_empty (normal false t))) _ (second_so (printable t) _ h))
       (printed_scalars t OPERAND (first_so (printable t) _ h))
   printed_scalars _ p h = refl
 

@@ -101,7 +101,7 @@ only_result t p u h = by_nest (nat_lt (nest t p) max_depth) refl
         (only_refused (unicode_flags u) (printed t p) (position t p 0) (deep_fails t p u (is_printable t h) l))
 
 pub read_back_only : (t : Tree) (p : ℕ) → printable t ≡ true → IsReadBack t p (printed t p)
-read_back_only t p h = record { plain = only_result t p false h; unicode = only_result t p true h }
+read_back_only t p h = λ u. only_result t p u h
 
 -- the same for the bytes
 pub bytes_read_back : (t : Tree) (p : ℕ) → printable t ≡ true → IsReadBack t p (chars (encode_utf8_all (printed t p)))

@@ -10,7 +10,7 @@ use Rattle.fancy_lex.specs.declared.flags.Flags.{Flags}
 use Rattle.fancy_grammar.specs.Meaning.{Meaning, refers_to}
 use Rattle.fancy_grammar.specs.Ranks.{is_counted}
 use Rattle.fancy_grammar.specs.Written.{is_numeric}
-use Rattle.fancy_grammar.specs.Items.{meanings_in, role_of, target_of}
+use Rattle.fancy_grammar.specs.Items.{MeantReference, meanings_in, role_of, target_of}
 use Rattle.fancy_grammar.specs.Label as label
 use Rattle.fancy_grammar.specs.Label.{AstReference, ast_backref, ast_call, ast_condition}
 use Rattle.fancy_grammar.specs.GroupInfo.{GroupInfo, is_call_of_all}
@@ -85,14 +85,17 @@ module _ (f : Flags) (m : GroupInfo) (text : Text) (z : ℕ) (named : Bool) (u :
   kept_here = kept z named u
 
   -- what the references among nodes mean, which count as written with numbers, and which are calls of all
-  abbrev pub meant : ℕ → List Tree → List (AstReference × ℕ × Meaning)
+  abbrev pub meant : ℕ → List Tree → List MeantReference
   meant c l = meanings_in named u c (items_of_all l)
 
-  abbrev pub is_written : AstReference × ℕ × Meaning → Bool
-  is_written x = is_numeric text (position_at (bytes text) x.1) (role_of x.0) (target_of x.0)
+  abbrev pub is_written : MeantReference → Bool
+  is_written x = is_numeric text (position_at (bytes text) x.reach) (role_of x.reference) (target_of x.reference)
 
-  abbrev pub is_of_all : AstReference × ℕ × Meaning → Bool
-  is_of_all x = is_call_of_all (role_of x.0) (target_of x.0)
+  abbrev pub is_of_all : MeantReference → Bool
+  is_of_all x = is_call_of_all (role_of x.reference) (target_of x.reference)
+
+  abbrev meant_by : AstReference → ℕ → Meaning → MeantReference
+  meant_by r p k = record { reference = r; reach = p; meaning = k }
 
   abbrev Parsed : List Tree → Type 0
   Parsed = AllByRecursion (IsParsedNode f text)
@@ -101,8 +104,8 @@ module _ (f : Flags) (m : GroupInfo) (text : Text) (z : ℕ) (named : Bool) (u :
   AllNumeric = AllByRecursion (IsNumericNode m)
 
   -- by the group information, each call with a number is written with it
-  numeric_at : (r : AstReference) (p : ℕ) (k : Meaning) → (is_written (r, p, k) ≡ true →
-      m.numeric_capture_group_references ≡ true) → (is_of_all (r, p, k) ≡ true → m.self_recursive ≡ true) →
+  numeric_at : (r : AstReference) (p : ℕ) (k : Meaning) → (is_written (meant_by r p k) ≡ true →
+      m.numeric_capture_group_references ≡ true) → (is_of_all (meant_by r p k) ≡ true → m.self_recursive ≡ true) →
       IsNumericNode m (ast_node r p)
   numeric_at (ast_call (by_number n)) p k f g =
       called_so m.numeric_capture_group_references m.self_recursive n (f refl) g
@@ -131,9 +134,9 @@ module _ (f : Flags) (m : GroupInfo) (text : Text) (z : ℕ) (named : Bool) (u :
         ]) f g,
   )
   numeric_nodes c (ast_node r p ∷ l) f g =
-      let k = refers_to u c (role_of r) (target_of r) in (
-        numeric_at r p k (λ e. f (or_left (is_written (r, p, k)) _ e)) (λ e. g (or_left (is_of_all (r, p, k)) _ e)),
-        numeric_nodes c l (λ e. f (or_right (is_written (r, p, k)) _ e)) (λ e. g (or_right (is_of_all (r, p, k)) _ e)),
+      let k = refers_to u c (role_of r) (target_of r) in let x = meant_by r p k in (
+        numeric_at r p k (λ e. f (or_left (is_written x) _ e)) (λ e. g (or_left (is_of_all x) _ e)),
+        numeric_nodes c l (λ e. f (or_right (is_written x) _ e)) (λ e. g (or_right (is_of_all x) _ e)),
       )
   numeric_nodes c (_ ∷ l) f g = (tt, numeric_nodes c l f g)
 

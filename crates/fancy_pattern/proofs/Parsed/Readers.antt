@@ -18,16 +18,16 @@ use Rattle.fancy_lex.specs.Flag.{letter, with_flag}
 use Rattle.fancy_lex.specs.Id.{nonempty_front}
 use Rattle.fancy_lex.specs.LayoutSteps.{layout, past_layout}
 use Rattle.fancy_lex.specs.Number.{number}
-use Rattle.fancy_lex.specs.Reading.{Reading, gives, fails, ◌>=>◌, layout_reading, read_or}
+use Rattle.fancy_lex.specs.Reading.{Reading, gives, fails, ◌>=>◌, choose, layout_reading, read_or}
 use Rattle.fancy_lex.specs.Text.{Text, strip, bytes, cut_at}
 use Rattle.fancy_lex.specs.declared.flags.Flag.{Flag}
 use Rattle.fancy_lex.specs.declared.flags.Flags.{Flags}
 use Rattle.fancy_lex.specs.FlagLetters.{Letters, inline_flags, flag_group, LetterStep, flags_end, flags_go_on}
 use Rattle.fancy_lex.specs.FlagLetters.{pattern_flags, with_letter}
 use Rattle.fancy_lex.specs.GroupName.{group_name}
-use Rattle.fancy_lex.specs.LetterSteps.{step, unknown_letter, flag_or_error, after_step, letters_in, letters}
+use Rattle.fancy_lex.specs.LetterSteps.{step, unknown_letter, after_step, letters_in, letters}
 use Rattle.fancy_lex.specs.Quantifier.{counts, braced_counts, counts_from, in_braces, spaced_count, count}
-use Rattle.fancy_lex.specs.Quantifier.{count_of, exact_or_range, most}
+use Rattle.fancy_lex.specs.Quantifier.{exact_or_range, most}
 use Rattle.fancy_lex.specs.declared.counts.Counts.{Counts}
 use Rattle.fancy_grammar.proofs.Writable.{IsNameWritable}
 
@@ -101,7 +101,7 @@ module _ (t : Text) where
       (λ _. by_letter (with_letter g (not clears) c) (letter_mode g (not clears) c)))))
     where
       by_letter : (o : Option Flags) → IfSome o (λ k. IsSameMode g k) →
-          IfGives (IsStepOf f) (flag_or_error t clears u o)
+          IfGives (IsStepOf f) (choose o (λ g. gives (flags_go_on clears g) u) (unknown_letter t u))
       by_letter None k = tt
       by_letter (Some j) k = k ∙ h
 
@@ -144,7 +144,8 @@ count_word : (t : Text) → IfWord (count t)
 unfolding count
 count_word t = by_number (number t)
   where
-    by_number : (o : Option (ℕ × Text)) → IfWord (count_of t o)
+    by_number : (o : Option (ℕ × Text)) →
+        IfWord (choose o (λ p. if nat_lt p.0 (2 ^ 64) then Some (Some p.0, p.1) else None) (Some (None, t)))
     by_number None = tt
     by_number (Some (n, u)) =
         cond_both (nat_lt n (2 ^ 64)) _ _ IfWord (λ e. grind (arith, nat_tests, e)) (λ _. tt)

@@ -22,7 +22,7 @@ use Rattle.fancy_lex.specs.Reading.{choose}
 use Rattle.fancy_lex.specs.Number.{at_digit, number}
 use Rattle.fancy_lex.specs.NumberText.{number_text, whole_number, number_alone, is_nothing}
 use Rattle.fancy_lex.specs.Referred.{Reference, Call, call_to, reference_of, written_reference}
-use Rattle.fancy_lex.specs.Referred.{name_reading, reference_by_name, target_of_name, number_or_name}
+use Rattle.fancy_lex.specs.Referred.{name_reading, reference_by_name, target_of_name}
 use Rattle.fancy_lex.specs.Target.{Target, by_number, by_name, relative}
 use Rattle.fancy_lex.specs.Text.{Text, reach_of, strip}
 use Rattle.fancy_lex.specs.GroupReference.{named_reference, named_call, condition_target, condition_name, call_of}
@@ -132,11 +132,11 @@ id_read amounts t =
 
 target_read : (w : Text) → IsTargetRead (target_of_name w)
 unfolding target_of_name
-target_read w = by_number (number_text w) refl (text_word w)
+target_read w = by_text (number_text w) refl (text_word w)
   where
-    by_number : (o : Option ℕ) → number_text w ≡ o → IfWord o → IsTargetRead (number_or_name w o)
-    by_number None e h = e
-    by_number (Some n) e h = h
+    by_text : (o : Option ℕ) → number_text w ≡ o → IfWord o → IsTargetRead (choose o by_number (by_name w))
+    by_text None e h = e
+    by_text (Some n) e h = h
 
 reference_read : (p : ℕ) (i : IdReference) → IsIdRead i → IsReferenceRead (reference_of p i)
 unfolding reference_of
@@ -209,11 +209,11 @@ IsCall c = IsCallRead c.target
 
 called_read : (w : Text) → IsCalledBy w → IsCallRead (target_of_name w)
 unfolding target_of_name
-called_read w k = by_number (number_text w) refl (text_word w)
+called_read w k = by_text (number_text w) refl (text_word w)
   where
-    by_number : (o : Option ℕ) → number_text w ≡ o → IfWord o → IsCallRead (number_or_name w o)
-    by_number None e h = (e, k)
-    by_number (Some n) e h = h
+    by_text : (o : Option ℕ) → number_text w ≡ o → IfWord o → IsCallRead (choose o by_number (by_name w))
+    by_text None e h = (e, k)
+    by_text (Some n) e h = h
 
 call_target_read : (w : Text) → IsNameWritable w → IfSome (call_target w) IsCallRead
 unfolding call_target

@@ -23,7 +23,7 @@ use Rattle.fancy_lex.specs.Number.{at_digit}
 use Rattle.fancy_lex.specs.Number as numbers
 use Rattle.fancy_lex.specs.NumberText.{number_text, whole_number, is_nothing}
 use Rattle.fancy_lex.specs.Reading.{gives, choose}
-use Rattle.fancy_lex.specs.Referred.{reference_to, call_to, target_of_name, number_or_name, reference_of}
+use Rattle.fancy_lex.specs.Referred.{reference_to, call_to, target_of_name, reference_of}
 use Rattle.fancy_lex.specs.Referred.{written_reference, reference_by_name}
 use Rattle.fancy_lex.specs.Target.{by_name, Target, relative, by_number}
 use Rattle.fancy_lex.specs.Text.{Text, reach_of, strip}
@@ -121,7 +121,7 @@ alone_read w e = rw e refl
 
 pub named_by : (w : Text) → number_text w ≡ None → target_of_name w ≡ by_name w
 unfolding target_of_name
-named_by w e = ap (number_or_name w) e
+named_by w e = ap (λ o. choose o by_number (by_name w)) e
 
 pub plain_name : (w : Text) → is_plain_name w ≡ true → PlainName w
 plain_name w h =
@@ -254,14 +254,14 @@ digit_ids (d ∷ ds) h = (digit_is_id d ((digit_is d h.0).0), digit_ids ds h.1)
 
 pub number_target : (n : ℕ) → n < 2 ^ 64 → target_of_name (decimal n) ≡ by_number n
 unfolding target_of_name
-number_target n l = ap (number_or_name (decimal n)) (number_text_digits n l)
+number_target n l = ap (λ o. choose o by_number (by_name (decimal n))) (number_text_digits n l)
 
 pub number_written : (n : ℕ) → n < 2 ^ 64 → (p : ℕ) →
     written_reference p true (decimal n) ≡ Some (reference_to p (by_number n) None)
 unfolding written_reference reference_of target_of_name
 number_written n l p =
     ap (option_map (reference_of p)) (alone_read (decimal n) (id_of_digits (decimal n) ((decimal_is_IsNumeral n l).0)))
-    ∙ ap (λ k. Some (reference_to p (number_or_name (decimal n) k) None)) (number_text_digits n l)
+    ∙ ap (λ o. Some (reference_to p (choose o by_number (by_name (decimal n))) None)) (number_text_digits n l)
 
 -- ---- levels
 

@@ -11,7 +11,7 @@ use Rattle.fancy_grammar.specs.Ranks.{is_counted, only_named}
 use Rattle.fancy_grammar.specs.Written.{is_numeric}
 use Rattle.fancy_grammar.specs.Grammar.{DerivesTree}
 use Rattle.fancy_grammar.specs.Items.{Item, opening, reference, openings, meanings_in, numbers_in}
-use Rattle.fancy_grammar.specs.Items.{items, meanings, role_of, target_of}
+use Rattle.fancy_grammar.specs.Items.{items, MeantReference, meanings, role_of, target_of}
 use Rattle.fancy_grammar.specs.Label as label
 use Rattle.fancy_grammar.specs.Label.{AstReference, Leaf, Wrap, Row, ast_backref, ast_call, ast_condition}
 use Rattle.fancy_grammar.specs.GroupInfo.{GroupInfo, is_call_of_all}
@@ -32,8 +32,12 @@ no_error (number n) p o h = refl
 no_error unresolved p o h = refl
 no_error (invalid k) p o h = absurd h
 
+-- the reference at the reach with this meaning
+abbrev meant : AstReference → ℕ → Meaning → MeantReference
+meant r p m = record { reference = r; reach = p; meaning = m }
+
 module _ (μ : GroupInfo) (s : Text) (numbers_of : Text → List ℕ) (e : (w : Text) → numbers_of w ≡ info_numbers μ w) where
-  abbrev meanings_here : ℕ → List Item → List (AstReference × ℕ × Meaning)
+  abbrev meanings_here : ℕ → List Item → List MeantReference
   meanings_here = meanings_in μ.numbered_groups_ignored numbers_of
 
   -- what a reference means
@@ -48,14 +52,14 @@ module _ (μ : GroupInfo) (s : Text) (numbers_of : Text → List ℕ) (e : (w : 
       ∙ (no_error (info_meaning μ c r) p _ h.0 ∙ none_invalid c l h.2)
 
   -- some reference is of the one kind exactly if some is of the other
-  same_such : (a b : AstReference × ℕ × Meaning → Bool) →
-      ((r : AstReference) (p : ℕ) (m : Meaning) → AgreesWithInfo μ s r m p → a (r, p, m) ≡ b (r, p, m)) →
+  same_such : (a b : MeantReference → Bool) →
+      ((r : AstReference) (p : ℕ) (m : Meaning) → AgreesWithInfo μ s r m p → a (meant r p m) ≡ b (meant r p m)) →
       (c : ℕ) (l : List Item) → AreGroups μ s c l → list_any a (meanings_here c l) ≡ list_any b (meanings_here c l)
   same_such a b same c [] h = refl
   same_such a b same c (opening o ∷ l) h = same_such a b same (count_after μ c o) l h.1
   same_such a b same c (reference r p ∷ l) h =
       ap₂ (λ x y. x || y)
-      (subst (λ m. a (r, p, m) ≡ b (r, p, m)) (sym (meaning_is c r)) (same r p (info_meaning μ c r) h.1))
+      (subst (λ m. a (meant r p m) ≡ b (meant r p m)) (sym (meaning_is c r)) (same r p (info_meaning μ c r) h.1))
       (same_such a b same c l h.2)
 
 -- ---- nodes of a kind that resolving references determines
@@ -64,8 +68,8 @@ module _ (such : Tree → Bool) (leaves : (l : Leaf) → IsReadNode (leaf l) →
     (wraps : (w : Wrap) (t : Tree) → such (over w t) ≡ false)
     (rows : (w : Row) (ts : Trees) → such (row w ts) ≡ false) where
   -- the kind of the node that the reference becomes
-  abbrev kind_of : AstReference × ℕ × Meaning → Bool
-  kind_of x = such (reference_node 0 x.2 x.0 0)
+  abbrev kind_of : MeantReference → Bool
+  kind_of x = such (reference_node 0 x.meaning x.reference 0)
 
   positioned : (z : ℕ) (m : Meaning) (r : AstReference) (p : ℕ) →
       such (reference_node z m r p) ≡ such (reference_node 0 m r 0)
@@ -126,28 +130,30 @@ module _ (μ : GroupInfo) (f : Flags) (text : Text) (r : Tree) (d : DerivesTree 
   abbrev tree : Tree
   tree = resolved f (bytes text) r
 
-  info_same : (a b : AstReference × ℕ × Meaning → Bool) →
-      ((r : AstReference) (p : ℕ) (m : Meaning) → AgreesWithInfo μ text r m p → a (r, p, m) ≡ b (r, p, m)) →
+  info_same : (a b : MeantReference → Bool) →
+      ((r : AstReference) (p : ℕ) (m : Meaning) → AgreesWithInfo μ text r m p → a (meant r p m) ≡ b (meant r p m)) →
       list_any a (meanings f r) ≡ list_any b (meanings f r)
   info_same a b same =
       subst (λ n. list_any a (meanings_in n (numbers_in f r) 0 (items r))
       ≡ list_any b (meanings_in n (numbers_in f r) 0 (items r))) (sym ignored)
       (same_such μ text (numbers_in f r) e a b same 0 (items r) groups)
 
+  -- whether the reference is written with a number, and whether it is a call of all
+  abbrev is_written : MeantReference → Bool
+  is_written x = is_numeric text (position_at (bytes text) x.reach) (role_of x.reference) (target_of x.reference)
+
+  abbrev is_of_all : MeantReference → Bool
+  is_of_all x = is_call_of_all (role_of x.reference) (target_of x.reference)
+
   -- some reference is written with a number
-  pub info_numeric :
-      list_any (λ x. is_numeric text (position_at (bytes text) x.1) (role_of x.0) (target_of x.0)) (meanings f r)
-      ≡ list_any (is_numbered μ) (preorder tree)
+  pub info_numeric : list_any is_written (meanings f r) ≡ list_any (is_numbered μ) (preorder tree)
   info_numeric =
-      info_same (λ x. is_numeric text (position_at (bytes text) x.1) (role_of x.0) (target_of x.0))
-      (λ x. is_numbered μ (reference_node 0 x.2 x.0 0)) (λ r p m k. k.numeric text (ends_whole text))
+      info_same is_written (λ x. is_numbered μ (reference_node 0 x.meaning x.reference 0))
+      (λ r p m k. k.numeric text (ends_whole text))
       ∙ any_resolved (is_numbered μ) (numbered_leaf μ) (λ w t. refl) (λ w ts. refl) f text r d
 
   -- some call is a call of all
-  pub info_of_all :
-      list_any (λ x. is_call_of_all (role_of x.0) (target_of x.0)) (meanings f r)
-      ≡ list_any (is_numbered_call_of_all μ) (preorder tree)
+  pub info_of_all : list_any is_of_all (meanings f r) ≡ list_any (is_numbered_call_of_all μ) (preorder tree)
   info_of_all =
-      info_same (λ x. is_call_of_all (role_of x.0) (target_of x.0))
-      (λ x. is_numbered_call_of_all μ (reference_node 0 x.2 x.0 0)) (λ r p m k. k.of_all)
+      info_same is_of_all (λ x. is_numbered_call_of_all μ (reference_node 0 x.meaning x.reference 0)) (λ r p m k. k.of_all)
       ∙ any_resolved (is_numbered_call_of_all μ) (of_all_leaf μ) (λ w t. refl) (λ w ts. refl) f text r d

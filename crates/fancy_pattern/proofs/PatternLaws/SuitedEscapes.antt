@@ -28,8 +28,8 @@ use Rattle.fancy_lex.specs.Number.{at_digit}
 use Rattle.fancy_lex.specs.NumberText.{number_text}
 use Rattle.fancy_lex.specs.Property.{read_property, property_text}
 use Rattle.fancy_lex.specs.Reading.{Reading, gives, fails, layout_reading, choose}
-use Rattle.fancy_lex.specs.Referred.{Reference, Call, call_to, target_of_name, number_or_name, name_reading}
-use Rattle.fancy_lex.specs.Target.{Target, by_name}
+use Rattle.fancy_lex.specs.Referred.{Reference, Call, call_to, target_of_name, name_reading}
+use Rattle.fancy_lex.specs.Target.{Target, by_number, by_name}
 use Rattle.fancy_lex.specs.Text.{Text, strip, reach_of}
 use Rattle.fancy_lex.specs.declared.escape.Assertion.{Assertion}
 use Rattle.fancy_lex.specs.declared.escape.Assertion.TheVariants.{LeftWordBoundary, RightWordBoundary}
@@ -114,7 +114,7 @@ bare_target w h =
     of_amount (Some (id_alone v)) = tt
     of_amount (Some (id_and_amount v z)) = tt
 
-    of_number : is_relative w ≡ false → (o : Option ℕ) → IsBare (number_or_name w o)
+    of_number : is_relative w ≡ false → (o : Option ℕ) → IsBare (choose o by_number (by_name w))
     of_number e (Some n) = refl
     of_number e None = bare_name w e h
 

@@ -274,7 +274,7 @@ fn read_verb_condition<'a>(
 ) -> Result<AtomStart<'a>, ReadError>
     requires shorter { length rest.now ≤ length current.old.rest.now }
     requires asterisk { chars current.old.rest.now ≡ codes "*" ++ chars rest.now }
-    ensures value { Sees result (state current.new) (spec.verb_condition (state current.old) (chars rest.now)) }
+    ensures value { Sees result (state current.new) (spec.verb_start spec.body (state current.old) (chars rest.now)) }
     ensures within { length current.new.rest.now ≤ length current.old.rest.now }
     ensures something { IfOk result (λ a. IsSomething a) }
 {

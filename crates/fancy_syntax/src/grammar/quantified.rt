@@ -16,7 +16,7 @@ use crate::expr::repeatable::is_repeatable;
 use crate::grammar::spanning::Spanning;
 use crate::grammar::state::{State, skip_layout};
 use crate::grammar::trees::is_empty;
-use fancy_grammar::depth::MAX_DEPTH;
+use fancy_grammar::depth::{MAX_ADJACENT, MAX_DEPTH};
 use fancy_lex::counts::Counts;
 use fancy_lex::error::{ParseError, ReadError};
 use fancy_lex::flags::Flags;
@@ -24,9 +24,6 @@ use fancy_lex::group_starts::counts;
 use fancy_lex::text::{Reach, after, byte_len, reach, reach_before};
 use std::alloc::{AllocError, Global};
 use std::mem;
-
-/// How many adjacent quantifiers may follow the first.
-const MAX_ADJACENT: usize = 4;
 
 /// What follows the counts of a quantifier: the lazy and the possessive operator.
 #[derive(Clone, Copy)]

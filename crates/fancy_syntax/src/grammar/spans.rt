@@ -1,17 +1,17 @@
 //! The spans of the nodes of a raw tree, each tree in preorder, and what no node has.
-ghost use Rattle.std.specs.Prelude.{◌≡◌, [], ◌∷◌, ◌++◌, false, chars, map, option_map, IfOk, OnOk};
-ghost use Rattle.std.specs.Option.{option_to_list};
+ghost use Rattle.std.specs.Prelude.{◌≡◌, false, chars, map, option_map, IfOk, OnOk};
 ghost use Rattle.fancy_lex.specs.Reading.{choose};
-ghost use Rattle.fancy_lex.specs.Text.{bytes, reach_of};
-ghost use Rattle.fancy_grammar.specs.Spans.{condition_text, positioned};
+ghost use Rattle.fancy_lex.specs.Text.{reach_of};
+ghost use Rattle.fancy_grammar.specs.Spans.{condition_text};
 ghost use Rattle.fancy_syntax.specs.Log as spec;
-ghost use Rattle.fancy_syntax.specs.Log.{layout_passed, shown};
-ghost use Rattle.fancy_syntax.specs.LogViews.{log_of, returned_trivia};
+ghost use Rattle.fancy_syntax.specs.Log.{layout_passed};
+ghost use Rattle.fancy_syntax.specs.LogViews.{log_of};
 ghost use Rattle.fancy_syntax.specs.Parsed.{state};
-ghost use Rattle.fancy_syntax.specs.SpanViews.{span_of, spans_of};
-ghost use Rattle.fancy_syntax.specs.TriviaViews.{recorded_part, trivia_of, trivium_of};
-ghost use Rattle.fancy_grammar.specs.Trivia.{dropped, kept, located, of_comment, part};
+ghost use Rattle.fancy_syntax.specs.TriviaViews.{recorded_part};
+ghost use Rattle.fancy_grammar.specs.Trivia.{dropped, of_comment, part};
 ghost use Rattle.fancy_lex.specs.CommentViews.{comment_of};
+
+mod returned;
 
 use crate::expr::Expr;
 use crate::grammar::recorded::{
@@ -20,10 +20,9 @@ use crate::grammar::recorded::{
 use crate::grammar::spanning::Spanning;
 use crate::grammar::state::{State, skip_layout};
 use crate::grammar::trees::is_empty;
-use crate::span::Span;
-use crate::trivium::{Trivium, TriviumKind};
+use crate::trivium::TriviumKind;
 use fancy_lex::layout::{LayoutComment, first_comment};
-use fancy_lex::text::{after, after_word, position_at, reach, reach_before};
+use fancy_lex::text::{after, after_word, reach, reach_before};
 use std::alloc::{AllocError, Global};
 
 /// The nodes that have been read, the open atoms, and what was passed that no node has.
@@ -68,42 +67,6 @@ impl Spans {
             last: LastPiece { start, height: 0 },
             passed: Vec::new(alloc),
         })
-    }
-
-    /// The spans of the parsed tree; with `named`, only named groups have a number, and the others have no node.
-    pub(crate) fn returned(
-        &self,
-        alloc: Global,
-        pattern: &str,
-        named: bool,
-    ) -> Result<Vec<Span>, AllocError>
-        ensures { IfOk result (λ spans. spans_of spans ≡
-            map (positioned (bytes (chars pattern.now))) (shown named self.now.recorded.items)) }
-    {
-        let mut spans = Vec::with_capacity(alloc, self.recorded.len())?;
-        for recorded in &self.recorded {
-            if let Some(span) = shown_span(pattern, named, *recorded) {
-                spans.push_reserved(span);
-            }
-        }
-        Ok(spans)
-    }
-
-    /// What the tree of the pattern does not hold; with `named`, only named groups have a number, and the others have no
-    /// node.
-    pub(crate) fn returned_trivia(
-        &self,
-        alloc: Global,
-        pattern: &str,
-        named: bool,
-    ) -> Result<Vec<Trivium>, AllocError>
-        ensures { IfOk result (λ trivia. trivia_of trivia ≡ returned_trivia (chars pattern.now) named (log_of self.now)) }
-    {
-        let mut trivia = Vec::with_capacity(alloc, self.passed.len())?;
-        for passed in &self.passed {
-            push_kept(&mut trivia, pattern, named, *passed)?;
-        }
-        Ok(trivia)
     }
 
     /// Records the comments in the layout at the front.
@@ -374,22 +337,6 @@ impl Spanning for Spans {
     }
 }
 
-/// The span in the pattern, if it is that of a node in the parsed tree.
-fn shown_span(pattern: &str, named: bool, recorded: Recorded) -> Option<Span>
-    ensures { option_to_list (option_map span_of result) ≡
-        map (positioned (bytes (chars pattern.now))) (shown named (recorded ∷ [])) }
-{
-    let (start, end) = match recorded {
-        Recorded::Node { start, end } => (start, end),
-        Recorded::Unnamed { start, end } if !named => (start, end),
-        _ => return None,
-    };
-    Some(Span {
-        start: position_at(pattern, start),
-        end: position_at(pattern, end),
-    })
-}
-
 /// A part that leaves nothing in the tree.
 fn dropped(start: usize, end: usize) -> RecordedTrivium
     ensures { recorded_part result ≡ part start end dropped false }
@@ -416,34 +363,6 @@ fn trivium_of_comment(comment: LayoutComment<'_>) -> RecordedTrivium
         end: reach(comment.rest),
         kind,
         unnamed: false,
-    }
-}
-
-/// Adds the part with its span in the pattern, unless it has a node.
-fn push_kept(
-    trivia: &mut Vec<Trivium>,
-    pattern: &str,
-    named: bool,
-    part: RecordedTrivium,
-) -> Result<(), AllocError>
-    ensures { OnOk result (trivia_of trivia.new ≡ trivia_of trivia.old
-        ++ map (located (bytes (chars pattern.now))) (kept named (recorded_part part ∷ []))) }
-{
-    if part.unnamed && !named {
-        return Ok(());
-    }
-    Ok(trivia.push(trivium_in(pattern, part))?)
-}
-
-/// The trivium with its span in the pattern.
-fn trivium_in(pattern: &str, recorded: RecordedTrivium) -> Trivium
-    ensures { trivium_of result ≡ located (bytes (chars pattern.now)) (recorded_part recorded).trivium }
-{
-    let start = position_at(pattern, recorded.start);
-    let end = position_at(pattern, recorded.end);
-    Trivium {
-        span: Span { start, end },
-        kind: recorded.kind,
     }
 }
 

@@ -1,14 +1,15 @@
 //! Whether a tree's text is read back as its normal form, if fewer than 64 printed groups nest.
-ghost use Rattle.std.specs.Prelude.{◌≡◌, false, IfOk, IsOk};
+ghost use Rattle.std.specs.Prelude.{◌≡◌, true, false, IfOk, IsOk};
 ghost use Rattle.fancy_grammar.specs.HasDelegate.{has_delegate, any_has_delegate};
 ghost use Rattle.fancy_grammar.specs.Join.{is_empty, join};
 ghost use Rattle.fancy_grammar.specs.Normal.{normal, normal_pieces};
 ghost use Rattle.fancy_grammar.specs.Printable as spec;
 ghost use Rattle.fancy_grammar.specs.Tree as tree;
-ghost use Rattle.fancy_grammar.specs.Tree.{trees_of};
+ghost use Rattle.fancy_grammar.specs.Tree.{is_leaf, over, trees_of};
+ghost use Rattle.fancy_syntax.specs.Shape.{label_of};
 ghost use Rattle.fancy_syntax.specs.View.{view, views};
 
-use crate::expr::Expr;
+use crate::expr::{Expr, Shape, Wrap};
 use crate::print::delegate::is_whole;
 use fancy_lex::escape::Assertion;
 use fancy_lex::text::next;
@@ -20,35 +21,46 @@ pub(crate) fn is_printable(alloc: Global, tree: &Expr) -> Result<bool, AllocErro
     ensures exact { IfOk result (λ b. b ≡ spec.printable (view tree.now)) }
     ensures without_memory { has_delegate (view tree.now) ≡ false → IsOk result }
 {
-    match tree {
-        Expr::Empty => Ok(true),
-        Expr::Any { .. } => Ok(true),
-        Expr::Assertion(assertion) => Ok(has_text(*assertion)),
-        Expr::Literal { .. } => Ok(true),
-        Expr::Delegate { inner, .. } => is_whole(alloc, inner.as_str()),
-        Expr::Concat(children) => are_printable(alloc, children),
-        Expr::Alt(children) => are_printable(alloc, children),
-        Expr::Group(child) => is_printable(alloc, child),
-        Expr::Repeat { child, lo, hi, .. } => {
+    match tree.shape() {
+        Shape::Leaf => is_printable_leaf(alloc, tree),
+        Shape::Around(wrap, child) => is_printable_around(alloc, wrap, child),
+        Shape::Concat(trees) | Shape::Alt(trees) => are_printable(alloc, trees),
+        Shape::Conditional { .. } | Shape::Expression { .. } => Ok(false),
+    }
+}
+
+/// Whether the leaf is printable.
+fn is_printable_leaf(alloc: Global, leaf: &Expr) -> Result<bool, AllocError>
+    ensures exact { is_leaf (view leaf.now) ≡ true → IfOk result (λ b. b ≡ spec.printable (view leaf.now)) }
+    ensures without_memory { has_delegate (view leaf.now) ≡ false → IsOk result }
+{
+    if let Expr::Delegate { inner, .. } = leaf {
+        return is_whole(alloc, inner.as_str());
+    }
+    if let Expr::Assertion(assertion) = leaf {
+        return Ok(has_text(*assertion));
+    }
+    if let Expr::Literal { .. } = leaf {
+        return Ok(true);
+    }
+    Ok(matches!(leaf, Expr::Empty | Expr::Any { .. }))
+}
+
+/// Whether the node around this child is printable.
+#[cycle(printable)]
+fn is_printable_around(alloc: Global, wrap: Wrap, child: &Expr) -> Result<bool, AllocError>
+    ensures exact { IfOk result (λ b. b ≡ spec.printable (over (label_of wrap) (view child.now))) }
+    ensures without_memory { has_delegate (over (label_of wrap) (view child.now)) ≡ false → IsOk result }
+{
+    match wrap {
+        Wrap::Group => is_printable(alloc, child),
+        Wrap::Repeat { lo, hi, .. } => {
             // Once read, they are known to be counts.
-            let _counts = (*lo, *hi);
+            let _counts = (lo, hi);
             Ok(!is_empty_in_normal_form(child) && is_printable(alloc, child)?)
         }
-        Expr::DefineGroup { .. } => Ok(true),
-        Expr::GeneralNewline { .. }
-        | Expr::LiteralBytes { .. }
-        | Expr::LookAround(..)
-        | Expr::Backref { .. }
-        | Expr::BackrefWithRelativeRecursionLevel { .. }
-        | Expr::AtomicGroup(_)
-        | Expr::KeepOut
-        | Expr::ContinueFromPreviousMatchEnd
-        | Expr::BackrefExistsCondition { .. }
-        | Expr::Conditional { .. }
-        | Expr::SubroutineCall(_)
-        | Expr::BacktrackingControlVerb(_)
-        | Expr::Absent(_)
-        | Expr::AstNode(..) => Ok(false),
+        Wrap::DefineGroup => Ok(true),
+        Wrap::LookAround(_) | Wrap::AtomicGroup | Wrap::Repeater | Wrap::Stopper => Ok(false),
     }
 }
 
@@ -79,36 +91,27 @@ fn has_text(assertion: Assertion) -> bool
 fn is_empty_in_normal_form(tree: &Expr) -> bool
     ensures { result ≡ is_empty (normal false (view tree.now)) }
 {
-    match tree {
-        Expr::Empty => true,
-        Expr::DefineGroup { .. } => true,
-        Expr::Literal { val, .. } => next(val.as_str()).is_none(),
-        Expr::Concat(children) => are_empty_in_normal_form(children),
-        Expr::Alt(children) => match children.as_slice() {
+    match tree.shape() {
+        Shape::Leaf => is_empty_leaf(tree),
+        Shape::Around(wrap, _) => matches!(wrap, Wrap::DefineGroup),
+        Shape::Concat(trees) => are_empty_in_normal_form(trees),
+        Shape::Alt(trees) => match trees {
             [] => true,
             [only] => is_empty_in_normal_form(only),
             _ => false,
         },
-        Expr::Any { .. }
-        | Expr::Assertion(_)
-        | Expr::GeneralNewline { .. }
-        | Expr::LiteralBytes { .. }
-        | Expr::Group(_)
-        | Expr::LookAround(..)
-        | Expr::Repeat { .. }
-        | Expr::Delegate { .. }
-        | Expr::Backref { .. }
-        | Expr::BackrefWithRelativeRecursionLevel { .. }
-        | Expr::AtomicGroup(_)
-        | Expr::KeepOut
-        | Expr::ContinueFromPreviousMatchEnd
-        | Expr::BackrefExistsCondition { .. }
-        | Expr::Conditional { .. }
-        | Expr::SubroutineCall(_)
-        | Expr::BacktrackingControlVerb(_)
-        | Expr::Absent(_)
-        | Expr::AstNode(..) => false,
+        Shape::Conditional { .. } | Shape::Expression { .. } => false,
     }
+}
+
+/// Whether the normal form of the leaf is Empty.
+fn is_empty_leaf(leaf: &Expr) -> bool
+    ensures { is_leaf (view leaf.now) ≡ true → result ≡ is_empty (normal false (view leaf.now)) }
+{
+    if let Expr::Literal { val, .. } = leaf {
+        return next(val.as_str()).is_none();
+    }
+    matches!(leaf, Expr::Empty)
 }
 
 /// Whether the normal form of the trees, one after the other, is Empty.

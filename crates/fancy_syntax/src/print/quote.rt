@@ -221,7 +221,7 @@ fn counts_len(lo: usize, hi: usize) -> usize
 
 /// The length in bytes of the text in the braces of a range.
 #[tactic(auto, using(crate::proofs::CapacityLemmas::capacity_steps, crate::proofs::QuoteLemmas::range_steps))]
-fn range_len(lo: usize, hi: usize) -> usize
+pub fn range_len(lo: usize, hi: usize) -> usize
     ensures value { result ≡ bytes (spec.range lo hi) }
     ensures within { result ≤ 41 }
 {
@@ -264,7 +264,7 @@ fn put_counts(buf: &mut String, lo: usize, hi: usize)
 
 /// Writes the text in the braces of a range.
 #[tactic(auto, using(crate::proofs::CapacityLemmas::capacity_steps, crate::proofs::QuoteLemmas::range_steps))]
-fn put_range(buf: &mut String, lo: usize, hi: usize)
+pub fn put_range(buf: &mut String, lo: usize, hi: usize)
     requires { HasCapacity buf.old (spec.range lo hi) }
     ensures { Appended buf.old buf.new (spec.range lo hi) }
 {

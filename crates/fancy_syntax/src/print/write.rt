@@ -1,124 +1,91 @@
-//! Writes a tree's text into a string with capacity for it.
+//! The walk over a tree that gives its text to a sink.
+#![tactic(auto, using(crate::proofs::PrintLemmas::sink_steps))]
+
 ghost use Rattle.std.specs.Prelude.{◌≡◌, ◌++◌, codes, if◌then◌else◌, [], nat_lt, true, chars};
 ghost use Rattle.std.specs.List.{list_all};
 ghost use Rattle.fancy_grammar.specs.Quote.{quotes, quantifier};
-ghost use Rattle.fancy_syntax.specs.Capacity.{HasCapacity, Appended};
+ghost use Rattle.fancy_syntax.specs.Sinks.{CanTake, Takes};
 ghost use Rattle.fancy_grammar.specs.Printed.{printed, operand_text, printed_all, printed_branches, grouped, caseless};
 ghost use Rattle.fancy_grammar.specs.Tree.{trees_of};
 ghost use Rattle.fancy_syntax.specs.View.{view, views};
 
 use crate::expr::Expr;
 use crate::print::fixed::{any_text, assertion_text};
-use crate::print::quote::{put_quantifier, put_quotes};
 use crate::print::repeated::is_long;
-use crate::print::reserved::{put, put_ascii, put_text};
+use crate::print::sink::Sink;
 use crate::print::{BRANCH, OPERAND, PIECE, WHOLE};
 
-/// Writes a text of ASCII characters, if asked for.
+/// Puts a text of ASCII characters, if asked for.
 #[inline]
-#[tactic(auto, using(crate::proofs::PrintLemmas::write_steps))]
-fn put_if(buf: &mut String, asked: bool, text: &str)
+fn put_if<S: Sink>(sink: &mut S, asked: bool, text: &str)
     requires ascii { list_all (λ b. nat_lt b 128) text.now ≡ true }
-    requires reserved { HasCapacity buf.old (if asked then text.now else []) }
-    ensures { Appended buf.old buf.new (if asked then text.now else []) }
+    requires reserved { CanTake S.limit sink.old (if asked then text.now else []) }
+    ensures { Takes S.holds S.limit sink.old sink.new (if asked then text.now else []) }
 {
     if asked {
-        put_ascii(buf, text);
+        sink.put_ascii(text);
     }
 }
 
 // Only the calls for rare nodes and for nodes that hold trees save registers: none of them is inlined into the call for
 // a leaf.
 
-/// Writes a text that does not depend on what a tree holds.
+/// Puts a Literal, in a group of flags if it ignores case.
 #[inline(never)]
-fn put_fixed(buf: &mut String, text: &str)
-    requires ascii { list_all (λ b. nat_lt b 128) text.now ≡ true }
-    requires reserved { HasCapacity buf.old text.now }
-    ensures { Appended buf.old buf.new text.now }
+fn put_literal<S: Sink>(sink: &mut S, val: &str, casei: bool)
+    requires { CanTake S.limit sink.old (caseless casei (quotes (chars val.now))) }
+    ensures { Takes S.holds S.limit sink.old sink.new (caseless casei (quotes (chars val.now))) }
 {
-    // Most such texts are one character, for which a push is shorter than a copy.
-    if let [byte] = text.as_bytes() {
-        put(buf, char::from(*byte));
-    } else {
-        put_ascii(buf, text);
-    }
+    put_if(sink, casei, "(?i:");
+    sink.put_quotes(val);
+    put_if(sink, casei, ")");
 }
 
-/// Writes a Literal.
-#[inline]
-#[tactic(auto, unfolding(fancy_grammar::specs::Printed::caseless))]
-fn put_literal(buf: &mut String, val: &str, casei: bool)
-    requires { HasCapacity buf.old (caseless casei (quotes (chars val.now))) }
-    ensures { Appended buf.old buf.new (caseless casei (quotes (chars val.now))) }
-{
-    if casei {
-        put_caseless_literal(buf, val);
-    } else {
-        put_quotes(buf, val);
-    }
-}
-
-/// Writes a Literal that ignores case, in a group of flags.
+/// Puts a Delegate, in a group of flags if it ignores case.
 #[inline(never)]
-#[tactic(auto, using(crate::proofs::PrintLemmas::write_steps))]
-fn put_caseless_literal(buf: &mut String, val: &str)
-    requires { HasCapacity buf.old (caseless true (quotes (chars val.now))) }
-    ensures { Appended buf.old buf.new (caseless true (quotes (chars val.now))) }
+fn put_delegate<S: Sink>(sink: &mut S, inner: &str, casei: bool)
+    requires { CanTake S.limit sink.old (caseless casei (chars inner.now)) }
+    ensures { Takes S.holds S.limit sink.old sink.new (caseless casei (chars inner.now)) }
 {
-    put_ascii(buf, "(?i:");
-    put_quotes(buf, val);
-    put(buf, ')');
+    put_if(sink, casei, "(?i:");
+    sink.put_text(inner);
+    put_if(sink, casei, ")");
 }
 
-/// Writes a Delegate, in a group of flags if it ignores case.
-#[inline(never)]
-#[tactic(auto, using(crate::proofs::PrintLemmas::write_steps))]
-fn put_delegate(buf: &mut String, inner: &str, casei: bool)
-    requires { HasCapacity buf.old (caseless casei (chars inner.now)) }
-    ensures { Appended buf.old buf.new (caseless casei (chars inner.now)) }
-{
-    put_if(buf, casei, "(?i:");
-    put_text(buf, inner);
-    put_if(buf, casei, ")");
-}
-
-/// Writes a tree's text.
+/// Puts a tree's text.
 #[cycle(write)]
 #[inline(always)]
-#[tactic(auto, using(crate::proofs::PrintLemmas::write_steps))]
-pub(super) fn put_tree(buf: &mut String, tree: &Expr, precedence: u8)
-    requires { HasCapacity buf.old (printed (view tree.now) precedence) }
-    ensures { Appended buf.old buf.new (printed (view tree.now) precedence) }
+pub(super) fn put_tree<S: Sink>(sink: &mut S, tree: &Expr, precedence: u8)
+    requires { CanTake S.limit sink.old (printed (view tree.now) precedence) }
+    ensures { Takes S.holds S.limit sink.old sink.new (printed (view tree.now) precedence) }
 {
     match tree {
-        Expr::Literal { val, casei: false } => put_quotes(buf, val.as_str()),
-        _ => put_node(buf, tree, precedence),
+        Expr::Literal { val, casei: false } => sink.put_quotes(val.as_str()),
+        _ => put_node(sink, tree, precedence),
     }
 }
 
-/// Writes the text of any node.
+/// Puts the text of any node.
 #[cycle(write)]
 #[inline(never)]
-#[tactic(auto, using(crate::proofs::PrintLemmas::write_steps))]
-fn put_node(buf: &mut String, tree: &Expr, precedence: u8)
-    requires { HasCapacity buf.old (printed (view tree.now) precedence) }
-    ensures { Appended buf.old buf.new (printed (view tree.now) precedence) }
+fn put_node<S: Sink>(sink: &mut S, tree: &Expr, precedence: u8)
+    requires { CanTake S.limit sink.old (printed (view tree.now) precedence) }
+    ensures { Takes S.holds S.limit sink.old sink.new (printed (view tree.now) precedence) }
 {
     match tree {
-        Expr::Any { newline, crlf } => put_fixed(buf, any_text(*newline, *crlf)),
-        Expr::Assertion(assertion) => put_fixed(buf, assertion_text(*assertion)),
-        Expr::Literal { val, casei } => put_literal(buf, val.as_str(), *casei),
-        Expr::Delegate { inner, casei } => put_delegate(buf, inner.as_str(), *casei),
-        Expr::Concat(children) => put_concat(buf, children, precedence > BRANCH),
-        Expr::Alt(children) => put_alt(buf, children, precedence > WHOLE),
-        Expr::Group(child) => put_group(buf, child),
+        Expr::Any { newline, crlf } => sink.put_fixed(any_text(*newline, *crlf)),
+        Expr::Assertion(assertion) => sink.put_fixed(assertion_text(*assertion)),
+        Expr::Literal { val, casei } => put_literal(sink, val.as_str(), *casei),
+        Expr::Delegate { inner, casei } => put_delegate(sink, inner.as_str(), *casei),
+        Expr::Concat(children) => put_concat(sink, children, precedence > BRANCH),
+        Expr::Alt(children) => put_alt(sink, children, precedence > WHOLE),
+        Expr::Group(child) => put_group(sink, child),
         Expr::Repeat {
             child,
             lo,
             hi,
             greedy,
-        } => put_repeat(buf, child, *lo, *hi, *greedy, precedence > PIECE),
+        } => put_repeat(sink, child, *lo, *hi, *greedy, precedence > PIECE),
         Expr::Empty
         | Expr::GeneralNewline { .. }
         | Expr::LiteralBytes { .. }
@@ -134,101 +101,122 @@ fn put_node(buf: &mut String, tree: &Expr, precedence: u8)
         | Expr::BacktrackingControlVerb(_)
         | Expr::Absent(_)
         | Expr::DefineGroup { .. }
-        | Expr::AstNode(..) => put_fixed(buf, ""),
+        | Expr::AstNode(..) => sink.put_fixed(""),
     }
 }
 
-/// Writes a Concat, with the group around it if it needs one.
+/// Puts a Concat, with the group around it if it needs one.
 #[cycle(write)]
 #[inline(never)]
-#[tactic(auto, using(crate::proofs::PrintLemmas::write_steps))]
-fn put_concat(buf: &mut String, trees: &[Expr], is_grouped: bool)
-    requires { HasCapacity buf.old (grouped is_grouped (printed_all (trees_of (views trees.now)))) }
-    ensures { Appended buf.old buf.new (grouped is_grouped (printed_all (trees_of (views trees.now)))) }
+fn put_concat<S: Sink>(sink: &mut S, trees: &[Expr], is_grouped: bool)
+    requires { CanTake S.limit sink.old (grouped is_grouped (printed_all (trees_of (views trees.now)))) }
+    ensures { Takes S.holds S.limit sink.old sink.new (grouped is_grouped (printed_all (trees_of (views trees.now)))) }
 {
-    put_if(buf, is_grouped, "(?:");
-    put_all(buf, trees);
-    put_if(buf, is_grouped, ")");
+    put_if(sink, is_grouped, "(?:");
+    put_all(sink, trees);
+    put_if(sink, is_grouped, ")");
 }
 
-/// Writes the pieces of a Concat.
+/// Puts the pieces of a Concat.
 #[cycle(write)]
-#[tactic(auto, using(crate::proofs::PrintLemmas::write_steps))]
-fn put_all(buf: &mut String, trees: &[Expr])
-    requires { HasCapacity buf.old (printed_all (trees_of (views trees.now))) }
-    ensures { Appended buf.old buf.new (printed_all (trees_of (views trees.now))) }
+fn put_all<S: Sink>(sink: &mut S, trees: &[Expr])
+    requires { CanTake S.limit sink.old (printed_all (trees_of (views trees.now))) }
+    ensures { Takes S.holds S.limit sink.old sink.new (printed_all (trees_of (views trees.now))) }
 {
     for tree in trees {
-        put_tree(buf, tree, PIECE);
+        put_tree(sink, tree, PIECE);
     }
 }
 
-/// Writes an Alt, with the group around it if it needs one.
+/// Puts an Alt, with the group around it if it needs one.
 #[cycle(write)]
 #[inline(never)]
-#[tactic(auto, using(crate::proofs::PrintLemmas::write_steps))]
-fn put_alt(buf: &mut String, trees: &[Expr], is_grouped: bool)
-    requires { HasCapacity buf.old (grouped is_grouped (printed_branches (trees_of (views trees.now)))) }
-    ensures { Appended buf.old buf.new (grouped is_grouped (printed_branches (trees_of (views trees.now)))) }
+fn put_alt<S: Sink>(sink: &mut S, trees: &[Expr], is_grouped: bool)
+    requires { CanTake S.limit sink.old (grouped is_grouped (printed_branches (trees_of (views trees.now)))) }
+    ensures { Takes S.holds S.limit sink.old sink.new
+        (grouped is_grouped (printed_branches (trees_of (views trees.now)))) }
 {
-    put_if(buf, is_grouped, "(?:");
-    put_branches(buf, trees);
-    put_if(buf, is_grouped, ")");
+    put_if(sink, is_grouped, "(?:");
+    put_branches(sink, trees);
+    put_if(sink, is_grouped, ")");
 }
 
-/// Writes the branches of an Alt, with a bar between two.
+/// Puts the branches of an Alt, with a bar between two.
 #[cycle(write)]
-#[tactic(auto, using(crate::proofs::PrintLemmas::write_steps))]
-fn put_branches(buf: &mut String, trees: &[Expr])
-    requires { HasCapacity buf.old (printed_branches (trees_of (views trees.now))) }
-    ensures { Appended buf.old buf.new (printed_branches (trees_of (views trees.now))) }
+fn put_branches<S: Sink>(sink: &mut S, trees: &[Expr])
+    requires { CanTake S.limit sink.old (printed_branches (trees_of (views trees.now))) }
+    ensures { Takes S.holds S.limit sink.old sink.new (printed_branches (trees_of (views trees.now))) }
 {
     for (i, tree) in trees.iter().enumerate() {
-        put_if(buf, i > 0, "|");
-        put_tree(buf, tree, BRANCH);
+        put_branch(sink, i > 0, tree);
     }
 }
 
-/// Writes a tree in the parentheses of a capturing group.
+/// Puts a branch, after a bar if asked for.
 #[cycle(write)]
-#[inline(never)]
-#[tactic(auto, using(crate::proofs::PrintLemmas::write_steps))]
-fn put_group(buf: &mut String, tree: &Expr)
-    requires { HasCapacity buf.old (codes "(" ++ (printed (view tree.now) 0 ++ codes ")")) }
-    ensures { Appended buf.old buf.new (codes "(" ++ (printed (view tree.now) 0 ++ codes ")")) }
+#[inline(always)]
+fn put_branch<S: Sink>(sink: &mut S, has_bar: bool, tree: &Expr)
+    requires { CanTake S.limit sink.old ((if has_bar then codes "|" else []) ++ printed (view tree.now) 1) }
+    ensures { Takes S.holds S.limit sink.old sink.new
+        ((if has_bar then codes "|" else []) ++ printed (view tree.now) 1) }
 {
-    put(buf, '(');
-    put_tree(buf, tree, WHOLE);
-    put(buf, ')');
+    put_if(sink, has_bar, "|");
+    put_tree(sink, tree, BRANCH);
 }
 
-/// Writes a Repeat, with the group around it if it needs one.
+/// Puts a tree in the parentheses of a capturing group.
 #[cycle(write)]
 #[inline(never)]
-#[tactic(auto, using(crate::proofs::PrintLemmas::write_steps))]
-fn put_repeat(buf: &mut String, child: &Expr, lo: usize, hi: usize, greedy: bool, is_grouped: bool)
-    requires { HasCapacity buf.old (grouped is_grouped (operand_text (view child.now) ++ quantifier lo hi greedy)) }
-    ensures { Appended buf.old buf.new (grouped is_grouped (operand_text (view child.now) ++ quantifier lo hi greedy)) }
+fn put_group<S: Sink>(sink: &mut S, tree: &Expr)
+    requires { CanTake S.limit sink.old (codes "(" ++ (printed (view tree.now) 0 ++ codes ")")) }
+    ensures { Takes S.holds S.limit sink.old sink.new (codes "(" ++ (printed (view tree.now) 0 ++ codes ")")) }
 {
-    put_if(buf, is_grouped, "(?:");
-    put_repeated(buf, child);
-    put_quantifier(buf, lo, hi, greedy);
-    put_if(buf, is_grouped, ")");
+    sink.put('(');
+    put_tree(sink, tree, WHOLE);
+    sink.put(')');
 }
 
-/// Writes the operand of a quantifier.
+/// Puts a Repeat, with the group around it if it needs one.
+#[cycle(write)]
+#[inline(never)]
+fn put_repeat<S: Sink>(
+    sink: &mut S,
+    child: &Expr,
+    lo: usize,
+    hi: usize,
+    greedy: bool,
+    is_grouped: bool,
+)
+    requires { CanTake S.limit sink.old
+        (grouped is_grouped (operand_text (view child.now) ++ quantifier lo hi greedy)) }
+    ensures { Takes S.holds S.limit sink.old sink.new
+        (grouped is_grouped (operand_text (view child.now) ++ quantifier lo hi greedy)) }
+{
+    put_if(sink, is_grouped, "(?:");
+    put_quantified(sink, child, lo, hi, greedy);
+    put_if(sink, is_grouped, ")");
+}
+
+/// Puts the operand of a quantifier, and the quantifier.
 #[cycle(write)]
 #[inline]
-#[tactic(auto, using(crate::proofs::PrintLemmas::write_steps))]
-fn put_repeated(buf: &mut String, tree: &Expr)
-    requires { HasCapacity buf.old (operand_text (view tree.now)) }
-    ensures { Appended buf.old buf.new (operand_text (view tree.now)) }
+fn put_quantified<S: Sink>(sink: &mut S, child: &Expr, lo: usize, hi: usize, greedy: bool)
+    requires { CanTake S.limit sink.old (operand_text (view child.now) ++ quantifier lo hi greedy) }
+    ensures { Takes S.holds S.limit sink.old sink.new (operand_text (view child.now) ++ quantifier lo hi greedy) }
 {
-    if is_long(tree) {
-        put_ascii(buf, "(?:");
-        put_tree(buf, tree, OPERAND);
-        put(buf, ')');
-    } else {
-        put_tree(buf, tree, OPERAND);
-    }
+    put_repeated(sink, child);
+    sink.put_quantifier(lo, hi, greedy);
+}
+
+/// Puts the operand of a quantifier.
+#[cycle(write)]
+#[inline]
+fn put_repeated<S: Sink>(sink: &mut S, tree: &Expr)
+    requires { CanTake S.limit sink.old (operand_text (view tree.now)) }
+    ensures { Takes S.holds S.limit sink.old sink.new (operand_text (view tree.now)) }
+{
+    let is_grouped = is_long(tree);
+    put_if(sink, is_grouped, "(?:");
+    put_tree(sink, tree, OPERAND);
+    put_if(sink, is_grouped, ")");
 }

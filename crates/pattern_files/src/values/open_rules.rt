@@ -1,7 +1,7 @@
 //! Rules of grammars in JSON: objects that have patterns, and what is captured by their groups.
 ghost use Rattle.std.specs.Prelude.{chars, IfOk, IfSome, IfNone};
 ghost use Rattle.fancy_lex.specs.Flags.{flags_of};
-ghost use Rattle.fre_program.specs.Words.{HasError};
+ghost use Rattle.fancy_syntax.specs.InfoViews.{HasError};
 ghost use Rattle.pattern_files.specs.HasGroups.{HasGroups};
 
 use fancy_syntax::error::Error;

@@ -4,9 +4,6 @@ use fancy_lex::escape::Assertion;
 use fancy_lex::name::CaptureGroupTarget;
 use fancy_syntax::expr::{Absent, AstNode, Expr};
 use fancy_syntax::spanned::SpannedNode;
-use fre_program::names::{
-    absent_name, assertion_name, crlf_of, look_around_name, node_name, verb_name,
-};
 use json::Writer;
 use patterns_text::position::CharacterTable;
 use std::alloc::AllocError;
@@ -35,8 +32,8 @@ fn write_level(writer: &mut Writer, name: &str, level: Option<isize>) -> Result<
 
 /// Writes the fields of an assertion.
 fn write_assertion(writer: &mut Writer, assertion: Assertion) -> Result<(), AllocError> {
-    write_text(writer, "assertion", assertion_name(assertion))?;
-    match crlf_of(assertion) {
+    write_text(writer, "assertion", assertion.name())?;
+    match assertion.crlf() {
         Some(crlf) => write_bool(writer, "crlf", crlf),
         None => Ok(()),
     }
@@ -64,36 +61,56 @@ fn write_target(writer: &mut Writer, target: &CaptureGroupTarget) -> Result<(), 
     writer.end_object()
 }
 
-/// Writes the fields of a node that refers to a group; nothing for another.
-fn write_reference_fields(writer: &mut Writer, node: &Expr) -> Result<(), AllocError> {
-    if let Expr::Backref { group, .. }
-    | Expr::BackrefWithRelativeRecursionLevel { group, .. }
-    | Expr::BackrefExistsCondition { group, .. }
-    | Expr::SubroutineCall(group) = node
-    {
-        write_number(writer, "group", *group as u64)?;
+/// Writes the fields of a call that is not resolved.
+fn write_unresolved_call(
+    writer: &mut Writer,
+    target: &CaptureGroupTarget,
+    position: usize,
+) -> Result<(), AllocError> {
+    write_text(writer, "node", "SubroutineCall")?;
+    write_target(writer, target)?;
+    write_number(writer, "position", position as u64)
+}
+
+/// Writes the fields of a back reference, which may have a recursion level.
+fn write_backref(
+    writer: &mut Writer,
+    group: usize,
+    level: Option<isize>,
+    casei: bool,
+) -> Result<(), AllocError> {
+    write_number(writer, "group", group as u64)?;
+    if level.is_some() {
+        write_level(writer, "relative_level", level)?;
     }
-    if let Expr::BackrefWithRelativeRecursionLevel { relative_level, .. } = node {
-        write_level(writer, "relative_level", Some(*relative_level))?;
-    }
-    if let Expr::BackrefExistsCondition {
-        relative_recursion_level: level,
-        ..
-    } = node
-    {
-        write_level(writer, "relative_recursion_level", *level)?;
-    }
-    if let Expr::Backref { casei, .. }
-    | Expr::BackrefWithRelativeRecursionLevel { casei, .. } = node
-    {
-        write_bool(writer, "casei", *casei)?;
-    }
-    if let Expr::AstNode(AstNode::SubroutineCall(target), position) = node {
-        write_text(writer, "node", "SubroutineCall")?;
-        write_target(writer, target)?;
-        write_number(writer, "position", *position as u64)?;
-    }
-    Ok(())
+    write_bool(writer, "casei", casei)
+}
+
+/// Writes the fields of a condition that is true if a group has matched.
+fn write_exists_condition(
+    writer: &mut Writer,
+    group: usize,
+    level: Option<isize>,
+) -> Result<(), AllocError> {
+    write_number(writer, "group", group as u64)?;
+    write_level(writer, "relative_recursion_level", level)
+}
+
+/// Writes the fields of a dot.
+fn write_dot(writer: &mut Writer, newline: bool, crlf: bool) -> Result<(), AllocError> {
+    write_bool(writer, "newline", newline)?;
+    write_bool(writer, "crlf", crlf)
+}
+
+/// Writes a field that is a text, and whether the node is case-insensitive.
+fn write_text_and_case(
+    writer: &mut Writer,
+    name: &str,
+    text: &str,
+    casei: bool,
+) -> Result<(), AllocError> {
+    write_text(writer, name, text)?;
+    write_bool(writer, "casei", casei)
 }
 
 /// Writes the limits of a repeat; the upper one is null where there is none.
@@ -106,28 +123,42 @@ fn write_repeat(writer: &mut Writer, lo: usize, hi: usize, greedy: bool) -> Resu
 /// Writes the fields of a node, without its children.
 fn write_fields(writer: &mut Writer, node: &Expr) -> Result<(), AllocError> {
     match node {
-        Expr::Any { newline, crlf } => {
-            write_bool(writer, "newline", *newline)?;
-            write_bool(writer, "crlf", *crlf)
-        }
+        Expr::Any { newline, crlf } => write_dot(writer, *newline, *crlf),
         Expr::Assertion(assertion) => write_assertion(writer, *assertion),
         Expr::GeneralNewline { unicode } => write_bool(writer, "unicode", *unicode),
-        Expr::Literal { val, casei } => {
-            write_text(writer, "val", val.as_str())?;
-            write_bool(writer, "casei", *casei)
-        }
+        Expr::Literal { val, casei } => write_text_and_case(writer, "val", val.as_str(), *casei),
         Expr::LiteralBytes { bytes } => write_bytes(writer, bytes),
-        Expr::LookAround(_, look_around) => {
-            write_text(writer, "look_around", look_around_name(*look_around))
-        }
+        Expr::LookAround(_, look_around) => write_text(writer, "look_around", look_around.name()),
         Expr::Repeat { lo, hi, greedy, .. } => write_repeat(writer, *lo, *hi, *greedy),
         Expr::Delegate { inner, casei } => {
-            write_text(writer, "inner", inner.as_str())?;
-            write_bool(writer, "casei", *casei)
+            write_text_and_case(writer, "inner", inner.as_str(), *casei)
         }
-        Expr::BacktrackingControlVerb(verb) => write_text(writer, "verb", verb_name(*verb)),
-        Expr::Absent(absent) => write_text(writer, "form", absent_name(absent)),
-        node => write_reference_fields(writer, node),
+        Expr::Backref { group, casei } => write_backref(writer, *group, None, *casei),
+        Expr::BackrefWithRelativeRecursionLevel {
+            group,
+            relative_level,
+            casei,
+        } => write_backref(writer, *group, Some(*relative_level), *casei),
+        Expr::BackrefExistsCondition {
+            group,
+            relative_recursion_level,
+        } => write_exists_condition(writer, *group, *relative_recursion_level),
+        Expr::SubroutineCall(group) => write_number(writer, "group", *group as u64),
+        Expr::BacktrackingControlVerb(verb) => write_text(writer, "verb", verb.name()),
+        Expr::Absent(absent) => write_text(writer, "form", absent.name()),
+        Expr::AstNode(AstNode::SubroutineCall(target), position) => {
+            write_unresolved_call(writer, target, *position)
+        }
+        Expr::Empty
+        | Expr::Concat(_)
+        | Expr::Alt(_)
+        | Expr::Group(_)
+        | Expr::AtomicGroup(_)
+        | Expr::KeepOut
+        | Expr::ContinueFromPreviousMatchEnd
+        | Expr::Conditional { .. }
+        | Expr::DefineGroup { .. }
+        | Expr::AstNode(..) => Ok(()),
     }
 }
 
@@ -137,7 +168,7 @@ pub(super) fn write_own(
     characters: &CharacterTable,
     node: SpannedNode<'_>,
 ) -> Result<(), AllocError> {
-    write_text(writer, "kind", node_name(node.expr()))?;
+    write_text(writer, "kind", node.expr().kind_name())?;
     write_span(writer, characters, node.span())?;
     write_fields(writer, node.expr())
 }

@@ -1,23 +1,50 @@
-use Rattle.std.proofs.Common.{◌≤◌, arith}
-use Rattle.fancy_syntax.specs.View.{view}
+use Rattle.std.proofs.Common.{◌≤◌, arith, sym, ◌∙◌, subst}
+use Rattle.std.proofs.lemmas.Bool.{false≢true}
+use Rattle.fancy_grammar.specs.Tree.{levels, levels_all, trees_of}
+use Rattle.fancy_syntax.proofs.Descents.{levels_item}
+use Rattle.fancy_syntax.specs.View.{view, views}
 use Rattle.backtracking.specs.TwoWays.{Goes, Turns, no_turn}
 use Rattle.backtracking.specs.Remains.{rest_of}
 use Rattle.backtracking.proofs.WayLemmas.{weaker, at_some, went_empty, went_group, went_concat, went_next, went_all}
 use Rattle.backtracking.proofs.WayLemmas.{went_branch, went_turn, went_repeat}
+use Rattle.backtracking.proofs.checker.+go_over.Goals.{go_over-in-Empty, go_over-in_default}
 use Rattle.backtracking.proofs.checker.+go_over.Goals as goal
 
-pub go_over-returns-in-Empty : goal.go_over-returns-in-Empty
-go_over-returns-in-Empty t c = went_empty c.args.unicode c.args.tree.now _ c.in-Empty.is
+pub go_over-returns-in-Leaf : goal.go_over-returns-in-Leaf
+go_over-returns-in-Leaf t c = elim c.match-matches.branch [
+  | go_over-in-Empty w ↦ went_empty c.args.unicode c.args.tree.now _ w.in-Empty.is
+  | go_over-in_default w ↦ absurd (false≢true (sym w.matches-is ∙ c.if-matches.true))
+]
 
-pub go_over-returns-in-Group : goal.go_over-returns-in-Group
-go_over-returns-in-Group t c =
-    weaker _ _ _ (λ u k. went_group c.args.unicode c.args.tree.now c.deref.result.now c.in-Group.child (rest_of c.args.from) (rest_of u)
-    c.in-Group.is c.deref.ensures k) c.go_over.ensures
+pub go_over-returns-in-Around-Group-default : goal.go_over-returns-in-Around-Group-default
+go_over-returns-in-Around-Group-default t c =
+    let node = rw c.in-Around-Group-default.field-0-is at c.in-Around-Group-default.ensures.node in
+    weaker _ _ _ (λ u k. went_group c.args.unicode (view c.args.tree.now) _ (rest_of c.args.from) (rest_of u) node k)
+    c.go_over.ensures
+
+pub go_over-returns-in-Around-Repeat-default : goal.go_over-returns-in-Around-Repeat-default
+go_over-returns-in-Around-Repeat-default t c =
+    let node = rw c.in-Around-Repeat-default.field-0-is at c.in-Around-Repeat-default.ensures.node in
+    weaker _ _ _ (λ u k. subst (λ t. Goes c.args.unicode t (rest_of c.args.from) (rest_of u)) (sym node)
+    (k _)) c.go_over_repeat.ensures
 
 pub go_over-returns-in-Concat : goal.go_over-returns-in-Concat
 go_over-returns-in-Concat t c =
-    weaker _ _ _ (λ u k. went_concat c.args.unicode c.args.tree.now c.deref-in-Concat.result.now c.in-Concat.trees (rest_of c.args.from)
-    (rest_of u) c.in-Concat.is c.deref-in-Concat.ensures.value k) c.go_over_all.ensures
+    weaker _ _ _ (λ u k. went_concat c.args.unicode (view c.args.tree.now) _ (rest_of c.args.from) (rest_of u)
+    c.in-Concat.ensures.node k) c.go_over_all.ensures
+
+pub go_over_all-go_over-requires : goal.go_over_all-go_over-requires
+go_over_all-go_over-requires t c =
+    let low : levels (view c.tree-item.result) ≤ levels_all (trees_of (views c.args.trees.now)) =
+    levels_item c.args.trees.now c.loop-tree.tree-index c.tree-item.result c.loop-tree-test.true c.tree-item.is in
+    (omega (arith, low), tt)
+
+pub go_over_branch-go_over-requires : goal.go_over_branch-go_over-requires
+go_over_branch-go_over-requires t c =
+    let found = c.in-Some.ensures.lookup in
+    let low : levels (view c.in-Some.branch.now) ≤ levels_all (trees_of (views c.args.branches.now)) =
+    levels_item c.args.branches.now c.in-Some-Branch-default.index c.in-Some.branch.now found.3.0 found.1 in
+    (omega (arith, low), tt)
 
 pub go_over_all-loop-tree-preserved : goal.go_over_all-loop-tree-preserved
 go_over_all-loop-tree-preserved t c u k =

@@ -11,4 +11,4 @@ returns-in-Ok-clause-text c =
 pub returns-in-Err-clause-refusal : goal.returns-in-Err-clause-refusal
 returns-in-Err-clause-refusal c =
     let text = c.in_ok-text.ensures.text in
-    error_returned c.in-Err.error _ _ _ text.0 text.1 c.in-Err.ensures.error c.in-Err.ensures.position
+    error_returned c.in-Err.error _ _ _ text.0 text.1 c.in-Err.ensures.error

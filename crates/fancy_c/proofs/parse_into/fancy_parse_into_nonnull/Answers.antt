@@ -1,4 +1,4 @@
-use Rattle.std.proofs.Common.{map}
+use Rattle.std.proofs.Common.{map, arith}
 use Rattle.fancy_syntax.specs.InfoViews.{info_of}
 use Rattle.fancy_syntax.specs.TriviaViews.{trivium_of}
 use Rattle.fancy_syntax.specs.View.{view}
@@ -49,3 +49,15 @@ returns-in-Ok-clause-enough c =
     λ enough is none.
     suffices_but_trivia (is_summary_of _ _ t m _ c.in-Ok.ensures.tree c.write_all.ensures.info) enough
     (c.write_all.ensures.short is)
+
+pub returns-in-Ok-clause-message : goal.returns-in-Ok-clause-message
+returns-in-Ok-clause-message c =
+    let written = c.write_all.ensures in
+    record {
+      refused = λ is. absurd (omega (arith, written.status, is));
+      short_message = λ is some. absurd (some written.no_kind);
+      no_utf8 = λ is. absurd (omega (arith, written.status, is));
+      no_kind = λ _ _. written.no_kind;
+      no_position = λ _ _. written.no_position;
+      no_size = λ _. written.no_size;
+    }

@@ -3,11 +3,9 @@ use Rattle.fancy_c.proofs.read.read.Goals as goal
 
 pub returns-in-Ok-clause-tree : goal.returns-in-Ok-clause-tree
 returns-in-Ok-clause-tree c =
-    let text = c.in_ok-text.ensures.text in
-    let tree = c.in-Ok.ensures in
-    tree_returned _ _ _ _ _ text.0 text.1 tree.found tree.only tree.exact tree.bounds tree.returned
+    let text = c.in_ok-text.ensures.text in tree_returned text.0 text.1 c.in-Ok.ensures.tree
 
 pub returns-in-Err-clause-refusal : goal.returns-in-Err-clause-refusal
 returns-in-Err-clause-refusal c =
     let text = c.in_ok-text.ensures.text in
-    error_returned c.in-Err.error _ _ _ text.0 text.1 c.in-Err.ensures.error c.in-Err.ensures.position
+    error_returned c.in-Err.error _ _ _ text.0 text.1 c.in-Err.ensures.error

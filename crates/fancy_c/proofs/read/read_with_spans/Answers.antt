@@ -4,16 +4,12 @@ use Rattle.fancy_c.proofs.read.read_with_spans.Goals as goal
 
 pub returns-in-Ok-clause-tree : goal.returns-in-Ok-clause-tree
 returns-in-Ok-clause-tree c =
-    let text = c.in_ok-text.ensures.text in
-    let tree = c.in-Ok.ensures in
-    tree_returned _ _ _ _ _ text.0 text.1 tree.found tree.only tree.exact tree.bounds tree.returned
+    let text = c.in_ok-text.ensures.text in tree_returned text.0 text.1 c.in-Ok.ensures.tree
 
 pub returns-in-Ok-clause-spans : goal.returns-in-Ok-clause-spans
-returns-in-Ok-clause-spans c =
-    let tree = c.in-Ok.ensures in
-    spans_of_bytes _ _ _ _ _ c.in_ok-text.ensures.text.0 tree.spans tree.only_spans tree.each tree.nested
+returns-in-Ok-clause-spans c = spans_of_bytes c.in_ok-text.ensures.text.0 c.in-Ok.ensures.spans
 
 pub returns-in-Err-clause-refusal : goal.returns-in-Err-clause-refusal
 returns-in-Err-clause-refusal c =
     let text = c.in_ok-text.ensures.text in
-    error_returned c.in-Err.error _ _ _ text.0 text.1 c.in-Err.ensures.error c.in-Err.ensures.position
+    error_returned c.in-Err.error _ _ _ text.0 text.1 c.in-Err.ensures.error

@@ -15,11 +15,11 @@ returns-in-Ok c = (
   λ e.
       let same = c.is_same_but_for_positions.ensures.0 e in
       subst (IsReadAs (flags_of c.args.flags) (chars c.args.text.now) (view c.args.tree.now.expr)) same.1
-      (read_as _ _ _ _ _ c.in-Ok.ensures.found same.0),
-  λ r. c.is_same_but_for_positions.ensures.1 (read_as_only _ _ _ _ _ _ c.in-Ok.ensures.found r),
+      (read_as _ _ _ _ _ c.in-Ok.ensures.tree.found same.0),
+  λ r. c.is_same_but_for_positions.ensures.1 (read_as_only _ _ _ _ _ _ c.in-Ok.ensures.tree.found r),
 )
 
 pub returns-in-Err : goal.returns-in-Err
 returns-in-Err c =
-    ok_then _ _ _ (c.is_read_after.ensures (flags_of c.args.flags) (chars c.args.text.now) c.in-Err.ensures.error)
+    ok_then _ _ _ (c.is_read_after.ensures (flags_of c.args.flags) (chars c.args.text.now) c.in-Err.ensures.error.error)
     (λ b found. decides_false b found.0 (λ r. found.1 r.0 _ r.1.is))

@@ -1,6 +1,6 @@
 use Rattle.std.proofs.Common.{chars, Ok, ap}
 use Rattle.fancy_lex.specs.Flags.{flags_of}
-use Rattle.fre_program.specs.Words.{HasTree}
+use Rattle.fancy_syntax.specs.InfoViews.{HasTree}
 use Rattle.fre_program.proofs.WordLemmas.{of_words}
 use Rattle.fre_program.proofs.program.fre_run.Goals as goal
 

@@ -59,11 +59,11 @@ is_fixed-returns-else-not-branch t c =
     c.in-Expression-shape.ensures.node (c.in_ok-is_fixed-in-Expression.ensures c.if-not-branch.false)
     c.is_fixed-in-Expression.ensures
 
-pub is_fixed-returns-else-not-branch-3 : goal.is_fixed-returns-else-not-branch-3
-is_fixed-returns-else-not-branch-3 t c =
-    last_of_three c.is_fixed-in-Conditional-3.result c.args.unicode _ _ _ _ _ _ _ _ c.in-Conditional.ensures.node
-    c.in-Conditional-shape.ensures.node (c.in_ok-is_fixed-in-Conditional.ensures c.if-not-branch-2.false)
-    (c.in_ok-is_fixed-in-Conditional-2.ensures c.if-not-branch-3.false) c.is_fixed-in-Conditional-3.ensures
+pub is_fixed_conditional-returns : goal.is_fixed_conditional-returns
+is_fixed_conditional-returns t c =
+    last_of_three c.is_fixed-3.result c.args.unicode _ _ _ _ _ _ _ c.in-Conditional.ensures.node
+    (c.in_ok-is_fixed.ensures c.if-not-branch.false) (c.in_ok-is_fixed-2.ensures c.if-not-branch-2.false)
+    c.is_fixed-3.ensures
 
 pub is_fixed_around-returns : goal.is_fixed_around-returns
 is_fixed_around-returns t c =

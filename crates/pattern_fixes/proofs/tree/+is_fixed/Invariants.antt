@@ -1,5 +1,5 @@
 use Rattle.std.proofs.Common.{◌+◌, ◌*◌, []}
-use Rattle.fancy_grammar.specs.Tree.{levels, levels_all, trees_of}
+use Rattle.fancy_grammar.specs.Tree.{levels, levels_all, more_trees, no_trees, trees_of}
 use Rattle.fancy_syntax.proofs.PrintLemmas.{left}
 use Rattle.fancy_syntax.specs.View.{view, views}
 use Rattle.pattern_fixes.specs.Fixed.{AreFixed, AreBranches}
@@ -11,6 +11,11 @@ decreases-is_fixed l = 3 * levels (view l.old.now)
 
 abbrev pub decreases-is_fixed_around : goal.decreases-is_fixed_around
 decreases-is_fixed_around l = 3 * levels (view l.child.now) + 1
+
+abbrev pub decreases-is_fixed_conditional : goal.decreases-is_fixed_conditional
+decreases-is_fixed_conditional l =
+    3 * levels_all (more_trees (view l.condition.now)
+    (more_trees (view l.true_branch.now) (more_trees (view l.false_branch.now) no_trees))) + 1
 
 abbrev pub decreases-is_fixed_alternation : goal.decreases-is_fixed_alternation
 decreases-is_fixed_alternation l = 3 * levels_all (trees_of (views l.old.now)) + 2

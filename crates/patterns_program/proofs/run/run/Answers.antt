@@ -3,7 +3,7 @@ use Rattle.std.specs.Cmp.{unsigned_Decides}
 use Rattle.std.specs.List.{AllWithin}
 use Rattle.std.proofs.lemmas.List.Elements.{AllWithin-none, All-from_all_within}
 use Rattle.fancy_lex.specs.Flags.{flags_of}
-use Rattle.fre_program.specs.Words.{HasTree}
+use Rattle.fancy_syntax.specs.InfoViews.{HasTree}
 use Rattle.patterns_program.proofs.run.run.Goals as goal
 
 -- P holds of each element, if it does where there are some

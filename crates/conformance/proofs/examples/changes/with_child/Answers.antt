@@ -3,5 +3,5 @@ use Rattle.conformance.proofs.examples.changes.with_child.Goals as goal
 
 pub returns : goal.returns
 returns c = record {
-  group_info = info_kept _ _ _ _ _ _ c.in_ok-tree.ensures.found c.in_ok-to_pattern.ensures.reads_back;
+  group_info = info_kept _ _ _ _ _ _ c.in_ok-tree.ensures.tree.found c.in_ok-to_pattern.ensures.reads_back;
 }

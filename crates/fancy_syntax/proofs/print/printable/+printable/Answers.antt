@@ -1,37 +1,18 @@
-use Rattle.std.proofs.Common.{◌≡◌, ◌+◌, ◌&&◌, false, true≢false, ap, sym, is_some, IfOk, string_bytes, rules, ◌∙◌}
+use Rattle.std.proofs.Common.{◌+◌, ◌≤◌, ◌&&◌, ap, sym, ◌∙◌, arith}
 use Rattle.std.proofs.lemmas.Bool.{or_parts}
-use Rattle.std.proofs.lemmas.Str.{scalars-chars, IsUtf8-string_bytes}
-use Rattle.fancy_lex.specs.Text.{text_of}
-use Rattle.fancy_grammar.specs.HasDelegate.{has_delegate, any_has_delegate}
-use Rattle.fancy_grammar.specs.Normal.{unicode_flags, class_of}
-use Rattle.fancy_grammar.specs.Printable.{printable, all_printable}
-use Rattle.fancy_grammar.specs.Tree.{literal, delegate}
-use Rattle.fancy_syntax.specs.View.{view}
-use Rattle.fancy_syntax.specs.declared.expr.Expr.{the_lemmas}
-use Rattle.fancy_grammar.proofs.DelegateLemmas.{delegate_determined}
+use Rattle.fancy_grammar.specs.HasDelegate.{any_has_delegate}
+use Rattle.fancy_grammar.specs.Printable.{all_printable}
+use Rattle.fancy_grammar.specs.Tree.{levels, levels_all, trees_of}
+use Rattle.fancy_syntax.specs.View.{view, views}
+use Rattle.fancy_syntax.proofs.Descents.{levels_item}
 use Rattle.fancy_syntax.proofs.PrintLemmas.{left, left_step}
 use Rattle.fancy_syntax.proofs.print.printable.+printable.Goals as goal
 
-pub is_printable-returns-in-Literal-clause-exact : goal.is_printable-returns-in-Literal-clause-exact
-is_printable-returns-in-Literal-clause-exact t c =
-    let val = c.in-Literal.val in
-    let seen : view c.args.tree.now ≡ literal (text_of val) c.in-Literal.casei = search (rules, the_lemmas) in
-    sym (ap printable seen ∙ scalars-chars (string_bytes val) (IsUtf8-string_bytes val))
-
-pub is_printable-returns-in-Delegate-clause-exact : goal.is_printable-returns-in-Delegate-clause-exact
-is_printable-returns-in-Delegate-clause-exact t c =
-    let inner = c.in-Delegate.inner in
-    let seen : view c.args.tree.now ≡ delegate (text_of inner) c.in-Delegate.casei = search (rules, the_lemmas) in
-    let whole : IfOk c.is_whole.result (λ b. b ≡ is_some (class_of (unicode_flags false) (text_of inner))) =
-    search rules in
-    delegate_determined c.is_whole.result (text_of inner) c.in-Delegate.casei _
-    (scalars-chars (string_bytes inner) (IsUtf8-string_bytes inner)) whole seen
-
-pub is_printable-returns-in-Delegate-clause-without_memory : goal.is_printable-returns-in-Delegate-clause-without_memory
-is_printable-returns-in-Delegate-clause-without_memory t c none =
-    let seen : view c.args.tree.now ≡ delegate (text_of c.in-Delegate.inner) c.in-Delegate.casei =
-    search (rules, the_lemmas) in
-    absurd (true≢false (sym (ap has_delegate seen) ∙ none))
+pub are_printable-is_printable-requires : goal.are_printable-is_printable-requires
+are_printable-is_printable-requires t c =
+    let low : levels (view c.tree-item.result) ≤ levels_all (trees_of (views c.args.trees.now)) =
+    levels_item c.args.trees.now c.loop-tree.tree-index c.tree-item.result c.loop-tree-test.true c.tree-item.is in
+    (omega (arith, low), tt)
 
 pub are_printable-loop-tree-preserved : goal.are_printable-loop-tree-preserved
 are_printable-loop-tree-preserved t c =

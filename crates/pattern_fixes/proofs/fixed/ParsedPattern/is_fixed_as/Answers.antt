@@ -8,7 +8,8 @@ use Rattle.pattern_fixes.proofs.fixed.ParsedPattern.is_fixed_as.Goals as goal
 pub returns : goal.returns
 returns c =
     let old = c.args.self.now.tree.now in
+    let parsed = rw c.in-Ok.is at c.parse_tree_with_flags.ensures.tree in
     text_case c.is_fixed.result (flags_of c.args.self.now.flags) (chars c.args.text.now) (view old.expr)
-    (view c.in-Ok.new.expr) (info_of old) (info_of c.in-Ok.new) _
-    (rw c.in-Ok.is at c.parse_tree_with_flags.ensures.found) (c.has_same_groups.ensures c.if-not-has_same_groups.false)
+    (view c.in-Ok.new.expr) (info_of old) (info_of c.in-Ok.new) _ parsed.found
+    (c.has_same_groups.ensures c.if-not-has_same_groups.false)
     (ap (λ f. f.unicode) c.from_bits-unicode.ensures) c.is_fixed.ensures

@@ -1,7 +1,7 @@
 use Rattle.std.proofs.Common.{◌≡◌, ◌∙◌, ap, subst, refl, chars, All}
 use Rattle.std.proofs.lemmas.Result.{IfOk-at_ok}
 use Rattle.fancy_lex.specs.Flags.{flags_of}
-use Rattle.fre_program.specs.Words.{HasTree}
+use Rattle.fancy_syntax.specs.InfoViews.{HasTree}
 use Rattle.patterns_program.proofs.run.FileRun.process_arguments.Goals as goal
 
 pub returns : goal.returns

@@ -4,7 +4,7 @@ use Rattle.std.specs.List.{AllWithin}
 use Rattle.std.proofs.lemmas.List.{get_or_default}
 use Rattle.std.proofs.lemmas.List.Elements.{AllWithin-more, AllWithin-upto, All-from_all_within}
 use Rattle.fancy_lex.specs.Flags.{flags_of}
-use Rattle.fre_program.specs.Words.{HasTree}
+use Rattle.fancy_syntax.specs.InfoViews.{HasTree}
 use Rattle.patterns_program.proofs.run.FileRun.process_lines.Goals as goal
 
 pub loop-pattern-preserved : goal.loop-pattern-preserved

@@ -1,7 +1,7 @@
 use Rattle.std.proofs.Common.{◌≡◌, chars}
 use Rattle.std.specs.List.{AllWithin}
 use Rattle.fancy_lex.specs.Flags.{flags_of}
-use Rattle.fre_program.specs.Words.{HasTree}
+use Rattle.fancy_syntax.specs.InfoViews.{HasTree}
 use Rattle.patterns_program.specs.declared.job.Command.TheVariants.{Check}
 use Rattle.patterns_program.specs.declared.outcome.Outcome.TheVariants.{Good}
 use Rattle.patterns_program.proofs.run.FileRun.process_lines.Given as goal
