@@ -7,9 +7,6 @@ use Rattle.fancy_c.specs.CallResult.{number_of_kind, IsReported, IsErrorOfBytes,
 use Rattle.fancy_c.specs.declared.call_result.CallResult.{CallResult}
 use Rattle.fancy_c.specs.declared.call_result.TheConstants.{STATUS_OK, STATUS_REFUSED, STATUS_NOT_UTF8}
 use Rattle.fancy_c.specs.declared.call_result.TheConstants.{STATUS_BUFFER_TOO_SHORT, ERROR_NONE}
-use Rattle.fancy_c.specs.declared.info_rows.Name.{Name}
-use Rattle.fancy_c.specs.declared.info_rows.TreeInfo.{TreeInfo}
-use Rattle.fancy_c.specs.declared.node.Node.{Node}
 
 -- a call that takes an argument only if it is known
 pub record TakesOnly (is_known : Type 0) (unknown_status : ℕ) (a : CallResult) : Type 0 where
@@ -33,6 +30,18 @@ pub record Refuses (IsError : ℕ → ℕ → Type 0) (IsUtf8End : ℕ → Type 
   pub no_kind : a.status ≢ STATUS_REFUSED → a.kind ≡ ERROR_NONE
   -- for any other status the position is 0
   pub no_position : a.status ≢ STATUS_REFUSED → a.status ≢ STATUS_NOT_UTF8 → a.position ≡ 0
+
+-- a call that refuses a pattern with the kind and the position of its error, and bytes that are not UTF-8
+abbrev pub RefusesPattern : Flags → List ℕ → CallResult → Type 0
+RefusesPattern f pattern a = Refuses (IsErrorAt f pattern) (IsNoUtf8 pattern) a
+
+-- a call that refuses only bytes that are not UTF-8
+abbrev pub RefusesBytes : List ℕ → CallResult → Type 0
+RefusesBytes text a = Refuses (λ _ _. ⊥) (IsNoUtf8 text) a
+
+-- a call that gets no pattern and no text: it returns neither status, no kind, and the position 0
+abbrev pub RefusesNothing : CallResult → Type 0
+RefusesNothing a = Refuses (λ _ _. ⊥) (λ _. ⊥) a
 
 -- a call that writes a text, of which P holds, into a buffer
 pub record WritesText (P : List ℕ → Type 0) (old new : List ℕ) (a : CallResult) : Type 0 where
@@ -61,12 +70,3 @@ pub record WritesMessage (f : Flags) (pattern old new : List ℕ) (a : CallResul
   pub no_position : a.kind ≡ ERROR_NONE → a.status ≢ STATUS_NOT_UTF8 → a.position ≡ 0
   -- without a kind the size is 0
   pub no_size : a.kind ≡ ERROR_NONE → a.size ≡ 0
-
--- unless a call writes a tree, the rows of nodes, names and back references are as they were; the info too, unless a
--- buffer is too short
-pub record KeepsTree (nodes nodes' : List Node) (names names' : List Name) (backrefs backrefs' : List ℕ)
-    (info info' : TreeInfo) (a : CallResult) : Type 0 where
-  pub nodes_kept : a.status ≢ STATUS_OK → nodes' ≡ nodes
-  pub names_kept : a.status ≢ STATUS_OK → names' ≡ names
-  pub backrefs_kept : a.status ≢ STATUS_OK → backrefs' ≡ backrefs
-  pub info_kept : a.status ≢ STATUS_OK → a.status ≢ STATUS_BUFFER_TOO_SHORT → info' ≡ info

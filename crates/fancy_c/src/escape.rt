@@ -5,8 +5,7 @@ ghost use Rattle.fancy_grammar.specs.ReadBack.{info_of_groups};
 ghost use Rattle.fancy_syntax.specs.InfoViews.{info_of};
 ghost use Rattle.fancy_syntax.specs.View.{view, views};
 ghost use Rattle.fancy_c.specs.CallFlags.{AreFlags};
-ghost use Rattle.fancy_c.specs.CallResult.{IsNoUtf8};
-ghost use Rattle.fancy_c.specs.Calls.{Refuses, TakesOnly, WritesText};
+ghost use Rattle.fancy_c.specs.Calls.{RefusesBytes, TakesOnly, WritesText};
 ghost use Rattle.fancy_c.specs.EscapedText as spec;
 ghost use Rattle.fancy_c.specs.EscapedText.{literal_of, IsEscapeOf, IsEscapeOfBytes};
 
@@ -121,7 +120,7 @@ pub extern "C" fn fancy_escape_nonnull(
     buffer: &mut [u8],
 ) -> CallResult
     ensures text { WritesText (IsEscapeOfBytes (flags_of flags) text.now) buffer.old buffer.new result }
-    ensures refusal { Refuses (λ _ _. ⊥) (IsNoUtf8 text.now) result }
+    ensures refusal { RefusesBytes text.now result }
     ensures flags { TakesOnly (AreFlags flags) STATUS_UNKNOWN_FLAG result }
     ensures status { (result.status ≤ STATUS_BUFFER_TOO_SHORT) ⊎ (result.status ≡ STATUS_UNKNOWN_FLAG) }
 {

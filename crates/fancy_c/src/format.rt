@@ -2,8 +2,8 @@
 ghost use Rattle.std.specs.Prelude.{◌≡◌, ◌≢◌, ◌≤◌, ◌⊎◌, IfOk, IfErr, MatchOption, string_bytes};
 ghost use Rattle.fancy_lex.specs.Flags.{flags_of};
 ghost use Rattle.fancy_c.specs.CallFlags.{AreFlags};
-ghost use Rattle.fancy_c.specs.CallResult.{IsNoUtf8, IsRefusalOf};
-ghost use Rattle.fancy_c.specs.Calls.{IsErrorAt, Refuses, TakesOnly, WritesText};
+ghost use Rattle.fancy_c.specs.CallResult.{IsRefusalOf};
+ghost use Rattle.fancy_c.specs.Calls.{RefusesPattern, TakesOnly, WritesText};
 ghost use Rattle.pattern_format.specs.declared.style.Style.{Style};
 ghost use Rattle.fancy_c.specs.FormattedText.{NamesStyle, IsStyleOf, IsFormattedOfBytes};
 
@@ -76,7 +76,7 @@ pub extern "C" fn fancy_format_nonnull(
     ensures style { TakesOnly (NamesStyle style) STATUS_UNKNOWN_STYLE result }
     ensures known_flags { AreFlags flags → result.status ≢ STATUS_UNKNOWN_FLAG }
     ensures unknown_flag { NamesStyle style → (AreFlags flags → ⊥) → result.status ≡ STATUS_UNKNOWN_FLAG }
-    ensures refusal { Refuses (IsErrorAt (flags_of flags) pattern.now) (IsNoUtf8 pattern.now) result }
+    ensures refusal { RefusesPattern (flags_of flags) pattern.now result }
     ensures status { (result.status ≤ STATUS_BUFFER_TOO_SHORT) ⊎ ((result.status ≡ STATUS_UNKNOWN_STYLE)
         ⊎ (result.status ≡ STATUS_UNKNOWN_FLAG)) }
 {

@@ -8,7 +8,7 @@ ghost use Rattle.fancy_grammar.specs.Tree.{Tree};
 ghost use Rattle.fancy_c.specs.CallFlags.{AreFlags};
 ghost use Rattle.fancy_c.specs.CallResult.{number_of_kind, IsReported, IsTreeOfBytes};
 ghost use Rattle.fancy_c.specs.Buffer.{Fills};
-ghost use Rattle.fancy_c.specs.Calls.{Refuses, TakesOnly, WritesMessage, WritesText};
+ghost use Rattle.fancy_c.specs.Calls.{RefusesNothing, TakesOnly, WritesMessage, WritesText};
 ghost use Rattle.fancy_c.specs.WrittenText.{carried, NamesKind, IsErrorText};
 
 use crate::buffer::{fill, write};
@@ -158,7 +158,7 @@ pub extern "C" fn fancy_error_text_nonnull(
 ) -> CallResult
     ensures text { WritesText (IsErrorText kind) buffer.old buffer.new result }
     ensures status { result.status ≤ STATUS_BUFFER_TOO_SHORT }
-    ensures refusal { Refuses (λ _ _. ⊥) (λ _. ⊥) result }
+    ensures refusal { RefusesNothing result }
 {
     if kind == ERROR_NONE || kind > ERROR_INVALID_GROUP_NAME_BACKREF {
         return write(buffer, &[]);

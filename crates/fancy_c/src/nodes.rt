@@ -7,8 +7,7 @@ ghost use Rattle.fancy_syntax.specs.InfoViews.{info_of};
 ghost use Rattle.fancy_syntax.specs.View.{view};
 ghost use Rattle.fancy_syntax.specs.declared.span.Span.{Span};
 ghost use Rattle.fancy_c.specs.CallFlags.{AreTreeFlags};
-ghost use Rattle.fancy_c.specs.CallResult.{IsNoUtf8};
-ghost use Rattle.fancy_c.specs.Calls.{IsErrorAt, KeepsTree, Refuses, TakesOnly};
+ghost use Rattle.fancy_c.specs.Calls.{RefusesPattern, TakesOnly};
 ghost use Rattle.fancy_c.specs.InfoRows.{summary, all_texts, name_rows, AreEnough, AreWritten, AreSpansAsked, IsSummaryOf};
 ghost use Rattle.fancy_c.specs.Node.{listed, span_at};
 
@@ -180,9 +179,11 @@ pub extern "C" fn fancy_parse_nonnull(
     ensures enough { AreEnough (length pattern.now) (length nodes.old) (length texts.old) (length names.old)
         (length backrefs.old) →
         result.status ≢ STATUS_BUFFER_TOO_SHORT }
-    ensures refusal { Refuses (IsErrorAt (flags_of flags) pattern.now) (IsNoUtf8 pattern.now) result }
-    ensures tree_kept { KeepsTree nodes.old nodes.new names.old names.new backrefs.old backrefs.new
-        info.old info.new result }
+    ensures refusal { RefusesPattern (flags_of flags) pattern.now result }
+    ensures nodes_kept { result.status ≢ STATUS_OK → nodes.new ≡ nodes.old }
+    ensures names_kept { result.status ≢ STATUS_OK → names.new ≡ names.old }
+    ensures backrefs_kept { result.status ≢ STATUS_OK → backrefs.new ≡ backrefs.old }
+    ensures info_kept { result.status ≢ STATUS_OK → result.status ≢ STATUS_BUFFER_TOO_SHORT → info.new ≡ info.old }
     ensures texts_kept { result.status ≢ STATUS_OK → texts.new ≡ texts.old }
     ensures flags { TakesOnly (AreTreeFlags flags) STATUS_UNKNOWN_FLAG result }
     ensures status { (result.status ≤ STATUS_BUFFER_TOO_SHORT) ⊎ (result.status ≡ STATUS_UNKNOWN_FLAG) }

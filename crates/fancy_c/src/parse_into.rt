@@ -10,7 +10,7 @@ ghost use Rattle.fancy_syntax.specs.View.{view};
 ghost use Rattle.fancy_syntax.specs.declared.span.Span.{Span};
 ghost use Rattle.fancy_c.specs.Buffer.{Fills};
 ghost use Rattle.fancy_c.specs.CallFlags.{AreFlags};
-ghost use Rattle.fancy_c.specs.Calls.{KeepsTree, TakesOnly, WritesMessage};
+ghost use Rattle.fancy_c.specs.Calls.{TakesOnly, WritesMessage};
 ghost use Rattle.fancy_c.specs.InfoRows.{summary, AreEnough, AreWritten, AreSpansOfBytes, IsSummaryOf};
 ghost use Rattle.fancy_c.specs.Node.{span_at};
 ghost use Rattle.fancy_c.specs.TriviumRows as spec;
@@ -108,8 +108,10 @@ pub extern "C" fn fancy_parse_into_nonnull(
         (length backrefs.old) →
         result.status ≡ STATUS_BUFFER_TOO_SHORT → result.kind ≡ ERROR_NONE → length trivia.old < count.new }
     ensures message { WritesMessage (flags_of flags) pattern.now texts.old texts.new result }
-    ensures tree_kept { KeepsTree nodes.old nodes.new names.old names.new backrefs.old backrefs.new
-        info.old info.new result }
+    ensures nodes_kept { result.status ≢ STATUS_OK → nodes.new ≡ nodes.old }
+    ensures names_kept { result.status ≢ STATUS_OK → names.new ≡ names.old }
+    ensures backrefs_kept { result.status ≢ STATUS_OK → backrefs.new ≡ backrefs.old }
+    ensures info_kept { result.status ≢ STATUS_OK → result.status ≢ STATUS_BUFFER_TOO_SHORT → info.new ≡ info.old }
     ensures texts_kept { result.status ≢ STATUS_OK → result.status ≢ STATUS_REFUSED → texts.new ≡ texts.old }
     ensures trivia_kept { result.status ≢ STATUS_OK → trivia.new ≡ trivia.old }
     ensures count_kept { result.status ≢ STATUS_OK → result.status ≢ STATUS_BUFFER_TOO_SHORT → count.new ≡ count.old }

@@ -5,9 +5,8 @@ ghost use Rattle.fancy_grammar.specs.OfPattern.{IsOfPattern};
 ghost use Rattle.fancy_syntax.specs.InfoViews.{info_of};
 ghost use Rattle.fancy_syntax.specs.View.{view};
 ghost use Rattle.fancy_c.specs.CallFlags.{AreFlags};
-ghost use Rattle.fancy_c.specs.CallResult.{IsNoUtf8};
 ghost use Rattle.fancy_c.specs.Buffer.{Fills};
-ghost use Rattle.fancy_c.specs.Calls.{IsErrorAt, Refuses, TakesOnly, WritesText};
+ghost use Rattle.fancy_c.specs.Calls.{RefusesPattern, TakesOnly, WritesText};
 ghost use Rattle.fancy_c.specs.WrittenText.{IsPatternText, IsPatternTextOfBytes};
 
 use crate::buffer::write;
@@ -85,7 +84,7 @@ pub extern "C" fn fancy_to_pattern_nonnull(
 ) -> CallResult
     ensures text { WritesText (IsPatternTextOfBytes (flags_of flags) pattern.now) buffer.old buffer.new result }
     ensures never { result.status ≢ STATUS_NO_PATTERN }
-    ensures refusal { Refuses (IsErrorAt (flags_of flags) pattern.now) (IsNoUtf8 pattern.now) result }
+    ensures refusal { RefusesPattern (flags_of flags) pattern.now result }
     ensures printed { result.status ≢ STATUS_NOT_PRINTABLE }
     ensures flags { TakesOnly (AreFlags flags) STATUS_UNKNOWN_FLAG result }
     ensures status { (result.status ≤ STATUS_NO_PATTERN) ⊎ (result.status ≡ STATUS_UNKNOWN_FLAG) }

@@ -6,7 +6,7 @@ ghost use Rattle.fancy_grammar.specs.OfPattern.{IsOfPattern};
 ghost use Rattle.fancy_grammar.specs.Tree.{Tree};
 ghost use Rattle.fancy_syntax.specs.View.{view};
 ghost use Rattle.fancy_c.specs.CallFlags.{AreFlags};
-ghost use Rattle.fancy_c.specs.Calls.{Refuses, TakesOnly, WritesText};
+ghost use Rattle.fancy_c.specs.Calls.{RefusesNothing, TakesOnly, WritesText};
 ghost use Rattle.fancy_c.specs.RowTree.{AreRowsOfTree};
 ghost use Rattle.fancy_c.specs.WrittenText.{IsPatternText};
 
@@ -71,7 +71,7 @@ pub extern "C" fn fancy_to_pattern_nodes_nonnull(
         × AreRowsOfTree texts.now nodes.now index t × IsPatternText (flags_of flags) t m w) buffer.old buffer.new result }
     ensures unwritten { result.status ≡ STATUS_NO_PATTERN → (t : Tree) × (m : GroupInfo)
         × AreRowsOfTree texts.now nodes.now index t × (IsOfPattern (flags_of flags) t m → ⊥) }
-    ensures refusal { Refuses (λ _ _. ⊥) (λ _. ⊥) result }
+    ensures refusal { RefusesNothing result }
     ensures printed { result.status ≢ STATUS_NOT_PRINTABLE }
     ensures flags { TakesOnly (AreFlags flags) STATUS_UNKNOWN_FLAG result }
     ensures status { (result.status ≤ STATUS_NO_TREE) ⊎ (result.status ≡ STATUS_UNKNOWN_FLAG) }

@@ -6,9 +6,9 @@ ghost use Rattle.fancy_grammar.specs.Printable.{printable};
 ghost use Rattle.fancy_grammar.specs.Tree.{Tree};
 ghost use Rattle.fancy_syntax.specs.View.{view};
 ghost use Rattle.fancy_c.specs.CallFlags.{AreFlags};
-ghost use Rattle.fancy_c.specs.CallResult.{IsTreeOfBytes, IsNoUtf8};
+ghost use Rattle.fancy_c.specs.CallResult.{IsTreeOfBytes};
 ghost use Rattle.fancy_c.specs.Buffer.{Fills};
-ghost use Rattle.fancy_c.specs.Calls.{IsErrorAt, Refuses, TakesOnly, WritesText};
+ghost use Rattle.fancy_c.specs.Calls.{RefusesPattern, TakesOnly, WritesText};
 ghost use Rattle.fancy_c.specs.WrittenText.{IsText, IsTextOfBytes, NamesPrecedence};
 
 use crate::buffer::write;
@@ -87,7 +87,7 @@ pub extern "C" fn fancy_print_nonnull(
     ensures text { WritesText (IsTextOfBytes (flags_of flags) pattern.now precedence) buffer.old buffer.new result }
     ensures not_printable { result.status ≡ STATUS_NOT_PRINTABLE → (t : Tree) × (m : GroupInfo)
         × IsTreeOfBytes (flags_of flags) pattern.now t m × (printable t ≡ false) }
-    ensures refusal { Refuses (IsErrorAt (flags_of flags) pattern.now) (IsNoUtf8 pattern.now) result }
+    ensures refusal { RefusesPattern (flags_of flags) pattern.now result }
     ensures precedence { TakesOnly (NamesPrecedence precedence) STATUS_UNKNOWN_PRECEDENCE result }
     ensures known_flags { AreFlags flags → result.status ≢ STATUS_UNKNOWN_FLAG }
     ensures unknown_flag { NamesPrecedence precedence → (AreFlags flags → ⊥) → result.status ≡ STATUS_UNKNOWN_FLAG }

@@ -4,7 +4,7 @@ ghost use Rattle.fancy_grammar.specs.Printable.{printable};
 ghost use Rattle.fancy_grammar.specs.Tree.{Tree};
 ghost use Rattle.fancy_c.specs.RowTree.{AreRowsOfTree};
 ghost use Rattle.fancy_c.specs.WrittenText.{IsText, NamesPrecedence};
-ghost use Rattle.fancy_c.specs.Calls.{Refuses, TakesOnly, WritesText};
+ghost use Rattle.fancy_c.specs.Calls.{RefusesNothing, TakesOnly, WritesText};
 
 use crate::built::tree_at;
 use crate::call_result::{
@@ -35,7 +35,7 @@ pub extern "C" fn fancy_print_nodes_nonnull(
     ensures no_pattern { result.status ≢ STATUS_NO_PATTERN }
     ensures precedence { TakesOnly (NamesPrecedence precedence) STATUS_UNKNOWN_PRECEDENCE result }
     ensures status { (result.status ≤ STATUS_NO_TREE) ⊎ (result.status ≡ STATUS_UNKNOWN_PRECEDENCE) }
-    ensures refusal { Refuses (λ _ _. ⊥) (λ _. ⊥) result }
+    ensures refusal { RefusesNothing result }
 {
     if !is_precedence(precedence) {
         return CallResult::of_status(STATUS_UNKNOWN_PRECEDENCE);

@@ -9,9 +9,9 @@ ghost use Rattle.fancy_syntax.specs.InfoViews.{info_of};
 ghost use Rattle.fancy_syntax.specs.TriviaViews.{trivia_of};
 ghost use Rattle.fancy_syntax.specs.View.{view};
 ghost use Rattle.fancy_c.specs.CallFlags.{AreFlags};
-ghost use Rattle.fancy_c.specs.CallResult.{IsTreeOfBytes, IsNoUtf8, IsRefusalOf};
+ghost use Rattle.fancy_c.specs.CallResult.{IsTreeOfBytes, IsRefusalOf};
 ghost use Rattle.fancy_c.specs.CallResult.{result_of};
-ghost use Rattle.fancy_c.specs.Calls.{IsErrorAt, Refuses, TakesOnly};
+ghost use Rattle.fancy_c.specs.Calls.{RefusesPattern, TakesOnly};
 ghost use Rattle.fancy_c.specs.InfoRows.{AreSpansOfBytes, AreSpansAsked};
 ghost use Rattle.fancy_c.specs.TriviumRows.{AreTriviaOfBytes};
 
@@ -185,7 +185,7 @@ pub(crate) fn read_trivia(
 pub extern "C" fn fancy_check_nonnull(alloc: Global, pattern: &[u8], flags: u32) -> CallResult
     ensures read { result.status ≡ STATUS_OK → (t : Tree) × (m : GroupInfo)
         × IsTreeOfBytes (flags_of flags) pattern.now t m }
-    ensures refusal { Refuses (IsErrorAt (flags_of flags) pattern.now) (IsNoUtf8 pattern.now) result }
+    ensures refusal { RefusesPattern (flags_of flags) pattern.now result }
     ensures flags { TakesOnly (AreFlags flags) STATUS_UNKNOWN_FLAG result }
     ensures status { (result.status ≤ STATUS_OUT_OF_MEMORY) ⊎ (result.status ≡ STATUS_UNKNOWN_FLAG) }
     ensures no_size { result.size ≡ 0 }

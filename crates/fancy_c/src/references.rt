@@ -5,8 +5,8 @@ ghost use Rattle.fancy_grammar.specs.GroupInfo.{GroupInfo};
 ghost use Rattle.fancy_grammar.specs.References.{are_resolved};
 ghost use Rattle.fancy_grammar.specs.Tree.{Tree};
 ghost use Rattle.fancy_c.specs.CallFlags.{AreFlags};
-ghost use Rattle.fancy_c.specs.CallResult.{IsTreeOfBytes, IsNoUtf8};
-ghost use Rattle.fancy_c.specs.Calls.{IsErrorAt, Refuses, TakesOnly};
+ghost use Rattle.fancy_c.specs.CallResult.{IsTreeOfBytes};
+ghost use Rattle.fancy_c.specs.Calls.{RefusesPattern, TakesOnly};
 
 use crate::call_flags::are_flags;
 use crate::call_result::{
@@ -25,7 +25,7 @@ pub extern "C" fn fancy_is_resolved_nonnull(alloc: Global, pattern: &[u8], flags
         × IsTreeOfBytes (flags_of flags) pattern.now t m × (are_resolved m.total_groups t ≡ true) }
     ensures unresolved { result.status ≡ STATUS_UNRESOLVED → (t : Tree) × (m : GroupInfo)
         × IsTreeOfBytes (flags_of flags) pattern.now t m × (are_resolved m.total_groups t ≡ false) }
-    ensures refusal { Refuses (IsErrorAt (flags_of flags) pattern.now) (IsNoUtf8 pattern.now) result }
+    ensures refusal { RefusesPattern (flags_of flags) pattern.now result }
     ensures flags { TakesOnly (AreFlags flags) STATUS_UNKNOWN_FLAG result }
     ensures status { (result.status ≤ STATUS_OUT_OF_MEMORY) ⊎ ((result.status ≡ STATUS_UNKNOWN_FLAG)
         ⊎ (result.status ≡ STATUS_UNRESOLVED)) }

@@ -2,8 +2,7 @@
 ghost use Rattle.std.specs.Prelude.{◌≡◌, ◌≢◌, ◌+◌, ◌≤◌, ◌⊎◌, chars, length};
 ghost use Rattle.std.specs.Str.{IsUtf8};
 ghost use Rattle.fancy_lex.specs.Text.{bytes};
-ghost use Rattle.fancy_c.specs.CallResult.{IsNoUtf8};
-ghost use Rattle.fancy_c.specs.Calls.{Refuses};
+ghost use Rattle.fancy_c.specs.Calls.{RefusesBytes};
 ghost use Rattle.fancy_c.specs.TextStart as spec;
 ghost use Rattle.fancy_c.specs.TextStart.{IsDecimalOf};
 
@@ -67,7 +66,7 @@ fn of_size(size: usize) -> CallResult
 #[unsafe(no_mangle)]
 pub extern "C" fn fancy_parse_id_nonnull(text: &[u8]) -> CallResult
     ensures read { result.status ≡ STATUS_OK → IsUtf8 text.now × (result.size ≡ spec.id_size (chars text.now)) }
-    ensures refusal { Refuses (λ _ _. ⊥) (IsNoUtf8 text.now) result }
+    ensures refusal { RefusesBytes text.now result }
     ensures status { (result.status ≡ STATUS_OK) ⊎ (result.status ≡ STATUS_NOT_UTF8) }
     ensures no_size { result.status ≢ STATUS_OK → result.size ≡ 0 }
 {
@@ -84,7 +83,7 @@ pub extern "C" fn fancy_parse_id_nonnull(text: &[u8]) -> CallResult
 pub extern "C" fn fancy_parse_decimal_nonnull(text: &[u8], value: &mut usize) -> CallResult
     ensures read { result.status ≡ STATUS_OK → IsUtf8 text.now
         × IsDecimalOf (chars text.now) result.size value.old value.new }
-    ensures refusal { Refuses (λ _ _. ⊥) (IsNoUtf8 text.now) result }
+    ensures refusal { RefusesBytes text.now result }
     ensures kept { result.status ≢ STATUS_OK → value.new ≡ value.old }
     ensures status { (result.status ≡ STATUS_OK) ⊎ (result.status ≡ STATUS_NOT_UTF8) }
     ensures no_size { result.status ≢ STATUS_OK → result.size ≡ 0 }

@@ -5,7 +5,7 @@ ghost use Rattle.fancy_grammar.specs.GroupInfo.{GroupInfo};
 ghost use Rattle.fancy_grammar.specs.Tree.{Tree};
 ghost use Rattle.fancy_syntax.specs.declared.span.Span.{Span};
 ghost use Rattle.fancy_c.specs.CallFlags.{AreTreeFlags};
-ghost use Rattle.fancy_c.specs.Calls.{KeepsTree, TakesOnly, WritesMessage};
+ghost use Rattle.fancy_c.specs.Calls.{TakesOnly, WritesMessage};
 ghost use Rattle.fancy_c.specs.InfoRows.{AreEnough, AreWritten, AreSpansAsked, IsSummaryOf};
 ghost use Rattle.fancy_c.specs.Node.{span_at};
 
@@ -48,8 +48,10 @@ pub extern "C" fn fancy_tree_nonnull(
         (length backrefs.old) →
         result.status ≡ STATUS_BUFFER_TOO_SHORT → result.kind ≢ ERROR_NONE }
     ensures message { WritesMessage (flags_of flags) pattern.now texts.old texts.new result }
-    ensures tree_kept { KeepsTree nodes.old nodes.new names.old names.new backrefs.old backrefs.new
-        info.old info.new result }
+    ensures nodes_kept { result.status ≢ STATUS_OK → nodes.new ≡ nodes.old }
+    ensures names_kept { result.status ≢ STATUS_OK → names.new ≡ names.old }
+    ensures backrefs_kept { result.status ≢ STATUS_OK → backrefs.new ≡ backrefs.old }
+    ensures info_kept { result.status ≢ STATUS_OK → result.status ≢ STATUS_BUFFER_TOO_SHORT → info.new ≡ info.old }
     ensures texts_kept { result.status ≢ STATUS_OK → result.status ≢ STATUS_REFUSED → texts.new ≡ texts.old }
     ensures info_without_tree { result.kind ≢ ERROR_NONE → info.new ≡ info.old }
     ensures flags { TakesOnly (AreTreeFlags flags) STATUS_UNKNOWN_FLAG result }

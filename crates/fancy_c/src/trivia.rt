@@ -5,8 +5,7 @@ ghost use Rattle.fancy_grammar.specs.Trivia as grammar;
 ghost use Rattle.fancy_syntax.specs.TriviaViews.{trivium_of};
 ghost use Rattle.fancy_c.specs.Buffer.{put_at, Fills};
 ghost use Rattle.fancy_c.specs.CallFlags.{AreFlags};
-ghost use Rattle.fancy_c.specs.CallResult.{IsNoUtf8};
-ghost use Rattle.fancy_c.specs.Calls.{IsErrorAt, Refuses, TakesOnly};
+ghost use Rattle.fancy_c.specs.Calls.{RefusesPattern, TakesOnly};
 ghost use Rattle.fancy_c.specs.TriviumRows as spec;
 ghost use Rattle.fancy_c.specs.TriviumRows.{AreTriviaOfBytes};
 
@@ -145,7 +144,7 @@ pub extern "C" fn fancy_trivia_nonnull(
     ensures short { result.status ≡ STATUS_BUFFER_TOO_SHORT → (l : List grammar.Trivium)
         × AreTriviaOfBytes (flags_of flags) pattern.now l × (count.new ≡ length l)
         × (length trivia.old < count.new) }
-    ensures refusal { Refuses (IsErrorAt (flags_of flags) pattern.now) (IsNoUtf8 pattern.now) result }
+    ensures refusal { RefusesPattern (flags_of flags) pattern.now result }
     ensures kept { result.status ≢ STATUS_OK → trivia.new ≡ trivia.old }
     ensures count_kept { result.status ≢ STATUS_OK → result.status ≢ STATUS_BUFFER_TOO_SHORT → count.new ≡ count.old }
     ensures flags { TakesOnly (AreFlags flags) STATUS_UNKNOWN_FLAG result }
