@@ -190,6 +190,17 @@ impl Assertion {
             _ => return None,
         })
     }
+
+    /// Whether CR is a line terminator too; false if the variant has no such field.
+    pub(crate) fn crlf(self) -> bool {
+        match self {
+            Assertion::EndTextIgnoreTrailingNewlines { crlf }
+            | Assertion::StartLine { crlf }
+            | Assertion::StartLineOniguruma { crlf }
+            | Assertion::EndLine { crlf } => crlf,
+            _ => false,
+        }
+    }
 }
 
 /// Which look-around a [`LookAround`](crate::Expr::LookAround) is.

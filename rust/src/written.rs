@@ -3,7 +3,7 @@
 use crate::call::{self, Extent, RowsIn, Text};
 use crate::ffi::{self, CallResult, Info, Name, Node};
 use crate::ranges::ranges_of_row;
-use crate::{numbers, Absent, AbsentKind, Assertion, AstNode, CaptureGroupTarget};
+use crate::{numbers, Absent, AbsentKind, AstNode, CaptureGroupTarget};
 use crate::{Error, Expr, Flags, GroupInfo, Precedence};
 use std::ops::RangeInclusive;
 
@@ -70,7 +70,7 @@ impl Written {
                 Node { newline: (*newline).into(), crlf: (*crlf).into(), ..row(numbers::NODE_ANY) }
             }
             Expr::Assertion(which) => {
-                Node { crlf: crlf(*which).into(), ..one_of(numbers::NODE_ASSERTION, which.number()) }
+                Node { crlf: which.crlf().into(), ..one_of(numbers::NODE_ASSERTION, which.number()) }
             }
             Expr::GeneralNewline { unicode } => {
                 Node { unicode: (*unicode).into(), ..row(numbers::NODE_GENERAL_NEWLINE) }
@@ -133,17 +133,6 @@ impl Written {
 
     fn rows(&self) -> RowsIn<'_> {
         RowsIn { nodes: &self.nodes, texts: &self.texts, index: 0 }
-    }
-}
-
-/// The `crlf` of an assertion, if it has one.
-fn crlf(which: Assertion) -> bool {
-    match which {
-        Assertion::EndTextIgnoreTrailingNewlines { crlf }
-        | Assertion::StartLine { crlf }
-        | Assertion::StartLineOniguruma { crlf }
-        | Assertion::EndLine { crlf } => crlf,
-        _ => false,
     }
 }
 

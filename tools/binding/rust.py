@@ -63,12 +63,16 @@ def which(group: Group) -> list:
         variants += [*said(it.doc), *body]
     to = [f"            {name}::{it.original}{' { .. }' if it.fields else ''} => numbers::{it.full_name}," for it in group.values]
     back = [f"            numbers::{it.full_name} => {name}::{it.original}{' { crlf }' if it.fields else ''}," for it in group.values]
+    having = "\n            | ".join(f"{name}::{it.original} {{ crlf }}" for it in group.values if it.fields)
+    field = ["", "    /// Whether CR is a line terminator too; false if the variant has no such field.", "    pub(crate) fn crlf(self) -> bool {"]
+    field += ["        match self {", f"            {having} => crlf,", "            _ => false,", "        }", "    }"]
     return [
         "", f"/// {group.given['rust']['doc']}", "#[derive(Debug, Clone, Copy, PartialEq, Eq)]", "#[non_exhaustive]",
         f"pub enum {name} {{", *variants, "}", "", f"impl {name} {{",
         "    pub(crate) fn number(self) -> u32 {", "        match self {", *to, "        }", "    }", "",
         f"    pub(crate) fn numbered(number: u32{', crlf: bool' if has_crlf else ''}) -> Option<{name}> {{",
-        "        Some(match number {", *back, "            _ => return None,", "        })", "    }", "}",
+        "        Some(match number {", *back, "            _ => return None,", "        })", "    }",
+        *(field if has_crlf else []), "}",
     ]  # fmt: skip
 
 
