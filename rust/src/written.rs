@@ -170,8 +170,7 @@ fn text_of(text: Text) -> Result<Option<String>, Error> {
 
 /// What the text of rows is written for.
 fn extent_of_rows(rows: RowsIn<'_>) -> Extent {
-    let end = rows.nodes.get(rows.index).map_or(0, |root| root.end);
-    let own = rows.nodes.get(rows.index..end).unwrap_or(&[]);
+    let own = rows.own();
     // those of other nodes may be many more
     let own_texts = own.iter().fold(0, |sum: usize, row| sum.saturating_add(row.text_size));
     let usual = own.len().saturating_mul(8).saturating_add(own_texts);
