@@ -14,6 +14,7 @@ import shutil
 import subprocess
 import sys
 import tempfile
+import unittest.mock
 import warnings
 
 import fancy
@@ -130,6 +131,17 @@ def are_trees_written(pattern, flags):
     )
 
 
+def are_parts_written(pattern, flags):
+    """Whether what is written for each node of a tree, as a tree of its own, is the same if all names are passed to the library."""
+    if fancy.check(pattern, flags) is not None:
+        return True
+    tree = fancy.parse(pattern, flags)
+    parts = [dataclasses.replace(tree, root=node) for node in tree.walk()]
+    texts = [part.to_pattern() for part in parts]
+    with unittest.mock.patch.object(fancy._Rows, "groups", lambda _: 2**64):
+        return texts == [part.to_pattern() for part in parts]
+
+
 def characters(call, *arguments):
     """The characters as they are recorded, and the position of an error."""
     try:
@@ -165,6 +177,7 @@ def is_recorded(row):
         is_same
         and are_spans_in_characters(pattern, flags)
         and are_trees_written(pattern, flags)
+        and are_parts_written(pattern, flags)
         and is_kept_by_a_style(pattern, flags)
     )
 

@@ -145,6 +145,34 @@ static bool is_part_alone(const tree *t, size_t index, size_t length, uint32_t f
     return is_right;
 }
 
+// Whether a part of a tree has the same text with the names of its own groups alone; also from its own rows alone, in which its first
+// group has the number 1.
+static bool is_part_named(const tree *t, size_t index, size_t length, uint32_t flags) {
+    size_t capacity = CAPACITY(length), size = t->nodes[index].end - index, before = 0, groups = 0, count = 0;
+    fancy_node *rows = malloc(size * sizeof *rows);
+    fancy_name *names = malloc((t->info.name_count + 1) * sizeof *names);
+    char *x = malloc(capacity), *y = malloc(capacity);
+    for (size_t i = 0; i < index; i++) before += t->nodes[i].kind == FANCY_NODE_GROUP;
+    for (size_t i = 0; i < size; i++) {
+        rows[i] = t->nodes[index + i], rows[i].end -= index;
+        groups += rows[i].kind == FANCY_NODE_GROUP;
+    }
+    for (size_t i = 0; i < t->info.name_count; i++)
+        if (before < t->names[i].group && t->names[i].group <= before + groups) names[count++] = t->names[i];
+    fancy_result wanted = write_rows(t, index, flags, x, capacity);
+    fancy_result got = fancy_to_pattern_nodes(t->nodes, t->info.node_count, t->texts, t->info.texts_size, index, names, count, &t->info,
+                                              flags, y, capacity);
+    bool is_right = is_same_text(got, y, wanted, x);
+    for (size_t i = 0; i < count; i++) names[i].group -= before;
+    got = fancy_to_pattern_nodes(rows, size, t->texts, t->info.texts_size, 0, names, count, &t->info, flags, y, capacity);
+    is_right = is_right && is_same_text(got, y, wanted, x);
+    free(rows);
+    free(names);
+    free(x);
+    free(y);
+    return is_right;
+}
+
 // Whether the part of a tree from an index on has texts, of which that of a pattern is parsed as this part.
 static bool is_part_written(const tree *t, size_t index, size_t length, uint32_t flags) {
     size_t capacity = CAPACITY(length);
@@ -215,7 +243,8 @@ static bool are_rows_right(const char *pattern, size_t length, uint32_t flags) {
     // of a long pattern some nodes
     size_t step = t.info.node_count / 64 + 1;
     for (size_t i = 0; is_right && i < t.info.node_count; i += step)
-        is_right = is_part_written(&t, i, length, flags) && is_part_alone(&t, i, length, flags) && is_damage_found(&t, i);
+        is_right = is_part_written(&t, i, length, flags) && is_part_alone(&t, i, length, flags) &&
+                   is_part_named(&t, i, length, flags) && is_damage_found(&t, i);
     release(&t);
     return is_right;
 }

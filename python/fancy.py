@@ -1082,9 +1082,15 @@ class _Rows:
         self.texts += text.encode() if isinstance(text, str) else text
         return {"text": start, "text_size": len(self.texts) - start}
 
+    def groups(self) -> int:
+        """How many of the rows are groups."""
+        return sum(row.kind == Group.number for row in self.nodes)
+
     def names(self, named: Mapping[str, Tuple[int, ...]]) -> ctypes.Array[_Name]:
-        pairs = [(name, number) for name, numbers in named.items() for number in numbers]
-        names = [_Name(group=_number(f"a group of the name {name!r}", it), **self.text(name)) for name, it in pairs]
+        # the library leaves out the names of groups that are not among the rows
+        most, pairs = self.groups(), ((name, number) for name, numbers in named.items() for number in numbers)
+        kept = [(name, it) for name, it in pairs if not most < operator.index(it) <= _UNBOUNDED]
+        names = [_Name(group=_number(f"a group of the name {name!r}", it), **self.text(name)) for name, it in kept]
         return (_Name * len(names))(*names)
 
     def row(self, node: Node) -> _Node:

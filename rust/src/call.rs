@@ -17,6 +17,14 @@ pub(crate) struct RowsIn<'a> {
     pub index: usize,
 }
 
+impl<'a> RowsIn<'a> {
+    /// The rows of the tree.
+    pub(crate) fn own(self) -> &'a [Node] {
+        let end = self.nodes.get(self.index).map_or(0, |root| root.end);
+        self.nodes.get(self.index..end).unwrap_or(&[])
+    }
+}
+
 /// What a text is written for, by which it is known how long the text can be.
 #[derive(Clone, Copy)]
 pub(crate) struct Extent {

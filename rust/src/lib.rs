@@ -51,6 +51,7 @@ mod kinds;
 mod node;
 mod numbers;
 mod owned;
+mod part;
 mod ranges;
 mod rows;
 mod structs;

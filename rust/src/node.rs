@@ -3,7 +3,7 @@
 use crate::ffi::Node;
 use crate::ranges::ranges_of_row;
 use crate::rows::MAX_LEVELS;
-use crate::written::{pattern_of_rows, print_rows};
+use crate::written::print_rows;
 use crate::{numbers, Absent, AbsentKind, Assertion, AstNode, BacktrackingControlVerb, CaptureGroupTarget};
 use crate::{Error, Expr, Flags, LookAround, Precedence, Rows, Span};
 use std::fmt;
@@ -233,8 +233,7 @@ impl<'a> NodeRef<'a> {
     /// # Ok::<(), fancy_syntax::Error>(())
     /// ```
     pub fn to_pattern(self, flags: Flags) -> Result<Option<String>, Error> {
-        let (names, info) = self.rows.names_and_info();
-        pattern_of_rows(self.rows.rows_from(self.index), names, info, flags)
+        self.rows.pattern_at(self.index, flags)
     }
 
     /// The characters that the node matches, as [`class_ranges`](crate::class_ranges) returns them; `None` unless it is a

@@ -4,12 +4,15 @@ use crate::call::{guessed, ready, reserve, RowsIn};
 use crate::checked::{self, Checker};
 use crate::ffi::{self, CallResult, Info, Name, Node};
 use crate::guess::Guess;
-use crate::node::{self, Kind, NodeRef};
+use crate::node::{self, Kind, NodeRef, Texts};
 use crate::owned::Builder;
+use crate::part::{by_group, pattern_of_part};
+use crate::written::pattern_of_rows;
 use crate::{numbers, Error, Expr, Flags, GroupInfo, Span, Tree};
 use std::cell::Cell;
 use std::collections::BTreeMap;
 use std::fmt;
+use std::sync::OnceLock;
 
 /// A tree has at most so many levels (`docs/proved.md`).
 pub(crate) const MAX_LEVELS: usize = 832;
@@ -37,6 +40,8 @@ pub struct Rows {
     backrefs: Vec<usize>,
     /// Its sizes are the lengths of the buffers.
     info: Info,
+    /// The names in the order of their groups, from when a part of the tree is first written.
+    by_group: OnceLock<Vec<Name>>,
 }
 
 /// A thread keeps the buffers of an owned tree for the next one, unless they have more bytes.
@@ -76,6 +81,7 @@ impl Rows {
             names: Vec::new(),
             backrefs: Vec::new(),
             info: Info::default(),
+            by_group: OnceLock::new(),
         };
         rows.clear();
         rows
@@ -160,7 +166,9 @@ impl Rows {
     }
 
     pub(crate) fn builder_at(&self, index: usize) -> Builder<'_> {
-        Builder::at(&self.nodes, &self.texts, index)
+        // for a part, the texts of the whole are not looked through
+        let texts = if index == 0 { Texts::of(&self.texts) } else { Texts::unread(&self.texts) };
+        Builder::at(&self.nodes, texts, index)
     }
 
     /// Writes a pattern that is parsed, under these flags, as this tree with its names; `None` if what is written is not, which
@@ -306,9 +314,27 @@ impl Rows {
         RowsIn { nodes: &self.nodes, texts: &self.texts, index }
     }
 
-    /// The rows of the names, and the group information, as the library takes them.
-    pub(crate) fn names_and_info(&self) -> (&[Name], &Info) {
-        (&self.names, &self.info)
+    /// Writes a pattern for the node with an index and its descendants.
+    pub(crate) fn pattern_at(&self, index: usize, flags: Flags) -> Result<Option<String>, Error> {
+        match index {
+            0 => self.pattern_with_all_names(0, flags),
+            _ => pattern_of_part(self.rows_from(index), self.names_by_group()?, &self.info, flags),
+        }
+    }
+
+    /// The same text, by a call that reads all names, and all rows before those of the node.
+    pub(crate) fn pattern_with_all_names(&self, index: usize, flags: Flags) -> Result<Option<String>, Error> {
+        pattern_of_rows(self.rows_from(index), &self.names, &self.info, flags)
+    }
+
+    fn names_by_group(&self) -> Result<&[Name], Error> {
+        match self.by_group.get() {
+            Some(names) => Ok(names),
+            None => {
+                let names = by_group(&self.names)?;
+                Ok(self.by_group.get_or_init(|| names))
+            }
+        }
     }
 
     pub(crate) fn texts(&self) -> &[u8] {
@@ -326,6 +352,7 @@ impl Rows {
         self.texts.clear();
         self.names.clear();
         self.backrefs.clear();
+        self.by_group.take();
         self.info = Info { node_count: 1, ..Info::default() };
     }
 
@@ -368,6 +395,7 @@ impl Rows {
 
     fn call(&mut self, pattern: &str, bits: u32) -> CallResult {
         self.info = Info::default();
+        self.by_group.take();
         let Rows { nodes, texts, names, backrefs, info, .. } = self;
         ffi::tree(pattern, bits, nodes, texts, names, backrefs, info)
     }
@@ -445,6 +473,7 @@ mod tests {
             names: Vec::with_capacity(names),
             backrefs: Vec::with_capacity(backrefs),
             info: Info::default(),
+            by_group: OnceLock::new(),
         };
         rows.write(pattern, Flags::UNICODE.bits())?;
         rows.check(pattern)?;

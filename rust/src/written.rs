@@ -47,11 +47,16 @@ impl Written {
         Ok(written)
     }
 
+    /// Adds the names of groups that are in the tree. The library leaves out the others.
     fn add_names(&mut self, groups: &GroupInfo) {
+        let most = self.nodes.iter().filter(|row| row.kind == numbers::NODE_GROUP).count();
         for (name, numbers) in &groups.named_groups {
-            let text = self.texts.len();
-            self.texts.extend(name.as_bytes());
-            self.names.extend(numbers.iter().map(|&group| Name { text, text_size: name.len(), group }));
+            let (text, before) = (self.texts.len(), self.names.len());
+            let row = |&group: &usize| (group <= most).then_some(Name { text, text_size: name.len(), group });
+            self.names.extend(numbers.iter().filter_map(row));
+            if self.names.len() > before {
+                self.texts.extend(name.as_bytes());
+            }
         }
     }
 
@@ -159,8 +164,7 @@ fn text_of(text: Text) -> Result<Option<String>, Error> {
 
 /// What the text of rows is written for.
 fn extent_of_rows(rows: RowsIn<'_>) -> Extent {
-    let end = rows.nodes.get(rows.index).map_or(0, |root| root.end);
-    let own = rows.nodes.get(rows.index..end).unwrap_or(&[]);
+    let own = rows.own();
     // those of other nodes may be many more
     let own_texts = own.iter().fold(0, |sum: usize, row| sum.saturating_add(row.text_size));
     let usual = own.len().saturating_mul(8).saturating_add(own_texts);
