@@ -9,29 +9,30 @@ pub(crate) type Wrong = &'static str;
 
 const NO_TREE: Wrong = "nodes that are no tree";
 
-/// Checks the rows of a tree from the first to the last.
-pub(crate) struct Checker<'a> {
+/// Checks the rows of a tree from the first to the last, and shows each to what takes it.
+pub(crate) struct Checker<'a, F> {
     nodes: &'a [Node],
     texts: Texts<'a>,
-    pattern: &'a str,
+    /// Takes a row whose text is a text. Its end is not yet checked.
+    take: F,
     /// The index of the next row.
     next: usize,
 }
 
-impl<'a> Checker<'a> {
-    pub(crate) fn of(nodes: &'a [Node], texts: &'a [u8], pattern: &'a str) -> Checker<'a> {
-        Checker { nodes, texts: Texts::of(texts), pattern, next: 0 }
+impl<'a, F: FnMut(&Node) -> Result<(), Wrong>> Checker<'a, F> {
+    pub(crate) fn of(nodes: &'a [Node], texts: Texts<'a>, take: F) -> Checker<'a, F> {
+        Checker { nodes, texts, take, next: 0 }
     }
 
-    /// Checks that the next rows up to an index are trees with at most so many levels, that their texts are texts, and their
-    /// spans parts of the pattern. Returns how many trees there are.
+    /// Checks that the next rows up to an index are trees with at most so many levels, and that their texts are texts. Returns
+    /// how many trees there are.
     pub(crate) fn trees(&mut self, end: usize, levels: usize) -> Result<usize, Wrong> {
         let mut trees = 0;
         while self.next < end {
             let row = self.nodes.get(self.next).ok_or(NO_TREE)?;
             let below = levels.checked_sub(1).ok_or(NO_TREE)?;
             let kind = Kind::read(row, self.texts).ok_or("a node with a text that is not UTF-8")?;
-            span(row, self.pattern)?;
+            (self.take)(row)?;
             self.next += 1;
             let children = if self.next == row.end { 0 } else { self.trees(row.end, below)? };
             if self.next != row.end || !kind.takes(children) {

@@ -13,8 +13,8 @@ pub(crate) struct Builder<'a> {
 }
 
 impl<'a> Builder<'a> {
-    pub(crate) fn at(nodes: &'a [Node], texts: &'a [u8], index: usize) -> Builder<'a> {
-        Builder { nodes, texts: Texts::of(texts), next: index }
+    pub(crate) fn at(nodes: &'a [Node], texts: Texts<'a>, index: usize) -> Builder<'a> {
+        Builder { nodes, texts, next: index }
     }
 
     /// The tree of the next rows, with at most so many levels; `None` if they are no tree.
