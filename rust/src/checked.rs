@@ -2,18 +2,19 @@
 
 use crate::ffi::Node;
 use crate::node::{Kind, Texts};
-use crate::Span;
+use crate::{numbers, Span};
 
 /// What is wrong with rows, in words.
 pub(crate) type Wrong = &'static str;
 
 const NO_TREE: Wrong = "nodes that are no tree";
+const NO_TEXT: Wrong = "a node with a text that is not UTF-8";
 
 /// Checks the rows of a tree from the first to the last, and shows each to what takes it.
 pub(crate) struct Checker<'a, F> {
     nodes: &'a [Node],
     texts: Texts<'a>,
-    /// Takes a row whose text is a text. Its end is not yet checked.
+    /// Takes each row before it is checked.
     take: F,
     /// The index of the next row.
     next: usize,
@@ -27,20 +28,32 @@ impl<'a, F: FnMut(&Node) -> Result<(), Wrong>> Checker<'a, F> {
     /// Checks that the next rows up to an index are trees with at most so many levels, and that their texts are texts. Returns
     /// how many trees there are.
     pub(crate) fn trees(&mut self, end: usize, levels: usize) -> Result<usize, Wrong> {
+        let below = levels.checked_sub(1).ok_or(NO_TREE)?;
         let mut trees = 0;
         while self.next < end {
             let row = self.nodes.get(self.next).ok_or(NO_TREE)?;
-            let below = levels.checked_sub(1).ok_or(NO_TREE)?;
-            let kind = Kind::read(row, self.texts).ok_or("a node with a text that is not UTF-8")?;
             (self.take)(row)?;
             self.next += 1;
-            let children = if self.next == row.end { 0 } else { self.trees(row.end, below)? };
-            if self.next != row.end || !kind.takes(children) {
+            let is_tree = match row.kind {
+                // as most nodes are
+                numbers::NODE_LITERAL | numbers::NODE_DELEGATE => {
+                    self.texts.text(row).map(|_| row.end == self.next).ok_or(NO_TEXT)?
+                }
+                _ => self.is_tree(row, below)?,
+            };
+            if !is_tree {
                 return Err(NO_TREE);
             }
             trees += 1;
         }
         Ok(trees)
+    }
+
+    /// Checks the rows below one, and whether they are as many trees as it takes.
+    fn is_tree(&mut self, row: &Node, levels: usize) -> Result<bool, Wrong> {
+        let kind = Kind::read(row, self.texts).ok_or(NO_TEXT)?;
+        let children = if self.next == row.end { 0 } else { self.trees(row.end, levels)? };
+        Ok(self.next == row.end && kind.takes(children))
     }
 }
 

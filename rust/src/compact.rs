@@ -46,7 +46,7 @@ pub struct CompactTree {
 struct Packed {
     kind: u8,
     which: u8,
-    /// Its bools, in the order of a row.
+    /// The bools that a node of its kind has, in the order of a row.
     bools: u8,
     /// Whether `first` is the index of its content in `wide`.
     is_wide: bool,
@@ -66,6 +66,7 @@ struct Content {
 }
 
 /// What the two numbers of a node are.
+#[derive(Clone, Copy)]
 enum Numbers {
     /// Where its text begins, and how long it is.
     Text,
@@ -73,14 +74,18 @@ enum Numbers {
     Bounds,
     /// The number of a group and a level.
     Group,
-    Nothing,
+    None,
 }
 
 impl Numbers {
     #[inline(always)]
     fn of(kind: u32, which: u32) -> Numbers {
+        // as most nodes are
+        if kind == numbers::NODE_LITERAL || kind == numbers::NODE_DELEGATE {
+            return Numbers::Text;
+        }
         match kind {
-            numbers::NODE_LITERAL | numbers::NODE_LITERAL_BYTES | numbers::NODE_DELEGATE => Numbers::Text,
+            numbers::NODE_LITERAL_BYTES => Numbers::Text,
             numbers::NODE_REPEAT => Numbers::Bounds,
             numbers::NODE_GROUP
             | numbers::NODE_BACKREF
@@ -89,37 +94,34 @@ impl Numbers {
             | numbers::NODE_SUBROUTINE_CALL => Numbers::Group,
             numbers::NODE_AST_NODE if which == numbers::TARGET_BY_NAME => Numbers::Text,
             numbers::NODE_AST_NODE => Numbers::Group,
-            _ => Numbers::Nothing,
+            _ => Numbers::None,
         }
     }
 }
 
 impl Content {
+    /// What is in a row, and the bools that a node with such numbers has, each a bit.
     #[inline(always)]
-    fn of(row: &Node) -> Content {
-        let (first, second) = match Numbers::of(row.kind, row.which) {
-            Numbers::Text => (row.text, row.text_size as isize),
-            Numbers::Bounds => (row.lo, row.hi as isize),
-            Numbers::Group => (row.group, row.level),
-            Numbers::Nothing => (0, 0),
+    fn of(row: &Node) -> (Content, u8) {
+        let bit = |value: u8, bit: u8| u8::from(value != 0) << bit;
+        let (first, second, bools) = match Numbers::of(row.kind, row.which) {
+            Numbers::Text => (row.text, row.text_size as isize, bit(row.casei, 3)),
+            Numbers::Bounds => (row.lo, row.hi as isize, bit(row.greedy, 4)),
+            Numbers::Group => (row.group, row.level, bit(row.casei, 3) | bit(row.has_level, 5)),
+            Numbers::None => (0, 0, bit(row.newline, 0) | bit(row.crlf, 1) | bit(row.unicode, 2)),
         };
-        Content { first, second, position: row.position }
+        (Content { first, second, position: row.position }, bools)
     }
 }
 
 impl Packed {
-    /// The node of a row that was checked, but for its end.
+    /// The node of a row. It is one only if the row is checked.
     #[inline(always)]
     fn of(row: &Node, wide: &mut Vec<Content>) -> Packed {
-        let bools = [row.newline, row.crlf, row.unicode, row.casei, row.greedy, row.has_level];
-        let bools = bools.iter().rev().fold(0, |bits, it| bits << 1 | u8::from(*it != 0));
-        let content = Content::of(row);
+        let (content, bools) = Content::of(row);
         let (first, second, is_wide) = match (u32::try_from(content.first), i32::try_from(content.second)) {
             (Ok(first), Ok(second)) if content.position == 0 => (first, second, false),
-            _ => {
-                wide.push(content);
-                (wide.len() as u32 - 1, 0, true)
-            }
+            _ => (keep(content, wide), 0, true),
         };
         Packed { kind: row.kind as u8, which: row.which as u8, bools, is_wide, end: row.end as u32, first, second }
     }
@@ -269,10 +271,9 @@ impl CompactTree {
         self.spans.get(index).map_or(0..0, |[start, end]| *start as usize..*end as usize)
     }
 
-    /// The number of a node that is a group.
-    pub(crate) fn group(&self, index: usize) -> Option<usize> {
-        let node = self.nodes[index];
-        (u32::from(node.kind) == numbers::NODE_GROUP).then(|| node.content(&self.wide).first)
+    /// A part of the texts.
+    pub(crate) fn string(&self, part: Span) -> Option<&str> {
+        self.texts.get(part)
     }
 
     /// The row of a node, without its span.
@@ -298,7 +299,7 @@ impl CompactTree {
             Numbers::Text => (row.text, row.text_size) = (first, second as usize),
             Numbers::Bounds => (row.lo, row.hi) = (first, second as usize),
             Numbers::Group => (row.group, row.level) = (first, second),
-            Numbers::Nothing => {}
+            Numbers::None => {}
         }
         row
     }
@@ -316,6 +317,13 @@ impl CompactTree {
         written.add_names(&self.groups);
         written
     }
+}
+
+/// The index at which a content is kept.
+#[cold]
+fn keep(content: Content, wide: &mut Vec<Content>) -> u32 {
+    wide.push(content);
+    wide.len() as u32 - 1
 }
 
 /// The texts of rows as a string, and as bytes if these have others; `None` if a text is not UTF-8. What the rows say of their

@@ -109,6 +109,15 @@ impl<'a> NodeRef<'a> {
         NodeRef { tree: In::Compact(tree), index }
     }
 
+    /// The row of the node. In a compact tree it has no span.
+    #[inline(always)]
+    fn row(self) -> Node {
+        match self.tree {
+            In::Rows(rows) => *rows.node(self.index),
+            In::Compact(tree) => tree.row(self.index),
+        }
+    }
+
     /// What the node is, with its fields.
     ///
     /// ```
@@ -202,13 +211,8 @@ impl<'a> NodeRef<'a> {
     /// # Ok::<(), fancy_syntax::Error>(())
     /// ```
     pub fn group(self) -> Option<usize> {
-        match self.tree {
-            In::Rows(rows) => {
-                let row = rows.node(self.index);
-                (row.kind == numbers::NODE_GROUP).then_some(row.group)
-            }
-            In::Compact(tree) => tree.group(self.index),
-        }
+        let row = self.row();
+        (row.kind == numbers::NODE_GROUP).then_some(row.group)
     }
 
     /// The children of the node, in the order of the pattern.
@@ -306,10 +310,11 @@ impl<'a> NodeRef<'a> {
     /// # Ok::<(), fancy_syntax::Error>(())
     /// ```
     pub fn character_ranges(self, flags: Flags) -> Result<Option<Vec<RangeInclusive<char>>>, Error> {
-        match self.tree {
-            In::Rows(rows) => ranges_of_row(rows.node(self.index), rows.texts(), flags),
-            In::Compact(tree) => ranges_of_row(&tree.row(self.index), tree.bytes(), flags),
-        }
+        let texts = match self.tree {
+            In::Rows(rows) => rows.texts(),
+            In::Compact(tree) => tree.bytes(),
+        };
+        ranges_of_row(&self.row(), texts, flags)
     }
 
     /// The node and its descendants as an owned tree.
@@ -334,6 +339,53 @@ impl<'a> NodeRef<'a> {
 impl fmt::Debug for NodeRef<'_> {
     fn fmt(&self, f: &mut fmt::Formatter<'_>) -> fmt::Result {
         write!(f, "{:?} at {:?}", self.kind(), self.span())
+    }
+}
+
+impl<'a> Children<'a> {
+    /// The text of the literals that come next and have the same `casei`, with this `casei`. The iterator goes on after them. `None`
+    /// if the next child is something else; then it stays where it is.
+    ///
+    /// ```
+    /// use fancy_syntax::{CompactTree, Flags, Kind, NodeRef};
+    /// let tree = CompactTree::parse("ab(c)", Flags::UNICODE)?;
+    /// let mut children = tree.root().children();
+    /// assert_eq!(children.next_literals(), Some(("ab", false)));
+    /// assert_eq!(children.next_literals(), None);
+    /// assert_eq!(children.next().map(NodeRef::kind), Some(Kind::Group));
+    /// # Ok::<(), fancy_syntax::Error>(())
+    /// ```
+    pub fn next_literals(&mut self) -> Option<(&'a str, bool)> {
+        let (mut texts, casei) = self.literal()?;
+        self.next();
+        while let Some((more, true)) = self.literal().map(|(more, other)| (more, other == casei)) {
+            // as they always are in libfancy
+            if more.start != texts.end {
+                break;
+            }
+            texts.end = more.end;
+            self.next();
+        }
+        Some((self.next.tree.text(texts)?, casei))
+    }
+
+    /// Where the text of the next child is, and its `casei`, if it is a literal.
+    fn literal(&self) -> Option<(Span, bool)> {
+        if self.next.index >= self.end {
+            return None;
+        }
+        let row = self.next.row();
+        (row.kind == numbers::NODE_LITERAL).then(|| (row.text..row.text + row.text_size, row.casei != 0))
+    }
+}
+
+impl<'a> In<'a> {
+    /// A part of the texts.
+    fn text(self, part: Span) -> Option<&'a str> {
+        match self {
+            In::Rows(rows) => std::str::from_utf8(rows.texts().get(part)?).ok(),
+            In::Compact(tree) => tree.string(part),
+        }
     }
 }
 
@@ -500,7 +552,7 @@ impl<'a> Texts<'a> {
     }
 
     #[inline(always)]
-    fn text(self, row: &Node) -> Option<&'a str> {
+    pub(crate) fn text(self, row: &Node) -> Option<&'a str> {
         match self.text {
             Some(text) => text.get(row.text..row.text.checked_add(row.text_size)?),
             None => std::str::from_utf8(self.bytes(row)?).ok(),

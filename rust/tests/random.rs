@@ -6,7 +6,7 @@ mod common;
 use common::*;
 use fancy_syntax::{
     check, format_pattern, parse, parse_without_spans, print, to_pattern, trivia, AstNode, CompactTree, Error, Expr,
-    Flags, NodeRef, Precedence, Rows, Style, Tree,
+    Flags, Kind, NodeRef, Precedence, Rows, Style, Tree,
 };
 use std::fs::File;
 use std::io::{BufWriter, Write};
@@ -208,6 +208,29 @@ fn check_rows(rows: &Rows, flags: Flags, tree: &Tree) {
     assert_eq!(rows.to_pattern(flags), tree.to_pattern(flags));
 }
 
+/// Checks that the literals among the children of a node are the same text one by one and together.
+fn check_literals(node: NodeRef<'_>) {
+    let each = node.children().filter_map(|child| match child.kind() {
+        Kind::Literal { val, casei } => Some((val, casei)),
+        _ => None,
+    });
+    let mut together = Vec::new();
+    let mut children = node.children();
+    loop {
+        match children.next_literals() {
+            Some((text, casei)) => together.extend(text.chars().map(|c| (c, casei))),
+            None if children.next().is_none() => break,
+            None => {}
+        }
+    }
+    assert!(each.map(|(val, casei)| (val.parse().unwrap(), casei)).eq(together));
+    // after a run is something else, or another `casei`
+    if let Some((text, casei)) = node.children().next_literals() {
+        let after = node.children().nth(text.chars().count()).map(NodeRef::kind);
+        assert!(!matches!(after, Some(Kind::Literal { casei: other, .. }) if other == casei));
+    }
+}
+
 /// Checks that a compact tree has the nodes of the rows, each with the same texts and the same owned tree.
 fn check_compact(compact: &CompactTree, rows: &Rows, flags: Flags, tree: &Tree) {
     assert_eq!((compact, &compact.to_tree()), (&compact.clone(), tree));
@@ -217,6 +240,8 @@ fn check_compact(compact: &CompactTree, rows: &Rows, flags: Flags, tree: &Tree) 
     for (node, row) in compact.root().walk().zip(rows.root().walk()) {
         assert_eq!((node.kind(), node.span(), node.group()), (row.kind(), row.span(), row.group()));
         assert_eq!((node.index(), node.end(), indices(node)), (row.index(), row.end(), indices(row)));
+        check_literals(node);
+        check_literals(row);
         assert_eq!(node.to_expr(), row.to_expr());
         assert_eq!(node.print(Precedence::Piece), row.print(Precedence::Piece));
         assert_eq!(node.to_pattern(flags), row.to_pattern(flags));

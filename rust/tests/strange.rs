@@ -23,8 +23,11 @@ fn look(root: NodeRef<'_>, tree: Tree, pattern: &str) {
     for node in root.walk() {
         assert!(node.text(pattern).is_some());
         assert!(node.children().all(|child| child.index() > node.index()));
-        let _ =
-            (node.print(Precedence::Branch), node.to_pattern(Flags::UNICODE), node.character_ranges(Flags::UNICODE));
+        let _ = node.children().next_literals();
+    }
+    for node in root.walk().take(2) {
+        let _ = node.print(Precedence::Branch);
+        let _ = (node.to_pattern(Flags::UNICODE), node.character_ranges(Flags::UNICODE));
     }
     assert_eq!(tree, tree.clone());
     assert_eq!(tree.walk().count(), root.walk().len());
