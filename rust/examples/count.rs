@@ -1,6 +1,6 @@
 //! Does one thing with each pattern of a corpus, so that its cost can be counted: `count MODE FILE`, where a line of the file begins with flags and a
 //! pattern in hexadecimal, as in `crates/conformance/data`. `tools/speed rust` runs it. What is returned is dropped, except in the modes whose names
-//! begin with `kept`. It writes how many patterns are valid; in the mode `accepts` it writes a line for each pattern instead, 1 if it is valid.
+//! begin with `kept`. It writes how many patterns are valid; in the mode `accepts` it writes 1 or 0 for each pattern.
 use fancy_syntax::{check, parse, parse_without_spans, CompactTree, Flags, Rows};
 
 #[path = "../src/numbers.rs"]

@@ -2,6 +2,7 @@
 
 use crate::ffi::Node;
 use crate::node::{Kind, Texts};
+use crate::rows::MAX_LEVELS;
 use crate::{numbers, Span};
 
 /// What is wrong with rows, in words.
@@ -9,30 +10,28 @@ pub(crate) type Wrong = &'static str;
 
 const NO_TREE: Wrong = "nodes that are no tree";
 const NO_TEXT: Wrong = "a node with a text that is not UTF-8";
+const NO_SPAN: Wrong = "a span that is no part of the pattern";
 
-/// Checks the rows of a tree from the first to the last, and shows each to what takes it.
-pub(crate) struct Checker<'a, F> {
+/// Checks that rows are a tree and their texts are texts, but not their spans.
+pub(crate) fn check_tree(nodes: &[Node], texts: Texts<'_>) -> Result<(), Wrong> {
+    Checker { nodes, texts, next: 0 }.trees(nodes.len(), MAX_LEVELS).map(drop)
+}
+
+/// Checks the rows of a tree from the first to the last.
+struct Checker<'a> {
     nodes: &'a [Node],
     texts: Texts<'a>,
-    /// Takes each row before it is checked.
-    take: F,
     /// The index of the next row.
     next: usize,
 }
 
-impl<'a, F: FnMut(&Node) -> Result<(), Wrong>> Checker<'a, F> {
-    pub(crate) fn of(nodes: &'a [Node], texts: Texts<'a>, take: F) -> Checker<'a, F> {
-        Checker { nodes, texts, take, next: 0 }
-    }
-
-    /// Checks that the next rows up to an index are trees with at most so many levels, and that their texts are texts. Returns
-    /// how many trees there are.
-    pub(crate) fn trees(&mut self, end: usize, levels: usize) -> Result<usize, Wrong> {
+impl Checker<'_> {
+    /// Checks that the next rows up to an index are trees with at most so many levels. Returns how many trees there are.
+    fn trees(&mut self, end: usize, levels: usize) -> Result<usize, Wrong> {
         let below = levels.checked_sub(1).ok_or(NO_TREE)?;
         let mut trees = 0;
         while self.next < end {
             let row = self.nodes.get(self.next).ok_or(NO_TREE)?;
-            (self.take)(row)?;
             self.next += 1;
             let is_tree = match row.kind {
                 // as most nodes are
@@ -57,10 +56,14 @@ impl<'a, F: FnMut(&Node) -> Result<(), Wrong>> Checker<'a, F> {
     }
 }
 
-/// The span of a node, if it is a part of the pattern.
-pub(crate) fn span(row: &Node, pattern: &str) -> Result<Span, Wrong> {
-    match pattern.get(row.start..row.stop) {
-        Some(_) => Ok(row.start..row.stop),
-        None => Err("a span that is no part of the pattern"),
-    }
+/// The span of each row, as it is kept, if all are parts of the pattern.
+pub(crate) fn spans<T>(rows: &[Node], pattern: &str, kept: impl Fn(Span) -> T) -> Result<Vec<T>, Wrong> {
+    check_spans(rows, pattern)?;
+    Ok(rows.iter().map(|row| kept(row.start..row.stop)).collect())
+}
+
+/// Checks that the span of each row is a part of the pattern.
+pub(crate) fn check_spans(rows: &[Node], pattern: &str) -> Result<(), Wrong> {
+    let are_parts = rows.iter().all(|row| pattern.get(row.start..row.stop).is_some());
+    are_parts.then_some(()).ok_or(NO_SPAN)
 }

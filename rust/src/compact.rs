@@ -1,10 +1,10 @@
 //! Owned trees in a few allocations.
 
 use crate::call::RowsIn;
-use crate::checked::{self, Checker, Wrong};
+use crate::checked::{self, Wrong};
 use crate::ffi::Node;
 use crate::node::{NodeRef, Texts};
-use crate::rows::{with_kept, MAX_LEVELS};
+use crate::rows::with_kept;
 use crate::written::Written;
 use crate::{numbers, Error, Flags, GroupInfo, Span, Tree};
 use std::fmt;
@@ -115,13 +115,13 @@ impl Content {
 }
 
 impl Packed {
-    /// The node of a row. It is one only if the row is checked.
+    /// The node of a row that was checked.
     #[inline(always)]
     fn of(row: &Node, wide: &mut Vec<Content>) -> Packed {
         let (content, bools) = Content::of(row);
         let (first, second, is_wide) = match (u32::try_from(content.first), i32::try_from(content.second)) {
             (Ok(first), Ok(second)) if content.position == 0 => (first, second, false),
-            _ => (keep(content, wide), 0, true),
+            _ => (keep(row, wide), 0, true),
         };
         Packed { kind: row.kind as u8, which: row.which as u8, bools, is_wide, end: row.end as u32, first, second }
     }
@@ -235,19 +235,11 @@ impl CompactTree {
     ) -> Result<CompactTree, Wrong> {
         let (texts, bytes) = apart(rows).ok_or("a text that is not UTF-8")?;
         let mut tree = CompactTree { nodes: Vec::new(), texts, bytes, spans: Vec::new(), wide: Vec::new(), groups };
-        let mut nodes = Vec::with_capacity(rows.nodes.len());
-        let mut spans = Vec::with_capacity(if has_spans { rows.nodes.len() } else { 0 });
-        let mut wide = Vec::new();
-        let take = |row: &Node| {
-            nodes.push(Packed::of(row, &mut wide));
-            if has_spans {
-                let span = checked::span(row, pattern)?;
-                spans.push([span.start as u32, span.end as u32]);
-            }
-            Ok(())
-        };
-        Checker::of(rows.nodes, tree.texts(), take).trees(rows.nodes.len(), MAX_LEVELS)?;
-        (tree.nodes, tree.spans, tree.wide) = (nodes, spans, wide);
+        checked::check_tree(rows.nodes, tree.texts())?;
+        if has_spans {
+            tree.spans = checked::spans(rows.nodes, pattern, |span| [span.start as u32, span.end as u32])?;
+        }
+        tree.nodes = rows.nodes.iter().map(|row| Packed::of(row, &mut tree.wide)).collect();
         Ok(tree)
     }
 
@@ -319,10 +311,10 @@ impl CompactTree {
     }
 }
 
-/// The index at which a content is kept.
+/// The index at which the content of a row is kept.
 #[cold]
-fn keep(content: Content, wide: &mut Vec<Content>) -> u32 {
-    wide.push(content);
+fn keep(row: &Node, wide: &mut Vec<Content>) -> u32 {
+    wide.push(Content::of(row).0);
     wide.len() as u32 - 1
 }
 

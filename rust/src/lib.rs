@@ -79,7 +79,7 @@ use call::{Extent, Text};
 use ffi::CallResult;
 use rows::with_kept;
 
-/// Parses a pattern under flags.
+/// Parses a pattern under flags. [`CompactTree::parse`] is cheaper, for a tree that is not to be changed.
 ///
 /// # Errors
 ///

@@ -15,13 +15,13 @@ use std::ops::RangeInclusive;
 /// text or ranges allocates.
 #[derive(Clone, Copy)]
 pub struct NodeRef<'a> {
-    tree: In<'a>,
+    tree: Source<'a>,
     index: usize,
 }
 
 /// What a node is in.
 #[derive(Clone, Copy)]
-enum In<'a> {
+enum Source<'a> {
     Rows(&'a Rows),
     Compact(&'a CompactTree),
 }
@@ -102,19 +102,19 @@ pub struct Children<'a> {
 
 impl<'a> NodeRef<'a> {
     pub(crate) fn of_rows(rows: &'a Rows, index: usize) -> NodeRef<'a> {
-        NodeRef { tree: In::Rows(rows), index }
+        NodeRef { tree: Source::Rows(rows), index }
     }
 
     pub(crate) fn of_compact(tree: &'a CompactTree, index: usize) -> NodeRef<'a> {
-        NodeRef { tree: In::Compact(tree), index }
+        NodeRef { tree: Source::Compact(tree), index }
     }
 
     /// The row of the node. In a compact tree it has no span.
     #[inline(always)]
     fn row(self) -> Node {
         match self.tree {
-            In::Rows(rows) => *rows.node(self.index),
-            In::Compact(tree) => tree.row(self.index),
+            Source::Rows(rows) => *rows.node(self.index),
+            Source::Compact(tree) => tree.row(self.index),
         }
     }
 
@@ -129,8 +129,8 @@ impl<'a> NodeRef<'a> {
     /// ```
     pub fn kind(self) -> Kind<'a> {
         let kind = match self.tree {
-            In::Rows(rows) => Kind::read(rows.node(self.index), Texts::unread(rows.texts())),
-            In::Compact(tree) => Kind::read(&tree.row(self.index), tree.texts()),
+            Source::Rows(rows) => Kind::read(rows.node(self.index), Texts::unread(rows.texts())),
+            Source::Compact(tree) => Kind::read(&tree.row(self.index), tree.texts()),
         };
         // every row was read once when the pattern was parsed
         kind.unwrap_or(Kind::Empty)
@@ -148,8 +148,8 @@ impl<'a> NodeRef<'a> {
     /// ```
     pub fn span(self) -> Span {
         match self.tree {
-            In::Rows(rows) => rows.node(self.index).start..rows.node(self.index).stop,
-            In::Compact(tree) => tree.span(self.index),
+            Source::Rows(rows) => rows.node(self.index).start..rows.node(self.index).stop,
+            Source::Compact(tree) => tree.span(self.index),
         }
     }
 
@@ -195,8 +195,8 @@ impl<'a> NodeRef<'a> {
     /// ```
     pub fn end(self) -> usize {
         match self.tree {
-            In::Rows(rows) => rows.node(self.index).end,
-            In::Compact(tree) => tree.end(self.index),
+            Source::Rows(rows) => rows.node(self.index).end,
+            Source::Compact(tree) => tree.end(self.index),
         }
     }
 
@@ -258,8 +258,8 @@ impl<'a> NodeRef<'a> {
     /// ```
     pub fn print(self, precedence: Precedence) -> Result<Option<String>, Error> {
         match self.tree {
-            In::Rows(rows) => print_rows(rows.rows_from(self.index), precedence),
-            In::Compact(tree) => {
+            Source::Rows(rows) => print_rows(rows.rows_from(self.index), precedence),
+            Source::Compact(tree) => {
                 let nodes = &tree.rows_of(self.index);
                 print_rows(RowsIn { nodes, texts: tree.bytes(), index: 0 }, precedence)
             }
@@ -283,12 +283,12 @@ impl<'a> NodeRef<'a> {
     /// ```
     pub fn to_pattern(self, flags: Flags) -> Result<Option<String>, Error> {
         match self.tree {
-            In::Rows(rows) => {
+            Source::Rows(rows) => {
                 let (names, info) = rows.names_and_info();
                 pattern_of_rows(rows.rows_from(self.index), names, info, flags)
             }
             // in a part of the rows groups would have other numbers
-            In::Compact(tree) => tree.written().to_pattern(self.index, tree.groups(), flags),
+            Source::Compact(tree) => tree.written().to_pattern(self.index, tree.groups(), flags),
         }
     }
 
@@ -311,8 +311,8 @@ impl<'a> NodeRef<'a> {
     /// ```
     pub fn character_ranges(self, flags: Flags) -> Result<Option<Vec<RangeInclusive<char>>>, Error> {
         let texts = match self.tree {
-            In::Rows(rows) => rows.texts(),
-            In::Compact(tree) => tree.bytes(),
+            Source::Rows(rows) => rows.texts(),
+            Source::Compact(tree) => tree.bytes(),
         };
         ranges_of_row(&self.row(), texts, flags)
     }
@@ -328,8 +328,8 @@ impl<'a> NodeRef<'a> {
     /// ```
     pub fn to_expr(self) -> Expr {
         let expr = match self.tree {
-            In::Rows(rows) => rows.builder_at(self.index).tree(MAX_LEVELS),
-            In::Compact(tree) => Builder::at(&tree.rows_of(self.index), tree.texts(), 0).tree(MAX_LEVELS),
+            Source::Rows(rows) => rows.builder_at(self.index).tree(MAX_LEVELS),
+            Source::Compact(tree) => Builder::at(&tree.rows_of(self.index), tree.texts(), 0).tree(MAX_LEVELS),
         };
         // every row was read once when the pattern was parsed
         expr.unwrap_or(Expr::Empty)
@@ -358,11 +358,8 @@ impl<'a> Children<'a> {
     pub fn next_literals(&mut self) -> Option<(&'a str, bool)> {
         let (mut texts, casei) = self.literal()?;
         self.next();
-        while let Some((more, true)) = self.literal().map(|(more, other)| (more, other == casei)) {
-            // as they always are in libfancy
-            if more.start != texts.end {
-                break;
-            }
+        // the texts of neighbours are neighbours in libfancy
+        while let Some((more, _)) = self.literal().filter(|(more, other)| more.start == texts.end && *other == casei) {
             texts.end = more.end;
             self.next();
         }
@@ -379,12 +376,12 @@ impl<'a> Children<'a> {
     }
 }
 
-impl<'a> In<'a> {
+impl<'a> Source<'a> {
     /// A part of the texts.
     fn text(self, part: Span) -> Option<&'a str> {
         match self {
-            In::Rows(rows) => std::str::from_utf8(rows.texts().get(part)?).ok(),
-            In::Compact(tree) => tree.string(part),
+            Source::Rows(rows) => std::str::from_utf8(rows.texts().get(part)?).ok(),
+            Source::Compact(tree) => tree.string(part),
         }
     }
 }

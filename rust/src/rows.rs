@@ -1,7 +1,7 @@
 //! The buffers that the library writes a tree to.
 
 use crate::call::{guessed, ready, reserve, RowsIn};
-use crate::checked::{self, Checker};
+use crate::checked;
 use crate::ffi::{self, CallResult, Info, Name, Node};
 use crate::guess::Guess;
 use crate::node::{self, Kind, NodeRef, Texts};
@@ -174,11 +174,7 @@ impl Rows {
 
     /// The spans of the nodes, if each is a part of the pattern.
     pub(crate) fn checked_spans(&self, pattern: &str) -> Result<Vec<Span>, Error> {
-        let mut spans = Vec::with_capacity(self.nodes.len());
-        for row in &self.nodes {
-            spans.push(checked::span(row, pattern).map_err(Error::Library)?);
-        }
-        Ok(spans)
+        checked::spans(&self.nodes, pattern, |span| span).map_err(Error::Library)
     }
 
     pub(crate) fn builder_at(&self, index: usize) -> Builder<'_> {
@@ -443,9 +439,8 @@ impl Rows {
     /// Checks that what the library wrote is a tree, so that nobody who looks at it later has to.
     fn check(&self, pattern: &str) -> Result<(), Error> {
         self.check_buffers()?;
-        let take = |row: &Node| checked::span(row, pattern).map(drop);
-        let checked = Checker::of(&self.nodes, Texts::of(&self.texts), take).trees(self.nodes.len(), MAX_LEVELS);
-        checked.map(drop).map_err(|what| self.refused(what))
+        let tree = checked::check_tree(&self.nodes, Texts::of(&self.texts));
+        tree.and_then(|()| checked::check_spans(&self.nodes, pattern)).map_err(|what| self.refused(what))
     }
 }
 
