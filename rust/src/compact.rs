@@ -391,7 +391,7 @@ mod tests {
         }
         let wide = |pattern| compared(pattern, Flags::UNICODE).unwrap().wide.len();
         assert_eq!((wide("a{2147483647}"), wide("a{7,}"), wide("a{2147483648}"), wide("a{4294967296,}")), (0, 0, 1, 1));
-        assert_eq!((wide(r"\g<n>"), wide(r"a\g<n>\g<m>")), (0, 2));
+        assert_eq!((wide("(a)"), wide(r"a\g<n>\g<m>")), (0, 2));
     }
 
     #[test]
