@@ -1,7 +1,7 @@
 //! Does one thing with each pattern of a corpus, so that its cost can be counted: `count MODE FILE`, where a line of the file begins with flags and a
 //! pattern in hexadecimal, as in `crates/conformance/data`. `tools/speed rust` runs it. What is returned is dropped, except in the modes whose names
-//! begin with `kept`.
-use fancy_syntax::{check, parse, parse_without_spans, Flags, Rows};
+//! begin with `kept`. It writes how many patterns are valid; in the mode `accepts` it writes 1 or 0 for each pattern.
+use fancy_syntax::{check, parse, parse_without_spans, CompactTree, Flags, Rows};
 
 #[path = "../src/numbers.rs"]
 mod numbers;
@@ -29,16 +29,23 @@ fn main() {
     for (flags, pattern) in lines.lines().filter_map(read) {
         let is_valid = match mode.as_str() {
             "none" => !pattern.is_empty(),
-            "check" => check(&pattern, flags).is_ok(),
+            "check" | "accepts" => check(&pattern, flags).is_ok(),
             "rows" => rows.parse(&pattern, flags).is_ok(),
             "rows-without-spans" => rows.parse_without_spans(&pattern, flags).is_ok(),
             "tree" => parse(&pattern, flags).is_ok(),
             "tree-without-spans" => parse_without_spans(&pattern, flags).is_ok(),
+            "compact" => CompactTree::parse(&pattern, flags).is_ok(),
+            "compact-without-spans" => CompactTree::parse_without_spans(&pattern, flags).is_ok(),
             "kept-tree" => parse(&pattern, flags).map(std::mem::forget).is_ok(),
             "kept-tree-without-spans" => parse_without_spans(&pattern, flags).map(std::mem::forget).is_ok(),
             _ => panic!("no such mode"),
         };
         valid += usize::from(is_valid);
+        if mode == "accepts" {
+            println!("{}", u8::from(is_valid));
+        }
     }
-    println!("{valid}");
+    if mode != "accepts" {
+        println!("{valid}");
+    }
 }

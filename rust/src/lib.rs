@@ -16,7 +16,9 @@
 //! ```
 //!
 //! - [`parse`] returns an owned [`Tree`], with the types and names of fancy-regex: [`Expr`] and what is in it.
-//! - [`Rows`] holds a tree as the library writes it, in buffers that later patterns use again. It is for programs that only look.
+//! - [`CompactTree`] is an owned tree in a few allocations, for programs that only look.
+//! - [`Rows`] holds a tree as the library writes it, in buffers that later patterns use again. It is read as a
+//!   [`CompactTree`] is, by [`NodeRef`] and [`Kind`].
 //! - [`check`] says only whether a pattern is valid.
 //! - [`trivia()`] returns what no node has: comments, inline flags, the parentheses of flag groups such as `(?:a)`, and what leaves
 //!   nothing in the tree.
@@ -38,6 +40,7 @@
 
 mod call;
 mod checked;
+mod compact;
 mod engine;
 mod error;
 mod expr;
@@ -60,6 +63,7 @@ mod trivia;
 mod version;
 mod written;
 
+pub use compact::CompactTree;
 pub use engine::{escape, is_resolved, parse_decimal, parse_id};
 pub use error::Error;
 pub use expr::{Absent, AstNode, CaptureGroupTarget, Expr, ExprChildrenIter, ExprChildrenIterMut, Walk};
@@ -76,7 +80,7 @@ use call::{Extent, Text};
 use ffi::CallResult;
 use rows::with_kept;
 
-/// Parses a pattern under flags.
+/// Parses a pattern under flags. [`CompactTree::parse`] is cheaper, for a tree that is not to be changed.
 ///
 /// # Errors
 ///

@@ -1,19 +1,29 @@
-//! The nodes of a tree, seen in the rows that the library wrote.
+//! The nodes of a tree, seen in the rows that the library wrote, or in a compact tree.
 
+use crate::call::RowsIn;
 use crate::ffi::Node;
+use crate::owned::Builder;
 use crate::ranges::ranges_of_row;
 use crate::rows::MAX_LEVELS;
 use crate::written::print_rows;
 use crate::{numbers, Absent, AbsentKind, Assertion, AstNode, BacktrackingControlVerb, CaptureGroupTarget};
-use crate::{Error, Expr, Flags, LookAround, Precedence, Rows, Span};
+use crate::{CompactTree, Error, Expr, Flags, LookAround, Precedence, Rows, Span};
 use std::fmt;
 use std::ops::RangeInclusive;
 
-/// A node of a tree that is in [`Rows`]. It is as small as two words, and only what returns a tree, a text or ranges allocates.
+/// A node of a tree that is in [`Rows`] or is a [`CompactTree`]. It is as small as three words, and only what returns a tree, a
+/// text or ranges allocates.
 #[derive(Clone, Copy)]
 pub struct NodeRef<'a> {
-    rows: &'a Rows,
+    tree: Source<'a>,
     index: usize,
+}
+
+/// What a node is in.
+#[derive(Clone, Copy)]
+enum Source<'a> {
+    Rows(&'a Rows),
+    Compact(&'a CompactTree),
 }
 
 /// What a node is, with its fields and without its children. The variants have the names of those of [`Expr`].
@@ -91,12 +101,21 @@ pub struct Children<'a> {
 }
 
 impl<'a> NodeRef<'a> {
-    pub(crate) fn new(rows: &'a Rows, index: usize) -> NodeRef<'a> {
-        NodeRef { rows, index }
+    pub(crate) fn of_rows(rows: &'a Rows, index: usize) -> NodeRef<'a> {
+        NodeRef { tree: Source::Rows(rows), index }
     }
 
-    fn row(self) -> &'a Node {
-        self.rows.node(self.index)
+    pub(crate) fn of_compact(tree: &'a CompactTree, index: usize) -> NodeRef<'a> {
+        NodeRef { tree: Source::Compact(tree), index }
+    }
+
+    /// The row of the node. In a compact tree it has no span.
+    #[inline(always)]
+    fn row(self) -> Node {
+        match self.tree {
+            Source::Rows(rows) => *rows.node(self.index),
+            Source::Compact(tree) => tree.row(self.index),
+        }
     }
 
     /// What the node is, with its fields.
@@ -109,8 +128,12 @@ impl<'a> NodeRef<'a> {
     /// # Ok::<(), fancy_syntax::Error>(())
     /// ```
     pub fn kind(self) -> Kind<'a> {
+        let kind = match self.tree {
+            Source::Rows(rows) => Kind::read(rows.node(self.index), Texts::unread(rows.texts())),
+            Source::Compact(tree) => Kind::read(&tree.row(self.index), tree.texts()),
+        };
         // every row was read once when the pattern was parsed
-        Kind::read(self.row(), Texts::unread(self.rows.texts())).unwrap_or(Kind::Empty)
+        kind.unwrap_or(Kind::Empty)
     }
 
     /// The part of the pattern that the node was parsed from.
@@ -124,10 +147,13 @@ impl<'a> NodeRef<'a> {
     /// # Ok::<(), fancy_syntax::Error>(())
     /// ```
     pub fn span(self) -> Span {
-        self.row().start..self.row().stop
+        match self.tree {
+            Source::Rows(rows) => rows.node(self.index).start..rows.node(self.index).stop,
+            Source::Compact(tree) => tree.span(self.index),
+        }
     }
 
-    /// The text of the pattern at the span. The rows do not keep the pattern, so pass it again. `None` if it is another text,
+    /// The text of the pattern at the span. The tree does not keep the pattern, so pass it again. `None` if it is another text,
     /// and the span ends after it or splits a character of it.
     ///
     /// ```
@@ -157,6 +183,23 @@ impl<'a> NodeRef<'a> {
         self.index
     }
 
+    /// One past the index of the last descendant of the node, or of the node if it has no child: the indices of the descendants
+    /// are those between this and its own.
+    ///
+    /// ```
+    /// use fancy_syntax::{CompactTree, Flags};
+    /// let tree = CompactTree::parse("(a)b", Flags::UNICODE)?;
+    /// let ends: Vec<_> = tree.root().walk().map(|node| node.end()).collect();
+    /// assert_eq!(ends, [4, 3, 3, 4]);
+    /// # Ok::<(), fancy_syntax::Error>(())
+    /// ```
+    pub fn end(self) -> usize {
+        match self.tree {
+            Source::Rows(rows) => rows.node(self.index).end,
+            Source::Compact(tree) => tree.end(self.index),
+        }
+    }
+
     /// The number of the group, if the node is a capturing group.
     ///
     /// ```
@@ -182,7 +225,7 @@ impl<'a> NodeRef<'a> {
     /// # Ok::<(), fancy_syntax::Error>(())
     /// ```
     pub fn children(self) -> Children<'a> {
-        Children { next: NodeRef::new(self.rows, self.index + 1), end: self.row().end }
+        Children { next: NodeRef { index: self.index + 1, ..self }, end: self.end() }
     }
 
     /// The node and its descendants in preorder.
@@ -195,7 +238,7 @@ impl<'a> NodeRef<'a> {
     /// # Ok::<(), fancy_syntax::Error>(())
     /// ```
     pub fn walk(self) -> impl ExactSizeIterator<Item = NodeRef<'a>> + DoubleEndedIterator {
-        (self.index..self.row().end).map(move |index| NodeRef::new(self.rows, index))
+        (self.index..self.end()).map(move |index| NodeRef { index, ..self })
     }
 
     /// Prints the node and its descendants in the syntax of the crate `regex`, as [`print()`](crate::print()) prints a whole
@@ -214,7 +257,13 @@ impl<'a> NodeRef<'a> {
     /// # Ok::<(), fancy_syntax::Error>(())
     /// ```
     pub fn print(self, precedence: Precedence) -> Result<Option<String>, Error> {
-        print_rows(self.rows.rows_from(self.index), precedence)
+        match self.tree {
+            Source::Rows(rows) => print_rows(rows.rows_from(self.index), precedence),
+            Source::Compact(tree) => {
+                let nodes = &tree.rows_of(self.index);
+                print_rows(RowsIn { nodes, texts: tree.bytes(), index: 0 }, precedence)
+            }
+        }
     }
 
     /// Writes a pattern that is parsed, under these flags, as the node and its descendants, with the names of the groups among
@@ -233,7 +282,11 @@ impl<'a> NodeRef<'a> {
     /// # Ok::<(), fancy_syntax::Error>(())
     /// ```
     pub fn to_pattern(self, flags: Flags) -> Result<Option<String>, Error> {
-        self.rows.pattern_at(self.index, flags)
+        match self.tree {
+            Source::Rows(rows) => rows.pattern_at(self.index, flags),
+            // in a part of the rows groups would have other numbers
+            Source::Compact(tree) => tree.written().to_pattern(self.index, tree.groups(), flags),
+        }
     }
 
     /// The characters that the node matches, as [`class_ranges`](crate::class_ranges) returns them; `None` unless it is a
@@ -254,7 +307,11 @@ impl<'a> NodeRef<'a> {
     /// # Ok::<(), fancy_syntax::Error>(())
     /// ```
     pub fn character_ranges(self, flags: Flags) -> Result<Option<Vec<RangeInclusive<char>>>, Error> {
-        ranges_of_row(self.row(), self.rows.texts(), flags)
+        let texts = match self.tree {
+            Source::Rows(rows) => rows.texts(),
+            Source::Compact(tree) => tree.bytes(),
+        };
+        ranges_of_row(&self.row(), texts, flags)
     }
 
     /// The node and its descendants as an owned tree.
@@ -267,15 +324,62 @@ impl<'a> NodeRef<'a> {
     /// # Ok::<(), fancy_syntax::Error>(())
     /// ```
     pub fn to_expr(self) -> Expr {
+        let expr = match self.tree {
+            Source::Rows(rows) => rows.builder_at(self.index).tree(MAX_LEVELS),
+            Source::Compact(tree) => Builder::at(&tree.rows_of(self.index), tree.texts(), 0).tree(MAX_LEVELS),
+        };
         // every row was read once when the pattern was parsed
-        let mut builder = self.rows.builder_at(self.index);
-        builder.tree(MAX_LEVELS).unwrap_or(Expr::Empty)
+        expr.unwrap_or(Expr::Empty)
     }
 }
 
 impl fmt::Debug for NodeRef<'_> {
     fn fmt(&self, f: &mut fmt::Formatter<'_>) -> fmt::Result {
         write!(f, "{:?} at {:?}", self.kind(), self.span())
+    }
+}
+
+impl<'a> Children<'a> {
+    /// The text of the literals that come next and have the same `casei`, with this `casei`. The iterator goes on after them. `None`
+    /// if the next child is something else; then it stays where it is.
+    ///
+    /// ```
+    /// use fancy_syntax::{CompactTree, Flags, Kind, NodeRef};
+    /// let tree = CompactTree::parse("ab(c)", Flags::UNICODE)?;
+    /// let mut children = tree.root().children();
+    /// assert_eq!(children.next_literals(), Some(("ab", false)));
+    /// assert_eq!(children.next_literals(), None);
+    /// assert_eq!(children.next().map(NodeRef::kind), Some(Kind::Group));
+    /// # Ok::<(), fancy_syntax::Error>(())
+    /// ```
+    pub fn next_literals(&mut self) -> Option<(&'a str, bool)> {
+        let (mut texts, casei) = self.literal()?;
+        self.next();
+        // the texts of neighbours are neighbours in libfancy
+        while let Some((more, _)) = self.literal().filter(|(more, other)| more.start == texts.end && *other == casei) {
+            texts.end = more.end;
+            self.next();
+        }
+        Some((self.next.tree.text(texts)?, casei))
+    }
+
+    /// Where the text of the next child is, and its `casei`, if it is a literal.
+    fn literal(&self) -> Option<(Span, bool)> {
+        if self.next.index >= self.end {
+            return None;
+        }
+        let row = self.next.row();
+        (row.kind == numbers::NODE_LITERAL).then(|| (row.text..row.text + row.text_size, row.casei != 0))
+    }
+}
+
+impl<'a> Source<'a> {
+    /// A part of the texts.
+    fn text(self, part: Span) -> Option<&'a str> {
+        match self {
+            Source::Rows(rows) => std::str::from_utf8(rows.texts().get(part)?).ok(),
+            Source::Compact(tree) => tree.string(part),
+        }
     }
 }
 
@@ -287,7 +391,7 @@ impl<'a> Iterator for Children<'a> {
             return None;
         }
         let child = self.next;
-        self.next.index = child.row().end;
+        self.next.index = child.end();
         Some(child)
     }
 }
@@ -432,12 +536,17 @@ impl<'a> Texts<'a> {
         Texts { bytes, text: None }
     }
 
+    /// Those of literal bytes, and the others in a string.
+    pub(crate) fn known(bytes: &'a [u8], text: &'a str) -> Texts<'a> {
+        Texts { bytes, text: Some(text) }
+    }
+
     fn bytes(self, row: &Node) -> Option<&'a [u8]> {
         bytes(self.bytes, row.text, row.text_size)
     }
 
     #[inline(always)]
-    fn text(self, row: &Node) -> Option<&'a str> {
+    pub(crate) fn text(self, row: &Node) -> Option<&'a str> {
         match self.text {
             Some(text) => text.get(row.text..row.text.checked_add(row.text_size)?),
             None => std::str::from_utf8(self.bytes(row)?).ok(),

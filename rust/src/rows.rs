@@ -1,14 +1,14 @@
 //! The buffers that the library writes a tree to.
 
 use crate::call::{guessed, ready, reserve, RowsIn};
-use crate::checked::{self, Checker};
+use crate::checked;
 use crate::ffi::{self, CallResult, Info, Name, Node};
 use crate::guess::Guess;
 use crate::node::{self, Kind, NodeRef, Texts};
 use crate::owned::Builder;
 use crate::part::{by_group, pattern_of_part};
 use crate::written::pattern_of_rows;
-use crate::{numbers, Error, Expr, Flags, GroupInfo, Span, Tree};
+use crate::{numbers, CompactTree, Error, Expr, Flags, GroupInfo, Span, Tree};
 use std::cell::Cell;
 use std::collections::BTreeMap;
 use std::fmt;
@@ -125,16 +125,28 @@ impl Rows {
     }
 
     fn parse_bits(&mut self, pattern: &str, bits: u32) -> Result<&Rows, Error> {
-        let outcome = self.fill(pattern, bits).and_then(|()| self.check(pattern));
-        if outcome.is_err() {
-            self.clear();
-        }
-        outcome.map(|()| &*self)
+        self.filled(pattern, bits, |rows| rows.check(pattern))?;
+        Ok(self)
     }
 
     /// Parses a pattern, and builds its tree, by which the rows are checked, but not their spans.
     pub(crate) fn parse_expr(&mut self, pattern: &str, bits: u32) -> Result<Expr, Error> {
-        let outcome = self.fill(pattern, bits).and_then(|()| self.built());
+        self.filled(pattern, bits, Rows::built)
+    }
+
+    /// Parses a pattern, and packs its tree, by which the rows are checked, and their spans if there are some.
+    pub(crate) fn parse_compact(&mut self, pattern: &str, bits: u32) -> Result<CompactTree, Error> {
+        self.filled(pattern, bits, |rows| rows.packed(pattern, bits & numbers::FLAG_WITHOUT_SPANS == 0))
+    }
+
+    /// Parses a pattern, and reads the rows. After an error these are the rows of the empty pattern.
+    fn filled<T>(
+        &mut self,
+        pattern: &str,
+        bits: u32,
+        read: impl FnOnce(&Rows) -> Result<T, Error>,
+    ) -> Result<T, Error> {
+        let outcome = self.fill(pattern, bits).and_then(|()| read(self));
         if outcome.is_err() {
             self.clear();
         }
@@ -145,6 +157,16 @@ impl Rows {
         self.check_buffers()?;
         let expr = self.builder_at(0).tree(MAX_LEVELS);
         expr.ok_or_else(|| self.refused("nodes that are no tree, or a text that is not UTF-8"))
+    }
+
+    fn packed(&self, pattern: &str, has_spans: bool) -> Result<CompactTree, Error> {
+        self.check_buffers()?;
+        // its indices and offsets have 32 bits
+        if self.nodes.len().max(pattern.len()) > u32::MAX as usize {
+            return Err(Error::OutOfMemory);
+        }
+        let tree = CompactTree::of(self.rows_from(0), pattern, has_spans, self.groups());
+        tree.map_err(|what| self.refused(what))
     }
 
     /// Why no tree is made of the rows: one has a number that the crate has no name for, or what the text says.
@@ -158,11 +180,7 @@ impl Rows {
 
     /// The spans of the nodes, if each is a part of the pattern.
     pub(crate) fn checked_spans(&self, pattern: &str) -> Result<Vec<Span>, Error> {
-        let mut spans = Vec::with_capacity(self.nodes.len());
-        for row in &self.nodes {
-            spans.push(checked::span(row, pattern).map_err(Error::Library)?);
-        }
-        Ok(spans)
+        checked::spans(&self.nodes, pattern, |span| span).map_err(Error::Library)
     }
 
     pub(crate) fn builder_at(&self, index: usize) -> Builder<'_> {
@@ -198,7 +216,7 @@ impl Rows {
     /// # Ok::<(), fancy_syntax::Error>(())
     /// ```
     pub fn root(&self) -> NodeRef<'_> {
-        NodeRef::new(self, 0)
+        NodeRef::of_rows(self, 0)
     }
 
     /// The names of groups, each with the number of its group, in the order of their bytes. A name that several groups have
@@ -449,8 +467,8 @@ impl Rows {
     /// Checks that what the library wrote is a tree, so that nobody who looks at it later has to.
     fn check(&self, pattern: &str) -> Result<(), Error> {
         self.check_buffers()?;
-        let checked = Checker::of(&self.nodes, &self.texts, pattern).trees(self.nodes.len(), MAX_LEVELS);
-        checked.map(drop).map_err(|what| self.refused(what))
+        let tree = checked::check_tree(&self.nodes, Texts::of(&self.texts));
+        tree.and_then(|()| checked::check_spans(&self.nodes, pattern)).map_err(|what| self.refused(what))
     }
 }
 

@@ -9,7 +9,7 @@ use std::ops::RangeInclusive;
 
 /// The rows of a tree, and the texts of its nodes.
 #[derive(Default)]
-struct Written {
+pub(crate) struct Written {
     nodes: Vec<Node>,
     texts: Vec<u8>,
     names: Vec<Name>,
@@ -47,8 +47,13 @@ impl Written {
         Ok(written)
     }
 
+    /// Rows that are there already, without names.
+    pub(crate) fn of_rows(nodes: Vec<Node>, texts: Vec<u8>) -> Written {
+        Written { nodes, texts, names: Vec::new() }
+    }
+
     /// Adds the names of groups that are in the tree. The library leaves out the others.
-    fn add_names(&mut self, groups: &GroupInfo) {
+    pub(crate) fn add_names(&mut self, groups: &GroupInfo) {
         let most = self.nodes.iter().filter(|row| row.kind == numbers::NODE_GROUP).count();
         for (name, numbers) in &groups.named_groups {
             let (text, before) = (self.texts.len(), self.names.len());
@@ -138,6 +143,16 @@ impl Written {
 
     fn rows(&self) -> RowsIn<'_> {
         RowsIn { nodes: &self.nodes, texts: &self.texts, index: 0 }
+    }
+
+    /// Writes the node with an index as a pattern, with the names that were added.
+    pub(crate) fn to_pattern(&self, index: usize, groups: &GroupInfo, flags: Flags) -> Result<Option<String>, Error> {
+        let info = Info {
+            numeric_capture_group_references: groups.numeric_capture_group_references.into(),
+            self_recursive: groups.self_recursive.into(),
+            ..Info::default()
+        };
+        pattern_of_rows(RowsIn { index, ..self.rows() }, &self.names, &info, flags)
     }
 }
 
@@ -238,13 +253,9 @@ impl Expr {
     pub fn to_pattern(&self, groups: &GroupInfo, flags: Flags) -> Result<Option<String>, Error> {
         let Ok(mut written) = Written::of(self) else { return Ok(None) };
         written.add_names(groups);
-        let info = Info {
-            numeric_capture_group_references: groups.numeric_capture_group_references.into(),
-            self_recursive: groups.self_recursive.into(),
-            ..Info::default()
-        };
-        pattern_of_rows(written.rows(), &written.names, &info, flags)
+        written.to_pattern(0, groups, flags)
     }
+
     /// The characters that the node matches, as [`class_ranges`](crate::class_ranges) returns them; `None` unless it is a
     /// `Delegate`, a `Literal` or an `Any` that matches exactly one character. Of the flags only [`Flags::UNICODE`] matters.
     ///

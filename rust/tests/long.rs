@@ -1,6 +1,6 @@
 //! Long patterns, and texts that are much longer than their patterns.
 
-use fancy_syntax::{parse, to_pattern, trivia, Error, Flags, Rows};
+use fancy_syntax::{parse, to_pattern, trivia, CompactTree, Error, Flags, Rows};
 
 #[test]
 fn each_reference_writes_a_long_name() -> Result<(), Error> {
@@ -11,16 +11,18 @@ fn each_reference_writes_a_long_name() -> Result<(), Error> {
     assert!(to_pattern(&pattern, Flags::UNICODE)? == wanted);
     assert!(parse(&pattern, Flags::UNICODE)?.to_pattern(Flags::UNICODE)? == Some(wanted.clone()));
     let mut rows = Rows::new();
-    assert!(rows.parse(&pattern, Flags::UNICODE)?.root().to_pattern(Flags::UNICODE)? == Some(wanted));
+    assert!(rows.parse(&pattern, Flags::UNICODE)?.root().to_pattern(Flags::UNICODE)?.as_ref() == Some(&wanted));
+    assert!(CompactTree::parse(&pattern, Flags::UNICODE)?.to_pattern(Flags::UNICODE)? == Some(wanted));
     Ok(())
 }
 
-/// What a text is repeated to, in new buffers and in those of longer patterns, as rows and as an owned tree.
+/// What a text is repeated to, in new buffers and in those of longer patterns, as rows and as owned trees.
 fn is_same(unit: &str, count: usize, flags: Flags, long: &mut Rows) -> Result<(), Error> {
     let pattern = unit.repeat(count);
     let tree = parse(&pattern, flags)?;
     assert!(long.parse(&pattern, flags)?.to_tree() == tree, "{unit} {count}");
     assert!(Rows::new().parse(&pattern, flags)?.to_tree() == tree, "{unit} {count}");
+    assert!(CompactTree::parse(&pattern, flags)?.to_tree() == tree, "{unit} {count}");
     let text = to_pattern(&pattern, flags)?;
     assert!(parse(&text, flags)?.groups == tree.groups, "{unit} {count}");
     assert!(Rows::new().parse(&text, flags)?.to_pattern(flags)? == Some(text), "{unit} {count}");

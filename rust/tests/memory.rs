@@ -2,7 +2,7 @@
 //! runs itself again, in 24 MB of address space.
 
 use fancy_syntax::{check, format_pattern, is_resolved, parse, parse_without_spans, print, to_pattern, trivia};
-use fancy_syntax::{Error, Flags, Precedence, Rows, Style};
+use fancy_syntax::{CompactTree, Error, Flags, Precedence, Rows, Style};
 use std::process::Command;
 
 /// The greatest address space and the greatest memory so far, in KB.
@@ -32,6 +32,8 @@ fn greatest_increase(pattern: &str) -> Result<usize, Error> {
     look("parse_without_spans");
     drop(parse(pattern, flags)?);
     look("parse");
+    drop(CompactTree::parse(pattern, flags)?);
+    look("compact tree");
     let mut rows = Rows::new();
     rows.parse(pattern, flags)?;
     look("rows");

@@ -4,7 +4,7 @@
 use fancy_syntax::{
     check, class_ranges, escape, format_pattern, is_resolved, parse, parse_decimal, parse_id, print, to_pattern, trivia,
 };
-use fancy_syntax::{Error, Expr, Flags, GroupInfo, ParseError, Precedence, Rows, Style};
+use fancy_syntax::{CompactTree, Error, Expr, Flags, GroupInfo, ParseError, Precedence, Rows, Style};
 
 const U: Flags = Flags::UNICODE;
 
@@ -24,6 +24,7 @@ fn are_numbers_of_nodes_unknown(rows: &mut Rows) {
     ] {
         assert_eq!(parse(pattern, U).map(drop), unknown(what), "{pattern}");
         assert_eq!(rows.parse(pattern, U).map(drop), unknown(what), "{pattern}");
+        assert_eq!(CompactTree::parse(pattern, U).map(drop), unknown(what), "{pattern}");
     }
 }
 

@@ -5,8 +5,8 @@ mod common;
 
 use common::*;
 use fancy_syntax::{
-    check, format_pattern, parse, parse_without_spans, print, to_pattern, trivia, AstNode, Error, Expr, Flags,
-    Precedence, Rows, Style, Tree,
+    check, format_pattern, parse, parse_without_spans, print, to_pattern, trivia, AstNode, CompactTree, Error, Expr,
+    Flags, Kind, NodeRef, Precedence, Rows, Style, Tree,
 };
 use std::fs::File;
 use std::io::{BufWriter, Write};
@@ -208,6 +208,47 @@ fn check_rows(rows: &Rows, flags: Flags, tree: &Tree) {
     assert_eq!(rows.to_pattern(flags), tree.to_pattern(flags));
 }
 
+/// Checks that the literals among the children of a node are the same text one by one and together.
+fn check_literals(node: NodeRef<'_>) {
+    let each = node.children().filter_map(|child| match child.kind() {
+        Kind::Literal { val, casei } => Some((val, casei)),
+        _ => None,
+    });
+    let mut together = Vec::new();
+    let mut children = node.children();
+    loop {
+        match children.next_literals() {
+            Some((text, casei)) => together.extend(text.chars().map(|c| (c, casei))),
+            None if children.next().is_none() => break,
+            None => {}
+        }
+    }
+    assert!(each.map(|(val, casei)| (val.parse().unwrap(), casei)).eq(together));
+    // after a run is something else, or another `casei`
+    if let Some((text, casei)) = node.children().next_literals() {
+        let after = node.children().nth(text.chars().count()).map(NodeRef::kind);
+        assert!(!matches!(after, Some(Kind::Literal { casei: other, .. }) if other == casei));
+    }
+}
+
+/// Checks that a compact tree has the nodes of the rows, each with the same texts and the same owned tree.
+fn check_compact(compact: &CompactTree, rows: &Rows, flags: Flags, tree: &Tree) {
+    assert_eq!((compact, &compact.to_tree()), (&compact.clone(), tree));
+    assert_eq!(compact.to_pattern(flags), rows.to_pattern(flags));
+    let indices = |node: NodeRef<'_>| node.children().map(NodeRef::index).collect::<Vec<_>>();
+    assert_eq!(compact.root().walk().len(), rows.root().walk().len());
+    for (node, row) in compact.root().walk().zip(rows.root().walk()) {
+        assert_eq!((node.kind(), node.span(), node.group()), (row.kind(), row.span(), row.group()));
+        assert_eq!((node.index(), node.end(), indices(node)), (row.index(), row.end(), indices(row)));
+        check_literals(node);
+        check_literals(row);
+        assert_eq!(node.to_expr(), row.to_expr());
+        assert_eq!(node.print(Precedence::Piece), row.print(Precedence::Piece));
+        assert_eq!(node.to_pattern(flags), row.to_pattern(flags));
+        assert_eq!(node.character_ranges(flags), row.character_ranges(flags));
+    }
+}
+
 /// Changes a tree, and checks that what is written for it, if anything, is parsed as it.
 fn check_changed(random: &mut Random, flags: Flags, tree: &Tree) {
     let mut changed = tree.clone();
@@ -263,13 +304,16 @@ fn random_strings() {
                 assert_eq!(rows.parse(&pattern, flags).unwrap().to_tree(), *tree);
                 assert_eq!(Rows::new().parse(&pattern, flags).unwrap().to_tree(), *tree);
                 check_rows(&rows, flags, tree);
+                check_compact(&CompactTree::parse(&pattern, flags).unwrap(), &rows, flags, tree);
                 check_changed(&mut random, flags, tree);
                 let bare = parse_without_spans(&pattern, flags).unwrap();
                 assert_eq!((&bare.expr, &bare.groups, bare.spans.len()), (&tree.expr, &tree.groups, 0));
+                assert_eq!(CompactTree::parse_without_spans(&pattern, flags).unwrap().to_tree(), bare);
             }
             Err(error) => {
                 check_error(&pattern, flags, error);
                 assert_eq!(rows.parse(&pattern, flags).unwrap_err(), *error);
+                assert_eq!(CompactTree::parse(&pattern, flags).unwrap_err(), *error);
                 invalid += 1;
             }
         }

@@ -4,7 +4,7 @@ mod common;
 
 use common::*;
 use fancy_syntax::{check, class_ranges, parse, to_pattern, AstNode, CaptureGroupTarget, Expr, Flags};
-use fancy_syntax::{Error, GroupInfo, ParseError, Precedence, Rows};
+use fancy_syntax::{CompactTree, Error, GroupInfo, ParseError, Precedence, Rows, Tree};
 use std::ops::RangeInclusive;
 
 fn lines(name: &str) -> Vec<Vec<String>> {
@@ -18,7 +18,8 @@ fn pattern_of(field: &str) -> String {
     String::from_utf8(unhex(field)).unwrap()
 }
 
-/// Compares each pattern of a file, in an owned tree and in rows that are used for all of them. Returns how many there were.
+/// Compares each pattern of a file, in an owned tree, in rows that are used for all of them, and in a compact tree. Returns how
+/// many there were.
 fn compare(name: &str) -> usize {
     let mut rows = Rows::new();
     let mut count = 0;
@@ -32,15 +33,23 @@ fn compare(name: &str) -> usize {
         let wanted = (status.parse().unwrap(), pattern_of(output), pattern_of(error));
         assert_eq!(got, wanted, "{letters} {pattern}");
         assert_eq!(check(&pattern, flags), tree.clone().map(drop));
-        let in_rows = rows.parse(&pattern, flags);
+        let (in_rows, compact) = (rows.parse(&pattern, flags), CompactTree::parse(&pattern, flags));
         match &tree {
             Ok(tree) => {
                 let rows = in_rows.unwrap();
                 assert_eq!(row_lines(rows.root()), expr_lines(tree));
                 assert_eq!(rows.to_tree(), *tree);
                 assert_eq!(rows.total_groups(), tree.groups.total_groups);
+                let compact = compact.unwrap();
+                assert_eq!(row_lines(compact.root()), expr_lines(tree));
+                assert_eq!(compact.to_tree(), *tree);
+                let bare = CompactTree::parse_without_spans(&pattern, flags).unwrap();
+                assert_eq!(bare.to_tree(), Tree { spans: Vec::new(), ..tree.clone() });
             }
-            Err(error) => assert_eq!(in_rows.unwrap_err(), *error),
+            Err(error) => {
+                assert_eq!(in_rows.unwrap_err(), *error);
+                assert_eq!(compact.unwrap_err(), *error);
+            }
         }
         count += 1;
     }
@@ -88,6 +97,8 @@ fn the_texts() {
         assert_eq!((word.as_str(), to_pattern(&pattern, flags)), ("text", Ok(pattern_of(text))), "{letters} {pattern}");
         let tree = parse(&pattern, flags).unwrap();
         assert_eq!(tree.to_pattern(flags), Ok(Some(pattern_of(text))), "{letters} {pattern}");
+        let compact = CompactTree::parse(&pattern, flags).unwrap();
+        assert_eq!(compact.to_pattern(flags), Ok(Some(pattern_of(text))), "{letters} {pattern}");
     }
 }
 
@@ -120,6 +131,8 @@ fn the_characters_of_nodes() {
         assert_eq!(characters(expr.character_ranges(flags)), wanted, "{letters} {pattern}");
         let node = rows.parse(&pattern, flags).unwrap().root();
         assert_eq!(node.character_ranges(flags), expr.character_ranges(flags), "{letters} {pattern}");
+        let compact = CompactTree::parse(&pattern, flags).unwrap();
+        assert_eq!(compact.root().character_ranges(flags), expr.character_ranges(flags), "{letters} {pattern}");
         if let Expr::Delegate { inner, casei } = expr {
             let flags = if casei { flags | Flags::CASEI } else { flags - Flags::CASEI };
             let ranges = class_ranges(&inner, flags);

@@ -2,7 +2,7 @@
 //! libfancy no allocation fails here; where `FANCY_REFUSES` is set, it is linked with `.ci/refusing.c`.
 
 use fancy_syntax::{check, class_ranges, escape, format_pattern, is_resolved, parse, print, to_pattern, trivia};
-use fancy_syntax::{Error, Flags, Precedence, Rows, Style};
+use fancy_syntax::{CompactTree, Error, Flags, Precedence, Rows, Style};
 use std::fmt::Debug;
 
 /// Makes a call many times. Each result has to be the same, unless memory was refused. Returns how often it was.
@@ -29,6 +29,7 @@ fn a_failed_allocation_is_an_error() {
     for pattern in ["", "(a|b)c*", r"(?<n>[a-z]+)\k<n>", r"a\q", "((a", "(?i)é{2,3}|b"] {
         let flags = Flags::UNICODE;
         refused += refusals(|| parse(pattern, flags));
+        refused += refusals(|| CompactTree::parse(pattern, flags));
         refused += refusals(|| rows.parse(pattern, flags).map(Rows::to_tree));
         refused += refusals(|| check(pattern, flags));
         refused += refusals(|| trivia(pattern, flags));

@@ -4,7 +4,7 @@
 use fancy_syntax::{
     check, class_ranges, escape, format_pattern, is_resolved, parse, parse_decimal, parse_id, print, to_pattern, trivia,
 };
-use fancy_syntax::{Error, Expr, Flags, GroupInfo, Precedence, Rows, Style};
+use fancy_syntax::{CompactTree, Error, Expr, Flags, GroupInfo, NodeRef, Precedence, Rows, Style, Tree};
 use std::collections::BTreeMap;
 
 fn kind_of<T>(outcome: &Result<T, Error>) -> &'static str {
@@ -18,20 +18,38 @@ fn kind_of<T>(outcome: &Result<T, Error>) -> &'static str {
     }
 }
 
-/// Looks at all of the rows, and returns how many nodes there are.
-fn look(rows: &Rows, pattern: &str) -> usize {
-    let root = rows.root();
+/// Looks at all of a tree.
+fn look(root: NodeRef<'_>, tree: Tree, pattern: &str) {
     for node in root.walk() {
         assert!(node.text(pattern).is_some());
         assert!(node.children().all(|child| child.index() > node.index()));
+        let _ = node.children().next_literals();
     }
-    let tree = rows.to_tree();
+    for node in root.walk().take(2) {
+        let _ = node.print(Precedence::Branch);
+        let _ = (node.to_pattern(Flags::UNICODE), node.character_ranges(Flags::UNICODE));
+    }
     assert_eq!(tree, tree.clone());
     assert_eq!(tree.walk().count(), root.walk().len());
     assert!(tree.walk_groups().all(|(number, _, _)| number <= root.walk().len()));
+    assert!(!format!("{root:?}{:?}", tree.groups).is_empty());
+}
+
+/// Looks at all of the rows.
+fn look_at_rows(rows: &Rows, pattern: &str) {
+    look(rows.root(), rows.to_tree(), pattern);
     assert!(rows.names().all(|(name, _)| name.len() < 1 << 20));
     assert!(rows.backrefs().len() <= 64 * (pattern.len() + 64));
-    format!("{rows:?}{:?}", tree.groups).len().min(root.walk().len())
+    assert!(!format!("{rows:?}").is_empty());
+}
+
+/// Looks at all of a compact tree, if there is one.
+fn look_at_compact(outcome: &Result<CompactTree, Error>, pattern: &str) {
+    if let Ok(tree) = outcome {
+        look(tree.root(), tree.to_tree(), pattern);
+        assert_eq!(*tree, tree.clone());
+        assert!(!format!("{tree:?}").is_empty());
+    }
 }
 
 #[test]
@@ -43,8 +61,10 @@ fn nothing_panics() {
     for round in 0..rounds {
         let pattern = patterns[round % patterns.len()];
         let outcome = rows.parse(pattern, Flags::UNICODE);
+        let compact = CompactTree::parse(pattern, Flags::UNICODE);
         let kinds = [
             kind_of(&outcome),
+            kind_of(&compact),
             kind_of(&parse(pattern, Flags::all())),
             kind_of(&check(pattern, Flags::empty())),
             kind_of(&trivia(pattern, Flags::UNICODE)),
@@ -64,7 +84,8 @@ fn nothing_panics() {
             assert!(!error.to_string().is_empty());
             assert!(error.position().is_none_or(|position| position <= pattern.len() + 1));
         }
-        look(&rows, pattern);
+        look_at_rows(&rows, pattern);
+        look_at_compact(&compact, pattern);
         kinds.into_iter().for_each(|kind| *outcomes.entry(kind).or_default() += 1);
     }
     let of_the_library =
