@@ -81,16 +81,14 @@ def letters(table: Table) -> list:
     to = re.findall(r"Flag::(\w+) => '(.)',", code)
     back = [(name, letter) for letter, name in re.findall(r"'(.)' => Some\(Flag::(\w+)\)", code)]
     rows = re.findall(r'^letter (\w+) = code "(.)"', read("fancy_lex/specs/Flag.antt"), re.M)
-    words = re.search(r'FLAG_WORD: &str = "letters of (\w+),', read("fancy_lex/src/flag_word.rt"))
-    problems = [it for pairs in (to, back, rows) for it in compared("letters", own, dict(pairs))]
-    return problems + compared("letters", {"FLAG_WORD": table.letters}, {"FLAG_WORD": words and words[1]})
+    return [it for pairs in (to, back, rows) for it in compared("letters", own, dict(pairs))]
 
 
 def bits(table: Table) -> list:
     """The numbers of flags in definitions."""
     own = {name: str(it.number) for name, it in flag_names(table).items()}
     of = re.findall(r"(\w+) = has_bit bits (\d+);", read("fancy_lex/specs/Flags.antt"))
-    to = re.findall(r"bit_of f\.(\w+) (\d+)", read("fancy_lex/specs/FlagBits.antt"))
+    to = re.findall(r"bit_of f\.(\w+) (\d+)", read("fancy_lex/specs/Flags.antt"))
     return [it for pairs in (of, to) for it in compared("flags", own, {camel(name): bit for name, bit in pairs})]
 
 

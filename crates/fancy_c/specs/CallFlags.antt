@@ -1,7 +1,6 @@
 -- The flags that a call takes.
 use Rattle.std.specs.Prelude.{◌≡◌, ℕ, ◌+◌, bit_and}
-use Rattle.fancy_lex.specs.FlagBits.{bits_of}
-use Rattle.fancy_lex.specs.Flags.{flags_of}
+use Rattle.fancy_lex.specs.Flags.{bits_of, flags_of}
 use Rattle.fancy_c.specs.declared.call_flags.TheConstants.{FLAG_WITHOUT_SPANS}
 
 -- the word is the sum of the numbers of its flags of a pattern, so that no other bit is set

@@ -8,7 +8,7 @@ use Rattle.fancy_grammar.specs.Trivia.{Trivium, TriviumKind, comment, line_comme
 use Rattle.fancy_grammar.specs.Trivia.{dropped}
 use Rattle.fancy_syntax.specs.declared.span.Span.{Span}
 use Rattle.fancy_c.specs.CallResult.{IsTreeOfBytes}
-use Rattle.fancy_lex.specs.FlagBits.{bits_of}
+use Rattle.fancy_lex.specs.Flags.{bits_of}
 use Rattle.fancy_c.specs.declared.trivia.TheConstants as number
 use Rattle.fancy_c.specs.declared.trivia.TriviumRow.{TriviumRow}
 

@@ -5,7 +5,7 @@ use Rattle.fancy_lex.proofs.TextLemmas.{bytes_chars}
 use Rattle.fancy_lex.specs.declared.error.Error.{Error}
 use Rattle.fancy_lex.specs.declared.flags.Flags.{Flags}
 use Rattle.fancy_grammar.specs.GroupInfo.{GroupInfo}
-use Rattle.fancy_grammar.specs.ParseResult.{IsTreeOf, IsOnlyError, IsPositionedIn}
+use Rattle.fancy_grammar.specs.ParseResult.{IsTreeOf}
 use Rattle.fancy_grammar.specs.Promises.{IsParsed, AreParsedSpans, AreParsedTrivia, IsParseError}
 use Rattle.fancy_grammar.specs.Spans.{Span, AreSpansOf, Nests}
 use Rattle.fancy_grammar.specs.Tree.{Tree}
@@ -31,8 +31,8 @@ module _ {f : Flags} {pattern : List ℕ} (utf8 : IsUtf8 pattern) where
   pub parsed_spans : {t : Tree} {m : GroupInfo} {l : List Span} → IsParsed f pattern t m → AreSpansOf f (chars pattern) l →
       AreParsedSpans f pattern t l
   parsed_spans {t} {m} {l} tree h = record {
-    spans = h;
-    only_spans = λ k other. only_spans l k h other;
+    found = h;
+    only = λ k other. only_spans l k h other;
     each = spans_of_nodes l t m h tree.found;
     nested = subst (λ n. Nests 0 n t l) (bytes_chars pattern utf8) (spans_nest l t m h tree.found);
     cut = spans_cut l utf8 h;
@@ -40,16 +40,15 @@ module _ {f : Flags} {pattern : List ℕ} (utf8 : IsUtf8 pattern) where
 
   pub parsed_trivia : {l : List Trivium} → IsTriviaOf f (chars pattern) l → AreParsedTrivia f pattern l
   parsed_trivia {l} h = record {
-    trivia = h;
-    only_trivia = λ k other. only_trivia l k h other;
+    found = h;
+    only = λ k other. only_trivia l k h other;
     parts = trivia_are_parts l h;
     in_order = subst (λ n. AreInOrder 0 n l) (bytes_chars pattern utf8) (trivia_in_order l h);
-    cut_trivia = trivia_cut l utf8 h;
+    cut = trivia_cut l utf8 h;
   }
 
 -- if e is d and f is g, what is true of d under g is true of e under f
-pub parse_error : {f g : Flags} {pattern : List ℕ} {d e : Error} → g ≡ f → e ≡ d → IsOnlyError d g (chars pattern) →
-    IsPositionedIn d pattern → IsParseError f pattern e
-parse_error {f} {g} {pattern} {d} {e} same is error position =
-    subst (λ h. IsParseError h pattern e) same
-    (subst (IsParseError g pattern) (sym is) (record { error = error; position = position }))
+pub parse_error : {f g : Flags} {pattern : List ℕ} {d e : Error} → g ≡ f → e ≡ d → IsParseError g pattern d →
+    IsParseError f pattern e
+parse_error {f} {g} {pattern} {d} {e} same is h =
+    subst (λ h. IsParseError h pattern e) same (subst (IsParseError g pattern) (sym is) h)

@@ -1,11 +1,8 @@
 -- What a derivation adds to a list of trivia does not depend on the list.
 use Rattle.std.proofs.Common.{◌≡◌, ℕ, zero, suc, ◌+◌, ◌==◌, Bool, true, false, if◌then◌else◌, List, [], ◌∷◌, ◌++◌}
 use Rattle.std.proofs.Common.{Option, Some, None, refl, sym, ap, ◌∙◌, append_assoc, append-nil}
-use Rattle.std.specs.Option.{option_and_then}
-use Rattle.fancy_lex.specs.LayoutSteps.{past_layout}
 use Rattle.fancy_lex.specs.Reading.{choose}
 use Rattle.fancy_lex.specs.Text.{Text, bytes, reach_of}
-use Rattle.fancy_lex.specs.Quantifier.{counts}
 use Rattle.fancy_lex.specs.declared.counts.Counts.{Counts}
 use Rattle.fancy_grammar.specs.AtomStart.{AtomStart}
 use Rattle.fancy_grammar.specs.Grammar.{Alternation, alternation, Branches, last, more, branch_error, Branch, branch}
@@ -13,7 +10,7 @@ use Rattle.fancy_grammar.specs.Grammar.{Pieces, stop, next, piece_error, Piece, 
 use Rattle.fancy_grammar.specs.Grammar.{a_nothing, a_read, a_group, a_condition, condition_error, a_body, two_branches}
 use Rattle.fancy_grammar.specs.Grammar.{one_branch, absent_error, Inside, inside, Body, the_body}
 use Rattle.fancy_grammar.specs.Quantified.{quant, suffix, Suffix, is_repeatable, is_unmoved, max_adjacent}
-use Rattle.fancy_grammar.specs.Spans.{condition_span, end_of, if_done}
+use Rattle.fancy_grammar.specs.Spans.{condition_span, counts_ahead, end_of, if_done}
 use Rattle.fancy_grammar.specs.State.{State, at, Outcome, done, failed}
 use Rattle.fancy_grammar.specs.Tree.{Tree}
 use Rattle.fancy_grammar.specs.Trivia.{Passed, part, dropped, comments_at, flags_of_atom, opening_of, closing_of}
@@ -73,7 +70,7 @@ counted_after start a s p q (c, t) = by_test (is_repeatable s.flags a)
 
 quant_after : (a : Tree) (s : State) (p q : List Passed) → quant_trivia a s (p ++ q) ≡ p ++ quant_trivia a s q
 quant_after a s p q =
-    by_counts (option_and_then (counts s.flags.ignore_space) (past_layout s.flags.ignore_space s.rest))
+    by_counts (counts_ahead s)
   where
     comments_after : (p ++ q) ++ comments_at s ≡ p ++ (q ++ comments_at s)
     comments_after = append_assoc p q (comments_at s)

@@ -43,8 +43,8 @@ is_condition _ = false
 abbrev pub conditional_of : Tree → Tree → Tree → Tree
 conditional_of c t f = if is_empty t && is_empty f then c else conditional c t f
 
--- the branches of a conditional's body: the first branch of an Alt, which has two or more, and the choice among the
--- others
+-- the branches of a conditional's body: the first branch of an Alt, which has two or more, even an Alt from a group
+-- without a node, as in `(?(1)(?:a|b))`, and the choice among the others; or the body itself and an Empty
 abbrev pub branches_of : Tree → Tree × Tree
 branches_of (alt (more_trees t ts)) = (t, choice (list_of ts))
 branches_of r = (r, empty)

@@ -31,9 +31,9 @@ pub record IsParsed (f : Flags) (pattern : List ℕ) (t : Tree) (m : GroupInfo) 
 -- the spans of the nodes of the tree, in preorder
 pub record AreParsedSpans (f : Flags) (pattern : List ℕ) (t : Tree) (l : List Span) : Type 0 where
   -- a derivation of the pattern gives them
-  pub spans : AreSpansOf f (chars pattern) l
+  pub found : AreSpansOf f (chars pattern) l
   -- no derivation gives others
-  pub only_spans : (k : List Span) → AreSpansOf f (chars pattern) k → k ≡ l
+  pub only : (k : List Span) → AreSpansOf f (chars pattern) k → k ≡ l
   -- there is one for each node
   pub each : length l ≡ length (preorder t)
   -- those of children lie in that of their parent, one after another, and all of them lie in the pattern
@@ -44,15 +44,15 @@ pub record AreParsedSpans (f : Flags) (pattern : List ℕ) (t : Tree) (l : List 
 -- what no node has, in the order of the pattern
 pub record AreParsedTrivia (f : Flags) (pattern : List ℕ) (l : List Trivium) : Type 0 where
   -- it is what the tree of the pattern does not hold
-  pub trivia : IsTriviaOf f (chars pattern) l
+  pub found : IsTriviaOf f (chars pattern) l
   -- the pattern has no other such list
-  pub only_trivia : (k : List Trivium) → IsTriviaOf f (chars pattern) k → k ≡ l
+  pub only : (k : List Trivium) → IsTriviaOf f (chars pattern) k → k ≡ l
   -- each is a part of the pattern, spelled as its kind says
   pub parts : AllByRecursion (IsPartOf (chars pattern)) l
   -- they follow one another in the pattern
   pub in_order : AreInOrder 0 (length pattern) l
   -- each begins and ends at character boundaries
-  pub cut_trivia : AllByRecursion (λ x. IsCutOut pattern x.span) l
+  pub cut : AllByRecursion (λ x. IsCutOut pattern x.span) l
 
 -- the error that a parse returns
 pub record IsParseError (f : Flags) (pattern : List ℕ) (e : Error) : Type 0 where

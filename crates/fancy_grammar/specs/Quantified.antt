@@ -25,7 +25,7 @@ is_repeatable f (leaf (label.assertion a)) = not f.oniguruma_mode
 is_repeatable f _ = true
 
 -- in Oniguruma mode an Empty ignores a quantifier if a byte was read before the quantifier's operator or closing brace;
--- left is how many bytes were left at the start, and t follows the operator or the brace
+-- left is how many bytes were left at the start, and t follows the operator or the brace, which is the one byte of `+ 1`
 abbrev pub is_dropped : Flags → ℕ → Tree → Text → Bool
 is_dropped f left a t = f.oniguruma_mode && (is_empty a && nat_lt (bytes t + 1) left)
 

@@ -126,8 +126,9 @@ group_spans named (capture name) p x = if is_counted named name then around p x 
 group_spans named flag_group p x = x
 group_spans named _ p x = around p x
 
--- the branches of a conditional's body, which ends at v: the first branch of an Alt, and the choice among the branches
--- after its first bar; if the body is no Alt, the body itself and an Empty at its end
+-- the branches of a conditional's body, which ends at v: the first branch of an Alt, even an Alt from a group without a
+-- node, as in `(?(1)(?:a|b))`, and the choice among the branches after its first bar; if the body is no Alt, the body
+-- itself and an Empty at its end
 abbrev pub body_parts : Tree → State → Spans → Spans × Spans
 body_parts (alt ts) v (node p (more_spans x (after_bar b xs))) =
     (x, one_or_node (record { start = b; end = p.end }) xs)
@@ -154,6 +155,10 @@ condition_span s t =
 
 -- ---- quantifiers
 
+-- the counts of the quantifier that follows layout, if one does, with the text after them
+abbrev pub counts_ahead : State → Option (Counts × Text)
+counts_ahead s = option_and_then (counts s.flags.ignore_space) (past_layout s.flags.ignore_space s.rest)
+
 -- the nodes that a quantifier with these counts and operators makes
 abbrev pub under : Flags → Counts → Suffix → Span → Spans → Spans
 under f c m p x = if is_swapped f c || m.possessive then around p (around p x) else around p x
@@ -172,9 +177,7 @@ counted from a s x (c, t) =
 
 -- under the quantifier that follows layout, if there is one
 abbrev pub quant_spans : ℕ → Tree → State → Spans → Spans
-quant_spans from a s x =
-    let blanks = s.flags.ignore_space in
-    choose (option_and_then (counts blanks) (past_layout blanks s.rest)) (counted from a s x) x
+quant_spans from a s x = choose (counts_ahead s) (counted from a s x) x
 
 -- under adjacent quantifiers, of which k more may follow
 abbrev pub adjacent_spans : ℕ → ℕ → Tree → State → Spans → Spans

@@ -4,7 +4,6 @@
 -- the digits of a quantifier or after the parenthesis of a group, belongs to the token.
 use Rattle.std.specs.Prelude.{◌≡◌, ◌≤◌, ℕ, zero, suc, ◌+◌, ◌==◌, Bool, true, false, not, ◌&&◌, List, [], ◌∷◌, ◌++◌}
 use Rattle.std.specs.Prelude.{None, map, if◌then◌else◌, ⊤}
-use Rattle.std.specs.Option.{option_and_then}
 use Prim.Native.Char.{code}
 use Rattle.fancy_lex.specs.Comments.{Comment, comments}
 use Rattle.fancy_lex.specs.Layout.{IsComment, IsLineComment}
@@ -12,7 +11,6 @@ use Rattle.fancy_lex.specs.LayoutSteps.{past_layout}
 use Rattle.fancy_lex.specs.Reading.{choose}
 use Rattle.fancy_lex.specs.Text.{Text, bytes, reach_of}
 use Rattle.fancy_lex.specs.declared.flags.Flags.{Flags}
-use Rattle.fancy_lex.specs.Quantifier.{counts}
 use Rattle.fancy_grammar.specs.Ranks.{only_named}
 use Rattle.fancy_lex.specs.declared.counts.Counts.{Counts}
 use Rattle.fancy_grammar.specs.AtomStart.{AtomStart}
@@ -25,7 +23,7 @@ use Rattle.fancy_grammar.specs.GroupKind.{GroupKind, capture, flag_group}
 use Rattle.fancy_grammar.specs.Items.{openings}
 use Rattle.fancy_grammar.specs.Join.{is_empty}
 use Rattle.fancy_grammar.specs.Quantified.{quant, suffix, is_repeatable, is_unmoved, max_adjacent}
-use Rattle.fancy_grammar.specs.Spans.{Span, positioned, condition_span, end_of, if_done}
+use Rattle.fancy_grammar.specs.Spans.{Span, positioned, condition_span, counts_ahead, end_of, if_done}
 use Rattle.fancy_grammar.specs.State.{State, at, Outcome, done}
 use Rattle.fancy_grammar.specs.Tree.{Tree}
 
@@ -115,9 +113,7 @@ counted_trivia start a s p (c, t) =
 -- a quantifier that follows layout, if one does
 abbrev pub quant_trivia : Tree → State → List Passed → List Passed
 quant_trivia a s p =
-    let blanks = s.flags.ignore_space in
-    let q = p ++ comments_at s in
-    choose (option_and_then (counts blanks) (past_layout blanks s.rest)) (counted_trivia (layout_end s) a s q) q
+    let q = p ++ comments_at s in choose (counts_ahead s) (counted_trivia (layout_end s) a s q) q
 
 -- adjacent quantifiers, of which k more may follow
 abbrev pub adjacent_trivia : ℕ → Tree → State → List Passed → List Passed

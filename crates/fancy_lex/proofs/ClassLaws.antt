@@ -17,7 +17,7 @@ use Rattle.fancy_lex.specs.Escape.{escape}
 use Rattle.fancy_lex.specs.Escaped.{Escape}
 use Rattle.fancy_lex.specs.Located.{Located}
 use Rattle.fancy_lex.specs.ErrorTable.{class_not_closed}
-use Rattle.fancy_lex.specs.Reading.{Reading, gives, fails, choose, IsReadingOrNoMemory, Derives}
+use Rattle.fancy_lex.specs.Reading.{Reading, gives, fails, choose, Derives}
 use Rattle.fancy_lex.specs.Text.{Text, bytes, strip, text_of}
 use Rattle.fancy_lex.specs.declared.error.ReadError.{ReadError}
 use Rattle.fancy_lex.specs.declared.flags.Flags.{Flags}
@@ -401,15 +401,15 @@ class_frame h s = framed_class (read_class h) s
 -- The clauses of the reader.
 
 module _ (f : Flags) (t : Text) (r : Result (String Global × Bor (List ℕ)) ReadError)
-    (g : IsReadingOrNoMemory text_of r (class f t)) where
+    (g : Derives text_of r (λ q. class f t ≡ q)) where
   pub class_derives : Derives text_of r (OuterClass f t)
   class_derives = derives_given text_of r (OuterClass f t) (class f t) (class_reads f t) g
 
-  pub class_only : (o : Reading Text) → OuterClass f t o → IsReadingOrNoMemory text_of r o
-  class_only o h = subst (IsReadingOrNoMemory text_of r) (class_is f t o h) g
+  pub class_only : (o : Reading Text) → OuterClass f t o → Derives text_of r (λ q. o ≡ q)
+  class_only o h = subst (λ p. Derives text_of r (λ q. p ≡ q)) (class_is f t o h) g
 
 pub class_follows : (f : Flags) (t s : Text) (r : Result (String Global × Bor (List ℕ)) ReadError) →
-    IsReadingOrNoMemory text_of r (class f t) →
+    Derives text_of r (λ q. class f t ≡ q) →
     IfOk r (λ p. class f (t ++ s) ≡ gives (text_of p.0) (chars p.1.now ++ s))
 class_follows f t s (Ok p) g =
     let (a, h) = subst (OuterClass f t) g (class_reads f t) in

@@ -7,9 +7,8 @@ use Rattle.std.specs.Int.Bits.{or_zero_r}
 use Rattle.std.specs.Int.{bit_at}
 use Rattle.std.specs.Prelude.{not, ◌==◌}
 use Rattle.fancy_lex.specs.Bits.{has_bit}
-use Rattle.fancy_lex.specs.Flags.{flags_of}
+use Rattle.fancy_lex.specs.Flags.{flags_of, bit_of, bits_of}
 use Rattle.fancy_lex.specs.declared.flags.Flags.{Flags}
-use Rattle.fancy_lex.specs.FlagBits.{bit_of, bits_of}
 
 -- ---- the bits joined are the sum
 

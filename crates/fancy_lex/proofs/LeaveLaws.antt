@@ -6,7 +6,7 @@ use Rattle.std.specs.Option.{option_and_then}
 use Rattle.std.proofs.lemmas.Str.{len_utf8_ascii}
 use Rattle.fancy_lex.specs.Located.{Located, Kind}
 use Rattle.fancy_lex.specs.ErrorViews.{kind_of, LiesWithin}
-use Rattle.fancy_lex.specs.Reading.{Reading, gives, fails, error_at, ◌>=>◌, IsReadingOrNoMemory}
+use Rattle.fancy_lex.specs.Reading.{Reading, gives, fails, error_at, ◌>=>◌, Derives}
 use Rattle.fancy_lex.specs.Text.{Text, EndsWith as Ends, LiesIn, as_given, begins, beyond, bytes, reach_of, at_end}
 use Rattle.fancy_lex.specs.Text.{strip}
 use Rattle.fancy_lex.specs.declared.error.ReadError.{ReadError}
@@ -130,23 +130,23 @@ some_both t None f l m = tt
 module _ {A B : Type 0} {position : ℕ} {t : Text} {o : Reading B} (f : A → B) (r : Result (A × Bor (List ℕ)) ReadError)
   where
     -- the rest of the text in the code's result is a suffix of the text
-    pub given_cut : Leaves position t o → IsReadingOrNoMemory f r o → IfOk r (λ p. Ends t (chars p.1.now))
+    pub given_cut : Leaves position t o → Derives f r (λ q. o ≡ q) → IfOk r (λ p. Ends t (chars p.1.now))
     given_cut l g = by_result r l g
       where
         by_result : (r : Result (A × Bor (List ℕ)) ReadError) → {o : Reading B} → Leaves position t o →
-            IsReadingOrNoMemory f r o →
+            Derives f r (λ q. o ≡ q) →
             IfOk r (λ p. Ends t (chars p.1.now))
         by_result (Ok p) (leaves {u} e) g = let same : u ≡ chars p.1.now = cc in subst (Ends t) same e
         by_result (Ok p) (errs l) g = absurd cc
         by_result (Err e) l g = tt
 
     -- and the reach of its error is in the bound
-    pub given_position : {m : ℕ} → position ≤ m → reach_of t ≤ m → Leaves position t o → IsReadingOrNoMemory f r o →
+    pub given_position : {m : ℕ} → position ≤ m → reach_of t ≤ m → Leaves position t o → Derives f r (λ q. o ≡ q) →
         IfErr r (λ e. LiesWithin m e)
     given_position {m} given up l g = by_result r l g
       where
         by_result : (r : Result (A × Bor (List ℕ)) ReadError) → {o : Reading B} → Leaves position t o →
-            IsReadingOrNoMemory f r o →
+            Derives f r (λ q. o ≡ q) →
             IfErr r (λ e. LiesWithin m e)
         by_result (Ok p) l g = tt
         by_result (Err OutOfMemory) l g = tt

@@ -4,7 +4,7 @@ use Rattle.std.specs.Borrow.{Bor}
 use Rattle.fancy_lex.specs.Text.{Text}
 use Rattle.fancy_lex.specs.ErrorViews.{IfFailed}
 use Rattle.fancy_lex.specs.Reading.{Reading, gives, fails, error_at, CarriesText, Says, Reads, Reports, Returns}
-use Rattle.fancy_lex.specs.Reading.{IsReadingOrNoMemory, Derives, choose, ◌>=>◌}
+use Rattle.fancy_lex.specs.Reading.{Derives, choose, ◌>=>◌}
 use Rattle.fancy_lex.specs.declared.error.ReadError.{ReadError}
 use Rattle.fancy_lex.specs.declared.error.ReadError.TheVariants.{At, OutOfMemory}
 
@@ -39,13 +39,13 @@ only_returned f r o q e g = subst (Returns f r) e g
 
 -- the code's result is the reading, unless memory ran out
 pub returns_gives : {A B : Type 0} (f : A → B) (r : Result (A × Bor (List ℕ)) ReadError) (o : Reading B) → Returns f r o →
-    IsReadingOrNoMemory f r o
+    Derives f r (λ q. o ≡ q)
 returns_gives f (Ok p) o g = g
 returns_gives f (Err e) o g = report_fails e o g
 
 -- if the relation holds of the function's result, it holds of the code's result
 pub derives_given : {A B : Type 0} (f : A → B) (r : Result (A × Bor (List ℕ)) ReadError) (R : Reading B → Type 0)
-    (o : Reading B) → R o → IsReadingOrNoMemory f r o → Derives f r R
+    (o : Reading B) → R o → Derives f r (λ q. o ≡ q) → Derives f r R
 derives_given f (Ok p) R o h g = subst R g h
 derives_given f (Err OutOfMemory) R o h g = tt
 derives_given f (Err (At p k)) R o h g = subst R g h

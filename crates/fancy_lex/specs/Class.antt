@@ -1,4 +1,5 @@
 -- Classes: the text after an opening bracket, and the text that is written for the class.
+-- The definition is `class`, at the end; `Premises` of `fancy_grammar` states that `OuterClass` agrees with it.
 use Rattle.std.specs.Prelude.{◌≡◌, ℕ, zero, suc, ◌+◌, ◌-◌, ◌/◌, ◌%◌, Bool, true, false, not, ◌&&◌, ◌||◌, ◌==◌, nat_lt}
 use Rattle.std.specs.Prelude.{if◌then◌else◌, [], ◌∷◌, ◌++◌, codes}
 use Prim.Native.Char.{code}
@@ -58,26 +59,6 @@ with_symbol symbol p = choose {B = Text × Text} (strip symbol p.1) (λ u. (p.0 
 unfoldable pub class_start : Text → Text → Text × Text
 class_start out t = with_symbol (code "]") (with_symbol (code "^") (out ++ code "[" ∷ [], t))
 
--- a class under these flags
-module _ (f : Flags) where
-  -- The rest of a class inside `outer` other classes, with `out` as the text that is written so far. The first number
-  -- is the number of steps left: each reads a byte or more, so it is never used up. `seen` says whether a negated set
-  -- was written before.
-  unfoldable pub class_from : ℕ → ℕ → Bool → Text → Text → Reading Text
-  class_from zero outer seen out t = fails class_not_closed
-  class_from (suc k) outer seen out [] = fails class_not_closed
-  class_from (suc k) outer seen out (c ∷ t) =
-      if c == code "\\" then
-      escape f true t >=> (λ e u. class_from k outer (seen || is_negated e) (out ++ escape_in_class seen e) u)
-      else if c == code "[" then class_from k (outer + 1) seen (class_start out t).0 (class_start out t).1
-      else if c == code "]" then (
-      if outer == 0 then gives (out ++ c ∷ []) t else class_from k (outer - 1) seen (out ++ c ∷ []) t)
-      else class_from k outer seen (out ++ c ∷ []) t
-
-  -- the class after the bracket
-  unfoldable pub class : Text → Reading Text
-  class t = class_from (suc (bytes t)) 0 false (class_start [] t).0 (class_start [] t).1
-
 -- the result of a class: the text that is written, whether a negated set was written by then, and the rest of the text;
 -- or an error
 pub data Written : Type 0 where
@@ -123,3 +104,23 @@ mutual
 abbrev pub OuterClass : Flags → Text → Reading Text → Type 0
 OuterClass f t (gives out v) = (a : Bool) × Class f false t (written out a v)
 OuterClass f t (fails e) = Class f false t (failed e)
+
+-- a class under these flags
+module _ (f : Flags) where
+  -- The rest of a class inside `outer` other classes, with `out` as the text that is written so far. The first number
+  -- is the number of steps left: each reads a byte or more, so it is never used up. `seen` says whether a negated set
+  -- was written before.
+  unfoldable pub class_from : ℕ → ℕ → Bool → Text → Text → Reading Text
+  class_from zero outer seen out t = fails class_not_closed
+  class_from (suc k) outer seen out [] = fails class_not_closed
+  class_from (suc k) outer seen out (c ∷ t) =
+      if c == code "\\" then
+      escape f true t >=> (λ e u. class_from k outer (seen || is_negated e) (out ++ escape_in_class seen e) u)
+      else if c == code "[" then class_from k (outer + 1) seen (class_start out t).0 (class_start out t).1
+      else if c == code "]" then (
+      if outer == 0 then gives (out ++ c ∷ []) t else class_from k (outer - 1) seen (out ++ c ∷ []) t)
+      else class_from k outer seen (out ++ c ∷ []) t
+
+  -- the class after the bracket
+  unfoldable pub class : Text → Reading Text
+  class t = class_from (suc (bytes t)) 0 false (class_start [] t).0 (class_start [] t).1

@@ -1,4 +1,5 @@
--- The letters after the `(?` of a flag group.
+-- The letters after the `(?` of a flag group, as a relation.
+-- The definition is `letters` of `LetterSteps`; `Premises` of `fancy_grammar` states that `GroupLetters` agrees with it.
 use Rattle.std.specs.Prelude.{◌≡◌, ◌≢◌, ◌⊎◌, ℕ, ◌==◌, Bool, true, false, not, List, [], ◌∷◌, ◌++◌, codes}
 use Rattle.std.specs.Prelude.{Option, Some, None, option_map}
 use Rattle.std.specs.List.{find}

@@ -1,4 +1,5 @@
 -- The letters of a flag group as they are read, one after another.
+-- The definition is `letters`; `Premises` of `fancy_grammar` states that `GroupLetters` of `FlagLetters` agrees with it.
 use Rattle.std.specs.Prelude.{ℕ, zero, suc, ◌+◌, ◌-◌, ◌==◌, ◌&&◌, ◌||◌, Bool, true, false, not, [], ◌∷◌, length, take}
 use Rattle.std.specs.Prelude.{if◌then◌else◌}
 use Rattle.std.proofs.Math.Bool.{beq}

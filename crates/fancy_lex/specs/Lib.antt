@@ -4,7 +4,6 @@
 pub mod Characters
 pub mod Text
 pub mod Flags
-pub mod FlagBits
 pub mod Flag
 pub mod FlagWord
 pub mod Located

@@ -1,9 +1,9 @@
 -- The results of readers that can return an error.
-use Rattle.std.specs.Prelude.{◌≡◌, ℕ, true, List, chars, Option, Some, None, Result, MatchResult}
+use Rattle.std.specs.Prelude.{◌≡◌, ℕ, true, List, chars, Option, Some, None, Result, MatchResult, ⊤}
 use Rattle.std.specs.Borrow.{Bor}
 use Rattle.fancy_lex.specs.Text.{Text}
 use Rattle.fancy_lex.specs.Located.{Located, Kind, carries_text}
-use Rattle.fancy_lex.specs.ErrorViews.{MatchReadError, IfFailed}
+use Rattle.fancy_lex.specs.ErrorViews.{MatchReadError}
 use Rattle.fancy_lex.specs.ErrorTable.{comment_not_closed}
 use Rattle.fancy_lex.specs.LayoutSteps.{Skipped, rest, failed}
 use Rattle.fancy_lex.specs.declared.error.ReadError.{ReadError}
@@ -37,35 +37,35 @@ abbrev pub layout_reading : Skipped → Reading (Unit {0})
 layout_reading (rest t) = gives tt t
 layout_reading (failed p) = fails (comment_not_closed p)
 
--- the code's error is that of the reading
-abbrev pub Says : {A : Type 0} → ReadError → Reading A → Type 0
-Says e o = MatchReadError e ⊥ (λ k p. o ≡ error_at p k)
-
--- the code's result is the reading, with its value mapped by f
-abbrev pub Reads : {A B : Type 0} → (A → B) → Result (A × Bor (List ℕ)) ReadError → Reading B → Type 0
-Reads f r o = MatchResult r (λ p. o ≡ gives (f p.0) (chars p.1.now)) (λ e. Says e o)
-
--- the same for a result without a value
-abbrev pub ReadsRest : Result (Bor (List ℕ)) ReadError → Reading (Unit {0}) → Type 0
-ReadsRest r o = MatchResult r (λ t. o ≡ gives tt (chars t.now)) (λ e. Says e o)
-
 -- the reading is an error that carries a text
 abbrev pub CarriesText : {A : Type 0} → Reading A → Type 0
 CarriesText (gives a t) = ⊥
 CarriesText (fails e) = carries_text e.kind ≡ true
 
--- the code's error is that of the reading, or memory ran out for the text that this error carries
-abbrev pub Reports : {A : Type 0} → ReadError → Reading A → Type 0
-Reports e o = MatchReadError e (CarriesText o) (λ k p. o ≡ error_at p k)
+-- the relation holds of the code's result, with its value mapped by f, or memory ran out and M holds
+abbrev pub IsRead : {A B : Type 0} → Type 0 → (A → B) → Result (A × Bor (List ℕ)) ReadError → (Reading B → Type 0) → Type 0
+IsRead M f r R = MatchResult r (λ p. R (gives (f p.0) (chars p.1.now))) (λ e. MatchReadError e M (λ k p. R (error_at p k)))
 
--- the code's result is the reading, with its value mapped by f; memory can only run out for the text of an error
+-- the code's result is the reading, with its value mapped by f
+abbrev pub Reads : {A B : Type 0} → (A → B) → Result (A × Bor (List ℕ)) ReadError → Reading B → Type 0
+Reads f r o = IsRead ⊥ f r (λ q. o ≡ q)
+
+-- the same; memory can only run out for the text of an error
 abbrev pub Returns : {A B : Type 0} → (A → B) → Result (A × Bor (List ℕ)) ReadError → Reading B → Type 0
-Returns f r o = MatchResult r (λ p. o ≡ gives (f p.0) (chars p.1.now)) (λ e. Reports e o)
+Returns f r o = IsRead (CarriesText o) f r (λ q. o ≡ q)
 
 -- the relation holds of the code's result, with its value mapped by f, unless memory ran out
 abbrev pub Derives : {A B : Type 0} → (A → B) → Result (A × Bor (List ℕ)) ReadError → (Reading B → Type 0) → Type 0
-Derives f r R = MatchResult r (λ p. R (gives (f p.0) (chars p.1.now))) (λ e. IfFailed e (λ k p. R (error_at p k)))
+Derives f r R = IsRead ⊤ f r R
 
--- the code's result is the reading, with its value mapped by f, unless memory ran out
-abbrev pub IsReadingOrNoMemory : {A B : Type 0} → (A → B) → Result (A × Bor (List ℕ)) ReadError → Reading B → Type 0
-IsReadingOrNoMemory f r o = Derives f r (λ q. o ≡ q)
+-- the code's error is that of the reading
+abbrev pub Says : {A : Type 0} → ReadError → Reading A → Type 0
+Says e o = MatchReadError e ⊥ (λ k p. o ≡ error_at p k)
+
+-- the code's result, which has no value, is the reading
+abbrev pub ReadsRest : Result (Bor (List ℕ)) ReadError → Reading (Unit {0}) → Type 0
+ReadsRest r o = MatchResult r (λ t. o ≡ gives tt (chars t.now)) (λ e. Says e o)
+
+-- the code's error is that of the reading, or memory ran out for the text that this error carries
+abbrev pub Reports : {A : Type 0} → ReadError → Reading A → Type 0
+Reports e o = MatchReadError e (CarriesText o) (λ k p. o ≡ error_at p k)

@@ -3,7 +3,7 @@ ghost use Rattle.std.specs.Prelude.{◌≡◌, ◌+◌, ◌/◌, ◌%◌, ◌^�
 ghost use Rattle.fancy_lex.specs.Class as spec;
 ghost use Rattle.fancy_lex.specs.EscapeViews.{escape_of, delegate_text};
 ghost use Rattle.fancy_lex.specs.Property.{is_negated_set};
-ghost use Rattle.fancy_lex.specs.Reading.{Reading, Derives, IsReadingOrNoMemory, gives};
+ghost use Rattle.fancy_lex.specs.Reading.{Reading, Derives, gives};
 ghost use Rattle.fancy_lex.specs.ErrorViews.{LiesWithin};
 ghost use Rattle.fancy_lex.specs.Text.{Text, text_of, BeginsWith, EndsWith};
 
@@ -150,7 +150,7 @@ const CLASS_CAPACITY: usize = 24;
 
 /// Reads a class and those nested in it through its last bracket: the text that is written, and the rest of the text.
 fn read_class(alloc: Global, text: &str, flags: Flags) -> Result<(String, &str), ReadError>
-    ensures value { IsReadingOrNoMemory text_of result (spec.class flags (chars text.now)) }
+    ensures value { Derives text_of result (λ o. spec.class flags (chars text.now) ≡ o) }
     ensures shorter { IfOk result (λ p. length p.1.now < length text.now) }
 {
     let mut out = String::with_capacity(alloc, CLASS_CAPACITY)?;
@@ -185,10 +185,9 @@ fn read_class(alloc: Global, text: &str, flags: Flags) -> Result<(String, &str),
 /// the rest of the text. If the pattern ends in the class, the error is `InvalidClass` at its end; otherwise it is the
 /// error of the first escape that cannot be parsed. It does not depend on the text after the class.
 pub fn class(alloc: Global, text: &str, flags: Flags) -> Result<(String, &str), ReadError>
-    ensures value { IsReadingOrNoMemory text_of result (spec.class flags (chars text.now)) }
+    ensures value { Derives text_of result (λ o. spec.class flags (chars text.now) ≡ o) }
     ensures derives { Derives text_of result (spec.OuterClass flags (chars text.now)) }
-    ensures only { (o : Reading Text) → spec.OuterClass flags (chars text.now) o →
-        IsReadingOrNoMemory text_of result o }
+    ensures only { (o : Reading Text) → spec.OuterClass flags (chars text.now) o → Derives text_of result (λ q. o ≡ q) }
     ensures follows { (s : Text) →
         IfOk result (λ p. spec.class flags (chars text.now ++ s) ≡ gives (text_of p.0) (chars p.1.now ++ s)) }
     ensures cut { IfOk result (λ p. EndsWith (chars text.now) (chars p.1.now)) }

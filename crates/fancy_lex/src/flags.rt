@@ -2,8 +2,8 @@
 //! are ignored. The letters are those of flag groups, such as `(?i)`.
 ghost use Rattle.std.specs.Prelude.{◌≡◌, ◌≢◌, if◌then◌else◌, MatchOption};
 ghost use Rattle.fancy_lex.specs.Bits.{has_bit};
-ghost use Rattle.fancy_lex.specs.FlagBits.{bits_of};
 ghost use Rattle.fancy_lex.specs.Flag as spec;
+ghost use Rattle.fancy_lex.specs.Flags.{bits_of, flags_of};
 
 /// Case-insensitive (`i`): literals that are not escaped, hexadecimal escapes that are characters, classes, properties,
 /// `\d`, `\D`, `\s`, `\S`, `\w`, `\W` and back references have `casei`.
@@ -138,8 +138,6 @@ impl Flag {
 }
 
 impl Flags {
-    ghost use Rattle.fancy_lex.specs.Flags.{flags_of};
-
     /// The flags whose bits are set in `bits`; other bits are ignored.
     pub fn from_bits(bits: u32) -> Flags
         ensures { result ≡ flags_of bits }

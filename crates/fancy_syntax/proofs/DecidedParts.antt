@@ -7,17 +7,14 @@ use Rattle.std.proofs.lemmas.List.{length-map, map-append}
 use Rattle.fancy_lex.specs.ErrorTable.{body_missing}
 use Rattle.fancy_lex.specs.Located.{Located}
 use Rattle.fancy_lex.specs.Text.{Text, bytes}
-use Rattle.fancy_lex.specs.Quantifier.{counts}
 use Rattle.fancy_lex.specs.declared.counts.Counts.{Counts}
-use Rattle.fancy_lex.specs.LayoutSteps.{past_layout}
 use Rattle.fancy_lex.specs.Reading.{choose}
-use Rattle.std.specs.Option.{option_and_then}
 use Rattle.std.proofs.Common.{Option, Some, None, zero, suc}
 use Rattle.fancy_grammar.specs.Grammar.{closed, branches_of, conditional_of}
 use Rattle.fancy_grammar.specs.Join.{is_empty}
 use Rattle.fancy_grammar.specs.Label as label
 use Rattle.fancy_grammar.specs.Quantified.{is_swapped, is_unmoved, max_adjacent, quant, suffix}
-use Rattle.fancy_grammar.specs.Spans.{if_done, quantifier_end}
+use Rattle.fancy_grammar.specs.Spans.{counts_ahead, if_done, quantifier_end}
 use Rattle.fancy_grammar.specs.State.{State, at, Outcome, done, failed, mapped}
 use Rattle.fancy_grammar.specs.Tree.{Tree, leaf, over, row, list_of, expression}
 use Rattle.fancy_grammar.specs.Trivia.{layout_end}
@@ -218,7 +215,7 @@ part_decided i _ _ r paren end l h = absurd h
 
 quant_decided : (i : Bool) (a : Tree) (s : State) (l : Log) → quant_recorded (decided i a) s l ≡ quant_recorded a s l
 quant_decided i a s l =
-    by_counts (option_and_then (counts s.flags.ignore_space) (past_layout s.flags.ignore_space s.rest))
+    by_counts (counts_ahead s)
   where
     m : Log
     m = layout_passed s l

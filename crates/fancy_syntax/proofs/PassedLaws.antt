@@ -4,11 +4,8 @@ use Rattle.std.proofs.Common.{◌++◌, length, Option, Some, None, refl, sym, a
 use Rattle.std.proofs.Common.{◌+◌, min, take, drop, arith, length-append}
 use Rattle.std.specs.Prelude.{insert}
 use Rattle.std.proofs.Math.Seq.{take-append_seam, drop-append_seam}
-use Rattle.std.specs.Option.{option_and_then}
-use Rattle.fancy_lex.specs.LayoutSteps.{past_layout}
 use Rattle.fancy_lex.specs.Reading.{choose}
 use Rattle.fancy_lex.specs.Text.{Text, bytes, reach_of}
-use Rattle.fancy_lex.specs.Quantifier.{counts}
 use Rattle.fancy_lex.specs.declared.counts.Counts.{Counts}
 use Rattle.fancy_grammar.specs.AtomStart.{AtomStart}
 use Rattle.fancy_grammar.specs.Grammar.{Alternation, alternation, Branches, last, more, branch_error, Branch, branch}
@@ -19,7 +16,7 @@ use Rattle.fancy_grammar.specs.GroupKind.{GroupKind, capture, flag_group, look, 
 use Rattle.fancy_grammar.specs.Join.{is_empty, solid}
 use Rattle.fancy_grammar.specs.Label as label
 use Rattle.fancy_grammar.specs.Quantified.{quant, suffix, Suffix, is_repeatable, is_swapped, is_unmoved, max_adjacent}
-use Rattle.fancy_grammar.specs.Spans.{condition_span, end_of, if_done, quantifier_end, alternation_spans}
+use Rattle.fancy_grammar.specs.Spans.{condition_span, counts_ahead, end_of, if_done, quantifier_end, alternation_spans}
 use Rattle.fancy_grammar.specs.State.{State, at, Outcome, done, failed}
 use Rattle.fancy_grammar.specs.Tree.{Tree, leaf, over, row}
 use Rattle.fancy_grammar.specs.Trivia.{Passed, part, dropped, with_dropped, filled, layout_end, comments_at}
@@ -89,7 +86,7 @@ group_passed repeater end l = sym (append-nil l.passed)
 
 quant_passed : (a : Tree) (s : State) (l : Log) → (quant_recorded a s l).passed ≡ quant_trivia a s l.passed
 quant_passed a s l =
-    by_counts (option_and_then (counts s.flags.ignore_space) (past_layout s.flags.ignore_space s.rest))
+    by_counts (counts_ahead s)
   where
     n : Log
     n = layout_passed s l

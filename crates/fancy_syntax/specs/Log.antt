@@ -93,36 +93,21 @@ wrapped end atomic l = under_node end (if atomic then under_node end l else l)
 
 -- ---- atoms and their parts
 
+-- the open atom is changed
+abbrev pub with_open : (Open → Open) → Log → Log
+with_open f l = record l { open_atom = f l.open_atom }
+
+-- a part begins at the reach, before which that much is recorded
+abbrev pub begun : ℕ → ℕ → Open → Open
+begun start height o = record o { part = start; branches = height; bar = None; branch = start; pieces = height }
+
 abbrev pub part_begun : ℕ → Log → Log
-part_begun start l = record l {
-  open_atom = record {
-    start = l.open_atom.start;
-    height = l.open_atom.height;
-    passed = l.open_atom.passed;
-    condition = l.open_atom.condition;
-    part = start;
-    branches = length l.recorded;
-    bar = None;
-    branch = start;
-    pieces = length l.recorded;
-  };
-}
+part_begun start l = with_open (begun start (length l.recorded)) l
 
 abbrev pub atom_opened : ℕ → Log → Log
-atom_opened start l = record l {
-  around = l.around ++ l.open_atom ∷ [];
-  open_atom = record {
-    start = start;
-    height = length l.recorded;
-    passed = length l.passed;
-    condition = l.open_atom.condition;
-    part = l.open_atom.part;
-    branches = l.open_atom.branches;
-    bar = l.open_atom.bar;
-    branch = l.open_atom.branch;
-    pieces = l.open_atom.pieces;
-  };
-}
+atom_opened start l =
+    with_open (λ o. record o { start = start; height = length l.recorded; passed = length l.passed })
+    (record l { around = l.around ++ l.open_atom ∷ [] })
 
 -- an atom that begins at the first reach, and its first part at the second
 abbrev pub opened : ℕ → ℕ → Log → Log
@@ -134,19 +119,9 @@ group_opened h s t l = pass (opening_of h s t) (opened (reach_of s.rest) (reach_
 
 -- the open part, a condition, has ended, and after its closing parenthesis the body begins at the reach
 abbrev pub body_begun : ℕ → Log → Log
-body_begun start l = record l {
-  open_atom = record {
-    start = l.open_atom.start;
-    height = l.open_atom.height;
-    passed = l.open_atom.passed;
-    condition = Some (record { start = l.open_atom.part; closing = start + 1; passed = length l.passed });
-    part = start;
-    branches = length l.recorded;
-    bar = None;
-    branch = start;
-    pieces = length l.recorded;
-  };
-}
+body_begun start l = part_begun start (with_open (λ o. record o {
+  condition = Some (record { start = o.part; closing = start + 1; passed = length l.passed });
+}) l)
 
 -- a conditional that begins at s; its body begins at t, after a condition that is no alternation
 abbrev pub body_opened : State → State → Log → Log
@@ -181,19 +156,11 @@ first_bar None start before = record { past = start; before = before }
 first_bar (Some b) start before = b
 
 abbrev pub branch_begun : ℕ → Log → Log
-branch_begun start l = record l {
-  open_atom = record {
-    start = l.open_atom.start;
-    height = l.open_atom.height;
-    passed = l.open_atom.passed;
-    condition = l.open_atom.condition;
-    part = l.open_atom.part;
-    branches = l.open_atom.branches;
-    bar = Some (first_bar l.open_atom.bar start (length l.recorded - l.open_atom.branches));
-    branch = start;
-    pieces = length l.recorded;
-  };
-}
+branch_begun start l = with_open (λ o. record o {
+  bar = Some (first_bar o.bar start (length l.recorded - o.branches));
+  branch = start;
+  pieces = length l.recorded;
+}) l
 
 abbrev pub branch_ended : ℕ → ℕ → Log → Log
 branch_ended pieces end l =

@@ -2,11 +2,8 @@
 -- derivation.
 use Rattle.std.specs.Prelude.{◌≡◌, ℕ, zero, suc, true, false, ◌||◌, ◌&&◌, List, ◌∷◌, length, None}
 use Rattle.std.specs.Prelude.{if◌then◌else◌}
-use Rattle.std.specs.Option.{option_and_then}
-use Rattle.fancy_lex.specs.LayoutSteps.{past_layout}
 use Rattle.fancy_lex.specs.Reading.{choose}
 use Rattle.fancy_lex.specs.Text.{Text, bytes, reach_of}
-use Rattle.fancy_lex.specs.Quantifier.{counts}
 use Rattle.fancy_lex.specs.declared.counts.Counts.{Counts}
 use Rattle.fancy_grammar.specs.AtomStart.{AtomStart}
 use Rattle.fancy_grammar.specs.Grammar.{Alternation, alternation, Branches, last, more, branch_error, Branch, branch}
@@ -16,7 +13,7 @@ use Rattle.fancy_grammar.specs.Grammar.{one_branch, absent_error, Inside, inside
 use Rattle.fancy_grammar.specs.GroupKind.{GroupKind, capture, flag_group}
 use Rattle.fancy_grammar.specs.Join.{is_empty, solid}
 use Rattle.fancy_grammar.specs.Quantified.{quant, suffix, is_repeatable, is_swapped, is_unmoved, max_adjacent}
-use Rattle.fancy_grammar.specs.Spans.{end_of, if_done, quantifier_end}
+use Rattle.fancy_grammar.specs.Spans.{counts_ahead, end_of, if_done, quantifier_end}
 use Rattle.fancy_grammar.specs.State.{State, at, Outcome}
 use Rattle.fancy_grammar.specs.Tree.{Tree, alt, list_of}
 use Rattle.fancy_grammar.specs.Trivia.{flags_of_atom, closing_of, layout_end}
@@ -44,9 +41,7 @@ counted_recorded start a s l (c, t) =
 -- after the quantifier that follows layout, if one does
 abbrev pub quant_recorded : Tree → State → Log → Log
 quant_recorded a s l =
-    let blanks = s.flags.ignore_space in
-    let m = layout_passed s l in
-    choose (option_and_then (counts blanks) (past_layout blanks s.rest)) (counted_recorded (layout_end s) a s m) m
+    let m = layout_passed s l in choose (counts_ahead s) (counted_recorded (layout_end s) a s m) m
 
 -- after adjacent quantifiers, of which k more may follow
 abbrev pub adjacent_recorded : ℕ → Tree → State → Log → Log

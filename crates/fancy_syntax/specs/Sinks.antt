@@ -6,7 +6,8 @@ use Rattle.fancy_lex.specs.Text.{Text, text_of, bytes}
 use Rattle.fancy_syntax.specs.Capacity.{in_word}
 use Rattle.fancy_syntax.specs.declared.print.sink.Length.{Length}
 
--- the sink can take the text: it has no limit, or the text has no more bytes than the limit
+-- the sink can take the text: it has no limit, or the text has no more bytes than the limit; the limit is a number and
+-- no predicate, so that what can take a text can take its front
 pub record CanTake {S : Type 0} (limit : S → Option ℕ) (sink : S) (text : Text) : Type 0 where
   pub within : IfSome (limit sink) (λ n. bytes text ≤ n)
 

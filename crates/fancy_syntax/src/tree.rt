@@ -3,7 +3,7 @@ ghost use Rattle.std.specs.Prelude.{◌≡◌, chars, IfOk, IfErr};
 ghost use Rattle.fancy_lex.specs.ErrorViews.{error_in};
 ghost use Rattle.fancy_lex.specs.Flags.{flags_of, unicode_alone};
 ghost use Rattle.fancy_lex.specs.Text.{reach_of};
-ghost use Rattle.fancy_grammar.specs.ParseResult.{IsTreeOf, IsOnlyError, IsPositionedIn};
+ghost use Rattle.fancy_grammar.specs.ParseResult.{IsTreeOf};
 ghost use Rattle.fancy_grammar.specs.Promises.{IsParsed, AreParsedSpans, AreParsedTrivia, IsParseError};
 ghost use Rattle.fancy_grammar.specs.Spans.{AreSpansOf};
 ghost use Rattle.fancy_grammar.specs.Trivia.{IsTriviaOf};
@@ -175,8 +175,7 @@ fn read<S: Spanning>(
     spans: &mut S,
 ) -> std::result::Result<ExprTree, ReadError>
     ensures found { IfOk result (λ t. IsTreeOf flags (chars re.now) (view t.expr) (info_of t)) }
-    ensures error { IfErr result (λ e. IsOnlyError (error_in (chars re.now) e) flags (chars re.now)) }
-    ensures position { IfErr result (λ e. IsPositionedIn (error_in (chars re.now) e) re.now) }
+    ensures error { IfErr result (λ e. IsParseError flags re.now (error_in (chars re.now) e)) }
     ensures spans { (l : Log) → l ≡ started (reach_of (chars re.now)) → S.records spans.old l →
         IfOk result (λ t. (m : Log) × S.records spans.new m × AreSpansOf flags (chars re.now)
         (returned_spans (chars re.now) (info_of t).numbered_groups_ignored m)
@@ -193,8 +192,7 @@ fn read_with_spans(
     flags: Flags,
 ) -> std::result::Result<(ExprTree, Vec<Span>), ReadError>
     ensures found { IfOk result (λ p. IsTreeOf flags (chars re.now) (view p.0.expr) (info_of p.0)) }
-    ensures error { IfErr result (λ e. IsOnlyError (error_in (chars re.now) e) flags (chars re.now)) }
-    ensures position { IfErr result (λ e. IsPositionedIn (error_in (chars re.now) e) re.now) }
+    ensures error { IfErr result (λ e. IsParseError flags re.now (error_in (chars re.now) e)) }
     ensures spans { IfOk result (λ p. AreSpansOf flags (chars re.now) (spans_of p.1)) }
 {
     let (tree, recorded) = read_recorded(alloc, re, flags)?;
@@ -209,8 +207,7 @@ fn read_with_trivia(
     flags: Flags,
 ) -> std::result::Result<(ExprTree, Vec<Span>, Vec<Trivium>), ReadError>
     ensures found { IfOk result (λ p. IsTreeOf flags (chars re.now) (view p.0.expr) (info_of p.0)) }
-    ensures error { IfErr result (λ e. IsOnlyError (error_in (chars re.now) e) flags (chars re.now)) }
-    ensures position { IfErr result (λ e. IsPositionedIn (error_in (chars re.now) e) re.now) }
+    ensures error { IfErr result (λ e. IsParseError flags re.now (error_in (chars re.now) e)) }
     ensures spans { IfOk result (λ p. AreSpansOf flags (chars re.now) (spans_of p.1)) }
     ensures trivia { IfOk result (λ p. IsTriviaOf flags (chars re.now) (trivia_of p.2)) }
 {
@@ -227,8 +224,7 @@ fn read_recorded(
     flags: Flags,
 ) -> std::result::Result<(ExprTree, Spans), ReadError>
     ensures found { IfOk result (λ p. IsTreeOf flags (chars re.now) (view p.0.expr) (info_of p.0)) }
-    ensures error { IfErr result (λ e. IsOnlyError (error_in (chars re.now) e) flags (chars re.now)) }
-    ensures position { IfErr result (λ e. IsPositionedIn (error_in (chars re.now) e) re.now) }
+    ensures error { IfErr result (λ e. IsParseError flags re.now (error_in (chars re.now) e)) }
     ensures spans { IfOk result (λ p. AreSpansOf flags (chars re.now)
         (returned_spans (chars re.now) (info_of p.0).numbered_groups_ignored (log_of p.1))) }
     ensures trivia { IfOk result (λ p. IsTriviaOf flags (chars re.now)

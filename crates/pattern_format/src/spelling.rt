@@ -1,6 +1,6 @@
 //! The spelling of quantifiers and of flags.
 use crate::token::is_blank;
-use fancy_lex::flags::Flags;
+use fancy_lex::flags::{Flag, Flags};
 use std::alloc::{AllocError, Global};
 
 /// The text without its blanks.
@@ -63,16 +63,11 @@ pub(crate) fn push_quantifier(
     Ok(())
 }
 
-/// Whether the flag with the letter is set.
+/// Whether it is the letter of a flag that is set.
 fn has_flag(flags: Flags, letter: char) -> bool {
-    match letter {
-        'i' => flags.casei,
-        'm' => flags.multi,
-        's' => flags.dotnl,
-        'x' => flags.ignore_space,
-        'U' => flags.swap_greed,
-        'R' => flags.crlf,
-        _ => false,
+    match Flag::from_letter(letter) {
+        Some(flag) => flags.get(flag),
+        None => false,
     }
 }
 

@@ -284,6 +284,7 @@ impl Spanning for Spans {
     }
 
     fn split(&mut self, branches: usize) -> Result<(), AllocError> {
+        // The body is an Alt: `end_choice` recorded its bar after all else, and its node before all else of the body.
         let Some(Recorded::Bar(bar)) = self.recorded.pop() else {
             return Ok(());
         };
@@ -293,6 +294,7 @@ impl Spanning for Spans {
         };
         let end = *end;
         self.recorded.remove(at);
+        // If there are two branches, the second is alone, and has its own node.
         if branches < 3 {
             return Ok(());
         }

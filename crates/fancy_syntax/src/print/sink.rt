@@ -17,7 +17,8 @@ pub(super) trait Sink {
     /// That it holds this text.
     ghost holds: { Self → Text → Type 0 };
 
-    /// How many bytes it can still take, if that is limited.
+    /// How many bytes it can still take, if that is limited: a number and no predicate, so that what can take a text can
+    /// take its front.
     ghost limit: { Self → Option ℕ };
 
     /// Takes a character.

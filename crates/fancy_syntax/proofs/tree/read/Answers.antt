@@ -24,12 +24,10 @@ use Rattle.fancy_syntax.proofs.tree.read.Goals as goal
 pub returns-in_err-raw-clause-error : goal.returns-in_err-raw-clause-error
 returns-in_err-raw-clause-error g c =
     let e = err_from_is_err_and c.from_residual.result c.from_residual.ensures.1 in
-    rw (e.1, e.2) (only_reading c.in_err-raw.field-0.0 c.args.flags (chars c.args.re.now) (c.in_err-raw.ensures _ refl))
-
-pub returns-in_err-raw-clause-position : goal.returns-in_err-raw-clause-position
-returns-in_err-raw-clause-position g c =
-    let e = err_from_is_err_and c.from_residual.result c.from_residual.ensures.1 in
-    rw (e.1, e.2) (reading_positioned c.in_err-raw.field-0.0 _ _ c.utf8.re (c.in_err-raw.ensures _ refl))
+    rw (e.1, e.2) (record {
+      error = only_reading c.in_err-raw.field-0.0 c.args.flags (chars c.args.re.now) (c.in_err-raw.ensures _ refl);
+      position = reading_positioned c.in_err-raw.field-0.0 _ _ c.utf8.re (c.in_err-raw.ensures _ refl);
+    })
 
 pub resolve-requires : goal.resolve-requires
 resolve-requires g c =
@@ -54,14 +52,10 @@ pub returns-clause-error : goal.returns-clause-error
 returns-clause-error g c =
     let (r, reads, is_raw, recorded) = c.in_ok-raw.ensures _ refl in
     IfErr-weaker c.resolve.result _ _
-    (λ e first. only_resolving e _ (chars c.args.re.now) r reads first)
-    (c.resolve.ensures.error c.args.flags r reads is_raw)
-
-pub returns-clause-position : goal.returns-clause-position
-returns-clause-position g c =
-    let (r, reads, is_raw, recorded) = c.in_ok-raw.ensures _ refl in
-    IfErr-weaker c.resolve.result _ _
-    (λ e first. resolving_positioned e c.args.flags c.args.re.now r c.utf8.re reads first)
+    (λ e first. record {
+      error = only_resolving e _ (chars c.args.re.now) r reads first;
+      position = resolving_positioned e c.args.flags c.args.re.now r c.utf8.re reads first;
+    })
     (c.resolve.ensures.error c.args.flags r reads is_raw)
 
 -- the spans of the text, if they are those of the nodes of this raw tree

@@ -11,13 +11,13 @@ returns-in-Some-clause-formatted c =
     let parsed = c.in_ok-parsed.parsed in
     let same : string_bytes c.in-Some.formatted.text ≡ c.args.pattern.now = search rules in
     unchanged c.args.style (flags_of c.args.flags) c.args.pattern.now (string_bytes c.in-Some.formatted.text) (view parsed.tree.expr)
-    (info_of parsed.tree) (trivia_of parsed.trivia) same c.in_ok-parsed.ensures.tree.found c.in_ok-parsed.ensures.trivia.trivia
+    (info_of parsed.tree) (trivia_of parsed.trivia) same c.in_ok-parsed.ensures.tree.found c.in_ok-parsed.ensures.trivia.found
 
 pub returns-in-Some-2-clause-formatted : goal.returns-in-Some-2-clause-formatted
 returns-in-Some-2-clause-formatted c =
     let parsed = c.in_ok-parsed.parsed in
     formatted c.args.style (flags_of c.args.flags) c.args.pattern.now (string_bytes c.in-Some-2.formatted.text) (view parsed.tree.expr)
-    (info_of parsed.tree) (trivia_of parsed.trivia) c.in_ok-parsed.ensures.tree.found c.in_ok-parsed.ensures.trivia.trivia
+    (info_of parsed.tree) (trivia_of parsed.trivia) c.in_ok-parsed.ensures.tree.found c.in_ok-parsed.ensures.trivia.found
     (rw c.in-Some-2.is at c.in_ok-formatted.ensures)
 
 pub returns-clause-formatted : goal.returns-clause-formatted
@@ -25,4 +25,4 @@ returns-clause-formatted c =
     let parsed = c.in_ok-parsed.parsed in
     unchanged c.args.style (flags_of c.args.flags) c.args.pattern.now (string_bytes c.in_ok-from_str.field-0) (view parsed.tree.expr)
     (info_of parsed.tree) (trivia_of parsed.trivia) c.in_ok-from_str.ensures.ok c.in_ok-parsed.ensures.tree.found
-    c.in_ok-parsed.ensures.trivia.trivia
+    c.in_ok-parsed.ensures.trivia.found

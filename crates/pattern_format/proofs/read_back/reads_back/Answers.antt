@@ -18,6 +18,6 @@ returns c same =
     let old_trivia = ap (λ l. comments c.args.style pattern (map trivium_of l)) c.deref.ensures.value in
     let new_trivia = ap (λ l. comments c.args.style text (map trivium_of l)) c.deref-2.ensures.value in
     read_back c.args.style (flags_of c.args.flags) pattern text (view old.tree.expr) (view new.tree.expr) (info_of old.tree)
-    (info_of new.tree) (trivia_of old.trivia) (trivia_of new.trivia) parsed.found parsed_trivia.trivia
+    (info_of new.tree) (trivia_of old.trivia) (trivia_of new.trivia) parsed.found parsed_trivia.found
     (c.is_same_but_for_positions.ensures.0 c.if-not-is_same_but_for_positions.false)
     (sym old_trivia ∙ c.in_ok-is_same.ensures same ∙ new_trivia)

@@ -20,4 +20,4 @@ returns-in-Ok-clause-spans c =
 
 pub returns-in-Err-clause-error : goal.returns-in-Err-clause-error
 returns-in-Err-clause-error c =
-    parse_error c.from_bits-flags.ensures c.in_pattern.ensures c.in-Err.ensures.error c.in-Err.ensures.position
+    parse_error c.from_bits-flags.ensures c.in_pattern.ensures c.in-Err.ensures.error
