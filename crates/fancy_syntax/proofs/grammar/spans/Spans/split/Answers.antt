@@ -5,14 +5,14 @@ use Rattle.std.specs.Prelude.{insert}
 use Rattle.std.specs.Result.{OnOk}
 use Rattle.std.proofs.lemmas.Option.{slice_get_read}
 use Rattle.std.proofs.lemmas.Bool.Decides.{nat_tests}
-use Rattle.fancy_syntax.specs.Log.{others_put, put_at, body_split}
+use Rattle.fancy_syntax.specs.Log.{others_put, put_at}
 use Rattle.fancy_syntax.specs.LogViews.{log_of}
 use Rattle.fancy_syntax.specs.declared.grammar.recorded.Recorded.TheVariants.{Node, Bar}
 use Rattle.fancy_syntax.proofs.RecordingLemmas.{split_off}
-use Rattle.fancy_syntax.proofs.grammar.spans.SpansSpanning.split.Goals as goal
+use Rattle.fancy_syntax.proofs.grammar.spans.Spans.split.Goals as goal
 
 pub returns : goal.returns
-returns c l h =
+returns c =
     let self = c.args.self.now in
     let front = c.pop.new.self.items in
     let bar = c.in-Some-Bar.bar in
@@ -36,4 +36,4 @@ returns c l h =
       recorded = if t then left.items else put_at (height + bar.before) rest left.items;
     }) several
     ∙ ap (λ n. record (log_of self) { recorded = insert left.items n rest }) after in
-    subst (λ m. OnOk c.put.result (log_of c.put.new.self ≡ m)) (sym all ∙ ap (body_split c.args.branches) h) c.put.ensures
+    subst (λ m. OnOk c.put.result (log_of c.put.new.self ≡ m)) (sym all) c.put.ensures
