@@ -1,4 +1,5 @@
 mod CharacterLemmas
+mod RegularShapeLemmas
 mod ManyLemmas
 mod WayLemmas
 mod RepeatLemmas

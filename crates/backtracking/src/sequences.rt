@@ -12,9 +12,10 @@ use crate::attack::{Attack, Surroundings, Target, enclosing_of, find_attack};
 use crate::cut::{Cut, SequenceWays, SequenceWitness};
 use crate::known_sets::ClassSets;
 use crate::pieces::{Piece, Reach, pieces_of};
+use crate::regular_shape::{RegularShape, regular_shape};
 use crate::repeats::{SMALL_LIMIT, SearchOptions, is_left_alone};
 use crate::sequence::ways_of_cut;
-use fancy_syntax::expr::{Expr, Shape, Wrap};
+use fancy_syntax::expr::Expr;
 use fancy_syntax::span::Span;
 use fancy_syntax::spanned::{SpannedNode, SpannedTree};
 use std::alloc::{AllocError, Global};
@@ -60,28 +61,20 @@ struct Row<'a, 's> {
 pub(crate) fn repeated_part(tree: &Expr) -> Option<&Expr>
     ensures { IfSome result (λ part. IsRepeatOf (view part.now) (view tree.now)) }
 {
-    match tree.shape() {
-        Shape::Around(Wrap::Group, child) => repeated_part(child),
-        Shape::Around(Wrap::Repeat { lo, hi, .. }, child) => {
+    match regular_shape(tree) {
+        RegularShape::Group(child) => repeated_part(child),
+        RegularShape::Repeat { child, lo, hi } => {
             if hi.saturating_sub(lo) > SMALL_LIMIT {
                 Some(child)
             } else {
                 None
             }
         }
-        Shape::Around(
-            Wrap::LookAround(_)
-            | Wrap::AtomicGroup
-            | Wrap::DefineGroup
-            | Wrap::Repeater
-            | Wrap::Stopper,
-            _,
-        )
-        | Shape::Concat(_)
-        | Shape::Alt(_)
-        | Shape::Conditional { .. }
-        | Shape::Expression { .. }
-        | Shape::Leaf => None,
+        RegularShape::Empty
+        | RegularShape::Character
+        | RegularShape::Concat(_)
+        | RegularShape::Alt(_)
+        | RegularShape::Irregular => None,
     }
 }
 
