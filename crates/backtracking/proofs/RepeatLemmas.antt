@@ -2,10 +2,10 @@
 use Rattle.std.proofs.Common.{◌≡◌, ℕ, Bool, List, [], ◌∷◌, ◌++◌, suc, Box, Global, rules, refl, sym, ap, ◌∙◌, subst, arith}
 use Rattle.std.specs.List.{AllByRecursion, IsAmong}
 use Rattle.fancy_grammar.specs.Tree.{repeat}
-use Rattle.fancy_syntax.specs.Spanned.{Spanned}
+use Rattle.fancy_syntax.specs.Spanned.{Spanned, IsNodeOf, root, below, spanned_children}
 use Rattle.fancy_syntax.specs.View.{view}
 use Rattle.fancy_syntax.specs.declared.expr.Expr.{Expr, Repeat, the_lemmas}
-use Rattle.backtracking.specs.SlowRepeats.{IsNodeOf, root, below, spanned_children, IsSlowAt, IsSlowIn}
+use Rattle.backtracking.specs.SlowRepeats.{IsSlowAt, IsSlowIn}
 use Rattle.backtracking.specs.declared.repeats.SlowRepeat.{SlowRepeat}
 
 view_Repeat : (b : Box Expr Global) (lo hi : ℕ) (greedy : Bool) → view (Repeat b lo hi greedy) ≡ repeat (view b.value) lo hi greedy

@@ -1,18 +1,18 @@
 -- Repeats of a concatenation, by the expressions that hold them, and lists of slow pairs.
 use Rattle.std.proofs.Common.{◌≡◌, ℕ, ◌-◌, ◌<◌, Bool, List, [], ◌∷◌, map, Vec, Global, refl}
 use Rattle.std.proofs.Common.{zero, suc, arith, sym, ap, ◌∙◌, subst, ◌+◌, length, get_or, take, drop}
+use Rattle.std.proofs.Math.Numerals.{add-one}
 use Rattle.std.proofs.lemmas.List.{drop-map, take-map}
 use Rattle.std.proofs.lemmas.Option.{slice_get-map, slice_get_read}
 use Rattle.std.specs.List.{AllByRecursion, slice_range}
 use Rattle.std.specs.Prelude.{IsSomeAnd, slice_get, option_map}
 use Rattle.fancy_grammar.specs.Tree.{Tree, concat, group, repeat, trees_of}
-use Rattle.fancy_syntax.specs.Spanned.{Spanned, first_span}
+use Rattle.fancy_syntax.specs.Spanned.{Spanned, first_span, IsNodeOf, spanned_children}
 use Rattle.fancy_syntax.proofs.ChildrenLemmas.{view_Concat}
 use Rattle.fancy_syntax.specs.View.{view, views}
 use Rattle.fancy_syntax.specs.declared.expr.Expr.{Expr, Concat}
 use Rattle.fancy_syntax.specs.declared.span.Span.{Span}
-use Rattle.backtracking.specs.SlowRepeats.{IsNodeOf, spanned_children}
-use Rattle.backtracking.specs.SlowSequences.{IsRepeatOf, itself, inside, IsSlowAcross, IsSlowSequenceIn}
+use Rattle.backtracking.specs.SlowSequences.{IsRepeatOf, itself, inside, IsChain, more, IsSlowAcross, IsSlowSequenceIn}
 use Rattle.backtracking.specs.declared.sequences.SlowSequence.{SlowSequence}
 
 pub is_repeat : (t x : Tree) (lo hi : ℕ) (greedy : Bool) → t ≡ repeat x lo hi greedy → 20 < hi - lo → IsRepeatOf x t
@@ -35,6 +35,22 @@ pub trees_between : (es bs : List Expr) (i s j : ℕ) → s ≡ i + 1 → bs ≡
     views bs ≡ slice_range (views es) (i + 1) j
 trees_between es bs i s j start is = ap views is ∙ ap (λ n. views (slice_range es n j)) start
     ∙ sym (ap (take (j - (i + 1))) (drop-map view (i + 1) es) ∙ take-map view (j - (i + 1)) (drop (i + 1) es))
+
+-- the chain of a report, with its own two repeats as the last step
+pub chain_of : (unicode : Bool) (trees : List Tree) (spans : List Span) (r : SlowSequence) → IsSlowAcross unicode trees spans r →
+    IsChain unicode trees r.witness.word.items r.last r.degree
+chain_of unicode trees spans r slow =
+    subst (IsChain unicode trees r.witness.word.items r.last) (sym (slow.degree ∙ add-one _))
+    (more slow.chain (record {
+      x = slow.x;
+      ts = slow.ts;
+      y = slow.y;
+      cut = slow.cut;
+      ds = r.witness.first.items;
+      es = r.witness.across.items;
+      fs = r.witness.last.items;
+      three = slow.three;
+    }))
 
 -- a pair of repeats of a node of a tree is one of the tree
 slow_in : (unicode : Bool) (tree node : Spanned) (trees : List Tree) (spans : List Span) (r : SlowSequence) → IsNodeOf node tree →

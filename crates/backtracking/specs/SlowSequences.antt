@@ -2,11 +2,10 @@
 use Rattle.std.specs.Prelude.{◌≡◌, ℕ, suc, ◌+◌, ◌-◌, ◌<◌, Bool, List, map, slice_get, IsSomeAnd}
 use Rattle.std.specs.List.{slice_range}
 use Rattle.fancy_grammar.specs.Tree.{Tree, trees_of, concat, group, repeat}
-use Rattle.fancy_syntax.specs.Spanned.{Spanned, first_span}
+use Rattle.fancy_syntax.specs.Spanned.{Spanned, first_span, IsNodeOf, spanned_children}
 use Rattle.fancy_syntax.specs.View.{view}
 use Rattle.fancy_syntax.specs.declared.span.Span.{Span}
 use Rattle.backtracking.specs.ManySplits.{HasManySplits}
-use Rattle.backtracking.specs.SlowRepeats.{IsNodeOf, spanned_children}
 use Rattle.backtracking.specs.ThreeWays.{AreThreeWays}
 use Rattle.backtracking.specs.declared.decision.Decision.{Decision}
 use Rattle.backtracking.specs.declared.sequences.SlowSequence.{SlowSequence}
@@ -40,13 +39,15 @@ pub record IsPair (unicode : Bool) (trees : List Tree) (w : List ℕ) (i j : ℕ
   pub fs : List Decision
   pub three : AreThreeWays unicode x ts y w ds es fs
 
--- a chain of so many repeats of the trees ends at an index: each and the next one have three ways over the word
+-- a chain of so many repeats of the trees ends at an index: one repeat, or several, each of which has three ways over the
+-- word with the next one
 pub data IsChain (unicode : Bool) (trees : List Tree) (w : List ℕ) : ℕ → ℕ → Type 0 where
-  one : {i : ℕ} → IsChain unicode trees w i 1
+  one : {i : ℕ} → (x : Tree) → IsSomeAnd (slice_get trees i) (IsRepeatOf x) → IsChain unicode trees w i 1
   more : {i j d : ℕ} → IsChain unicode trees w i d → IsPair unicode trees w i j → IsChain unicode trees w j (suc d)
 
 -- the report has the span of two repeats of the trees, a word with three ways, so that there are n ways over the word n
--- times, and the degree of a chain over the word that ends with the two
+-- times, and the degree: how many repeats the chain over the word has that ends with the step from the first of the two to
+-- the last
 pub record IsSlowAcross (unicode : Bool) (trees : List Tree) (spans : List Span) (r : SlowSequence) : Type 0 where
   pub i : ℕ
   pub x : Tree
@@ -54,7 +55,9 @@ pub record IsSlowAcross (unicode : Bool) (trees : List Tree) (spans : List Span)
   pub y : Tree
   pub cut : IsCut trees i r.last x ts y
   pub span : IsSpanAcross spans i r.last r.span
-  pub chain : IsChain unicode trees r.witness.word.items r.last r.degree
+  pub earlier : ℕ  -- how many repeats the chain has through the first of the two
+  pub chain : IsChain unicode trees r.witness.word.items i earlier
+  pub degree : r.degree ≡ earlier + 1
   pub three : AreThreeWays unicode x ts y r.witness.word.items r.witness.first.items r.witness.across.items r.witness.last.items
   pub many : HasManySplits unicode x ts y r.witness.word.items r.witness.first.items r.witness.across.items r.witness.last.items
 

@@ -1,11 +1,10 @@
 //! The concatenations of a pattern that can match a text in polynomially many ways.
-ghost use Rattle.std.specs.Prelude.{◌≡◌, ◌++◌, map, Bool, List, IfOk, IfSome, OnOk};
+ghost use Rattle.std.specs.Prelude.{◌≡◌, ◌++◌, map, slice_get, Bool, List, IfOk, IfSome, IsSomeAnd, OnOk};
 ghost use Rattle.std.specs.List.{AllByRecursion};
-ghost use Rattle.fancy_syntax.specs.Spanned.{Spanned, spanned_of, spanned_of_tree, first_span};
+ghost use Rattle.fancy_syntax.specs.Spanned.{Spanned, spanned_of, spanned_of_tree, first_span, IsNodeOf, spanned_children};
 ghost use Rattle.fancy_grammar.specs.Tree.{Tree, concat, trees_of};
 ghost use Rattle.fancy_syntax.specs.View.{view, views};
 ghost use Rattle.fancy_syntax.specs.declared.span.Span.{Span};
-ghost use Rattle.backtracking.specs.SlowRepeats.{IsNodeOf, spanned_children};
 ghost use Rattle.backtracking.specs.SlowSequences.{IsRepeatOf, IsCut, IsSpanAcross, IsChain, IsSlowAcross, IsSlowSequenceIn};
 
 use crate::attack::{Attack, Surroundings, Target, enclosing_of, find_attack};
@@ -99,9 +98,10 @@ fn span_across(spans: &[Span], first: usize, last: usize) -> Option<Span>
     Some(Span { start, end })
 }
 
-/// How many repeats a chain over the word has that ends at the index; 1 if no pair ends there.
+/// How many repeats a chain over the word has that ends with the repeat at the index; 1 if no pair ends there.
 fn chain_to(pairs: &[SlowSequence], index: usize, word: &[char]) -> usize
-    ensures { (unicode : Bool) → (trees : List Tree) → (spans : List Span) →
+    ensures { (unicode : Bool) → (trees : List Tree) → (spans : List Span) → (part : Tree) →
+        IsSomeAnd (slice_get trees index) (IsRepeatOf part) →
         AllByRecursion (IsSlowAcross unicode trees spans) pairs.now → IsChain unicode trees word.now index result }
 {
     let mut longest = 1;

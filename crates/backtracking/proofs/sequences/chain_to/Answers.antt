@@ -1,15 +1,15 @@
 use Rattle.std.proofs.Common.{sym, ◌∙◌, subst}
 use Rattle.std.specs.Cmp.Lexicographic.{same_text}
-use Rattle.backtracking.proofs.SequenceLemmas.{pair_at}
+use Rattle.backtracking.proofs.SequenceLemmas.{chain_of, pair_at}
 use Rattle.backtracking.specs.SlowSequences.{IsChain, one, IsSlowAcross}
 use Rattle.backtracking.proofs.sequences.chain_to.Goals.{then-pair-index+then-pair-longest+then-eq, else-pair-index}
 use Rattle.backtracking.proofs.sequences.chain_to.Goals as goal
 
 pub loop-pair-init : goal.loop-pair-init
-loop-pair-init c unicode trees spans all = one
+loop-pair-init c unicode trees spans part k all = one part k
 
 pub loop-pair-preserved : goal.loop-pair-preserved
-loop-pair-preserved c unicode trees spans all =
+loop-pair-preserved c unicode trees spans part k all =
     let pair = c.pair-item.result in
     let slow = pair_at (IsSlowAcross unicode trees spans) c.args.pairs.now c.loop-pair.pair-index pair c.loop-pair-test.true c.pair-item.is
     all in
@@ -18,7 +18,7 @@ loop-pair-preserved c unicode trees spans all =
           subst (IsChain unicode trees c.args.word.now c.args.index) (sym w.longest-is)
           (subst (λ i. IsChain unicode trees c.args.word.now i pair.degree) w.if-pair-index.true
           (subst (λ word. IsChain unicode trees word pair.last pair.degree)
-          (sym w.deref.ensures.value ∙ same_text _ _ (sym w.if-eq.true ∙ w.eq.ensures)) slow.chain))
+          (sym w.deref.ensures.value ∙ same_text _ _ (sym w.if-eq.true ∙ w.eq.ensures)) (chain_of unicode trees spans pair slow)))
       | else-pair-index w ↦
-          subst (IsChain unicode trees c.args.word.now c.args.index) (sym w.longest-is) (c.loop-pair.invariant unicode trees spans all)
+          subst (IsChain unicode trees c.args.word.now c.args.index) (sym w.longest-is) (c.loop-pair.invariant unicode trees spans part k all)
     ]

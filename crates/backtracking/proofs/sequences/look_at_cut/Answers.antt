@@ -1,8 +1,7 @@
-use Rattle.std.proofs.Common.{sym, ◌∙◌, subst}
-use Rattle.std.proofs.Math.Numerals.{add-one}
+use Rattle.std.proofs.Common.{subst}
 use Rattle.fancy_syntax.specs.View.{view, views}
 use Rattle.backtracking.specs.Across.{IsAcross, IsPolynomial}
-use Rattle.backtracking.specs.SlowSequences.{IsChain, more}
+use Rattle.backtracking.specs.SlowSequences.{IsChain}
 use Rattle.backtracking.proofs.sequences.look_at_cut.Goals as goal
 
 pub returns : goal.returns
@@ -17,7 +16,7 @@ returns c all =
     let three = subst (IsAcross unicode x ts y) c.in-Polynomial.is c.in_ok-witness.ensures.witnessed in
     let earlier : IsChain unicode trees w.word.items c.args.first c.chain_to.result =
     subst (λ word. IsChain unicode trees word c.args.first c.chain_to.result) c.deref-2.ensures.value
-    (c.chain_to.ensures unicode trees c.args.row.spans.now all) in
+    (c.chain_to.ensures unicode trees c.args.row.spans.now x c.in-Some.ensures.first all) in
     record {
       i = c.args.first;
       x = x;
@@ -25,17 +24,9 @@ returns c all =
       y = y;
       cut = c.in-Some.ensures;
       span = c.in-Some-span_across.ensures;
-      chain = subst (IsChain unicode trees w.word.items c.args.last) (sym (c.in-Some-checked_add.ensures.1 ∙ add-one _))
-          (more earlier (record {
-            x = x;
-            ts = ts;
-            y = y;
-            cut = c.in-Some.ensures;
-            ds = w.first.items;
-            es = w.across.items;
-            fs = w.last.items;
-            three = three;
-          }));
+      earlier = c.chain_to.result;
+      chain = earlier;
+      degree = c.in-Some-checked_add.ensures.1;
       three = three;
       many = subst (IsPolynomial unicode x ts y) c.in-Polynomial.is c.in_ok-witness.ensures.polynomial;
     }
