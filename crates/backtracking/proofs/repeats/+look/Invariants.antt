@@ -5,7 +5,7 @@ use Rattle.fancy_syntax.specs.Tree.{levels}
 use Rattle.fancy_syntax.specs.View.{view}
 use Rattle.fancy_syntax.proofs.Descents.{Within}
 use Rattle.backtracking.specs.SlowRepeats.{IsSlowIn}
-use Rattle.backtracking.proofs.RepeatLemmas.{Remain}
+use Rattle.fancy_syntax.proofs.NodeLemmas.{Remain}
 use Rattle.backtracking.proofs.repeats.+look.Given as goal
 
 abbrev pub decreases-look : goal.decreases-look

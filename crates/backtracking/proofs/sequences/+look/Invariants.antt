@@ -5,7 +5,7 @@ use Rattle.fancy_syntax.specs.Tree.{levels}
 use Rattle.fancy_syntax.specs.View.{view}
 use Rattle.fancy_syntax.proofs.Descents.{Within}
 use Rattle.backtracking.specs.SlowSequences.{IsSlowSequenceIn}
-use Rattle.backtracking.proofs.RepeatLemmas.{Remain}
+use Rattle.fancy_syntax.proofs.NodeLemmas.{Remain}
 use Rattle.backtracking.proofs.sequences.+look.Given as goal
 
 abbrev pub decreases-look : goal.decreases-look
