@@ -29,6 +29,38 @@ enum Loss {
     MoreBlanks,
 }
 
+/// What is before a token in its line.
+#[derive(Clone, Copy, PartialEq, Eq, Debug)]
+enum Before {
+    /// Nothing, or what no branch ends with.
+    NoBranch,
+    /// What a branch may end with.
+    Branch,
+    /// A branch with the bar after it.
+    BranchAndBar,
+}
+
+/// What is before the next token in its line, after parentheses, bars or flags.
+fn after_other(before: Before, text: &str) -> Before {
+    if text.ends_with(')') {
+        return Before::Branch;
+    }
+    match text.strip_suffix('|') {
+        Some("") if before == Before::Branch => Before::BranchAndBar,
+        Some(ends) if ends.ends_with(')') => Before::BranchAndBar,
+        Some(_) | None => Before::NoBranch,
+    }
+}
+
+/// What is before the next token in its line, after a token that ends the line if it is blank.
+fn after_token(before: Before, token: Token<'_>) -> Before {
+    match token.kind {
+        TokenKind::Leaf { .. } | TokenKind::Quantifier | TokenKind::Comment => Before::Branch,
+        TokenKind::Blank | TokenKind::LineComment => Before::NoBranch,
+        TokenKind::Flags { .. } | TokenKind::Other => after_other(before, token.text),
+    }
+}
+
 /// The text of a token that is one character without the escape that it needs where whitespace is ignored.
 fn unescaped(text: &str, ignores_case: bool) -> &str {
     match text {
@@ -65,6 +97,8 @@ struct Line<'p> {
     last: &'p str,
     /// Whether blanks are after it.
     has_gap: bool,
+    /// What is before in the line of the pattern.
+    before: Before,
     loss: Loss,
     oniguruma_mode: bool,
     pattern: &'p str,
@@ -78,6 +112,9 @@ impl<'p> Line<'p> {
     /// Passes blanks. A space before the end of a line needs no other escape than any space.
     fn pass_blanks(&mut self, blanks: &str) -> Result<(), AllocError> {
         self.has_gap = true;
+        if blanks.contains('\n') {
+            self.before = Before::NoBranch;
+        }
         if self.loss == Loss::Escapes && self.last == SPACE_AT_END && blanks.contains('\n') {
             for _ in 0..SPACE_AT_END.len() {
                 self.written.pop();
@@ -226,11 +263,26 @@ impl<'p> Line<'p> {
         }
     }
 
+    /// Writes a comment through the end of its line, which is not inside a token. After a branch and its bar it is about that
+    /// branch, and comes before the bar.
+    fn push_comment(&mut self, comment: &str) -> Result<(), AllocError> {
+        let is_after_bar = self.before == Before::BranchAndBar
+            && comment.ends_with('\n')
+            && self.written.ends_with('|');
+        if !is_after_bar {
+            return self.push_line_comment(comment);
+        }
+        self.written.pop();
+        self.push_line_comment(comment)?;
+        self.written.push('|')?;
+        Ok(())
+    }
+
     /// Writes a token that is neither blank nor an empty comment, and may be the first one.
     fn push_text(&mut self, token: Token<'p>, is_first: bool) -> Result<(), AllocError> {
         let text = token.text;
         match token.kind {
-            TokenKind::LineComment => self.push_line_comment(text),
+            TokenKind::LineComment => self.push_comment(text),
             TokenKind::Leaf { ignores_case } if self.loss == Loss::Escapes => {
                 self.last = unescaped(text, ignores_case);
                 Ok(self.written.push_str(self.last)?)
@@ -254,6 +306,7 @@ impl<'p> Line<'p> {
             TokenKind::Blank => self.pass_blanks(text),
             TokenKind::LineComment if contents(text) == Some("") => {
                 self.has_gap = true;
+                self.before = Before::NoBranch;
                 Ok(())
             }
             TokenKind::LineComment
@@ -264,7 +317,9 @@ impl<'p> Line<'p> {
             | TokenKind::Other => {
                 self.push_gap(text)?;
                 self.last = text;
-                self.push_text(token, is_first)
+                self.push_text(token, is_first)?;
+                self.before = after_token(self.before, token);
+                Ok(())
             }
         }
     }
@@ -295,6 +350,7 @@ fn in_one_line(
         written: String::new(alloc),
         last: "",
         has_gap: false,
+        before: Before::NoBranch,
         loss,
         oniguruma_mode,
         pattern,

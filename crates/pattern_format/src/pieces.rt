@@ -67,6 +67,8 @@ struct Pieces<'p> {
     is_line_start: bool,
     /// The blanks after the last piece.
     blanks: &'p str,
+    /// Whether a bar is to be added, after the end of the line and comments.
+    holds_bar: bool,
 }
 
 impl<'p> Pieces<'p> {
@@ -95,12 +97,52 @@ impl<'p> Pieces<'p> {
         Ok(true)
     }
 
+    /// Whether the last piece is in this line, and a branch may end with it.
+    fn is_in_branch(&self) -> bool {
+        match self.pieces.last() {
+            Some(last) => match last.kind {
+                PieceKind::Atom
+                | PieceKind::Literal
+                | PieceKind::Closing
+                | PieceKind::Quantifier
+                | PieceKind::Comment => true,
+                PieceKind::Opening { .. }
+                | PieceKind::Bar
+                | PieceKind::LineComment { .. }
+                | PieceKind::LineEnd => false,
+            },
+            None => false,
+        }
+    }
+
+    /// Adds the bar that is held, if there is one.
+    fn push_held_bar(&mut self) -> Result<(), AllocError> {
+        if self.holds_bar {
+            self.push("|", PieceKind::Bar)?;
+        }
+        self.holds_bar = false;
+        Ok(())
+    }
+
+    /// Adds a bar. After a branch in the same line it is held, since a comment at the end of that line is about the branch.
+    fn push_bar(&mut self) -> Result<(), AllocError> {
+        self.push_held_bar()?;
+        if self.is_in_branch() {
+            self.holds_bar = true;
+            return Ok(());
+        }
+        self.push("|", PieceKind::Bar)
+    }
+
     /// Adds parentheses that close, and bars. Returns false if there is something else.
     fn push_ends(&mut self, text: &str) -> Result<bool, AllocError> {
         for c in text.chars() {
             match c {
-                ')' => self.push(")", PieceKind::Closing)?,
-                '|' => self.push("|", PieceKind::Bar)?,
+                ')' => {
+                    self.push_held_bar()?;
+                    self.push(")", PieceKind::Closing)?;
+                }
+                '|' => self.push_bar()?,
                 _ => return Ok(false),
             }
         }
@@ -180,6 +222,9 @@ impl<'p> Pieces<'p> {
 
     /// Adds a comment through the end of its line, after blanks.
     fn push_line_comment(&mut self, comment: &str, blanks: &str) -> Result<(), AllocError> {
+        if !comment.ends_with('\n') {
+            self.push_held_bar()?;
+        }
         let is_alone = self.is_line_start;
         let mut text = String::new(self.alloc);
         if !is_alone {
@@ -196,6 +241,7 @@ impl<'p> Pieces<'p> {
 
     /// Adds a token that is not blank. Returns false if it cannot be laid out anew.
     fn push_text(&mut self, token: Token<'p>) -> Result<bool, AllocError> {
+        self.push_held_bar()?;
         self.is_line_start = false;
         let text = token.text;
         match token.kind {
@@ -246,11 +292,13 @@ pub(crate) fn pieces_of(
         oniguruma_mode,
         is_line_start: true,
         blanks: "",
+        holds_bar: false,
     };
     for token in tokens {
         if !token.is_needless && !found.push_token(*token)? {
             return Ok(None);
         }
     }
+    found.push_held_bar()?;
     Ok(Some(found.pieces))
 }
