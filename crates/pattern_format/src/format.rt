@@ -149,9 +149,10 @@ fn most_styled(
 }
 
 /// Formats the pattern, and keeps how it is written: the text of each leaf, comments, groups that set flags, and lines
-/// with their indentation. `(?:..)`, `(?#)` and letters of flags go if they change nothing. `{0,1}`, `{0,}` and `{1,}`
-/// become `?`, `*` and `+`, and `{n,n}` becomes `{n}`. Ignored whitespace goes at the end of a line, and becomes one space
-/// within a line, except before a comment through the end of the line.
+/// with their indentation. `(?:..)`, `(?#)` and letters of flags go if they change nothing, except a group around a whole
+/// pattern of several parts. `{0,1}`, `{0,}` and `{1,}` become `?`, `*` and `+`, and `{n,n}` becomes `{n}`. Ignored
+/// whitespace goes at the end of a line, and becomes one space within a line, except before a comment through the end of the
+/// line.
 ///
 /// In the style `Verbose` the pattern is laid out over several lines, and all that is in it stays too. A pattern that cannot be
 /// laid out has its own lines: one with a part where whitespace is not ignored, or where the text would read otherwise.
