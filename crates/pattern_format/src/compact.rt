@@ -88,6 +88,13 @@ fn are_one(text: &str, next: &str) -> bool {
     has_digits || text == "\\b" && next.starts_with('{')
 }
 
+/// Whether a comment through the end of its line is among these of the pattern that cannot be in parentheses.
+fn needs_lines(pattern: &str, comments: &[Comment]) -> bool {
+    comments.iter().any(|comment| {
+        comment.is_line && comment.span.text(pattern).and_then(contents).is_none()
+    })
+}
+
 /// A pattern that is written in one line.
 #[derive(Drop)]
 struct Line<'p> {
@@ -100,6 +107,8 @@ struct Line<'p> {
     /// What is before in the line of the pattern.
     before: Before,
     loss: Loss,
+    /// Whether comments through the ends of their lines stay so, since one of them cannot be in parentheses.
+    keeps_line_comments: bool,
     oniguruma_mode: bool,
     pattern: &'p str,
     /// Where the next token begins in the pattern.
@@ -135,15 +144,17 @@ impl<'p> Line<'p> {
         Ok(())
     }
 
-    /// Writes a comment through the end of its line in parentheses if it can be. Otherwise it stays with its line.
+    /// Writes a comment through the end of its line in parentheses if all can be. Otherwise it stays with its line. One that is
+    /// empty goes.
     fn push_line_comment(&mut self, comment: &str) -> Result<(), AllocError> {
-        let Some(text) = contents(comment) else {
-            return Ok(self.written.push_str(comment)?);
-        };
-        if !text.is_empty() {
-            self.written.push_str("(?#")?;
-            self.written.push_str(text)?;
-            self.written.push(')')?;
+        match contents(comment) {
+            Some("") => {}
+            Some(text) if !self.keeps_line_comments => {
+                self.written.push_str("(?#")?;
+                self.written.push_str(text)?;
+                self.written.push(')')?;
+            }
+            Some(_) | None => self.written.push_str(comment)?,
         }
         Ok(())
     }
@@ -352,6 +363,7 @@ fn in_one_line(
         has_gap: false,
         before: Before::NoBranch,
         loss,
+        keeps_line_comments: needs_lines(pattern, comments),
         oniguruma_mode,
         pattern,
         position: 0,
