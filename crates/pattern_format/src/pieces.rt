@@ -21,8 +21,8 @@ pub(crate) enum PieceKind {
     Comment,
     /// A comment through the end of its line, which is alone in that line or not, and the blanks before it.
     LineComment { is_alone: bool },
-    /// The end of a line.
-    LineEnd,
+    /// The end of a line, after which blank lines are or not.
+    LineEnd { has_blank_line: bool },
 }
 
 /// A piece of a pattern.
@@ -109,7 +109,7 @@ impl<'p> Pieces<'p> {
                 PieceKind::Opening { .. }
                 | PieceKind::Bar
                 | PieceKind::LineComment { .. }
-                | PieceKind::LineEnd => false,
+                | PieceKind::LineEnd { .. } => false,
             },
             None => false,
         }
@@ -210,12 +210,20 @@ impl<'p> Pieces<'p> {
         Ok(!token.text.contains('#'))
     }
 
+    /// Whether the last piece is a comment with the end of its line.
+    fn is_after_line_comment(&self) -> bool {
+        self.pieces
+            .last()
+            .is_some_and(|last| matches!(last.kind, PieceKind::LineComment { .. }))
+    }
+
     /// Adds blanks.
     fn push_blanks(&mut self, blanks: &'p str) -> Result<(), AllocError> {
         self.blanks = blanks;
-        if blanks.contains('\n') {
+        if let Some((_, rest)) = blanks.split_once('\n') {
+            let has_blank_line = rest.contains('\n') || self.is_after_line_comment();
             self.is_line_start = true;
-            self.push("", PieceKind::LineEnd)?;
+            self.push("", PieceKind::LineEnd { has_blank_line })?;
         }
         Ok(())
     }
