@@ -369,9 +369,9 @@ def are_formatted_right():
         fancy.format("(?:\\x41){0,1}(?# é)", style=style.KEPT) == "\\x41?(?# é)"
         and fancy.format("(?:\\x41){0,1}(?# é)".encode(), style=style.KEPT) == "\\x41?(?# é)"
         and fancy.format("a  b \n (?:c){1,}   # one", verbose, style.KEPT) == "a b\n c+   # one"
-        and fancy.format("(abcd|ef)g", style=style.VERBOSE) == "(?x)\n(abcd|ef)g"
+        and fancy.format("(abcd|ef)g", style=style.VERBOSE) == "(abcd|ef)g"
         and fancy.format("(abcd|ef)g", style=style.VERBOSE, width=8) == "(?x)\n(\n    abcd\n  | ef\n)\ng"
-        and fancy.format("(abcd|ef)g", style=style.VERBOSE, width=2**64) == "(?x)\n(abcd|ef)g"
+        and fancy.format("(abcd|ef)g", style=style.VERBOSE, width=2**64) == "(abcd|ef)g"
         and fancy.format("(?x)\n  a{0,1} # é\n| b", style=style.COMPACT) == "a?(?# é)|b"
         and fancy.to_pattern("(?:\\x41){0,1}(?# é)") == "A?"
         and raises(ValueError, lambda: fancy.format("a", style=len(style)))

@@ -183,7 +183,8 @@ enum fancy_precedence {
 /* How fancy_format lays out a pattern. */
 enum fancy_style {
     FANCY_STYLE_KEPT = 0,    /* its lines stay, with their indentation */
-    FANCY_STYLE_VERBOSE = 1, /* over several lines; the pattern begins with (?x) unless FANCY_FLAG_IGNORE_SPACE is set */
+    FANCY_STYLE_VERBOSE = 1, /* over several lines, unless it is one that fits; the pattern then begins with (?x) unless
+                                FANCY_FLAG_IGNORE_SPACE is set */
     FANCY_STYLE_COMPACT = 2  /* in one line: ignored whitespace, (?x) at the beginning and empty comments go, and # one becomes
                                 (?# one) */
 };

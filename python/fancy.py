@@ -196,7 +196,7 @@ class Style(enum.IntEnum):
     """How `format` lays out a pattern that it keeps as it is written."""
 
     KEPT = 0  #: its lines stay, with their indentation
-    VERBOSE = 1  #: over several lines; the pattern begins with `(?x)` unless `IGNORE_SPACE` is set
+    VERBOSE = 1  #: over several lines, unless it is one that fits; the pattern then begins with `(?x)` unless `IGNORE_SPACE` is set
     COMPACT = 2  #: in one line: ignored whitespace, `(?x)` at the beginning and empty comments go, and `# one` becomes `(?# one)`
 # ---- end of numbers
 
@@ -1243,11 +1243,11 @@ def format(pattern: Pattern, flags: int = UNICODE, style: Optional[Style] = None
 
     It is written as its author wrote it: escapes, classes, names and comments stay. Simpler forms of quantifiers are used, and
     groups, flags and ignored whitespace that are not needed go. `width` is how many characters a line may have in the style
-    `VERBOSE`.
+    `VERBOSE`, in which a pattern that is such a line stays one.
 
     >>> format("(?:a){0,1}|\\\\x41", style=Style.KEPT)
     'a?|\\\\x41'
-    >>> print(format("(?:a){0,1}|\\\\x41", style=Style.VERBOSE))
+    >>> print(format("(?:a){0,1}|\\\\x41", style=Style.VERBOSE, width=6))
     (?x)
       a?
     | \\x41

@@ -29,6 +29,38 @@ enum Loss {
     MoreBlanks,
 }
 
+/// What is before a token in its line.
+#[derive(Clone, Copy, PartialEq, Eq, Debug)]
+enum Before {
+    /// Nothing, or what no branch ends with.
+    NoBranch,
+    /// What a branch may end with.
+    Branch,
+    /// A branch with the bar after it.
+    BranchAndBar,
+}
+
+/// What is before the next token in its line, after parentheses, bars or flags.
+fn after_other(before: Before, text: &str) -> Before {
+    if text.ends_with(')') {
+        return Before::Branch;
+    }
+    match text.strip_suffix('|') {
+        Some("") if before == Before::Branch => Before::BranchAndBar,
+        Some(ends) if ends.ends_with(')') => Before::BranchAndBar,
+        Some(_) | None => Before::NoBranch,
+    }
+}
+
+/// What is before the next token in its line, after a token that ends the line if it is blank.
+fn after_token(before: Before, token: Token<'_>) -> Before {
+    match token.kind {
+        TokenKind::Leaf { .. } | TokenKind::Quantifier | TokenKind::Comment => Before::Branch,
+        TokenKind::Blank | TokenKind::LineComment => Before::NoBranch,
+        TokenKind::Flags { .. } | TokenKind::Other => after_other(before, token.text),
+    }
+}
+
 /// The text of a token that is one character without the escape that it needs where whitespace is ignored.
 fn unescaped(text: &str, ignores_case: bool) -> &str {
     match text {
@@ -56,6 +88,13 @@ fn are_one(text: &str, next: &str) -> bool {
     has_digits || text == "\\b" && next.starts_with('{')
 }
 
+/// Whether a comment through the end of its line is among these of the pattern that cannot be in parentheses.
+fn needs_lines(pattern: &str, comments: &[Comment]) -> bool {
+    comments.iter().any(|comment| {
+        comment.is_line && comment.span.text(pattern).and_then(contents).is_none()
+    })
+}
+
 /// A pattern that is written in one line.
 #[derive(Drop)]
 struct Line<'p> {
@@ -65,7 +104,11 @@ struct Line<'p> {
     last: &'p str,
     /// Whether blanks are after it.
     has_gap: bool,
+    /// What is before in the line of the pattern.
+    before: Before,
     loss: Loss,
+    /// Whether comments through the ends of their lines stay so, since one of them cannot be in parentheses.
+    keeps_line_comments: bool,
     oniguruma_mode: bool,
     pattern: &'p str,
     /// Where the next token begins in the pattern.
@@ -78,6 +121,9 @@ impl<'p> Line<'p> {
     /// Passes blanks. A space before the end of a line needs no other escape than any space.
     fn pass_blanks(&mut self, blanks: &str) -> Result<(), AllocError> {
         self.has_gap = true;
+        if blanks.contains('\n') {
+            self.before = Before::NoBranch;
+        }
         if self.loss == Loss::Escapes && self.last == SPACE_AT_END && blanks.contains('\n') {
             for _ in 0..SPACE_AT_END.len() {
                 self.written.pop();
@@ -98,15 +144,17 @@ impl<'p> Line<'p> {
         Ok(())
     }
 
-    /// Writes a comment through the end of its line in parentheses if it can be. Otherwise it stays with its line.
+    /// Writes a comment through the end of its line in parentheses if all can be. Otherwise it stays with its line. One that is
+    /// empty goes.
     fn push_line_comment(&mut self, comment: &str) -> Result<(), AllocError> {
-        let Some(text) = contents(comment) else {
-            return Ok(self.written.push_str(comment)?);
-        };
-        if !text.is_empty() {
-            self.written.push_str("(?#")?;
-            self.written.push_str(text)?;
-            self.written.push(')')?;
+        match contents(comment) {
+            Some("") => {}
+            Some(text) if !self.keeps_line_comments => {
+                self.written.push_str("(?#")?;
+                self.written.push_str(text)?;
+                self.written.push(')')?;
+            }
+            Some(_) | None => self.written.push_str(comment)?,
         }
         Ok(())
     }
@@ -226,11 +274,26 @@ impl<'p> Line<'p> {
         }
     }
 
+    /// Writes a comment through the end of its line, which is not inside a token. After a branch and its bar it is about that
+    /// branch, and comes before the bar.
+    fn push_comment(&mut self, comment: &str) -> Result<(), AllocError> {
+        let is_after_bar = self.before == Before::BranchAndBar
+            && comment.ends_with('\n')
+            && self.written.ends_with('|');
+        if !is_after_bar {
+            return self.push_line_comment(comment);
+        }
+        self.written.pop();
+        self.push_line_comment(comment)?;
+        self.written.push('|')?;
+        Ok(())
+    }
+
     /// Writes a token that is neither blank nor an empty comment, and may be the first one.
     fn push_text(&mut self, token: Token<'p>, is_first: bool) -> Result<(), AllocError> {
         let text = token.text;
         match token.kind {
-            TokenKind::LineComment => self.push_line_comment(text),
+            TokenKind::LineComment => self.push_comment(text),
             TokenKind::Leaf { ignores_case } if self.loss == Loss::Escapes => {
                 self.last = unescaped(text, ignores_case);
                 Ok(self.written.push_str(self.last)?)
@@ -254,6 +317,7 @@ impl<'p> Line<'p> {
             TokenKind::Blank => self.pass_blanks(text),
             TokenKind::LineComment if contents(text) == Some("") => {
                 self.has_gap = true;
+                self.before = Before::NoBranch;
                 Ok(())
             }
             TokenKind::LineComment
@@ -264,7 +328,9 @@ impl<'p> Line<'p> {
             | TokenKind::Other => {
                 self.push_gap(text)?;
                 self.last = text;
-                self.push_text(token, is_first)
+                self.push_text(token, is_first)?;
+                self.before = after_token(self.before, token);
+                Ok(())
             }
         }
     }
@@ -295,7 +361,9 @@ fn in_one_line(
         written: String::new(alloc),
         last: "",
         has_gap: false,
+        before: Before::NoBranch,
         loss,
+        keeps_line_comments: needs_lines(pattern, comments),
         oniguruma_mode,
         pattern,
         position: 0,

@@ -30,7 +30,7 @@ impl Item {
             word_after: 0,
             has_line_end: matches!(
                 piece.kind,
-                PieceKind::LineComment { .. } | PieceKind::LineEnd
+                PieceKind::LineComment { .. } | PieceKind::LineEnd { .. }
             ),
             has_branches: false,
         }
@@ -144,7 +144,7 @@ impl Items {
             PieceKind::Atom
             | PieceKind::Comment
             | PieceKind::LineComment { .. }
-            | PieceKind::LineEnd => {
+            | PieceKind::LineEnd { .. } => {
                 self.push(item.with(quantifiers))?;
             }
         }

@@ -13,6 +13,7 @@ enum Gap {
     Nothing,
     Space,
     Line,
+    BlankLine,
 }
 
 /// A group around a position, or the pattern.
@@ -73,13 +74,17 @@ impl Lines {
         })
     }
 
-    /// Begins a line with so many spaces. A space that ends the line before it is written otherwise, since it is lost easily.
+    /// Begins a line with so many spaces, after a blank line if that is the gap. A space that ends the line before it is written
+    /// otherwise, since it is lost easily.
     fn begin_line(&mut self, indent: usize) -> Result<(), AllocError> {
         if self.written.ends_with("\\ ") {
             self.written.pop();
             self.written.push_str("x20")?;
         }
         if !self.written.is_empty() && !self.written.ends_with('\n') {
+            self.written.push('\n')?;
+        }
+        if self.gap == Gap::BlankLine {
             self.written.push('\n')?;
         }
         for _ in 0..indent {
@@ -91,16 +96,15 @@ impl Lines {
 
     /// Writes what comes before the next piece.
     fn write_gap(&mut self) -> Result<(), AllocError> {
-        let gap = self.gap;
-        self.gap = Gap::Nothing;
-        match gap {
+        match self.gap {
             Gap::Nothing => {}
             Gap::Space => {
                 self.written.push(' ')?;
                 self.column = self.column.saturating_add(1);
             }
-            Gap::Line => self.begin_line(self.level.indent)?,
+            Gap::Line | Gap::BlankLine => self.begin_line(self.level.indent)?,
         }
+        self.gap = Gap::Nothing;
         Ok(())
     }
 
@@ -159,10 +163,15 @@ impl Lines {
         Ok(())
     }
 
-    /// Ends a line, if something is in it.
-    fn end_line(&mut self) {
+    /// Ends a line, if something is in it, after a piece of this kind. Of blank lines one stays, except at the beginning of a
+    /// pattern or group.
+    fn end_line(&mut self, has_blank_line: bool, last: Option<PieceKind>) {
         if self.gap == Gap::Nothing && self.column > self.level.indent {
             self.gap = Gap::Line;
+        }
+        let is_begun = !self.written.is_empty() && !matches!(last, Some(PieceKind::Opening { .. }));
+        if has_blank_line && is_begun && self.gap == Gap::Line {
+            self.gap = Gap::BlankLine;
         }
     }
 
@@ -240,14 +249,15 @@ impl Lines {
             PieceKind::Bar => self.push_bar()?,
             PieceKind::Quantifier => self.push_quantifier(text)?,
             PieceKind::LineComment { is_alone } => self.push_line_comment(text, is_alone)?,
-            PieceKind::LineEnd => self.end_line(),
+            PieceKind::LineEnd { has_blank_line } => self.end_line(has_blank_line, last),
         }
         Ok(true)
     }
 
     /// The whole text. It ends with a line if the pattern does.
     pub(crate) fn end(mut self) -> Result<String, AllocError> {
-        if self.last == Some(PieceKind::LineEnd) && !self.written.is_empty() {
+        if matches!(self.last, Some(PieceKind::LineEnd { .. })) && !self.written.is_empty() {
+            self.gap = Gap::Line;
             self.begin_line(0)?;
         }
         Ok(self.written)

@@ -21,8 +21,8 @@ pub(crate) enum PieceKind {
     Comment,
     /// A comment through the end of its line, which is alone in that line or not, and the blanks before it.
     LineComment { is_alone: bool },
-    /// The end of a line.
-    LineEnd,
+    /// The end of a line, after which blank lines are or not.
+    LineEnd { has_blank_line: bool },
 }
 
 /// A piece of a pattern.
@@ -67,6 +67,8 @@ struct Pieces<'p> {
     is_line_start: bool,
     /// The blanks after the last piece.
     blanks: &'p str,
+    /// Whether a bar is to be added, after the end of the line and comments.
+    holds_bar: bool,
 }
 
 impl<'p> Pieces<'p> {
@@ -95,12 +97,52 @@ impl<'p> Pieces<'p> {
         Ok(true)
     }
 
+    /// Whether the last piece is in this line, and a branch may end with it.
+    fn is_in_branch(&self) -> bool {
+        match self.pieces.last() {
+            Some(last) => match last.kind {
+                PieceKind::Atom
+                | PieceKind::Literal
+                | PieceKind::Closing
+                | PieceKind::Quantifier
+                | PieceKind::Comment => true,
+                PieceKind::Opening { .. }
+                | PieceKind::Bar
+                | PieceKind::LineComment { .. }
+                | PieceKind::LineEnd { .. } => false,
+            },
+            None => false,
+        }
+    }
+
+    /// Adds the bar that is held, if there is one.
+    fn push_held_bar(&mut self) -> Result<(), AllocError> {
+        if self.holds_bar {
+            self.push("|", PieceKind::Bar)?;
+        }
+        self.holds_bar = false;
+        Ok(())
+    }
+
+    /// Adds a bar. After a branch in the same line it is held, since a comment at the end of that line is about the branch.
+    fn push_bar(&mut self) -> Result<(), AllocError> {
+        self.push_held_bar()?;
+        if self.is_in_branch() {
+            self.holds_bar = true;
+            return Ok(());
+        }
+        self.push("|", PieceKind::Bar)
+    }
+
     /// Adds parentheses that close, and bars. Returns false if there is something else.
     fn push_ends(&mut self, text: &str) -> Result<bool, AllocError> {
         for c in text.chars() {
             match c {
-                ')' => self.push(")", PieceKind::Closing)?,
-                '|' => self.push("|", PieceKind::Bar)?,
+                ')' => {
+                    self.push_held_bar()?;
+                    self.push(")", PieceKind::Closing)?;
+                }
+                '|' => self.push_bar()?,
                 _ => return Ok(false),
             }
         }
@@ -168,18 +210,29 @@ impl<'p> Pieces<'p> {
         Ok(!token.text.contains('#'))
     }
 
+    /// Whether the last piece is a comment with the end of its line.
+    fn is_after_line_comment(&self) -> bool {
+        self.pieces
+            .last()
+            .is_some_and(|last| matches!(last.kind, PieceKind::LineComment { .. }))
+    }
+
     /// Adds blanks.
     fn push_blanks(&mut self, blanks: &'p str) -> Result<(), AllocError> {
         self.blanks = blanks;
-        if blanks.contains('\n') {
+        if let Some((_, rest)) = blanks.split_once('\n') {
+            let has_blank_line = rest.contains('\n') || self.is_after_line_comment();
             self.is_line_start = true;
-            self.push("", PieceKind::LineEnd)?;
+            self.push("", PieceKind::LineEnd { has_blank_line })?;
         }
         Ok(())
     }
 
     /// Adds a comment through the end of its line, after blanks.
     fn push_line_comment(&mut self, comment: &str, blanks: &str) -> Result<(), AllocError> {
+        if !comment.ends_with('\n') {
+            self.push_held_bar()?;
+        }
         let is_alone = self.is_line_start;
         let mut text = String::new(self.alloc);
         if !is_alone {
@@ -196,6 +249,7 @@ impl<'p> Pieces<'p> {
 
     /// Adds a token that is not blank. Returns false if it cannot be laid out anew.
     fn push_text(&mut self, token: Token<'p>) -> Result<bool, AllocError> {
+        self.push_held_bar()?;
         self.is_line_start = false;
         let text = token.text;
         match token.kind {
@@ -246,11 +300,13 @@ pub(crate) fn pieces_of(
         oniguruma_mode,
         is_line_start: true,
         blanks: "",
+        holds_bar: false,
     };
     for token in tokens {
         if !token.is_needless && !found.push_token(*token)? {
             return Ok(None);
         }
     }
+    found.push_held_bar()?;
     Ok(Some(found.pieces))
 }

@@ -25,7 +25,16 @@ fn sets_ignore_space(token: Token<'_>) -> bool {
     }
 }
 
-/// The tokens, over lines of up to so many characters. None if they cannot be laid out.
+/// Whether the text has several lines after the first one.
+fn has_several_lines(text: &str) -> bool {
+    match text.split_once('\n') {
+        Some((_, rest)) => rest.contains('\n'),
+        None => false,
+    }
+}
+
+/// The tokens, over lines of up to so many characters. None if they cannot be laid out, or if one line would follow a new
+/// `(?x)`.
 fn over_lines(
     alloc: Global,
     tokens: &[Token<'_>],
@@ -53,7 +62,10 @@ fn over_lines(
             return Ok(None);
         }
     }
-    Ok(Some(lines.end()?))
+    let text = lines.end()?;
+    let has_new_flag = !flags.ignore_space && !begins_verbose;
+    let is_useful = !has_new_flag || has_several_lines(text.as_str());
+    Ok(is_useful.then_some(text))
 }
 
 /// The tokens of the pattern; None if it is invalid. Its tree, which is larger, is dropped.
