@@ -122,7 +122,7 @@ fn next_in_name(text: &str, ignore_space: bool) -> Result<(char, &str), NotClose
     ensures value { MatchResult result
         (λ p. layout_reading (layout ignore_space (chars text.now)) ≡ gives tt (p.0 ∷ chars p.1.now))
         (λ e. (reach k : ℕ) (out : Text) → 0 < k → name_spec.name_error_after ignore_space reach out k (chars text.now) ≡
-            fails (name_spec.not_closed reach e)) }
+        fails (name_spec.not_closed reach e)) }
     ensures shorter { IfOk result (λ p. length p.1.now < length text.now) }
 {
     let name = match layout(text, ignore_space) {
