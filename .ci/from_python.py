@@ -3,6 +3,8 @@ texts.tsv and characters.tsv. From the nodes and fields of `fancy.parse` it writ
 module's docstring, and compares positions and spans, in characters and in bytes, with those written here. FANCY_LIBRARY names
 the library."""
 
+import concurrent.futures
+import copy
 import ctypes
 import dataclasses
 import doctest
@@ -11,6 +13,7 @@ import pathlib
 import pickle
 import re
 import shutil
+import signal
 import subprocess
 import sys
 import tempfile
@@ -281,6 +284,44 @@ assert call(pattern) == ("Empty", None, 1, ("", "", pattern, "(?x)\\n" + pattern
 """
     counts = [*range(36), *range(60, 68), *range(124, 132), *range(252, 260), *range(508, 516), *range(764, 772), *range(1020, 1028), 5000]
     return all(map(is_long_right, counts)) and subprocess.run([sys.executable, "-W", "error", "-c", code]).returncode == 0
+
+
+def are_objects_plain():
+    """Whether what a call makes is as what is made by hand: it can be copied, compared, hashed and pickled, has no fields but its own, and
+    none of them can be changed."""
+    patterns = "(?<n>a+)|[b]\\k<n>", "(?i)\\b.(?=\\R)\\K\\G", "é(?(1)a|b)(c)(?>d)", "(a)\\k<1+2>\\g<1>\\g<n>(*FAIL)(?~e)", b"\\x80"
+    trees = [fancy.parse(it, flags) for it in patterns for flags in (fancy.UNICODE, fancy.MULTI) if fancy.check(it, flags) is None]
+    made = [*trees, *fancy.trivia("(?i)a(?#b)"), *(node for tree in trees for node in tree.walk())]
+    return all(is_object_plain(it) for it in made) and len({it.kind for it in made if isinstance(it, fancy.Node)}) > 17
+
+
+def is_object_plain(it):
+    values = {field.name: getattr(it, field.name) for field in dataclasses.fields(it)}
+    others = [type(it)(**values), copy.copy(it), copy.deepcopy(it), pickle.loads(pickle.dumps(it))]
+    return (
+        vars(it) == values
+        and all(other == it and repr(other) == repr(it) and vars(other) == values for other in others)
+        and (isinstance(it, fancy.Tree) or {hash(other) for other in others} == {hash(it)})
+        and all(refusal(lambda: setattr(it, name, 1))[0] is dataclasses.FrozenInstanceError for name in values)
+    )
+
+
+def are_calls_apart():
+    """Whether calls that run at once have buffers of their own: those of several threads, and one within another."""
+    patterns = ["(a|b)c*", "(?<n>a)\\k<n>", "é[α-ω]é", "a" * 3000, "(?:x)" * 700, "(?#" + "c" * 70000 + ")"]
+    wanted = [(fancy.parse(it), fancy.trivia(it), fancy.to_pattern(it)) for it in patterns]
+
+    def work(_=None):
+        return [(fancy.parse(it), fancy.trivia(it), fancy.to_pattern(it)) for it in patterns] == wanted
+
+    inside = []
+    with concurrent.futures.ThreadPoolExecutor(8) as pool:
+        is_right = all(pool.map(work, range(40)))
+    signal.signal(signal.SIGALRM, lambda *_: inside.append(fancy.parse("(x)(y)").total_groups == len(fancy.trivia("(?:a)"))))
+    signal.setitimer(signal.ITIMER_REAL, 0.0005, 0.0005)
+    is_right = is_right and all(work() for _ in range(10))
+    signal.setitimer(signal.ITIMER_REAL, 0)
+    return is_right and inside and all(inside) and len(fancy._KEPT) <= 16
 
 
 def letters_of(flags):
@@ -670,6 +711,8 @@ def main():
         "trees": are_trees_right(),
         "trivia": are_trivia_right(),
         "long patterns": are_buffers_right(),
+        "objects": are_objects_plain(),
+        "calls at once": are_calls_apart(),
         "formatted patterns": are_formatted_right(),
         "calls for engines": are_engine_calls_right(),
         "characters": are_ranges_right(),
