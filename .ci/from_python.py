@@ -280,7 +280,7 @@ with open("/proc/self/statm") as file:
     size = int(file.read().split()[0]) * resource.getpagesize()
 resource.setrlimit(resource.RLIMIT_AS, (size + 16_000_000, size + 16_000_000))
 pattern = "(?#" + "a" * 1_000_000 + ")"
-assert call(pattern) == ("Empty", None, 1, ("", "", pattern, "(?x)\\n" + pattern, pattern))
+assert call(pattern) == ("Empty", None, 1, ("", "", pattern, pattern, pattern))
 """
     counts = [*range(36), *range(60, 68), *range(124, 132), *range(252, 260), *range(508, 516), *range(764, 772), *range(1020, 1028), 5000]
     return all(map(is_long_right, counts)) and subprocess.run([sys.executable, "-W", "error", "-c", code]).returncode == 0
