@@ -17,6 +17,7 @@ import signal
 import subprocess
 import sys
 import tempfile
+import time
 import unittest.mock
 import warnings
 
@@ -264,6 +265,22 @@ def is_long_right(count):
         and len(fancy.trivia("a(?:)*" * count, fancy.UNICODE | fancy.ONIGURUMA_MODE)) == 3 * count
         and (count == 0 or unordered.message == fancy.ErrorKind.INVALID_GROUP_NAME_BACKREF.text + name)
     )
+
+
+def time_of_name(count):
+    """The seconds of this thread in which the group numbers of a name are gathered that so many groups have."""
+    names = bytes((fancy._Name * count)(*(fancy._Name(text=0, text_size=1, group=it) for it in range(count))))
+    start = time.thread_time()
+    named = fancy._named_groups(names, b"n")
+    seconds = time.thread_time() - start
+    assert named == {"n": tuple(range(count))}
+    return seconds
+
+
+def is_name_linear():
+    """Whether ten times as many groups of one name take ten times as long; a hundred times if each made the tuple anew."""
+    few = time_of_name(5_000)
+    return time_of_name(50_000) < 30 * few
 
 
 def are_buffers_right():
@@ -711,6 +728,7 @@ def main():
         "trees": are_trees_right(),
         "trivia": are_trivia_right(),
         "long patterns": are_buffers_right(),
+        "many groups of one name": is_name_linear(),
         "objects": are_objects_plain(),
         "calls at once": are_calls_apart(),
         "formatted patterns": are_formatted_right(),

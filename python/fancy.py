@@ -1283,11 +1283,10 @@ class _Rows:
 
 
 def _named_groups(names: bytes, texts: bytes) -> Dict[str, Tuple[int, ...]]:
-    named: Dict[str, Tuple[int, ...]] = {}
+    named: Dict[str, List[int]] = {}
     for start, size, group in _NAME.iter_unpack(names):
-        name = texts[start : start + size].decode()
-        named[name] = (*named.get(name, ()), group)
-    return named
+        named.setdefault(texts[start : start + size].decode(), []).append(group)
+    return {name: tuple(numbers) for name, numbers in named.items()}
 
 
 _INFO = _reader(_Info, *(it[0] for it in _Info._fields_)).unpack_from
