@@ -5,6 +5,7 @@ ghost use Rattle.fancy_syntax.specs.InfoViews.{info_of};
 ghost use Rattle.fancy_syntax.specs.View.{view};
 ghost use Rattle.pattern_fixes.specs.Edits as spec;
 ghost use Rattle.pattern_fixes.specs.Fixed.{IsFixedText};
+ghost use Rattle.pattern_fixes.specs.KeepsMatches.{KeepsMatches};
 
 use crate::edit::{Edit, FixableReport, edit_of};
 use crate::edits::{apart, with_edit, with_edits};
@@ -31,7 +32,9 @@ pub struct ParsedPattern<'p, 't> {
 impl<'p> ParsedPattern<'p, '_> {
     /// Whether the text is parsed, with the same group information, to the tree of the pattern with some reports fixed.
     fn is_fixed_as(&self, text: &str) -> Result<bool, AllocError>
-        ensures { IfOk result (λ b. IsTrue b → IsFixedText (flags_of self.now.flags) (chars text.now)
+        ensures fixed { IfOk result (λ b. IsTrue b → IsFixedText (flags_of self.now.flags) (chars text.now)
+            (view self.now.tree.now.expr) (info_of self.now.tree.now)) }
+        ensures matches { IfOk result (λ b. IsTrue b → KeepsMatches (flags_of self.now.flags) (chars text.now)
             (view self.now.tree.now.expr) (info_of self.now.tree.now)) }
     {
         let new = match Expr::parse_tree_with_flags(self.alloc, text, self.flags) {
@@ -48,8 +51,10 @@ impl<'p> ParsedPattern<'p, '_> {
 
     /// The pattern with the edits made, if that fixes reports and changes nothing else.
     fn fixed_by(&self, edits: &[Edit<'_>]) -> Result<Option<String>, AllocError>
-        ensures { IfOk result (λ o. IfSome o (λ text. IsFixedText (flags_of self.now.flags) (chars (string_bytes text))
+        ensures fixed { IfOk result (λ o. IfSome o (λ text. IsFixedText (flags_of self.now.flags) (chars (string_bytes text))
             (view self.now.tree.now.expr) (info_of self.now.tree.now))) }
+        ensures matches { IfOk result (λ o. IfSome o (λ text. KeepsMatches (flags_of self.now.flags)
+            (chars (string_bytes text)) (view self.now.tree.now.expr) (info_of self.now.tree.now))) }
     {
         let Some(text) = with_edits(self.alloc, self.pattern, edits)? else {
             return Ok(None);
@@ -68,6 +73,8 @@ impl<'p> ParsedPattern<'p, '_> {
         reports: &[FixableReport],
     ) -> Result<Option<Edit<'p>>, AllocError>
         ensures fixed { IfOk result (λ o. IfSome o (λ edit. IsFixedText (flags_of self.now.flags)
+            (chars (spec.with_edit self.now.pattern.now edit)) (view self.now.tree.now.expr) (info_of self.now.tree.now))) }
+        ensures matches { IfOk result (λ o. IfSome o (λ edit. KeepsMatches (flags_of self.now.flags)
             (chars (spec.with_edit self.now.pattern.now edit)) (view self.now.tree.now.expr) (info_of self.now.tree.now))) }
     {
         let Some(edit) = edit_of(self.pattern, report, reports) else {
@@ -110,6 +117,8 @@ impl<'p> ParsedPattern<'p, '_> {
     pub fn fixed(&self, reports: &[FixableReport]) -> Result<Option<String>, AllocError>
         ensures fixed { IfOk result (λ o. IfSome o (λ text. IsFixedText (flags_of self.now.flags) (chars (string_bytes text))
             (view self.now.tree.now.expr) (info_of self.now.tree.now))) }
+        ensures matches { IfOk result (λ o. IfSome o (λ text. KeepsMatches (flags_of self.now.flags)
+            (chars (string_bytes text)) (view self.now.tree.now.expr) (info_of self.now.tree.now))) }
     {
         let edits = self.edits(reports)?;
         if edits.is_empty() {
