@@ -4,4 +4,5 @@ mod ManyLemmas
 mod WayLemmas
 mod RepeatLemmas
 mod SplitLemmas
+mod ChainLemmas
 mod SequenceLemmas

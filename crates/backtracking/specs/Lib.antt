@@ -10,4 +10,5 @@ pub mod SlowRepeats
 pub mod ThreeWays
 pub mod ManySplits
 pub mod Across
+pub mod Chain
 pub mod SlowSequences

@@ -1,10 +1,11 @@
 //! The concatenations of a pattern that can match a text in polynomially many ways.
-ghost use Rattle.std.specs.Prelude.{◌≡◌, ◌++◌, map, slice_get, Bool, List, IfOk, IfSome, IsSomeAnd, OnOk};
+ghost use Rattle.std.specs.Prelude.{◌≡◌, ◌+◌, ◌++◌, map, slice_get, Bool, List, IfOk, IfSome, IsSomeAnd, OnOk};
 ghost use Rattle.std.specs.List.{AllByRecursion};
 ghost use Rattle.fancy_syntax.specs.Spanned.{Spanned, spanned_of, spanned_of_tree, first_span, IsNodeOf, spanned_children};
 ghost use Rattle.fancy_grammar.specs.Tree.{Tree, concat, trees_of};
 ghost use Rattle.fancy_syntax.specs.View.{view, views};
 ghost use Rattle.fancy_syntax.specs.declared.span.Span.{Span};
+ghost use Rattle.backtracking.specs.Chain.{Chain, links};
 ghost use Rattle.backtracking.specs.SlowSequences.{IsRepeatOf, IsCut, IsSpanAcross, IsChain, IsSlowAcross, IsSlowSequenceIn};
 
 use crate::attack::{Attack, Surroundings, Target, enclosing_of, find_attack};
@@ -34,8 +35,8 @@ pub struct SlowSequence {
     pub witness: SequenceWitness,
     /// What to put around the repeated word.
     pub attack: Attack,
-    /// The degree of the polynomial, as far as it is known: how many repeats a chain has that ends with these two, where each
-    /// and the next one can share the word.
+    /// How many repeats a chain has that ends with these two, where each and the next one can share the word. With degree d
+    /// there are m^(d-1) ways over m * (d-1) repetitions.
     pub degree: usize,
     /// The index of the last repeat in the concatenation.
     pub(crate) last: usize,
@@ -102,7 +103,8 @@ fn span_across(spans: &[Span], first: usize, last: usize) -> Option<Span>
 fn chain_to(pairs: &[SlowSequence], index: usize, word: &[char]) -> usize
     ensures { (unicode : Bool) → (trees : List Tree) → (spans : List Span) → (part : Tree) →
         IsSomeAnd (slice_get trees index) (IsRepeatOf part) →
-        AllByRecursion (IsSlowAcross unicode trees spans) pairs.now → IsChain unicode trees word.now index result }
+        AllByRecursion (IsSlowAcross unicode trees spans) pairs.now →
+        (c : Chain) × IsChain unicode trees word.now c index × (result ≡ links c + 1) }
 {
     let mut longest = 1;
     for pair in pairs {
