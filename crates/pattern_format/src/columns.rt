@@ -58,6 +58,8 @@ struct Walk {
     is_after_first_bar: bool,
     /// The line of the last comment through the end of its line, after a token or below such a one, and its column.
     comment: Option<(usize, usize)>,
+    /// The column of the last comment of these lines that is in another column.
+    other: Option<usize>,
 }
 
 impl Walk {
@@ -69,6 +71,7 @@ impl Walk {
         self.line = self.line.saturating_add(breaks);
         if breaks > 1 || breaks == 1 && self.is_line_start {
             self.first_line = self.line;
+            self.other = None;
         }
         self.is_line_start = self.is_line_start || breaks > 0;
         self.blanks = self
@@ -76,18 +79,27 @@ impl Walk {
             .saturating_sub(if breaks > 0 { 0 } else { start });
     }
 
-    /// Adds a comment through the end of its line. One that is alone in its line belongs to the one above it in the same column.
+    /// Whether a comment that is alone in its line belongs to the one above it: it begins in its column, or in another one of
+    /// comments before.
+    fn is_below_comment(&self) -> bool {
+        match self.comment {
+            Some((line, column)) => line.saturating_add(1) == self.line
+                && (column == self.column || self.other == Some(self.column)),
+            None => false,
+        }
+    }
+
+    /// Adds a comment through the end of its line.
     fn add_comment(&mut self, token: usize) -> Result<(), AllocError> {
         let start = self.column;
-        let is_below = match self.comment {
-            Some((line, column)) => line.saturating_add(1) == self.line && column == start,
-            None => false,
-        };
-        self.comment = None;
-        if !self.is_line_start || is_below {
-            self.comment = Some((self.line, start));
+        let is_aligned = !self.is_line_start || self.is_below_comment();
+        if let Some((_, column)) = self.comment
+            && column != start
+        {
+            self.other = Some(column);
         }
-        if self.blanks > 0 && self.comment.is_some() {
+        self.comment = is_aligned.then_some((self.line, start));
+        if self.blanks > 0 && is_aligned {
             let column = Column {
                 start,
                 number: self.first_line,
@@ -218,6 +230,7 @@ pub(crate) fn set_columns(alloc: Global, tokens: &mut [Token<'_>]) -> Result<(),
         is_line_start: true,
         is_after_first_bar: false,
         comment: None,
+        other: None,
     };
     for (i, token) in tokens.iter().enumerate() {
         walk.pass(i, *token)?;
