@@ -4,7 +4,7 @@ use crate::cut::tokens_of;
 use crate::read_back::reads_back;
 use crate::spelling::{push_flags, push_quantifier, without_blanks};
 use crate::style::Style;
-use crate::token::{Token, TokenKind, is_blank};
+use crate::token::{Token, TokenKind, begins_with_line_end, is_blank};
 use fancy_lex::error::Error;
 use fancy_lex::flags::Flags;
 use fancy_syntax::spanned::SpannedTree;
@@ -274,31 +274,41 @@ impl<'p> Line<'p> {
         }
     }
 
-    /// Writes a comment through the end of its line, which is not inside a token. After a branch and its bar it is about that
-    /// branch, and comes before the bar.
-    fn push_comment(&mut self, comment: &str) -> Result<(), AllocError> {
+    /// Writes a comment that is not inside a token. If its line ends after it, and a branch with its bar is before it, it is about
+    /// that branch, and comes before the bar.
+    fn push_comment(&mut self, token: Token<'p>, ends_line: bool) -> Result<(), AllocError> {
         let is_after_bar = self.before == Before::BranchAndBar
-            && comment.ends_with('\n')
+            && ends_line
             && self.written.ends_with('|');
-        if !is_after_bar {
-            return self.push_line_comment(comment);
+        if is_after_bar {
+            self.written.pop();
         }
-        self.written.pop();
-        self.push_line_comment(comment)?;
-        self.written.push('|')?;
+        if let TokenKind::Comment = token.kind {
+            self.written.push_str(token.text)?;
+        } else {
+            self.push_line_comment(token.text)?;
+        }
+        if is_after_bar {
+            self.written.push('|')?;
+        }
         Ok(())
     }
 
-    /// Writes a token that is neither blank nor an empty comment, and may be the first one.
-    fn push_text(&mut self, token: Token<'p>, is_first: bool) -> Result<(), AllocError> {
+    /// Writes a token that is neither blank nor an empty comment, and may be the first one, or the last one of its line.
+    fn push_text(
+        &mut self,
+        token: Token<'p>,
+        is_first: bool,
+        ends_line: bool,
+    ) -> Result<(), AllocError> {
         let text = token.text;
         match token.kind {
-            TokenKind::LineComment => self.push_comment(text),
+            TokenKind::Comment | TokenKind::LineComment => self.push_comment(token, ends_line),
             TokenKind::Leaf { ignores_case } if self.loss == Loss::Escapes => {
                 self.last = unescaped(text, ignores_case);
                 Ok(self.written.push_str(self.last)?)
             }
-            TokenKind::Leaf { .. } | TokenKind::Comment => Ok(self.written.push_str(text)?),
+            TokenKind::Leaf { .. } => Ok(self.written.push_str(text)?),
             TokenKind::Blank | TokenKind::Flags { .. } | TokenKind::Quantifier | TokenKind::Other =>
                 {
                     if text.contains('#') {
@@ -310,8 +320,13 @@ impl<'p> Line<'p> {
         }
     }
 
-    /// Writes a token, which may be the first one.
-    fn push(&mut self, token: Token<'p>, is_first: bool) -> Result<(), AllocError> {
+    /// Writes a token, which may be the first one, or the last one of its line.
+    fn push(
+        &mut self,
+        token: Token<'p>,
+        is_first: bool,
+        ends_line: bool,
+    ) -> Result<(), AllocError> {
         let text = token.text;
         match token.kind {
             TokenKind::Blank => self.pass_blanks(text),
@@ -328,7 +343,7 @@ impl<'p> Line<'p> {
             | TokenKind::Other => {
                 self.push_gap(text)?;
                 self.last = text;
-                self.push_text(token, is_first)?;
+                self.push_text(token, is_first, ends_line)?;
                 self.before = after_token(self.before, token);
                 Ok(())
             }
@@ -371,7 +386,9 @@ fn in_one_line(
     };
     for (i, token) in tokens.iter().enumerate() {
         if !token.is_needless || loss == Loss::MoreBlanks {
-            line.push(*token, i == 0)?;
+            let after = tokens.get(i.saturating_add(1)..).unwrap_or(&[]);
+            let ends_line = token.text.ends_with('\n') || begins_with_line_end(after);
+            line.push(*token, i == 0, ends_line)?;
         }
         line.pass(token.text);
     }

@@ -3,6 +3,7 @@
 
 pub mod all_comments;
 mod blanks;
+mod columns;
 mod comments;
 mod compact;
 mod cut;
@@ -17,6 +18,8 @@ mod nodes;
 mod own_part;
 mod pieces;
 mod read_back;
+mod removed;
+mod sheet;
 mod spelling;
 pub mod style;
 mod token;

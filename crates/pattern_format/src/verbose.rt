@@ -3,6 +3,7 @@ use crate::cut::tokens_of;
 use crate::items::items_of;
 use crate::layout::Lines;
 use crate::pieces::pieces_of;
+use crate::removed::without_needless;
 use crate::token::{Token, TokenKind};
 use fancy_lex::error::Error;
 use fancy_lex::flags::Flags;
@@ -41,7 +42,8 @@ fn over_lines(
     flags: Flags,
     width: usize,
 ) -> Result<Option<String>, AllocError> {
-    let Some(pieces) = pieces_of(alloc, tokens, flags.oniguruma_mode)? else {
+    let tokens = without_needless(alloc, tokens)?;
+    let Some(pieces) = pieces_of(alloc, &tokens, flags.oniguruma_mode)? else {
         return Ok(None);
     };
     let Some((items, whole)) = items_of(alloc, &pieces)? else {
@@ -55,7 +57,7 @@ fn over_lines(
         Some(first) if begins_verbose => first.text.as_str(),
         _ => "(?x)",
     };
-    let mut lines = Lines::new(alloc, set, whole.has_branches, width)?;
+    let mut lines = Lines::new(alloc, set, whole, width)?;
     let passed = (begins_verbose && !flags.ignore_space) as usize;
     for (piece, item) in pieces.iter().zip(&items).skip(passed) {
         if !lines.push(piece, *item)? {
