@@ -1,6 +1,7 @@
 pub mod TextLemmas
 pub mod ReplaceLemmas
 pub mod RepeatLemmas
+pub mod EngineLemmas
 pub mod NodeLemmas
 pub mod AltLemmas
 pub mod CharacterLemmas

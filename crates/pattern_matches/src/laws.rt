@@ -1,11 +1,12 @@
 //! Laws about what trees match. Each function does nothing: its clauses are laws.
-ghost use Rattle.std.specs.Prelude.{◌≡◌, ◌≢◌, ℕ, ◌≤◌, Bool, List, Some, slice_get, true};
+ghost use Rattle.std.specs.Prelude.{◌≡◌, ◌≢◌, ◌↔◌, ℕ, ◌≤◌, Bool, List, Some, slice_get, true};
 ghost use Rattle.regex_class.specs.Ranges.{Range, in_ranges};
 ghost use Rattle.fancy_grammar.specs.Label.{Row, Wrap};
 ghost use Rattle.fancy_grammar.specs.ReadAs.{unpositioned};
 ghost use Rattle.fancy_grammar.specs.Tree.{Tree, Trees, alt, concat, empty, list_of, look_around, over, repeat, row, with_tree};
 ghost use Rattle.fancy_grammar.specs.declared.kinds.LookAround.TheVariants.{LookAhead, LookAheadNeg};
 ghost use Rattle.pattern_matches.specs.Beginnings.{BeginsWithin, CoversStarts};
+ghost use Rattle.pattern_matches.specs.EngineTurns.{EngineTurns};
 ghost use Rattle.pattern_matches.specs.Lengths.{HasAtLeast, HasAtMost, max_length, min_length};
 ghost use Rattle.pattern_matches.specs.Matches.{Assertions, IsOneOf, Matches};
 ghost use Rattle.pattern_matches.specs.Parts.{Position, text_of};
@@ -27,13 +28,15 @@ pub fn replaced()
     ensures positions { (unicode : Bool) (t u : Tree) → unpositioned t ≡ unpositioned u → SameMatches unicode t u }
 {}
 
-/// A repeat of exactly one turn matches what its operand does, and one of no turn the empty parts. Whether a repeat is
-/// greedy or lazy makes no difference to the set.
+/// A repeat of exactly one turn matches what its operand does, and one of no turn the empty parts. It makes no difference
+/// to the set whether a repeat is greedy or lazy, and whether an engine takes empty turns after the least number of turns.
 pub fn repeats()
     ensures once { (unicode : Bool) (t : Tree) (greedy : Bool) → SameMatches unicode (repeat t 1 1 greedy) t }
     ensures never { (unicode : Bool) (t : Tree) (greedy : Bool) → SameMatches unicode (repeat t 0 0 greedy) empty }
     ensures greed { (unicode : Bool) (t : Tree) (lo hi : ℕ) (greedy other : Bool) →
         SameMatches unicode (repeat t lo hi greedy) (repeat t lo hi other) }
+    ensures engine { (unicode : Bool) (holds : Assertions) (t : Tree) (lo hi : ℕ) (greedy : Bool) (p q : Position) →
+        Matches unicode holds (repeat t lo hi greedy) p q ↔ EngineTurns (Matches unicode holds t) lo hi p q }
 {}
 
 /// A node of one character matches what another one does if it has all of its characters.
