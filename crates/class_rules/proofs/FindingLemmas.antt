@@ -134,12 +134,14 @@ suspicious flags class xs span look all (k, x, inside, is, needless) shows =
 
 -- the same, of what a class looks like, if anything
 pub suspicious_of : (flags : ℕ) (class : ClassText) (xs : List ClassFinding) (source : List ℕ) (o : Option LookAt)
-    (found : LookAt) (span : Span) (look : ClassLook) → o ≡ Some found → found ≡ record { span = span; look = look } →
+    (found : LookAt) (span : Span) (look : ClassLook) → o ≡ Some found → span ≡ found.span → look ≡ found.look →
     source ≡ class.source.now → ∥ AreProblemsOf flags class xs ∥₁ → IfSome o (λ _. HasNeedless xs) →
     IfSome o (λ f. ShowsLook source f.span f.look) →
     ∥ IsProblemOf flags class (record { span = span; problem = problem.SuspiciousClass look }) ∥₁
-suspicious_of flags class xs source None found span look is parts same all needless shows = absurd (cc)
-suspicious_of flags class xs source (Some f) found span look is parts same all needless shows =
-    let this : f ≡ record { span = span; look = look } = cc in
+suspicious_of flags class xs source None found span look is at like same all needless shows = absurd (cc)
+suspicious_of flags class xs source (Some f) found span look is at like same all needless shows =
+    let this : f ≡ found = cc in
+    let there : ShowsLook class.source.now found.span found.look =
+    subst (λ g. ShowsLook class.source.now g.span g.look) this (subst (λ s. ShowsLook s f.span f.look) same shows) in
     suspicious flags class xs span look all needless
-    (subst (λ g. ShowsLook class.source.now g.span g.look) this (subst (λ s. ShowsLook s f.span f.look) same shows))
+    (subst (λ s. ShowsLook class.source.now s look) (sym at) (subst (λ l. ShowsLook class.source.now found.span l) (sym like) there))
