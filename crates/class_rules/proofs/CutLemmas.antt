@@ -1,6 +1,6 @@
 -- A text in three parts.
 use Rattle.std.proofs.lemmas.Str.{chars-nil}
-use Rattle.std.proofs.Common.{◌≡◌, ◌==◌, Bool, true, false, chars, [], ◌∷◌, ℕ, ◌+◌, ◌≤◌, List, ◌++◌, length, take, drop, sym, ap, ◌∙◌, arith}
+use Rattle.std.proofs.Common.{◌≡◌, ◌==◌, Bool, true, chars, [], ℕ, ◌+◌, ◌≤◌, List, ◌++◌, length, take, drop, sym, ap, ◌∙◌, arith}
 use Rattle.std.proofs.lemmas.List.{take-append-drop, append_assoc, length-take-le, nil_from_length}
 use Rattle.std.proofs.lemmas.Bool.Decides.{Decides-eqb}
 use Rattle.std.proofs.lemmas.List.Folds.{drop_split}

@@ -1,12 +1,12 @@
 -- Findings of the nodes of a tree, one by one.
-use Rattle.std.proofs.Common.{◌≡◌, ℕ, ◌+◌, ◌≤◌, Bool, List, [], ◌∷◌, ◌++◌, length, inl, inr, refl, sym, ap, subst, arith}
+use Rattle.std.proofs.Common.{◌≡◌, ℕ, ◌+◌, ◌≤◌, Bool, List, [], ◌∷◌, ◌++◌, length, inl, inr, sym, ap, subst, arith}
 use Rattle.std.proofs.Common.{length-append, Option, Some, None}
 use Rattle.std.specs.Prelude.{IfSome}
 use Rattle.std.proofs.Math.Logic.{∥∥₁_map, ∥∥₁_map₂}
 use Rattle.std.proofs.lemmas.List.Elements.{All-push}
 use Rattle.fancy_lex.specs.declared.flags.Flags.{Flags}
 use Rattle.fancy_lex.specs.Flags.{flags_of}
-use Rattle.fancy_syntax.specs.Spanned.{Spanned, first_span, IsNodeOf}
+use Rattle.fancy_syntax.specs.Spanned.{Spanned, first_span}
 use Rattle.fancy_syntax.specs.declared.span.Span.{Span}
 use Rattle.class_rules.specs.ClassProblems.{IsProblemAt, ShowsLook, HasNeedless}
 use Rattle.class_rules.specs.ClassSource.{IsTextAt, IsCutAt, IsAll, LeavesOut, IsInBrackets}

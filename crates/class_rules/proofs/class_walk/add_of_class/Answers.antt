@@ -1,4 +1,4 @@
-use Rattle.std.proofs.Common.{◌≡◌}
+use Rattle.std.proofs.Common.{refl}
 use Rattle.std.specs.List.{slice_get}
 use Rattle.fancy_lex.specs.Flags.{flags_of}
 use Rattle.fancy_syntax.specs.Spanned.{spanned_of}
@@ -20,10 +20,8 @@ returns-clause-problems c =
     let class = c.in-Some.class in
     let all = findings_of (slice_get c.index_of.new.self.classes.items c.in_ok-index.index) class flags
     c.findings_at-findings.result.now c.in_ok-index.ensures.class c.findings_at-findings.ensures in
-    let spans : c.in-Some-2.span ≡ c.in-Some-2.field-0.span = cc in
-    let looks : c.in-Some-2.look ≡ c.in-Some-2.field-0.look = cc in
     let shown = suspicious_of flags class c.findings_at-findings.result.now c.source_of-source.result.source.now
-    c.in_ok-span.field-0 c.in-Some-2.field-0 c.in-Some-2.span c.in-Some-2.look c.in-Some-2.is spans looks
+    c.in_ok-span.field-0 c.in-Some-2.field-0 c.in-Some-2.field-0.span c.in-Some-2.field-0.look c.in-Some-2.is refl refl
     c.source_of-source.ensures.source all c.in_ok-span.ensures.needless c.in_ok-span.ensures.shows in
     keeps_then (flags_of flags) pattern (spanned_of c.args.node) _ _ _
     (c.in_ok-add_finding.ensures flags pattern class c.in-Some.ensures shown)

@@ -1,4 +1,4 @@
-use Rattle.std.proofs.Common.{◌≡◌, suc, arith}
+use Rattle.std.proofs.Common.{arith}
 use Rattle.std.proofs.lemmas.List.Elements.{All-push}
 use Rattle.fancy_syntax.specs.Spanned.{spanned_of}
 use Rattle.class_rules.specs.Branches.{IsBranchOf}
