@@ -64,12 +64,13 @@ impl<'p> Writer<'p> {
 
     /// The whole text.
     pub(crate) fn end(mut self) -> Result<String, AllocError> {
+        let blanks = self.blanks;
         let written = &mut self.sheet.text;
-        if let Some((lines, indentation)) = self.blanks.rsplit_once('\n') {
+        if let Some((lines, indentation)) = blanks.rsplit_once('\n') {
             push_breaks(written, lines)?;
             written.push_str(indentation)?;
         } else if written.is_empty() || written.ends_with('\n') {
-            written.push_str(self.blanks)?;
+            written.push_str(blanks)?;
         }
         self.sheet.end()
     }
