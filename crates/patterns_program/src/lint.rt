@@ -16,6 +16,7 @@ use pattern_reports::reporter::{Reporter, parse};
 use pattern_reports::reports::Reports;
 use patterns_lint::find::reported;
 use patterns_lint::known::Known;
+use patterns_lint::silenced::levels_in;
 use patterns_lint::slow::SlowParts;
 use patterns_text::error::RunError;
 use patterns_text::grammar_rule::GrammarRule;
@@ -67,8 +68,9 @@ pub(crate) fn lint(
     let Some(parsed) = parse(subject, reports)? else {
         return Ok(Rewriting::Stays(Outcome::Refused));
     };
-    let slow = SlowParts::of(subject.alloc, &parsed, chosen, known)?;
-    let found = reported(subject, &parsed, grammar, chosen, known, &slow)?;
+    let levels = levels_in(subject.pattern, &parsed.trivia, chosen);
+    let slow = SlowParts::of(subject.alloc, &parsed, &levels, known)?;
+    let found = reported(subject, &parsed, grammar, &levels, known, &slow)?;
     if has_fixes && let Some(text) = fixed(subject, &parsed, &found)? {
         return Ok(Rewriting::Changed(text));
     }
@@ -92,8 +94,9 @@ fn fixed_once(
     let Ok(parsed) = subject.parse()? else {
         return Ok(None);
     };
+    let levels = levels_in(subject.pattern, &parsed.trivia, chosen);
     let slow = SlowParts::new(subject.alloc);
-    let found = reported(subject, &parsed, None, chosen, known, &slow)?;
+    let found = reported(subject, &parsed, None, &levels, known, &slow)?;
     Ok(fixed(subject, &parsed, &found)?)
 }
 
