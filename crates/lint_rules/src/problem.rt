@@ -229,6 +229,11 @@ impl<'a> Found<'a> {
         }
     }
 
+    /// Whether it is wrong with a reference that is the octal code of a character in other dialects.
+    pub fn is_octal(&self, pattern: &str) -> bool {
+        matches!(self.help(pattern), Help::Octal(_))
+    }
+
     /// The message of its report, in a pattern in which it is found.
     pub fn message(&self, pattern: &'a str) -> Message<'a> {
         Message {

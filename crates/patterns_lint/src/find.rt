@@ -12,6 +12,7 @@ use crate::walk::Walk;
 use backtracking::attack::Attack;
 use class_rules::class_problem::{ClassFinding, ClassProblem};
 use class_rules::class_walk::class_findings;
+use dialects::dialect::Dialect;
 use dialects::spelling::{DifferentSpelling, spellings};
 use fancy_syntax::spanned::{SpannedNode, SpannedTree};
 use lint_rules::attack_text::AttackText;
@@ -139,7 +140,31 @@ fn problems<'a>(
     Ok(found)
 }
 
-/// The same of the rules that are not silent.
+/// Whether the dialect reads otherwise what is reported.
+fn is_read_otherwise(found: &Found<'_>, pattern: &str, dialect: Dialect) -> bool {
+    if let Problem::DialectDifference { difference } = found.problem {
+        return difference.is_of(dialect);
+    }
+    found.is_octal(pattern)
+}
+
+/// Leaves the reports that hold in the dialect, and returns whether it reads the pattern otherwise: then only those that say
+/// so are left.
+fn keep_in_dialect(found: &mut Vec<Found<'_>>, pattern: &str, dialect: Dialect) -> bool {
+    let is_other = found
+        .iter()
+        .any(|one| is_read_otherwise(one, pattern, dialect));
+    found.retain(|one| {
+        if let Problem::DialectDifference { difference } = one.problem {
+            difference.is_of(dialect)
+        } else {
+            !is_other
+        }
+    });
+    is_other
+}
+
+/// The same of the rules that are not silent. None if the dialect of the pattern reads it otherwise, and no report says so.
 pub fn reported<'a>(
     subject: Subject<'_>,
     parsed: &'a SpannedTree,
@@ -147,8 +172,15 @@ pub fn reported<'a>(
     chosen: &Chosen,
     known: &mut Known,
     slow: &'a SlowParts,
-) -> Result<Vec<Found<'a>>, AllocError> {
+) -> Result<Option<Vec<Found<'a>>>, AllocError> {
     let mut found = problems(subject, parsed, grammar, known, slow)?;
+    let is_other = match chosen.dialect {
+        Some(dialect) => keep_in_dialect(&mut found, subject.pattern, dialect),
+        None => false,
+    };
     found.retain(|one| chosen.level(one.problem.rule()) != Level::Allow);
-    Ok(found)
+    if is_other && found.is_empty() {
+        return Ok(None);
+    }
+    Ok(Some(found))
 }
