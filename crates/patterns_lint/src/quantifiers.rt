@@ -39,10 +39,7 @@ fn is_empty_loop(tree: &Expr, around: Surroundings) -> bool
     let Expr::Repeat { child, hi, .. } = tree else {
         return false;
     };
-    *hi == usize::MAX
-        && can_match_empty(child)
-        && !matches_only_empty(child)
-        && !around.is_atomic
+    *hi == usize::MAX && can_match_empty(child) && !matches_only_empty(child) && !around.is_atomic
 }
 
 /// Whether it is lazy, and nothing follows it, so that it repeats only its minimum.

@@ -20,7 +20,8 @@ pub(crate) fn above(total: usize, group: usize) -> Option<usize>
 pub(crate) fn missing_group(tree: &Expr, total: usize) -> Option<usize>
     ensures { result ≡ spec.missing_group total (view tree.now) }
 {
-    if let Expr::Backref { group, .. } | Expr::BackrefWithRelativeRecursionLevel { group, .. } = tree
+    if let Expr::Backref { group, .. }
+    | Expr::BackrefWithRelativeRecursionLevel { group, .. } = tree
     {
         above(total, *group)
     } else {
