@@ -10,7 +10,7 @@ use crate::scan::{Around, PatternInfo, scan};
 use crate::slow::SlowParts;
 use crate::walk::Walk;
 use backtracking::attack::Attack;
-use class_rules::class_problem::{ClassFinding, ClassProblem};
+use class_rules::class_problem::{ClassFinding, ClassLook, ClassProblem};
 use class_rules::class_walk::class_findings;
 use dialects::dialect::Dialect;
 use dialects::spelling::{DifferentSpelling, spellings};
@@ -44,6 +44,28 @@ fn of_class<'a>(finding: ClassFinding, pattern: &str, nodes: &[SpannedNode<'_>])
         found.problem = Problem::CharactersInEscape { escape };
     }
     found
+}
+
+/// What is wrong with a class whose backslashes are doubled.
+static DOUBLED: ClassProblem = ClassProblem::SuspiciousClass(ClassLook::DoubledBackslashes);
+
+/// Adds what is wrong with classes and with branches of one character; of classes whose backslashes are doubled the first.
+fn add_of_classes(
+    found: &mut Vec<Found<'_>>,
+    findings: &[ClassFinding],
+    pattern: &str,
+    nodes: &[SpannedNode<'_>],
+) -> Result<(), AllocError> {
+    let mut has_doubled = false;
+    for finding in findings {
+        let is_doubled = finding.problem == DOUBLED;
+        if is_doubled && has_doubled {
+            continue;
+        }
+        has_doubled = has_doubled || is_doubled;
+        found.push(of_class(*finding, pattern, nodes))?;
+    }
+    Ok(())
 }
 
 /// Adds what other dialects read otherwise.
@@ -124,9 +146,8 @@ fn problems<'a>(
     let mut found = walk.found;
     found.extend_from_slice(&ways.walk.found)?;
     let nodes = nodes_of(alloc, parsed)?;
-    for finding in class_findings(alloc, parsed.root(), pattern, &mut known.classes)? {
-        found.push(of_class(finding, pattern, &nodes))?;
-    }
+    let findings = class_findings(alloc, parsed.root(), pattern, &mut known.classes)?;
+    add_of_classes(&mut found, &findings, pattern, &nodes)?;
     found.extend_from_slice(&useless_flags(alloc, pattern, &parsed.trivia)?)?;
     add_differences(&mut found, &spellings(alloc, pattern, &nodes)?)?;
     if let Some(rule) = grammar {
