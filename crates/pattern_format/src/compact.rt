@@ -58,7 +58,7 @@ fn after_other(before: Before, text: &str) -> Before {
 /// What is before the next token in its line, after a token that ends the line if it is blank.
 fn after_token(before: Before, token: Token<'_>) -> Before {
     match token.kind {
-        TokenKind::Leaf { .. } | TokenKind::Quantifier | TokenKind::Comment => Before::Branch,
+        TokenKind::Leaf { .. } | TokenKind::Quantifier { .. } | TokenKind::Comment => Before::Branch,
         TokenKind::Blank | TokenKind::LineComment => Before::Nothing,
         TokenKind::Flags { .. } | TokenKind::Other => after_other(before, token.text),
     }
@@ -271,7 +271,7 @@ impl<'p> Line<'p> {
             TokenKind::Flags { before, after } => {
                 push_flags(self.alloc, written, text, before, after)
             }
-            TokenKind::Quantifier => {
+            TokenKind::Quantifier { .. } => {
                 push_quantifier(self.alloc, written, text, !self.oniguruma_mode)
             }
             TokenKind::Blank
@@ -323,7 +323,7 @@ impl<'p> Line<'p> {
                 Ok(self.written.push_str(self.last)?)
             }
             TokenKind::Leaf { .. } => Ok(self.written.push_str(text)?),
-            TokenKind::Blank | TokenKind::Flags { .. } | TokenKind::Quantifier | TokenKind::Other =>
+            TokenKind::Blank | TokenKind::Flags { .. } | TokenKind::Quantifier { .. } | TokenKind::Other =>
                 {
                     if text.contains('#') {
                         self.push_commented(text)
@@ -353,7 +353,7 @@ impl<'p> Line<'p> {
             | TokenKind::Comment
             | TokenKind::Leaf { .. }
             | TokenKind::Flags { .. }
-            | TokenKind::Quantifier
+            | TokenKind::Quantifier { .. }
             | TokenKind::Other => {
                 self.push_gap(text)?;
                 self.last = text;
@@ -419,7 +419,7 @@ fn sets_ignore_space(token: Token<'_>) -> bool {
         | TokenKind::LineComment
         | TokenKind::Comment
         | TokenKind::Leaf { .. }
-        | TokenKind::Quantifier
+        | TokenKind::Quantifier { .. }
         | TokenKind::Other => false,
     }
 }
@@ -444,7 +444,7 @@ fn in_line_once(alloc: Global, pattern: &str, flags: u32) -> Result<Option<Strin
         Err(Error::ParseError(..)) => return Ok(None),
         Err(Error::OutOfMemory) => return Err(AllocError),
     };
-    let mut tokens = tokens_of(alloc, pattern, &parsed)?;
+    let mut tokens = tokens_of(alloc, pattern, &parsed, false)?;
     let comments = all_comments(alloc, pattern, &parsed)?;
     if !needs_lines(pattern, &comments) {
         tokens = with_bars_first(alloc, &tokens)?;

@@ -14,6 +14,7 @@ mod flag_groups;
 pub mod format;
 mod items;
 mod kept_comments;
+mod kept_counts;
 mod layout;
 mod nodes;
 mod own_part;

@@ -55,7 +55,7 @@ fn has_comment(tokens: &[Token<'_>]) -> bool {
             TokenKind::Blank if token.text.contains('\n') => return false,
             TokenKind::Blank => {}
             TokenKind::Comment | TokenKind::LineComment => return true,
-            TokenKind::Quantifier
+            TokenKind::Quantifier { .. }
             | TokenKind::Flags { .. }
             | TokenKind::Leaf { .. }
             | TokenKind::Other => {

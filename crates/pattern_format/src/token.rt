@@ -8,8 +8,8 @@ pub(crate) enum TokenKind {
     Blank,
     /// A comment from `#` through the end of its line.
     LineComment,
-    /// A quantifier, or a part of one that a comment divides.
-    Quantifier,
+    /// A quantifier, or a part of one that a comment divides. It keeps its counts in a column of others.
+    Quantifier { keeps_counts: bool },
     /// Inline flags that change flags, or the opening of a flag group, with the flags before it and after it.
     Flags { before: Flags, after: Flags },
     /// A leaf of the tree, which is a literal that ignores case or not.
@@ -45,6 +45,15 @@ pub(crate) struct Token<'p> {
 /// Whether the character is whitespace that `FLAG_IGNORE_SPACE` ignores.
 pub(crate) fn is_blank(c: char) -> bool {
     c == ' ' || c == '\n' || c == '\r' || c == '\t'
+}
+
+/// Whether the token is blank, or a comment, or goes.
+pub(crate) fn is_layout(token: Token<'_>) -> bool {
+    token.is_needless
+        || matches!(
+            token.kind,
+            TokenKind::Blank | TokenKind::LineComment | TokenKind::Comment
+        )
 }
 
 /// Whether a line ends right before these tokens, after blanks.

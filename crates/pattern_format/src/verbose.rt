@@ -21,7 +21,7 @@ fn sets_ignore_space(token: Token<'_>) -> bool {
         | TokenKind::LineComment
         | TokenKind::Comment
         | TokenKind::Leaf { .. }
-        | TokenKind::Quantifier
+        | TokenKind::Quantifier { .. }
         | TokenKind::Other => false,
     }
 }
@@ -77,7 +77,7 @@ fn valid_tokens(
     flags: u32,
 ) -> Result<Option<Vec<Token<'_>>>, AllocError> {
     match SpannedTree::parse(alloc, pattern, flags) {
-        Ok(parsed) => Ok(Some(tokens_of(alloc, pattern, &parsed)?)),
+        Ok(parsed) => Ok(Some(tokens_of(alloc, pattern, &parsed, false)?)),
         Err(Error::ParseError(..)) => Ok(None),
         Err(Error::OutOfMemory) => Err(AllocError),
     }
