@@ -4,6 +4,9 @@ use crate::tab_stops::column_after;
 use crate::token::{Column, Token, TokenKind};
 use std::alloc::{AllocError, Global};
 
+/// How many characters a comment may be beside the column that it is meant to be in.
+const MAX_SLIP: usize = 2;
+
 /// A token with blanks before it in its line.
 #[derive(Clone, Copy)]
 struct Cell {
@@ -265,6 +268,29 @@ fn keep_counts(
         }
     }
     Ok(())
+}
+
+/// Whether a comment is in the column of another one, or so near it that it is meant to be there. Unless it is in it, they have not
+/// as many blanks before them. `joined` is where the column of the other one begins.
+fn is_near(column: Column, other: Column, joined: usize) -> bool {
+    column.number == other.number
+        && column.start.abs_diff(joined) <= MAX_SLIP
+        && (column.start == other.start || column.blanks != other.blanks)
+}
+
+/// Joins the columns of comments that are near each other.
+pub(crate) fn join_columns(tokens: &mut [Token<'_>]) {
+    let mut last: Option<(Column, usize)> = None;
+    for token in tokens.iter_mut() {
+        if let (TokenKind::LineComment, Some(column)) = (token.kind, token.column) {
+            let start = match last {
+                Some((other, joined)) if is_near(column, other, joined) => joined,
+                Some(_) | None => column.start,
+            };
+            last = Some((column, start));
+            token.column = Some(Column { start, ..column });
+        }
+    }
 }
 
 /// Sets the columns of the tokens of a pattern: those of comments at the ends of lines, and those that tokens are aligned in.
