@@ -15,6 +15,7 @@ pub mod format;
 mod items;
 mod kept_comments;
 mod kept_counts;
+mod labels;
 mod layout;
 mod nodes;
 mod own_part;
