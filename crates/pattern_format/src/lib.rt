@@ -14,6 +14,8 @@ mod flag_groups;
 pub mod format;
 mod items;
 mod kept_comments;
+mod kept_counts;
+mod labels;
 mod layout;
 mod nodes;
 mod own_part;

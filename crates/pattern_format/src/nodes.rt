@@ -14,6 +14,8 @@ pub(crate) struct Node {
     pub(crate) ignores_case: bool,
     /// Whether a flag group around it, and around nothing else, cannot be left out.
     pub(crate) needs_group: bool,
+    /// Whether it is one of several branches.
+    pub(crate) is_branch: bool,
     /// The part in which a `#` begins no comment, except in a class.
     pub(crate) own_part: Option<Span>,
 }
@@ -49,12 +51,18 @@ fn needs_group(node: &Expr, child: &Expr) -> bool {
     }
 }
 
+/// Whether the children of the node are branches.
+fn has_branches(node: &Expr) -> bool {
+    matches!(node, Expr::Alt(_))
+}
+
 /// Adds the node and those below it.
 fn push_nodes(
     nodes: &mut Vec<Node>,
     pattern: &str,
     node: SpannedNode<'_>,
     needs_group_here: bool,
+    is_branch: bool,
 ) -> Result<(), AllocError> {
     let expr = node.expr();
     let is_empty = matches!(expr, Expr::Empty);
@@ -63,10 +71,17 @@ fn push_nodes(
         is_leaf: expr.is_leaf_node() && !is_empty,
         ignores_case: matches!(expr, Expr::Literal { casei: true, .. }),
         needs_group: needs_group_here || is_empty,
+        is_branch,
         own_part: own_part(node, pattern),
     })?;
     for child in node.children() {
-        push_nodes(nodes, pattern, child, needs_group(expr, child.expr()))?;
+        push_nodes(
+            nodes,
+            pattern,
+            child,
+            needs_group(expr, child.expr()),
+            has_branches(expr),
+        )?;
     }
     Ok(())
 }
@@ -81,6 +96,6 @@ pub(crate) fn nodes_of(
     let mut nodes = Vec::with_capacity(alloc, parsed.spans.len())?;
     let root = parsed.root();
     let needs_group_here = needs_group_in_repeat(root.expr());
-    push_nodes(&mut nodes, pattern, root, needs_group_here)?;
+    push_nodes(&mut nodes, pattern, root, needs_group_here, false)?;
     Ok(nodes)
 }
