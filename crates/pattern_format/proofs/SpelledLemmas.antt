@@ -1,0 +1,80 @@
+-- Texts in the spelling of a pattern.
+use Rattle.std.proofs.Common.{◌≡◌, ℕ, List, [], ◌∷◌, ◌++◌, inl, inr, chars, refl, ap, sym, subst, ◌∙◌, append_assoc, append-nil}
+use Rattle.std.proofs.Common.{IsUtf8}
+use Rattle.std.specs.List.{flat_map}
+use Rattle.fancy_lex.specs.declared.flags.Flags.{Flags}
+use Rattle.fancy_grammar.specs.GroupInfo.{GroupInfo}
+use Rattle.fancy_grammar.specs.Label as label
+use Rattle.fancy_grammar.specs.ParseResult.{HasTree, IsTreeOf}
+use Rattle.fancy_grammar.specs.ReadAs.{IsReadAs}
+use Rattle.fancy_grammar.specs.Spans.{Span, AreSpansOf}
+use Rattle.fancy_grammar.specs.Tree.{Tree, leaf, over, row, Trees, no_trees, more_trees, list_of, children}
+use Rattle.fancy_syntax.specs.View.{view, views}
+use Rattle.fancy_syntax.specs.declared.expr.Expr.{Expr}
+use Rattle.pattern_format.specs.Spelled.{all_kept, all_kept_of, kept_of, respelled, IsRespelled, IsSpelledAs}
+use Rattle.pattern_format.specs.declared.spelled.Kept.{Kept}
+
+-- ---- what is kept of each node
+
+kept_listed : (ts : Trees) → all_kept_of ts ≡ flat_map all_kept (list_of ts)
+kept_listed no_trees = refl
+kept_listed (more_trees t ts) = ap (λ l. all_kept t ++ l) (kept_listed ts)
+
+-- what is kept of a node is followed by what is kept of its children
+kept_node : (t : Tree) → all_kept t ≡ kept_of t ∷ flat_map all_kept (children t)
+kept_node (leaf l) = refl
+kept_node (over (label.ast_group name position) t) = refl
+kept_node (over w t) = ap (λ l. kept_of (over w t) ∷ l) (sym (append-nil (all_kept t)))
+kept_node (row r ts) = ap (λ l. kept_of (row r ts) ∷ l) (kept_listed ts)
+
+-- what was added so far for a node, after what was there before, with some children left
+pub record Keeping (t : Tree) (old now : List Kept) (left : List Expr) : Type 0 where
+  pub whole : now ++ flat_map all_kept (views left) ≡ old ++ all_kept t
+
+module _ (t : Tree) (old : List Kept) where
+  pub keeping_starts : (now : List Kept) (left : List Expr) → now ≡ old ++ kept_of t ∷ [] → views left ≡ children t →
+      Keeping t old now left
+  keeping_starts now left p h = record {
+    whole = ap (λ l. l ++ flat_map all_kept (views left)) p
+        ∙ append_assoc old (kept_of t ∷ []) (flat_map all_kept (views left))
+        ∙ ap (λ ts. old ++ kept_of t ∷ flat_map all_kept ts) h ∙ ap (λ l. old ++ l) (sym (kept_node t));
+  }
+
+  pub keeping_next : (now more_now : List Kept) (c : Expr) (left more : List Expr) → Keeping t old now left →
+      left ≡ c ∷ more → more_now ≡ now ++ all_kept (view c) → Keeping t old more_now more
+  keeping_next now more_now c left more s h e = record {
+    whole = ap (λ l. l ++ flat_map all_kept (views more)) e
+        ∙ append_assoc now (all_kept (view c)) (flat_map all_kept (views more))
+        ∙ ap (λ es. now ++ flat_map all_kept (views es)) (sym h) ∙ s.whole;
+  }
+
+  pub keeping_ends : (now : List Kept) (left : List Expr) → Keeping t old now left → left ≡ [] → now ≡ old ++ all_kept t
+  keeping_ends now left s h =
+      sym (append-nil now) ∙ ap (λ es. now ++ flat_map all_kept (views es)) (sym h) ∙ s.whole
+
+-- ---- the text with the spellings
+
+-- a text without a tree stays
+pub no_tree_stays : (f : Flags) (pattern : List ℕ) (t : Tree) (m : GroupInfo) (qs : List Span) (text : List ℕ) →
+    ((u : Tree) (k : GroupInfo) → IsTreeOf f (chars text) u k → ⊥) → IsSpelledAs f pattern t m qs text text
+no_tree_stays f pattern t m qs text none = inr (refl, λ u r. none r.0.0 r.0.1.0 r.0.1.1)
+
+-- the nodes of the text have these spans and no others, and with the spellings it is these bytes
+module _ (f : Flags) (pattern : List ℕ) (t : Tree) (m : GroupInfo) (qs : List Span) (text : List ℕ) (own : List Span)
+    (bytes : List ℕ) (only : (k : List Span) → AreSpansOf f (chars text) k → k ≡ own)
+    (is : bytes ≡ respelled text pattern (all_kept t) own qs 0) where
+  same_bytes : (u : List ℕ) → IsRespelled f pattern t m qs text u → u ≡ bytes
+  same_bytes u (tree, ps, of, e, utf8, reads) = e ∙ ap (λ l. respelled text pattern (all_kept t) l qs 0) (only ps of) ∙ sym is
+
+  not_read : (IsUtf8 bytes → IsReadAs f (chars bytes) t m → ⊥) → (u : List ℕ) → IsRespelled f pattern t m qs text u → ⊥
+  not_read no u (tree, ps, of, e, utf8, reads) =
+      let same = same_bytes u (tree, ps, of, e, utf8, reads) in
+      no (subst IsUtf8 same utf8) (subst (λ w. IsReadAs f (chars w) t m) same reads)
+
+  -- if they are not read as the tree, the text stays
+  pub unread_stays : (IsUtf8 bytes → IsReadAs f (chars bytes) t m → ⊥) → IsSpelledAs f pattern t m qs text text
+  unread_stays no = inr (refl, not_read no)
+
+  pub is_respelled : HasTree f (chars text) → AreSpansOf f (chars text) own → IsUtf8 bytes → IsReadAs f (chars bytes) t m →
+      IsSpelledAs f pattern t m qs text bytes
+  is_respelled tree of utf8 reads = inl (tree, own, of, is, utf8, reads)
