@@ -57,7 +57,7 @@ module _ (t : Tree) (old : List Kept) where
 -- a text without a tree stays
 pub no_tree_stays : (f : Flags) (pattern : List ℕ) (t : Tree) (m : GroupInfo) (qs : List Span) (text : List ℕ) →
     ((u : Tree) (k : GroupInfo) → IsTreeOf f (chars text) u k → ⊥) → IsSpelledAs f pattern t m qs text text
-no_tree_stays f pattern t m qs text none = inr (refl, λ u r. none r.0.0 r.0.1.0 r.0.1.1)
+no_tree_stays f pattern t m qs text none = inr (refl, λ u r. none r.0.0 r.0.1 r.0.2)
 
 -- the nodes of the text have these spans and no others, and with the spellings it is these bytes
 module _ (f : Flags) (pattern : List ℕ) (t : Tree) (m : GroupInfo) (qs : List Span) (text : List ℕ) (own : List Span)
@@ -67,14 +67,21 @@ module _ (f : Flags) (pattern : List ℕ) (t : Tree) (m : GroupInfo) (qs : List 
   same_bytes u (tree, ps, of, e, utf8, reads) = e ∙ ap (λ l. respelled text pattern (all_kept t) l qs 0) (only ps of) ∙ sym is
 
   not_read : (IsUtf8 bytes → IsReadAs f (chars bytes) t m → ⊥) → (u : List ℕ) → IsRespelled f pattern t m qs text u → ⊥
-  not_read no u (tree, ps, of, e, utf8, reads) =
+  not_read unread u (tree, ps, of, e, utf8, reads) =
       let same = same_bytes u (tree, ps, of, e, utf8, reads) in
-      no (subst IsUtf8 same utf8) (subst (λ w. IsReadAs f (chars w) t m) same reads)
+      unread (subst IsUtf8 same utf8) (subst (λ w. IsReadAs f (chars w) t m) same reads)
 
   -- if they are not read as the tree, the text stays
   pub unread_stays : (IsUtf8 bytes → IsReadAs f (chars bytes) t m → ⊥) → IsSpelledAs f pattern t m qs text text
-  unread_stays no = inr (refl, not_read no)
+  unread_stays unread = inr (refl, not_read unread)
 
   pub is_respelled : HasTree f (chars text) → AreSpansOf f (chars text) own → IsUtf8 bytes → IsReadAs f (chars bytes) t m →
       IsSpelledAs f pattern t m qs text bytes
   is_respelled tree of utf8 reads = inl (tree, own, of, is, utf8, reads)
+
+-- the bytes, where what they are made of is known by other names
+pub respelled_of : (bytes a b c d : List ℕ) (k l : List Kept) (ps us qs vs : List Span) → a ≡ c → b ≡ d → k ≡ l → ps ≡ us → qs ≡ vs →
+    bytes ≡ respelled a b k ps qs 0 → bytes ≡ respelled c d l us vs 0
+respelled_of bytes a b c d k l ps us qs vs text pattern kept here there e =
+    e ∙ ap (λ x. respelled x b k ps qs 0) text ∙ ap (λ x. respelled c x k ps qs 0) pattern ∙ ap (λ x. respelled c d x ps qs 0) kept
+    ∙ ap (λ x. respelled c d l x qs 0) here ∙ ap (λ x. respelled c d l us x 0) there

@@ -62,10 +62,7 @@ fn line_of(
 }
 
 /// The tree of the pattern with its spans; None if the pattern is invalid, and then the error is reported.
-fn spanned(
-    subject: Subject<'_>,
-    reports: &mut Reports<'_>,
-) -> Result<Option<SpannedTree>, RunError>
+fn spanned(subject: Subject<'_>, reports: &mut Reports<'_>) -> Result<Option<SpannedTree>, RunError>
     ensures tree { IfOk result (λ parsed. IfSome parsed (λ t. IsParsed (flags_of subject.entry.flags)
         subject.entry.pattern.now (view t.tree.expr) (info_of t.tree))) }
     ensures spans { IfOk result (λ parsed. IfSome parsed (λ t. AreParsedSpans (flags_of subject.entry.flags)

@@ -17,5 +17,5 @@ returns-in-Ok c = (
 
 pub returns-in-Err-ParseError : goal.returns-in-Err-ParseError
 returns-in-Err-ParseError c =
-    let only = c.in-Err-ParseError.ensures.error.error in
-    (λ e. absurd (false≢true e), λ r. absurd (only.1.1 r.0 _ r.1.is))
+    let only = rw c.in-Err-ParseError.field-0-is at c.in-Err-ParseError.ensures.error.error in
+    (λ e. absurd (false≢true e), λ r. absurd (only.2 r.0 _ r.1.is))
