@@ -1,6 +1,5 @@
 -- The text of a tree in the spelling of a pattern that has the same tree. Some engines read an escape, a class, a reference
--- or the name of a group only as it is spelled there: Python `(?P<n>a)` and `(?P=n)`, and `\p{Lu}` not each engine in small
--- letters.
+-- or the name of a group only as it is spelled there: Python `(?P<n>a)` and `(?P=n)`, others `\p{Lu}` and not `\p{lu}`.
 use Rattle.std.specs.Prelude.{◌≡◌, ℕ, ◌+◌, Bool, true, false, ◌&&◌, ◌||◌, not, ◌⊎◌, List, [], ◌∷◌, ◌++◌, length, chars}
 use Rattle.std.specs.Prelude.{codes, nat_eq, nat_le, slice_range, if◌then◌else◌, Option, Some, None, IsUtf8}
 use Rattle.std.specs.List.{list_any, starts_with}
