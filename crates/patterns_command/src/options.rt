@@ -324,7 +324,7 @@ after # becomes (?#..), and (?x) at the beginning goes",
     OptionRow {
         id: "canonical",
         help: "Writes the canonical text of each pattern's tree: without ignored
-whitespace, and in one spelling",
+whitespace, and in one spelling, except classes and references",
         ..FLAG
     },
     OptionRow {
