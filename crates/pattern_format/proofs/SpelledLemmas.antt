@@ -1,7 +1,11 @@
 -- Texts in the spelling of a pattern.
 use Rattle.std.proofs.Common.{◌≡◌, ◌≢◌, ℕ, List, [], ◌∷◌, ◌++◌, inl, inr, chars, refl, ap, ap₂, sym, subst, ◌∙◌, append_assoc, append-nil}
-use Rattle.std.proofs.Common.{IsUtf8}
+use Rattle.std.proofs.Common.{IsUtf8, Bool, true, false}
+use Rattle.std.proofs.lemmas.Bool.{false≢true}
+use Rattle.std.proofs.lemmas.Slice.Eq.{bytes_eq-Decides}
+use Rattle.std.specs.Bool.{Decides}
 use Rattle.std.specs.List.{flat_map}
+use Rattle.std.specs.Str.{bytes_eq}
 use Rattle.fancy_lex.specs.declared.flags.Flags.{Flags}
 use Rattle.fancy_grammar.specs.GroupInfo.{GroupInfo}
 use Rattle.fancy_grammar.specs.Label as label
@@ -77,6 +81,10 @@ pub text_stays : (f : Flags) (pattern : List ℕ) (t : Tree) (m : GroupInfo) (qs
     IsSpelledAs f pattern t m qs text text
 text_stays f pattern t m qs text same = inr (refl, λ u r. r.unlike same)
 
+-- and a text stays in its own spelling
+pub text_stays_spelled : (f : Flags) (t : Tree) (m : GroupInfo) (text : List ℕ) → StaysSpelled f t m text text
+text_stays_spelled f t m text u rs same of = text_stays f text u m rs text refl
+
 -- a text without a tree stays
 pub no_tree_stays : (f : Flags) (pattern : List ℕ) (t : Tree) (m : GroupInfo) (qs : List Span) (text : List ℕ) →
     ((u : Tree) (k : GroupInfo) → IsTreeOf f (chars text) u k → ⊥) → IsSpelledAs f pattern t m qs text text
@@ -140,9 +148,35 @@ module _ (f : Flags) (pattern : List ℕ) (t : Tree) (m : GroupInfo) (qs : List 
           own = subst (λ k. HasOwnSpelling f text k here bytes) kept own;
         })
 
+-- the nodes of w have these spans and no others, and with its spellings the text is these bytes: that they are w is decided
+pub own_decides : (f : Flags) (text : List ℕ) (ks : List Kept) (ps rs : List Span) (w bytes : List ℕ) → AreSpansOf f (chars w) rs →
+    ((k : List Span) → AreSpansOf f (chars w) k → k ≡ rs) → bytes ≡ respelled text w ks ps rs 0 →
+    Decides (bytes_eq bytes w) (HasOwnSpelling f text ks ps w)
+own_decides f text ks ps rs w bytes found only is = (
+  λ e. (rs, found, sym ((bytes_eq-Decides bytes w).0 e) ∙ is),
+  λ own. (bytes_eq-Decides bytes w).1
+      (is ∙ ap (λ l. respelled text w ks ps l 0) (sym (only own.0 own.1)) ∙ sym own.2),
+)
+
 -- the bytes, where what they are made of is known by other names
 pub respelled_of : (bytes a b c d : List ℕ) (k l : List Kept) (ps us qs vs : List Span) → a ≡ c → b ≡ d → k ≡ l → ps ≡ us → qs ≡ vs →
     bytes ≡ respelled a b k ps qs 0 → bytes ≡ respelled c d l us vs 0
 respelled_of bytes a b c d k l ps us qs vs text pattern kept here there e =
     e ∙ ap (λ x. respelled x b k ps qs 0) text ∙ ap (λ x. respelled c x k ps qs 0) pattern ∙ ap (λ x. respelled c d x ps qs 0) kept
     ∙ ap (λ x. respelled c d l x qs 0) here ∙ ap (λ x. respelled c d l us x 0) there
+
+-- the same of what has its own spelling
+pub own_of : (f : Flags) (a c : List ℕ) (k l : List Kept) (ps us : List Span) (w : List ℕ) → a ≡ c → k ≡ l → ps ≡ us →
+    HasOwnSpelling f a k ps w → HasOwnSpelling f c l us w
+own_of f a c k l ps us w text kept here own =
+    subst (λ x. HasOwnSpelling f x l us w) text
+    (subst (λ x. HasOwnSpelling f a x us w) kept (subst (λ x. HasOwnSpelling f a k x w) here own))
+
+-- ---- two texts that were compared
+
+module _ (r : Bool) (a b c d : List ℕ) (is : r ≡ bytes_eq a b) (first : a ≡ c) (second : b ≡ d) where
+  pub equal_texts : r ≡ true → c ≡ d
+  equal_texts held = sym first ∙ (bytes_eq-Decides a b).0 (sym is ∙ held) ∙ second
+
+  pub unequal_texts : r ≡ false → c ≢ d
+  unequal_texts fails e = false≢true (sym fails ∙ is ∙ (bytes_eq-Decides a b).1 (first ∙ e ∙ sym second))

@@ -85,7 +85,8 @@ abbrev pub HasOwnSpelling : Flags → List ℕ → List Kept → List Span → L
 HasOwnSpelling f text ks ps w = (rs : List Span) × AreSpansOf f (chars w) rs × (w ≡ respelled text w ks ps rs 0)
 
 -- w is the text with the spellings of the pattern, whose tree is t and whose nodes have the spans qs
-pub record IsRespelled (f : Flags) (pattern : List ℕ) (t : Tree) (m : GroupInfo) (qs : List Span) (text w : List ℕ) : Type 0 where
+pub record IsRespelled (f : Flags) (pattern : List ℕ) (t : Tree) (m : GroupInfo) (qs : List Span) (text w : List ℕ) :
+    Type 0 where
   -- neither the pattern nor w is the text
   pub unlike : pattern ≢ text
   pub other : w ≢ text

@@ -88,7 +88,8 @@ fn part(text: &[u8], start: usize, end: usize) -> &[u8]
     }
 }
 
-/// Whether the text of a leaf is kept: it is an escape, a class or in parentheses, and has no `#`, with which a comment may begin.
+/// Whether the text of a leaf is kept: it is an escape, a class or in parentheses, and has no `#`, with which a comment may
+/// begin.
 fn is_own(text: &[u8]) -> bool
     ensures { result ≡ spec.is_own text.now }
 {
@@ -167,8 +168,8 @@ fn respelled(
     pattern: &[u8],
     there: &[Span],
 ) -> Result<Vec<u8>, AllocError>
-    ensures { IfOk result (λ written. written.items ≡ spec.respelled plain.text.now pattern.now plain.kept.now
-        (map span_of plain.spans.now) (map span_of there.now) 0) }
+    ensures { IfOk result (λ written. written.items ≡ spec.respelled plain.entry.text.now pattern.now plain.entry.kept.now
+        (map span_of plain.entry.spans.now) (map span_of there.now) 0) }
 {
     let text = plain.text;
     let mut written = Vec::with_capacity(alloc, text.len())?;
@@ -208,7 +209,7 @@ fn is_settled(
 ) -> Result<bool, AllocError>
     ensures { IfOk result (λ b. Decides b
         (IsReadAs (flags_of flags) (chars written.now) (view tree.now.expr) (info_of tree.now)
-        × spec.HasOwnSpelling (flags_of flags) plain.text.now plain.kept.now (map span_of plain.spans.now) written.now)) }
+        × spec.HasOwnSpelling (flags_of flags) plain.entry.text.now plain.entry.kept.now (map span_of plain.entry.spans.now) written.now)) }
 {
     let read = match SpannedTree::parse(alloc, written, flags) {
         Ok(read) => read,
@@ -222,9 +223,10 @@ fn is_settled(
     Ok(again.as_slice() == written.as_bytes())
 }
 
-/// A text of the tree of a pattern, which is given parsed, in the spelling of the pattern: leaves that are neither literals nor `.`, `^` and
-/// `$` have their texts in the pattern, if no `#` is in them, and `(?<name>` is `(?P<name>` if it is there. If that would not be read as this
-/// tree, or would be spelled otherwise again, the text stays. Returns `AllocError` if out of memory.
+/// A text of the tree of a pattern, which is given parsed, in the spelling of the pattern: leaves that are neither
+/// literals nor `.`, `^` and `$` have their texts in the pattern, if no `#` is in them, and `(?<name>` is `(?P<name>` if
+/// it is there. If that would not be read as this tree, or would be spelled otherwise again, the text stays. Returns
+/// `AllocError` if out of memory.
 pub fn in_spelling_of(
     alloc: Global,
     pattern: &str,

@@ -26,11 +26,12 @@ IsCanonical f pattern t m qs w =
     (text : List ℕ) × IsUtf8 text × (chars text ≡ pattern_text f t m) × IsSpelledAs f pattern t m qs text w
 
 -- the bytes are the canonical text, for the line of the pattern: under the flags it is read as the tree with its group
--- information, and it fits in a line
+-- information, it is its own canonical text, and it fits in a line
 pub record IsLineOf (f : Flags) (pattern : List ℕ) (t : Tree) (m : GroupInfo) (qs : List Span) (w : List ℕ) : Type 0 where
   pub utf8 : IsUtf8 w
   pub is : IsCanonical f pattern t m qs w
   pub reads : IsReadAs f (chars w) t m
+  pub again : (rs : List Span) → AreSpansOf f (chars w) rs → IsCanonical f w t m rs w
   pub unbroken : breaks_line w pattern ≡ false
 
 -- the canonical text would break the line of the pattern

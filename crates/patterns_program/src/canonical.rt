@@ -1,7 +1,7 @@
 //! `format --canonical`: each pattern as the text of its tree, in its own spelling of escapes, classes and references.
 ghost use Rattle.std.specs.Prelude.{◌≡◌, ◌⊎◌, chars, string_bytes, Ok, IfOk, IfSome, IfNone, OnSome};
 ghost use Rattle.fancy_lex.specs.Flags.{flags_of};
-ghost use Rattle.fancy_grammar.specs.Promises.{IsParsed, AreParsedSpans};
+ghost use Rattle.fancy_grammar.specs.Spans.{AreSpansOf};
 ghost use Rattle.fancy_syntax.specs.InfoViews.{IsTreeOf, info_of};
 ghost use Rattle.fancy_syntax.specs.SpanViews.{spans_of};
 ghost use Rattle.fancy_syntax.specs.View.{view};
@@ -10,7 +10,7 @@ ghost use Rattle.patterns_program.specs.declared.canonical.Comments.{Comments};
 ghost use Rattle.patterns_program.specs.Rewriting.{IfChanged};
 ghost use Rattle.patterns_program.specs.declared.outcome.Outcome.{Outcome};
 ghost use Rattle.patterns_program.specs.declared.rewriting.Rewriting.TheVariants.{Stays as StaysAs};
-ghost use Rattle.patterns_text.specs.Subject.{IsRefused};
+ghost use Rattle.patterns_text.specs.Subject.{IsParsedAs, IsRefused};
 
 use crate::outcome::Outcome;
 use crate::rewriting::Rewriting;
@@ -63,10 +63,9 @@ fn line_of(
 
 /// The tree of the pattern with its spans; None if the pattern is invalid, and then the error is reported.
 fn spanned(subject: Subject<'_>, reports: &mut Reports<'_>) -> Result<Option<SpannedTree>, RunError>
-    ensures tree { IfOk result (λ parsed. IfSome parsed (λ t. IsParsed (flags_of subject.entry.flags)
-        subject.entry.pattern.now (view t.tree.expr) (info_of t.tree))) }
-    ensures spans { IfOk result (λ parsed. IfSome parsed (λ t. AreParsedSpans (flags_of subject.entry.flags)
-        subject.entry.pattern.now (view t.tree.expr) (spans_of t.spans))) }
+    ensures tree { IfOk result (λ parsed. IfSome parsed (λ t. IsParsedAs subject.entry t.tree)) }
+    ensures spans { IfOk result (λ parsed. IfSome parsed (λ t. AreSpansOf (flags_of subject.entry.flags)
+        (chars subject.entry.pattern.now) (spans_of t.spans))) }
     ensures refused { IfOk result (λ parsed. IfNone parsed (IsRefused subject.entry)) }
 {
     match SpannedTree::parse(subject.alloc, subject.pattern, subject.flags) {

@@ -1,4 +1,4 @@
-use Rattle.std.proofs.Common.{◌≡◌, ◌∙◌, ◌<◌, ◌^◌, ap, sym, arith, chars, string_bytes}
+use Rattle.std.proofs.Common.{◌≡◌, ◌∙◌, ◌<◌, ◌^◌, refl, ap, sym, arith, chars, string_bytes}
 use Rattle.std.proofs.lemmas.Str.{IsUtf8-string_bytes}
 use Rattle.fancy_lex.proofs.TextLemmas.{bytes_chars}
 use Rattle.fancy_lex.specs.Text.{bytes}
@@ -25,6 +25,7 @@ returns-clause-some c =
       utf8 = IsUtf8-string_bytes spelled;
       is = (string_bytes first, IsUtf8-string_bytes first, text, c.in_ok-text-2.ensures.spelled);
       reads = c.in_ok-text-2.ensures.read (rw c.in-Some.is at c.in_ok-text.ensures.reads_back);
+      again = λ rs of. (string_bytes first, IsUtf8-string_bytes first, text, c.in_ok-text-2.ensures.again _ rs refl of);
       unbroken = ap (λ b. breaks_line b c.args.pattern.now) (sym c.as_str.ensures.value) ∙ sym c.breaks_line.ensures ∙ c.if-breaks_line.false;
     }
 
