@@ -79,7 +79,7 @@ complete -c patterns -n '__fish_seen_subcommand_from format' -l diff -d 'Writes 
 complete -c patterns -n '__fish_seen_subcommand_from format' -s v -l verbose -d 'Lays each pattern out over several lines, under (?x) if the flags do not have x: what does not fit in a line is broken into its branches and groups. In a file of lines a pattern has one line: use -e, -z, --textmate or --keys'
 complete -c patterns -n '__fish_seen_subcommand_from format' -l width -x -d 'With --verbose, how many characters a line may have; otherwise 80'
 complete -c patterns -n '__fish_seen_subcommand_from format' -l compact -d 'Writes each pattern in one line without ignored whitespace: a comment after # becomes (?#..), and (?x) at the beginning goes'
-complete -c patterns -n '__fish_seen_subcommand_from format' -l canonical -d 'Writes the canonical text of each pattern'\''s tree: without ignored whitespace, and in one spelling'
+complete -c patterns -n '__fish_seen_subcommand_from format' -l canonical -d 'Writes each tree'\''s text: without ignored whitespace, in one spelling except for classes and references'
 complete -c patterns -n '__fish_seen_subcommand_from format' -l drop-comments -d 'With --canonical, writes patterns that have comments too, without the comments'
 complete -c patterns -n '__fish_seen_subcommand_from format' -s h -l help -d 'Print help (see a summary with '\''-h'\'')'
 complete -c patterns -n '__fish_seen_subcommand_from groups' -l flags -x -d 'The flags to parse under, as letters, or - for none [default: u]'

@@ -23,6 +23,7 @@ mod pieces;
 mod read_back;
 mod removed;
 mod sheet;
+pub mod spelled;
 mod spelling;
 pub mod style;
 mod tab_stops;

@@ -332,8 +332,8 @@ after # becomes (?#..), and (?x) at the beginning goes",
     },
     OptionRow {
         id: "canonical",
-        help: "Writes the canonical text of each pattern's tree: without ignored
-whitespace, and in one spelling",
+        help: "Writes each tree's text: without ignored whitespace, in one spelling
+except for classes and references",
         ..FLAG
     },
     OptionRow {
