@@ -159,7 +159,8 @@ fn add_node(
 /// Returns what is known of the matches of each node, in preorder, as spans are listed. `None` where nothing is known,
 /// because of the node or of one below it: a reference or a call, an atomic group, a conditional, an absent form, `\R`,
 /// `\K`, `\G`, a byte, a verb, or a class that the engine does not read as one character. `unicode` says whether it reads
-/// with Unicode, as under `FLAG_UNICODE`. Each class and dot is read, and each literal that ignores case. Fails if memory runs out.
+/// with Unicode, as under `FLAG_UNICODE`. Each class and dot is read, and each literal that ignores case. Fails if memory
+/// runs out.
 ///
 /// ```rust
 /// let rows = facts(alloc, &tree.expr, true)?; // for `a|bc*` of the alternation, `a`, the concatenation, `b`, ..
