@@ -237,10 +237,10 @@ pub(crate) static LINT_OPTIONS: [OptionRow; 11] = [
     },
     OptionRow {
         id: "dialect",
-        takes: Takes::One("NAME", ValueParser::Names(DIALECT_NAMES)),
-        help: "The dialect that the patterns are written in. Those that it reads
-otherwise, or that are invalid here, are passed over, and counted at
-the end",
+        takes: Takes::Named("NAME", ValueParser::Names(DIALECT_NAMES)),
+        help: "The dialect of the patterns: java, javascript, oniguruma, pcre, perl,
+python or ruby. Those that it reads otherwise, or that are invalid
+here, are passed over, and counted at the end",
         ..FLAG
     },
     OptionRow {
