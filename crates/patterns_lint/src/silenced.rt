@@ -34,16 +34,24 @@ fn silence(names: &str, chosen: &mut Chosen)
     }
 }
 
-/// The levels of the rules for a pattern: those that are chosen, but for the rules that its comments silence, as
-/// `(?#patterns: allow empty-branch)` does, or under IGNORE_SPACE `# patterns: allow empty-branch, empty-loop`. In another
-/// dialect the rule on classes that the engine refuses is silent.
-pub fn levels_in(pattern: &str, trivia: &[Trivium], chosen: &Chosen) -> Chosen
+/// The levels, of which that of the rule on classes that the engine refuses is silent in another dialect.
+fn levels_in_dialect(chosen: &Chosen) -> Chosen
     ensures levels { (rule : Rule) → IsSameOrSilent (level_of chosen.now.levels rule) (level_of result.levels rule) }
 {
     let mut levels = *chosen;
     if levels.dialect.is_some() {
         levels.set(Rule::InvalidClass, Level::Allow);
     }
+    levels
+}
+
+/// The levels of the rules for a pattern: those that are chosen, but for the rules that its comments silence, as
+/// `(?#patterns: allow empty-branch)` does, or under IGNORE_SPACE `# patterns: allow empty-branch, empty-loop`. In another
+/// dialect the rule on classes that the engine refuses is silent.
+pub fn levels_in(pattern: &str, trivia: &[Trivium], chosen: &Chosen) -> Chosen
+    ensures levels { (rule : Rule) → IsSameOrSilent (level_of chosen.now.levels rule) (level_of result.levels rule) }
+{
+    let mut levels = levels_in_dialect(chosen);
     for trivium in trivia {
         if let Some(text) = comment_text(trivium, pattern)
             && let Some(names) = text.trim_start().strip_prefix(PREFIX)
