@@ -21,7 +21,14 @@ returns-then-eq-clause-good c =
     let line = rw c.in-Some-3.is at c.in_ok-text.ensures.some in
     let t = c.in-Some.parsed in
     let same : string_bytes c.in-Some-3.text ≡ c.args.subject.pattern.now =
-      sym c.as_str.ensures.value ∙ (bytes_eq-Decides _ _).0 (sym c.eq.ensures ∙ c.if-eq.true) in
-    λ good. (_, _, _, tree, spans, inl (subst
-      (IsLineOf (flags_of c.args.subject.flags) c.args.subject.pattern.now (view t.tree.expr) (info_of t.tree) (spans_of t.spans))
-      same line))
+    sym c.as_str.ensures.value ∙ (bytes_eq-Decides _ _).0 (sym c.eq.ensures ∙ c.if-eq.true) in
+    λ good. (
+      _,
+      _,
+      _,
+      tree,
+      spans,
+      inl (subst
+          (IsLineOf (flags_of c.args.subject.flags) c.args.subject.pattern.now (view t.tree.expr) (info_of t.tree) (spans_of t.spans))
+          same line),
+    )
