@@ -20,8 +20,9 @@ static const formatted_by_hand wanted_texts[] = {
     {"(?i)a(?i)b(?s-m:c)", U, KEPT, 0, "(?i)ab(?s:c)"},
     // comments, of which one that is empty goes
     {"a(?#)b(?# one)", U, KEPT, 0, "ab(?# one)"},
-    // blanks within a line, at its end, and before a comment through its end
-    {"a  b \n (?:c){1,}   # one", UX, KEPT, 0, "a b\n c+   # one"},
+    // blanks within a line and several lines, at the end of one, and before a comment through its end
+    {"a  b ", UX, KEPT, 0, "a b"},
+    {"a  b \n (?:c){1,}   # one", UX, KEPT, 0, "a  b\n c+   # one"},
     // a line that fits, and others
     {"a|b", U, VERBOSE, 80, "a|b"},
     {"a  b", UX, VERBOSE, 80, "a b"},

@@ -426,7 +426,7 @@ def are_formatted_right():
     return (
         fancy.format("(?:\\x41){0,1}(?# é)", style=style.KEPT) == "\\x41?(?# é)"
         and fancy.format("(?:\\x41){0,1}(?# é)".encode(), style=style.KEPT) == "\\x41?(?# é)"
-        and fancy.format("a  b \n (?:c){1,}   # one", verbose, style.KEPT) == "a b\n c+   # one"
+        and fancy.format("a  b \n (?:c){1,}   # one", verbose, style.KEPT) == "a  b\n c+   # one"
         and fancy.format("(abcd|ef)g", style=style.VERBOSE) == "(abcd|ef)g"
         and fancy.format("(abcd|ef)g", style=style.VERBOSE, width=8) == "(?x)\n(\n    abcd\n  | ef\n)\ng"
         and fancy.format("(abcd|ef)g", style=style.VERBOSE, width=2**64) == "(abcd|ef)g"
