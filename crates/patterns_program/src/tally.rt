@@ -59,10 +59,12 @@ impl Tally {
         self.read = 0;
     }
 
-    /// Goes on in the file, which has this size, to the offset.
-    pub(crate) fn read_to(&mut self, size: usize, offset: usize) {
-        self.size = size;
-        self.read = offset.min(size);
+    /// Goes on in the file, which has this size if it is known, to the offset.
+    pub(crate) fn read_to(&mut self, size: Option<usize>, offset: usize) {
+        if let Some(size) = size {
+            self.size = size;
+            self.read = offset.min(size);
+        }
     }
 
     /// How much of the files is done, in percent, as far as that is known.

@@ -1,4 +1,5 @@
 use Rattle.std.proofs.Common.{◌≡◌, ◌∙◌, sym, subst, inl, inr, string_bytes}
+use Rattle.std.proofs.lemmas.Bool.{false≢true}
 use Rattle.std.proofs.lemmas.Slice.Eq.{bytes_eq-Decides}
 use Rattle.fancy_lex.specs.Flags.{flags_of}
 use Rattle.fancy_syntax.specs.InfoViews.{info_of}
@@ -31,4 +32,19 @@ returns-then-eq-clause-good c =
       inl (subst
           (IsLineOf (flags_of c.args.subject.flags) c.args.subject.pattern.now (view t.tree.expr) (info_of t.tree) (spans_of t.spans))
           same line),
+    )
+
+pub returns-clause-changed : goal.returns-clause-changed
+returns-clause-changed c =
+    let tree = rw c.in-Some.is at c.in_ok-parsed.ensures.tree in
+    let spans = rw c.in-Some.is at c.in_ok-parsed.ensures.spans in
+    let line = rw c.in-Some-3.is at c.in_ok-text.ensures.some in (
+      _,
+      _,
+      _,
+      tree,
+      spans,
+      line,
+      λ e.
+          false≢true (sym c.if-eq.false ∙ c.eq.ensures ∙ (bytes_eq-Decides _ _).1 (c.as_str.ensures.value ∙ e)),
     )
