@@ -37,7 +37,11 @@ use Rattle.fancy_grammar.specs.Spans.{IsCutOut, condition_span, end_of, if_done}
 use Rattle.fancy_grammar.specs.State.{State, at, skipped, after_skipped, Outcome, done, failed, and_then, mapped}
 use Rattle.fancy_grammar.specs.Tree.{Tree, expression}
 use Rattle.fancy_grammar.specs.Trivia.{Trivium, Passed, part, flags, opening, closing, IsTriviaOf, IsPartOf, AreInOrder}
-use Rattle.fancy_grammar.specs.Trivia.{comments_at, flags_of_atom, opening_of, closing_of, quant_trivia, adjacent_trivia}
+use Rattle.fancy_grammar.proofs.StartLaws.{HasStart, has_start, counts_inner}
+use Rattle.fancy_grammar.proofs.TriviaLemmas.{InToken, one_with, inside_pass, dropped_with}
+use Rattle.fancy_grammar.specs.AtomStart.{read, of_kind}
+use Rattle.fancy_grammar.specs.Trivia.{inner_at, inner_of_counts, the_counts}
+use Rattle.fancy_grammar.specs.Trivia.{comments_at, parts_of_atom, opening_of, closing_of, quant_trivia, adjacent_trivia}
 use Rattle.fancy_grammar.specs.Trivia.{quants_trivia, alternation_trivia, branches_trivia, branch_trivia, pieces_trivia}
 use Rattle.fancy_grammar.specs.Trivia.{piece_trivia, atom_trivia, atom_of_trivia, inside_trivia, body_trivia, whole_trivia}
 use Rattle.fancy_grammar.specs.Trivia.{with_dropped, filled, layout_end, counted_trivia, leaves_condition}
@@ -94,7 +98,7 @@ ignored_passes s c p = by_outcome (suffix s c) (suffix_ends s c)
     by_outcome (done m v) (t, e, h) =
         let ends : layout_end s ≡ reach_of t = ap (λ j. choose (rest_of j) reach_of (reach_of s.rest)) e in
         subst (λ n. Passes s.rest v.rest p (with_dropped n (reach_of v.rest) q)) (sym ends)
-        (dropped_passes (layout_passes s t e p) h)
+        (dropped_passes (layout_passes s t e p) h ?)
     by_outcome (failed e) h = tt
 
 -- a quantifier, if one follows the layout
@@ -107,9 +111,10 @@ quant_passes left a s p = by_layout (skipped s) refl
     q = p ++ comments_at s
 
     by_counts : (v : Text) (o : Option (Counts × Text)) → Passes s.rest v p q → TakesSome 1 v o →
-        PassesFrom s.rest p (choose o (counted_trivia (reach_of v) a s q) q) (with_counts left a (at s v) o)
-    by_counts v None h i = h
-    by_counts v (Some (c, u)) h i = by_repeatable (is_repeatable s.flags a)
+        counts s.flags.ignore_space v ≡ o →
+        PassesFrom s.rest p (choose o (counted_trivia v a s q) q) (with_counts left a (at s v) o)
+    by_counts v None h i e = h
+    by_counts v (Some (c, u)) h i e = by_repeatable (is_repeatable s.flags a)
       where
         o : Outcome Suffix
         o = suffix (at s u) c
@@ -117,13 +122,20 @@ quant_passes left a s p = by_layout (skipped s) refl
         read : Slice v u
         read = record { word = i.word; cut = i.cut }
 
+        -- the comments in the counts
+        inner : List Passed
+        inner = inner_of_counts c v u
+
+        in_counts : InToken v u inner
+        in_counts = counts_inner s.flags.ignore_space v c u e
+
         -- if the tree holds the quantifier
         m : List Passed
-        m = q ++ comments_at (at s u)
+        m = (q ++ inner) ++ comments_at (at s u)
 
         -- if it is ignored: up to the end of the counts
         before : List Passed
-        before = with_dropped (reach_of v) (reach_of u) q
+        before = with_dropped (reach_of v) (reach_of u) q ++ inner
 
         -- and up to the end of the operators
         ignored : List Passed
@@ -137,18 +149,19 @@ quant_passes left a s p = by_layout (skipped s) refl
             else if is_dropped s.flags left a u then mapped (λ x. a) o else failed (not_repeatable u))
         by_repeatable true =
             mapped_from s.rest p m (λ x. quantified s.flags c x a) o
-            (on_from m (extended h read) o (suffix_passes (at s u) c q))
+            (on_from m (inside_pass h in_counts) o (suffix_passes (at s u) c (q ++ inner)))
         by_repeatable false =
             cond_both (is_dropped s.flags left a u) _ _ (PassesFrom s.rest p ignored)
             (λ _. mapped_from s.rest p ignored (λ x. a) o
-            (on_from ignored (dropped_passes h read) o (ignored_passes (at s u) c before))) (λ _. tt)
+            (on_from ignored (dropped_with h read (the_counts s.flags.ignore_space c (ap (counts s.flags.ignore_space) (sym read.cut) ∙ e)) in_counts)
+            o (ignored_passes (at s u) c before))) (λ _. tt)
 
     by_layout : (j : Skipped) → skipped s ≡ j →
         PassesFrom s.rest p (choose (option_and_then (counts s.flags.ignore_space) (rest_of j))
-        (counted_trivia (choose (rest_of j) reach_of (reach_of s.rest)) a s q) q)
+        (counted_trivia (choose (rest_of j) (λ t. t) s.rest) a s q) q)
         (after_skipped j (λ v. with_counts left a (at s v) (counts s.flags.ignore_space v)) failed)
     by_layout (rest v) e =
-        by_counts v (counts s.flags.ignore_space v) (layout_passes s v e p) (takes_counts s.flags.ignore_space v)
+        by_counts v (counts s.flags.ignore_space v) (layout_passes s v e p) (takes_counts s.flags.ignore_space v) refl
     by_layout (open_comment r) e = tt
 
 adjacent_passes : (k d : ℕ) (a : Tree) (s : State) (p : List Passed) →
@@ -205,17 +218,19 @@ quants_passes d left a s p = by_first (quant left a s) (quant_passes left a s p)
 
 -- ---- groups
 
-opening_passes : (h : GroupKind) (s t : State) (p : List Passed) → Slice s.rest t.rest →
-    Passes s.rest t.rest p (p ++ opening_of h s t)
-opening_passes flag_group s t p k =
-    one_more (opening s.flags t.flags) false k.word (nothing (current s.rest)) k.cut tt (current t.rest) refl
-opening_passes (capture None) s t p k =
-    one_more (opening s.flags t.flags) true k.word (nothing (current s.rest)) k.cut tt (current t.rest) refl
-opening_passes (capture (Some name)) s t p k = subst (Passes s.rest t.rest p) (sym (append-nil p)) (nothing k)
-opening_passes (look l) s t p k = subst (Passes s.rest t.rest p) (sym (append-nil p)) (nothing k)
-opening_passes atomic s t p k = subst (Passes s.rest t.rest p) (sym (append-nil p)) (nothing k)
-opening_passes define s t p k = subst (Passes s.rest t.rest p) (sym (append-nil p)) (nothing k)
-opening_passes repeater s t p k = subst (Passes s.rest t.rest p) (sym (append-nil p)) (nothing k)
+opening_passes : (h : GroupKind) (s t : State) (p : List Passed) (k : Slice s.rest t.rest) →
+    HasStart s (of_kind h t) → Passes s.rest t.rest p (p ++ opening_of h s t)
+opening_passes flag_group s t p k i =
+    one_with (opening s.flags t.flags) false k.word (nothing (current s.rest)) k.cut (i.0 k.word k.cut) i.1
+    (current t.rest) refl
+opening_passes (capture None) s t p k i =
+    one_with (opening s.flags t.flags) true k.word (nothing (current s.rest)) k.cut (i.0 k.word k.cut) i.1
+    (current t.rest) refl
+opening_passes (capture (Some name)) s t p k i = inside_pass (nothing (current s.rest)) i
+opening_passes (look l) s t p k i = inside_pass (nothing (current s.rest)) i
+opening_passes atomic s t p k i = inside_pass (nothing (current s.rest)) i
+opening_passes define s t p k i = inside_pass (nothing (current s.rest)) i
+opening_passes repeater s t p k i = inside_pass (nothing (current s.rest)) i
 
 -- up to the closing parenthesis
 abbrev PassesInside : Text → List Passed → List Passed → Outcome Tree → Type 0
@@ -264,14 +279,15 @@ module _ (t : Text) (p m : List Passed) where
 -- ---- the productions
 
 -- an atom that is read at once: a leaf, or inline flags
-read_passes : (s : State) (o : Outcome Tree) (p : List Passed) → Reads (IsLeaf s) s o →
-    PassesFrom s.rest p (p ++ flags_of_atom s o) o
-read_passes s (failed e) p h = tt
-read_passes s (done r t) p h =
+read_passes : (s : State) (o : Outcome Tree) (p : List Passed) → Reads (IsLeaf s) s o → HasStart s (read o) →
+    PassesFrom s.rest p (p ++ parts_of_atom s o) o
+read_passes s (failed e) p h i = tt
+read_passes s (done r t) p h i =
     cond_both (is_empty r) _ _ (λ l. Passes s.rest t.rest p (p ++ l))
-    (λ _. one_more (flags s.flags t.flags) false h.span.slice.word (nothing (current s.rest)) h.span.slice.cut tt
+    (λ e. one_with (flags s.flags t.flags) false h.span.slice.word (nothing (current s.rest)) h.span.slice.cut
+    (i.0 e h.span.slice.word h.span.slice.cut) (subst (λ b. InToken s.rest t.rest (inner_at b s t.rest)) e i.1)
     (current t.rest) refl)
-    (λ _. subst (Passes s.rest t.rest p) (sym (append-nil p)) (nothing h.span.slice))
+    (λ e. inside_pass (nothing (current s.rest)) (subst (λ b. InToken s.rest t.rest (inner_at b s t.rest)) e i.1))
 
 mutual
   alternation_passes : {d : ℕ} {s : State} {o : Outcome Tree} (a : Alternation d s o) (p : List Passed) →
@@ -321,45 +337,57 @@ mutual
   atom_passes {d} {s} (atom {k} {q} e a) p =
       let read_start = subst (StartReads s) e (start_reads d s) in
       let lies = subst (ConditionLies false s) e (condition_lies false d s) in
-      after_keeps (PassesFrom s.rest p (atom_of_trivia a p)) (λ r t f i. i) k s.flags q (of_passes a p read_start lies)
+      let has = subst (HasStart s) e (has_start d s) in
+      after_keeps (PassesFrom s.rest p (atom_of_trivia a p)) (λ r t f i. i) k s.flags q
+      (of_passes a p read_start lies has)
 
   of_passes : {k : AtomStart} {d : ℕ} {s : State} {o : Outcome Tree} (a : AtomOf k d s o) (p : List Passed) →
-      StartReads s k → ConditionLies false s k → PassesFrom s.rest p (atom_of_trivia a p) o
-  of_passes {s} a_nothing p h y = nothing (current s.rest)
-  of_passes {s} {o} a_read p h y = read_passes s o p h
-  of_passes {s} (a_group {t} {h = kind} {q} i) p h y =
+      StartReads s k → ConditionLies false s k → HasStart s k → PassesFrom s.rest p (atom_of_trivia a p) o
+  of_passes {s} a_nothing p h y z = nothing (current s.rest)
+  of_passes {s} {o} a_read p h y z = read_passes s o p h z
+  of_passes {s} (a_group {t} {h = kind} {q} i) p h y z =
       let before = p ++ opening_of kind s t in
       closing_passes s.rest p (inside_trivia i before) kind (reach_of s.rest) q
-      (on_inside (inside_trivia i before) (opening_passes kind s t p h.0) q (inside_passes i before))
-  of_passes {s} (a_condition {t} {v} {c} {o} i b) p h y =
-      let condition = past_paren t.rest p (inside_trivia i p) (done c v) (inside_passes i p) in
-      let q = with_dropped (reach_of s.rest) (reach_of t.rest) p in
-      let first = followed (dropped_passes (nothing (current s.rest)) h.0) (inside_passes i q) in
+      (on_inside (inside_trivia i before) (opening_passes kind s t p h.0 z) q (inside_passes i before))
+  of_passes {s} (a_condition {t} {v} {c} {o} i b) p h y z =
+      let k = p ++ inner_at false s t.rest in
+      let condition = past_paren t.rest k (inside_trivia i k) (done c v) (inside_passes i k) in
+      let q = with_dropped (reach_of s.rest) (reach_of t.rest) p ++ inner_at false s t.rest in
+      let first =
+      followed (dropped_with (nothing (current s.rest)) h.0 (z.0 h.0.word h.0.cut) z.1) (inside_passes i q) in
       cond_both (leaves_condition b) _ _ (λ m. PassesFrom s.rest p m o) (λ _.
       subst (λ n. PassesFrom s.rest p (filled n (end_of o) (body_trivia b []) (inside_trivia i q)) o)
       (ap (λ n. n + 1) (paren_bytes v.rest))
       (filled_from (body_trivia b []) first (one (code ")") v.rest) o (body_passes b []))) (λ _.
-      on_from (body_trivia b (inside_trivia i p)) (followed (nothing h.0) condition) o (body_passes b (inside_trivia i p)))
-  of_passes (condition_error i) p h y = tt
-  of_passes {s} {o} (a_body {t} b) p h y =
+      on_from (body_trivia b (inside_trivia i k))
+      (followed (inside_pass (nothing (current s.rest)) z.1) condition) o (body_passes b (inside_trivia i k)))
+  of_passes (condition_error i) p h y z = tt
+  of_passes {s} {o} (a_body {t} b) p h y z =
       let (w, u, before, condition, after, starts, ends) = alone_lies y in
-      let first = extended (dropped_passes (nothing (current s.rest)) before) condition in
+      let k = inner_at false s t.rest in
+      let first =
+      extended (dropped_with {l = k} (nothing (current s.rest)) before ? ?) condition in
       cond_both (leaves_condition b) _ _ (λ m. PassesFrom s.rest p m o) (λ _.
       subst (λ n. PassesFrom s.rest p
-      (filled n (end_of o) (body_trivia b []) (with_dropped (reach_of s.rest) (condition_span s t).start p)) o) (sym ends)
+      (filled n (end_of o) (body_trivia b []) (with_dropped (reach_of s.rest) (condition_span s t).start p ++ k)) o) (sym ends)
       (subst (λ n. PassesFrom s.rest p
-      (filled (reach_of u) (end_of o) (body_trivia b []) (with_dropped (reach_of s.rest) n p)) o) (sym starts)
+      (filled (reach_of u) (end_of o) (body_trivia b []) (with_dropped (reach_of s.rest) n p ++ k)) o) (sym starts)
       (filled_from (body_trivia b []) first after o (body_passes b []))))
-      (λ _. on_from (body_trivia b p) (nothing h.0.slice) o (body_passes b p))
-  of_passes {s} (two_branches {v} {u} {a} {q} b e m) p h y =
-      let all = branch_trivia m (branch_trivia b p) in
-      let first = extended (followed (nothing h.0) (branch_passes b p)) (strip_slice (code "|") v.rest u e) in
-      then_from s.rest p all all q _ (on_from all first q (branch_passes m (branch_trivia b p)))
+      (λ _. on_from (body_trivia b (p ++ k)) (inside_pass (nothing (current s.rest)) z) o (body_passes b (p ++ k)))
+  of_passes {s} (two_branches {t} {v} {u} {a} {q} b e m) p h y z =
+      let k = p ++ inner_at false s t.rest in
+      let all = branch_trivia m (branch_trivia b k) in
+      let first =
+      extended (followed (inside_pass (nothing (current s.rest)) z) (branch_passes b k))
+      (strip_slice (code "|") v.rest u e) in
+      then_from s.rest p all all q _ (on_from all first q (branch_passes m (branch_trivia b k)))
       (λ x w i. past_paren s.rest p all (closed (expression a x) w) (closed_passes (expression a x) w i))
-  of_passes {s} (one_branch {v} {a} b e) p h y =
-      past_paren s.rest p (branch_trivia b p) (closed (clear_or_stopper a) v)
-      (closed_passes (clear_or_stopper a) v (followed (nothing h.0) (branch_passes b p)))
-  of_passes (absent_error b) p h y = tt
+  of_passes {s} (one_branch {t} {v} {a} b e) p h y z =
+      let k = p ++ inner_at false s t.rest in
+      past_paren s.rest p (branch_trivia b k) (closed (clear_or_stopper a) v)
+      (closed_passes (clear_or_stopper a) v
+      (followed (inside_pass (nothing (current s.rest)) z) (branch_passes b k)))
+  of_passes (absent_error b) p h y z = tt
 
   inside_passes : {d : ℕ} {s : State} {o : Outcome Tree} (a : Inside d s o) (p : List Passed) →
       PassesInside s.rest p (inside_trivia a p) o

@@ -30,6 +30,10 @@ pub mod EscapeFrame
 -- ---- classes
 mod ClassLemmas
 pub mod ClassLaws
+pub mod TokenCommentLemmas
+mod ClassCommentLemmas
+pub mod TokenCommentLaws
+pub mod TokenReaders
 pub mod PositionLaws
 -- ---- quantifiers, and the openings of groups
 pub mod GroupStartLaws

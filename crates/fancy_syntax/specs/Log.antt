@@ -7,7 +7,7 @@ use Rattle.fancy_lex.specs.Text.{reach_of}
 use Rattle.fancy_grammar.specs.Spans.{Span, condition_span}
 use Rattle.fancy_grammar.specs.GroupKind.{GroupKind}
 use Rattle.fancy_grammar.specs.State.{State}
-use Rattle.fancy_grammar.specs.Trivia.{Passed, part, dropped, comments_at, opening_of, with_dropped, filled}
+use Rattle.fancy_grammar.specs.Trivia.{Passed, part, dropped, comments_at, inner_at, opening_of, with_dropped, filled}
 use Rattle.fancy_syntax.specs.declared.grammar.recorded.FirstBar.{FirstBar}
 use Rattle.fancy_syntax.specs.declared.grammar.recorded.ConditionPart.{ConditionPart}
 use Rattle.fancy_syntax.specs.declared.grammar.recorded.LastPiece.{LastPiece}
@@ -117,6 +117,10 @@ opened start inside l = part_begun inside (atom_opened start l)
 abbrev pub group_opened : GroupKind → State → State → Log → Log
 group_opened h s t l = pass (opening_of h s t) (opened (reach_of s.rest) (reach_of t.rest) l)
 
+-- any other atom that holds branches
+abbrev pub branches_opened : State → State → Log → Log
+branches_opened s t l = pass (inner_at false s t.rest) (opened (reach_of s.rest) (reach_of t.rest) l)
+
 -- the open part, a condition, has ended, and after its closing parenthesis the body begins at the reach
 abbrev pub body_begun : ℕ → Log → Log
 body_begun start l = part_begun start (with_open (λ o. record o {
@@ -127,7 +131,8 @@ body_begun start l = part_begun start (with_open (λ o. record o {
 abbrev pub body_opened : State → State → Log → Log
 body_opened s t l =
     let p = condition_span s t in
-    body_begun (reach_of t.rest) (leaf_recorded p.start p.end (opened (reach_of s.rest) p.start l))
+    body_begun (reach_of t.rest)
+    (leaf_recorded p.start p.end (pass (inner_at false s t.rest) (opened (reach_of s.rest) p.start l)))
 
 -- the open atom becomes the last piece, and the atom around it is the open one
 abbrev pub atom_ended : Log → Log

@@ -346,7 +346,7 @@ fn in_line_once(alloc: Global, pattern: &str, flags: u32) -> Result<Option<Strin
         Err(Error::OutOfMemory) => return Err(AllocError),
     };
     let tokens = tokens_of(alloc, pattern, &parsed)?;
-    let comments = all_comments(alloc, pattern, &parsed)?;
+    let comments = all_comments(alloc, &parsed.trivia)?;
     let oniguruma_mode = Flags::from_bits(flags).oniguruma_mode;
     for loss in losses(&tokens) {
         let text = in_one_line(alloc, pattern, &tokens, &comments, *loss, oniguruma_mode)?;

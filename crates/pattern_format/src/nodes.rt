@@ -1,5 +1,4 @@
 //! The nodes of a tree, as far as formatting needs them.
-use crate::own_part::own_part;
 use fancy_syntax::expr::{Expr, Shape, Wrap};
 use fancy_syntax::span::Span;
 use fancy_syntax::spanned::{SpannedNode, SpannedTree};
@@ -14,8 +13,6 @@ pub(crate) struct Node {
     pub(crate) ignores_case: bool,
     /// Whether a flag group around it, and around nothing else, cannot be left out.
     pub(crate) needs_group: bool,
-    /// The part in which a `#` begins no comment, except in a class.
-    pub(crate) own_part: Option<Span>,
 }
 
 /// Whether a group around the child of the node cannot be left out. In a conditional or an absent form it always stays.
@@ -47,7 +44,6 @@ fn needs_group(node: &Expr, child: &Expr) -> bool {
 /// Adds the node and those below it.
 fn push_nodes(
     nodes: &mut Vec<Node>,
-    pattern: &str,
     node: SpannedNode<'_>,
     needs_group_here: bool,
 ) -> Result<(), AllocError> {
@@ -58,10 +54,9 @@ fn push_nodes(
         is_leaf: expr.is_leaf_node() && !is_empty,
         ignores_case: matches!(expr, Expr::Literal { casei: true, .. }),
         needs_group: needs_group_here || is_empty,
-        own_part: own_part(node, pattern),
     })?;
     for child in node.children() {
-        push_nodes(nodes, pattern, child, needs_group(expr, child.expr()))?;
+        push_nodes(nodes, child, needs_group(expr, child.expr()))?;
     }
     Ok(())
 }
@@ -69,10 +64,9 @@ fn push_nodes(
 /// The nodes of the tree of a pattern in preorder.
 pub(crate) fn nodes_of(
     alloc: Global,
-    pattern: &str,
     parsed: &SpannedTree,
 ) -> Result<Vec<Node>, AllocError> {
     let mut nodes = Vec::with_capacity(alloc, parsed.spans.len())?;
-    push_nodes(&mut nodes, pattern, parsed.root(), false)?;
+    push_nodes(&mut nodes, parsed.root(), false)?;
     Ok(nodes)
 }

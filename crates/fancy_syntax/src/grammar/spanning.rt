@@ -10,12 +10,14 @@ ghost use Rattle.fancy_syntax.specs.Parsed.{state};
 ghost use Rattle.fancy_syntax.specs.Recording.{atom_read};
 ghost use Rattle.fancy_syntax.specs.View.{view};
 ghost use Rattle.fancy_grammar.specs.State.{done, skipped};
+ghost use Rattle.fancy_grammar.specs.Trivia.{inner_at, inner_of_counts};
 ghost use Rattle.fancy_lex.specs.LayoutSteps.{rest};
 
 use crate::expr::Expr;
 use crate::grammar::recorded::RecordedTrivium;
 use crate::grammar::state::State;
-use std::alloc::AllocError;
+use fancy_lex::counts::Counts;
+use std::alloc::{AllocError, Global};
 
 /// What is done with the reaches that the parser passes. If no spans are recorded, nothing is done, and calls are
 /// compiled without it.
@@ -28,6 +30,22 @@ pub(crate) trait Spanning: Drop {
         requires { skipped (state current) ≡ rest (chars after.now) }
         ensures { (l : Log) → records self.old l → OnOk result (records self.new (layout_passed (state current.entry) l)) };
 
+    /// The counts of a quantifier at the front, which `after` follows, are passed.
+    fn pass_counts(&mut self, counts: Counts, start: &str, after: &str) -> Result<(), AllocError>
+        ensures { (l : Log) → records self.old l → OnOk result (records self.new
+            (pass (inner_of_counts counts (chars start.now) (chars after.now)) l)) };
+
+    /// The token that begins the atom at `start`, and that `after` follows, is passed. It has the letters of flags, or not.
+    fn pass_start(
+        &mut self,
+        alloc: Global,
+        start: State,
+        after: &str,
+        has_letters: bool,
+    ) -> Result<(), AllocError>
+        ensures { (l : Log) → records self.old l → OnOk result (records self.new
+            (pass (inner_at has_letters (state start.entry) (chars after.now)) l)) };
+
     /// A part of the pattern that no node has, or may have, is passed.
     fn pass(&mut self, part: RecordedTrivium) -> Result<(), AllocError>
         ensures { (l : Log) → records self.old l → OnOk result (records self.new (pass (recorded_part part ∷ []) l)) };
@@ -37,7 +55,13 @@ pub(crate) trait Spanning: Drop {
         ensures { (l : Log) → records self.old l → OnOk result (records self.new (text_dropped start end l)) };
 
     /// An atom that is read at once is there, and becomes the last piece: a leaf, or inline flags, whose tree is an Empty.
-    fn record_atom(&mut self, start: State, atom: &Expr, end: State) -> Result<(), AllocError>
+    fn record_atom(
+        &mut self,
+        alloc: Global,
+        start: State,
+        atom: &Expr,
+        end: State,
+    ) -> Result<(), AllocError>
         ensures { (l : Log) → records self.old l → OnOk result (records self.new
             (atom_read (state start.entry) (done (view atom.now) (state end.entry)) l)) };
 
@@ -59,7 +83,12 @@ pub(crate) trait Spanning: Drop {
 
     /// A conditional begins at the first state. Its body begins at the second, after a condition that is no
     /// alternation.
-    fn open_body(&mut self, start: State, inside: State) -> Result<(), AllocError>
+    fn open_body(
+        &mut self,
+        alloc: Global,
+        start: State,
+        inside: State,
+    ) -> Result<(), AllocError>
         ensures { (l : Log) → records self.old l → OnOk result (records self.new (body_opened (state start.entry) (state inside.entry) l)) };
 
     /// The open part is a condition whose closing parenthesis was read. The body begins at `rest`.
@@ -118,6 +147,27 @@ impl Spanning for NoSpans {
     }
 
     #[inline(always)]
+    fn pass_counts(
+        &mut self,
+        _counts: Counts,
+        _start: &str,
+        _after: &str,
+    ) -> Result<(), AllocError> {
+        Ok(())
+    }
+
+    #[inline(always)]
+    fn pass_start(
+        &mut self,
+        _alloc: Global,
+        _start: State,
+        _after: &str,
+        _has_letters: bool,
+    ) -> Result<(), AllocError> {
+        Ok(())
+    }
+
+    #[inline(always)]
     fn pass(&mut self, _part: RecordedTrivium) -> Result<(), AllocError> {
         Ok(())
     }
@@ -128,7 +178,13 @@ impl Spanning for NoSpans {
     }
 
     #[inline(always)]
-    fn record_atom(&mut self, _start: State, _atom: &Expr, _end: State) -> Result<(), AllocError> {
+    fn record_atom(
+        &mut self,
+        _alloc: Global,
+        _start: State,
+        _atom: &Expr,
+        _end: State,
+    ) -> Result<(), AllocError> {
         Ok(())
     }
 
@@ -151,7 +207,12 @@ impl Spanning for NoSpans {
     }
 
     #[inline(always)]
-    fn open_body(&mut self, _start: State, _inside: State) -> Result<(), AllocError> {
+    fn open_body(
+        &mut self,
+        _alloc: Global,
+        _start: State,
+        _inside: State,
+    ) -> Result<(), AllocError> {
         Ok(())
     }
 

@@ -1,5 +1,5 @@
 //! The spans of the nodes of a raw tree, each tree in preorder, and what no node has.
-ghost use Rattle.std.specs.Prelude.{◌≡◌, false, chars, map, option_map, IfOk, OnOk};
+ghost use Rattle.std.specs.Prelude.{◌≡◌, true, false, ◌∷◌, chars, map, option_map, IfOk, OnOk};
 ghost use Rattle.fancy_lex.specs.Reading.{choose};
 ghost use Rattle.fancy_lex.specs.Text.{reach_of};
 ghost use Rattle.fancy_grammar.specs.Spans.{condition_text};
@@ -8,7 +8,10 @@ ghost use Rattle.fancy_syntax.specs.Log.{layout_passed};
 ghost use Rattle.fancy_syntax.specs.LogViews.{log_of};
 ghost use Rattle.fancy_syntax.specs.Parsed.{state};
 ghost use Rattle.fancy_syntax.specs.TriviaViews.{recorded_part};
-ghost use Rattle.fancy_grammar.specs.Trivia.{dropped, of_comment, part};
+ghost use Rattle.fancy_grammar.specs.State as states;
+ghost use Rattle.fancy_grammar.specs.Trivia.{comments_in_start, dropped, of_comment, of_inner, part};
+ghost use Rattle.fancy_lex.specs.Comments.{comments};
+ghost use Rattle.fancy_lex.specs.TokenComments.{class_comments, escape_comments, token_comments};
 ghost use Rattle.fancy_lex.specs.CommentViews.{comment_of};
 
 mod returned;
@@ -21,8 +24,12 @@ use crate::grammar::spanning::Spanning;
 use crate::grammar::state::{State, skip_layout};
 use crate::grammar::trees::is_empty;
 use crate::trivium::TriviumKind;
-use fancy_lex::layout::{LayoutComment, first_comment};
-use fancy_lex::text::{after, after_word, reach, reach_before};
+use fancy_lex::class::next_escape;
+use fancy_lex::counts::Counts;
+use fancy_lex::escape::after_layout_letter;
+use fancy_lex::flags::Flags;
+use fancy_lex::layout::{LayoutComment, first_comment, first_in_token, has_hash};
+use fancy_lex::text::{after, after_word, next, reach, reach_before};
 use std::alloc::{AllocError, Global};
 
 /// The nodes that have been read, the open atoms, and what was passed that no node has.
@@ -82,6 +89,85 @@ impl Spans {
         Ok(())
     }
 
+    /// Records the comments in the token that `text` begins with, and that `end` follows.
+    #[inline(never)]
+    fn pass_token(&mut self, text: &str, end: &str) -> Result<(), AllocError>
+        ensures { OnOk result (log_of self.new ≡
+            spec.pass (map of_inner (token_comments (chars text.now) (chars end.now))) (log_of self.old)) }
+    {
+        let mut rest = text;
+        while let Some(comment) = first_in_token(rest, end) {
+            self.passed.push(inner_trivium(comment))?;
+            rest = comment.rest;
+        }
+        Ok(())
+    }
+
+    /// Records the comments in an escape after its backslash, which `end` follows.
+    fn pass_escape(&mut self, text: &str, end: &str) -> Result<(), AllocError>
+        ensures { OnOk result (log_of self.new ≡
+            spec.pass (map of_inner (escape_comments (chars text.now) (chars end.now))) (log_of self.old)) }
+    {
+        match after_layout_letter(text) {
+            Some(rest) => self.pass_token(rest, end),
+            None => Ok(()),
+        }
+    }
+
+    /// Records the comments in a class after its bracket, which `end` follows.
+    fn pass_class(
+        &mut self,
+        alloc: Global,
+        text: &str,
+        end: &str,
+        flags: Flags,
+    ) -> Result<(), AllocError>
+        ensures { OnOk result (log_of self.new ≡
+            spec.pass (map of_inner (class_comments flags (chars text.now) (chars end.now))) (log_of self.old)) }
+    {
+        let mut rest = text;
+        while let Some((inside, after)) = next_escape(alloc, rest, end, flags) {
+            self.pass_escape(inside, after)?;
+            rest = after;
+        }
+        Ok(())
+    }
+
+    /// Records the comments in the layout at the front, as those in a token.
+    fn pass_inner_layout(&mut self, text: &str, ignore_space: bool) -> Result<(), AllocError>
+        ensures { OnOk result (log_of self.new ≡
+            spec.pass (map of_inner (comments ignore_space (chars text.now))) (log_of self.old)) }
+    {
+        let mut rest = text;
+        while let Some(comment) = first_comment(rest, ignore_space) {
+            self.passed.push(inner_trivium(comment))?;
+            rest = comment.rest;
+        }
+        Ok(())
+    }
+
+    /// Records the comments in the token that begins with this character: inline flags, the opening of a flag group, an escape
+    /// or a class. `rest` follows the character, and `after` the token.
+    #[inline(never)]
+    fn pass_in_token(
+        &mut self,
+        alloc: Global,
+        first: char,
+        rest: &str,
+        after: &str,
+        flags: Flags,
+    ) -> Result<(), AllocError>
+        ensures { (s : states.State) → s.flags ≡ flags → OnOk result (log_of self.new ≡
+            spec.pass (map of_inner (comments_in_start true s (chars after.now) (first ∷ chars rest.now))) (log_of self.old)) }
+    {
+        match first {
+            '(' => self.pass_token(rest, after),
+            '\\' => self.pass_escape(rest, after),
+            '[' => self.pass_class(alloc, rest, after, flags),
+            _ => Ok(()),
+        }
+    }
+
     /// Inserts a node after that much of what is recorded.
     fn put(&mut self, height: usize, node: Recorded) -> Result<(), AllocError>
         ensures { OnOk result (log_of self.new ≡ spec.put height node (log_of self.old)) }
@@ -138,6 +224,11 @@ impl Spans {
     {
         let mut from = start;
         for part in parts {
+            // A part that begins before the end of the last one lies in it.
+            if part.start > from {
+                self.pass(*part)?;
+                continue;
+            }
             self.drop_text(from, part.start)?;
             self.pass(*part)?;
             from = part.end;
@@ -182,6 +273,33 @@ impl Spanning for Spans {
         self.pass_comments(current)
     }
 
+    fn pass_counts(&mut self, counts: Counts, start: &str, after: &str) -> Result<(), AllocError> {
+        // Usually there is no `#`, and so no comment.
+        if !counts.braces || !has_hash(start, after) {
+            return Ok(());
+        }
+        self.pass_token(start, after)
+    }
+
+    fn pass_start(
+        &mut self,
+        alloc: Global,
+        start: State,
+        after: &str,
+        has_letters: bool,
+    ) -> Result<(), AllocError> {
+        let Some((c, rest)) = next(start.rest) else {
+            return Ok(());
+        };
+        match c {
+            '(' if !has_letters => self.pass_inner_layout(rest, start.flags.ignore_space),
+            '(' | '\\' | '[' if has_hash(rest, after) => {
+                self.pass_in_token(alloc, c, rest, after, start.flags)
+            }
+            _ => Ok(()),
+        }
+    }
+
     fn pass(&mut self, part: RecordedTrivium) -> Result<(), AllocError> {
         if self.passed.is_empty() {
             self.passed.reserve(PARTS)?;
@@ -196,16 +314,23 @@ impl Spanning for Spans {
         Ok(self.passed.push(dropped(start, end))?)
     }
 
-    fn record_atom(&mut self, start: State, atom: &Expr, end: State) -> Result<(), AllocError> {
+    fn record_atom(
+        &mut self,
+        alloc: Global,
+        start: State,
+        atom: &Expr,
+        end: State,
+    ) -> Result<(), AllocError> {
         self.record_leaf(reach(start.rest), reach(end.rest))?;
-        if is_empty(atom) {
+        let is_flags = is_empty(atom);
+        if is_flags {
             let kind = TriviumKind::InlineFlags {
                 before: start.flags,
                 after: end.flags,
             };
             self.pass(part_between(start, end, kind, false))?;
         }
-        Ok(())
+        self.pass_start(alloc, start, end.rest, is_flags)
     }
 
     fn record_leaf(&mut self, start: usize, end: usize) -> Result<(), AllocError> {
@@ -238,9 +363,15 @@ impl Spanning for Spans {
         Ok(())
     }
 
-    fn open_body(&mut self, start: State, inside: State) -> Result<(), AllocError> {
+    fn open_body(
+        &mut self,
+        alloc: Global,
+        start: State,
+        inside: State,
+    ) -> Result<(), AllocError> {
         let condition = condition_start(start);
         self.open(reach(start.rest), condition)?;
+        self.pass_start(alloc, start, inside.rest, false)?;
         self.record_leaf(condition, reach_before(inside.rest))?;
         self.begin_body(inside.rest);
         Ok(())
@@ -359,6 +490,23 @@ fn trivium_of_comment(comment: LayoutComment<'_>) -> RecordedTrivium
         TriviumKind::LineComment
     } else {
         TriviumKind::Comment
+    };
+    RecordedTrivium {
+        start: reach(comment.start),
+        end: reach(comment.rest),
+        kind,
+        unnamed: false,
+    }
+}
+
+/// A comment in a token, as it is recorded.
+fn inner_trivium(comment: LayoutComment<'_>) -> RecordedTrivium
+    ensures { recorded_part result ≡ of_inner (comment_of comment.entry) }
+{
+    let kind = if comment.is_line {
+        TriviumKind::InnerLineComment
+    } else {
+        TriviumKind::InnerComment
     };
     RecordedTrivium {
         start: reach(comment.start),

@@ -8,7 +8,7 @@ ghost use Rattle.fancy_grammar.specs.Depth.{max_depth};
 ghost use Rattle.fancy_grammar.specs.Items.{items};
 ghost use Rattle.fancy_syntax.specs.Decided.{decided, all_decided};
 ghost use Rattle.fancy_syntax.specs.Found.{FindsMore, openings_found};
-ghost use Rattle.fancy_syntax.specs.Log.{Log, group_opened};
+ghost use Rattle.fancy_syntax.specs.Log.{Log, branches_opened, group_opened};
 ghost use Rattle.fancy_syntax.specs.Machine as machine;
 ghost use Rattle.fancy_syntax.specs.Machine.{OpensPart, Part, IsPart, GivesStep, EndsPiece, part_of, TurnsLast};
 ghost use Rattle.fancy_syntax.specs.Recording.{added, quants_recorded};
@@ -70,24 +70,24 @@ pub(crate) fn read_step<'a, S: Spanning>(
             Ok(None)
         }
         AtomStart::Read(atom) => {
-            spans.record_atom(before, &atom, *current)?;
+            spans.record_atom(alloc, before, &atom, *current)?;
             found.record(&atom);
             push(trees, atom)?;
             end_piece(alloc, trees, current, left, depth, spans)?;
             Ok(None)
         }
         AtomStart::Group(kind) => {
-            record_opening(kind, before, *current, spans)?;
+            record_opening(alloc, kind, before, *current, spans)?;
             let kind = found.add(alloc, kind)?;
             let paren = reach(before.rest);
             Ok(Some(OpenPart::Group { kind, reach: paren }))
         }
         AtomStart::Condition => {
-            spans.open(reach(before.rest), reach(current.rest))?;
+            record_branches(alloc, before, *current, spans)?;
             Ok(Some(OpenPart::Condition))
         }
         AtomStart::Body(condition) => {
-            spans.open_body(before, *current)?;
+            spans.open_body(alloc, before, *current)?;
             found.record(&condition);
             Ok(Some(OpenPart::Body {
                 condition,
@@ -95,7 +95,7 @@ pub(crate) fn read_step<'a, S: Spanning>(
             }))
         }
         AtomStart::AbsentBranch => {
-            spans.open(reach(before.rest), reach(current.rest))?;
+            record_branches(alloc, before, *current, spans)?;
             Ok(Some(OpenPart::First))
         }
     }
@@ -104,6 +104,7 @@ pub(crate) fn read_step<'a, S: Spanning>(
 /// Records the opening of a group of one alternation, whose contents begin at `inside`. A flag group has no node.
 #[inline(always)]
 fn record_opening<S: Spanning>(
+    alloc: Global,
     kind: GroupKind,
     start: State,
     inside: State,
@@ -117,17 +118,37 @@ fn record_opening<S: Spanning>(
         around: start.flags,
         inside: inside.flags,
     };
-    match kind {
-        GroupKind::FlagGroup => spans.pass(part_between(start, inside, opening, false)),
+    let has_letters = match kind {
+        GroupKind::FlagGroup => {
+            spans.pass(part_between(start, inside, opening, false))?;
+            true
+        }
         GroupKind::Capture(None) | GroupKind::Undecided => {
-            spans.pass(part_between(start, inside, opening, true))
+            spans.pass(part_between(start, inside, opening, true))?;
+            false
         }
         GroupKind::Capture(Some(_))
         | GroupKind::Look(_)
         | GroupKind::Atomic
         | GroupKind::Define
-        | GroupKind::Repeater => Ok(()),
-    }
+        | GroupKind::Repeater => false,
+    };
+    spans.pass_start(alloc, start, inside.rest, has_letters)
+}
+
+/// Records the opening of any other atom that holds branches, which begin at `inside`.
+#[inline(always)]
+fn record_branches<S: Spanning>(
+    alloc: Global,
+    start: State,
+    inside: State,
+    spans: &mut S,
+) -> Result<(), AllocError>
+    ensures { (l : Log) → S.records spans.old l → OnOk result (S.records spans.new
+        (branches_opened (state start.entry) (state inside.entry) l)) }
+{
+    spans.open(reach(start.rest), reach(inside.rest))?;
+    spans.pass_start(alloc, start, inside.rest, false)
 }
 
 /// Reads the quantifiers of the last tree, an atom, and leaves it out if it is Empty.
